@@ -13,7 +13,7 @@ use Rattle.uri_abnf.specs.Rfc3986.{h16, ls32, IPv6address}
 use Rattle.uri_abnf.specs.Rfc5234.{HEXDIG}
 use Rattle.uri_abnf.proofs.Elements.{hexdig-has, hexdig-is-had}
 use Rattle.uri_abnf.proofs.Addresses4.{ipv4-gives, ipv4-is-had}
-use Rattle.uri_abnf.proofs.Texts.{letterless-has, has-opt}
+use Rattle.uri_abnf.proofs.Texts.{letterless-has}
 
 digit-below-16 : (c : ℕ) → is_ascii_hexdigit c ≡ true → digit_value c < 16
 digit-below-16 c e = grind (arith, nat_tests)
@@ -250,7 +250,7 @@ none-gives t e = subst (IsHead 0) (sym e) (no-head 0)
 
 one-gives-head : (t : List ℕ) → Has (opt h16) t → IsHead 1 t
 one-gives-head t h = ⊎_elim (λ e. subst (IsHead 1) (sym e) (no-head 1))
-    (λ k. shape-is-head 0 1 t (omega arith) (last-is-shape h16 t k)) (has-opt h16 t h)
+    (λ k. shape-is-head 0 1 t (omega arith) (last-is-shape h16 t k)) h
 
 upto-shape : (k : ℕ) (t : List ℕ) → Has (upto k g16 ⋅ h16) t → IsHead (suc k) t
 upto-shape k t (x, y, e, (n, lo, hi, p), h) = shape-is-head n (suc k) t (omega arith)
@@ -258,7 +258,7 @@ upto-shape k t (x, y, e, (n, lo, hi, p), h) = shape-is-head n (suc k) t (omega a
 
 upto-gives-head : (k : ℕ) (t : List ℕ) → Has (opt (upto k g16 ⋅ h16)) t → IsHead (suc k) t
 upto-gives-head k t h = ⊎_elim (λ e. subst (IsHead (suc k)) (sym e) (no-head (suc k)))
-    (λ i. upto-shape k t i) (has-opt (upto k g16 ⋅ h16) t h)
+    (λ i. upto-shape k t i) h
 
 elide : (h k : ℕ) → h + k ≤ 7 → (t x c y : List ℕ) → t ≡ x ++ (c ++ y) → Has (lit "::") c
     → IsHead h x → AreGroups true [] k y → (segments : List ℕ) × IsColonHex t segments
@@ -319,26 +319,20 @@ ipv6-gives t (inr (x, c, e, a, d)) =
     elide 7 0 (omega arith) t x c [] (e ∙ ap (λ r. x ++ r) (sym (append-nil c))) d
     (upto-gives-head 6 x a) (record { segments = []; groups = refl; count = refl })
 
-opt-none : (a : Abnf) (t : List ℕ) → t ≡ [] → Has (opt a) t
-opt-none a t e = (0, omega arith, omega arith, e)
-
-opt-some : (a : Abnf) (t : List ℕ) → Has a t → Has (opt a) t
-opt-some a t h = (1, omega arith, omega arith, (t, [], sym (append-nil t), h, refl))
-
 head-is-had : (k : ℕ) (x head : List ℕ) → IsGroups false x head → length head ≤ suc k
     → Has (opt (upto k g16 ⋅ h16)) x
-head-is-had k x [] g l = opt-none (upto k g16 ⋅ h16) x g
+head-is-had k x [] g l = inl g
 head-is-had k x (s ∷ head) g l =
     let a = head-shape [] x s head g in
     let b = a.holds in
-    opt-some (upto k g16 ⋅ h16) x (subst (Has (upto k g16 ⋅ h16)) (sym a.whole)
+    inr (subst (Has (upto k g16 ⋅ h16)) (sym a.whole)
     (b.x, b.y, b.whole, (length head, omega arith, omega arith, b.groups), b.ending))
 
 one-head-is-had : (x head : List ℕ) → IsGroups false x head → length head ≤ 1 → Has (opt h16) x
-one-head-is-had x [] g l = opt-none h16 x g
+one-head-is-had x [] g l = inl g
 one-head-is-had x (s ∷ []) g l =
     let a = head-shape [] x s [] g in
-    opt-some h16 x (subst (Has h16) (sym a.whole) (shape-of-last h16 a.r a.holds))
+    inr (subst (Has h16) (sym a.whole) (shape-of-last h16 a.r a.holds))
 one-head-is-had x (s ∷ s2 ∷ head) g l = absurd (omega arith)
 
 no-head-is-nil : (x head : List ℕ) → IsGroups false x head → length head ≤ 0 → x ≡ []

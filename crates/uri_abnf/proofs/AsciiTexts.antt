@@ -9,7 +9,7 @@ use Rattle.std.proofs.lemmas.Bool.{and_parts, and_from, ltb-true}
 use Rattle.std.proofs.lemmas.Bool.Decides.{nat_tests}
 use Rattle.std.proofs.lemmas.Str.{encodes-append, chars-encodes, encodes-chars, encode_ascii}
 use Rattle.std.proofs.Math.Utf8.{low_scalar}
-use Rattle.uri_abnf.specs.Abnf.{Abnf, Rule, Literal, Range, Sequence, Either, Repeat, Has, IsPower, IsOf}
+use Rattle.uri_abnf.specs.Abnf.{Abnf, Rule, Literal, Range, Sequence, Either, Repeat, Optional, Has, IsPower, IsOf}
 
 abbrev pub ascii_only : Abnf → Bool
 ascii_only (Rule name a) = ascii_only a
@@ -18,6 +18,7 @@ ascii_only (Range first last) = nat_lt last 128
 ascii_only (Sequence a b) = ascii_only a && ascii_only b
 ascii_only (Either a b) = ascii_only a && ascii_only b
 ascii_only (Repeat least most a) = ascii_only a
+ascii_only (Optional a) = ascii_only a
 
 pub record IsOwn (t : List ℕ) : Type 0 where
   pub scalars : all_scalars t ≡ true
@@ -76,6 +77,8 @@ ascii-own (Either a b) w t (inl h) = ascii-own a (and_parts _ _ w).0 t h
 ascii-own (Either a b) w t (inr h) = ascii-own b (and_parts _ _ w).1 t h
 ascii-own (Repeat least most a) w t (n, l, m, p) =
     power-own (Has a) (λ s h. ascii-own a w s h) n t p
+ascii-own (Optional a) w t (inl e) = subst IsOwn (sym e) own-nil
+ascii-own (Optional a) w t (inr h) = ascii-own a w t h
 
 module _ (g : Abnf) (w : ascii_only g ≡ true) where
   pub ascii-text-gives : (t : List ℕ) → IsOf g t → Has g t

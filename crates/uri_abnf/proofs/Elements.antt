@@ -6,7 +6,7 @@ use Rattle.std.specs.Char.{to_ascii_lowercase, is_ascii_hexdigit}
 use Rattle.std.specs.Int.{is_in_range}
 use Rattle.std.proofs.lemmas.Bool.{or_cases, or_left, or_right, eqb-true, false≢true}
 use Rattle.std.proofs.lemmas.Bool.Decides.{nat_tests}
-use Rattle.uri_abnf.specs.Abnf.{Abnf, Rule, Literal, Range, Sequence, Either, Repeat, Has}
+use Rattle.uri_abnf.specs.Abnf.{Abnf, Rule, Literal, Range, Sequence, Either, Repeat, Optional, Has}
 use Rattle.uri_abnf.specs.Rfc3986.{pct-encoded}
 use Rattle.uri_abnf.specs.Rfc5234.{HEXDIG, DIGIT}
 
@@ -20,6 +20,7 @@ has_char (Range first last) c = is_in_range first last c
 has_char (Sequence a b) c = false
 has_char (Either a b) c = has_char a c || has_char b c
 has_char (Repeat least most a) c = false
+has_char (Optional a) c = false
 
 -- the expression, one of `IsElement`, has percent-encoded octets
 abbrev pub has_octets : Abnf → Bool
@@ -29,6 +30,7 @@ has_octets (Range first last) = false
 has_octets (Sequence a b) = true
 has_octets (Either a b) = has_octets a || has_octets b
 has_octets (Repeat least most a) = false
+has_octets (Optional a) = false
 
 -- the expression is of alternatives that are each one character or a percent-encoded octet
 abbrev pub IsElement : Abnf → Type 0
@@ -40,6 +42,7 @@ IsElement (Range first last) = Unit {0}
 IsElement (Sequence a b) = Rule "pct-encoded" (Sequence a b) ≡ pct-encoded
 IsElement (Either a b) = IsElement a × IsElement b
 IsElement (Repeat least most a) = ⊥
+IsElement (Optional a) = ⊥
 
 -- the text is one character that passes a test
 pub record IsOneChar (test : ℕ → Bool) (t : List ℕ) : Type 0 where
@@ -103,6 +106,7 @@ module _ (IsTriple : List ℕ → Type 0) (triple : (t : List ℕ) → Has pct-e
       (λ k. inr (or_right _ _ k.0, k.1))
       (element-has b w.1 t h)
   element-has (Repeat least most a) w t h = absurd w
+  element-has (Optional a) w t h = absurd w
 
 -- an expression of single characters has texts of one character
 pub class-has : (g : Abnf) → IsElement g → has_octets g ≡ false → (t : List ℕ) → Has g t
@@ -122,6 +126,7 @@ char-is-had (Sequence a b) c e = absurd (false≢true e)
 char-is-had (Either a b) c e = ⊎_elim (λ k. inl (char-is-had a c k)) (λ k. inr (char-is-had b c k))
     (or_cases _ _ e)
 char-is-had (Repeat least most a) c e = absurd (false≢true e)
+char-is-had (Optional a) c e = absurd (false≢true e)
 
 is-element-hexdig : IsElement HEXDIG
 unfolding HEXDIG DIGIT
@@ -182,3 +187,4 @@ element-has-octet (Sequence a b) w e t h = subst (λ g. Has g t) (sym w) h
 element-has-octet (Either a b) w e t h = ⊎_elim (λ k. inl (element-has-octet a w.0 k t h))
     (λ k. inr (element-has-octet b w.1 k t h)) (or_cases _ _ e)
 element-has-octet (Repeat least most a) w e t h = absurd w
+element-has-octet (Optional a) w e t h = absurd w

@@ -5,7 +5,8 @@ use Rattle.std.specs.Prelude.{◌↔◌, ◌⊎◌, IsSome, None, is_some}
 use Rattle.std.specs.Str.{IsUtf8}
 use Rattle.std.proofs.lemmas.Bool.{and_parts, false≢true}
 use Rattle.uri_parts.specs.Components.{Components, components}
-use Rattle.uri_parts.specs.Grammar.{Kind, IsOfKind, IsTextOf, uri, uri_ref, iri, iri_ref}
+use Rattle.uri_parts.specs.Grammar.{Kind, IsOfKind, IsTextOf, kind_by_flags}
+use Rattle.uri_parts.specs.Grammar.{uri, uri_ref, iri, iri_ref}
 use Rattle.uri_parts.specs.GrammarInWords.{IsInGrammar}
 use Rattle.uri_parts.proofs.Splitting.Splits.{only-split-is-components}
 use Rattle.uri_ops.proofs.TextKinds.GrammarTexts.{uris-are-texts-of-grammar}
@@ -13,7 +14,7 @@ use Rattle.uri_ops.proofs.TextKinds.GrammarTexts.{uri_refs-are-texts-of-grammar}
 use Rattle.uri_ops.proofs.TextKinds.GrammarTexts.{iris-are-texts-of-grammar}
 use Rattle.uri_ops.proofs.TextKinds.GrammarTexts.{iri_refs-are-texts-of-grammar}
 use Rattle.uri_abnf.specs.Abnf.{Has, IsOf}
-use Rattle.uri_abnf.specs.Derivations.{Rules, IsDerived, uri_rules, iri_rules}
+use Rattle.uri_abnf.specs.Derivations.{Rules, IsDerived, start_rule, uri_rules, iri_rules}
 use Rattle.uri_abnf.specs.Rfc3986 as R
 use Rattle.uri_abnf.specs.Rfc3987 as I
 use Rattle.uri_abnf.specs.Rfc5234 as Core
@@ -154,3 +155,12 @@ uri-reference-characters-are-language t = (
   λ h. (uri-references-are-language t).1
       (ascii-text-is-had R.URI-reference references-are-ascii t h),
 )
+
+-- each kind is the language of its start rule
+pub kind-is-language : (international needs : Bool) (t : List ℕ)
+    → (IsTextOf (kind_by_flags international needs) t
+    ↔ IsOf (start_rule (kind_by_flags international needs)) t)
+kind-is-language false false = uri-references-are-language
+kind-is-language false true = uris-are-language
+kind-is-language true false = iri-references-are-language
+kind-is-language true true = iris-are-language

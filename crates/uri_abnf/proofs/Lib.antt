@@ -18,3 +18,4 @@ pub mod KindRules
 pub mod BothRfcs
 pub mod Languages
 pub mod PartRules
+pub mod PrintedRules

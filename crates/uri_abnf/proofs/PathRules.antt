@@ -21,7 +21,7 @@ use Rattle.uri_abnf.specs.Abnf.{Abnf, Has, IsOf, any, some, opt, times, lit, ◌
 use Rattle.uri_abnf.proofs.Elements.{has_char, has_octets}
 use Rattle.uri_abnf.proofs.Paths.{segments, path-is-segments, segment-is-path, segments-are-path}
 use Rattle.uri_abnf.proofs.Texts.{IsCut, cut-gives, cut-is-had, either-gives, left-is-had}
-use Rattle.uri_abnf.proofs.Texts.{right-is-had, has-opt, opt-gives, opt-is-had, opt-has-nothing}
+use Rattle.uri_abnf.proofs.Texts.{right-is-had, opt-gives, opt-is-had, opt-has-nothing}
 use Rattle.uri_abnf.proofs.Texts.{mark-gives, mark-is-had, slash-mark, text-of-no-chars}
 use Rattle.uri_abnf.proofs.Texts.{letterless-has, times-0-gives, times-0-has-nothing}
 use Rattle.uri_abnf.proofs.Tokens.{Tokens, none, char, octet, IsSetOf, tokens-append, tokens-widen}
@@ -185,7 +185,7 @@ module _ (path : TableSet) (w : PathSets path) where
       (char (or_right _ _ refl) (⊎_elim
       (λ n. subst (Tokens (w.pc ∣ lit "/")) (sym n) none)
       (λ k. rootless-tokens y k)
-      (has-opt rootless y o)))
+      o))
 
   absolute-has-no-authority : (t y : List ℕ) → t ≡ 47 ∷ y → IsOf (opt rootless) y
       → has_authority t ≡ false

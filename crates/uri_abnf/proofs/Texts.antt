@@ -78,12 +78,6 @@ left-is-had a b text l = record { utf8 = l.utf8; has = inl l.has }
 pub right-is-had : (a b : Abnf) (text : List ℕ) → IsOf b text → IsOf (a ∣ b) text
 right-is-had a b text l = record { utf8 = l.utf8; has = inr l.has }
 
-pub has-opt : (a : Abnf) (cs : List ℕ) → Has (opt a) cs → (cs ≡ []) ⊎ Has a cs
-has-opt a cs (zero, l, m, e) = inl e
-has-opt a cs (suc zero, l, m, (x, y, e, h, f)) =
-    inr (subst (Has a) (sym (e ∙ ap (λ z. x ++ z) f ∙ append-nil x)) h)
-has-opt a cs (suc (suc n), l, m, p) = absurd (omega arith)
-
 has-times-0 : (a : Abnf) (cs : List ℕ) → Has (times 0 a) cs → cs ≡ []
 has-times-0 a cs (zero, l, m, e) = e
 has-times-0 a cs (suc n, l, m, p) = absurd (omega arith)
@@ -93,17 +87,14 @@ text-of-no-chars text u e = sym (encodes-chars text u) ∙ ap encode_utf8_all e
 
 pub opt-gives : (a : Abnf) (text : List ℕ) → IsOf (opt a) text → (text ≡ []) ⊎ IsOf a text
 opt-gives a text l = ⊎_elim (λ e. inl (text-of-no-chars text l.utf8 e))
-    (λ h. inr (record { utf8 = l.utf8; has = h })) (has-opt a (chars text) l.has)
+    (λ h. inr (record { utf8 = l.utf8; has = h })) l.has
 
 pub opt-has-nothing : (a : Abnf) → IsOf (opt a) []
 unfolding chars
-opt-has-nothing a = record { utf8 = IsUtf8-nil; has = (0, omega arith, omega arith, refl) }
+opt-has-nothing a = record { utf8 = IsUtf8-nil; has = inl refl }
 
 pub opt-is-had : (a : Abnf) (text : List ℕ) → IsOf a text → IsOf (opt a) text
-opt-is-had a text l = record {
-  utf8 = l.utf8;
-  has = (1, omega arith, omega arith, (chars text, [], sym (append-nil _), l.has, refl));
-}
+opt-is-had a text l = record { utf8 = l.utf8; has = inr l.has }
 
 pub times-0-gives : (a : Abnf) (text : List ℕ) → IsOf (times 0 a) text → text ≡ []
 times-0-gives a text l = text-of-no-chars text l.utf8 (has-times-0 a (chars text) l.has)

@@ -20,6 +20,8 @@ pub data Abnf : Type 0 where
   -- at least so many of an expression, and at most so many if there is such a bound: `2*3a`
   -- (section 3.6)
   Repeat : ℕ → Option ℕ → Abnf → Abnf
+  -- an expression or nothing: `[ a ]` (section 3.8)
+  Optional : Abnf → Abnf
 
 infix 40 ◌≔◌
 infixr 60 ◌⋅◌
@@ -67,7 +69,7 @@ from_to least most a = Repeat least (Some most) a
 
 -- `[ a ]`
 abbrev pub opt : Abnf → Abnf
-opt a = Repeat 0 (Some 1) a
+opt a = Optional a
 
 -- the text is so many texts of a language, one after another
 abbrev pub IsPower : (List ℕ → Type 0) → ℕ → List ℕ → Type 0
@@ -84,6 +86,7 @@ Has (Sequence a b) t = (x y : List ℕ) × (t ≡ x ++ y) × Has a x × Has b y
 Has (Either a b) t = Has a t ⊎ Has b t
 Has (Repeat least most a) t =
     (n : ℕ) × (least ≤ n) × IfSome most (λ m. n ≤ m) × IsPower (Has a) n t
+Has (Optional a) t = (t ≡ []) ⊎ Has a t
 
 -- the text, a list of bytes, is of the rule: it is UTF-8, and the rule has its characters
 pub record IsOf (rule : Abnf) (text : List ℕ) : Type 0 where

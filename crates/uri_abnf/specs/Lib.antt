@@ -3,3 +3,5 @@ pub mod Rfc5234
 pub mod Rfc3986
 pub mod Rfc3987
 pub mod Derivations
+pub mod Printing
+pub mod Printed

@@ -1,4 +1,5 @@
 -- The collected ABNF for URIs: RFC 3986, appendix A.
+use Rattle.std.specs.Prelude.{List, [], ◌∷◌}
 use Rattle.uri_abnf.specs.Abnf.{Abnf, ◌≔◌, lit, ◌⋯◌, ◌⋅◌, ◌∣◌, any, some, times, upto, from_to, opt}
 use Rattle.uri_abnf.specs.Rfc5234.{ALPHA, DIGIT, HEXDIG}
 
@@ -133,3 +134,12 @@ URI = "URI" ≔ scheme ⋅ lit ":" ⋅ hier-part ⋅ opt (lit "?" ⋅ query) ⋅
 
 unfoldable pub URI-reference : Abnf
 URI-reference = "URI-reference" ≔ URI ∣ relative-ref
+
+-- the rules, in the order in which they are printed
+abbrev pub rules : List Abnf
+rules =
+    URI ∷ hier-part ∷ URI-reference ∷ absolute-URI ∷ relative-ref ∷ relative-part ∷ scheme ∷
+    authority ∷ userinfo ∷ host ∷ port ∷ IP-literal ∷ IPvFuture ∷ IPv6address ∷ h16 ∷ ls32 ∷
+    IPv4address ∷ dec-octet ∷ reg-name ∷ path ∷ path-abempty ∷ path-absolute ∷ path-noscheme ∷
+    path-rootless ∷ path-empty ∷ segment ∷ segment-nz ∷ segment-nz-nc ∷ pchar ∷ query ∷ fragment
+    ∷ pct-encoded ∷ unreserved ∷ reserved ∷ gen-delims ∷ sub-delims ∷ []

@@ -1,4 +1,5 @@
 -- The ABNF for IRIs: RFC 3987, section 2.2, which takes further rules from RFC 3986.
+use Rattle.std.specs.Prelude.{List, [], ◌∷◌}
 use Rattle.uri_abnf.specs.Abnf.{Abnf, ◌≔◌, lit, ◌⋯◌, ◌⋅◌, ◌∣◌, any, some, times, opt}
 use Rattle.uri_abnf.specs.Rfc3986.{pct-encoded, sub-delims, scheme, port, IP-literal, IPv4address}
 use Rattle.uri_abnf.specs.Rfc5234.{ALPHA, DIGIT}
@@ -91,3 +92,11 @@ IRI = "IRI" ≔ scheme ⋅ lit ":" ⋅ ihier-part ⋅ opt (lit "?" ⋅ iquery) �
 
 unfoldable pub IRI-reference : Abnf
 IRI-reference = "IRI-reference" ≔ IRI ∣ irelative-ref
+
+-- the rules, in the order in which they are printed
+abbrev pub rules : List Abnf
+rules =
+    IRI ∷ ihier-part ∷ IRI-reference ∷ absolute-IRI ∷ irelative-ref ∷ irelative-part ∷
+    iauthority ∷ iuserinfo ∷ ihost ∷ ireg-name ∷ ipath ∷ ipath-abempty ∷ ipath-absolute ∷
+    ipath-noscheme ∷ ipath-rootless ∷ ipath-empty ∷ isegment ∷ isegment-nz ∷ isegment-nz-nc ∷
+    ipchar ∷ iquery ∷ ifragment ∷ iunreserved ∷ ucschar ∷ iprivate ∷ []

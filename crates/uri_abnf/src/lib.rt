@@ -5,7 +5,7 @@
 //! function that does nothing: code whose proof needs it calls the function.
 #![tactic(auto)]
 
-ghost use Rattle.std.specs.Prelude.{◌≡◌, ◌↔◌, ℕ, List, [], ◌∷◌, None, true, false};
+ghost use Rattle.std.specs.Prelude.{◌≡◌, ◌↔◌, ℕ, List, [], ◌∷◌, None, true, false, map};
 ghost use Rattle.std.specs.Str.{IsUtf8};
 ghost use Rattle.uri_pct.specs.DecodeUnreserved.{is_decodable};
 ghost use Rattle.uri_pct.specs.Sets.{TableSet, digit_set, is_unreserved};
@@ -18,8 +18,11 @@ ghost use Rattle.uri_parts.specs.Hosts.{IsHost, Ipv4, Ipv6, IpvFuture, RegName, 
 ghost use Rattle.uri_abnf.specs.Abnf.{Has, IsOf};
 ghost use Rattle.uri_abnf.specs.Derivations.{IsAuthorityDerived, IsDerived, Rules, start_rule};
 ghost use Rattle.uri_abnf.specs.Derivations.{uri_rules, iri_rules};
+ghost use Rattle.uri_abnf.specs.Printed as Printed;
+ghost use Rattle.uri_abnf.specs.Printing.{line};
 ghost use Rattle.uri_abnf.specs.Rfc3986 as Rfc3986;
 ghost use Rattle.uri_abnf.specs.Rfc3987 as Rfc3987;
+ghost use Rattle.uri_abnf.specs.Rfc5234 as Rfc5234;
 
 use uri_parts::kind;
 
@@ -171,4 +174,11 @@ pub fn reserved_octets_stay()
     ensures unreserved { (c : ℕ) → (Has Rfc3986.unreserved (c ∷ []) ↔ (is_unreserved c ≡ true)) }
     ensures reserved { (set : TableSet) (c : ℕ) → Has Rfc3986.reserved (c ∷ [])
         → is_decodable set c ≡ false }
+{}
+
+/// The rules, printed a line each, are the lines that the RFCs print (`printed/`).
+pub fn rules_are_those_that_the_rfcs_print()
+    ensures rfc5234 { map line Rfc5234.rules ≡ Printed.rfc5234 }
+    ensures rfc3986 { map line Rfc3986.rules ≡ Printed.rfc3986 }
+    ensures rfc3987 { map line Rfc3987.rules ≡ Printed.rfc3987 }
 {}
