@@ -119,7 +119,7 @@ module _ (r : Rules) (kind : Kind) (w : Fit r kind) where
 
   userinfo-lacks : (x : List ℕ) → IsOf r.userinfo x → Lacks (codes "/?#") x
   userinfo-lacks x l = valid_text_lacks_excluded_marks kind.userinfo (codes "/?#")
-      w.userinfo_percent w.userinfo_marks x l.utf8 ((w.userinfo x).0 l).1
+      w.apart.users_percent w.userinfo_marks x l.utf8 ((w.userinfo x).0 l).1
 
   port-lacks : (x : List ℕ) → IsOf port x → Lacks (codes "/?#") x
   port-lacks x l = valid_text_lacks_excluded_marks digit_set (codes "/?#") refl refl x l.utf8

@@ -11,6 +11,7 @@ use Rattle.uri_parts.specs.Components.{Lacks}
 use Rattle.uri_parts.specs.Grammar.{Kind}
 use Rattle.uri_parts.specs.Hosts.{HostKind, Ipv4, Ipv6, IpvFuture, RegName, IsHost, IsIpvFuture}
 use Rattle.uri_parts.specs.Hosts.{bracketed, is_host, host_kind}
+use Rattle.uri_parts.proofs.Authorities.Authority.{names_exclude_delimiters}
 use Rattle.uri_parts.proofs.HostForms.Hosts.{is_host-sound, address-in-brackets-is-utf8}
 use Rattle.uri_parts.proofs.HostForms.Hosts.{lacking_text_does_not_begin_with}
 use Rattle.uri_parts.proofs.HostForms.Futures.{joined-texts-lack-marks, ipv4-text-lacks-name-marks}
@@ -171,8 +172,8 @@ module _ (r : Rules) (kind : Kind) (w : Fit r kind) where
   unfolding is_host
   name-gives t l =
       let v = (w.reg_name t).0 l in
-      let lacks = valid_text_lacks_excluded_marks kind.reg_name (codes "@:[") w.reg_name_percent
-      w.reg_name_starts t l.utf8 v.1 in
+      let lacks = valid_text_lacks_excluded_marks kind.reg_name (codes "@:[") w.apart.names_percent
+      (names_exclude_delimiters kind.userinfo kind.reg_name w.apart) t l.utf8 v.1 in
       let no = lacking_text_does_not_begin_with (codes "@:[") t 91 refl lacks in
       (host_kind t, is_host-sound kind.reg_name t (cond-false _ _ _ no ∙ or_right _ _ v.1))
 
@@ -213,4 +214,4 @@ module _ (r : Rules) (kind : Kind) (w : Fit r kind) where
       (address-in-brackets-is-utf8 address (subst IsUtf8 e u)) a)
   host-lacks t (Ipv4 octets) u d = ipv4-text-lacks-name-marks (codes "/?#") refl t octets d
   host-lacks t RegName u v = valid_text_lacks_excluded_marks kind.reg_name (codes "/?#")
-      w.reg_name_percent w.reg_name_marks t u v.0
+      w.apart.names_percent w.reg_name_marks t u v.0

@@ -29,6 +29,7 @@ use Rattle.uri_abnf.specs.Derivations.{Rules, IsDerived, path_rule, unrooted_pat
 use Rattle.uri_abnf.specs.Rfc3986.{scheme}
 use Rattle.uri_abnf.proofs.Authorities.{authority-derives, derived-is-authority, authority-lacks}
 use Rattle.uri_abnf.proofs.Authorities.{derived-authority-follows, following-authority-derives}
+use Rattle.uri_abnf.proofs.Derivations.{reference-derives, derived-is-reference}
 use Rattle.uri_abnf.proofs.Rules.{Fit, IsText}
 use Rattle.uri_abnf.proofs.Schemes.{scheme-gives, scheme-is-had}
 
@@ -212,3 +213,12 @@ module _ (r : Rules) (kind : Kind) (w : Fit r kind) where
   pub follows-has-scheme : (t : List ℕ) (p : Components) → FollowsRules kind t p
       → IsSome p.scheme ⊎ (kind.needs_scheme ≡ false)
   follows-has-scheme t p f = ⊎_elim (λ e. inl e) (λ e. inr e.0) f.reference
+
+  -- the components of a text of the rule of references are derived, and the other way round
+  pub reference-is-derived : (t : List ℕ) → (IsOf r.reference t ↔ IsDerived r t (components t))
+  reference-is-derived t = (
+    λ l.
+        let k = reference-derives r w.made t l in
+        subst (IsDerived r t) (sym (derived-components-are-unique t k.0 k.1)) k.1,
+    λ d. derived-is-reference r w.made t (components t) d,
+  )

@@ -47,15 +47,6 @@ module _ (r : Rules) (kind : Kind) (w : Fit r kind)
     grammar = (grammar t u).1 (p, derived-follows r kind w t p d n);
   }
 
-  -- the components of a text of the rule of references are derived, and the other way round
-  pub reference-is-derived : (t : List ℕ) → (IsOf r.reference t ↔ IsDerived r t (components t))
-  reference-is-derived t = (
-    λ l.
-        let k = reference-derives r w.made t l in
-        subst (IsDerived r t) (sym (derived-components-are-unique r kind w t k.0 k.1)) k.1,
-    λ d. derived-is-reference r w.made t (components t) d,
-  )
-
   pub texts-with-scheme : kind.needs_scheme ≡ true → (t : List ℕ)
       → (IsTextOf kind t ↔ IsOf r.with_scheme t)
   texts-with-scheme needs t = (
@@ -106,32 +97,6 @@ iris-are-language =
 pub iri-references-are-language : (t : List ℕ) → (IsTextOf iri_ref t ↔ IsOf I.IRI-reference t)
 iri-references-are-language =
     texts-of-references iri_rules iri_ref (iri-rules-fit false) iri_refs-are-texts-of-grammar refl
-
-pub uri-components-are-derived : (t : List ℕ)
-    → (IsOf R.URI-reference t ↔ IsDerived uri_rules t (components t))
-uri-components-are-derived =
-    reference-is-derived uri_rules uri_ref (uri-rules-fit false) uri_refs-are-texts-of-grammar
-
-pub iri-components-are-derived : (t : List ℕ)
-    → (IsOf I.IRI-reference t ↔ IsDerived iri_rules t (components t))
-iri-components-are-derived =
-    reference-is-derived iri_rules iri_ref (iri-rules-fit false) iri_refs-are-texts-of-grammar
-
-pub uri-derivations-are-unique : (t : List ℕ) (p : Components) → IsDerived uri_rules t p
-    → components t ≡ p
-uri-derivations-are-unique = derived-components-are-unique uri_rules uri_ref (uri-rules-fit false)
-
-pub iri-derivations-are-unique : (t : List ℕ) (p : Components) → IsDerived iri_rules t p
-    → components t ≡ p
-iri-derivations-are-unique = derived-components-are-unique iri_rules iri_ref (iri-rules-fit false)
-
-pub absolute-uris : (t : List ℕ)
-    → (IsOf R.absolute-URI t ↔ (IsTextOf uri t × ((components t).fragment ≡ None)))
-absolute-uris = absolute-texts uri_rules uri (uri-rules-fit true) uris-are-texts-of-grammar refl
-
-pub absolute-iris : (t : List ℕ)
-    → (IsOf I.absolute-IRI t ↔ (IsTextOf iri t × ((components t).fragment ≡ None)))
-absolute-iris = absolute-texts iri_rules iri (iri-rules-fit true) iris-are-texts-of-grammar refl
 
 references-are-ascii : ascii_only R.URI-reference ≡ true
 unfolding Core.ALPHA Core.DIGIT Core.HEXDIG R.pct-encoded R.unreserved R.sub-delims R.pchar R.query R.fragment R.segment R.segment-nz R.segment-nz-nc R.path-abempty R.path-absolute R.path-noscheme R.path-rootless R.path-empty R.dec-octet R.IPv4address R.h16 R.ls32 R.IPv6address R.IPvFuture R.IP-literal R.reg-name R.port R.host R.userinfo R.authority R.scheme R.relative-part R.relative-ref R.hier-part R.URI R.URI-reference

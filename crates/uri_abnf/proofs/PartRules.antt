@@ -7,21 +7,20 @@ use Rattle.std.proofs.lemmas.Str.{IsUtf8-append}
 use Rattle.std.proofs.lemmas.Bool.Decides.{nat_tests}
 use Rattle.uri_pct.specs.Sets.{TableSet, is_unreserved, is_reserved, allows_past_ascii}
 use Rattle.uri_pct.specs.DecodeUnreserved.{is_decodable}
-use Rattle.uri_parts.specs.Authority.{AuthorityParts, authority_parts, LackAuthorityDelimiters}
-use Rattle.uri_parts.specs.Grammar.{Kind, is_scheme, is_authority, uri, iri}
+use Rattle.uri_parts.specs.Authority.{AuthorityParts, authority_parts}
+use Rattle.uri_parts.specs.Grammar.{Kind, is_scheme, is_authority}
 use Rattle.uri_parts.specs.Hosts.{HostKind, IsHost, Ipv4, Ipv6, IpvFuture, RegName, bracketed}
 use Rattle.uri_parts.proofs.Authorities.Authority.{is_authority_for-sound}
 use Rattle.uri_parts.proofs.Authorities.Authority.{is_authority_for-complete}
 use Rattle.uri_parts.proofs.Authorities.Authority.{authority_parts-are-unique}
 use Rattle.uri_parts.proofs.HostForms.Hosts.{address-in-brackets-is-utf8}
 use Rattle.uri_abnf.specs.Abnf.{Abnf, Has, IsOf}
-use Rattle.uri_abnf.specs.Derivations.{Rules, IsAuthorityDerived, uri_rules, iri_rules}
+use Rattle.uri_abnf.specs.Derivations.{Rules, IsAuthorityDerived}
 use Rattle.uri_abnf.specs.Rfc3986.{scheme, reserved, gen-delims, sub-delims, unreserved}
 use Rattle.uri_abnf.specs.Rfc3986.{IPv4address, IPv6address, IPvFuture}
 use Rattle.uri_abnf.specs.Rfc5234.{ALPHA, DIGIT}
 use Rattle.uri_abnf.proofs.Authorities.{authority-derives, derived-is-authority}
 use Rattle.uri_abnf.proofs.Authorities.{derived-authority-follows, following-authority-derives}
-use Rattle.uri_abnf.proofs.BothRfcs.{uri-rules-fit, iri-rules-fit}
 use Rattle.uri_abnf.proofs.Elements.{IsElement, has_char, has_octets, class-has, char-is-had}
 use Rattle.uri_abnf.proofs.Hosts.{ipv4-text-gives, ipv4-text-is-had, ipv6-text-gives}
 use Rattle.uri_abnf.proofs.Hosts.{ipv6-text-is-had, future-gives, future-is-had}
@@ -33,13 +32,12 @@ use Rattle.uri_abnf.proofs.Texts.{mark-is-had, open-mark, close-mark}
 pub schemes-are-of-rule : (t : List ℕ) → (IsOf scheme t ↔ (IsUtf8 t × (is_scheme t ≡ true)))
 schemes-are-of-rule t = (λ l. (l.utf8, (scheme-gives t l).0), λ v. scheme-is-had t v.0 v.1)
 
-module _ (r : Rules) (kind : Kind) (w : Fit r kind)
-    (apart : LackAuthorityDelimiters kind.userinfo kind.reg_name) where
+module _ (r : Rules) (kind : Kind) (w : Fit r kind) where
   -- an authority has one derivation, which has its components
   pub authority-derivations-are-unique : (t : List ℕ) (p : AuthorityParts) → IsUtf8 t
       → IsAuthorityDerived r t p → authority_parts t ≡ p
   authority-derivations-are-unique t p u d = authority_parts-are-unique kind.userinfo kind.reg_name
-      apart t p u (derived-authority-follows r kind w t p d)
+      w.apart t p u (derived-authority-follows r kind w t p d)
 
   pub authority-is-derived : (t : List ℕ)
       → (IsOf r.authority t ↔ IsAuthorityDerived r t (authority_parts t))
@@ -56,7 +54,7 @@ module _ (r : Rules) (kind : Kind) (w : Fit r kind)
     λ l.
         let k = authority-derives r kind w t l in (
           l.utf8,
-          is_authority_for-complete kind.userinfo kind.reg_name apart t k.0 l.utf8
+          is_authority_for-complete kind.userinfo kind.reg_name w.apart t k.0 l.utf8
               (derived-authority-follows r kind w t k.0 k.1),
         ),
     λ v. derived-is-authority r kind w t (authority_parts t)
@@ -76,62 +74,6 @@ module _ (r : Rules) (kind : Kind) (w : Fit r kind)
         let name = (w.reg_name t).0 v.0 in
         (name.0, (name.1, λ octets d. v.1 (ipv4-text-is-had t octets d))),
   )
-
-uri-delimiters-are-apart : LackAuthorityDelimiters uri.userinfo uri.reg_name
-uri-delimiters-are-apart = record {
-  users_percent = refl;
-  names_percent = refl;
-  users_marks = refl;
-  names_marks = refl;
-}
-
-iri-delimiters-are-apart : LackAuthorityDelimiters iri.userinfo iri.reg_name
-iri-delimiters-are-apart = record {
-  users_percent = refl;
-  names_percent = refl;
-  users_marks = refl;
-  names_marks = refl;
-}
-
-pub uri-authority-is-derived : (t : List ℕ)
-    → (IsOf uri_rules.authority t ↔ IsAuthorityDerived uri_rules t (authority_parts t))
-uri-authority-is-derived =
-    authority-is-derived uri_rules uri (uri-rules-fit true) uri-delimiters-are-apart
-
-pub iri-authority-is-derived : (t : List ℕ)
-    → (IsOf iri_rules.authority t ↔ IsAuthorityDerived iri_rules t (authority_parts t))
-iri-authority-is-derived =
-    authority-is-derived iri_rules iri (iri-rules-fit true) iri-delimiters-are-apart
-
-pub uri-authority-derivations-are-unique : (t : List ℕ) (p : AuthorityParts) → IsUtf8 t
-    → IsAuthorityDerived uri_rules t p → authority_parts t ≡ p
-uri-authority-derivations-are-unique =
-    authority-derivations-are-unique uri_rules uri (uri-rules-fit true) uri-delimiters-are-apart
-
-pub iri-authority-derivations-are-unique : (t : List ℕ) (p : AuthorityParts) → IsUtf8 t
-    → IsAuthorityDerived iri_rules t p → authority_parts t ≡ p
-iri-authority-derivations-are-unique =
-    authority-derivations-are-unique iri_rules iri (iri-rules-fit true) iri-delimiters-are-apart
-
-pub uri-authorities-are-of-rule : (t : List ℕ)
-    → (IsOf uri_rules.authority t ↔ (IsUtf8 t × (is_authority uri t ≡ true)))
-uri-authorities-are-of-rule =
-    authorities-are-of-rule uri_rules uri (uri-rules-fit true) uri-delimiters-are-apart
-
-pub iri-authorities-are-of-rule : (t : List ℕ)
-    → (IsOf iri_rules.authority t ↔ (IsUtf8 t × (is_authority iri t ≡ true)))
-iri-authorities-are-of-rule =
-    authorities-are-of-rule iri_rules iri (iri-rules-fit true) iri-delimiters-are-apart
-
-pub uri-names-are-of-rule : (t : List ℕ) → ((IsUtf8 t × IsHost uri.reg_name t RegName)
-    ↔ (IsOf uri_rules.reg_name t × ¬ (IsOf IPv4address t)))
-uri-names-are-of-rule =
-    names-are-of-rule uri_rules uri (uri-rules-fit true) uri-delimiters-are-apart
-
-pub iri-names-are-of-rule : (t : List ℕ) → ((IsUtf8 t × IsHost iri.reg_name t RegName)
-    ↔ (IsOf iri_rules.reg_name t × ¬ (IsOf IPv4address t)))
-iri-names-are-of-rule =
-    names-are-of-rule iri_rules iri (iri-rules-fit true) iri-delimiters-are-apart
 
 -- a host in brackets is an address of its rule
 pub ipv6-hosts-are-of-rule : (names : TableSet) (t : List ℕ)

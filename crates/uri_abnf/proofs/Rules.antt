@@ -5,6 +5,7 @@ use Rattle.std.specs.Str.{IsUtf8}
 use Rattle.uri_pct.specs.Sets.{TableSet, LacksPercent}
 use Rattle.uri_pct.specs.Tokens.{IsValidFor}
 use Rattle.uri_pct.proofs.ValidTexts.Cuts.{excludes}
+use Rattle.uri_parts.specs.Authority.{LackAuthorityDelimiters}
 use Rattle.uri_parts.specs.Components.{IsAbemptyPath, has_authority}
 use Rattle.uri_parts.specs.Grammar.{Kind, has_colon_in_first_segment}
 use Rattle.uri_abnf.specs.Abnf.{Abnf, Has, IsOf, any, lit, opt, ◌⋅◌, ◌∣◌}
@@ -70,12 +71,10 @@ pub record Fit (r : Rules) (kind : Kind) : Type 0 where
       ↔ (IsText kind.path t × (has_authority t ≡ false)))
   pub noscheme : (t : List ℕ) → (IsOf (r.path_absolute ∣ r.path_noscheme ∣ r.path_empty) t
       ↔ (IsText kind.path t × (has_authority t ≡ false) × (has_colon_in_first_segment t ≡ false)))
-  pub userinfo_percent : LacksPercent kind.userinfo
-  pub reg_name_percent : LacksPercent kind.reg_name
+  pub apart : LackAuthorityDelimiters kind.userinfo kind.reg_name
   pub path_percent : LacksPercent kind.path
   pub query_percent : LacksPercent kind.query
   pub userinfo_marks : excludes kind.userinfo (codes "/?#") ≡ true
-  pub reg_name_starts : excludes kind.reg_name (codes "@:[") ≡ true
   pub reg_name_marks : excludes kind.reg_name (codes "/?#") ≡ true
   pub path_marks : excludes kind.path (codes "?#") ≡ true
   pub query_marks : excludes kind.query (codes "#") ≡ true

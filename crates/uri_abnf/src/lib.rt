@@ -46,46 +46,35 @@ pub fn of_the_printed_grammar<K: kind::Kind>()
 {}
 
 /// The components of a reference are derived by the rules that their places ask for (RFC 3986,
-/// section 3): a scheme by `scheme`, an authority by `authority`, a query by `query`, a fragment by
-/// `fragment`, and a path by `path-abempty` after an authority. Without one the path is derived by
-/// `path-absolute`, `path-empty` or, after a scheme, `path-rootless`, or else `path-noscheme`.
+/// section 3), and the reference is derived with no others: a scheme by `scheme`, an authority by
+/// `authority`, a query by `query`, a fragment by `fragment`, and a path by `path-abempty` after an
+/// authority. Without an authority the path is derived by `path-absolute`, `path-empty` or, after a
+/// scheme, `path-rootless`, or else `path-noscheme`.
 ///
 /// In `a:b/c` the scheme `a` and the path `b/c`, which is of `path-rootless`, are derived.
-pub fn components_are_derived()
+pub fn components_are_derived_in_one_way()
     ensures uri { (text : List ℕ)
         → (IsOf Rfc3986.URI-reference text ↔ IsDerived uri_rules text (components text)) }
     ensures iri { (text : List ℕ)
         → (IsOf Rfc3987.IRI-reference text ↔ IsDerived iri_rules text (components text)) }
-{}
-
-/// A reference is derived with no other components than its own.
-///
-/// `a:b` is not derived with the path `a:b` alone.
-pub fn components_are_derived_in_one_way()
-    ensures uri { (text : List ℕ) (p : Components) → IsDerived uri_rules text p
+    ensures uri_components { (text : List ℕ) (p : Components) → IsDerived uri_rules text p
         → components text ≡ p }
-    ensures iri { (text : List ℕ) (p : Components) → IsDerived iri_rules text p
+    ensures iri_components { (text : List ℕ) (p : Components) → IsDerived iri_rules text p
         → components text ≡ p }
 {}
 
 /// The components of an authority are derived by the rules `userinfo`, `host` and `port` (RFC 3986,
-/// section 3.2).
+/// section 3.2), and the authority is derived with no others.
 ///
 /// In `u@a:1` the userinfo `u`, the host `a` and the port `1` are derived.
-pub fn authorities_are_derived()
+pub fn authorities_are_derived_in_one_way()
     ensures uri { (text : List ℕ)
         → (IsOf Rfc3986.authority text ↔ IsAuthorityDerived uri_rules text (authority_parts text)) }
     ensures iri { (text : List ℕ)
         → (IsOf Rfc3987.iauthority text ↔ IsAuthorityDerived iri_rules text (authority_parts text)) }
-{}
-
-/// An authority is derived with no other components than its own.
-///
-/// `a:1` is not derived with the host `a:1` alone.
-pub fn authorities_are_derived_in_one_way()
-    ensures uri { (text : List ℕ) (p : AuthorityParts) → IsUtf8 text
+    ensures uri_components { (text : List ℕ) (p : AuthorityParts) → IsUtf8 text
         → IsAuthorityDerived uri_rules text p → authority_parts text ≡ p }
-    ensures iri { (text : List ℕ) (p : AuthorityParts) → IsUtf8 text
+    ensures iri_components { (text : List ℕ) (p : AuthorityParts) → IsUtf8 text
         → IsAuthorityDerived iri_rules text p → authority_parts text ≡ p }
 {}
 
@@ -108,48 +97,38 @@ pub fn hosts_are_of_the_first_rule_that_has_them()
         ↔ (IsOf Rfc3987.ireg-name text × ¬ (IsOf Rfc3986.IPv4address text))) }
 {}
 
-/// What `Scheme::new` and `Authority::new` take is of the rules `scheme` and `authority`.
-pub fn schemes_and_authorities_are_of_their_rules()
+/// What `Scheme::new`, `Authority::new` and `EStr::new` take for a component is of the component's
+/// rule: for `Path` of the rule `path`, which has the texts of all five rules on paths.
+///
+/// `a%20b` is of `path`, and `a b` is not. `café` is of `ipath`.
+pub fn components_are_of_their_rules()
     ensures scheme { (text : List ℕ)
         → (IsOf Rfc3986.scheme text ↔ (IsUtf8 text × (is_scheme text ≡ true))) }
     ensures authority { (text : List ℕ)
         → (IsOf Rfc3986.authority text ↔ (IsUtf8 text × (is_authority uri text ≡ true))) }
     ensures iauthority { (text : List ℕ)
         → (IsOf Rfc3987.iauthority text ↔ (IsUtf8 text × (is_authority iri text ≡ true))) }
-{}
-
-/// What `EStr::new` takes for an encoder of a URI's component is of the component's rule: for
-/// `Path` of the rule `path`, which has the texts of all five rules on paths.
-///
-/// `a%20b` is of `path`, and `a b` is not.
-pub fn encoded_texts_are_of_their_rules()
+    ensures port { (text : List ℕ)
+        → (IsOf Rfc3986.port text ↔ (IsUtf8 text × IsValidFor digit_set text)) }
     ensures userinfo { (text : List ℕ)
         → (IsOf Rfc3986.userinfo text ↔ (IsUtf8 text × IsValidFor uri.userinfo text)) }
     ensures reg_name { (text : List ℕ)
         → (IsOf Rfc3986.reg-name text ↔ (IsUtf8 text × IsValidFor uri.reg_name text)) }
-    ensures port { (text : List ℕ)
-        → (IsOf Rfc3986.port text ↔ (IsUtf8 text × IsValidFor digit_set text)) }
     ensures path { (text : List ℕ)
         → (IsOf Rfc3986.path text ↔ (IsUtf8 text × IsValidFor uri.path text)) }
     ensures query { (text : List ℕ)
         → (IsOf Rfc3986.query text ↔ (IsUtf8 text × IsValidFor uri.query text)) }
     ensures fragment { (text : List ℕ)
         → (IsOf Rfc3986.fragment text ↔ (IsUtf8 text × IsValidFor uri.fragment text)) }
-{}
-
-/// The same for the encoders of an IRI's components (RFC 3987, section 2.2).
-///
-/// `café` is of `ipath`, and not of `path`.
-pub fn encoded_texts_of_iris_are_of_their_rules()
-    ensures userinfo { (text : List ℕ)
+    ensures iuserinfo { (text : List ℕ)
         → (IsOf Rfc3987.iuserinfo text ↔ (IsUtf8 text × IsValidFor iri.userinfo text)) }
-    ensures reg_name { (text : List ℕ)
+    ensures ireg_name { (text : List ℕ)
         → (IsOf Rfc3987.ireg-name text ↔ (IsUtf8 text × IsValidFor iri.reg_name text)) }
-    ensures path { (text : List ℕ)
+    ensures ipath { (text : List ℕ)
         → (IsOf Rfc3987.ipath text ↔ (IsUtf8 text × IsValidFor iri.path text)) }
-    ensures query { (text : List ℕ)
+    ensures iquery { (text : List ℕ)
         → (IsOf Rfc3987.iquery text ↔ (IsUtf8 text × IsValidFor iri.query text)) }
-    ensures fragment { (text : List ℕ)
+    ensures ifragment { (text : List ℕ)
         → (IsOf Rfc3987.ifragment text ↔ (IsUtf8 text × IsValidFor iri.fragment text)) }
 {}
 

@@ -1,6 +1,5 @@
 use Rattle.uri_abnf.proofs.Languages.{uri-characters-are-language}
-use Rattle.uri_abnf.proofs.Languages.{uri-reference-characters-are-language}
-use Rattle.uri_abnf.proofs.Languages.{iris-are-language}
+use Rattle.uri_abnf.proofs.Languages.{uri-reference-characters-are-language, iris-are-language}
 use Rattle.uri_abnf.proofs.Languages.{iri-references-are-language}
 use Rattle.uri_abnf.proofs.kinds_are_the_languages_of_their_rules.Goals as goal
 

@@ -1,5 +1,4 @@
-use Rattle.uri_abnf.proofs.PartRules.{unreserved-is-rule}
-use Rattle.uri_abnf.proofs.PartRules.{reserved-octets-stay}
+use Rattle.uri_abnf.proofs.PartRules.{unreserved-is-rule, reserved-octets-stay}
 use Rattle.uri_abnf.proofs.reserved_octets_stay.Goals as goal
 
 pub returns-clause-unreserved : goal.returns-clause-unreserved
