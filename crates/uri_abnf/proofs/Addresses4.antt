@@ -6,7 +6,7 @@ use Rattle.std.specs.Fmt.{decimal}
 use Rattle.std.specs.Net.Grammar.{IsDotted}
 use Rattle.std.proofs.lemmas.Fmt.{decimal_digit, decimal_step}
 use Rattle.std.proofs.lemmas.Bool.{cases_lt}
-use Rattle.uri_abnf.specs.Abnf.{Has, times}
+use Rattle.uri_abnf.specs.Abnf.{Abnf, Has, lit, times, ◌⋅◌, ◌⋯◌}
 use Rattle.uri_abnf.specs.Rfc3986.{dec-octet, IPv4address}
 use Rattle.uri_abnf.specs.Rfc5234.{DIGIT}
 use Rattle.uri_abnf.proofs.Texts.{letterless-has}
@@ -128,51 +128,34 @@ tens n h k = inl (inl (inl (inr (
   (48 + n % 10, refl, omega arith, omega arith),
 ))))
 
+-- a number of three digits that begins with a given one
+first-of-three : (d n : ℕ) → (n / 10) / 10 ≡ d → 100 ≤ n → n < 1000
+    → decimal n ≡ (48 + d) ∷ (48 + (n / 10) % 10) ∷ (48 + n % 10) ∷ []
+first-of-three d n e h k = three-digits n h k
+    ∙ ap (λ i. (48 + i) ∷ (48 + (n / 10) % 10) ∷ (48 + n % 10) ∷ []) e
+
 hundreds : (n : ℕ) → 100 ≤ n → n < 200 → Has dec-octet (decimal n)
 unfolding dec-octet DIGIT
 hundreds n h k =
-    let e : 48 + (n / 10) / 10 ≡ 49 = omega arith in
-    subst (Has dec-octet) (sym (three-digits n h (omega arith)
-    ∙ ap (λ i. i ∷ (48 + (n / 10) % 10) ∷ (48 + n % 10) ∷ []) e))
-    (inl (inl (inr (
-      codes "1",
-      (48 + (n / 10) % 10) ∷ (48 + n % 10) ∷ [],
-      refl,
-      refl,
-      twice-is-had _ _ (omega arith) (omega arith) (omega arith) (omega arith),
-    ))))
+    let digits = twice-is-had (48 + (n / 10) % 10) (48 + n % 10) (omega arith) (omega arith)
+    (omega arith) (omega arith) in
+    inl (inl (inr (codes "1", _, first-of-three 1 n (omega arith) h (omega arith), refl, digits)))
 
 two-hundreds : (n : ℕ) → 200 ≤ n → n < 250 → Has dec-octet (decimal n)
 unfolding dec-octet DIGIT
 two-hundreds n h k =
-    let e : 48 + (n / 10) / 10 ≡ 50 = omega arith in
-    let a : ℕ = 48 + (n / 10) % 10 in
-    let b : ℕ = 48 + n % 10 in
-    subst (Has dec-octet) (sym (three-digits n (omega arith) (omega arith)
-    ∙ ap (λ i. i ∷ (48 + (n / 10) % 10) ∷ (48 + n % 10) ∷ []) e))
-    (inl (inr (
-      codes "2",
-      a ∷ b ∷ [],
-      refl,
-      refl,
-      (
-        a ∷ [],
-        b ∷ [],
-        refl,
-        (a, refl, omega arith, omega arith),
-        (b, refl, omega arith, omega arith),
-      ),
-    )))
+    let a : Has (0x30 ⋯ 0x34) ((48 + (n / 10) % 10) ∷ []) = (_, refl, omega arith, omega arith) in
+    let b : Has DIGIT ((48 + n % 10) ∷ []) = (_, refl, omega arith, omega arith) in
+    let e = first-of-three 2 n (omega arith) (omega arith) (omega arith) in
+    inl (inr (codes "2", _, e, refl, (_, _, refl, a, b)))
 
 last : (n : ℕ) → 250 ≤ n → n < 256 → Has dec-octet (decimal n)
 unfolding dec-octet DIGIT
 last n h k =
-    let e : 48 + (n / 10) / 10 ≡ 50 = omega arith in
     let f : 48 + (n / 10) % 10 ≡ 53 = omega arith in
-    let b : ℕ = 48 + n % 10 in
-    subst (Has dec-octet) (sym (three-digits n (omega arith) (omega arith)
-    ∙ ap (λ i. i ∷ (48 + (n / 10) % 10) ∷ (48 + n % 10) ∷ []) e ∙ ap (λ i. 50 ∷ i ∷ (48 + n % 10) ∷ []) f))
-    (inr (codes "25", b ∷ [], refl, refl, (b, refl, omega arith, omega arith)))
+    let e = first-of-three 2 n (omega arith) (omega arith) (omega arith)
+    ∙ ap (λ i. 50 ∷ i ∷ (48 + n % 10) ∷ []) f in
+    inr (codes "25", _, e, refl, (_, refl, omega arith, omega arith))
 
 octet-is-had : (n : ℕ) → n < 256 → Has dec-octet (decimal n)
 octet-is-had n h = ⊎_elim (λ a. low n a)
@@ -207,36 +190,13 @@ ipv4-gives t (x1, r1, e1, h1, (p1, s1, f1, d1, (x2, r2, e2, h2, (p2, s2, f2, d2,
       },
     )
 
+octet-then : (n : ℕ) → n < 256 → (g : Abnf) (t : List ℕ) → Has g t
+    → Has (dec-octet ⋅ lit "." ⋅ g) (decimal n ++ (46 ∷ t))
+octet-then n h g t k = (decimal n, 46 ∷ t, refl, octet-is-had n h, (codes ".", t, refl, refl, k))
+
 pub ipv4-is-had : (t octets : List ℕ) → IsDotted t octets → Has IPv4address t
 unfolding IPv4address
-ipv4-is-had t octets d = (
-  decimal d.a,
-  _,
-  d.spelled ∙ simp append_assoc,
-  octet-is-had d.a d.fit.0,
-  (
-    codes ".",
-    _,
-    refl,
-    refl,
-    (
-      decimal d.b,
-      _,
-      refl,
-      octet-is-had d.b d.fit.1,
-      (
-        codes ".",
-        _,
-        refl,
-        refl,
-        (
-          decimal d.c,
-          _,
-          refl,
-          octet-is-had d.c d.fit.2,
-          (codes ".", decimal d.d, refl, refl, octet-is-had d.d d.fit.3),
-        ),
-      ),
-    ),
-  ),
-)
+ipv4-is-had t octets d = subst (Has IPv4address) (sym (d.spelled ∙ simp append_assoc))
+    (octet-then d.a d.fit.0 (dec-octet ⋅ lit "." ⋅ dec-octet ⋅ lit "." ⋅ dec-octet) _
+    (octet-then d.b d.fit.1 (dec-octet ⋅ lit "." ⋅ dec-octet) _
+    (octet-then d.c d.fit.2 dec-octet _ (octet-is-had d.d d.fit.3))))

@@ -8,15 +8,13 @@ use Rattle.std.specs.Net.Addr.{segments_of}
 use Rattle.std.specs.Net.Grammar.{IsDotted, IsGroup, IsGroups, IsGroupsAfter, IsColonHex}
 use Rattle.std.proofs.lemmas.Bool.{false≢true}
 use Rattle.std.proofs.lemmas.Bool.Decides.{nat_tests}
+use Rattle.uri_pct.proofs.ValidTexts.Allowed.{hexdigit_value_is_below_16}
 use Rattle.uri_abnf.specs.Abnf.{Abnf, Has, IsPower, opt, times, upto, lit, ◌⋅◌}
 use Rattle.uri_abnf.specs.Rfc3986.{h16, ls32, IPv6address}
 use Rattle.uri_abnf.specs.Rfc5234.{HEXDIG}
 use Rattle.uri_abnf.proofs.Elements.{hexdig-has, hexdig-is-had}
 use Rattle.uri_abnf.proofs.Addresses4.{ipv4-gives, ipv4-is-had}
 use Rattle.uri_abnf.proofs.Texts.{letterless-has}
-
-digit-below-16 : (c : ℕ) → is_ascii_hexdigit c ≡ true → digit_value c < 16
-digit-below-16 c e = grind (arith, nat_tests)
 
 below-16-is-digit : (c : ℕ) → digit_value c < 16 → is_ascii_hexdigit c ≡ true
 below-16-is-digit c e = grind (arith, nat_tests)
@@ -34,7 +32,7 @@ digits-give : (n : ℕ) (t : List ℕ) → IsPower (Has HEXDIG) n t → AreDigit
 digits-give zero t e = subst (AreDigits 0) (sym e) (record { long = refl; all = tt })
 digits-give (suc n) t (x, y, e, h, q) =
     let k = hexdig-has x h in
-    one-digit k.c y t n (e ∙ ap (λ r. r ++ y) k.whole) (digit-below-16 k.c k.passes) (digits-give n y q)
+    one-digit k.c y t n (e ∙ ap (λ r. r ++ y) k.whole) (hexdigit_value_is_below_16 k.c k.passes) (digits-give n y q)
 
 digits-are-had : (t : List ℕ) → AllDigits 16 t → IsPower (Has HEXDIG) (length t) t
 digits-are-had [] a = refl
@@ -244,9 +242,6 @@ shape-is-head : (n m : ℕ) (t : List ℕ) → n < m → IsShape h16 n t → IsH
 shape-is-head n m t l s =
     let k = heads-give false n [] t s in
     record { segments = k.segments; groups = k.groups; room = let c = k.count in omega arith }
-
-none-gives : (t : List ℕ) → t ≡ [] → IsHead 0 t
-none-gives t e = subst (IsHead 0) (sym e) (no-head 0)
 
 one-gives-head : (t : List ℕ) → Has (opt h16) t → IsHead 1 t
 one-gives-head t h = ⊎_elim (λ e. subst (IsHead 1) (sym e) (no-head 1))

@@ -9,6 +9,7 @@ use Rattle.std.proofs.lemmas.Bool.{and_parts, and_from, ltb-true}
 use Rattle.std.proofs.lemmas.Bool.Decides.{nat_tests}
 use Rattle.std.proofs.lemmas.Str.{encodes-append, chars-encodes, encodes-chars, encode_ascii}
 use Rattle.std.proofs.Math.Utf8.{low_scalar}
+use Rattle.uri_pct.proofs.UnreservedDecoding.Printing.{scalars-append}
 use Rattle.uri_abnf.specs.Abnf.{Abnf, Rule, Literal, Range, Sequence, Either, Repeat, Optional, Has, IsPower, IsOf}
 
 abbrev pub ascii_only : Abnf → Bool
@@ -33,15 +34,9 @@ own-cons c t h o = record {
   encodes = ap (λ e. e ++ encode_utf8_all t) (encode_ascii c h) ∙ ap (λ r. c ∷ r) o.encodes;
 }
 
-scalars-both : (x y : List ℕ) → all_scalars x ≡ true → all_scalars y ≡ true
-    → all_scalars (x ++ y) ≡ true
-scalars-both [] y a b = b
-scalars-both (c ∷ x) y a b =
-    let p = and_parts _ _ a in and_from _ _ p.0 (scalars-both x y p.1 b)
-
 own-append : (x y : List ℕ) → IsOwn x → IsOwn y → IsOwn (x ++ y)
 own-append x y o p = record {
-  scalars = scalars-both x y o.scalars p.scalars;
+  scalars = scalars-append x y o.scalars p.scalars;
   encodes = encodes-append x y ∙ ap (λ r. r ++ encode_utf8_all y) o.encodes ∙ ap (λ r. x ++ r) p.encodes;
 }
 
@@ -65,7 +60,7 @@ power-own L f zero t e = subst IsOwn (sym e) own-nil
 power-own L f (suc n) t (x, y, e, h, q) =
     subst IsOwn (sym e) (own-append x y (f x h) (power-own L f n y q))
 
-pub ascii-own : (g : Abnf) → ascii_only g ≡ true → (t : List ℕ) → Has g t → IsOwn t
+ascii-own : (g : Abnf) → ascii_only g ≡ true → (t : List ℕ) → Has g t → IsOwn t
 ascii-own (Rule name a) w t h = ascii-own a w t h
 ascii-own (Literal s) w t h = literal-own s t w h
 ascii-own (Range first last) w t (c, e, p, q) =

@@ -9,16 +9,15 @@ use Rattle.uri_pct.proofs.General.{IfSome-weaken, IfSome-combine}
 use Rattle.uri_parts.specs.Authority.{AuthorityParts, IsAuthorityFor, recompose_authority}
 use Rattle.uri_parts.specs.Components.{Lacks, marked}
 use Rattle.uri_parts.specs.Grammar.{Kind}
-use Rattle.uri_parts.proofs.Authorities.Authority.{empty-text-lacks-marks}
-use Rattle.uri_parts.proofs.HostForms.Futures.{joined-texts-lack-marks}
-use Rattle.uri_parts.proofs.TextKinds.GrammarTexts.{utf8_around_ascii_byte}
 use Rattle.uri_parts.proofs.TextKinds.GrammarTexts.{valid_text_lacks_excluded_marks}
+use Rattle.uri_ops.proofs.Meanings.AuthorityMeanings.{authority-parts-are-utf8}
+use Rattle.uri_ops.proofs.Meanings.AuthorityMeanings.{authority-text-lacks-its-ends}
 use Rattle.uri_abnf.specs.Abnf.{Abnf, IsOf, any, opt, lit, ◌⋅◌}
 use Rattle.uri_abnf.specs.Derivations.{Rules, IsAuthorityDerived}
 use Rattle.uri_abnf.specs.Rfc3986.{port}
 use Rattle.uri_abnf.specs.Rfc5234.{DIGIT}
 use Rattle.uri_abnf.proofs.Delimited.{after-gives, after-is-had, before-gives, before-is-had}
-use Rattle.uri_abnf.proofs.Hosts.{host-gives, host-is-had, host-lacks, one-lacks}
+use Rattle.uri_abnf.proofs.Hosts.{host-gives, host-is-had, host-lacks}
 use Rattle.uri_abnf.proofs.Rules.{Fit, IsRuleOf}
 use Rattle.uri_abnf.proofs.Sets.{digit-set}
 use Rattle.uri_abnf.proofs.Texts.{cut-gives, cut-is-had, same-text, at-mark, colon-mark}
@@ -32,34 +31,6 @@ port-rule t = (
       (l.utf8, any-is-valid DIGIT digit_set digit-set t d),
   λ v. same-text (λ cs h. h) (valid-is-any DIGIT digit_set digit-set t v.0 v.1),
 )
-
--- both sides of a delimiter are UTF-8
-utf8-before : (o : Option (List ℕ)) (rest : List ℕ) → IsUtf8 (marked [] o (codes "@") ++ rest)
-    → IfSome o IsUtf8 × IsUtf8 rest
-utf8-before None rest u = (tt, u)
-utf8-before (Some x) rest u = utf8_around_ascii_byte x 64 rest (omega arith)
-    (subst IsUtf8 (append_assoc x (codes "@") rest) u)
-
-utf8-after : (h : List ℕ) (o : Option (List ℕ)) → IsUtf8 (h ++ marked (codes ":") o [])
-    → IsUtf8 h × IfSome o IsUtf8
-utf8-after h None u = (subst IsUtf8 (append-nil h) u, tt)
-utf8-after h (Some x) u =
-    let k = utf8_around_ascii_byte h 58 (x ++ []) (omega arith) u in
-    (k.0, subst IsUtf8 (append-nil x) k.1)
-
--- a component and its delimiter lack the marks
-before-lacks : (o : Option (List ℕ)) → IfSome o (Lacks (codes "/?#"))
-    → Lacks (codes "/?#") (marked [] o (codes "@"))
-before-lacks None h = empty-text-lacks-marks (codes "/?#")
-before-lacks (Some x) h =
-    joined-texts-lack-marks (codes "/?#") x (codes "@") h (one-lacks (codes "/?#") 64 refl)
-
-after-lacks : (o : Option (List ℕ)) → IfSome o (Lacks (codes "/?#"))
-    → Lacks (codes "/?#") (marked (codes ":") o [])
-after-lacks None h = empty-text-lacks-marks (codes "/?#")
-after-lacks (Some x) h =
-    joined-texts-lack-marks (codes "/?#") (codes ":") (x ++ []) (one-lacks (codes "/?#") 58 refl)
-    (subst (Lacks (codes "/?#")) (sym (append-nil x)) h)
 
 module _ (r : Rules) (kind : Kind) (w : Fit r kind) where
   -- `[ userinfo "@" ] host [ ":" port ]`
@@ -105,16 +76,14 @@ module _ (r : Rules) (kind : Kind) (w : Fit r kind) where
   pub following-authority-derives : (t : List ℕ) (p : AuthorityParts) → IsUtf8 t
       → IsAuthorityFor kind.userinfo kind.reg_name t p → IsAuthorityDerived r t p
   following-authority-derives t p u a =
-      let m = utf8-before p.userinfo (p.host ++ marked (codes ":") p.port [])
-      (subst IsUtf8 (sym a.whole) u) in
-      let n = utf8-after p.host p.port m.1 in
+      let parts = authority-parts-are-utf8 p.userinfo p.port p.host (subst IsUtf8 (sym a.whole) u) in
       record {
         whole = a.whole;
         userinfo = IfSome-combine p.userinfo IsUtf8 (IsValidFor kind.userinfo) _
-            (λ x v h. (w.userinfo x).1 (v, h)) m.0 a.userinfo;
-        host = host-is-had r kind w p.host a.host.0 n.0 a.host.1;
+            (λ x v h. (w.userinfo x).1 (v, h)) parts.userinfo a.userinfo;
+        host = host-is-had r kind w p.host a.host.0 parts.host a.host.1;
         port = IfSome-combine p.port IsUtf8 (IsValidFor digit_set) _
-            (λ x v h. (port-rule x).1 (v, h)) n.1 a.port;
+            (λ x v h. (port-rule x).1 (v, h)) parts.port a.port;
       }
 
   userinfo-lacks : (x : List ℕ) → IsOf r.userinfo x → Lacks (codes "/?#") x
@@ -132,9 +101,7 @@ module _ (r : Rules) (kind : Kind) (w : Fit r kind) where
       let p = k.0 in
       let d = k.1 in
       let h = host-gives r kind w p.host d.host in
-      subst (Lacks (codes "/?#")) d.whole
-      (joined-texts-lack-marks (codes "/?#") _ _
-      (before-lacks p.userinfo (IfSome-weaken p.userinfo _ _ userinfo-lacks d.userinfo))
-      (joined-texts-lack-marks (codes "/?#") _ _
+      subst (Lacks (codes "/?#")) d.whole (authority-text-lacks-its-ends p
+      (IfSome-weaken p.userinfo _ _ userinfo-lacks d.userinfo)
       (host-lacks r kind w p.host h.0 d.host.utf8 h.1)
-      (after-lacks p.port (IfSome-weaken p.port _ _ port-lacks d.port))))
+      (IfSome-weaken p.port _ _ port-lacks d.port))

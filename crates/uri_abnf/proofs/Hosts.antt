@@ -14,11 +14,12 @@ use Rattle.uri_parts.specs.Hosts.{bracketed, is_host, host_kind}
 use Rattle.uri_parts.proofs.Authorities.Authority.{names_exclude_delimiters}
 use Rattle.uri_parts.proofs.HostForms.Hosts.{is_host-sound, address-in-brackets-is-utf8}
 use Rattle.uri_parts.proofs.HostForms.Hosts.{lacking_text_does_not_begin_with}
-use Rattle.uri_parts.proofs.HostForms.Futures.{joined-texts-lack-marks, ipv4-text-lacks-name-marks}
+use Rattle.uri_parts.proofs.HostForms.Futures.{ipv4-text-lacks-name-marks}
 use Rattle.uri_parts.proofs.HostForms.Futures.{ipv6-text-lacks-excluded-marks}
 use Rattle.uri_parts.proofs.HostForms.Futures.{ipvfuture-text-lacks-excluded-marks}
 use Rattle.uri_parts.proofs.TextKinds.GrammarTexts.{valid_text_lacks_excluded_marks}
 use Rattle.uri_parts.proofs.TextKinds.GrammarTexts.{utf8_around_ascii_byte}
+use Rattle.uri_ops.proofs.Meanings.HostMeanings.{bracketed-address-lacks-delimiters}
 use Rattle.uri_abnf.specs.Abnf.{Abnf, IsOf, any, some, lit, ◌⋅◌, ◌∣◌}
 use Rattle.uri_abnf.specs.Derivations.{Rules}
 use Rattle.uri_abnf.specs.Rfc3986.{dec-octet, h16, ls32, unreserved, sub-delims, IPvFuture}
@@ -146,7 +147,7 @@ bracketed-is-had t address e l = subst (IsOf IP-literal) (sym e)
     (cut-is-had (IPv6address ∣ IPvFuture) (lit "]") address (codes "]") l
     (mark-is-had (codes "]") close-mark))))
 
-pub literal-is-had : (t : List ℕ) (h : HostKind) → IsUtf8 t → IsLiteral t h → IsOf IP-literal t
+literal-is-had : (t : List ℕ) (h : HostKind) → IsUtf8 t → IsLiteral t h → IsOf IP-literal t
 literal-is-had t (Ipv6 segments) u (address, e, a) = bracketed-is-had t address e
     (left-is-had IPv6address IPvFuture address (ipv6-text-is-had address segments a))
 literal-is-had t IpvFuture u (address, e, a) = bracketed-is-had t address e
@@ -154,17 +155,6 @@ literal-is-had t IpvFuture u (address, e, a) = bracketed-is-had t address e
     (future-is-had address (address-in-brackets-is-utf8 address (subst IsUtf8 e u)) a))
 literal-is-had t (Ipv4 octets) u h = absurd h
 literal-is-had t RegName u h = absurd h
-
-pub one-lacks : (marks : List ℕ) (c : ℕ) → is_one_of marks c ≡ false → Lacks marks (c ∷ [])
-one-lacks marks c e zero d l = e
-one-lacks marks c e (suc k) d l = absurd (omega arith)
-
-bracketed-lacks : (t address : List ℕ) → t ≡ bracketed address → Lacks (codes "/?#") address
-    → Lacks (codes "/?#") t
-bracketed-lacks t address e h = subst (Lacks (codes "/?#")) (sym e)
-    (joined-texts-lack-marks (codes "/?#") (codes "[") (address ++ codes "]")
-    (one-lacks (codes "/?#") 91 refl)
-    (joined-texts-lack-marks (codes "/?#") address (codes "]") h (one-lacks (codes "/?#") 93 refl)))
 
 module _ (r : Rules) (kind : Kind) (w : Fit r kind) where
   -- a text of registered names is a host: a name, or an IPv4 address
@@ -207,11 +197,13 @@ module _ (r : Rules) (kind : Kind) (w : Fit r kind) where
 
   pub host-lacks : (t : List ℕ) (h : HostKind) → IsUtf8 t → IsHost kind.reg_name t h
       → Lacks (codes "/?#") t
-  host-lacks t (Ipv6 segments) u (address, e, a) = bracketed-lacks t address e
-      (ipv6-text-lacks-excluded-marks (codes "/?#") refl address segments a)
-  host-lacks t IpvFuture u (address, e, a) = bracketed-lacks t address e
+  host-lacks t (Ipv6 segments) u (address, e, a) = subst (Lacks (codes "/?#")) (sym e)
+      (bracketed-address-lacks-delimiters address
+      (ipv6-text-lacks-excluded-marks (codes "/?#") refl address segments a))
+  host-lacks t IpvFuture u (address, e, a) = subst (Lacks (codes "/?#")) (sym e)
+      (bracketed-address-lacks-delimiters address
       (ipvfuture-text-lacks-excluded-marks (codes "/?#") refl address
-      (address-in-brackets-is-utf8 address (subst IsUtf8 e u)) a)
+      (address-in-brackets-is-utf8 address (subst IsUtf8 e u)) a))
   host-lacks t (Ipv4 octets) u d = ipv4-text-lacks-name-marks (codes "/?#") refl t octets d
   host-lacks t RegName u v = valid_text_lacks_excluded_marks kind.reg_name (codes "/?#")
       w.apart.names_percent w.reg_name_marks t u v.0

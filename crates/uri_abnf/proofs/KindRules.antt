@@ -23,6 +23,7 @@ use Rattle.uri_parts.proofs.Splitting.Cuts.{text-after-other-byte-lacks-marks}
 use Rattle.uri_parts.proofs.Splitting.Marks.{query_text, IsEmptyOrMarked-query_text}
 use Rattle.uri_parts.proofs.Splitting.Splits.{only-split-is-components}
 use Rattle.uri_parts.proofs.TextKinds.GrammarTexts.{valid_text_lacks_excluded_marks}
+use Rattle.uri_ops.proofs.Meanings.ComponentEnds.{no_scheme}
 use Rattle.uri_ops.proofs.Meanings.TextParts.{AreUtf8, components-of-utf8-are-utf8}
 use Rattle.uri_abnf.specs.Abnf.{IsOf}
 use Rattle.uri_abnf.specs.Derivations.{Rules, IsDerived, path_rule, unrooted_path_rule}
@@ -32,48 +33,6 @@ use Rattle.uri_abnf.proofs.Authorities.{derived-authority-follows, following-aut
 use Rattle.uri_abnf.proofs.Derivations.{reference-derives, derived-is-reference}
 use Rattle.uri_abnf.proofs.Rules.{Fit, IsText}
 use Rattle.uri_abnf.proofs.Schemes.{scheme-gives, scheme-is-had}
-
--- a text before a delimiter other than `:` has no scheme
-before-delimiter-is-no-scheme : (s m : List ℕ) → Lacks (codes ":/?#") s
-    → IsEmptyOrMarked (codes "/?#") m → has_scheme (s ++ m) ≡ false
-before-delimiter-is-no-scheme s m h e =
-    let cut = cut-at-end-of-text-without-marks (codes ":/?#") s m h
-    (empty-or-marked-for-more-marks (codes "/?#") (codes ":/?#") m
-    (λ c i. grind (arith, nat_tests)) e) in
-    ap (λ r. starts 58 r && not (starts 58 (s ++ m))) cut.1
-    ∙ ap (λ b. b && not (starts 58 (s ++ m))) (begins-with-no-other 58 (codes "/?#") m refl e)
-
-slash-or-end-comes-next : (m tail : List ℕ) → IsEmptyOrMarked (codes "/") m
-    → IsEmptyOrMarked (codes "?#") tail → IsEmptyOrMarked (codes "/?#") (m ++ tail)
-slash-or-end-comes-next [] tail e h = empty-or-marked-for-more-marks (codes "?#") (codes "/?#") tail
-    (λ c i. grind (arith, nat_tests)) h
-slash-or-end-comes-next (c ∷ m) tail e h = grind (arith, nat_tests)
-
--- a first segment without `:` has no delimiter
-segment-lacks-delimiters : (x y : List ℕ) → Lacks (codes "?#") (x ++ y) → Lacks (codes "/") x
-    → list_any (λ c. c == 58) x ≡ false → Lacks (codes ":/?#") x
-segment-lacks-delimiters [] y a b c = empty-text-lacks-marks (codes ":/?#")
-segment-lacks-delimiters (d ∷ x) y a b c =
-    let p : is_one_of (codes "?#") d ≡ false = a 0 0 (omega arith) in
-    let q : is_one_of (codes "/") d ≡ false = b 0 0 (omega arith) in
-    let r : ((d == 58) ≡ false) × (list_any (λ c. c == 58) x ≡ false) = or_parts _ _ c in
-    text-after-other-byte-lacks-marks (codes ":/?#") d x (grind (arith, nat_tests))
-    (segment-lacks-delimiters x y (λ k e l. a (suc k) e (omega arith))
-    (λ k e l. b (suc k) e (omega arith)) r.1)
-
--- a path without `:` in its first segment begins no scheme
-path-is-no-scheme : (path tail : List ℕ) → has_colon_in_first_segment path ≡ false
-    → Lacks (codes "?#") path → IsEmptyOrMarked (codes "?#") tail → has_scheme (path ++ tail) ≡ false
-path-is-no-scheme path tail c h e =
-    let cut = text-is-cut-at-first-mark (codes "/") path in
-    let first = before_any (codes "/") path in
-    let rest = from_any (codes "/") path in
-    let lacks = segment-lacks-delimiters first rest
-    (subst (Lacks (codes "?#")) (sym cut.whole) h) cut.lacks c in
-    ap (λ z. has_scheme (z ++ tail)) (sym cut.whole)
-    ∙ ap has_scheme (append_assoc first rest tail)
-    ∙ before-delimiter-is-no-scheme first (rest ++ tail) lacks
-    (slash-or-end-comes-next rest tail cut.begins e)
 
 module _ (r : Rules) (kind : Kind) (w : Fit r kind) where
   -- what the kind asks of a path, by the scheme and the authority before it
@@ -128,10 +87,9 @@ module _ (r : Rules) (kind : Kind) (w : Fit r kind) where
       ≡ false)
   no-scheme (Some y) a path tail p e = tt
   no-scheme None (Some x) path tail p e = refl
-  no-scheme None None path tail p e = path-is-no-scheme path tail
+  no-scheme None None path tail p e = no_scheme path tail
       (⊎_elim (λ i. absurd (false≢true i)) (λ c. ⊎_elim (λ i. absurd (false≢true i)) (λ i. i) c)
-      p.no_colon)
-      (path-lacks path p.text) e
+      p.no_colon) e
 
   -- the components of a derivation are a split of the text
   derived-is-split : (t : List ℕ) (p : Components) → IsDerived r t p → IsSplitOf t p

@@ -47,7 +47,7 @@ module _ (r : Rules) (kind : Kind) (w : Fit r kind)
     grammar = (grammar t u).1 (p, derived-follows r kind w t p d n);
   }
 
-  pub texts-with-scheme : kind.needs_scheme ≡ true → (t : List ℕ)
+  texts-with-scheme : kind.needs_scheme ≡ true → (t : List ℕ)
       → (IsTextOf kind t ↔ IsOf r.with_scheme t)
   texts-with-scheme needs t = (
     λ l.
@@ -59,7 +59,7 @@ module _ (r : Rules) (kind : Kind) (w : Fit r kind)
         derived-is-text t k.0 l.utf8 k.1 (inl k.2),
   )
 
-  pub texts-of-references : kind.needs_scheme ≡ false → (t : List ℕ)
+  texts-of-references : kind.needs_scheme ≡ false → (t : List ℕ)
       → (IsTextOf kind t ↔ IsOf r.reference t)
   texts-of-references free t = (
     λ l. derived-is-reference r w.made t (components t) (text-is-derived t l).0,
@@ -82,11 +82,11 @@ module _ (r : Rules) (kind : Kind) (w : Fit r kind)
         (⊎_elim (λ e. e) (λ e. absurd (false≢true (sym e ∙ needs))) k.1) v.1,
   )
 
-pub uris-are-language : (t : List ℕ) → (IsTextOf uri t ↔ IsOf R.URI t)
+uris-are-language : (t : List ℕ) → (IsTextOf uri t ↔ IsOf R.URI t)
 uris-are-language =
     texts-with-scheme uri_rules uri (uri-rules-fit true) uris-are-texts-of-grammar refl
 
-pub uri-references-are-language : (t : List ℕ) → (IsTextOf uri_ref t ↔ IsOf R.URI-reference t)
+uri-references-are-language : (t : List ℕ) → (IsTextOf uri_ref t ↔ IsOf R.URI-reference t)
 uri-references-are-language =
     texts-of-references uri_rules uri_ref (uri-rules-fit false) uri_refs-are-texts-of-grammar refl
 
@@ -122,10 +122,18 @@ uri-reference-characters-are-language t = (
 )
 
 -- each kind is the language of its start rule
-pub kind-is-language : (international needs : Bool) (t : List ℕ)
+kind-is-language : (international needs : Bool) (t : List ℕ)
     → (IsTextOf (kind_by_flags international needs) t
     ↔ IsOf (start_rule (kind_by_flags international needs)) t)
 kind-is-language false false = uri-references-are-language
 kind-is-language false true = uris-are-language
 kind-is-language true false = iri-references-are-language
 kind-is-language true true = iris-are-language
+
+pub texts-of-kind-are-of-rule : (international needs : Bool) (t : List ℕ) → IsUtf8 t
+    → (IsOfKind (kind_by_flags international needs) t
+    ↔ IsOf (start_rule (kind_by_flags international needs)) t)
+texts-of-kind-are-of-rule international needs t u = (
+  λ k. (kind-is-language international needs t).0 (record { utf8 = u; grammar = k }),
+  λ l. ((kind-is-language international needs t).1 l).grammar,
+)

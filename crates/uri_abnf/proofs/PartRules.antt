@@ -3,7 +3,6 @@ use Rattle.std.proofs.Common.{◌≡◌, ℕ, true, false, List, [], ◌∷◌, 
 use Rattle.std.proofs.Common.{arith, rules}
 use Rattle.std.specs.Prelude.{◌↔◌, codes}
 use Rattle.std.specs.Str.{IsUtf8}
-use Rattle.std.proofs.lemmas.Str.{IsUtf8-append}
 use Rattle.std.proofs.lemmas.Bool.Decides.{nat_tests}
 use Rattle.uri_pct.specs.Sets.{TableSet, is_unreserved, is_reserved, allows_past_ascii}
 use Rattle.uri_pct.specs.DecodeUnreserved.{is_decodable}
@@ -14,6 +13,7 @@ use Rattle.uri_parts.proofs.Authorities.Authority.{is_authority_for-sound}
 use Rattle.uri_parts.proofs.Authorities.Authority.{is_authority_for-complete}
 use Rattle.uri_parts.proofs.Authorities.Authority.{authority_parts-are-unique}
 use Rattle.uri_parts.proofs.HostForms.Hosts.{address-in-brackets-is-utf8}
+use Rattle.uri_ops.proofs.Meanings.HostMeanings.{bracketed-utf8-is-utf8}
 use Rattle.uri_abnf.specs.Abnf.{Abnf, Has, IsOf}
 use Rattle.uri_abnf.specs.Derivations.{Rules, IsAuthorityDerived}
 use Rattle.uri_abnf.specs.Rfc3986.{scheme, reserved, gen-delims, sub-delims, unreserved}
@@ -27,7 +27,6 @@ use Rattle.uri_abnf.proofs.Hosts.{ipv6-text-is-had, future-gives, future-is-had}
 use Rattle.uri_abnf.proofs.InternationalSets.{allowed_past_ascii_is_past_ascii}
 use Rattle.uri_abnf.proofs.Rules.{Fit}
 use Rattle.uri_abnf.proofs.Schemes.{scheme-gives, scheme-is-had}
-use Rattle.uri_abnf.proofs.Texts.{mark-is-had, open-mark, close-mark}
 
 pub schemes-are-of-rule : (t : List ℕ) → (IsOf scheme t ↔ (IsUtf8 t × (is_scheme t ≡ true)))
 schemes-are-of-rule t = (λ l. (l.utf8, (scheme-gives t l).0), λ v. scheme-is-had t v.0 v.1)
@@ -84,10 +83,6 @@ ipv6-hosts-are-of-rule names t = (
   λ l. let s = ipv6-text-gives l.0 l.2 in (s.0, (l.0, l.1, s.1)),
 )
 
-bracketed-is-utf8 : (address : List ℕ) → IsUtf8 address → IsUtf8 (bracketed address)
-bracketed-is-utf8 address u = IsUtf8-append (codes "[") _ (mark-is-had (codes "[") open-mark).utf8
-    (IsUtf8-append address (codes "]") u (mark-is-had (codes "]") close-mark).utf8)
-
 pub ipv_future-hosts-are-of-rule : (names : TableSet) (t : List ℕ)
     → ((IsUtf8 t × IsHost names t IpvFuture)
     ↔ ((address : List ℕ) × (t ≡ bracketed address) × IsOf IPvFuture address))
@@ -98,7 +93,7 @@ ipv_future-hosts-are-of-rule names t = (
     future-is-had v.1.0 (address-in-brackets-is-utf8 v.1.0 (subst IsUtf8 v.1.1 v.0)) v.1.2,
   ),
   λ l. (
-    subst IsUtf8 (sym l.1) (bracketed-is-utf8 l.0 l.2.utf8),
+    subst IsUtf8 (sym l.1) (bracketed-utf8-is-utf8 l.0 l.2.utf8),
     (l.0, l.1, future-gives l.0 l.2),
   ),
 )

@@ -177,7 +177,3 @@ close-mark = record { letterless = (inr (omega arith, omega arith), tt); scalars
 pub dot-mark : IsMark (codes ".")
 unfolding lib.Utf8.encode
 dot-mark = record { letterless = (inl (omega arith), tt); scalars = refl; encodes = refl }
-
-pub colons-mark : IsMark (codes "::")
-unfolding lib.Utf8.encode
-colons-mark = record { letterless = (inl (omega arith), (inl (omega arith), tt)); scalars = refl; encodes = refl }

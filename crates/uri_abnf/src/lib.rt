@@ -12,7 +12,7 @@ ghost use Rattle.uri_pct.specs.Sets.{TableSet, digit_set, is_unreserved};
 ghost use Rattle.uri_pct.specs.Tokens.{IsValidFor};
 ghost use Rattle.uri_parts.specs.Authority.{AuthorityParts, authority_parts};
 ghost use Rattle.uri_parts.specs.Components.{Components, components};
-ghost use Rattle.uri_parts.specs.Grammar.{Kind, IsTextOf, is_authority, is_scheme};
+ghost use Rattle.uri_parts.specs.Grammar.{Kind, IsOfKind, IsTextOf, is_authority, is_scheme};
 ghost use Rattle.uri_parts.specs.Grammar.{uri, uri_ref, iri, iri_ref};
 ghost use Rattle.uri_parts.specs.Hosts.{IsHost, Ipv4, Ipv6, IpvFuture, RegName, bracketed};
 ghost use Rattle.uri_abnf.specs.Abnf.{Has, IsOf};
@@ -38,11 +38,13 @@ pub fn kinds_are_the_languages_of_their_rules()
     ensures iri_ref { (text : List ℕ) → (IsTextOf iri_ref text ↔ IsOf Rfc3987.IRI-reference text) }
 {}
 
-/// The same for generic code: the rule is that of the kind `K`.
+/// What `parse` accepts for the kind `K` is of the rule that the RFCs print for it: `IsOfKind` is
+/// what `Reference::parse` accepts.
 ///
 /// As a URI, `a:b` is of the rule `URI`; as a URI reference, it is of the rule `URI-reference`.
 pub fn of_the_printed_grammar<K: kind::Kind>()
-    ensures { (text : List ℕ) → (IsTextOf K.kind text ↔ IsOf (start_rule K.kind) text) }
+    ensures { (text : List ℕ) → IsUtf8 text
+        → (IsOfKind K.kind text ↔ IsOf (start_rule K.kind) text) }
 {}
 
 /// The components of a reference are derived by the rules that their places ask for (RFC 3986,
