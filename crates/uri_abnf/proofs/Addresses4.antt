@@ -1,6 +1,7 @@
 -- The rules dec-octet and IPv4address.
 use Rattle.std.proofs.Common.{◌≡◌, ℕ, zero, suc, List, [], ◌∷◌, ◌++◌, refl, sym, ap, subst}
-use Rattle.std.proofs.Common.{◌∙◌, inl, inr, ⊎_elim, arith, ◌≤◌, ◌<◌, ◌+◌, ◌*◌, ◌-◌, ◌/◌, ◌%◌, append_assoc}
+use Rattle.std.proofs.Common.{◌∙◌, inl, inr, ⊎_elim, arith, ◌≤◌, ◌<◌, ◌+◌, ◌*◌, ◌-◌, ◌/◌, ◌%◌}
+use Rattle.std.proofs.Common.{append_assoc}
 use Rattle.std.specs.Prelude.{codes}
 use Rattle.std.specs.Fmt.{decimal}
 use Rattle.std.specs.Net.Grammar.{IsDotted}
@@ -112,7 +113,8 @@ octet-gives t (inl (inr (x, y, e, h, (z, w, i, (b, g, r, s), (c, k, u, v))))) =
 octet-gives t (inr (x, y, e, h, (c, k, u, v))) =
     let l = letterless-has (codes "25") x (inl (omega arith), (inl (omega arith), tt)) h in
     subst IsOctetText (sym (let k1 = k in cc))
-    (three-gives 50 53 c (omega arith) (omega arith) (omega arith) (omega arith) u (omega arith) (omega arith))
+    (three-gives 50 53 c (omega arith) (omega arith) (omega arith) (omega arith) u (omega arith)
+    (omega arith))
 
 low : (n : ℕ) → n < 10 → Has dec-octet (decimal n)
 unfolding dec-octet DIGIT
@@ -168,7 +170,19 @@ octet-is-had n h = ⊎_elim (λ a. low n a)
 
 pub ipv4-gives : (t : List ℕ) → Has IPv4address t → (octets : List ℕ) × IsDotted t octets
 unfolding IPv4address
-ipv4-gives t (x1, r1, e1, h1, (p1, s1, f1, d1, (x2, r2, e2, h2, (p2, s2, f2, d2, (x3, r3, e3, h3, (p3, x4, f3, d3, h4)))))) =
+ipv4-gives t (
+  x1,
+  r1,
+  e1,
+  h1,
+  (
+    p1,
+    s1,
+    f1,
+    d1,
+    (x2, r2, e2, h2, (p2, s2, f2, d2, (x3, r3, e3, h3, (p3, x4, f3, d3, h4)))),
+  ),
+) =
     let o1 = octet-gives x1 h1 in
     let o2 = octet-gives x2 h2 in
     let o3 = octet-gives x3 h3 in
@@ -184,7 +198,10 @@ ipv4-gives t (x1, r1, e1, h1, (p1, s1, f1, d1, (x2, r2, e2, h2, (p2, s2, f2, d2,
         d = o4.n;
         fit = (o1.below, o2.below, o3.below, o4.below);
         value = refl;
-        spelled = let w1 = o1.whole in let w2 = o2.whole in let w3 = o3.whole in let w4 = o4.whole in
+        spelled = let w1 = o1.whole in
+            let w2 = o2.whole in
+            let w3 = o3.whole in
+            let w4 = o4.whole in
             let j : t ≡ x1 ++ (p1 ++ (x2 ++ (p2 ++ (x3 ++ (p3 ++ x4))))) = cc in
             j ∙ simp (w1, w2, w3, w4, i1, i2, i3, append_assoc);
       },

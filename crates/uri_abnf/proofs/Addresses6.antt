@@ -1,6 +1,8 @@
 -- The rule IPv6address.
-use Rattle.std.proofs.Common.{◌≡◌, ℕ, zero, suc, Bool, true, false, List, [], ◌∷◌, ◌++◌, refl, sym, ap, subst}
-use Rattle.std.proofs.Common.{◌∙◌, inl, inr, ⊎_elim, arith, ◌≤◌, ◌<◌, ◌+◌, append_assoc, append-nil, length}
+use Rattle.std.proofs.Common.{◌≡◌, ℕ, zero, suc, Bool, true, false, List, [], ◌∷◌, ◌++◌, refl, sym}
+use Rattle.std.proofs.Common.{ap, subst}
+use Rattle.std.proofs.Common.{◌∙◌, inl, inr, ⊎_elim, arith, ◌≤◌, ◌<◌, ◌+◌, append_assoc}
+use Rattle.std.proofs.Common.{append-nil, length}
 use Rattle.std.specs.Prelude.{codes}
 use Rattle.std.specs.Char.{digit_value, is_ascii_hexdigit}
 use Rattle.std.specs.Str.Parse.{AllDigits, digits_value}
@@ -32,7 +34,8 @@ digits-give : (n : ℕ) (t : List ℕ) → IsPower (Has HEXDIG) n t → AreDigit
 digits-give zero t e = subst (AreDigits 0) (sym e) (record { long = refl; all = tt })
 digits-give (suc n) t (x, y, e, h, q) =
     let k = hexdig-has x h in
-    one-digit k.c y t n (e ∙ ap (λ r. r ++ y) k.whole) (hexdigit_value_is_below_16 k.c k.passes) (digits-give n y q)
+    one-digit k.c y t n (e ∙ ap
+    (λ r. r ++ y) k.whole) (hexdigit_value_is_below_16 k.c k.passes) (digits-give n y q)
 
 digits-are-had : (t : List ℕ) → AllDigits 16 t → IsPower (Has HEXDIG) (length t) t
 digits-are-had [] a = refl
@@ -118,7 +121,8 @@ last-group ipv4 lead g h = record {
   count = refl;
 }
 
-heads-give : (ipv4 : Bool) (n : ℕ) (lead t : List ℕ) → IsShape h16 n t → AreGroups ipv4 lead (suc n) t
+heads-give : (ipv4 : Bool) (n : ℕ) (lead t : List ℕ) → IsShape h16 n t → AreGroups ipv4 lead
+    (suc n) t
 heads-give ipv4 zero lead t s = last-group ipv4 lead t (shape-of-last h16 t s)
 heads-give ipv4 (suc n) lead t s =
     let k = shape-step h16 n t s.x s.y s.whole s.groups s.ending in
@@ -145,7 +149,8 @@ tails-give zero lead t s = ls32-gives lead t (shape-of-last ls32 t s)
 tails-give (suc n) lead t s =
     let k = shape-step ls32 n t s.x s.y s.whole s.groups s.ending in
     subst (AreGroups true lead (suc (suc (suc n)))) (sym k.whole)
-    (group-then true lead (suc (suc n)) k.g k.rest k.group (tails-give n (codes ":") k.rest k.shape))
+    (group-then true lead (suc (suc n)) k.g k.rest k.group
+    (tails-give n (codes ":") k.rest k.shape))
 
 -- the text after the lead has a property
 record IsAfter (lead : List ℕ) (P : List ℕ → Type 0) (t : List ℕ) : Type 0 where
@@ -153,7 +158,8 @@ record IsAfter (lead : List ℕ) (P : List ℕ → Type 0) (t : List ℕ) : Type
   whole : t ≡ lead ++ r
   holds : P r
 
-after-group : (last : Abnf) (lead t g rest : List ℕ) (s n : ℕ) → t ≡ (lead ++ g) ++ rest → IsGroup g s
+after-group : (last : Abnf) (lead t g rest : List ℕ) (s n : ℕ) → t ≡ (lead ++ g) ++ rest
+    → IsGroup g s
     → IsAfter (codes ":") (IsShape last n) rest → IsAfter lead (IsShape last (suc n)) t
 after-group last lead t g rest s n e i k = record {
   r = g ++ (58 ∷ k.r);
@@ -161,7 +167,8 @@ after-group last lead t g rest s n e i k = record {
   holds = step-is-shape last n g k.r (group-is-had g s i) k.holds;
 }
 
-after-last-group : (lead t g rest : List ℕ) (s : ℕ) → t ≡ (lead ++ g) ++ rest → rest ≡ [] → IsGroup g s
+after-last-group : (lead t g rest : List ℕ) (s : ℕ) → t ≡ (lead ++ g) ++ rest → rest ≡ []
+    → IsGroup g s
     → IsAfter lead (Has h16) t
 after-last-group lead t g rest s e n i = record {
   r = g;
@@ -169,13 +176,15 @@ after-last-group lead t g rest s e n i = record {
   holds = group-is-had g s i;
 }
 
-head-shape : (lead t : List ℕ) (s : ℕ) (segments : List ℕ) → IsGroupsAfter false lead t (s ∷ segments)
+head-shape : (lead t : List ℕ) (s : ℕ) (segments : List ℕ) → IsGroupsAfter false lead t
+    (s ∷ segments)
     → IsAfter lead (IsShape h16 (length segments)) t
 head-shape lead t s [] (inl (g, rest, e, i, r)) =
     let k = after-last-group lead t g rest s e r i in
     record { r = k.r; whole = k.whole; holds = last-is-shape h16 k.r k.holds }
 head-shape lead t s (s2 ∷ segments) (inl (g, rest, e, i, r)) =
-    after-group h16 lead t g rest s (length segments) e i (head-shape (codes ":") rest s2 segments r)
+    after-group h16 lead t g rest s (length segments) e i
+    (head-shape (codes ":") rest s2 segments r)
 head-shape lead t s segments (inr (last, octets, no_ipv4, e, d, f)) = absurd (false≢true no_ipv4)
 
 one-tail : (lead t : List ℕ) (s : ℕ) → IsGroupsAfter true lead t (s ∷ []) → IsAfter lead (Has h16) t
@@ -184,7 +193,8 @@ one-tail lead t s (inr (last, octets, yes_ipv4, e, d, f)) =
     let v = ap segments_of d.value in absurd (cc (f, v))
 
 tail-shape : (lead t : List ℕ) (s s2 : ℕ) (segments : List ℕ)
-    → IsGroupsAfter true lead t (s ∷ s2 ∷ segments) → IsAfter lead (IsShape ls32 (length segments)) t
+    → IsGroupsAfter true lead t (s ∷ s2 ∷ segments) → IsAfter lead
+    (IsShape ls32 (length segments)) t
 unfolding ls32
 tail-shape lead t s s2 [] (inl (g, rest, e, i, r)) =
     let k = one-tail (codes ":") rest s2 r in
@@ -195,7 +205,8 @@ tail-shape lead t s s2 [] (inl (g, rest, e, i, r)) =
           (inl (g, 58 ∷ k.r, refl, group-is-had g s i, (codes ":", k.r, refl, refl, k.holds)));
     }
 tail-shape lead t s s2 (s3 ∷ segments) (inl (g, rest, e, i, r)) =
-    after-group ls32 lead t g rest s (length segments) e i (tail-shape (codes ":") rest s2 s3 segments r)
+    after-group ls32 lead t g rest s (length segments) e i
+    (tail-shape (codes ":") rest s2 s3 segments r)
 tail-shape lead t s s2 segments (inr (last, octets, yes_ipv4, e, d, f)) =
     let v = ap segments_of d.value in
     let n : segments ≡ [] = cc (f, v) in
@@ -281,7 +292,8 @@ elided-gives : (A B : Abnf) (h k : ℕ) → h + k ≤ 7 → ((x : List ℕ) → 
 elided-gives A B h k l f g t (x, r, e, a, (c, y, i, d, b)) =
     elide h k l t x c y (e ∙ ap (λ z. x ++ z) i) d (f x a) (g y b)
 
-six-and-last : (t : List ℕ) → Has (times 6 g16 ⋅ ls32) t → (segments : List ℕ) × IsColonHex t segments
+six-and-last : (t : List ℕ) → Has (times 6 g16 ⋅ ls32) t → (segments : List ℕ)
+    × IsColonHex t segments
 six-and-last t h =
     let k = tails-give 6 [] t (times-is-shape ls32 6 t h) in
     (k.segments, inl (k.groups, k.count))
@@ -302,7 +314,8 @@ ipv6-gives t (inl (inl (inl (inl (inr h))))) =
     elided-gives (opt (upto 2 g16 ⋅ h16)) (times 2 g16 ⋅ ls32) 3 4 (omega arith) (upto-gives-head 2)
     (λ y b. tails-give 2 [] y (times-is-shape ls32 2 y b)) t h
 ipv6-gives t (inl (inl (inl (inr h)))) =
-    elided-gives (opt (upto 3 g16 ⋅ h16)) (h16 ⋅ lit ":" ⋅ ls32) 4 3 (omega arith) (upto-gives-head 3)
+    elided-gives (opt (upto 3 g16 ⋅ h16)) (h16 ⋅ lit ":" ⋅ ls32) 4 3 (omega arith)
+    (upto-gives-head 3)
     (λ y b. tails-give 1 [] y (once y b)) t h
 ipv6-gives t (inl (inl (inr h))) =
     elided-gives (opt (upto 4 g16 ⋅ h16)) ls32 5 2 (omega arith) (upto-gives-head 4)
@@ -336,15 +349,28 @@ no-head-is-nil x (s ∷ head) g l = absurd (omega arith)
 
 shape-once : (t : List ℕ) → IsShape ls32 1 t → Has (h16 ⋅ lit ":" ⋅ ls32) t
 shape-once t s =
-    let k = shape-step ls32 0 t s.x s.y s.whole s.groups s.ending in
-    (k.g, 58 ∷ k.rest, k.whole, k.group, (codes ":", k.rest, refl, refl, shape-of-last ls32 k.rest k.shape))
+    let k = shape-step ls32 0 t s.x s.y s.whole s.groups s.ending in (
+      k.g,
+      58 ∷ k.rest,
+      k.whole,
+      k.group,
+      (
+        codes ":",
+        k.rest,
+        refl,
+        refl,
+        shape-of-last ls32 k.rest
+            k.shape,
+      ),
+    )
 
 elided-is-had : (A B : Abnf) (t x y : List ℕ) → t ≡ (x ++ codes "::") ++ y → Has A x → Has B y
     → Has (A ⋅ lit "::" ⋅ B) t
 elided-is-had A B t x y e a b =
     (x, codes "::" ++ y, e ∙ append_assoc x (codes "::") y, a, (codes "::", y, refl, refl, b))
 
-module _ (t x y head : List ℕ) (e : t ≡ (x ++ codes "::") ++ y) (heads : IsGroups false x head) where
+module _ (t x y head : List ℕ) (e : t ≡ (x ++ codes "::") ++ y)
+    (heads : IsGroups false x head) where
   elided-had : (tail : List ℕ) → IsGroups true y tail → length head + length tail < 8
       → Has IPv6address t
   unfolding IPv6address
@@ -376,7 +402,8 @@ module _ (t x y head : List ℕ) (e : t ≡ (x ++ codes "::") ++ y) (heads : IsG
       (shape-is-times ls32 2 y (subst (IsShape ls32 2) (sym k.whole) k.holds)))))))
   elided-had (s ∷ s2 ∷ s3 ∷ s4 ∷ s5 ∷ []) g l =
       let k = tail-shape [] y s s2 (s3 ∷ s4 ∷ s5 ∷ []) g in
-      inl (inl (inl (inl (inl (inr (elided-is-had (opt (upto 1 g16 ⋅ h16)) (times 3 g16 ⋅ ls32) t x y e
+      inl (inl (inl (inl (inl (inr (elided-is-had (opt (upto 1 g16 ⋅ h16))
+      (times 3 g16 ⋅ ls32) t x y e
       (head-is-had 1 x head heads (omega arith))
       (shape-is-times ls32 3 y (subst (IsShape ls32 3) (sym k.whole) k.holds))))))))
   elided-had (s ∷ s2 ∷ s3 ∷ s4 ∷ s5 ∷ s6 ∷ []) g l =
@@ -396,7 +423,8 @@ module _ (t x y head : List ℕ) (e : t ≡ (x ++ codes "::") ++ y) (heads : IsG
       ))))))))
   elided-had (s ∷ s2 ∷ s3 ∷ s4 ∷ s5 ∷ s6 ∷ s7 ∷ s8 ∷ tail) g l = absurd (omega arith)
 
-whole-had : (t segments : List ℕ) → IsGroups true t segments → length segments ≡ 8 → Has IPv6address t
+whole-had : (t segments : List ℕ) → IsGroups true t segments → length segments ≡ 8
+    → Has IPv6address t
 unfolding IPv6address
 whole-had t [] g n = absurd (omega arith)
 whole-had t (s ∷ []) g n = absurd (omega arith)

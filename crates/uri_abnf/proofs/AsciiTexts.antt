@@ -1,5 +1,6 @@
 -- Expressions of ASCII characters only: their texts are their own characters.
-use Rattle.std.proofs.Common.{◌≡◌, ℕ, zero, suc, Bool, true, List, [], ◌∷◌, ◌++◌, refl, sym, ap, subst}
+use Rattle.std.proofs.Common.{◌≡◌, ℕ, zero, suc, Bool, true, List, [], ◌∷◌, ◌++◌, refl, sym, ap}
+use Rattle.std.proofs.Common.{subst}
 use Rattle.std.proofs.Common.{◌∙◌, inl, inr, arith, ◌<◌, ◌&&◌}
 use Rattle.std.specs.Prelude.{nat_lt, map, get_or, drop}
 use Rattle.std.specs.List.{list_all}
@@ -10,7 +11,8 @@ use Rattle.std.proofs.lemmas.Bool.Decides.{nat_tests}
 use Rattle.std.proofs.lemmas.Str.{encodes-append, chars-encodes, encodes-chars, encode_ascii}
 use Rattle.std.proofs.Math.Utf8.{low_scalar}
 use Rattle.uri_pct.proofs.UnreservedDecoding.Printing.{scalars-append}
-use Rattle.uri_abnf.specs.Abnf.{Abnf, Rule, Literal, Range, Sequence, Either, Repeat, Optional, Has, IsPower, IsOf}
+use Rattle.uri_abnf.specs.Abnf.{Abnf, Rule, Literal, Range, Sequence, Either, Repeat, Optional}
+use Rattle.uri_abnf.specs.Abnf.{Has, IsPower, IsOf}
 
 abbrev pub ascii_only : Abnf → Bool
 ascii_only (Rule name a) = ascii_only a
@@ -37,7 +39,8 @@ own-cons c t h o = record {
 own-append : (x y : List ℕ) → IsOwn x → IsOwn y → IsOwn (x ++ y)
 own-append x y o p = record {
   scalars = scalars-append x y o.scalars p.scalars;
-  encodes = encodes-append x y ∙ ap (λ r. r ++ encode_utf8_all y) o.encodes ∙ ap (λ r. x ++ r) p.encodes;
+  encodes = encodes-append x y ∙ ap
+      (λ r. r ++ encode_utf8_all y) o.encodes ∙ ap (λ r. x ++ r) p.encodes;
 }
 
 lower-ascii : (a c : ℕ) → to_ascii_lowercase c ≡ to_ascii_lowercase a → a < 128 → c < 128

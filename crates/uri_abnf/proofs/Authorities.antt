@@ -1,12 +1,11 @@
 -- The rules on authorities: RFC 3986, section 3.2.
-use Rattle.std.proofs.Common.{◌≡◌, ℕ, true, List, [], ◌++◌, refl, sym, ap, subst, ◌∙◌, arith}
-use Rattle.std.proofs.Common.{append_assoc, append-nil, ◌<◌}
-use Rattle.std.specs.Prelude.{Option, None, Some, codes, IfSome, ◌↔◌}
+use Rattle.std.proofs.Common.{ℕ, List, [], ◌++◌, refl, sym, ap, subst, ◌∙◌}
+use Rattle.std.specs.Prelude.{codes}
 use Rattle.std.specs.Str.{IsUtf8}
 use Rattle.uri_pct.specs.Sets.{digit_set}
 use Rattle.uri_pct.specs.Tokens.{IsValidFor}
 use Rattle.uri_pct.proofs.General.{IfSome-weaken, IfSome-combine}
-use Rattle.uri_parts.specs.Authority.{AuthorityParts, IsAuthorityFor, recompose_authority}
+use Rattle.uri_parts.specs.Authority.{AuthorityParts, IsAuthorityFor}
 use Rattle.uri_parts.specs.Components.{Lacks, marked}
 use Rattle.uri_parts.specs.Grammar.{Kind}
 use Rattle.uri_parts.proofs.TextKinds.GrammarTexts.{valid_text_lacks_excluded_marks}
@@ -48,7 +47,8 @@ module _ (r : Rules) (kind : Kind) (w : Fit r kind) where
         record { userinfo = u.part; host = j.x; port = p.part },
         record {
           whole = ap (λ s. s ++ (j.x ++ marked (codes ":") p.part [])) u.whole
-              ∙ ap (λ s. k.x ++ (j.x ++ s)) p.whole ∙ ap (λ s. k.x ++ s) (sym j.whole) ∙ sym k.whole;
+              ∙ ap (λ s. k.x ++ (j.x ++ s)) p.whole
+              ∙ ap (λ s. k.x ++ s) (sym j.whole) ∙ sym k.whole;
           userinfo = u.is_of;
           host = j.first;
           port = p.is_of;
@@ -76,7 +76,8 @@ module _ (r : Rules) (kind : Kind) (w : Fit r kind) where
   pub following-authority-derives : (t : List ℕ) (p : AuthorityParts) → IsUtf8 t
       → IsAuthorityFor kind.userinfo kind.reg_name t p → IsAuthorityDerived r t p
   following-authority-derives t p u a =
-      let parts = authority-parts-are-utf8 p.userinfo p.port p.host (subst IsUtf8 (sym a.whole) u) in
+      let parts = authority-parts-are-utf8 p.userinfo p.port p.host
+      (subst IsUtf8 (sym a.whole) u) in
       record {
         whole = a.whole;
         userinfo = IfSome-combine p.userinfo IsUtf8 (IsValidFor kind.userinfo) _

@@ -5,7 +5,7 @@ use Rattle.uri_pct.specs.Sets.{userinfo_set, reg_name_set, path_set, query_set, 
 use Rattle.uri_pct.specs.Sets.{iuserinfo_set, ireg_name_set, ipath_set, iquery_set, ifragment_set}
 use Rattle.uri_pct.specs.Sets.{pchar_set, segment_nz_nc_set, isegment_nz_nc_set, international}
 use Rattle.uri_parts.specs.Grammar.{Kind, uri, iri}
-use Rattle.uri_abnf.specs.Abnf.{Abnf, lit, ◌∣◌}
+use Rattle.uri_abnf.specs.Abnf.{lit, ◌∣◌}
 use Rattle.uri_abnf.specs.Derivations.{uri_rules, iri_rules}
 use Rattle.uri_abnf.specs.Rfc3986.{unreserved, sub-delims, pct-encoded, pchar}
 use Rattle.uri_abnf.specs.Rfc3986 as R
@@ -45,7 +45,8 @@ uri-paths = record {
 }
 
 uri-rules-are-made : AreMade uri_rules
-unfolding R.URI R.hier-part R.absolute-URI R.URI-reference R.relative-ref R.relative-part R.authority R.host
+unfolding R.URI R.hier-part R.absolute-URI R.URI-reference R.relative-ref R.relative-part
+    R.authority R.host
 uri-rules-are-made = record {
   with_scheme = λ cs. (λ h. h, λ h. h);
   absolute = λ cs. (λ h. h, λ h. h);
@@ -59,7 +60,8 @@ abbrev pub uri-kind : Bool → Kind
 uri-kind needs = record uri { needs_scheme = needs }
 
 pub uri-rules-fit : (needs : Bool) → Fit uri_rules (uri-kind needs)
-unfolding R.userinfo R.reg-name R.query R.fragment R.path R.path-abempty R.path-absolute R.path-noscheme R.path-rootless R.path-empty R.segment R.segment-nz R.segment-nz-nc uri-paths
+unfolding R.userinfo R.reg-name R.query R.fragment R.path R.path-abempty R.path-absolute
+    R.path-noscheme R.path-rootless R.path-empty R.segment R.segment-nz R.segment-nz-nc uri-paths
 uri-rules-fit needs = record {
   made = uri-rules-are-made;
   userinfo = set-rule (unreserved ∣ pct-encoded ∣ sub-delims ∣ lit ":") _ userinfo_set
@@ -115,7 +117,8 @@ iri-paths = record {
 }
 
 iri-rules-are-made : AreMade iri_rules
-unfolding I.IRI I.ihier-part I.absolute-IRI I.IRI-reference I.irelative-ref I.irelative-part I.iauthority I.ihost
+unfolding I.IRI I.ihier-part I.absolute-IRI I.IRI-reference I.irelative-ref I.irelative-part
+    I.iauthority I.ihost
 iri-rules-are-made = record {
   with_scheme = λ cs. (λ h. h, λ h. h);
   absolute = λ cs. (λ h. h, λ h. h);
@@ -129,7 +132,9 @@ abbrev pub iri-kind : Bool → Kind
 iri-kind needs = record iri { needs_scheme = needs }
 
 pub iri-rules-fit : (needs : Bool) → Fit iri_rules (iri-kind needs)
-unfolding I.iuserinfo I.ireg-name I.iquery I.ifragment I.ipath I.ipath-abempty I.ipath-absolute I.ipath-noscheme I.ipath-rootless I.ipath-empty I.isegment I.isegment-nz I.isegment-nz-nc iri-paths
+unfolding I.iuserinfo I.ireg-name I.iquery I.ifragment I.ipath I.ipath-abempty I.ipath-absolute
+    I.ipath-noscheme I.ipath-rootless I.ipath-empty I.isegment I.isegment-nz I.isegment-nz-nc
+    iri-paths
 iri-rules-fit needs = record {
   made = iri-rules-are-made;
   userinfo = set-rule (iunreserved ∣ pct-encoded ∣ sub-delims ∣ lit ":") _ iuserinfo_set

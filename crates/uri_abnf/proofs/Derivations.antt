@@ -68,7 +68,8 @@ module _ (r : Rules) where
       → IsOf (hierarchy r other) (marked (codes "//") a [] ++ path)
   hierarchy-is-had other None path h l = ⊎_elim
       (λ ab. ⊎_elim
-      (λ a. left-is-had _ r.path_empty path (left-is-had _ other path (right-is-had _ r.path_absolute path a)))
+      (λ a. left-is-had _ r.path_empty path (left-is-had _ other path
+      (right-is-had _ r.path_absolute path a)))
       (λ b. left-is-had _ r.path_empty path (right-is-had _ other path b))
       (either-gives r.path_absolute other path ab))
       (λ c. right-is-had _ r.path_empty path c)

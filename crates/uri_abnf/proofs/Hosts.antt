@@ -1,6 +1,6 @@
 -- The rules on hosts: RFC 3986, section 3.2.2.
 use Rattle.std.proofs.Common.{◌≡◌, ℕ, true, List, [], ◌∷◌, ◌++◌, refl, sym, ap, subst, ◌∙◌, ⊎_elim}
-use Rattle.std.proofs.Common.{zero, suc, false, arith, ◌<◌, length}
+use Rattle.std.proofs.Common.{arith, ◌<◌}
 use Rattle.std.specs.Prelude.{codes}
 use Rattle.std.specs.Net.Grammar.{IsColonHex, IsDotted}
 use Rattle.std.specs.Str.{IsUtf8, chars}
@@ -20,7 +20,7 @@ use Rattle.uri_parts.proofs.HostForms.Futures.{ipvfuture-text-lacks-excluded-mar
 use Rattle.uri_parts.proofs.TextKinds.GrammarTexts.{valid_text_lacks_excluded_marks}
 use Rattle.uri_parts.proofs.TextKinds.GrammarTexts.{utf8_around_ascii_byte}
 use Rattle.uri_ops.proofs.Meanings.HostMeanings.{bracketed-address-lacks-delimiters}
-use Rattle.uri_abnf.specs.Abnf.{Abnf, IsOf, any, some, lit, ◌⋅◌, ◌∣◌}
+use Rattle.uri_abnf.specs.Abnf.{Abnf, IsOf, some, lit, ◌⋅◌, ◌∣◌}
 use Rattle.uri_abnf.specs.Derivations.{Rules}
 use Rattle.uri_abnf.specs.Rfc3986.{dec-octet, h16, ls32, unreserved, sub-delims, IPvFuture}
 use Rattle.uri_abnf.specs.Rfc3986.{IPv6address, IP-literal, IPv4address}
@@ -33,7 +33,8 @@ use Rattle.uri_abnf.proofs.Rules.{Fit}
 use Rattle.uri_abnf.proofs.Schemes.{ascii-char-gives, ascii-char-is-had}
 use Rattle.uri_abnf.proofs.Sets.{hexdig-set, future-set}
 use Rattle.uri_abnf.proofs.Texts.{cut-gives, cut-is-had, either-gives, left-is-had, right-is-had}
-use Rattle.uri_abnf.proofs.Texts.{mark-gives, mark-is-had, dot-mark, open-mark, close-mark, same-text}
+use Rattle.uri_abnf.proofs.Texts.{mark-gives, mark-is-had, dot-mark, open-mark, close-mark}
+use Rattle.uri_abnf.proofs.Texts.{same-text}
 use Rattle.uri_abnf.proofs.Texts.{rule-gives, rule-is-had}
 use Rattle.uri_abnf.proofs.Tokens.{any-is-valid, valid-is-any, some-is-any, any-is-some}
 
@@ -77,7 +78,8 @@ unfolding IPvFuture
 future-is-had t u f =
     let p = v-is-had f.letter f.is_v in
     let v = subst IsUtf8 f.whole u in
-    let rest = (utf8_around_ascii_byte [] f.letter (f.version ++ (codes "." ++ f.address)) p.1 v).1 in
+    let rest = (utf8_around_ascii_byte [] f.letter
+    (f.version ++ (codes "." ++ f.address)) p.1 v).1 in
     let apart = utf8_around_ascii_byte f.version 46 f.address (omega arith) rest in
     let version = valid-is-any HEXDIG hexdig_set hexdig-set f.version apart.0 f.version_digits.1 in
     let address = valid-is-any future-char ipv_future_set future-set f.address apart.1
@@ -117,7 +119,8 @@ ipv6-text-is-had t segments s =
 
 -- a host in brackets: an IPv6 address, or one of a later version
 abbrev pub IsLiteral : List ℕ → HostKind → Type 0
-IsLiteral t (Ipv6 segments) = (address : List ℕ) × (t ≡ bracketed address) × IsColonHex address segments
+IsLiteral t (Ipv6 segments) = (address : List ℕ) × (t ≡ bracketed address)
+    × IsColonHex address segments
 IsLiteral t IpvFuture = (address : List ℕ) × (t ≡ bracketed address) × IsIpvFuture address
 IsLiteral t (Ipv4 octets) = ⊥
 IsLiteral t RegName = ⊥
@@ -180,7 +183,8 @@ module _ (r : Rules) (kind : Kind) (w : Fit r kind) where
       (λ b. let s = ipv4-text-gives t b in (Ipv4 s.0, s.1))
       (either-gives IP-literal IPv4address t ab))
       (λ c. name-gives t c)
-      (either-gives (IP-literal ∣ IPv4address) r.reg_name t (same-text (λ cs. (w.made.host cs).0) l))
+      (either-gives (IP-literal ∣ IPv4address) r.reg_name t
+      (same-text (λ cs. (w.made.host cs).0) l))
 
   alternative-is-had : (t : List ℕ) (h : HostKind) → IsUtf8 t → IsHost kind.reg_name t h
       → IsOf (IP-literal ∣ IPv4address ∣ r.reg_name) t
@@ -192,7 +196,8 @@ module _ (r : Rules) (kind : Kind) (w : Fit r kind) where
       (right-is-had IP-literal IPv4address t (ipv4-text-is-had t octets d))
   alternative-is-had t RegName u v = right-is-had _ r.reg_name t ((w.reg_name t).1 (u, v.0))
 
-  pub host-is-had : (t : List ℕ) (h : HostKind) → IsUtf8 t → IsHost kind.reg_name t h → IsOf r.host t
+  pub host-is-had : (t : List ℕ) (h : HostKind) → IsUtf8 t → IsHost kind.reg_name t h
+      → IsOf r.host t
   host-is-had t h u k = same-text (λ cs. (w.made.host cs).1) (alternative-is-had t h u k)
 
   pub host-lacks : (t : List ℕ) (h : HostKind) → IsUtf8 t → IsHost kind.reg_name t h

@@ -1,6 +1,7 @@
 -- The sets of the expressions of one character or octet in RFC 3987, section 2.2: those of
 -- RFC 3986, with more characters past ASCII.
-use Rattle.std.proofs.Common.{◌≡◌, ℕ, Bool, true, false, refl, rules, arith, ap, ◌∙◌, ◌||◌, ◌&&◌, sym}
+use Rattle.std.proofs.Common.{◌≡◌, ℕ, Bool, true, false, refl, rules, arith, ap, ◌∙◌, ◌||◌, ◌&&◌}
+use Rattle.std.proofs.Common.{sym}
 use Rattle.std.specs.Prelude.{if◌then◌else◌, nat_lt}
 use Rattle.std.proofs.lemmas.Bool.Decides.{nat_tests}
 use Rattle.uri_pct.specs.Sets.{TableSet, allows_past_ascii, is_ucschar, is_iprivate, international}
@@ -94,52 +95,66 @@ iquery-widens = either-widens _ _ _ (lit "?") (either-widens _ _ _ (lit "/") (re
 }))
 
 pub ireg-name-set : IsSetOf (iunreserved ∣ pct-encoded ∣ sub-delims) ireg_name_set
-unfolding ALPHA DIGIT unreserved sub-delims pct-encoded pchar iunreserved ipchar ucschar iprivate allows_past_ascii
+unfolding ALPHA DIGIT unreserved sub-delims pct-encoded pchar iunreserved ipchar ucschar iprivate
+    allows_past_ascii
 ireg-name-set = record {
   element = search rules;
-  chars = widened-chars ireg_name_set _ _ (ireg-name-widens ireg_name_set refl refl) Sets.reg-name-set.chars;
+  chars = widened-chars ireg_name_set _ _
+      (ireg-name-widens ireg_name_set refl refl) Sets.reg-name-set.chars;
   octets = refl;
   lacks = refl;
 }
 
 pub iuserinfo-set : IsSetOf (iunreserved ∣ pct-encoded ∣ sub-delims ∣ lit ":") iuserinfo_set
-unfolding ALPHA DIGIT unreserved sub-delims pct-encoded pchar iunreserved ipchar ucschar iprivate allows_past_ascii
+unfolding ALPHA DIGIT unreserved sub-delims pct-encoded pchar iunreserved ipchar ucschar iprivate
+    allows_past_ascii
 iuserinfo-set = record {
   element = search rules;
-  chars = widened-chars iuserinfo_set _ _ (either-widens _ _ _ (lit ":") (ireg-name-widens iuserinfo_set refl refl)) Sets.userinfo-set.chars;
+  chars = widened-chars iuserinfo_set _ _
+      (either-widens _ _ _ (lit ":") (ireg-name-widens iuserinfo_set refl refl))
+      Sets.userinfo-set.chars;
   octets = refl;
   lacks = refl;
 }
 
 pub ipchar-set : IsSetOf ipchar (international pchar_set)
-unfolding ALPHA DIGIT unreserved sub-delims pct-encoded pchar iunreserved ipchar ucschar iprivate allows_past_ascii
+unfolding ALPHA DIGIT unreserved sub-delims pct-encoded pchar iunreserved ipchar ucschar iprivate
+    allows_past_ascii
 ipchar-set = record {
   element = search rules;
-  chars = widened-chars (international pchar_set) _ _ (ipchar-widens (international pchar_set) refl refl) Sets.pchar-set.chars;
+  chars = widened-chars (international pchar_set) _ _
+      (ipchar-widens (international pchar_set) refl refl) Sets.pchar-set.chars;
   octets = refl;
   lacks = refl;
 }
 
-pub isegment-nz-nc-set : IsSetOf (iunreserved ∣ pct-encoded ∣ sub-delims ∣ lit "@") isegment_nz_nc_set
-unfolding ALPHA DIGIT unreserved sub-delims pct-encoded pchar iunreserved ipchar ucschar iprivate allows_past_ascii
+pub isegment-nz-nc-set : IsSetOf (iunreserved ∣ pct-encoded ∣ sub-delims ∣ lit "@")
+    isegment_nz_nc_set
+unfolding ALPHA DIGIT unreserved sub-delims pct-encoded pchar iunreserved ipchar ucschar iprivate
+    allows_past_ascii
 isegment-nz-nc-set = record {
   element = search rules;
-  chars = widened-chars isegment_nz_nc_set _ _ (either-widens _ _ _ (lit "@") (ireg-name-widens isegment_nz_nc_set refl refl)) Sets.segment-nz-nc-set.chars;
+  chars = widened-chars isegment_nz_nc_set _ _
+      (either-widens _ _ _ (lit "@") (ireg-name-widens isegment_nz_nc_set refl refl))
+      Sets.segment-nz-nc-set.chars;
   octets = refl;
   lacks = refl;
 }
 
 pub ipath-set : IsSetOf (ipchar ∣ lit "/") ipath_set
-unfolding ALPHA DIGIT unreserved sub-delims pct-encoded pchar iunreserved ipchar ucschar iprivate allows_past_ascii
+unfolding ALPHA DIGIT unreserved sub-delims pct-encoded pchar iunreserved ipchar ucschar iprivate
+    allows_past_ascii
 ipath-set = record {
   element = search rules;
-  chars = widened-chars ipath_set _ _ (either-widens _ _ _ (lit "/") (ipchar-widens ipath_set refl refl)) Sets.path-set.chars;
+  chars = widened-chars ipath_set _ _ (either-widens _ _ _ (lit "/")
+      (ipchar-widens ipath_set refl refl)) Sets.path-set.chars;
   octets = refl;
   lacks = refl;
 }
 
 pub ifragment-set : IsSetOf (ipchar ∣ lit "/" ∣ lit "?") ifragment_set
-unfolding ALPHA DIGIT unreserved sub-delims pct-encoded pchar iunreserved ipchar ucschar iprivate allows_past_ascii
+unfolding ALPHA DIGIT unreserved sub-delims pct-encoded pchar iunreserved ipchar ucschar iprivate
+    allows_past_ascii
 ifragment-set = record {
   element = search rules;
   chars = widened-chars ifragment_set _ _ (either-widens _ _ _ (lit "?")
@@ -149,7 +164,8 @@ ifragment-set = record {
 }
 
 pub iquery-set : IsSetOf (ipchar ∣ iprivate ∣ lit "/" ∣ lit "?") iquery_set
-unfolding ALPHA DIGIT unreserved sub-delims pct-encoded pchar iunreserved ipchar ucschar iprivate allows_past_ascii
+unfolding ALPHA DIGIT unreserved sub-delims pct-encoded pchar iunreserved ipchar ucschar iprivate
+    allows_past_ascii
 iquery-set = record {
   element = search rules;
   chars = widened-chars iquery_set _ _ iquery-widens Sets.query-set.chars;

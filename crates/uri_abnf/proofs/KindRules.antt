@@ -1,25 +1,18 @@
 -- What is derived by the rules is what the kinds ask of a text and its components.
-use Rattle.std.proofs.Common.{◌≡◌, ℕ, true, false, not, List, [], ◌∷◌, ◌++◌, refl, sym, ap, subst}
-use Rattle.std.proofs.Common.{◌∙◌, inl, inr, ⊎_elim, arith, ◌<◌, ◌&&◌, append_assoc, length, suc}
-use Rattle.std.specs.Prelude.{◌⊎◌, ◌↔◌, ◌==◌, Option, None, Some, codes, IfSome, IfNone, IsSome}
-use Rattle.std.specs.Prelude.{is_some}
-use Rattle.std.specs.List.{list_any}
+use Rattle.std.proofs.Common.{◌≡◌, ℕ, true, false, List, [], ◌++◌, refl, sym, subst}
+use Rattle.std.proofs.Common.{inl, inr, ⊎_elim, ◌<◌, length}
+use Rattle.std.specs.Prelude.{◌⊎◌, ◌↔◌, Option, None, Some, codes, IfSome, IfNone, IsSome}
 use Rattle.std.specs.Str.{IsUtf8}
-use Rattle.std.proofs.lemmas.Bool.{and_parts, or_parts, false≢true}
-use Rattle.std.proofs.lemmas.Bool.Decides.{nat_tests}
-use Rattle.uri_pct.specs.Sets.{is_one_of, scheme_set}
+use Rattle.std.proofs.lemmas.Bool.{and_parts, false≢true}
+use Rattle.uri_pct.specs.Sets.{scheme_set}
 use Rattle.uri_pct.specs.Tokens.{IsValidFor}
 use Rattle.uri_pct.proofs.General.{IfSome-weaken, IfSome-combine}
-use Rattle.uri_parts.specs.Authority.{AuthorityParts, IsAuthorityFor}
-use Rattle.uri_parts.specs.Components.{Components, IsSplitOf, Lacks, marked, IsAbemptyPath, components}
-use Rattle.uri_parts.specs.Components.{has_authority, has_scheme, starts, before_any, from_any}
+use Rattle.uri_parts.specs.Components.{Components, IsSplitOf, Lacks, marked, IsAbemptyPath}
+use Rattle.uri_parts.specs.Components.{components}
+use Rattle.uri_parts.specs.Components.{has_authority, has_scheme}
 use Rattle.uri_parts.specs.Grammar.{Kind, is_scheme, has_colon_in_first_segment}
 use Rattle.uri_parts.specs.GrammarInWords.{HasAuthorityParts, FollowsRules}
-use Rattle.uri_parts.proofs.Authorities.Authority.{empty-text-lacks-marks}
-use Rattle.uri_parts.proofs.Splitting.Cuts.{IsEmptyOrMarked, cut-at-end-of-text-without-marks}
-use Rattle.uri_parts.proofs.Splitting.Cuts.{empty-or-marked-for-more-marks, begins-with-no-other}
-use Rattle.uri_parts.proofs.Splitting.Cuts.{text-is-cut-at-first-mark}
-use Rattle.uri_parts.proofs.Splitting.Cuts.{text-after-other-byte-lacks-marks}
+use Rattle.uri_parts.proofs.Splitting.Cuts.{IsEmptyOrMarked}
 use Rattle.uri_parts.proofs.Splitting.Marks.{query_text, IsEmptyOrMarked-query_text}
 use Rattle.uri_parts.proofs.Splitting.Splits.{only-split-is-components}
 use Rattle.uri_parts.proofs.TextKinds.GrammarTexts.{valid_text_lacks_excluded_marks}
@@ -83,7 +76,8 @@ module _ (r : Rules) (kind : Kind) (w : Fit r kind) where
 
   no-scheme : (s a : Option (List ℕ)) (path tail : List ℕ) → IsPathOf s a path
       → IsEmptyOrMarked (codes "?#") tail
-      → IfNone s (has_scheme (marked [] s (codes ":") ++ (marked (codes "//") a [] ++ (path ++ tail)))
+      → IfNone s (has_scheme (marked [] s (codes ":")
+      ++ (marked (codes "//") a [] ++ (path ++ tail)))
       ≡ false)
   no-scheme (Some y) a path tail p e = tt
   no-scheme None (Some x) path tail p e = refl
@@ -154,7 +148,8 @@ module _ (r : Rules) (kind : Kind) (w : Fit r kind) where
   pub follows-is-derived : (t : List ℕ) (p : Components) → IsUtf8 t → FollowsRules kind t p
       → IsDerived r t p
   follows-is-derived t p ut f =
-      let u = subst AreUtf8 (only-split-is-components t p f.split) (components-of-utf8-are-utf8 t ut) in
+      let u = subst AreUtf8 (only-split-is-components t p f.split)
+      (components-of-utf8-are-utf8 t ut) in
       record {
         whole = f.split.whole;
         scheme = IfSome-combine p.scheme IsUtf8 (λ s. is_scheme s ≡ true) _

@@ -1,7 +1,7 @@
 -- The texts of the kinds are the languages of the start rules, and their components are derived.
 use Rattle.std.proofs.Common.{◌≡◌, ℕ, Bool, true, false, List, refl, sym, subst, ◌∙◌, inl, inr}
 use Rattle.std.proofs.Common.{⊎_elim}
-use Rattle.std.specs.Prelude.{◌↔◌, ◌⊎◌, IsSome, None, is_some}
+use Rattle.std.specs.Prelude.{◌↔◌, ◌⊎◌, IsSome, None}
 use Rattle.std.specs.Str.{IsUtf8}
 use Rattle.std.proofs.lemmas.Bool.{and_parts, false≢true}
 use Rattle.uri_parts.specs.Components.{Components, components}
@@ -99,7 +99,11 @@ iri-references-are-language =
     texts-of-references iri_rules iri_ref (iri-rules-fit false) iri_refs-are-texts-of-grammar refl
 
 references-are-ascii : ascii_only R.URI-reference ≡ true
-unfolding Core.ALPHA Core.DIGIT Core.HEXDIG R.pct-encoded R.unreserved R.sub-delims R.pchar R.query R.fragment R.segment R.segment-nz R.segment-nz-nc R.path-abempty R.path-absolute R.path-noscheme R.path-rootless R.path-empty R.dec-octet R.IPv4address R.h16 R.ls32 R.IPv6address R.IPvFuture R.IP-literal R.reg-name R.port R.host R.userinfo R.authority R.scheme R.relative-part R.relative-ref R.hier-part R.URI R.URI-reference
+unfolding Core.ALPHA Core.DIGIT Core.HEXDIG R.pct-encoded R.unreserved R.sub-delims R.pchar R.query
+    R.fragment R.segment R.segment-nz R.segment-nz-nc R.path-abempty R.path-absolute R.path-noscheme
+    R.path-rootless R.path-empty R.dec-octet R.IPv4address R.h16 R.ls32 R.IPv6address R.IPvFuture
+    R.IP-literal R.reg-name R.port R.host R.userinfo R.authority R.scheme R.relative-part
+    R.relative-ref R.hier-part R.URI R.URI-reference
 references-are-ascii = refl
 
 uris-are-ascii : ascii_only R.URI ≡ true
@@ -116,7 +120,8 @@ uri-characters-are-language t = (
 pub uri-reference-characters-are-language : (t : List ℕ)
     → (IsTextOf uri_ref t ↔ Has R.URI-reference t)
 uri-reference-characters-are-language t = (
-  λ l. ascii-text-gives R.URI-reference references-are-ascii t ((uri-references-are-language t).0 l),
+  λ l. ascii-text-gives R.URI-reference references-are-ascii t
+      ((uri-references-are-language t).0 l),
   λ h. (uri-references-are-language t).1
       (ascii-text-is-had R.URI-reference references-are-ascii t h),
 )

@@ -1,14 +1,14 @@
 -- The rules that parts of references are of: authorities, hosts, and the texts of a set.
 use Rattle.std.proofs.Common.{◌≡◌, ℕ, true, false, List, [], ◌∷◌, refl, sym, subst, ◌∙◌}
 use Rattle.std.proofs.Common.{arith, rules}
-use Rattle.std.specs.Prelude.{◌↔◌, codes}
+use Rattle.std.specs.Prelude.{◌↔◌}
 use Rattle.std.specs.Str.{IsUtf8}
 use Rattle.std.proofs.lemmas.Bool.Decides.{nat_tests}
-use Rattle.uri_pct.specs.Sets.{TableSet, is_unreserved, is_reserved, allows_past_ascii}
+use Rattle.uri_pct.specs.Sets.{TableSet, is_unreserved, is_reserved}
 use Rattle.uri_pct.specs.DecodeUnreserved.{is_decodable}
 use Rattle.uri_parts.specs.Authority.{AuthorityParts, authority_parts}
 use Rattle.uri_parts.specs.Grammar.{Kind, is_scheme, is_authority}
-use Rattle.uri_parts.specs.Hosts.{HostKind, IsHost, Ipv4, Ipv6, IpvFuture, RegName, bracketed}
+use Rattle.uri_parts.specs.Hosts.{IsHost, Ipv4, Ipv6, IpvFuture, RegName, bracketed}
 use Rattle.uri_parts.proofs.Authorities.Authority.{is_authority_for-sound}
 use Rattle.uri_parts.proofs.Authorities.Authority.{is_authority_for-complete}
 use Rattle.uri_parts.proofs.Authorities.Authority.{authority_parts-are-unique}
@@ -43,7 +43,8 @@ module _ (r : Rules) (kind : Kind) (w : Fit r kind) where
   authority-is-derived t = (
     λ l.
         let k = authority-derives r kind w t l in
-        subst (IsAuthorityDerived r t) (sym (authority-derivations-are-unique t k.0 l.utf8 k.1)) k.1,
+        subst (IsAuthorityDerived r t) (sym
+        (authority-derivations-are-unique t k.0 l.utf8 k.1)) k.1,
     λ d. derived-is-authority r kind w t (authority_parts t) d,
   )
 

@@ -25,7 +25,7 @@ use Rattle.uri_abnf.proofs.Texts.{right-is-had, opt-gives, opt-is-had, opt-has-n
 use Rattle.uri_abnf.proofs.Texts.{mark-gives, mark-is-had, slash-mark, text-of-no-chars}
 use Rattle.uri_abnf.proofs.Texts.{letterless-has, times-0-gives, times-0-has-nothing}
 use Rattle.uri_abnf.proofs.Tokens.{Tokens, none, char, octet, IsSetOf, tokens-append, tokens-widen}
-use Rattle.uri_abnf.proofs.Tokens.{any-gives-tokens, some-gives-tokens, tokens-are-valid}
+use Rattle.uri_abnf.proofs.Tokens.{some-gives-tokens, tokens-are-valid}
 use Rattle.uri_abnf.proofs.Tokens.{tokens-are-some, valid-are-tokens, any-is-valid, some-is-any}
 use Rattle.uri_abnf.proofs.Tokens.{any-is-some}
 
@@ -134,7 +134,14 @@ module _ (path : TableSet) (w : PathSets path) where
       }) in
       let j = cut-gives (lit "/") (any w.pc) k.x k.first in
       let s = mark-gives (codes "/") slash-mark j.x j.first in
-      inr (j.y, k.y, k.whole ∙ ap (λ r. r ++ k.y) (j.whole ∙ ap (λ r. r ++ j.y) s), j.second, k.second)
+      inr (
+        j.y,
+        k.y,
+        k.whole ∙ ap
+            (λ r. r ++ k.y) (j.whole ∙ ap (λ r. r ++ j.y) s),
+        j.second,
+        k.second,
+      )
 
   segment-lacks : (s : List ℕ) → IsOf (any w.pc) s → Lacks (codes "/?#") s
   segment-lacks s l = valid_text_lacks_excluded_marks w.segment (codes "/?#") w.of_pc.lacks
@@ -302,7 +309,8 @@ module _ (path : TableSet) (w : PathSets path) where
       let k = cut-gives (some w.nc) more t l in
       let lacks = first-lacks k.x k.first in
       colon-is-in-first t k.x k.y k.whole
-      (Lacks-of-fewer-marks (codes "/?#") (codes ":/?#") (λ c i. grind (arith, nat_tests)) k.x lacks)
+      (Lacks-of-fewer-marks (codes "/?#") (codes ":/?#")
+      (λ c i. grind (arith, nat_tests)) k.x lacks)
       k.second
       ∙ lacking-has-no-colon k.x lacks
 

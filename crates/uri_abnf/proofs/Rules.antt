@@ -1,6 +1,6 @@
 -- How the rules of both RFCs are made of one another, and what their components are.
 use Rattle.std.proofs.Common.{◌≡◌, ℕ, true, false, List}
-use Rattle.std.specs.Prelude.{◌↔◌, ◌⊎◌, codes}
+use Rattle.std.specs.Prelude.{◌↔◌, codes}
 use Rattle.std.specs.Str.{IsUtf8}
 use Rattle.uri_pct.specs.Sets.{TableSet, LacksPercent}
 use Rattle.uri_pct.specs.Tokens.{IsValidFor}

@@ -48,7 +48,8 @@ tokens-after-char c _ (octet o e a b r) = absurd (false≢true (sym schemes-have
 
 -- an ASCII byte is its own character
 chars-after-ascii : (b : ℕ) (r : List ℕ) → b < 128 → IsUtf8 (b ∷ r) → chars (b ∷ r) ≡ b ∷ chars r
-chars-after-ascii b r h u = chars_past_char (b ∷ r) r b u (sym (ap (λ e. e ++ r) (encode_ascii b h)))
+chars-after-ascii b r h u = chars_past_char (b ∷ r) r b u
+    (sym (ap (λ e. e ++ r) (encode_ascii b h)))
 
 pub ascii-char-gives : (c : ℕ) (x : List ℕ) → c < 128 → IsUtf8 x → chars x ≡ c ∷ [] → x ≡ c ∷ []
 ascii-char-gives c x h u e = sym (encodes-chars x u) ∙ ap encode_utf8_all e

@@ -1,12 +1,13 @@
 -- The languages of expressions over texts in UTF-8.
 use Rattle.std.proofs.Common.{◌≡◌, ℕ, zero, suc, true, List, [], ◌∷◌, ◌++◌, refl, sym, ap, subst}
-use Rattle.std.proofs.Common.{◌∙◌, inl, inr, ⊎_elim, arith, ◌<◌, append-nil}
+use Rattle.std.proofs.Common.{◌∙◌, inl, inr, ⊎_elim, arith, ◌<◌}
 use Rattle.std.specs.Prelude.{◌⊎◌, map, codes, get_or, drop}
 use Rattle.std.specs.Char.{to_ascii_lowercase}
 use Rattle.std.specs.Str.{IsUtf8, chars, encode_utf8_all, all_scalars}
 use Rattle.std.proofs.lemmas.Bool.{and_parts, and_from}
 use Rattle.std.proofs.lemmas.Bool.Decides.{nat_tests}
-use Rattle.std.proofs.lemmas.Str.{encodes-append, chars-append, chars-encodes, encodes-chars, scalars-chars}
+use Rattle.std.proofs.lemmas.Str.{encodes-append, chars-append, chars-encodes, encodes-chars}
+use Rattle.std.proofs.lemmas.Str.{scalars-chars}
 use Rattle.std.proofs.lemmas.Str.{IsUtf8-append, IsUtf8-nil}
 use Prim.Native.String.{String}
 use Rattle.uri_abnf.specs.Abnf.{Abnf, Rule, Literal, Has, IsOf, ◌⋅◌, ◌∣◌, opt, times}
@@ -70,7 +71,8 @@ cut-is-had a b x y l m = record {
 pub either-gives : (a b : Abnf) (text : List ℕ) → IsOf (a ∣ b) text → IsOf a text ⊎ IsOf b text
 either-gives a b text l =
     let h : Has a (chars text) ⊎ Has b (chars text) = l.has in
-    ⊎_elim (λ k. inl (record { utf8 = l.utf8; has = k })) (λ k. inr (record { utf8 = l.utf8; has = k })) h
+    ⊎_elim (λ k. inl (record { utf8 = l.utf8; has = k }))
+    (λ k. inr (record { utf8 = l.utf8; has = k })) h
 
 pub left-is-had : (a b : Abnf) (text : List ℕ) → IsOf a text → IsOf (a ∣ b) text
 left-is-had a b text l = record { utf8 = l.utf8; has = inl l.has }
@@ -148,7 +150,14 @@ slash-mark = record { letterless = (inl (omega arith), tt); scalars = refl; enco
 
 pub slashes-mark : IsMark (codes "//")
 unfolding lib.Utf8.encode
-slashes-mark = record { letterless = (inl (omega arith), (inl (omega arith), tt)); scalars = refl; encodes = refl }
+slashes-mark = record {
+  letterless = (
+    inl (omega arith),
+    (inl (omega arith), tt),
+  );
+  scalars = refl;
+  encodes = refl;
+}
 
 pub colon-mark : IsMark (codes ":")
 unfolding lib.Utf8.encode
@@ -168,11 +177,21 @@ at-mark = record { letterless = (inl (omega arith), tt); scalars = refl; encodes
 
 pub open-mark : IsMark (codes "[")
 unfolding lib.Utf8.encode
-open-mark = record { letterless = (inr (omega arith, omega arith), tt); scalars = refl; encodes = refl }
+open-mark = record {
+  letterless = (inr (omega arith, omega arith), tt);
+  scalars = refl;
+  encodes =
+      refl;
+}
 
 pub close-mark : IsMark (codes "]")
 unfolding lib.Utf8.encode
-close-mark = record { letterless = (inr (omega arith, omega arith), tt); scalars = refl; encodes = refl }
+close-mark = record {
+  letterless = (inr (omega arith, omega arith), tt);
+  scalars = refl;
+  encodes =
+      refl;
+}
 
 pub dot-mark : IsMark (codes ".")
 unfolding lib.Utf8.encode

@@ -18,11 +18,11 @@ rfc3986 =
     codes "port = *DIGIT" ∷
     codes "IP-literal = \"[\" ( IPv6address / IPvFuture ) \"]\"" ∷
     codes "IPvFuture = \"v\" 1*HEXDIG \".\" 1*( unreserved / sub-delims / \":\" )" ∷
-    (codes "IPv6address = 6( h16 \":\" ) ls32 / \"::\" 5( h16 \":\" ) ls32 / [ h16 ] \"::\" 4( h16 "
-    ++ codes "\":\" ) ls32 / [ *1( h16 \":\" ) h16 ] \"::\" 3( h16 \":\" ) ls32 / [ *2( h16 \":\" ) h16 "
-    ++ codes "] \"::\" 2( h16 \":\" ) ls32 / [ *3( h16 \":\" ) h16 ] \"::\" h16 \":\" ls32 / [ *4( h16 "
-    ++ codes "\":\" ) h16 ] \"::\" ls32 / [ *5( h16 \":\" ) h16 ] \"::\" h16 / [ *6( h16 \":\" ) h16 ] "
-    ++ codes "\"::\"") ∷
+    (codes "IPv6address = 6( h16 \":\" ) ls32 / \"::\" 5( h16 \":\" ) ls32 / [ h16 ] \"::\" 4( "
+    ++ codes "h16 \":\" ) ls32 / [ *1( h16 \":\" ) h16 ] \"::\" 3( h16 \":\" ) ls32 / [ *2( h16 "
+    ++ codes "\":\" ) h16 ] \"::\" 2( h16 \":\" ) ls32 / [ *3( h16 \":\" ) h16 ] \"::\" h16 \":\" "
+    ++ codes "ls32 / [ *4( h16 \":\" ) h16 ] \"::\" ls32 / [ *5( h16 \":\" ) h16 ] \"::\" h16 / [ "
+    ++ codes "*6( h16 \":\" ) h16 ] \"::\"") ∷
     codes "h16 = 1*4HEXDIG" ∷
     codes "ls32 = h16 \":\" h16 / IPv4address" ∷
     codes "IPv4address = dec-octet \".\" dec-octet \".\" dec-octet \".\" dec-octet" ∷
@@ -45,7 +45,8 @@ rfc3986 =
     codes "unreserved = ALPHA / DIGIT / \"-\" / \".\" / \"_\" / \"~\"" ∷
     codes "reserved = gen-delims / sub-delims" ∷
     codes "gen-delims = \":\" / \"/\" / \"?\" / \"#\" / \"[\" / \"]\" / \"@\"" ∷
-    codes "sub-delims = \"!\" / \"$\" / \"&\" / \"'\" / \"(\" / \")\" / \"*\" / \"+\" / \",\" / \";\" / \"=\""
+    (codes "sub-delims = \"!\" / \"$\" / \"&\" / \"'\" / \"(\" / \")\" / \"*\" / \"+\" / \",\" "
+    ++ codes "/ \";\" / \"=\"")
     ∷ []
 
 unfoldable pub rfc3987 : List (List ℕ)
@@ -56,8 +57,8 @@ rfc3987 =
     codes "IRI-reference = IRI / irelative-ref" ∷
     codes "absolute-IRI = scheme \":\" ihier-part [ \"?\" iquery ]" ∷
     codes "irelative-ref = irelative-part [ \"?\" iquery ] [ \"#\" ifragment ]" ∷
-    (codes "irelative-part = \"//\" iauthority ipath-abempty / ipath-absolute / "
-    ++ codes "ipath-noscheme / ipath-empty") ∷
+    (codes "irelative-part = \"//\" iauthority ipath-abempty / ipath-absolute / ipath-noscheme "
+    ++ codes "/ ipath-empty") ∷
     codes "iauthority = [ iuserinfo \"@\" ] ihost [ \":\" port ]" ∷
     codes "iuserinfo = *( iunreserved / pct-encoded / sub-delims / \":\" )" ∷
     codes "ihost = IP-literal / IPv4address / ireg-name" ∷
@@ -76,10 +77,10 @@ rfc3987 =
     codes "iquery = *( ipchar / iprivate / \"/\" / \"?\" )" ∷
     codes "ifragment = *( ipchar / \"/\" / \"?\" )" ∷
     codes "iunreserved = ALPHA / DIGIT / \"-\" / \".\" / \"_\" / \"~\" / ucschar" ∷
-    (codes "ucschar = %xA0-D7FF / %xF900-FDCF / %xFDF0-FFEF / %x10000-1FFFD / %x20000-2FFFD "
-    ++ codes "/ %x30000-3FFFD / %x40000-4FFFD / %x50000-5FFFD / %x60000-6FFFD / %x70000-7FFFD "
-    ++ codes "/ %x80000-8FFFD / %x90000-9FFFD / %xA0000-AFFFD / %xB0000-BFFFD / %xC0000-CFFFD "
-    ++ codes "/ %xD0000-DFFFD / %xE1000-EFFFD") ∷
+    (codes "ucschar = %xA0-D7FF / %xF900-FDCF / %xFDF0-FFEF / %x10000-1FFFD / %x20000-2FFFD / "
+    ++ codes "%x30000-3FFFD / %x40000-4FFFD / %x50000-5FFFD / %x60000-6FFFD / %x70000-7FFFD / "
+    ++ codes "%x80000-8FFFD / %x90000-9FFFD / %xA0000-AFFFD / %xB0000-BFFFD / %xC0000-CFFFD / "
+    ++ codes "%xD0000-DFFFD / %xE1000-EFFFD") ∷
     codes "iprivate = %xE000-F8FF / %xF0000-FFFFD / %x100000-10FFFD"
     ∷ []
 

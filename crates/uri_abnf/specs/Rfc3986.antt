@@ -65,7 +65,8 @@ dec-octet = "dec-octet" ≔
     ∣ lit "25" ⋅ 0x30 ⋯ 0x35
 
 unfoldable pub IPv4address : Abnf
-IPv4address = "IPv4address" ≔ dec-octet ⋅ lit "." ⋅ dec-octet ⋅ lit "." ⋅ dec-octet ⋅ lit "." ⋅ dec-octet
+IPv4address = "IPv4address" ≔ dec-octet ⋅ lit "." ⋅ dec-octet ⋅ lit "." ⋅ dec-octet ⋅ lit "."
+    ⋅ dec-octet
 
 unfoldable pub h16 : Abnf
 h16 = "h16" ≔ from_to 1 4 HEXDIG

@@ -75,7 +75,8 @@ irelative-part = "irelative-part" ≔
     ∣ ipath-empty
 
 unfoldable pub irelative-ref : Abnf
-irelative-ref = "irelative-ref" ≔ irelative-part ⋅ opt (lit "?" ⋅ iquery) ⋅ opt (lit "#" ⋅ ifragment)
+irelative-ref = "irelative-ref" ≔ irelative-part ⋅ opt (lit "?" ⋅ iquery) ⋅ opt
+    (lit "#" ⋅ ifragment)
 
 unfoldable pub ihier-part : Abnf
 ihier-part = "ihier-part" ≔

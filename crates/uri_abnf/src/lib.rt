@@ -73,7 +73,8 @@ pub fn authorities_are_derived_in_one_way()
     ensures uri { (text : List ℕ)
         → (IsOf Rfc3986.authority text ↔ IsAuthorityDerived uri_rules text (authority_parts text)) }
     ensures iri { (text : List ℕ)
-        → (IsOf Rfc3987.iauthority text ↔ IsAuthorityDerived iri_rules text (authority_parts text)) }
+        → (IsOf Rfc3987.iauthority text ↔ IsAuthorityDerived iri_rules text
+        (authority_parts text)) }
     ensures uri_components { (text : List ℕ) (p : AuthorityParts) → IsUtf8 text
         → IsAuthorityDerived uri_rules text p → authority_parts text ≡ p }
     ensures iri_components { (text : List ℕ) (p : AuthorityParts) → IsUtf8 text

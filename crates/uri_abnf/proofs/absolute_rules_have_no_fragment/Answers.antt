@@ -8,7 +8,9 @@ use Rattle.uri_abnf.proofs.Languages.{absolute-texts}
 use Rattle.uri_abnf.proofs.absolute_rules_have_no_fragment.Goals as goal
 
 pub returns-clause-uri : goal.returns-clause-uri
-returns-clause-uri c = absolute-texts uri_rules uri (uri-rules-fit true) uris-are-texts-of-grammar refl
+returns-clause-uri c = absolute-texts uri_rules uri
+    (uri-rules-fit true) uris-are-texts-of-grammar refl
 
 pub returns-clause-iri : goal.returns-clause-iri
-returns-clause-iri c = absolute-texts iri_rules iri (iri-rules-fit true) iris-are-texts-of-grammar refl
+returns-clause-iri c = absolute-texts iri_rules iri
+    (iri-rules-fit true) iris-are-texts-of-grammar refl

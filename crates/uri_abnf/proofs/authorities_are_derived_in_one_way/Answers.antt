@@ -12,7 +12,9 @@ pub returns-clause-iri : goal.returns-clause-iri
 returns-clause-iri c = authority-is-derived iri_rules iri (iri-rules-fit true)
 
 pub returns-clause-uri_components : goal.returns-clause-uri_components
-returns-clause-uri_components c = authority-derivations-are-unique uri_rules uri (uri-rules-fit true)
+returns-clause-uri_components c = authority-derivations-are-unique uri_rules uri
+    (uri-rules-fit true)
 
 pub returns-clause-iri_components : goal.returns-clause-iri_components
-returns-clause-iri_components c = authority-derivations-are-unique iri_rules iri (iri-rules-fit true)
+returns-clause-iri_components c = authority-derivations-are-unique iri_rules iri
+    (iri-rules-fit true)

@@ -12,7 +12,9 @@ pub returns-clause-iri : goal.returns-clause-iri
 returns-clause-iri c = reference-is-derived iri_rules iri_ref (iri-rules-fit false)
 
 pub returns-clause-uri_components : goal.returns-clause-uri_components
-returns-clause-uri_components c = derived-components-are-unique uri_rules uri_ref (uri-rules-fit false)
+returns-clause-uri_components c = derived-components-are-unique uri_rules uri_ref
+    (uri-rules-fit false)
 
 pub returns-clause-iri_components : goal.returns-clause-iri_components
-returns-clause-iri_components c = derived-components-are-unique iri_rules iri_ref (iri-rules-fit false)
+returns-clause-iri_components c = derived-components-are-unique iri_rules iri_ref
+    (iri-rules-fit false)
