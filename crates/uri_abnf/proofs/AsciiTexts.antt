@@ -23,9 +23,9 @@ ascii_only (Either a b) = ascii_only a && ascii_only b
 ascii_only (Repeat least most a) = ascii_only a
 ascii_only (Optional a) = ascii_only a
 
-pub record IsOwn (t : List ℕ) : Type 0 where
-  pub scalars : all_scalars t ≡ true
-  pub encodes : encode_utf8_all t ≡ t
+record IsOwn (t : List ℕ) : Type 0 where
+  scalars : all_scalars t ≡ true
+  encodes : encode_utf8_all t ≡ t
 
 own-nil : IsOwn []
 own-nil = record { scalars = refl; encodes = refl }
