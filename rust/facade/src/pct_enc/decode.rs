@@ -1,0 +1,124 @@
+//! Decoding.
+
+use crate::proved::uri_pct::decode as engine;
+use core::{fmt, iter::FusedIterator};
+
+#[cfg(feature = "alloc")]
+use crate::{
+    engine::{made, out_of_memory},
+    proved::{
+        rstd::alloc::Global,
+        uri_pct::cow::{CowSlice, CowStr, DecodeError},
+    },
+};
+#[cfg(feature = "alloc")]
+use alloc::{borrow::Cow, vec::Vec};
+
+pub use crate::proved::uri_pct::decode::DecodedChunk;
+
+/// What is left to decode of an [`EStr`](super::EStr): an iterator over its [`DecodedChunk`]s.
+///
+/// [`EStr::decode`](super::EStr::decode) returns it.
+///
+/// # Examples
+///
+/// ```
+/// use fluent_uri::pct_enc::{encoder::Path, DecodedChunk, EStr};
+///
+/// let mut chunks = EStr::<Path>::new_or_panic("a%20b").decode();
+/// assert!(matches!(chunks.next(), Some(DecodedChunk::Unencoded("a"))));
+/// assert!(matches!(chunks.next(), Some(DecodedChunk::PctDecoded(0x20))));
+/// ```
+#[derive(Clone)]
+#[must_use = "iterators are lazy and do nothing unless consumed"]
+pub struct Decode<'a> {
+    inner: engine::Decode<'a>,
+}
+
+impl<'a> Decode<'a> {
+    /// Returns a decoder of a text in which each `%` begins an octet.
+    pub(crate) fn of_text(text: &'a str) -> Self {
+        Self { inner: engine::Decode::of_text(text) }
+    }
+}
+
+#[cfg(feature = "alloc")]
+impl<'a> Decode<'a> {
+    /// Returns the bytes that are left, decoded. Without a `%` they are borrowed.
+    ///
+    /// # Examples
+    ///
+    /// ```
+    /// use fluent_uri::pct_enc::{encoder::Path, EStr};
+    ///
+    /// assert_eq!(*EStr::<Path>::new_or_panic("a%E9").decode().to_bytes(), [0x61, 0xE9]);
+    /// ```
+    #[must_use]
+    pub fn to_bytes(self) -> Cow<'a, [u8]> {
+        match made(self.inner.to_bytes(Global)) {
+            CowSlice::Borrowed(bytes) => Cow::Borrowed(bytes),
+            CowSlice::Owned(bytes) => Cow::Owned(bytes.0),
+        }
+    }
+
+    /// Returns the text that is left, decoded. Without a `%` it is borrowed. `+` stays.
+    ///
+    /// # Errors
+    ///
+    /// Returns the decoded bytes if they are not UTF-8.
+    ///
+    /// # Examples
+    ///
+    /// ```
+    /// use fluent_uri::pct_enc::{encoder::Path, EStr};
+    ///
+    /// assert_eq!(EStr::<Path>::new_or_panic("%C3%A9+").decode().to_string().unwrap(), "é+");
+    /// assert_eq!(EStr::<Path>::new_or_panic("%E9").decode().to_string(), Err(vec![0xE9]));
+    /// ```
+    pub fn to_string(self) -> Result<Cow<'a, str>, Vec<u8>> {
+        match self.inner.to_string(Global) {
+            Ok(text) => Ok(cow(text)),
+            Err(DecodeError::NotUtf8(bytes)) => Err(bytes.0),
+            Err(DecodeError::OutOfMemory) => out_of_memory(),
+        }
+    }
+
+    /// Returns the text that is left, decoded, with U+FFFD for each maximal ill-formed part (Unicode,
+    /// section 3.9). Without a `%` it is borrowed.
+    ///
+    /// # Examples
+    ///
+    /// ```
+    /// use fluent_uri::pct_enc::{encoder::Path, EStr};
+    ///
+    /// assert_eq!(EStr::<Path>::new_or_panic("a%E9b").decode().to_string_lossy(), "a\u{FFFD}b");
+    /// ```
+    #[must_use]
+    pub fn to_string_lossy(self) -> Cow<'a, str> {
+        cow(made(self.inner.to_string_lossy(Global)))
+    }
+}
+
+#[cfg(feature = "alloc")]
+fn cow(text: CowStr<'_>) -> Cow<'_, str> {
+    match text {
+        CowStr::Borrowed(text) => Cow::Borrowed(text),
+        CowStr::Owned(text) => Cow::Owned(text.0),
+    }
+}
+
+impl fmt::Debug for Decode<'_> {
+    fn fmt(&self, f: &mut fmt::Formatter<'_>) -> fmt::Result {
+        f.debug_struct("Decode").field("source", &self.inner.as_str()).finish()
+    }
+}
+
+impl<'a> Iterator for Decode<'a> {
+    type Item = DecodedChunk<'a>;
+
+    fn next(&mut self) -> Option<Self::Item> {
+        self.inner.next()
+    }
+}
+
+impl FusedIterator for Decode<'_> {}
