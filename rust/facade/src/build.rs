@@ -116,8 +116,13 @@ impl<R, S> Builder<R, S> {
     /// ```
     /// use fluent_uri::{pct_enc::EStr, UriRef};
     ///
-    /// let builder = UriRef::builder().advance().path(EStr::new_or_panic("a"));
-    /// assert_eq!(builder.build().unwrap(), "a");
+    /// let host = None;
+    /// let builder = match host {
+    ///     Some(host) => UriRef::builder().authority_with(|b| b.host(host)),
+    ///     None => UriRef::builder().advance(),
+    /// };
+    /// # let _: Option<&EStr<fluent_uri::pct_enc::encoder::RegName>> = host;
+    /// assert_eq!(builder.path(EStr::new_or_panic("/a")).build().unwrap(), "/a");
     /// ```
     pub fn advance<T>(self) -> Builder<R, T>
     where

@@ -1,10 +1,11 @@
 //! Conversions between the four types.
 
 use crate::{
-    proved::uri_ops::convert::{check_is_ascii, check_is_uri},
+    proved::uri_ops::convert::{check_is_ascii, check_is_uri, ConvertError as EngineError},
     reference::{Iri, IriRef, RiMaybeRef, Uri, UriRef},
 };
 use borrow_or_share::Bos;
+use core::fmt;
 
 #[cfg(feature = "alloc")]
 use {
@@ -12,7 +13,49 @@ use {
     alloc::string::String,
 };
 
-pub use crate::proved::uri_ops::convert::ConvertError;
+/// Why a value is not of a narrower type.
+///
+/// # Examples
+///
+/// ```
+/// use fluent_uri::{ConvertError, Iri, Uri};
+///
+/// let error = Uri::try_from(Iri::parse("a:é")?).unwrap_err();
+/// assert_eq!(error, ConvertError::NotAscii { index: 2 });
+/// # Ok::<_, fluent_uri::ParseError>(())
+/// ```
+#[derive(Clone, Copy, Debug, Eq, PartialEq)]
+pub enum ConvertError {
+    /// There is a character past ASCII, which a URI has not (RFC 3987, section 3.1).
+    NotAscii {
+        /// The byte at which the first such character begins.
+        index: usize,
+    },
+    /// There is no scheme, which a URI or an IRI needs (RFC 3986, section 3).
+    NoScheme,
+}
+
+impl From<EngineError> for ConvertError {
+    fn from(error: EngineError) -> Self {
+        match error {
+            EngineError::NotAscii { index } => Self::NotAscii { index },
+            EngineError::NoScheme => Self::NoScheme,
+        }
+    }
+}
+
+impl fmt::Display for ConvertError {
+    fn fmt(&self, f: &mut fmt::Formatter<'_>) -> fmt::Result {
+        let error = match *self {
+            Self::NotAscii { index } => EngineError::NotAscii { index },
+            Self::NoScheme => EngineError::NoScheme,
+        };
+        fmt::Display::fmt(&error, f)
+    }
+}
+
+#[cfg(feature = "impl-error")]
+impl core::error::Error for ConvertError {}
 
 macro_rules! widen {
     ($($From:ident $To:ident;)*) => {
@@ -38,14 +81,14 @@ widen! {
 
 /// Whether a value of one type may be of a narrower one.
 trait Narrow<To> {
-    fn check(&self) -> Result<(), ConvertError>;
+    fn check(&self) -> Result<(), EngineError>;
 }
 
 macro_rules! narrow {
     ($($From:ident $To:ident $rule:literal |$value:ident| $check:expr;)*) => {
         $(
             impl<T: Bos<str>, U> Narrow<$To<U>> for $From<T> {
-                fn check(&self) -> Result<(), ConvertError> {
+                fn check(&self) -> Result<(), EngineError> {
                     let $value = self;
                     $check
                 }
@@ -69,7 +112,7 @@ macro_rules! narrow {
 
                 fn try_from(value: $From<String>) -> Result<Self, Self::Error> {
                     if let Err(error) = Narrow::<Self>::check(&value) {
-                        return Err((error, value));
+                        return Err((error.into(), value));
                     }
                     let (val, at) = value.into_parts();
                     Ok(Self::of(val, at))
@@ -92,11 +135,11 @@ narrow! {
         |value| check_has_scheme(value.has_scheme());
 }
 
-fn check_has_scheme(has_scheme: bool) -> Result<(), ConvertError> {
+fn check_has_scheme(has_scheme: bool) -> Result<(), EngineError> {
     if has_scheme {
         Ok(())
     } else {
-        Err(ConvertError::NoScheme)
+        Err(EngineError::NoScheme)
     }
 }
 

@@ -11,7 +11,7 @@ use core::marker::PhantomData;
 pub(crate) use calls::*;
 
 /// An encoder of this crate as one of the engine: it has the same table.
-pub struct Of<E>(PhantomData<E>);
+pub(crate) struct Of<E>(PhantomData<E>);
 
 impl<E: Encoder> engine::Encoder for Of<E> {
     #[inline]

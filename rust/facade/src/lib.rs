@@ -85,8 +85,8 @@ mod parse;
 pub mod pct_enc;
 #[cfg(feature = "alloc")]
 pub mod normalize;
-#[allow(clippy::all, dead_code, missing_debug_implementations, missing_docs, unreachable_pub)]
-#[allow(unsafe_code, unused)]
+#[allow(clippy::all, clippy::pedantic, missing_debug_implementations, missing_docs)]
+#[allow(unreachable_pub, unsafe_code, unused)]
 mod proved;
 mod reference;
 #[cfg(feature = "alloc")]

@@ -37,6 +37,7 @@ impl Value for &str {}
 impl Value for String {}
 
 /// A URI, a URI reference, an IRI or an IRI reference.
+#[cfg_attr(not(feature = "alloc"), allow(dead_code, unreachable_pub))]
 pub trait RiMaybeRef: Sized {
     /// What holds the text.
     type Val;
@@ -78,6 +79,7 @@ pub trait RiMaybeRef: Sized {
 }
 
 /// A URI or an IRI.
+#[cfg_attr(not(feature = "alloc"), allow(dead_code))]
 pub trait Ri: RiMaybeRef {
     /// The references that are resolved against this type.
     type Ref<T>: RiMaybeRef<Val = T, Kind = Self::Kind>;

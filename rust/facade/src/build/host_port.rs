@@ -3,7 +3,7 @@
 use crate::{
     pct_enc::{
         encoder::{IRegName, Port, RegName},
-        EStr, Encoder,
+        EStr,
     },
     proved::{
         uri_ops::build::draft::Draft,
@@ -13,7 +13,7 @@ use crate::{
 
 #[cfg(feature = "net")]
 use {
-    crate::proved::uri_parts::net as addresses,
+    crate::{pct_enc::Encoder, proved::uri_parts::net as addresses},
     core::net::{IpAddr, Ipv4Addr, Ipv6Addr},
 };
 

@@ -1,7 +1,7 @@
 //! Decoding.
 
 use crate::proved::uri_pct::decode as engine;
-use core::{fmt, iter::FusedIterator};
+use core::iter::FusedIterator;
 
 #[cfg(feature = "alloc")]
 use crate::{
@@ -14,7 +14,23 @@ use crate::{
 #[cfg(feature = "alloc")]
 use alloc::{borrow::Cow, vec::Vec};
 
-pub use crate::proved::uri_pct::decode::DecodedChunk;
+/// A part of an [`EStr`](super::EStr) that is decoded.
+///
+/// # Examples
+///
+/// ```
+/// use fluent_uri::pct_enc::{encoder::Path, DecodedChunk, EStr};
+///
+/// let chunk = EStr::<Path>::new_or_panic("%E9").decode().next();
+/// assert!(matches!(chunk, Some(DecodedChunk::PctDecoded(0xE9))));
+/// ```
+#[derive(Clone, Copy, Debug)]
+pub enum DecodedChunk<'a> {
+    /// A text without `%`, which is not empty.
+    Unencoded(&'a str),
+    /// The byte of an octet: 0x20 of `%20`.
+    PctDecoded(u8),
+}
 
 /// What is left to decode of an [`EStr`](super::EStr): an iterator over its [`DecodedChunk`]s.
 ///
@@ -29,16 +45,20 @@ pub use crate::proved::uri_pct::decode::DecodedChunk;
 /// assert!(matches!(chunks.next(), Some(DecodedChunk::Unencoded("a"))));
 /// assert!(matches!(chunks.next(), Some(DecodedChunk::PctDecoded(0x20))));
 /// ```
-#[derive(Clone)]
+#[derive(Clone, Debug)]
 #[must_use = "iterators are lazy and do nothing unless consumed"]
 pub struct Decode<'a> {
-    inner: engine::Decode<'a>,
+    source: &'a str,
 }
 
 impl<'a> Decode<'a> {
     /// Returns a decoder of a text in which each `%` begins an octet.
-    pub(crate) fn of_text(text: &'a str) -> Self {
-        Self { inner: engine::Decode::of_text(text) }
+    pub(crate) fn of_text(source: &'a str) -> Self {
+        Self { source }
+    }
+
+    fn inner(&self) -> engine::Decode<'a> {
+        engine::Decode::of_text(self.source)
     }
 }
 
@@ -55,7 +75,7 @@ impl<'a> Decode<'a> {
     /// ```
     #[must_use]
     pub fn to_bytes(self) -> Cow<'a, [u8]> {
-        match made(self.inner.to_bytes(Global)) {
+        match made(self.inner().to_bytes(Global)) {
             CowSlice::Borrowed(bytes) => Cow::Borrowed(bytes),
             CowSlice::Owned(bytes) => Cow::Owned(bytes.0),
         }
@@ -76,7 +96,7 @@ impl<'a> Decode<'a> {
     /// assert_eq!(EStr::<Path>::new_or_panic("%E9").decode().to_string(), Err(vec![0xE9]));
     /// ```
     pub fn to_string(self) -> Result<Cow<'a, str>, Vec<u8>> {
-        match self.inner.to_string(Global) {
+        match self.inner().to_string(Global) {
             Ok(text) => Ok(cow(text)),
             Err(DecodeError::NotUtf8(bytes)) => Err(bytes.0),
             Err(DecodeError::OutOfMemory) => out_of_memory(),
@@ -95,7 +115,7 @@ impl<'a> Decode<'a> {
     /// ```
     #[must_use]
     pub fn to_string_lossy(self) -> Cow<'a, str> {
-        cow(made(self.inner.to_string_lossy(Global)))
+        cow(made(self.inner().to_string_lossy(Global)))
     }
 }
 
@@ -107,17 +127,17 @@ fn cow(text: CowStr<'_>) -> Cow<'_, str> {
     }
 }
 
-impl fmt::Debug for Decode<'_> {
-    fn fmt(&self, f: &mut fmt::Formatter<'_>) -> fmt::Result {
-        f.debug_struct("Decode").field("source", &self.inner.as_str()).finish()
-    }
-}
-
 impl<'a> Iterator for Decode<'a> {
     type Item = DecodedChunk<'a>;
 
     fn next(&mut self) -> Option<Self::Item> {
-        self.inner.next()
+        let mut inner = self.inner();
+        let chunk = inner.next();
+        self.source = inner.as_str();
+        chunk.map(|chunk| match chunk {
+            engine::DecodedChunk::Unencoded(text) => DecodedChunk::Unencoded(text),
+            engine::DecodedChunk::PctDecoded(byte) => DecodedChunk::PctDecoded(byte),
+        })
     }
 }
 
