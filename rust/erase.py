@@ -14,7 +14,8 @@ from pathlib import Path
 from erasure import Unknown
 from erasure.contracts import without_contracts
 from erasure.derives import with_errors, with_rust_clones, with_rust_derives
-from erasure.forms import reject_leftovers, with_plain_examples, with_prelude, with_rust_lines
+from erasure.forms import reject_leftovers, with_inline_hints, with_plain_examples
+from erasure.forms import with_prelude, with_rust_lines
 
 HERE = Path(__file__).resolve().parent
 CRATES = [
@@ -40,7 +41,7 @@ ERROR_LAWS = "    pub use error_laws::{"
 def erased(crate, text):
     text = with_rust_clones(with_rust_derives(with_errors(without_contracts(text))))
     text = without_error_laws(with_plain_examples(text))
-    text = with_prelude(with_rust_lines(text, crate, CRATES))
+    text = with_prelude(with_inline_hints(with_rust_lines(text, crate, CRATES)))
     reject_leftovers(text, CRATES)
     return text.replace(SWIZZLES, ON_THE_TARGET)
 
@@ -53,6 +54,7 @@ def without_error_laws(text):
 
 
 def erase(repository, out):
+    out.mkdir(parents=True)
     for crate in CRATES:
         sources = repository / "crates" / crate / "src"
         for file in sorted(sources.rglob("*.rt")):
@@ -73,7 +75,6 @@ def main():
     if len(sys.argv) != 3:
         sys.exit(__doc__.split("\n\n")[1])
     repository, out = map(Path, sys.argv[1:])
-    out.mkdir(parents=True)
     erase(repository, out)
 
 

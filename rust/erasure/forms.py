@@ -7,6 +7,7 @@ from erasure.tokens import tokens_of
 MACROS = {"matches", "prove", "unreachable", "write"}
 CONTRACT_WORDS = {"antt", "decreases", "derive_where", "ensures", "final", "ghost", "invariant"}
 CONTRACT_WORDS |= {"requires", "syntax", "tactic", "thiserror"}
+FUNCTION = re.compile(r"\s*(?:pub(?:\(crate\))? )?(?:const )?(?:unsafe )?fn \w+")
 TRAIT = re.compile(r"^((?:pub(?:\(crate\))? )?trait \w+(?:<[^>]*>)?)( :|:| \{|$)")
 
 
@@ -70,3 +71,32 @@ def reject_leftovers(text, crates):
     for what, pattern in left.items():
         if match := re.search(pattern, code):
             raise Unknown(f"{what}: {match.group()}")
+
+
+def with_inline_hints(text):
+    """The text with `#[inline]` at each function that has a body and no hint.
+
+    Rattle's compiler sees a whole program, and rustc the functions that have a hint.
+    """
+    lines = text.split("\n")
+    hinted = []
+    for number, line in enumerate(lines):
+        if FUNCTION.match(line) and not has_hint(lines, number) and has_body(lines, number):
+            hinted.append(f"{line[: len(line) - len(line.lstrip())]}#[inline]")
+        hinted.append(line)
+    return "\n".join(hinted)
+
+
+def has_hint(lines, number):
+    """Whether an attribute before the function of this line says if it is inlined."""
+    while number > 0 and lines[number - 1].lstrip().startswith(("#[", "//")):
+        number -= 1
+        if lines[number].lstrip().startswith(("#[inline", "#[cold")):
+            return True
+    return False
+
+
+def has_body(lines, number):
+    """Whether the function that begins in this line has a body."""
+    signature = re.search(r"[;{]", "\n".join(lines[number:]).replace("; ", ", "))
+    return signature is not None and signature.group() == "{"
