@@ -9,7 +9,7 @@ use core::fmt;
 
 #[cfg(feature = "alloc")]
 use {
-    crate::engine::{encode_past_ascii, made},
+    crate::engine::made,
     alloc::string::String,
 };
 
@@ -157,7 +157,7 @@ impl<T: Bos<str>> Iri<T> {
     /// # Ok::<_, fluent_uri::ParseError>(())
     /// ```
     pub fn to_uri(&self) -> Uri<String> {
-        encoded(self)
+        made(self.try_to_uri())
     }
 }
 
@@ -175,17 +175,6 @@ impl<T: Bos<str>> IriRef<T> {
     /// # Ok::<_, fluent_uri::ParseError>(())
     /// ```
     pub fn to_uri_ref(&self) -> UriRef<String> {
-        encoded(self)
+        made(self.try_to_uri_ref())
     }
-}
-
-#[cfg(feature = "alloc")]
-fn encoded<R, To>(value: &R) -> To
-where
-    R: RiMaybeRef<Val: Bos<str>>,
-    To: RiMaybeRef<Val = String>,
-{
-    let (text, at) = value.parts();
-    let (text, at) = made(encode_past_ascii::<R::Kind>(text, at));
-    To::of(text, at)
 }

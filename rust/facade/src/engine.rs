@@ -24,6 +24,7 @@ impl<E: PathEncoder> engine::PathEncoder for Of<E> {}
 
 #[cfg(feature = "alloc")]
 mod calls {
+    use crate::normalize::Ports;
     use crate::proved::{
         fluent_uri::{
             roles::{BaseKind, RefKind},
@@ -35,7 +36,6 @@ mod calls {
         },
         uri_ops::{
             convert::encoded,
-            default_port::DefaultPort,
             normalize::{NormalizeError, Normalizer},
             resolve::{resolve_to_value, ResolveError},
         },
@@ -116,10 +116,10 @@ mod calls {
     }
 
     /// Normalises a text of the kind `K`.
-    pub(crate) fn normalize<K: Kind, P: DefaultPort>(
+    pub(crate) fn normalize<K: Kind>(
         (text, at): (&str, PackedPositions),
         allow_path_underflow: bool,
-        ports: P,
+        ports: Ports,
     ) -> Result<Made, NormalizeError> {
         Normalizer::new()
             .allow_path_underflow(allow_path_underflow)

@@ -77,20 +77,34 @@ extern crate alloc;
 extern crate std;
 
 #[cfg(feature = "alloc")]
+pub mod basic;
+#[cfg(feature = "alloc")]
 pub mod build;
 pub mod component;
 mod convert;
 mod engine;
-mod parse;
-pub mod pct_enc;
+#[cfg(feature = "alloc")]
+pub mod fallible;
+#[cfg(feature = "alloc")]
+pub mod mend;
 #[cfg(feature = "alloc")]
 pub mod normalize;
+#[cfg(feature = "alloc")]
+pub mod order;
+mod parse;
+pub mod pct_enc;
 #[allow(clippy::all, clippy::pedantic, missing_debug_implementations, missing_docs)]
 #[allow(unreachable_pub, unsafe_code, unused)]
 mod proved;
+#[cfg(feature = "alloc")]
+pub mod query;
 mod reference;
 #[cfg(feature = "alloc")]
+pub mod relativize;
+#[cfg(feature = "alloc")]
 pub mod resolve;
+#[cfg(feature = "alloc")]
+pub mod rules;
 
 pub use convert::ConvertError;
 pub use parse::{ParseError, ParseErrorKind};

@@ -5,8 +5,7 @@ use crate::{
     engine::{self, out_of_memory},
     proved::{
         uri_ops::{
-            default_port::{DefaultPort, SchemeDefaults},
-            normalize::NormalizeError as EngineError,
+            default_port::DefaultPort, normalize::NormalizeError as EngineError,
         },
         uri_parts::scheme as parts,
     },
@@ -59,16 +58,28 @@ impl core::error::Error for NormalizeError {}
 #[derive(Clone, Copy)]
 #[must_use]
 pub struct Normalizer {
-    pub(crate) allow_path_underflow: bool,
-    default_port_f: Option<fn(&Scheme) -> Option<u16>>,
+    allow_path_underflow: bool,
+    ports: Ports,
 }
 
-/// Default ports by a function of the caller's.
-struct PortsBy(fn(&Scheme) -> Option<u16>);
+/// The default ports of [`Scheme::default_port`], or those of a function of the caller's.
+#[derive(Clone, Copy)]
+pub(crate) struct Ports(Option<fn(&Scheme) -> Option<u16>>);
 
-impl DefaultPort for PortsBy {
+impl Ports {
+    pub(crate) const DEFAULTS: Self = Self(None);
+
+    pub(crate) fn by(f: fn(&Scheme) -> Option<u16>) -> Self {
+        Self(Some(f))
+    }
+}
+
+impl DefaultPort for Ports {
     fn default_port(&self, scheme: parts::Scheme<'_>) -> Option<u16> {
-        (self.0)(Scheme::of_valid(scheme.as_str()))
+        match self.0 {
+            None => scheme.default_port(),
+            Some(f) => f(Scheme::of_valid(scheme.as_str())),
+        }
     }
 }
 
@@ -86,7 +97,7 @@ impl Normalizer {
     /// # Ok::<_, fluent_uri::ParseError>(())
     /// ```
     pub fn new() -> Self {
-        Self { allow_path_underflow: true, default_port_f: None }
+        Self { allow_path_underflow: true, ports: Ports::DEFAULTS }
     }
 
     /// Sets whether dot segments may underflow. If not, a double dot with no segment left to remove
@@ -118,7 +129,7 @@ impl Normalizer {
     /// # Ok::<_, fluent_uri::ParseError>(())
     /// ```
     pub fn default_port_with(self, f: fn(&Scheme) -> Option<u16>) -> Self {
-        Self { default_port_f: Some(f), ..self }
+        Self { ports: Ports::by(f), ..self }
     }
 
     /// Returns the normal form of a value, as [`Uri::normalize`](crate::Uri::normalize) does, by the
@@ -142,22 +153,10 @@ impl Normalizer {
     where
         R::Val: Bos<str>,
     {
-        self.normalized(r).map_err(|error| match error {
+        self.try_normalize(r).map_err(|error| match error {
             EngineError::PathUnderflow => NormalizeError::PathUnderflow,
             EngineError::OutOfMemory => out_of_memory(),
         })
-    }
-
-    /// Returns the normal form, where underflow is allowed.
-    pub(crate) fn normal_form<R: RiMaybeRef>(&self, r: &R) -> R::WithVal<String>
-    where
-        R::Val: Bos<str>,
-    {
-        match self.normalized(r) {
-            Ok(normal) => normal,
-            Err(EngineError::OutOfMemory) => out_of_memory(),
-            Err(EngineError::PathUnderflow) => unreachable!(),
-        }
     }
 
     pub(crate) fn normalized<R: RiMaybeRef>(
@@ -167,11 +166,8 @@ impl Normalizer {
     where
         R::Val: Bos<str>,
     {
-        let allow = self.allow_path_underflow;
-        let (text, at) = match self.default_port_f {
-            None => engine::normalize::<R::Kind, _>(r.parts(), allow, SchemeDefaults)?,
-            Some(f) => engine::normalize::<R::Kind, _>(r.parts(), allow, PortsBy(f))?,
-        };
+        let (text, at) =
+            engine::normalize::<R::Kind>(r.parts(), self.allow_path_underflow, self.ports)?;
         Ok(R::WithVal::of(text, at))
     }
 }

@@ -9,6 +9,8 @@ mod estring;
 mod split;
 mod table;
 
+#[cfg(feature = "alloc")]
+pub(crate) use decode::cow;
 pub use decode::{Decode, DecodedChunk};
 pub(crate) use estr::outer;
 pub use estr::EStr;

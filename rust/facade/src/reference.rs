@@ -79,7 +79,7 @@ pub trait RiMaybeRef: Sized {
 }
 
 /// A URI or an IRI.
-#[cfg_attr(not(feature = "alloc"), allow(dead_code))]
+#[cfg_attr(not(feature = "alloc"), allow(dead_code, unreachable_pub))]
 pub trait Ri: RiMaybeRef {
     /// The references that are resolved against this type.
     type Ref<T>: RiMaybeRef<Val = T, Kind = Self::Kind>;

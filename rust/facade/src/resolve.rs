@@ -44,7 +44,7 @@ impl From<ResolveError> for EngineError {
 }
 
 /// Returns the engine's error as one of this crate, or aborts.
-fn outer(error: EngineError) -> ResolveError {
+pub(crate) fn outer(error: EngineError) -> ResolveError {
     match error {
         EngineError::BaseWithFragment => ResolveError::BaseWithFragment,
         EngineError::InvalidReferenceAgainstOpaqueBase => {
@@ -160,12 +160,11 @@ where
 }
 
 /// Resolves a reference against a base, with underflow allowed.
-pub(crate) fn resolved<R, Q>(base: &R, reference: &Q) -> Result<R::WithVal<String>, ResolveError>
+pub(crate) fn resolved<R, Q>(base: &R, reference: &Q) -> Result<R::WithVal<String>, EngineError>
 where
     R: Ri<Val: Bos<str>>,
     Q: RiMaybeRef<Kind = R::Kind, Val: Bos<str>>,
 {
-    let (text, at) =
-        engine::resolve::<R::Kind>(base.parts(), reference.parts(), true).map_err(outer)?;
+    let (text, at) = engine::resolve::<R::Kind>(base.parts(), reference.parts(), true)?;
     Ok(R::WithVal::of(text, at))
 }

@@ -6,10 +6,8 @@ use core::iter::FusedIterator;
 #[cfg(feature = "alloc")]
 use crate::{
     engine::{made, out_of_memory},
-    proved::{
-        rstd::alloc::Global,
-        uri_pct::cow::{CowSlice, CowStr, DecodeError},
-    },
+    fallible::DecodeError,
+    proved::uri_pct::cow::CowStr,
 };
 #[cfg(feature = "alloc")]
 use alloc::{borrow::Cow, vec::Vec};
@@ -57,7 +55,7 @@ impl<'a> Decode<'a> {
         Self { source }
     }
 
-    fn inner(&self) -> engine::Decode<'a> {
+    pub(crate) fn inner(&self) -> engine::Decode<'a> {
         engine::Decode::of_text(self.source)
     }
 }
@@ -75,10 +73,7 @@ impl<'a> Decode<'a> {
     /// ```
     #[must_use]
     pub fn to_bytes(self) -> Cow<'a, [u8]> {
-        match made(self.inner().to_bytes(Global)) {
-            CowSlice::Borrowed(bytes) => Cow::Borrowed(bytes),
-            CowSlice::Owned(bytes) => Cow::Owned(bytes.0),
-        }
+        made(self.try_to_bytes())
     }
 
     /// Returns the text that is left, decoded. Without a `%` it is borrowed. `+` stays.
@@ -96,11 +91,10 @@ impl<'a> Decode<'a> {
     /// assert_eq!(EStr::<Path>::new_or_panic("%E9").decode().to_string(), Err(vec![0xE9]));
     /// ```
     pub fn to_string(self) -> Result<Cow<'a, str>, Vec<u8>> {
-        match self.inner().to_string(Global) {
-            Ok(text) => Ok(cow(text)),
-            Err(DecodeError::NotUtf8(bytes)) => Err(bytes.0),
-            Err(DecodeError::OutOfMemory) => out_of_memory(),
-        }
+        self.try_to_string().map_err(|error| match error {
+            DecodeError::NotUtf8(bytes) => bytes,
+            DecodeError::OutOfMemory => out_of_memory(),
+        })
     }
 
     /// Returns the text that is left, decoded, with U+FFFD for each maximal ill-formed part (Unicode,
@@ -115,12 +109,13 @@ impl<'a> Decode<'a> {
     /// ```
     #[must_use]
     pub fn to_string_lossy(self) -> Cow<'a, str> {
-        cow(made(self.inner().to_string_lossy(Global)))
+        made(self.try_to_string_lossy())
     }
 }
 
+/// Returns a text of the engine as one of Rust's.
 #[cfg(feature = "alloc")]
-fn cow(text: CowStr<'_>) -> Cow<'_, str> {
+pub(crate) fn cow(text: CowStr<'_>) -> Cow<'_, str> {
     match text {
         CowStr::Borrowed(text) => Cow::Borrowed(text),
         CowStr::Owned(text) => Cow::Owned(text.0),

@@ -162,6 +162,13 @@ impl<E: Encoder> EStr<E> {
         engine::EStr::new_or_panic(&self.text)
     }
 
+    /// Returns the engine's text. It compiles only if the encoder allows percent-encoded octets.
+    #[cfg(feature = "alloc")]
+    pub(crate) fn with_octets(&self) -> engine::EStr<'_, Of<E>> {
+        let () = Self::ALLOWS_OCTETS;
+        self.inner()
+    }
+
     /// Returns an iterator over the parts of the text, decoded. It compiles only if `E::TABLE` allows
     /// percent-encoded octets. Split before decoding. `+` is not a space.
     ///

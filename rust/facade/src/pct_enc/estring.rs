@@ -3,6 +3,7 @@
 use super::{EStr, Encoder};
 use crate::{
     engine::{made, with_text},
+    fallible::AllocError,
     proved::uri_pct::encode,
 };
 use alloc::{borrow::ToOwned, string::String};
@@ -133,8 +134,26 @@ impl<E: Encoder> EString<E> {
     /// assert_eq!(query, "a%26%C3%A9");
     /// ```
     pub fn encode_str<SubE: Encoder>(&mut self, s: &str) {
+        made(self.try_encode_str::<SubE>(s));
+    }
+
+    /// Appends a text as [`encode_str`](Self::encode_str) does, or returns an error.
+    ///
+    /// # Errors
+    ///
+    /// Returns an error only if allocation fails. The text is then unchanged.
+    pub fn try_encode_str<SubE: Encoder>(&mut self, s: &str) -> Result<(), AllocError> {
         let () = Encodes::<SubE, E>::CHECKED;
-        made(with_text(&mut self.text, |out| encode::append_text(&SubE::TABLE.set, s, out)));
+        with_text(&mut self.text, |out| encode::append_text(&SubE::TABLE.set, s, out))
+    }
+
+    /// Appends a text that is valid for `E`, or returns an error.
+    ///
+    /// # Errors
+    ///
+    /// Returns an error only if allocation fails. The text is then unchanged.
+    pub fn try_push_estr(&mut self, s: &EStr<E>) -> Result<(), AllocError> {
+        with_text(&mut self.text, |out| out.push_str(s.as_str()))
     }
 
     /// Appends bytes, encoded by `SubE`: a character stays if `SubE::TABLE` allows it, and each other

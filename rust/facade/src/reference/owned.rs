@@ -2,19 +2,18 @@
 
 #![cfg(feature = "alloc")]
 
-use super::{Iri, IriRef, RiMaybeRef, Uri, UriRef};
+use super::{Iri, IriRef, Uri, UriRef};
 use crate::{
     build::{
         state::{NonRefStart, Start},
         Builder,
     },
-    engine::{self, made},
-    normalize::Normalizer,
+    engine::made,
     pct_enc::{
         encoder::{Fragment, IFragment},
         EStr,
     },
-    resolve::{resolved, ResolveError},
+    resolve::{outer, ResolveError},
 };
 use alloc::string::String;
 use borrow_or_share::Bos;
@@ -88,10 +87,11 @@ macro_rules! owned {
                 /// # Ok::<_, fluent_uri::ParseError>(())
                 /// ```
                 pub fn set_fragment(&mut self, opt: Option<&EStr<$FragmentE>>) {
-                    let fragment = opt.map(EStr::as_str);
-                    made(engine::set_fragment::<<Self as RiMaybeRef>::Kind>(
-                        &mut self.val, self.at, fragment,
-                    ));
+                    made(self.try_set_fragment(opt));
+                }
+
+                pub(crate) fn text_mut(&mut self) -> &mut String {
+                    &mut self.val
                 }
             }
 
@@ -129,7 +129,7 @@ macro_rules! owned {
                 /// - With a scheme, a path that begins with `/` loses its dot segments. `/.` is put
                 ///   before a path that begins with `//` where there is no authority.
                 ///
-                /// [`Normalizer`] has settings.
+                /// [`Normalizer`](crate::normalize::Normalizer) has settings.
                 ///
                 /// # Examples
                 ///
@@ -142,7 +142,7 @@ macro_rules! owned {
                 /// ```
                 #[must_use]
                 pub fn normalize(&self) -> $Ty<String> {
-                    Normalizer::new().normal_form(self)
+                    made(self.try_normalize())
                 }
 
                 /// Returns a copy with this fragment, or without one if it is `None` (RFC 3986,
@@ -160,11 +160,7 @@ macro_rules! owned {
                 /// ```
                 #[must_use]
                 pub fn with_fragment(&self, opt: Option<&EStr<$FragmentE>>) -> $Ty<String> {
-                    let fragment = opt.map(EStr::as_str);
-                    let val = made(engine::with_fragment::<<Self as RiMaybeRef>::Kind>(
-                        self.as_str(), self.at, fragment,
-                    ));
-                    $Ty { val, at: self.at }
+                    made(self.try_with_fragment(opt))
                 }
             }
         )*
@@ -224,7 +220,7 @@ macro_rules! references {
                     &self,
                     base: &$Ri<U>,
                 ) -> Result<$Ri<String>, ResolveError> {
-                    resolved(base, self)
+                    self.try_resolve_against(base).map_err(outer)
                 }
             }
         )*
