@@ -66,6 +66,8 @@ def without_contracts(text):
     while i < len(tokens):
         kind, word = tokens[i]
         if kind == "word" and word in ("requires", "ensures"):
+            while kept[-1].isspace():
+                kept.pop()
             i = clause_end(tokens, i)
         elif kind == "word" and word == "ghost":
             if tokens[skip_space(tokens, i + 1)] != ("word", "use"):
@@ -76,13 +78,15 @@ def without_contracts(text):
             end = group_end(tokens, bracket)
             if name in KEPT_ATTRIBUTES:
                 kept.append("".join(part for _, part in tokens[i:end]))
-            elif name not in PROVER_ATTRIBUTES:
+                i = end
+            elif name in PROVER_ATTRIBUTES:
+                i = skip_space(tokens, end)
+            else:
                 raise Unknown(f"an attribute: {text_at(tokens, i)}")
-            i = end
         else:
             kept.append(word)
             i += 1
-    return tidy("".join(kept))
+    return tidy("".join(kept).lstrip())
 
 
 def tidy(text):
