@@ -6,6 +6,8 @@
 pub mod prelude {
     pub(crate) use super::prove;
     pub use super::{Drop, FromSegments, ParseAscii, String, Vec};
+    // Since 1.87 the type has these functions too.
+    pub use core::str;
 }
 
 pub use core::{cmp, error, fmt, hash, iter, marker, mem, net, num, str};
