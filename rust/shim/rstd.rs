@@ -10,6 +10,9 @@ pub mod prelude {
     pub use core::str;
 }
 
+#[cfg(not(target_pointer_width = "64"))]
+compile_error!("the proofs of the erased sources count on a `usize` of 64 bits");
+
 pub use core::{cmp, error, fmt, hash, iter, marker, mem, net, num, str};
 
 use self::alloc::{AllocError, Global};
