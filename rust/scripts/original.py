@@ -12,7 +12,7 @@ from scripts.public_items import items_of
 
 URLS = REPOSITORY / "tools" / "bench" / "urls.txt"
 SEED = "20261128"
-ROUNDS = "25"
+ROUNDS = "500"
 FEATURES = ["--features", "std,net"]
 # Its last assertion decodes formatting characters of bidirectional text (docs/DIFFERENCES.md).
 DIFFERENT_TEST = "uri_to_iri"

@@ -73,9 +73,7 @@ impl u8x16 {
     /// The first sixteen of the bytes, of which there are as many.
     #[inline(always)]
     pub fn from_slice(bytes: &[u8]) -> u8x16 {
-        let Some(first) = bytes.first_chunk::<16>() else {
-            panic!("fewer than sixteen bytes")
-        };
+        let Some(first) = bytes.first_chunk::<16>() else { panic!("fewer than sixteen bytes") };
         u8x16::from_array(*first)
     }
 

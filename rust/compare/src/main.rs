@@ -20,7 +20,7 @@ mod of_rattle {
 }
 
 use std::process::ExitCode;
-use texts::{Random, mutated, with_ports};
+use texts::{mutated, with_ports, Random};
 
 /// The formatting characters of bidirectional text, which only the original decodes when it
 /// normalizes (docs/DIFFERENCES.md).

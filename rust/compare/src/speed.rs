@@ -4,7 +4,6 @@ use std::time::Instant;
 
 const REFERENCES: [&str; 6] = ["../g", "g?y#s", "/x/./y/../z", "?q", "//h/p", "./a/b/c"];
 const CALLS: [&str; 3] = ["parse", "normalize", "resolve"];
-const REPEATS: usize = 20;
 
 macro_rules! calls {
     ($name:ident, $krate:ident) => {
@@ -68,12 +67,11 @@ pub fn time(lines: &[String], rounds: usize) {
         for (call, least) in CALLS.iter().zip(&mut least) {
             let both = [of_original::call(call), of_rattle::call(call)];
             for (of_crate, least) in both.into_iter().zip(least) {
+                // One pass is short, so that some passes are not interrupted.
                 let start = Instant::now();
-                for _ in 0..REPEATS {
-                    of_crate(lines);
-                }
+                of_crate(lines);
                 let nanoseconds = start.elapsed().as_nanos() as f64;
-                *least = least.min(nanoseconds / (REPEATS * lines.len()) as f64);
+                *least = least.min(nanoseconds / lines.len() as f64);
             }
         }
     }

@@ -1,6 +1,7 @@
 //! Texts to compare: each line of a file, and mutations of them by a fixed seed.
 
 /// What mutations put into a text.
+#[rustfmt::skip]
 const PIECES: &[&str] = &[
     "%", "%2", "%41", "%7e", "%C3%A9", "%E2%80%AE", "%F0%9F%98%80", "%C3", "%ff", "%2E", "%2e%2E",
     "%2F", "%00", "é", "ä", "\u{202E}", "\u{E000}", "\u{FFFE}", "\u{1F600}", "\u{80}", "\u{A0}",
