@@ -38,8 +38,8 @@ use state::{
 /// ```
 #[derive(Clone, Copy, Debug, Eq, PartialEq)]
 pub enum BuildError {
-    /// There is an authority, and the path is not empty and does not begin with `/` (RFC 3986, section
-    /// 3.3).
+    /// There is an authority, and the path is not empty and does not begin with `/` (RFC 3986,
+    /// section 3.3).
     NonemptyRootlessPath,
     /// There is no authority, and the path begins with `//` (RFC 3986, section 3.3).
     PathStartsWithDoubleSlash,
@@ -182,7 +182,8 @@ impl<R: RiMaybeRef, S: To<AuthorityStart>> Builder<R, S> {
     /// ```
     /// use fluent_uri::{pct_enc::EStr, UriRef};
     ///
-    /// let builder = UriRef::builder().authority_with(|b| b.host(EStr::new_or_panic("a")).port(80));
+    /// let host = EStr::new_or_panic("a");
+    /// let builder = UriRef::builder().authority_with(|b| b.host(host).port(80));
     /// assert_eq!(builder.path(EStr::EMPTY).build().unwrap(), "//a:80");
     /// ```
     pub fn authority_with<F, T>(self, f: F) -> Builder<R, AuthorityEnd>
@@ -201,7 +202,8 @@ impl<R: RiMaybeRef, S: To<AuthorityStart>> Builder<R, S> {
     /// ```
     /// use fluent_uri::{component::{Authority, Scheme}, pct_enc::EStr, Uri};
     ///
-    /// let builder = Uri::builder().scheme(Scheme::new_or_panic("file")).authority(Authority::EMPTY);
+    /// let scheme = Scheme::new_or_panic("file");
+    /// let builder = Uri::builder().scheme(scheme).authority(Authority::EMPTY);
     /// assert_eq!(builder.path(EStr::new_or_panic("/a")).build().unwrap(), "file:///a");
     /// ```
     pub fn authority(
@@ -221,7 +223,8 @@ impl<R: RiMaybeRef, S: To<UserinfoEnd>> Builder<R, S> {
     /// ```
     /// use fluent_uri::{pct_enc::EStr, UriRef};
     ///
-    /// let builder = UriRef::builder().authority_with(|b| b.userinfo(EStr::new_or_panic("u")).host(EStr::EMPTY));
+    /// let userinfo = EStr::new_or_panic("u");
+    /// let builder = UriRef::builder().authority_with(|b| b.userinfo(userinfo).host(EStr::EMPTY));
     /// assert_eq!(builder.path(EStr::EMPTY).build().unwrap(), "//u@");
     /// ```
     pub fn userinfo(self, userinfo: &EStr<R::UserinfoE>) -> Builder<R, UserinfoEnd> {
@@ -230,9 +233,9 @@ impl<R: RiMaybeRef, S: To<UserinfoEnd>> Builder<R, S> {
 }
 
 impl<R: RiMaybeRef, S: To<HostEnd>> Builder<R, S> {
-    /// Gives the host (RFC 3986, section 3.2.2): a registered name, or with the feature `net` an
-    /// `Ipv4Addr`, `Ipv6Addr` or `IpAddr`. A name with the form of an IPv4 address is one. It should
-    /// be in lower case.
+    /// Gives the host (RFC 3986, section 3.2.2): a registered name, or with the feature
+    /// `net` an `Ipv4Addr`, `Ipv6Addr` or `IpAddr`. A name with the form of an IPv4 address is one.
+    /// It should be in lower case.
     ///
     /// # Examples
     ///
@@ -243,10 +246,7 @@ impl<R: RiMaybeRef, S: To<HostEnd>> Builder<R, S> {
     /// let built = builder.path(EStr::EMPTY).build().unwrap();
     /// assert!(matches!(built.authority().unwrap().host_parsed(), Host::Ipv4 { .. }));
     /// ```
-    pub fn host<'a>(
-        self,
-        host: impl AsHost<'a> + WithEncoder<R::RegNameE>,
-    ) -> Builder<R, HostEnd> {
+    pub fn host<'a>(self, host: impl AsHost<'a> + WithEncoder<R::RegNameE>) -> Builder<R, HostEnd> {
         Builder::of(host.append(self.draft))
     }
 }
@@ -260,7 +260,8 @@ impl<R, S: To<PortEnd>> Builder<R, S> {
     /// ```
     /// use fluent_uri::{pct_enc::EStr, UriRef};
     ///
-    /// let builder = UriRef::builder().authority_with(|b| b.host(EStr::EMPTY).port(EStr::new_or_panic("080")));
+    /// let port = EStr::new_or_panic("080");
+    /// let builder = UriRef::builder().authority_with(|b| b.host(EStr::EMPTY).port(port));
     /// assert_eq!(builder.path(EStr::EMPTY).build().unwrap(), "//:080");
     /// ```
     pub fn port(self, port: impl AsPort) -> Builder<R, PortEnd> {

@@ -44,9 +44,18 @@ pub struct Scheme {
 }
 
 impl Scheme {
-    /// Returns a text that is known to be a scheme.
     #[ref_cast_custom]
-    pub(crate) const fn of_valid(text: &str) -> &Self;
+    const fn cast(text: &str) -> &Self;
+
+    /// The scheme of the default value of `Uri` and `Iri`, which is none.
+    pub(crate) const OF_DEFAULT: &'static Self = Self::cast("");
+
+    /// Returns a text that is known to be a scheme.
+    #[inline]
+    pub(crate) const fn of_valid(text: &str) -> &Self {
+        debug_assert!(is_scheme(text));
+        Self::cast(text)
+    }
 
     /// Returns the text as a scheme, which a constant may call.
     ///
@@ -85,18 +94,11 @@ impl Scheme {
     #[inline]
     #[must_use]
     pub const fn new(s: &str) -> Option<&Self> {
-        let bytes = s.as_bytes();
-        if bytes.is_empty() || !bytes[0].is_ascii_alphabetic() {
-            return None;
+        if is_scheme(s) {
+            Some(Self::cast(s))
+        } else {
+            None
         }
-        let mut i = 1;
-        while i < bytes.len() {
-            if !SCHEME.allows(bytes[i] as char) {
-                return None;
-            }
-            i += 1;
-        }
-        Some(Self::of_valid(s))
     }
 
     fn inner(&self) -> engine::Scheme<'_> {
@@ -119,8 +121,9 @@ impl Scheme {
         &self.text
     }
 
-    /// Returns the default port of the scheme (RFC 3986, section 3.2.3), if it is one of the 44 with a
-    /// port whose registration at IANA is permanent. The case of letters makes no difference.
+    /// Returns the default port of the scheme (RFC 3986, section 3.2.3), if it is one of the 44
+    /// with a port whose registration at IANA is permanent. The case of letters makes no
+    /// difference.
     ///
     /// | Port | Schemes |
     /// |---|---|
@@ -160,6 +163,16 @@ impl Scheme {
     }
 }
 
+/// Returns whether a text is a scheme, as `new` of the engine's does, which no constant may call.
+const fn is_scheme(text: &str) -> bool {
+    let bytes = text.as_bytes();
+    let mut i = 0;
+    while i < bytes.len() && SCHEME.allows(bytes[i] as char) {
+        i += 1;
+    }
+    i > 0 && i == bytes.len() && bytes[0].is_ascii_alphabetic()
+}
+
 impl PartialEq for Scheme {
     #[inline]
     fn eq(&self, other: &Self) -> bool {
@@ -184,5 +197,27 @@ impl fmt::Debug for Scheme {
 impl fmt::Display for Scheme {
     fn fmt(&self, f: &mut fmt::Formatter<'_>) -> fmt::Result {
         fmt::Display::fmt(&self.text, f)
+    }
+}
+
+#[cfg(test)]
+mod tests {
+    use super::{engine, is_scheme};
+    use alloc::string::String;
+
+    /// The check for constants says what the engine's says.
+    #[test]
+    fn schemes() {
+        for a in '\0'..='\u{200}' {
+            for b in ["", "a", "+", "1", "_", "é"] {
+                for text in [
+                    String::from_iter([b, &String::from(a)]),
+                    String::from_iter([&String::from(a), b]),
+                ] {
+                    assert_eq!(is_scheme(&text), engine::Scheme::new(&text).is_some(), "{text:?}");
+                }
+            }
+        }
+        assert!(!is_scheme(""));
     }
 }

@@ -8,10 +8,7 @@ use borrow_or_share::Bos;
 use core::fmt;
 
 #[cfg(feature = "alloc")]
-use {
-    crate::engine::made,
-    alloc::string::String,
-};
+use {crate::engine::made, alloc::string::String};
 
 /// Why a value is not of a narrower type.
 ///
@@ -127,7 +124,7 @@ narrow! {
         |value| check_has_scheme(value.has_scheme());
     Iri Uri "Converts over the same text, or returns an error if it is not ASCII."
         |value| check_is_ascii(value.as_str());
-    IriRef Uri "Converts over the same text, or returns an error if there is no scheme or it is not ASCII."
+    IriRef Uri "Converts over the same text, or returns an error: no scheme, or not ASCII."
         |value| check_is_uri(value.as_str(), value.has_scheme());
     IriRef UriRef "Converts over the same text, or returns an error if it is not ASCII."
         |value| check_is_ascii(value.as_str());
@@ -163,8 +160,8 @@ impl<T: Bos<str>> Iri<T> {
 
 #[cfg(feature = "alloc")]
 impl<T: Bos<str>> IriRef<T> {
-    /// Converts the IRI reference to a URI reference: each byte of a character past ASCII becomes an
-    /// octet (RFC 3987, section 3.1). A host is not written in Punycode.
+    /// Converts the IRI reference to a URI reference: each byte of a character past ASCII becomes
+    /// an octet (RFC 3987, section 3.1). A host is not written in Punycode.
     ///
     /// # Examples
     ///

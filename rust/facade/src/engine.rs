@@ -77,13 +77,16 @@ mod calls {
         result
     }
 
-    /// Returns the engine's value over a text of the kind `K`, whose components are at these positions.
+    /// Returns the engine's value over a text of the kind `K`, whose components are at these
+    /// positions.
     #[inline]
     pub(crate) fn reference<K: Kind>(text: &str, at: PackedPositions) -> Reference<K, &str> {
-        debug_assert!(parse::<K>(text).is_ok_and(|own| {
-            (own.path_start, own.path_end, own.query_end) == (at.path_start, at.path_end, at.query_end)
-        }));
+        debug_assert!(parse::<K>(text).is_ok_and(|own| words(own) == words(at)));
         Reference::of_core(Core::new(text, at))
+    }
+
+    fn words(at: PackedPositions) -> [usize; 6] {
+        [at.scheme_end, at.host_start, at.host_end, at.path_start, at.path_end, at.query_end]
     }
 
     /// Returns the text and the positions of an owned value of the engine.

@@ -4,7 +4,7 @@
 //!
 //! | Type | Calls |
 //! |---|---|
-//! | [`Uri`], [`UriRef`], [`Iri`], [`IriRef`] | `try_to_owned`, `try_normalize`, `try_with_fragment`, `try_set_fragment` |
+//! | each of the four | `try_to_owned`, `try_normalize`, `try_with_fragment`, `try_set_fragment` |
 //! | [`UriRef`], [`IriRef`] | `try_resolve_against` |
 //! | [`Iri`] | `try_to_uri` |
 //! | [`IriRef`] | `try_to_uri_ref` |

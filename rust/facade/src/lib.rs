@@ -1,4 +1,5 @@
-//! URIs and IRIs: parsing, building, resolving, normalising and percent-encoding (RFC 3986, RFC 3987).
+//! URIs and IRIs: parsing, building, resolving, normalising and percent-encoding (RFC 3986, RFC
+//! 3987).
 //!
 //! This crate has the API of `fluent-uri` 0.4.1. It stands in for that crate with one line in
 //! `Cargo.toml`: `fluent-uri = { package = "fluent-uri-rattle", .. }`.
@@ -6,8 +7,9 @@
 //! # What is proved
 //!
 //! The engine's sources are proved in Rattle. A script erases their contracts, and rustc compiles
-//! what is left, which is the private module `proved`. The script, two files that stand for Rattle's
-//! std, the rest of this crate and rustc are not proved. They are tested against the original.
+//! what is left, which is the private module `proved`. The script, two files that stand for
+//! Rattle's std, the rest of this crate and rustc are not proved. They are tested against the
+//! original.
 //!
 //! # Terms
 //!
@@ -94,7 +96,7 @@ pub mod order;
 mod parse;
 pub mod pct_enc;
 #[allow(clippy::all, clippy::pedantic, missing_debug_implementations, missing_docs)]
-#[allow(unreachable_pub, unsafe_code, unused)]
+#[allow(unreachable_pub, unsafe_code, unstable_name_collisions, unused)]
 mod proved;
 #[cfg(feature = "alloc")]
 pub mod query;

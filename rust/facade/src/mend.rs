@@ -1,5 +1,5 @@
-//! The least change that makes a text a reference (RFC 3986, sections 2.1 and 4.1; RFC 3987, section
-//! 3.1).
+//! The least change that makes a text a reference (RFC 3986, sections 2.1 and 4.1; RFC 3987,
+//! section 3.1).
 
 use crate::{
     engine::{into_made, made, Made},
@@ -29,17 +29,17 @@ pub use crate::proved::uri_mend::MendError;
 /// # Ok::<_, fluent_uri::mend::MendError>(())
 /// ```
 pub trait Mend: Sized {
-    /// Returns the reference that a text is mended to: what its path, its query or its fragment must
-    /// not have is percent-encoded, and all else stays.
+    /// Returns the reference that a text is mended to: what its path, its query or its fragment
+    /// must not have is percent-encoded, and all else stays.
     ///
     /// A text of the type stays as it is, and so do the scheme and the authority of each text. If
-    /// what is before a `:` is no scheme, it is in the path, after `./`. No reference of the type is
-    /// the text with fewer characters percent-encoded.
+    /// what is before a `:` is no scheme, it is in the path, after `./`. No reference of the type
+    /// is the text with fewer characters percent-encoded.
     ///
     /// # Errors
     ///
-    /// Returns [`Unmendable`](MendError::Unmendable) exactly if the authority is not one of the type,
-    /// or if there is no scheme where one is needed, and
+    /// Returns [`Unmendable`](MendError::Unmendable) exactly if the authority is not one of the
+    /// type, or if there is no scheme where one is needed, and
     /// [`OutOfMemory`](MendError::OutOfMemory) if allocation fails.
     ///
     /// # Examples
@@ -52,8 +52,8 @@ pub trait Mend: Sized {
     /// ```
     fn mend(text: &str) -> Result<Self, MendError>;
 
-    /// Returns the reference that an owned text is mended to, as [`mend`](Self::mend) does. A text of
-    /// the type is not copied.
+    /// Returns the reference that an owned text is mended to, as [`mend`](Self::mend) does. A text
+    /// of the type is not copied.
     ///
     /// # Errors
     ///
@@ -68,7 +68,8 @@ pub trait Mend: Sized {
     /// ```
     fn mend_owned(text: String) -> Result<Self, (MendError, String)>;
 
-    /// Returns the reference that a link of a page is mended to: `mend` of what [`trim_link`] leaves.
+    /// Returns the reference that a link of a page is mended to: `mend` of what [`trim_link`]
+    /// leaves.
     ///
     /// # Errors
     ///
@@ -127,8 +128,9 @@ mend! {
     IriRef IriRefKind;
 }
 
-/// Returns the link that a page's text is, as HTML reads the attribute `href`: without the ASCII white
-/// space at both ends, and without tabs, LF and CR. It is borrowed if nothing within it is dropped.
+/// Returns the link that a page's text is, as HTML reads the attribute `href`: without the ASCII
+/// white space at both ends, and without tabs, LF and CR. It is borrowed if nothing within it is
+/// dropped.
 ///
 /// # Examples
 ///

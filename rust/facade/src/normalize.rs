@@ -4,9 +4,7 @@ use crate::{
     component::Scheme,
     engine::{self, out_of_memory},
     proved::{
-        uri_ops::{
-            default_port::DefaultPort, normalize::NormalizeError as EngineError,
-        },
+        uri_ops::{default_port::DefaultPort, normalize::NormalizeError as EngineError},
         uri_parts::scheme as parts,
     },
     reference::RiMaybeRef,
@@ -132,13 +130,13 @@ impl Normalizer {
         Self { ports: Ports::by(f), ..self }
     }
 
-    /// Returns the normal form of a value, as [`Uri::normalize`](crate::Uri::normalize) does, by the
-    /// settings.
+    /// Returns the normal form of a value, as [`Uri::normalize`](crate::Uri::normalize) does, by
+    /// the settings.
     ///
     /// # Errors
     ///
-    /// Returns [`PathUnderflow`](NormalizeError::PathUnderflow) if underflow is not allowed, and with
-    /// a scheme a double dot of a path that begins with `/` has no segment left to remove.
+    /// Returns [`PathUnderflow`](NormalizeError::PathUnderflow) if underflow is not allowed, and
+    /// with a scheme a double dot of a path that begins with `/` has no segment left to remove.
     ///
     /// # Examples
     ///
@@ -159,10 +157,7 @@ impl Normalizer {
         })
     }
 
-    pub(crate) fn normalized<R: RiMaybeRef>(
-        &self,
-        r: &R,
-    ) -> Result<R::WithVal<String>, EngineError>
+    pub(crate) fn normalized<R: RiMaybeRef>(&self, r: &R) -> Result<R::WithVal<String>, EngineError>
     where
         R::Val: Bos<str>,
     {

@@ -29,7 +29,10 @@ macro_rules! order_calls {
         #[doc = concat!("use fluent_uri::{order::", $first, ", Uri};")]
         ///
         #[doc = concat!("let order = ", $first, "::new();")]
-        #[doc = concat!("assert!(order.is_equivalent(&Uri::parse(\"http://a/~\")?, &Uri::parse(\"", $second, "\")?));")]
+        #[doc = concat!(
+            "assert!(order.is_equivalent(&Uri::parse(\"http://a/~\")?, &Uri::parse(\"", $second,
+            "\")?));"
+        )]
         /// # Ok::<_, fluent_uri::ParseError>(())
         /// ```
         pub fn is_equivalent<R, U>(&self, one: &R, other: &R::WithVal<U>) -> bool
@@ -50,7 +53,9 @@ macro_rules! order_calls {
         #[doc = concat!("use fluent_uri::{order::", $first, ", Uri};")]
         ///
         #[doc = concat!("assert!(", $first, "::new().is_normal(&Uri::parse(\"http://a/~\")?));")]
-        #[doc = concat!("assert!(!", $first, "::new().is_normal(&Uri::parse(\"", $second, "\")?));")]
+        #[doc = concat!(
+            "assert!(!", $first, "::new().is_normal(&Uri::parse(\"", $second, "\")?));"
+        )]
         /// # Ok::<_, fluent_uri::ParseError>(())
         /// ```
         pub fn is_normal<R>(&self, value: &R) -> bool
@@ -69,7 +74,10 @@ macro_rules! order_calls {
         #[doc = concat!("use fluent_uri::{order::", $first, ", Uri};")]
         ///
         #[doc = concat!("let order = ", $first, "::new();")]
-        #[doc = concat!("assert!(order.cmp(&Uri::parse(\"", $second, "\")?, &Uri::parse(\"http://b\")?).is_lt());")]
+        #[doc = concat!(
+            "assert!(order.cmp(&Uri::parse(\"", $second,
+            "\")?, &Uri::parse(\"http://b\")?).is_lt());"
+        )]
         /// # Ok::<_, fluent_uri::ParseError>(())
         /// ```
         pub fn cmp<R, U>(&self, one: &R, other: &R::WithVal<U>) -> Ordering
@@ -111,7 +119,8 @@ macro_rules! order_calls {
 /// Compares values by their normal forms (RFC 3986, section 6.2.2), which it does not make: no call
 /// allocates. Its setting is the default ports of schemes.
 ///
-/// The normal forms are those of a [`Normalizer`](crate::normalize::Normalizer) with the same ports.
+/// The normal forms are those of a [`Normalizer`](crate::normalize::Normalizer) with the same
+/// ports.
 ///
 /// # Examples
 ///
@@ -148,11 +157,11 @@ impl Default for NormalOrder {
     }
 }
 
-/// Compares values by their normal forms under the rules of their schemes (RFC 3986, section 6.2.3),
-/// which it does not make: no call allocates.
+/// Compares values by their normal forms under the rules of their schemes (RFC 3986, section
+/// 6.2.3), which it does not make: no call allocates.
 ///
-/// The normal forms are those of a [`SchemeNormalizer`](crate::rules::SchemeNormalizer) with the same
-/// ports and rules.
+/// The normal forms are those of a [`SchemeNormalizer`](crate::rules::SchemeNormalizer) with the
+/// same ports and rules.
 ///
 /// # Examples
 ///

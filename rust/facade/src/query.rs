@@ -31,8 +31,9 @@ pub struct Pair {
     pub value: String,
 }
 
-/// Returns the pairs of a query. Each substring between its `&` that is not empty is cut at its first
-/// `=`, and both halves are decoded. Bytes that are not UTF-8 become U+FFFD, and `+` is not a space.
+/// Returns the pairs of a query. Each substring between its
+/// `&` that is not empty is cut at its first `=`, and both halves are decoded. Bytes that are not
+/// UTF-8 become U+FFFD, and `+` is not a space.
 ///
 /// It compiles only if `E::TABLE` allows percent-encoded octets.
 ///
@@ -63,9 +64,9 @@ pub fn try_pairs_of<E: Encoder>(query: &EStr<E>) -> Result<Vec<Pair>, AllocError
     Ok(made)
 }
 
-/// Returns the query of the pairs: `name=value`, joined by `&`. Each name and value is data, in which
-/// reserved characters are percent-encoded (RFC 3986, section 2.4). So [`pairs_of`] returns the same
-/// pairs again.
+/// Returns the query of the pairs: `name=value`, joined by `&`. Each name and value is data, in
+/// which reserved characters are percent-encoded (RFC 3986, section 2.4). So [`pairs_of`] returns
+/// the same pairs again.
 ///
 /// # Examples
 ///
@@ -102,7 +103,8 @@ pub fn try_query_of(pairs: &[Pair]) -> Result<EString<Query>, AllocError> {
 ///
 /// # Panics
 ///
-/// Panics if the position is more than the length of the query. Pass 0, or the `end` of the pair before.
+/// Panics if the position is more than the length of the query. Pass 0, or the `end` of the pair
+/// before.
 ///
 /// # Examples
 ///

@@ -115,7 +115,10 @@ macro_rules! reference_types {
             #[doc = concat!("let path = ", stringify!($Ty), "::parse(text)?.path();")]
             /// assert_eq!(path, "/over/there");
             ///
-            #[doc = concat!("let owned: ", stringify!($Ty), "<String> = ", stringify!($Ty), "::parse(text)?.to_owned();")]
+            #[doc = concat!(
+                "let owned: ", stringify!($Ty), "<String> = ", stringify!($Ty),
+                "::parse(text)?.to_owned();"
+            )]
             #[doc = concat!("let borrowed: ", stringify!($Ty), "<&str> = owned.borrow();")]
             /// assert_eq!(borrowed, text);
             /// # Ok::<_, fluent_uri::ParseError>(())
@@ -131,7 +134,10 @@ macro_rules! reference_types {
                 ///
                 /// # Errors
                 ///
-                #[doc = concat!("Returns an error exactly if the text is not ", $name, ". It says what is wrong, and at which")]
+                #[doc = concat!(
+                    "Returns an error exactly if the text is not ", $name,
+                    ". It says what is wrong, and at which"
+                )]
                 /// byte. For a `String` the error is a pair, with the text in it.
                 ///
                 /// # Examples
@@ -139,8 +145,13 @@ macro_rules! reference_types {
                 /// ```
                 #[doc = concat!("use fluent_uri::", stringify!($Ty), ";")]
                 ///
-                #[doc = concat!("assert!(", stringify!($Ty), "::parse(\"", $example, "\").is_ok());")]
-                #[doc = concat!("let (error, text) = ", stringify!($Ty), "::parse(\"a:/b c\".to_string()).unwrap_err();")]
+                #[doc = concat!(
+                    "assert!(", stringify!($Ty), "::parse(\"", $example, "\").is_ok());"
+                )]
+                #[doc = concat!(
+                    "let (error, text) = ", stringify!($Ty),
+                    "::parse(\"a:/b c\".to_string()).unwrap_err();"
+                )]
                 /// assert_eq!((error.index(), text.as_str()), (4, "a:/b c"));
                 /// ```
                 #[inline]
@@ -192,7 +203,10 @@ macro_rules! reference_types {
                 /// ```
                 #[doc = concat!("use fluent_uri::", stringify!($Ty), ";")]
                 ///
-                #[doc = concat!("assert_eq!(", stringify!($Ty), "::parse(\"", $example, "\")?.as_str(), \"", $example, "\");")]
+                #[doc = concat!(
+                    "assert_eq!(", stringify!($Ty), "::parse(\"", $example, "\")?.as_str(), \"",
+                    $example, "\");"
+                )]
                 /// # Ok::<_, fluent_uri::ParseError>(())
                 /// ```
                 #[inline]

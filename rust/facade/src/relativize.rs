@@ -45,9 +45,9 @@ impl<R: Ri<Val: Bos<str>>> Relativizer<R> {
         Self { base, prefers_relative_path: false }
     }
 
-    /// Sets whether references have a relative path even if the path from the root is shorter, as for
-    /// pages that are read from a disk. If the base's path has a dot segment, the path is still the
-    /// one from the root.
+    /// Sets whether references have a relative path even if the path from the root is shorter, as
+    /// for pages that are read from a disk. If the base's path has a dot segment, the path is still
+    /// the one from the root.
     ///
     /// # Examples
     ///
@@ -63,8 +63,8 @@ impl<R: Ri<Val: Bos<str>>> Relativizer<R> {
         Self { prefers_relative_path: value, ..self }
     }
 
-    /// Returns a reference that leads from the base to the target. Resolved against the base without
-    /// its fragment, it has the same target as the target itself.
+    /// Returns a reference that leads from the base to the target. Resolved against the base
+    /// without its fragment, it has the same target as the target itself.
     ///
     /// If the base's path has no dot segment, and unless a relative path is preferred, no such
     /// reference is shorter.

@@ -24,8 +24,8 @@ use core::fmt;
 pub enum ResolveError {
     /// The base has a fragment.
     BaseWithFragment,
-    /// The base has no authority, and its path does not begin with `/`. The reference has no scheme,
-    /// is not empty and does not begin with `#`.
+    /// The base has no authority, and its path does not begin with
+    /// `/`. The reference has no scheme, is not empty and does not begin with `#`.
     InvalidReferenceAgainstOpaqueBase,
     /// A double dot had no segment left to remove, and the resolver does not allow this.
     PathUnderflow,
@@ -153,8 +153,7 @@ where
         reference: &R::Ref<T>,
     ) -> Result<R::WithVal<String>, EngineError> {
         let allow = self.allow_path_underflow;
-        let (text, at) =
-            engine::resolve::<R::Kind>(self.base.parts(), reference.parts(), allow)?;
+        let (text, at) = engine::resolve::<R::Kind>(self.base.parts(), reference.parts(), allow)?;
         Ok(R::WithVal::of(text, at))
     }
 }

@@ -44,8 +44,8 @@ pub trait SchemeRules {
     /// Returns whether an empty path after an authority is equivalent to `/` under the scheme.
     fn empty_path_is_root(&self, scheme: &Scheme) -> bool;
 
-    /// Returns whether the default host of the scheme is `localhost`: an authority that is `localhost`
-    /// alone is equivalent to an empty one.
+    /// Returns whether the default host of the scheme is
+    /// `localhost`: an authority that is `localhost` alone is equivalent to an empty one.
     fn default_host_is_localhost(&self, scheme: &Scheme) -> bool;
 }
 
@@ -58,7 +58,8 @@ pub trait SchemeRules {
 /// | `ftp` | the same | RFC 1738, section 3.2.2 |
 /// | `file` | the host `localhost` is left out | RFC 8089, section 2 |
 ///
-/// The target of an `OPTIONS` request must not be normalised by them: there an empty path is not `/`.
+/// The target of an
+/// `OPTIONS` request must not be normalised by them: there an empty path is not `/`.
 #[derive(Clone, Copy, Debug, Default, Eq, PartialEq)]
 pub struct StandardRules;
 
@@ -113,8 +114,8 @@ pub struct SchemeNormalizer<S = StandardRules> {
 }
 
 impl SchemeNormalizer {
-    /// Returns a normaliser by the ports of [`Scheme::default_port`] and by [`StandardRules`], where
-    /// dot segments may underflow.
+    /// Returns a normaliser by the ports of [`Scheme::default_port`] and by [`StandardRules`],
+    /// where dot segments may underflow.
     pub fn new() -> Self {
         Self { allow_path_underflow: true, ports: Ports::DEFAULTS, rules: StandardRules }
     }
@@ -154,13 +155,14 @@ impl<S: SchemeRules> SchemeNormalizer<S> {
             .scheme_rules_with(RulesOf(&self.rules))
     }
 
-    /// Returns the normal form of a value under the rules of its scheme. Two values have the same one
-    /// exactly if they are equivalent under these rules.
+    /// Returns the normal form of a value under the rules of its scheme. Two values have the same
+    /// one exactly if they are equivalent under these rules.
     ///
     /// # Errors
     ///
-    /// Returns `PathUnderflow` if underflow is not allowed, and with a scheme a double dot of a path
-    /// that begins with `/` has no segment left to remove, and `OutOfMemory` if allocation fails.
+    /// Returns `PathUnderflow` if underflow is not allowed, and with a scheme a double dot of a
+    /// path that begins with `/` has no segment left to remove, and `OutOfMemory` if allocation
+    /// fails.
     ///
     /// # Examples
     ///
@@ -181,14 +183,15 @@ impl<S: SchemeRules> SchemeNormalizer<S> {
         Ok(R::WithVal::of(text, at))
     }
 
-    /// Returns the normal form, under the rules of its scheme, of the target of a reference against a
-    /// base. A base and a reference that are equivalent under the rules give the same result. Dot
+    /// Returns the normal form, under the rules of its scheme, of the target of a reference against
+    /// a base. A base and a reference that are equivalent under the rules give the same result. Dot
     /// segments may underflow.
     ///
     /// # Errors
     ///
     /// Returns `BaseWithFragment` and `InvalidReferenceAgainstOpaqueBase` as
-    /// [`resolve_against`](crate::UriRef::resolve_against) does, and `OutOfMemory` if allocation fails.
+    /// [`resolve_against`](crate::UriRef::resolve_against) does, and `OutOfMemory` if allocation
+    /// fails.
     ///
     /// # Panics
     ///

@@ -102,7 +102,8 @@ impl<'a, UserinfoE: Encoder, RegNameE: Encoder> Authority<'a, UserinfoE, RegName
         self.inner().userinfo().map(outer)
     }
 
-    /// Returns the host, with its brackets if it has some (RFC 3986, section 3.2.2). It may be empty.
+    /// Returns the host, with its brackets if it has some (RFC 3986, section 3.2.2). It may be
+    /// empty.
     ///
     /// # Examples
     ///
@@ -207,16 +208,18 @@ impl<'a, UserinfoE: Encoder, RegNameE: Encoder> Authority<'a, UserinfoE, RegName
     /// ```
     #[cfg(all(feature = "net", feature = "std"))]
     pub fn socket_addrs(&self, default_port: u16) -> io::Result<impl Iterator<Item = SocketAddr>> {
-        let target = self.inner().socket_target(Global, default_port);
-        match target.map_err(|error| io::Error::new(io::ErrorKind::InvalidInput, error.to_string()))? {
-            SocketTarget::V4(address, port) => {
-                Ok(vec![SocketAddr::from((address.to_std(), port))].into_iter())
+        let target = match self.inner().socket_target(Global, default_port) {
+            Ok(target) => target,
+            Err(error) => {
+                return Err(io::Error::new(io::ErrorKind::InvalidInput, error.to_string()));
             }
-            SocketTarget::V6(address, port) => {
-                Ok(vec![SocketAddr::from((address.to_std(), port))].into_iter())
-            }
-            SocketTarget::Name(name, port) => (name.as_str(), port).to_socket_addrs(),
-        }
+        };
+        let address = match target {
+            SocketTarget::V4(address, port) => SocketAddr::from((address.to_std(), port)),
+            SocketTarget::V6(address, port) => SocketAddr::from((address.to_std(), port)),
+            SocketTarget::Name(name, port) => return (name.as_str(), port).to_socket_addrs(),
+        };
+        Ok(vec![address].into_iter())
     }
 
     /// Returns whether there is a userinfo, which may be empty.

@@ -8,11 +8,8 @@ pub(crate) const fn allows_text(table: &Table, text: &str) -> bool {
     let bytes = text.as_bytes();
     let mut i = 0;
     while i < bytes.len() {
-        let len = if bytes[i] == b'%' {
-            octet_len(table, bytes, i)
-        } else {
-            char_len(table, bytes, i)
-        };
+        let len =
+            if bytes[i] == b'%' { octet_len(table, bytes, i) } else { char_len(table, bytes, i) };
         if len == 0 {
             return false;
         }
@@ -63,9 +60,19 @@ mod tests {
     /// The check says what the engine's scan says, for each encoder.
     fn agrees(text: &str) {
         let tables = [
-            Userinfo::TABLE, IUserinfo::TABLE, RegName::TABLE, IRegName::TABLE, Port::TABLE,
-            Path::TABLE, IPath::TABLE, Query::TABLE, IQuery::TABLE, Fragment::TABLE,
-            IFragment::TABLE, Data::TABLE, IData::TABLE,
+            Userinfo::TABLE,
+            IUserinfo::TABLE,
+            RegName::TABLE,
+            IRegName::TABLE,
+            Port::TABLE,
+            Path::TABLE,
+            IPath::TABLE,
+            Query::TABLE,
+            IQuery::TABLE,
+            Fragment::TABLE,
+            IFragment::TABLE,
+            Data::TABLE,
+            IData::TABLE,
         ];
         for table in tables {
             assert_eq!(allows_text(table, text), table.set.allows_text(text), "{text:?}");

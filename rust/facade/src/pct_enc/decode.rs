@@ -97,8 +97,8 @@ impl<'a> Decode<'a> {
         })
     }
 
-    /// Returns the text that is left, decoded, with U+FFFD for each maximal ill-formed part (Unicode,
-    /// section 3.9). Without a `%` it is borrowed.
+    /// Returns the text that is left, decoded, with U+FFFD for each maximal ill-formed part
+    /// (Unicode, section 3.9). Without a `%` it is borrowed.
     ///
     /// # Examples
     ///

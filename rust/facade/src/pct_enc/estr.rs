@@ -22,12 +22,12 @@ use ref_cast::{ref_cast_custom, RefCastCustom};
 /// Split before decoding: an octet in a name may encode a delimiter.
 ///
 /// ```
-/// use fluent_uri::{pct_enc::EStr, UriRef};
+/// use fluent_uri::UriRef;
 ///
 /// let query = UriRef::parse("?a%26b=1&c")?.query().unwrap();
-/// let mut pairs = query.split('&').map(|pair| pair.split_once('=').unwrap_or((pair, EStr::EMPTY)));
-/// assert_eq!(pairs.next().unwrap().0.decode().to_string_lossy(), "a&b");
-/// assert_eq!(pairs.next().unwrap().0, "c");
+/// let mut names = query.split('&').map(|pair| pair.split_once('=').map_or(pair, |cut| cut.0));
+/// assert_eq!(names.next().unwrap().decode().to_string_lossy(), "a&b");
+/// assert_eq!(names.next().unwrap(), "c");
 /// # Ok::<_, fluent_uri::ParseError>(())
 /// ```
 #[derive(RefCastCustom)]
@@ -52,9 +52,15 @@ impl<E: Encoder> EStr<E> {
     const ALLOWS_OCTETS: () =
         assert!(E::TABLE.allows_pct_encoded(), "table does not allow percent-encoded octets");
 
-    /// Returns a text that is known to be valid for `E`.
     #[ref_cast_custom]
-    pub(crate) const fn of_valid(text: &str) -> &Self;
+    const fn cast(text: &str) -> &Self;
+
+    /// Returns a text that is known to be valid for `E`.
+    #[inline]
+    pub(crate) const fn of_valid(text: &str) -> &Self {
+        debug_assert!(check::allows_text(E::TABLE, text));
+        Self::cast(text)
+    }
 
     /// Returns the text as an `EStr`, which a constant may call.
     ///
@@ -91,7 +97,7 @@ impl<E: Encoder> EStr<E> {
     #[must_use]
     pub const fn new(s: &str) -> Option<&Self> {
         if check::allows_text(E::TABLE, s) {
-            Some(Self::of_valid(s))
+            Some(Self::cast(s))
         } else {
             None
         }
@@ -169,8 +175,8 @@ impl<E: Encoder> EStr<E> {
         self.inner()
     }
 
-    /// Returns an iterator over the parts of the text, decoded. It compiles only if `E::TABLE` allows
-    /// percent-encoded octets. Split before decoding. `+` is not a space.
+    /// Returns an iterator over the parts of the text, decoded. It compiles only if
+    /// `E::TABLE` allows percent-encoded octets. Split before decoding. `+` is not a space.
     ///
     /// # Examples
     ///

@@ -1,6 +1,6 @@
 //! Owned percent-encoded texts.
 
-use super::{EStr, Encoder};
+use super::{check, EStr, Encoder};
 use crate::{
     engine::{made, with_text},
     fallible::AllocError,
@@ -44,10 +44,7 @@ struct Encodes<SubE, E>(PhantomData<(SubE, E)>);
 impl<SubE: Encoder, E: Encoder> Encodes<SubE, E> {
     const CHECKED: () = {
         assert!(SubE::TABLE.is_subset(E::TABLE), "not a sub-encoder");
-        assert!(
-            SubE::TABLE.allows_pct_encoded(),
-            "table does not allow percent-encoded octets"
-        );
+        assert!(SubE::TABLE.allows_pct_encoded(), "table does not allow percent-encoded octets");
     };
 }
 
@@ -86,6 +83,7 @@ impl<E: Encoder> EString<E> {
 
     /// Returns a text that is known to be valid for `E`.
     pub(crate) fn of_valid(text: String) -> Self {
+        debug_assert!(check::allows_text(E::TABLE, &text));
         Self { text, encoder: PhantomData }
     }
 
@@ -118,8 +116,8 @@ impl<E: Encoder> EString<E> {
         self.text.capacity()
     }
 
-    /// Appends a text, encoded by `SubE`: a character stays if `SubE::TABLE` allows it, and else each
-    /// byte of its UTF-8 becomes an octet (RFC 3986, section 2.1). A space becomes `%20`.
+    /// Appends a text, encoded by `SubE`: a character stays if `SubE::TABLE` allows it, and else
+    /// each byte of its UTF-8 becomes an octet (RFC 3986, section 2.1). A space becomes `%20`.
     ///
     /// It compiles only if `SubE` is a [sub-encoder](Encoder) of `E` and its table allows octets.
     /// [`Data`](super::encoder::Data) and [`IData`](super::encoder::IData) leave no delimiter.
@@ -156,8 +154,8 @@ impl<E: Encoder> EString<E> {
         with_text(&mut self.text, |out| out.push_str(s.as_str()))
     }
 
-    /// Appends bytes, encoded by `SubE`: a character stays if `SubE::TABLE` allows it, and each other
-    /// byte becomes an octet.
+    /// Appends bytes, encoded by `SubE`: a character stays if `SubE::TABLE` allows it, and each
+    /// other byte becomes an octet.
     ///
     /// # Examples
     ///
@@ -170,7 +168,8 @@ impl<E: Encoder> EString<E> {
     /// assert_eq!(path, "a%FC");
     /// ```
     #[deprecated(
-        note = "use `<[u8]>::utf8_chunks`, `EString::encode_str`, `EStr::encode_byte`, and `EString::push_estr` instead"
+        note = "use `<[u8]>::utf8_chunks`, `EString::encode_str`, `EStr::encode_byte`, and \
+                `EString::push_estr` instead"
     )]
     pub fn encode_bytes<SubE: Encoder>(&mut self, bytes: &[u8]) {
         let () = Encodes::<SubE, E>::CHECKED;

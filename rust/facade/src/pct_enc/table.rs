@@ -3,8 +3,9 @@
 use crate::proved::uri_pct::table as engine;
 use core::fmt;
 
-/// A set of ASCII characters other than `%`, and three flags: percent-encoded octets, the characters
-/// of `ucschar`, and those of `iprivate` (RFC 3987, section 2.2).
+/// A set of ASCII characters other than
+/// `%`, and three flags: percent-encoded octets, the characters of `ucschar`, and those of
+/// `iprivate` (RFC 3987, section 2.2).
 ///
 /// # Examples
 ///
@@ -123,7 +124,8 @@ impl Table {
         Self::of(self.set.sub(&other.set))
     }
 
-    /// Returns whether `other` allows every character that `self` allows, and has each of its flags.
+    /// Returns whether `other` allows every character that `self` allows, and has each of its
+    /// flags.
     ///
     /// # Examples
     ///

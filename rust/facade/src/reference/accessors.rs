@@ -30,7 +30,9 @@ macro_rules! accessors {
                 ///
                 #[doc = concat!("let value = ", stringify!($Ty), "::parse(\"http://a:80/b\")?;")]
                 /// assert_eq!(value.authority().unwrap().as_str(), "a:80");
-                #[doc = concat!("assert!(", stringify!($Ty), "::parse(\"mailto:b@a\")?.authority().is_none());")]
+                #[doc = concat!(
+                    "assert!(", stringify!($Ty), "::parse(\"mailto:b@a\")?.authority().is_none());"
+                )]
                 /// # Ok::<_, fluent_uri::ParseError>(())
                 /// ```
                 #[must_use]
@@ -46,8 +48,12 @@ macro_rules! accessors {
                 /// ```
                 #[doc = concat!("use fluent_uri::", stringify!($Ty), ";")]
                 ///
-                #[doc = concat!("assert_eq!(", stringify!($Ty), "::parse(\"http://a/b?c#d\")?.path(), \"/b\");")]
-                #[doc = concat!("assert_eq!(", stringify!($Ty), "::parse(\"http://a\")?.path(), \"\");")]
+                #[doc = concat!(
+                    "assert_eq!(", stringify!($Ty), "::parse(\"http://a/b?c#d\")?.path(), \"/b\");"
+                )]
+                #[doc = concat!(
+                    "assert_eq!(", stringify!($Ty), "::parse(\"http://a\")?.path(), \"\");"
+                )]
                 /// # Ok::<_, fluent_uri::ParseError>(())
                 /// ```
                 #[must_use]
@@ -63,8 +69,13 @@ macro_rules! accessors {
                 /// ```
                 #[doc = concat!("use fluent_uri::", stringify!($Ty), ";")]
                 ///
-                #[doc = concat!("assert_eq!(", stringify!($Ty), "::parse(\"http://a/?c\")?.query().unwrap(), \"c\");")]
-                #[doc = concat!("assert!(", stringify!($Ty), "::parse(\"http://a/\")?.query().is_none());")]
+                #[doc = concat!(
+                    "assert_eq!(", stringify!($Ty),
+                    "::parse(\"http://a/?c\")?.query().unwrap(), \"c\");"
+                )]
+                #[doc = concat!(
+                    "assert!(", stringify!($Ty), "::parse(\"http://a/\")?.query().is_none());"
+                )]
                 /// # Ok::<_, fluent_uri::ParseError>(())
                 /// ```
                 #[must_use]
@@ -80,8 +91,13 @@ macro_rules! accessors {
                 /// ```
                 #[doc = concat!("use fluent_uri::", stringify!($Ty), ";")]
                 ///
-                #[doc = concat!("assert_eq!(", stringify!($Ty), "::parse(\"http://a/#d\")?.fragment().unwrap(), \"d\");")]
-                #[doc = concat!("assert!(", stringify!($Ty), "::parse(\"http://a/\")?.fragment().is_none());")]
+                #[doc = concat!(
+                    "assert_eq!(", stringify!($Ty),
+                    "::parse(\"http://a/#d\")?.fragment().unwrap(), \"d\");"
+                )]
+                #[doc = concat!(
+                    "assert!(", stringify!($Ty), "::parse(\"http://a/\")?.fragment().is_none());"
+                )]
                 /// # Ok::<_, fluent_uri::ParseError>(())
                 /// ```
                 #[must_use]
@@ -99,8 +115,12 @@ macro_rules! accessors {
                 /// ```
                 #[doc = concat!("use fluent_uri::", stringify!($Ty), ";")]
                 ///
-                #[doc = concat!("assert!(", stringify!($Ty), "::parse(\"http://a\")?.has_authority());")]
-                #[doc = concat!("assert!(!", stringify!($Ty), "::parse(\"mailto:b@a\")?.has_authority());")]
+                #[doc = concat!(
+                    "assert!(", stringify!($Ty), "::parse(\"http://a\")?.has_authority());"
+                )]
+                #[doc = concat!(
+                    "assert!(!", stringify!($Ty), "::parse(\"mailto:b@a\")?.has_authority());"
+                )]
                 /// # Ok::<_, fluent_uri::ParseError>(())
                 /// ```
                 #[must_use]
@@ -116,8 +136,12 @@ macro_rules! accessors {
                 /// ```
                 #[doc = concat!("use fluent_uri::", stringify!($Ty), ";")]
                 ///
-                #[doc = concat!("assert!(", stringify!($Ty), "::parse(\"http://a?\")?.has_query());")]
-                #[doc = concat!("assert!(!", stringify!($Ty), "::parse(\"http://a\")?.has_query());")]
+                #[doc = concat!(
+                    "assert!(", stringify!($Ty), "::parse(\"http://a?\")?.has_query());"
+                )]
+                #[doc = concat!(
+                    "assert!(!", stringify!($Ty), "::parse(\"http://a\")?.has_query());"
+                )]
                 /// # Ok::<_, fluent_uri::ParseError>(())
                 /// ```
                 #[must_use]
@@ -133,8 +157,12 @@ macro_rules! accessors {
                 /// ```
                 #[doc = concat!("use fluent_uri::", stringify!($Ty), ";")]
                 ///
-                #[doc = concat!("assert!(", stringify!($Ty), "::parse(\"http://a#\")?.has_fragment());")]
-                #[doc = concat!("assert!(!", stringify!($Ty), "::parse(\"http://a\")?.has_fragment());")]
+                #[doc = concat!(
+                    "assert!(", stringify!($Ty), "::parse(\"http://a#\")?.has_fragment());"
+                )]
+                #[doc = concat!(
+                    "assert!(!", stringify!($Ty), "::parse(\"http://a\")?.has_fragment());"
+                )]
                 /// # Ok::<_, fluent_uri::ParseError>(())
                 /// ```
                 #[must_use]
@@ -143,7 +171,8 @@ macro_rules! accessors {
                     at.has_fragment(text)
                 }
 
-                /// Returns the text before the `#`, or all of it without one (RFC 3986, section 3.5).
+                /// Returns the text before the `#`, or all of it without one (RFC 3986, section
+                /// 3.5).
                 ///
                 /// # Examples
                 ///
@@ -189,7 +218,7 @@ macro_rules! schemes {
                 #[must_use]
                 pub fn scheme(&'i self) -> &'o Scheme {
                     let (text, at) = self.split();
-                    Scheme::of_valid(at.scheme(text).unwrap_or_default())
+                    at.scheme(text).map_or(Scheme::OF_DEFAULT, Scheme::of_valid)
                 }
             }
 
@@ -203,7 +232,9 @@ macro_rules! schemes {
                 ///
                 #[doc = concat!("let value = ", stringify!($Ref), "::parse(\"HTTP://a\")?;")]
                 /// assert_eq!(value.scheme(), Some(Scheme::new_or_panic("http")));
-                #[doc = concat!("assert_eq!(", stringify!($Ref), "::parse(\"a/b\")?.scheme(), None);")]
+                #[doc = concat!(
+                    "assert_eq!(", stringify!($Ref), "::parse(\"a/b\")?.scheme(), None);"
+                )]
                 /// # Ok::<_, fluent_uri::ParseError>(())
                 /// ```
                 #[must_use]
@@ -221,7 +252,9 @@ macro_rules! schemes {
                 /// ```
                 #[doc = concat!("use fluent_uri::", stringify!($Ref), ";")]
                 ///
-                #[doc = concat!("assert!(", stringify!($Ref), "::parse(\"http://a\")?.has_scheme());")]
+                #[doc = concat!(
+                    "assert!(", stringify!($Ref), "::parse(\"http://a\")?.has_scheme());"
+                )]
                 #[doc = concat!("assert!(!", stringify!($Ref), "::parse(\"a/b\")?.has_scheme());")]
                 /// # Ok::<_, fluent_uri::ParseError>(())
                 /// ```

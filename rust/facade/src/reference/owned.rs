@@ -27,9 +27,14 @@ macro_rules! owned {
                 /// # Examples
                 ///
                 /// ```
-                #[doc = concat!("use fluent_uri::{component::Scheme, pct_enc::EStr, ", stringify!($Ty), "};")]
+                #[doc = concat!(
+                    "use fluent_uri::{component::Scheme, pct_enc::EStr, ", stringify!($Ty), "};"
+                )]
                 ///
-                #[doc = concat!("let builder = ", stringify!($Ty), "::builder().scheme(Scheme::new_or_panic(\"a\"));")]
+                #[doc = concat!(
+                    "let builder = ", stringify!($Ty),
+                    "::builder().scheme(Scheme::new_or_panic(\"a\"));"
+                )]
                 /// assert_eq!(builder.path(EStr::new_or_panic("b")).build().unwrap(), "a:b");
                 /// ```
                 #[inline]
@@ -63,7 +68,10 @@ macro_rules! owned {
                 /// ```
                 #[doc = concat!("use fluent_uri::", stringify!($Ty), ";")]
                 ///
-                #[doc = concat!("assert_eq!(", stringify!($Ty), "::parse(\"a:b\")?.to_owned().into_string(), \"a:b\");")]
+                #[doc = concat!(
+                    "assert_eq!(", stringify!($Ty),
+                    "::parse(\"a:b\")?.to_owned().into_string(), \"a:b\");"
+                )]
                 /// # Ok::<_, fluent_uri::ParseError>(())
                 /// ```
                 #[inline]
@@ -79,7 +87,9 @@ macro_rules! owned {
                 /// ```
                 #[doc = concat!("use fluent_uri::{pct_enc::EStr, ", stringify!($Ty), "};")]
                 ///
-                #[doc = concat!("let mut value = ", stringify!($Ty), "::parse(\"a:b#c\")?.to_owned();")]
+                #[doc = concat!(
+                    "let mut value = ", stringify!($Ty), "::parse(\"a:b#c\")?.to_owned();"
+                )]
                 /// value.set_fragment(Some(EStr::new_or_panic("d")));
                 /// assert_eq!(value, "a:b#d");
                 /// value.set_fragment(None);
@@ -103,7 +113,10 @@ macro_rules! owned {
                 /// ```
                 #[doc = concat!("use fluent_uri::", stringify!($Ty), ";")]
                 ///
-                #[doc = concat!("let owned: ", stringify!($Ty), "<String> = ", stringify!($Ty), "::parse(\"a:b\")?.to_owned();")]
+                #[doc = concat!(
+                    "let owned: ", stringify!($Ty), "<String> = ", stringify!($Ty),
+                    "::parse(\"a:b\")?.to_owned();"
+                )]
                 /// assert_eq!(owned, "a:b");
                 /// # Ok::<_, fluent_uri::ParseError>(())
                 /// ```
@@ -136,7 +149,10 @@ macro_rules! owned {
                 /// ```
                 #[doc = concat!("use fluent_uri::", stringify!($Ty), ";")]
                 ///
-                #[doc = concat!("let value = ", stringify!($Ty), "::parse(\"HTTP://Example.com:80/a/../%7efoo\")?;")]
+                #[doc = concat!(
+                    "let value = ", stringify!($Ty),
+                    "::parse(\"HTTP://Example.com:80/a/../%7efoo\")?;"
+                )]
                 /// assert_eq!(value.normalize(), "http://example.com/~foo");
                 /// # Ok::<_, fluent_uri::ParseError>(())
                 /// ```
@@ -178,8 +194,8 @@ macro_rules! references {
     ($($Ref:ident $Ri:ident;)*) => {
         $(
             impl<T: Bos<str>> $Ref<T> {
-                /// Resolves this reference against a base, and returns the target (RFC 3986, section
-                /// 5.2; RFC 3987, section 6.5).
+                /// Resolves this reference against a base, and returns the target (RFC 3986,
+                /// section 5.2; RFC 3987, section 6.5).
                 ///
                 /// The target is not normalised. Equivalent bases and references have equivalent
                 /// targets. The algorithm is the strict one, with these differences:
@@ -191,16 +207,19 @@ macro_rules! references {
                 /// - The dots of dot segments may be percent-encoded.
                 /// - A base path that ends in a double dot is kept whole, followed by `/`, before a
                 ///   merged path.
-                /// - An empty reference path takes the base's path without its dot segments, if that
-                ///   begins with `/`.
+                /// - An empty reference path takes the base's path without its dot segments, if
+                ///   that begins with `/`.
                 /// - A reference with a scheme keeps a path that does not begin with `/`.
                 ///
                 /// # Errors
                 ///
-                /// - [`BaseWithFragment`](ResolveError::BaseWithFragment) if the base has a fragment.
+                /// - [`BaseWithFragment`](ResolveError::BaseWithFragment) if the base has a
+                ///   fragment.
                 /// - Otherwise
-                ///   [`InvalidReferenceAgainstOpaqueBase`](ResolveError::InvalidReferenceAgainstOpaqueBase)
-                ///   if the base takes no such reference.
+                ///   [`InvalidReferenceAgainstOpaqueBase`] if the base takes no such reference.
+                ///
+                /// [`InvalidReferenceAgainstOpaqueBase`]:
+                ///     ResolveError::InvalidReferenceAgainstOpaqueBase
                 ///
                 /// # Panics
                 ///
@@ -211,8 +230,12 @@ macro_rules! references {
                 /// ```
                 #[doc = concat!("use fluent_uri::{", stringify!($Ri), ", ", stringify!($Ref), "};")]
                 ///
-                #[doc = concat!("let base = ", stringify!($Ri), "::parse(\"http://a/b/c/d;p?q\")?;")]
-                #[doc = concat!("let target = ", stringify!($Ref), "::parse(\"../g\")?.resolve_against(&base);")]
+                #[doc = concat!(
+                    "let base = ", stringify!($Ri), "::parse(\"http://a/b/c/d;p?q\")?;"
+                )]
+                #[doc = concat!(
+                    "let target = ", stringify!($Ref), "::parse(\"../g\")?.resolve_against(&base);"
+                )]
                 /// assert_eq!(target.unwrap(), "http://a/b/g");
                 /// # Ok::<_, fluent_uri::ParseError>(())
                 /// ```

@@ -28,8 +28,10 @@ macro_rules! serde_impls {
                 {
                     let text: &'de str = Deserialize::deserialize(deserializer)?;
                     Self::parse(text).map_err(|error| {
-                        let message = format_args!("failed to parse {text:?} as {}: {error}", $name);
-                        de::Error::custom(message)
+                        de::Error::custom(format_args!(
+                            "failed to parse {text:?} as {}: {error}",
+                            $name
+                        ))
                     })
                 }
             }
@@ -44,8 +46,10 @@ macro_rules! serde_impls {
                     let text = String::deserialize(deserializer)?;
                     Self::parse(text).map_err(|(error, text)| {
                         // The text and the error change places in the message of fluent-uri 0.4.1.
-                        let message = format_args!("failed to parse {error:?} as {}: {text}", $name);
-                        de::Error::custom(message)
+                        de::Error::custom(format_args!(
+                            "failed to parse {error:?} as {}: {text}",
+                            $name
+                        ))
                     })
                 }
             }

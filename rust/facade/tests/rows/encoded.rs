@@ -156,12 +156,12 @@ fn of_path(ask: &str, path: &str, words: &mut Words) {
     match ask {
         "to-bytes" => {
             let bytes = path.decode().to_bytes();
-            words.cow(&bytes);
+            words.is_borrowed(matches!(bytes, Cow::Borrowed(_)));
             words.bytes(&bytes);
         }
         "to-string" => match path.decode().to_string() {
             Ok(text) => {
-                words.cow(&text);
+                words.is_borrowed(matches!(text, Cow::Borrowed(_)));
                 words.say(&text);
             }
             Err(bytes) => {
@@ -171,7 +171,7 @@ fn of_path(ask: &str, path: &str, words: &mut Words) {
         },
         "to-string-lossy" => {
             let text = path.decode().to_string_lossy();
-            words.cow(&text);
+            words.is_borrowed(matches!(text, Cow::Borrowed(_)));
             words.say(&text);
         }
         "read" => {

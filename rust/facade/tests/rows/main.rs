@@ -1,7 +1,8 @@
 //! The library's rows, through this crate: what is asked, and what must be returned.
 //!
-//! `FLUENT_URI_ROWS` is the folder of the rows' files; its `README.txt` says how a row is written. The
-//! expected words come from standards and from the original. Without the variable nothing is run.
+//! `FLUENT_URI_ROWS` is the folder of the rows' files; its `README.txt` says how a row is written.
+//! The expected words come from standards and from the original. Without the variable nothing is
+//! run.
 #![cfg(all(feature = "std", feature = "net"))]
 
 use fluent_uri::{
@@ -64,8 +65,8 @@ impl Words {
         }
     }
 
-    fn cow<B: ?Sized + ToOwned>(&mut self, text: &Cow<'_, B>) {
-        self.say(if matches!(text, Cow::Borrowed(_)) { "borrowed" } else { "owned" });
+    fn is_borrowed(&mut self, is_borrowed: bool) {
+        self.say(if is_borrowed { "borrowed" } else { "owned" });
     }
 
     fn bytes(&mut self, bytes: &[u8]) {
@@ -105,10 +106,22 @@ fn unescaped(word: &str) -> String {
 macro_rules! of_kind {
     ($kind:expr, $R:ident => $body:expr) => {
         match $kind {
-            "uri" => { use Uri as $R; $body }
-            "uri-ref" => { use UriRef as $R; $body }
-            "iri" => { use Iri as $R; $body }
-            "iri-ref" => { use IriRef as $R; $body }
+            "uri" => {
+                use Uri as $R;
+                $body
+            }
+            "uri-ref" => {
+                use UriRef as $R;
+                $body
+            }
+            "iri" => {
+                use Iri as $R;
+                $body
+            }
+            "iri-ref" => {
+                use IriRef as $R;
+                $body
+            }
             kind => panic!("no such kind: {kind}"),
         }
     };
@@ -118,8 +131,14 @@ macro_rules! of_kind {
 macro_rules! of_base {
     ($kind:expr, $B:ident $K:ident => $body:expr) => {
         match $kind {
-            "uri" => { use {Uri as $B, UriRef as $K}; $body }
-            "iri" => { use {Iri as $B, IriRef as $K}; $body }
+            "uri" => {
+                use {Uri as $B, UriRef as $K};
+                $body
+            }
+            "iri" => {
+                use {Iri as $B, IriRef as $K};
+                $body
+            }
             kind => panic!("no such base: {kind}"),
         }
     };
@@ -131,9 +150,7 @@ thread_local! {
 }
 
 fn row_port(scheme: &Scheme) -> Option<u16> {
-    PORT.with_borrow(|(of, port)| {
-        (of == "*" || Some(scheme) == Scheme::new(of)).then_some(*port)
-    })
+    PORT.with_borrow(|(of, port)| (of == "*" || Some(scheme) == Scheme::new(of)).then_some(*port))
 }
 
 fn set_port(scheme: &str, port: &str) {
@@ -150,6 +167,29 @@ impl SchemeRules for EveryScheme {
     fn default_host_is_localhost(&self, _: &Scheme) -> bool {
         true
     }
+}
+
+/// The scheme, whether the type needs one or not.
+trait SchemeText {
+    fn scheme_text(&self) -> Option<&str>;
+}
+
+macro_rules! scheme_text {
+    ($($Ty:ident |$scheme:ident| $text:expr;)*) => {
+        $(impl SchemeText for $Ty<&str> {
+            fn scheme_text(&self) -> Option<&str> {
+                let $scheme = self.scheme();
+                $text
+            }
+        })*
+    };
+}
+
+scheme_text! {
+    Uri |scheme| Some(scheme.as_str());
+    UriRef |scheme| scheme.map(Scheme::as_str);
+    Iri |scheme| Some(scheme.as_str());
+    IriRef |scheme| scheme.map(Scheme::as_str);
 }
 
 fn hash_by(hash: impl FnOnce(&mut DefaultHasher)) -> u64 {
@@ -171,20 +211,26 @@ fn of_value(ask: &str, kind: &str, text: &str, rest: &[String], words: &mut Word
         }
         let value = match R::parse(text) {
             Ok(value) => value,
-            Err(_) if ask == "ipv6" => return Some(words.say("none")),
+            Err(_) if ask == "ipv6" => {
+                words.say("none");
+                return Some(());
+            }
             Err(error) if ask == "error" => {
                 words.parse_error(error);
                 let owned = R::parse(text.to_string()).unwrap_err();
-                return Some(words.unless(owned == (error, text.to_string()), "owned"));
+                words.unless(owned == (error, text.to_string()), "owned");
+                return Some(());
             }
-            Err(error) => return Some(words.all(&format!("error: {error}"))),
+            Err(error) => {
+                words.all(&format!("error: {error}"));
+                return Some(());
+            }
         };
         let owned = value.to_owned();
         match ask {
             "error" => words.say("none"),
             "parse" => {
-                let reference: IriRef<&str> = value.into();
-                words.named("scheme", reference.scheme().map(Scheme::as_str));
+                words.named("scheme", value.scheme_text());
                 words.named("authority", value.authority().map(|part| part.as_str()));
                 words.named("path", Some(value.path().as_str()));
                 words.named("query", value.query().map(EStr::as_str));
@@ -195,9 +241,10 @@ fn of_value(ask: &str, kind: &str, text: &str, rest: &[String], words: &mut Word
                 if let [scheme, port] = rest {
                     set_port(scheme, port);
                 }
-                let normalizer = Normalizer::new().allow_path_underflow(ask != "normalize-strict");
-                let normalizer =
-                    if rest.is_empty() { normalizer } else { normalizer.default_port_with(row_port) };
+                let mut normalizer = Normalizer::new().allow_path_underflow(ask != "normalize-strict");
+                if ask == "normalize-under" {
+                    normalizer = normalizer.default_port_with(row_port);
+                }
                 let normal = normalizer.normalize(&value);
                 let again = normal.clone().map(|normal| normalizer.normalize(&normal).unwrap());
                 words.result(normal);
@@ -287,86 +334,8 @@ fn of_authority<U: Encoder, R: Encoder>(
     Some(())
 }
 
-/// What two texts of a kind lead to.
-fn of_pair(ask: &str, kind: &str, one: &str, other: &str, rest: &[String], words: &mut Words) {
-    if let Some(port) = rest.first() {
-        set_port("*", port);
-    }
-    macro_rules! compare {
-        ($R:ident, $order:expr) => {{
-            let (one, other) = ($R::parse(one).unwrap(), $R::parse(other).unwrap());
-            let met = $order.cmp(&one, &other);
-            words.say(["less", "equal", "greater"][(met as i8 + 1) as usize]);
-            words.unless($order.is_equivalent(&one, &other) == met.is_eq(), "by equivalence");
-            let hash_of = |value| hash_by(|state| $order.hash(value, state));
-            words.unless((hash_of(&one) == hash_of(&other)) == met.is_eq(), "by hash");
-        }};
-    }
-    match ask {
-        "compare" => return of_kind!(kind, R => compare!(R, NormalOrder::new())),
-        "compare-under" => {
-            let order = NormalOrder::new().default_port_with(row_port);
-            return of_kind!(kind, R => compare!(R, order));
-        }
-        "compare-by-rules" => return of_kind!(kind, R => compare!(R, SchemeOrder::new())),
-        "swap-as-uris" => {
-            let (base, reference) = (Iri::parse(one).unwrap(), IriRef::parse(other).unwrap());
-            let (base, reference) = (base.to_uri(), reference.to_uri_ref());
-            return of_pair("swap", "uri", base.as_str(), reference.as_str(), rest, words);
-        }
-        _ => {}
-    }
-    of_base!(kind, B K => {
-        let base = B::parse(one).unwrap();
-        let resolver = Resolver::with_base(base);
-        if let Some(way) = ask.strip_prefix("relativize") {
-            let relativizer = Relativizer::with_base(base).prefer_relative_path(way == "-path");
-            let reference = relativizer.relativize(&B::parse(other).unwrap());
-            words.say(reference.as_str());
-            if way == "-back" {
-                words.unless(resolver.resolve(&reference).is_ok_and(|back| back == *other), "not back");
-                let back = BasicResolver::with_base(base).resolve(&reference);
-                words.unless(back.is_ok_and(|back| back == *other), "lost");
-            }
-            return;
-        }
-        let reference = K::parse(other).unwrap();
-        match ask {
-            "resolve" => {
-                words.result(resolver.resolve(&reference));
-                words.unless(
-                    reference.resolve_against(&base) == resolver.resolve(&reference),
-                    "otherwise",
-                );
-            }
-            "resolve-strict" => {
-                words.result(resolver.allow_path_underflow(false).resolve(&reference));
-            }
-            "resolve-normalized" => {
-                words.result(resolver.resolve(&reference).map(|target| target.normalize()));
-            }
-            "resolve-by-rules" => {
-                words.result(SchemeNormalizer::new().resolve_normalized(&base, &reference));
-            }
-            "resolve-basic" => words.result(BasicResolver::with_base(base).resolve(&reference)),
-            "resolve-both" => {
-                words.result(resolver.resolve(&reference));
-                let mut basic = Words::default();
-                basic.result(BasicResolver::with_base(base).resolve(&reference));
-                words.unless(basic == *words, "and another by the basic algorithm");
-            }
-            "swap" => {
-                words.say(resolver.resolve(&reference).unwrap().normalize().as_str());
-                let resolver = Resolver::with_base(base.normalize());
-                let target = resolver.resolve(&reference.normalize()).unwrap().normalize();
-                words.same("normal", target.as_str());
-            }
-            _ => panic!("no such operation: {ask}"),
-        }
-    });
-}
-
 mod encoded;
+mod pairs;
 
 /// What a row asks leads to, or `None` where this crate has no such call.
 fn answer(ask: &str, fields: &[String], words: &mut Words) -> Option<()> {
@@ -376,10 +345,12 @@ fn answer(ask: &str, fields: &[String], words: &mut Words) -> Option<()> {
             encoded::converted(ask, kind, text, words);
             Some(())
         }
-        (_, [kind, one, rest @ ..]) if matches!(kind.as_str(), "uri" | "uri-ref" | "iri" | "iri-ref") => {
+        (_, [kind, one, rest @ ..])
+            if matches!(kind.as_str(), "uri" | "uri-ref" | "iri" | "iri-ref") =>
+        {
             let is_pair = ["compare", "resolve", "swap", "relativize"];
             if is_pair.iter().any(|name| ask.starts_with(name)) {
-                of_pair(ask, kind, one, &rest[0], &rest[1..], words);
+                pairs::of_pair(ask, kind, one, &rest[0], &rest[1..], words);
                 return Some(());
             }
             of_value(ask, kind, one, rest, words)
