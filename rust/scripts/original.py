@@ -1,5 +1,6 @@
 """Compares the made crate with fluent-uri 0.4.1, of whose source and tests there is a folder."""
 import json
+import os
 import re
 import shutil
 import subprocess
@@ -16,8 +17,14 @@ ROUNDS = "500"
 FEATURES = ["--features", "std,net"]
 # Its last assertion decodes formatting characters of bidirectional text (docs/DIFFERENCES.md).
 DIFFERENT_TEST = "uri_to_iri"
-# Modules of this crate alone.
-FURTHER = ("basic", "fallible", "mend", "order", "query", "relativize", "rules")
+# What this crate alone has: modules, calls that return an error where memory is denied, texts that
+# are mended, and its errors as the original's.
+FURTHER = re.compile(
+    r"\w+ ::(basic|fallible|mend|order|query|relativize|rules)\b"
+    r"|fn \S+::try_\w+ "
+    r'|impl ::\w+ \{"trait": \{"args": null, "path": "Mend"\}'
+    r'|impl ::(build::Build|resolve::Resolve)Error \{.*"path": "From"\}'
+)
 TESTS_MANIFEST = """[package]
 name = "original-tests"
 version = "0.0.0"
@@ -25,6 +32,11 @@ edition = "2021"
 
 [dependencies]
 fluent-uri = { package = "fluent-uri-rattle", path = "../fluent-uri", features = ["std", "net"] }
+
+[features]
+default = ["net", "std"]
+net = []
+std = []
 
 [workspace]
 """
@@ -37,59 +49,63 @@ def copies(original, out):
         shutil.copytree(source, out / name, ignore=shutil.ignore_patterns("target", "Cargo.lock"))
 
 
-def documented_examples(original):
-    """The code blocks of the doc comments, each with what its fence says."""
-    for file in sorted((original / "src").rglob("*.rs")):
-        lines = re.findall(r"^\s*//[/!] ?(.*)$", file.read_text(), re.M)
-        yield from re.findall(r"^```(.*?)\n(.*?)^```$", "\n".join(lines), re.M | re.S)
+def documented_examples(document):
+    """The code blocks of the docs of public items, each with what its fence says."""
+    for _, item in sorted(document["index"].items(), key=lambda pair: int(pair[0])):
+        yield from re.findall(r"^```(.*?)\n(.*?)^```$", item["docs"] or "", re.M | re.S)
 
 
-def test_examples_and_tests(out, target):
-    """The original's tests and doc tests over the made crate."""
+def write_tests(out, document):
+    """Writes a crate with the original's doc tests and tests, over the made crate."""
     crate = out / "original-tests"
     shutil.rmtree(crate, ignore_errors=True)
     (crate / "src").mkdir(parents=True)
     (crate / "Cargo.toml").write_text(TESTS_MANIFEST)
-    examples = list(documented_examples(out / "original"))
+    examples = list(documented_examples(document))
     with open(crate / "src" / "lib.rs", "w") as library:
         for number, (fence, code) in enumerate(examples):
             lines = [f"```{fence}", *code.splitlines(), "```"]
             library.write("".join(f"/// {line}\n" for line in lines) + f"pub mod e{number} {{}}\n\n")
     shutil.copytree(out / "original" / "tests", crate / "tests")
+    return crate, len(examples)
+
+
+def test_its_tests(crate, count, target):
+    """The original's tests and doc tests, over the made crate."""
     words = ["cargo", "test", "--quiet", "--doc"]
     done = passed(run("original's doc tests", words, crate, CARGO_TARGET_DIR=target))
-    report("original's doc tests", f"{done} passed, of {len(examples)}")
+    report("original's doc tests", f"{done} passed, of {count}")
     words = ["cargo", "test", "--tests", "--no-fail-fast"]
-    done = subprocess.run(words, cwd=crate, capture_output=True, text=True)
+    environment = dict(os.environ, CARGO_TARGET_DIR=target, CARGO_NET_OFFLINE="true")
+    done = subprocess.run(words, cwd=crate, env=environment, capture_output=True, text=True)
     results = re.findall(r"^test (\S+)(?: - should panic)? \.\.\. (\w+)$", done.stdout, re.M)
     failed = [name for name, result in results if result == "FAILED"]
-    if not results or failed != [DIFFERENT_TEST]:
-        print(done.stdout + done.stderr)
+    if failed != [DIFFERENT_TEST]:
+        print(done.stdout[-4000:] + done.stderr[-4000:])
         sys.exit(f"rust: original's tests: failed: {', '.join(failed)}")
     ran = len(results) - len(failed)
     report("original's tests", f"{ran} passed, and {DIFFERENT_TEST} by its last line")
 
 
-def public_items(crate, name, target):
-    """The items that rustdoc's JSON has."""
+def described(crate, target):
+    """What rustdoc's JSON has of the crate."""
     words = ["cargo", "rustdoc", "--quiet", "--lib", *FEATURES, "--", "-Z", "unstable-options"]
     words += ["--output-format", "json"]
     run("public items", words, crate, RUSTC_BOOTSTRAP="1", CARGO_TARGET_DIR=target)
-    return items_of(json.loads(Path(target, "doc", f"{name}.json").read_text()))
+    return json.loads(Path(target, "doc", "fluent_uri.json").read_text())
 
 
-def test_public_items(out, target):
-    """Each public item, impl and auto trait of the original, and none more but in further modules."""
-    theirs = public_items(out / "original", "fluent_uri", f"{target}/of-original")
-    ours = public_items(out / "fluent-uri", "fluent_uri", f"{target}/of-rattle")
-    further = {item for item in ours - theirs if re.match(rf"\w+ ::({'|'.join(FURTHER)})\b", item)}
+def test_public_items(ours, theirs):
+    """Each public item, impl and auto trait of the original, and none more but FURTHER."""
+    ours, theirs = items_of(ours), items_of(theirs)
+    further = {item for item in ours - theirs if FURTHER.match(item)}
     missing, more = sorted(theirs - ours), sorted(ours - theirs - further)
     for item in missing:
         print(f"missing: {item[:300]}")
     for item in more:
         print(f"more: {item[:300]}")
     same = f"{len(theirs & ours)} of {len(theirs)} are the same"
-    report("public items", f"{same}; {len(further)} more in further modules")
+    report("public items", f"{same}; {len(further)} more of its own")
     if missing or more:
         sys.exit(1)
 
@@ -97,14 +113,13 @@ def test_public_items(out, target):
 def compare_with_original(original, out, texts):
     copies(original, out)
     target = str(out / "target" / "original")
-    test_examples_and_tests(out, target)
-    test_public_items(out, target)
+    theirs = described(out / "original", f"{target}/of-original")
+    test_public_items(described(out / "fluent-uri", f"{target}/of-rattle"), theirs)
+    test_its_tests(*write_tests(out, theirs), target)
     words = ["cargo", "build", "--quiet", "--release"]
     run("compare", words, out / "compare", CARGO_TARGET_DIR=target)
     program = Path(target, "release", "compare")
-    said = run("panics", [program, "panics"], out)
-    report("panics", said.strip())
-    said = run("texts", [program, "texts", URLS, texts, SEED], out)
-    report("texts", said.strip())
+    report("panics", run("panics", [program, "panics"], out).strip())
+    report("texts", run("texts", [program, "texts", URLS, texts, SEED], out).strip())
     for line in run("time", [program, "time", URLS, ROUNDS], out).splitlines():
         report("time", line)

@@ -74,7 +74,7 @@ class Items:
             self.add("enum", name, inner["generics"], [self.variant(it) for it in inner["variants"]])
             self.add_impls(name, inner["impls"])
         elif kind == "trait":
-            members = [(self.item(it)["name"], self.item(it)["inner"]) for it in inner["items"]]
+            members = [[self.item(it)["name"], self.item(it)["inner"]] for it in inner["items"]]
             self.add("trait", name, inner["generics"], inner["bounds"], members)
         elif kind == "type_alias":
             self.add("type", name, inner)
