@@ -34,7 +34,8 @@ edition = "2021"
 fluent-uri = { package = "fluent-uri-rattle", path = "../fluent-uri", features = ["std", "net"] }
 
 [features]
-default = ["net", "std"]
+default = ["alloc", "net", "std"]
+alloc = []
 net = []
 std = []
 
