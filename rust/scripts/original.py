@@ -8,7 +8,7 @@ import sys
 from pathlib import Path
 
 from scripts.crate_files import HERE, REPOSITORY
-from scripts.parts import passed, report, run
+from scripts.parts import LANES, passed, report, run
 from scripts.public_items import items_of
 
 URLS = REPOSITORY / "tools" / "bench" / "urls.txt"
@@ -111,16 +111,26 @@ def test_public_items(ours, theirs):
         sys.exit(1)
 
 
+def comparing_program(out, target, flags):
+    words = ["cargo", "build", "--quiet", "--release"]
+    run("compare", words, out / "compare", CARGO_TARGET_DIR=target, RUSTFLAGS=flags)
+    return Path(target, "release", "compare")
+
+
+def print_times(program, lanes, out):
+    for line in run("time", [program, "time", URLS, ROUNDS], out).splitlines():
+        report(f"time, {lanes}", line)
+
+
 def compare_with_original(original, out, texts):
     copies(original, out)
     target = str(out / "target" / "original")
     theirs = described(out / "original", f"{target}/of-original")
     test_public_items(described(out / "fluent-uri", f"{target}/of-rattle"), theirs)
     test_its_tests(*write_tests(out, theirs), target)
-    words = ["cargo", "build", "--quiet", "--release"]
-    run("compare", words, out / "compare", CARGO_TARGET_DIR=target)
-    program = Path(target, "release", "compare")
+    program = comparing_program(out, target, "")
     report("panics", run("panics", [program, "panics"], out).strip())
     report("texts", run("texts", [program, "texts", URLS, texts, SEED], out).strip())
-    for line in run("time", [program, "time", URLS, ROUNDS], out).splitlines():
-        report("time", line)
+    print_times(program, "default", out)
+    program = comparing_program(out, f"{target}/x86-64-v2", LANES["x86-64-v2"])
+    print_times(program, "x86-64-v2", out)

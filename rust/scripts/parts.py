@@ -3,6 +3,13 @@ import os
 import subprocess
 import sys
 
+# The paths of the lanes on x86-64, and what has rustc take them.
+LANES = {
+    "default": "",
+    "x86-64-v2": "-C target-cpu=x86-64-v2",
+    "portable": "--cfg fluent_uri_portable",
+}
+
 
 def report(name, result):
     print(f"rust: {name}: {result}", flush=True)
