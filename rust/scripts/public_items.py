@@ -3,9 +3,12 @@ import json
 
 
 def plain(value):
-    """The value without ids and without the crates of paths, which two crates have apart."""
+    """The value without ids and without the crates of paths, which two crates have apart.
+
+    `use<..>` goes too: edition 2024 needs it for what a returned type captures in edition 2021.
+    """
     if isinstance(value, list):
-        return [plain(item) for item in value]
+        return [plain(item) for item in value if not is_capture(item)]
     if not isinstance(value, dict):
         return value
     if "resolved_path" in value:
@@ -15,6 +18,10 @@ def plain(value):
         bound = value["trait"]
         value = {**value, "trait": {"path": last_word(bound), "args": plain(bound.get("args"))}}
     return {key: plain(item) for key, item in value.items() if key not in ("id", "span")}
+
+
+def is_capture(bound):
+    return isinstance(bound, dict) and list(bound) == ["use"] and isinstance(bound["use"], list)
 
 
 def last_word(path):

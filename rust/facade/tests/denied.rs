@@ -38,16 +38,16 @@ unsafe impl GlobalAlloc for Denying {
     unsafe fn alloc(&self, layout: Layout) -> *mut u8 {
         match GRANTED.get() {
             0 => ptr::null_mut(),
-            usize::MAX => System.alloc(layout),
+            usize::MAX => unsafe { System.alloc(layout) },
             left => {
                 GRANTED.set(left - 1);
-                System.alloc(layout)
+                unsafe { System.alloc(layout) }
             }
         }
     }
 
     unsafe fn dealloc(&self, memory: *mut u8, layout: Layout) {
-        System.dealloc(memory, layout);
+        unsafe { System.dealloc(memory, layout) };
     }
 }
 

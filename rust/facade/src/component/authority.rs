@@ -207,7 +207,10 @@ impl<'a, UserinfoE: Encoder, RegNameE: Encoder> Authority<'a, UserinfoE, RegName
     /// # Ok::<_, Box<dyn std::error::Error>>(())
     /// ```
     #[cfg(all(feature = "net", feature = "std"))]
-    pub fn socket_addrs(&self, default_port: u16) -> io::Result<impl Iterator<Item = SocketAddr>> {
+    pub fn socket_addrs(
+        &self,
+        default_port: u16,
+    ) -> io::Result<impl Iterator<Item = SocketAddr> + use<UserinfoE, RegNameE>> {
         let target = match self.inner().socket_target(Global, default_port) {
             Ok(target) => target,
             Err(error) => {
