@@ -32,6 +32,7 @@ def without_registry(manifest, has_serde):
             sys.exit(f"make: Cargo.toml has {count} lines for {name}")
     if not has_serde:
         manifest = re.sub(r"^serde = .*\n", "", manifest, flags=re.M)
+        manifest = re.sub(r'(, )?"serde\?/\w+"', "", manifest)
     return manifest + "\n[workspace]\n"
 
 
