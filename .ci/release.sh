@@ -285,7 +285,7 @@ must 'what is proved from nothing' "$(echo "$of_release" | tr ' ' '\n')" "$(cat 
 kept=$work/another/out/release.work/kept
 must 'where the checks of a release keep their work' "$kept $kept/work" "$(sort -u "$work/stores")"
 must 'the line of a second build' \
-    "release: $tree/out/release is $version, byte for byte: 17 files" "$(tail -n 1 "$work/out")"
+    "release: $tree/out/release is $version, byte for byte: 18 files" "$(tail -n 1 "$work/out")"
 cp "$tree/LICENSE" "$tree/out/release/fluent-uri-$version.spdx.json"
 tools/release --verify "$tree/out/release" > "$work/out" 2> "$work/err"
 must 'the status of a release with another file' 1 $?
