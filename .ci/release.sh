@@ -7,7 +7,7 @@ must 'the exports are those of the symbols file' '' "$("$root/debian/write-symbo
 . "$root/.ci/release_tree.sh"
 
 for it in git dpkg-buildpackage dh dh_python3 lintian aarch64-linux-gnu-gcc aarch64-linux-gnu-g++ \
-    qemu-aarch64 node wasm2wat; do
+    qemu-aarch64 cargo node wasm2wat; do
     has "$it" packages || ends
 done
 dpkg-checkbuilddeps > "$work/out" 2>&1 || {
@@ -34,6 +34,9 @@ must 'an export of the sources that is gone' \
     "$(debian/write-symbols | head -n 1)"
 sed -i 's/extern "C" fn other(/extern "C" fn fluent_uri_parse(/' crates/fluent_uri_c/src/*.rt
 
+# Where cargo is rustup's, it looks for compilers in the home.
+RUSTUP_HOME=${RUSTUP_HOME:-$HOME/.rustup}
+export RUSTUP_HOME
 GIT_CONFIG_NOSYSTEM=1 GIT_AUTHOR_DATE='2026-01-02 00:00:00 +0000' HOME=$work
 GIT_COMMITTER_DATE=$GIT_AUTHOR_DATE
 export GIT_CONFIG_NOSYSTEM GIT_AUTHOR_DATE GIT_COMMITTER_DATE HOME
@@ -160,6 +163,7 @@ fluent-uri-$version-source.tar.gz
 fluent-uri-$version.proved.txt
 fluent-uri-$version.spdx.json
 fluent-uri-$version.tgz
+fluent-uri-rattle-0.4.1.crate
 fluent-uri-tools_${version}_amd64.deb
 fluent_uri-$version-py3-none-PLATFORM.whl
 fluent_uri-$version.tar.gz
@@ -281,7 +285,7 @@ must 'what is proved from nothing' "$(echo "$of_release" | tr ' ' '\n')" "$(cat 
 kept=$work/another/out/release.work/kept
 must 'where the checks of a release keep their work' "$kept $kept/work" "$(sort -u "$work/stores")"
 must 'the line of a second build' \
-    "release: $tree/out/release is $version, byte for byte: 17 files" "$(tail -n 1 "$work/out")"
+    "release: $tree/out/release is $version, byte for byte: 18 files" "$(tail -n 1 "$work/out")"
 cp "$tree/LICENSE" "$tree/out/release/fluent-uri-$version.spdx.json"
 tools/release --verify "$tree/out/release" > "$work/out" 2> "$work/err"
 must 'the status of a release with another file' 1 $?

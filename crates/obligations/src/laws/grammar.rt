@@ -1,12 +1,15 @@
 //! The texts of the kinds, in the words of the RFCs (RFC 3986, section 3; RFC 3987, section 2.2).
-ghost use Rattle.std.specs.Prelude.{◌≡◌, IfOk, []};
+ghost use Rattle.std.specs.Prelude.{◌≡◌, ◌↔◌, IfOk, IsOk, []};
 ghost use Rattle.fluent_uri.specs.ComponentSets.{IsWithin};
 ghost use Rattle.fluent_uri.specs.Grammar.{IsTextOf, Kind, iri, iri_ref};
 ghost use Rattle.fluent_uri.specs.GrammarInWords.{IsInGrammar};
+ghost use Rattle.uri_abnf.specs.Abnf.{IsOf};
+ghost use Rattle.uri_abnf.specs.Derivations.{start_rule};
+ghost use Rattle.uri_abnf.specs.Rfc3986.{URI};
 
 use fluent_uri::component::Authority;
 use fluent_uri::pct_enc::encoder::{RegName, Userinfo};
-use fluent_uri::{Iri, ParseError, laws};
+use fluent_uri::{Iri, ParseError, Reference, Uri, kind, laws};
 
 /// A caller proves that a text follows the grammar in the words of the RFC if it is parsed as an
 /// IRI.
@@ -19,6 +22,33 @@ pub fn follows_grammar(text: &str) -> Result<&str, ParseError>
 {
     laws::kinds_match_the_rfc_grammars();
     Ok(Iri::<&str>::parse(text)?.as_str())
+}
+
+/// A caller proves that `parse` accepts exactly the texts of the rule that the RFCs print for its
+/// kind.
+///
+/// # Errors
+///
+/// Those of `Reference::parse`.
+pub fn parsed_by_printed_rule<K: kind::Kind>(
+    text: &str,
+) -> Result<Reference<K, &str>, ParseError>
+    ensures { IsOk result ↔ IsOf (start_rule K.kind) text.now }
+{
+    uri_abnf::of_the_printed_grammar::<K>();
+    Reference::<K, &str>::parse(text)
+}
+
+/// A caller proves that a URI that is parsed is of the rule `URI`, of RFC 3986, appendix A.
+///
+/// # Errors
+///
+/// Those of `Uri::parse`.
+pub fn of_the_rule_uri(text: &str) -> Result<&str, ParseError>
+    ensures { IfOk result (λ same. IsOf URI same.now) }
+{
+    uri_abnf::of_the_printed_grammar::<kind::UriKind>();
+    Ok(Uri::<&str>::parse(text)?.as_str())
 }
 
 /// A caller proves that a text of any kind whose texts are IRI references is an IRI reference.

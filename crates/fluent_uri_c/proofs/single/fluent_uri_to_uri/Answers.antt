@@ -1,7 +1,14 @@
+use Rattle.std.proofs.Common.{rules}
 use Rattle.fluent_uri_c.specs.Results.{to_uri_result}
 use Rattle.fluent_uri_c.proofs.single.fluent_uri_to_uri.Goals as goal
 
-pub returns : goal.returns
-returns c =
+pub returns-clause-text : goal.returns-clause-text
+returns-clause-text c =
     c.put_value_or_report.ensures _ (to_uri_result c.args.kind c.args.text.now)
     c.as_uri.ensures
+
+pub returns-clause-length : goal.returns-clause-length
+returns-clause-length c =
+    let left = c.put_value_or_report.ensures _ (to_uri_result c.args.kind c.args.text.now)
+    c.as_uri.ensures in
+    search (rules, left)

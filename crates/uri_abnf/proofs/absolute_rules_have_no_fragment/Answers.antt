@@ -1,0 +1,16 @@
+use Rattle.std.proofs.Common.{true, refl}
+use Rattle.uri_parts.specs.Grammar.{uri, iri}
+use Rattle.uri_ops.proofs.TextKinds.GrammarTexts.{uris-are-texts-of-grammar}
+use Rattle.uri_ops.proofs.TextKinds.GrammarTexts.{iris-are-texts-of-grammar}
+use Rattle.uri_abnf.specs.Derivations.{uri_rules, iri_rules}
+use Rattle.uri_abnf.proofs.BothRfcs.{uri-rules-fit, iri-rules-fit}
+use Rattle.uri_abnf.proofs.Languages.{absolute-texts}
+use Rattle.uri_abnf.proofs.absolute_rules_have_no_fragment.Goals as goal
+
+pub returns-clause-uri : goal.returns-clause-uri
+returns-clause-uri c = absolute-texts uri_rules uri
+    (uri-rules-fit true) uris-are-texts-of-grammar refl
+
+pub returns-clause-iri : goal.returns-clause-iri
+returns-clause-iri c = absolute-texts iri_rules iri
+    (iri-rules-fit true) iris-are-texts-of-grammar refl

@@ -1,0 +1,15 @@
+use Rattle.std.proofs.Common.{List, ℕ, sym, subst}
+use Rattle.std.specs.Prelude.{◌↔◌}
+use Rattle.std.specs.Str.{IsUtf8}
+use Rattle.uri_parts.specs.Grammar.{Kind, IsOfKind}
+use Rattle.uri_abnf.specs.Abnf.{IsOf}
+use Rattle.uri_abnf.specs.Derivations.{start_rule}
+use Rattle.uri_abnf.proofs.Languages.{texts-of-kind-are-of-rule}
+use Rattle.uri_abnf.proofs.of_the_printed_grammar.Goals as goal
+
+pub returns : goal.returns
+returns g c =
+    let kind = g.K.Kind.kind in
+    subst (λ (k : Kind). (text : List ℕ) → IsUtf8 text
+    → (IsOfKind k text ↔ IsOf (start_rule k) text))
+    (sym g.met.K.Kind.known) (texts-of-kind-are-of-rule kind.path.ucschar kind.needs_scheme)
