@@ -27,8 +27,8 @@ const octets = (value, Class) =>
   (value.includes('%') ? Class.parse(`?${value}`).normalize().query : value);
 
 // A host in its normal form. An address of IPv6 has no brackets.
-function hostOf(host) {
-  const normal = attempt(() => IriRef.parse(`//${host}`).normalize().host) ?? host;
+function hostOf(host, Class) {
+  const normal = attempt(() => Class.parse(`//${host}`).normalize().host) ?? host;
   return /^\[[0-9a-f:.]*\]$/i.test(normal) ? normal.slice(1, -1) : normal;
 }
 
@@ -48,8 +48,9 @@ function componentsOf(text, options) {
     const error = 'URI can not be parsed.';
     return { scheme, userinfo: undefined, host, port: undefined, path, query, fragment, error };
   }
-  const orNone = (value, change) => (value === null ? undefined : change(value));
-  const inOctets = (value) => orNone(value, (it) => octets(it, options.iri ? IriRef : UriRef));
+  const Class = options.iri ? IriRef : UriRef;
+  const orNone = (value, change) => (value === null ? undefined : change(value, Class));
+  const inOctets = (value) => orNone(value, octets);
   return {
     scheme: orNone(it.scheme, (scheme) => scheme.toLowerCase()),
     userinfo: inOctets(it.userinfo),
