@@ -67,7 +67,9 @@ export function parse(text, options = {}) {
   if (options.reference === 'suffix')
     given = `${options.scheme ? `${options.scheme}:` : ''}//${given}`;
   const handler = handlerOf(/^[^:/?#]+(?=:)/.exec(given)?.[0], options);
-  const made = componentsOf(given, withHandler(options, handler));
+  // Characters past ASCII stay where both options, or one and the scheme, say so.
+  const iri = options.iri && (options.unicodeSupport || handler?.unicodeSupport);
+  const made = componentsOf(given, { ...withHandler(options, handler), iri });
   made.reference = kindOf(made);
   if (options.reference && options.reference !== 'suffix' && options.reference !== made.reference)
     made.error ??= `URI is not a ${options.reference} reference.`;
@@ -172,7 +174,8 @@ function targetOf(base, reference) {
 export function resolveComponents(base, reference, options = {}, skipNormalization = false) {
   const normal = (it) => (skipNormalization ? it : parse(serialize(it, options), options));
   const from = normal(base), given = { ...normal(reference) };
-  if (options.tolerant && given.scheme === from.scheme) given.scheme = undefined;
+  // uri-js is tolerant of each scheme, and not of the base's alone (RFC 3986, section 5.2.2).
+  if (options.tolerant) given.scheme = undefined;
   return targetOf(from, given);
 }
 
