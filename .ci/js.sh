@@ -118,9 +118,9 @@ programs() {
             cmp "$work/printed" "$work/project/programs.$it.wanted"
         echo "js: programs: the $(wc -l < "$work/printed") lines of js/README.md, $it"
     done
-    has_browser 'the programs of js/README.md in a page' || return 0
-    tells 'the programs of js/README.md in a page' "$debian_python" "$root/js/test/browser.py" \
-        "$root/js/README.md" "$work/project"
+    has_browser 'the package in a page without a bundler' || return 0
+    tells 'the package in a page without a bundler' "$debian_python" \
+        "$root/js/test/unbundled.py" "$work/project/node_modules/fluent-uri"
 }
 
 api() {
@@ -156,6 +156,7 @@ ajv() {
     NODE_PATH=$modules
     export NODE_PATH
     tells 'Ajv over the suite of JSON Schema' node "$work/project/test/ajv.cjs" "$suite"
+    tells 'references beside uri-js' node "$work/project/test/uri-js.cjs"
 }
 
 page() {
