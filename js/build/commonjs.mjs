@@ -7,6 +7,8 @@ const ENTRIES = /^(node|browser)/;
 
 /** Turns the imports and exports of a module into `require` and `module.exports`. */
 export function commonJs(text) {
+  const several = /^export const \w+ = [^\n(]*, \w+ = .*$/m.exec(text);
+  if (several) throw new Error(`more than one name: ${several[0]}`);
   const names = [];
   const required = (file) => `require('${file.replace('.mjs', '.cjs')}')`;
   const made = text
@@ -36,4 +38,4 @@ function main() {
   }
 }
 
-if (import.meta.url === pathToFileURL(process.argv[1]).href) main();
+if (import.meta.url === pathToFileURL(process.argv[1] ?? '').href) main();

@@ -7,7 +7,8 @@ const CODES = [
   'PATH_STARTS_WITH_DOUBLE_SLASH', 'FIRST_PATH_SEGMENT_CONTAINS_COLON', 'MISSING_COMPONENT',
   'NAME_NOT_UTF8', 'INVALID_NAME',
 ];
-export const NOT_UTF8 = 4, OUT_OF_MEMORY = 8;
+export const NOT_UTF8 = 4;
+export const OUT_OF_MEMORY = 8;
 const LAST_WITH_INDEX = NOT_UTF8, FIRST_OF_HOSTS = 15;
 
 /** Why a call has no result. The other errors are `TypeError` and `RangeError`. */

@@ -27,8 +27,8 @@ const octets = (value, Class) =>
   (value.includes('%') ? Class.parse(`?${value}`).normalize().query : value);
 
 // A host in its normal form. An address of IPv6 has no brackets.
-function hostOf(host) {
-  const normal = attempt(() => IriRef.parse(`//${host}`).normalize().host) ?? host;
+function hostOf(host, Class) {
+  const normal = attempt(() => Class.parse(`//${host}`).normalize().host) ?? host;
   return /^\[[0-9a-f:.]*\]$/i.test(normal) ? normal.slice(1, -1) : normal;
 }
 
@@ -48,8 +48,9 @@ function componentsOf(text, options) {
     const error = 'URI can not be parsed.';
     return { scheme, userinfo: undefined, host, port: undefined, path, query, fragment, error };
   }
-  const orNone = (value, change) => (value === null ? undefined : change(value));
-  const inOctets = (value) => orNone(value, (it) => octets(it, options.iri ? IriRef : UriRef));
+  const Class = options.iri ? IriRef : UriRef;
+  const orNone = (value, change) => (value === null ? undefined : change(value, Class));
+  const inOctets = (value) => orNone(value, octets);
   return {
     scheme: orNone(it.scheme, (scheme) => scheme.toLowerCase()),
     userinfo: inOctets(it.userinfo),
@@ -66,7 +67,9 @@ export function parse(text, options = {}) {
   if (options.reference === 'suffix')
     given = `${options.scheme ? `${options.scheme}:` : ''}//${given}`;
   const handler = handlerOf(/^[^:/?#]+(?=:)/.exec(given)?.[0], options);
-  const made = componentsOf(given, withHandler(options, handler));
+  // Characters past ASCII stay where both options, or one and the scheme, say so.
+  const iri = options.iri && (options.unicodeSupport || handler?.unicodeSupport);
+  const made = componentsOf(given, { ...withHandler(options, handler), iri });
   made.reference = kindOf(made);
   if (options.reference && options.reference !== 'suffix' && options.reference !== made.reference)
     made.error ??= `URI is not a ${options.reference} reference.`;
@@ -171,7 +174,8 @@ function targetOf(base, reference) {
 export function resolveComponents(base, reference, options = {}, skipNormalization = false) {
   const normal = (it) => (skipNormalization ? it : parse(serialize(it, options), options));
   const from = normal(base), given = { ...normal(reference) };
-  if (options.tolerant && given.scheme === from.scheme) given.scheme = undefined;
+  // uri-js is tolerant of each scheme, and not of the base's alone (RFC 3986, section 5.2.2).
+  if (options.tolerant) given.scheme = undefined;
   return targetOf(from, given);
 }
 

@@ -225,6 +225,11 @@ function longTexts() {
   assert.equal(String(kept.normalize()), 'http://h/~');
   assert.equal(String(kept.toUri()).length, 1800016);
   assert.equal(kept.compare(long), 0);
+  const tooLong = 'x:'.padEnd(2 ** 28, 'a');
+  for (const make of [() => Uri.parse(tooLong), () => Uri.canParse(tooLong),
+    () => Uri.parse('x:').resolve(tooLong), () => encode(tooLong, 'path')])
+    fails(make, UriError, 'OUT_OF_MEMORY');
+  assert.equal(Uri.parse('x:a').path, 'a');
   const uri = Uri.parse('http://example.com/');
   const many = Array.from({ length: 20000 }, (_, n) => `HTTP://h${n}/a/../${n}`);
   const values = many.map((it) => Uri.parse(it).normalize());
