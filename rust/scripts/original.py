@@ -130,6 +130,7 @@ def compare_with_original(original, out, texts):
     test_its_tests(*write_tests(out, theirs), target)
     program = comparing_program(out, target, "")
     report("panics", run("panics", [program, "panics"], out).strip())
+    report("values", run("values", [program, "values"], out).strip())
     report("texts", run("texts", [program, "texts", URLS, texts, SEED], out).strip())
     print_times(program, "default", out)
     program = comparing_program(out, f"{target}/x86-64-v2", LANES["x86-64-v2"])

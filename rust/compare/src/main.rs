@@ -3,6 +3,7 @@
 //! ```text
 //! compare texts FILE COUNT SEED      what both say of each line of FILE and of COUNT mutations
 //! compare panics                     what calls that may panic say
+//! compare values                     what default values, tables and formats are
 //! compare time FILE ROUNDS           nanoseconds a call, the least of ROUNDS rounds, in turns
 //! compare count FILE CRATE CALL N    for callgrind: CALL of CRATE on each line, N times
 //! ```
@@ -12,11 +13,19 @@ mod texts;
 mod of_original {
     use original as crate_of;
     include!("report.rs");
+    pub mod values {
+        use original as crate_of;
+        include!("values.rs");
+    }
 }
 
 mod of_rattle {
     use rattle as crate_of;
     include!("report.rs");
+    pub mod values {
+        use rattle as crate_of;
+        include!("values.rs");
+    }
 }
 
 use std::process::ExitCode;
@@ -107,6 +116,18 @@ fn compare_panics() -> bool {
     ours == theirs
 }
 
+fn compare_values() -> bool {
+    std::panic::set_hook(Box::new(|_| ()));
+    let (ours, theirs) = (of_rattle::values::values(), of_original::values::values());
+    let mut different = 0;
+    for (ours, theirs) in ours.iter().zip(&theirs).filter(|(ours, theirs)| ours != theirs) {
+        different += 1;
+        println!("original {theirs}\nrattle   {ours}");
+    }
+    println!("{} lines of values: {different} different", theirs.len());
+    ours == theirs
+}
+
 fn lines_of(path: &str) -> Vec<String> {
     let text = std::fs::read_to_string(path).expect("the file of texts");
     text.lines().map(String::from).collect()
@@ -121,6 +142,7 @@ fn main() -> ExitCode {
             compare_texts(lines_of(file), number(count), number(seed) as u64)
         }
         ["panics"] => compare_panics(),
+        ["values"] => compare_values(),
         ["time", file, rounds] => {
             speed::time(&lines_of(file), number(rounds));
             true
@@ -129,7 +151,7 @@ fn main() -> ExitCode {
             speed::repeat(&lines_of(file), name, call, number(times));
             true
         }
-        _ => panic!("texts FILE COUNT SEED, panics, time FILE ROUNDS or count FILE CRATE CALL N"),
+        _ => panic!("texts FILE COUNT SEED, panics, values, time FILE ROUNDS or count FILE CRATE CALL N"),
     };
     ExitCode::from(u8::from(!is_same))
 }
