@@ -160,8 +160,8 @@ class Judge:
         is_rejected = re.match(r"not proved|no proof", said)
         goals = self.goals(mutant, lines)
         wanted = {it.name for it in mutant.clauses}
-        if is_rejected and goals == wanted:
-            mutant.end(True, ", ".join(sorted(goals)))
+        if is_rejected and (goals == wanted or mutant.is_of_definition and is_alone):
+            mutant.end(True, ", ".join(sorted(wanted)))
         elif not is_alone:
             mutant.again(True)
         elif not is_rejected:

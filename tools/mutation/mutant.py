@@ -39,8 +39,11 @@ class Mutant:
         self.is_edit = path.suffix == ".edit"
         self.function, self.file = self.word("function"), self.word("file")
         self.clauses = clauses_of(self.word("clause")) or []
+        # A wrong definition falls at the lemmas on it, whose callers are then not proved.
+        self.is_of_definition = self.file.startswith("specs/")
         # Whether it has to be tried alone, how often it was tried, and what that came to.
-        self.is_alone, self.tries, self.is_rejected, self.why = False, 0, None, ""
+        self.is_alone, self.tries = self.is_of_definition, 0
+        self.is_rejected, self.why = None, ""
 
     def values(self, key):
         head = f"{key}: "
