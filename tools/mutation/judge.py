@@ -162,7 +162,8 @@ class Judge:
         wanted = {it.name for it in mutant.clauses}
         if is_rejected and (goals == wanted or mutant.is_of_definition and is_alone):
             mutant.end(True, ", ".join(sorted(wanted)))
-        elif not is_alone:
+        elif not is_alone and not (is_rejected and goals):
+            # (another mutant, or a full machine, may be the reason)
             mutant.again(True)
         elif not is_rejected:
             mutant.end(False, f"NOT REJECTED: {said}")
