@@ -30,9 +30,7 @@ pub fn follows_grammar(text: &str) -> Result<&str, ParseError>
 /// # Errors
 ///
 /// Those of `Reference::parse`.
-pub fn parsed_by_printed_rule<K: kind::Kind>(
-    text: &str,
-) -> Result<Reference<K, &str>, ParseError>
+pub fn parsed_by_printed_rule<K: kind::Kind>(text: &str) -> Result<Reference<K, &str>, ParseError>
     ensures { IsOk result ↔ IsOf (start_rule K.kind) text.now }
 {
     uri_abnf::of_the_printed_grammar::<K>();
