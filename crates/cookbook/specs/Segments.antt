@@ -1,6 +1,5 @@
 -- The path of segments: RFC 3986, section 3.3.
-use Rattle.std.specs.Prelude.{ℕ, Bool, ◌||◌, bytes_eq, List, [], ◌∷◌, ◌++◌, codes, String}
-use Rattle.std.specs.Prelude.{string_bytes}
+use Rattle.std.specs.Prelude.{ℕ, Bool, ◌||◌, bytes_eq, List, [], ◌∷◌, ◌++◌, codes, String, string_bytes}
 use Rattle.fluent_uri.specs.Encoding.{encode_text}
 use Rattle.fluent_uri.specs.Sets.{data_set}
 use Rattle.fluent_uri.specs.Tokens.{print}

@@ -1,12 +1,8 @@
 -- The outcomes of errors in an authority.
-use Rattle.std.proofs.Common.{[], ◌≡◌, ℕ, suc, ◌+◌, ◌-◌, ◌<◌, ◌≤◌, Bool, true, false, cond, eqb, ap}
-use Rattle.std.proofs.Common.{List, ◌∷◌, ◌++◌, take, drop, Some, refl, sym, subst, ◌∙◌, arith, ◌&&◌}
-use Rattle.std.proofs.Common.{⊎_elim, length-drop}
+use Rattle.std.proofs.Common.{[], ◌≡◌, ℕ, suc, ◌+◌, ◌-◌, ◌<◌, ◌≤◌, Bool, true, false, cond, eqb, ap, List, ◌∷◌, ◌++◌, take, drop, Some, refl, sym, subst, ◌∙◌, arith, ◌&&◌, ⊎_elim, length-drop}
 use Rattle.std.specs.Prelude.{codes, nat_lt}
 use Rattle.std.specs.Str.{IsUtf8}
-use Rattle.std.proofs.lemmas.Bool.{cases_Bool, cases_lt, cond-true, cond-false, and_left, and_right}
-use Rattle.std.proofs.lemmas.Bool.{and_from, eqb-true, eq-eqb, ltb-true, ltb-false, lt-ltb, le-ltb}
-use Rattle.std.proofs.lemmas.Bool.{not_from_true, both_ways, and_parts}
+use Rattle.std.proofs.lemmas.Bool.{cases_Bool, cases_lt, cond-true, cond-false, and_left, and_right, and_from, eqb-true, eq-eqb, ltb-true, ltb-false, lt-ltb, le-ltb, not_from_true, both_ways, and_parts}
 use Rattle.std.proofs.lemmas.Bool.Decides.{nat_tests}
 use Rattle.std.proofs.lemmas.List.{drop-drop}
 use Rattle.std.proofs.lemmas.Option.{same_Some}
@@ -17,15 +13,11 @@ use Rattle.uri_parts.specs.declared.error.ParseError.{ParseError}
 use Rattle.uri_parts.specs.Components.{starts}
 use Rattle.uri_parts.specs.Errors.{unexpected}
 use Rattle.uri_parts.specs.Grammar.{Kind, first_segment_set}
-use Rattle.uri_parts.specs.Refusals.{OptionalParseError, ◌>>=◌, last_colon, error_from_abempty_path}
-use Rattle.uri_parts.specs.Refusals.{error_from_host, error_from_name, error_from_authority}
+use Rattle.uri_parts.specs.Refusals.{OptionalParseError, ◌>>=◌, last_colon, error_from_abempty_path, error_from_host, error_from_name, error_from_authority}
 use Rattle.uri_parts.specs.Scanning.{is_next, scan_end}
-use Rattle.uri_parts.proofs.Refusals.Names.{text-begins-with-one-byte-alone}
-use Rattle.uri_parts.proofs.Refusals.Names.{userinfo-stops-with-name-without-colon}
-use Rattle.uri_parts.proofs.Refusals.Rooted.{scan-stops-at-stray-percent-or-goes-on}
-use Rattle.uri_parts.proofs.Refusals.Rooted.{nothing-is-scanned-at-mark}
-use Rattle.uri_parts.proofs.Splitting.Cuts.{empty-or-marked-for-more-marks, begins-with-mark}
-use Rattle.uri_parts.proofs.Splitting.Cuts.{begins-with-no-other}
+use Rattle.uri_parts.proofs.Refusals.Names.{text-begins-with-one-byte-alone, userinfo-stops-with-name-without-colon}
+use Rattle.uri_parts.proofs.Refusals.Rooted.{scan-stops-at-stray-percent-or-goes-on, nothing-is-scanned-at-mark}
+use Rattle.uri_parts.proofs.Splitting.Cuts.{empty-or-marked-for-more-marks, begins-with-mark, begins-with-no-other}
 use Rattle.uri_parts.proofs.Refusals.Sound.{text-at-mark-is-mark-and-rest}
 use Rattle.uri_parts.proofs.TextKinds.GrammarTexts.{utf8_around_ascii_byte}
 use Rattle.error_laws.proofs.Marks.{literal-is-utf8, At}
@@ -34,15 +26,8 @@ use Rattle.error_laws.proofs.HostOutcomes.{host-outcome, scan-stops-at-its-end}
 use Rattle.error_laws.proofs.KindFacts.{Facts, path-stops-with-userinfo}
 use Rattle.error_laws.proofs.Outcomes.{Any, Outcome, carry, stop, shared-mark-is-at}
 use Rattle.error_laws.proofs.PathOutcomes.{abempty-path-outcome, end-has-no-host-error}
-use Rattle.error_laws.proofs.SharedPrefixes.{IsPosition, position-after-mark, position-at-mark}
-use Rattle.error_laws.proofs.SharedPrefixes.{scan-ends-at-position, scanned-part-is-valid, Alike}
-use Rattle.error_laws.proofs.SharedPrefixes.{scan-goes-on, next-is-shared, scan-is-shared}
-use Rattle.error_laws.proofs.SharedPrefixes.{scan-goes-on-alike, valid-part-is-scanned}
-use Rattle.error_laws.proofs.SharedPrefixes.{taken-in-two-steps}
-use Rattle.error_laws.proofs.UserinfoEnds.{last-colon-is-colon, last-colon-is-before-position}
-use Rattle.error_laws.proofs.UserinfoEnds.{last-colon-is-shared, colon-adds-to-userinfo}
-use Rattle.error_laws.proofs.UserinfoEnds.{userinfo-goes-on-after-name, userinfo-goes-on-after-port}
-use Rattle.error_laws.proofs.UserinfoEnds.{empty-authority-is-passed}
+use Rattle.error_laws.proofs.SharedPrefixes.{IsPosition, position-after-mark, position-at-mark, scan-ends-at-position, scanned-part-is-valid, Alike, scan-goes-on, next-is-shared, scan-is-shared, scan-goes-on-alike, valid-part-is-scanned, taken-in-two-steps}
+use Rattle.error_laws.proofs.UserinfoEnds.{last-colon-is-colon, last-colon-is-before-position, last-colon-is-shared, colon-adds-to-userinfo, userinfo-goes-on-after-name, userinfo-goes-on-after-port, empty-authority-is-passed}
 
 module _ (kind : Kind) (f : Facts kind) (text : List ℕ) (u : IsUtf8 text) (i : ℕ)
     (a : IsPosition text i) where

@@ -1,14 +1,9 @@
 -- The outcomes of errors in a host and what follows it.
-use Rattle.std.proofs.Common.{◌≡◌, ℕ, ◌+◌, ◌<◌, ◌≤◌, Bool, true, false, eqb, List, [], ◌++◌, length}
-use Rattle.std.proofs.Common.{take, drop, Option, Some, None, refl, sym, ap, subst, ◌∙◌, arith, ◌⊎◌}
-use Rattle.std.proofs.Common.{◌&&◌, ◌||◌, ⊎_elim, inl, inr, length-append, take_all, length-take-le}
-use Rattle.std.proofs.Common.{drop_at, take-append-drop}
+use Rattle.std.proofs.Common.{◌≡◌, ℕ, ◌+◌, ◌<◌, ◌≤◌, Bool, true, false, eqb, List, [], ◌++◌, length, take, drop, Option, Some, None, refl, sym, ap, subst, ◌∙◌, arith, ◌⊎◌, ◌&&◌, ◌||◌, ⊎_elim, inl, inr, length-append, take_all, length-take-le, drop_at, take-append-drop}
 use Rattle.std.specs.Prelude.{codes, Ok, Err, is_ok}
 use Rattle.std.specs.Option.{option_map_or}
 use Rattle.std.specs.Str.{IsUtf8}
-use Rattle.std.proofs.lemmas.Bool.{cases_Bool, cond-true, cond-false, and_parts, and_left, or_left}
-use Rattle.std.proofs.lemmas.Bool.{both_ways, false≢true, ltb-true, le-ltb, eq-eqb, not-true}
-use Rattle.std.proofs.lemmas.Bool.{not_from_false}
+use Rattle.std.proofs.lemmas.Bool.{cases_Bool, cond-true, cond-false, and_parts, and_left, or_left, both_ways, false≢true, ltb-true, le-ltb, eq-eqb, not-true, not_from_false}
 use Rattle.std.proofs.lemmas.Bool.Decides.{nat_tests}
 use Rattle.std.proofs.lemmas.List.{drop-drop, drop_all}
 use Rattle.std.proofs.lemmas.Option.{none-some, same_Some}
@@ -24,27 +19,19 @@ use Rattle.uri_parts.specs.LiteralErrors.{literal, ipv6_end, cannot_begin_ipv6, 
 use Rattle.uri_parts.specs.Refusals.{OptionalParseError, ◌>>=◌, error_from_port, error_from_host}
 use Rattle.uri_parts.specs.Scanning.{ScanResult, is_next, is_at_end, scan_end}
 use Rattle.uri_parts.proofs.Refusals.Complete.{cannot_begin_ipv6-has-no-end}
-use Rattle.uri_parts.proofs.Refusals.Names.{text-begins-with-one-byte-alone}
-use Rattle.uri_parts.proofs.Refusals.Names.{userinfo-stops-with-name-without-colon}
-use Rattle.uri_parts.proofs.Refusals.Rooted.{stray-percent-stops-every-set}
-use Rattle.uri_parts.proofs.Refusals.Rooted.{scan-stops-at-stray-percent-or-goes-on}
+use Rattle.uri_parts.proofs.Refusals.Names.{text-begins-with-one-byte-alone, userinfo-stops-with-name-without-colon}
+use Rattle.uri_parts.proofs.Refusals.Rooted.{stray-percent-stops-every-set, scan-stops-at-stray-percent-or-goes-on}
 use Rattle.uri_parts.proofs.Splitting.Cuts.{IsEmptyOrMarked, empty-or-marked-for-more-marks}
 use Rattle.error_laws.proofs.Marks.{literal-is-utf8, At}
-use Rattle.error_laws.specs.ViablePrefixes.{holds_at_end, is_ipv6_end_uncounted, is_unrooted}
-use Rattle.error_laws.specs.ViablePrefixes.{is_late_from_port, is_late_from_host}
+use Rattle.error_laws.specs.ViablePrefixes.{holds_at_end, is_ipv6_end_uncounted, is_unrooted, is_late_from_port, is_late_from_host}
 use Rattle.error_laws.proofs.LongerTexts.{longer-text-begins-no-version, end-is-past-text}
 use Rattle.uri_parts.proofs.Refusals.Literals.{literal-without-address-is-unexpected}
 use Rattle.error_laws.proofs.KindFacts.{Facts, path-stops-with-userinfo}
 use Rattle.error_laws.proofs.LiteralHosts.{Closes, CanClose, literal-closes}
 use Rattle.error_laws.proofs.LongerAddresses.{ipv6-closes-with-text, ipv6-ends-within-text}
-use Rattle.error_laws.proofs.Outcomes.{IsSomeError, Outcome, carry, stop, Follows, scan-is-passed}
-use Rattle.error_laws.proofs.Outcomes.{shared-mark-is-at, other-byte-is-not-next}
+use Rattle.error_laws.proofs.Outcomes.{IsSomeError, Outcome, carry, stop, Follows, scan-is-passed, shared-mark-is-at, other-byte-is-not-next}
 use Rattle.error_laws.proofs.PathOutcomes.{port-outcome, end-has-no-port-error}
-use Rattle.error_laws.proofs.SharedPrefixes.{IsPosition, position-after-mark, Alike, next-is-shared}
-use Rattle.error_laws.proofs.SharedPrefixes.{scan-ends-at-position, prefix-is-alike}
-use Rattle.error_laws.proofs.SharedPrefixes.{prefix-is-shared, literal-is-parsed, literal-is-shared}
-use Rattle.error_laws.proofs.SharedPrefixes.{literal-ends-at-position, mark-is-within-text}
-use Rattle.error_laws.proofs.SharedPrefixes.{parsed-literal-is-there}
+use Rattle.error_laws.proofs.SharedPrefixes.{IsPosition, position-after-mark, Alike, next-is-shared, scan-ends-at-position, prefix-is-alike, prefix-is-shared, literal-is-parsed, literal-is-shared, literal-ends-at-position, mark-is-within-text, parsed-literal-is-there}
 
 -- error law: nothing is scanned where a scan ends
 pub scan-stops-at-its-end : (text : List ℕ) (set : TableSet) (i : ℕ)

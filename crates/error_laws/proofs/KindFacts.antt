@@ -3,18 +3,15 @@ use Rattle.std.proofs.Common.{arith, ◌≡◌, ℕ, Bool, true, false, List, []
 use Rattle.std.specs.Prelude.{codes}
 use Rattle.std.proofs.lemmas.Bool.Decides.{nat_tests}
 use Rattle.uri_pct.specs.Prefixes.{valid_prefix}
-use Rattle.uri_pct.specs.Sets.{allows_past_ascii, is_one_of, is_userinfo_char, is_path_char}
-use Rattle.uri_pct.specs.Sets.{userinfo_set, path_set, iuserinfo_set, ipath_set}
+use Rattle.uri_pct.specs.Sets.{allows_past_ascii, is_one_of, is_userinfo_char, is_path_char, userinfo_set, path_set, iuserinfo_set, ipath_set}
 use Rattle.uri_pct.proofs.ValidTexts.Cuts.{excludes}
 use Rattle.uri_parts.specs.Components.{starts}
 use Rattle.uri_parts.specs.Grammar.{Kind, first_segment_set, kind_by_flags}
-use Rattle.uri_parts.proofs.Refusals.Rooted.{Adjoins, greater-set-goes-on-with-mark}
-use Rattle.uri_parts.proofs.Refusals.Rooted.{nothing-is-scanned-at-mark}
+use Rattle.uri_parts.proofs.Refusals.Rooted.{Adjoins, greater-set-goes-on-with-mark, nothing-is-scanned-at-mark}
 use Rattle.uri_parts.proofs.Refusals.Whole.{known-kind-adjoins}
 use Rattle.uri_parts.proofs.Splitting.Cuts.{begins-with-further-mark}
 use Rattle.uri_parts.proofs.TextKinds.KindSets.{each_kind_separates_components}
-use Rattle.uri_parts.proofs.TextKinds.Separations.{SeparatesComponents, HasAllBut}
-use Rattle.uri_parts.proofs.TextKinds.Separations.{greater-set-has-all-but-marks}
+use Rattle.uri_parts.proofs.TextKinds.Separations.{SeparatesComponents, HasAllBut, greater-set-has-all-but-marks}
 
 -- error law: what it needs of the sets of each of the four kinds
 pub record Facts (kind : Kind) : Type 0 where

@@ -1,16 +1,10 @@
 -- Hosts in brackets: how what is before an error in one becomes one.
-use Rattle.std.proofs.Common.{◌≡◌, ℕ, ◌+◌, ◌<◌, ◌≤◌, true, false, eqb, List, [], ◌∷◌, ◌++◌, length}
-use Rattle.std.proofs.Common.{get_or, take, drop, Option, Some, None, refl, sym, ap, subst, ◌∙◌}
-use Rattle.std.proofs.Common.{arith, ◌&&◌, ⊎_elim, append_assoc, append-nil, length-append, take_at}
-use Rattle.std.proofs.Common.{length-drop, length-take-le, drop_at, inr}
+use Rattle.std.proofs.Common.{◌≡◌, ℕ, ◌+◌, ◌<◌, ◌≤◌, true, false, eqb, List, [], ◌∷◌, ◌++◌, length, get_or, take, drop, Option, Some, None, refl, sym, ap, subst, ◌∙◌, arith, ◌&&◌, ⊎_elim, append_assoc, append-nil, length-append, take_at, length-drop, length-take-le, drop_at, inr}
 use Rattle.std.specs.Prelude.{codes, Ok, Err, nat_lt, slice_index, is_some}
 use Rattle.std.specs.Net.Grammar.{IsColonHex}
 use Rattle.std.specs.Option.{option_map_or}
 use Rattle.std.specs.Str.{IsUtf8, chars}
-use Rattle.std.proofs.lemmas.Bool.{cases_Bool, cases_lt, cond-true, cond-false, and_parts, and_from}
-use Rattle.std.proofs.lemmas.Bool.{eq-eqb, eqb-true, both_ways, false≢true, ltb-true, lt-ltb}
-use Rattle.std.proofs.lemmas.Bool.{and_cases, not-false, not_from_true, not_from_false, or_left}
-use Rattle.std.proofs.lemmas.Bool.{or_right}
+use Rattle.std.proofs.lemmas.Bool.{cases_Bool, cases_lt, cond-true, cond-false, and_parts, and_from, eq-eqb, eqb-true, both_ways, false≢true, ltb-true, lt-ltb, and_cases, not-false, not_from_true, not_from_false, or_left, or_right}
 use Rattle.std.proofs.lemmas.Bool.Decides.{nat_tests}
 use Rattle.std.proofs.lemmas.List.{append_cancel_right, drop-append-le, drop_more, get_or_past}
 use Rattle.std.proofs.lemmas.Str.{IsUtf8-append}
@@ -22,20 +16,15 @@ use Rattle.uri_parts.specs.Components.{Lacks, starts, is_end}
 use Rattle.uri_parts.specs.Hosts.{IsIpvFuture}
 use Rattle.uri_parts.specs.LiteralErrors.{closed, literal, ipv6_end, cannot_begin_ipv6}
 use Rattle.uri_parts.specs.Scanning.{is_next, is_at_end, scan_end, scan_to_mark, ScanResult}
-use Rattle.uri_parts.proofs.HostForms.Addresses.{is_address_char, is_address_text}
-use Rattle.uri_parts.proofs.HostForms.Addresses.{ipv6_value-complete, ipv6-text-is-address-text}
-use Rattle.uri_parts.proofs.HostForms.Futures.{is_ipv_future-complete, version-letter-is-ascii}
-use Rattle.uri_parts.proofs.HostForms.Futures.{ipv6-text-lacks-excluded-marks}
-use Rattle.uri_parts.proofs.HostForms.Futures.{ipvfuture-text-lacks-excluded-marks}
+use Rattle.uri_parts.proofs.HostForms.Addresses.{is_address_char, is_address_text, ipv6_value-complete, ipv6-text-is-address-text}
+use Rattle.uri_parts.proofs.HostForms.Futures.{is_ipv_future-complete, version-letter-is-ascii, ipv6-text-lacks-excluded-marks, ipvfuture-text-lacks-excluded-marks}
 use Rattle.uri_parts.proofs.Parsing.Acceptance.{is_literal}
-use Rattle.uri_parts.proofs.Refusals.Sound.{Holds, ipv6_end-before-bracket-ends-ipv6}
-use Rattle.uri_parts.proofs.Refusals.Sound.{ipv6_end-before-text-ends-ipv6}
+use Rattle.uri_parts.proofs.Refusals.Sound.{Holds, ipv6_end-before-bracket-ends-ipv6, ipv6_end-before-text-ends-ipv6}
 use Rattle.uri_parts.proofs.Splitting.Recompose.{text-with-mark-is-mark-and-rest}
 use Rattle.error_laws.proofs.Marks.{literal-is-utf8, tested-ascii-is-utf8}
 use Rattle.error_laws.specs.ViablePrefixes.{is_ipv6_end_uncounted}
 use Rattle.error_laws.proofs.LongerAddresses.{ipv6-ends-within-text}
-use Rattle.error_laws.proofs.SharedPrefixes.{IsPosition, position-after-mark, scan-ends-at-position}
-use Rattle.error_laws.proofs.SharedPrefixes.{scanned-part-is-valid, taken-in-two-steps}
+use Rattle.error_laws.proofs.SharedPrefixes.{IsPosition, position-after-mark, scan-ends-at-position, scanned-part-is-valid, taken-in-two-steps}
 
 -- error law: what may be in brackets
 pub record IsAddress (address : List ℕ) : Type 0 where

@@ -1,36 +1,15 @@
 -- Where the groups of an IPv6 address end in a text that goes on, and with a `]` after it.
-use Rattle.std.proofs.Common.{◌≡◌, ◌≢◌, ℕ, zero, suc, ◌+◌, ◌-◌, ◌<◌, ◌≤◌, Bool, true, false, not}
-use Rattle.std.proofs.Common.{cond, eqb, List, [], ◌++◌, length, drop, ◌⊎◌, inl, inr, Option, Some}
-use Rattle.std.proofs.Common.{None, refl, sym, ap, subst, ◌∙◌, arith, ◌&&◌, ◌||◌, ⊎_elim, drop_at}
+use Rattle.std.proofs.Common.{◌≡◌, ◌≢◌, ℕ, zero, suc, ◌+◌, ◌-◌, ◌<◌, ◌≤◌, Bool, true, false, not, cond, eqb, List, [], ◌++◌, length, drop, ◌⊎◌, inl, inr, Option, Some, None, refl, sym, ap, subst, ◌∙◌, arith, ◌&&◌, ◌||◌, ⊎_elim, drop_at}
 use Rattle.std.specs.Prelude.{codes, nat_lt}
 use Rattle.std.specs.Net.Reader.{digit_count}
-use Rattle.std.proofs.lemmas.Bool.{cases_Bool, cases_lt, cond-true, cond-false, both_ways, eqb-true}
-use Rattle.std.proofs.lemmas.Bool.{eq-eqb, and_parts, and_right, and_left, and_from, lt-ltb, le-ltb}
-use Rattle.std.proofs.lemmas.Bool.{false≢true, cases_eq}
+use Rattle.std.proofs.lemmas.Bool.{cases_Bool, cases_lt, cond-true, cond-false, both_ways, eqb-true, eq-eqb, and_parts, and_right, and_left, and_from, lt-ltb, le-ltb, false≢true, cases_eq}
 use Rattle.std.proofs.lemmas.List.{drop-append-le, drop_more, drop_all}
 use Rattle.std.proofs.lemmas.Option.{none-some, cond_some}
 use Rattle.uri_parts.specs.Components.{starts, is_end}
-use Rattle.uri_parts.specs.LiteralErrors.{Groups, Groups_end, Elision, Malformed, digits_end}
-use Rattle.uri_parts.specs.LiteralErrors.{ipv4_end, after_ipv4, groups_from, after_elision}
-use Rattle.uri_parts.specs.LiteralErrors.{after_groups, ipv6_end}
+use Rattle.uri_parts.specs.LiteralErrors.{Groups, Groups_end, Elision, Malformed, digits_end, ipv4_end, after_ipv4, groups_from, after_elision, after_groups, ipv6_end}
 use Rattle.uri_parts.specs.Scanning.{is_next, is_at_end}
-use Rattle.uri_parts.proofs.Refusals.GroupTurns.{groups_from-ends-without-room, dotted}
-use Rattle.uri_parts.proofs.Refusals.GroupTurns.{text-with-mark-is-not-ended}
-use Rattle.uri_parts.proofs.Refusals.GroupTurns.{groups_from-ends-without-group}
-use Rattle.uri_parts.proofs.Refusals.GroupTurns.{groups_from-elides-at-two-colons}
-use Rattle.uri_parts.proofs.Refusals.GroupTurns.{groups_from-rejects-lone-colon}
-use Rattle.uri_parts.proofs.Refusals.GroupTurns.{groups_from-ends-with-text}
-use Rattle.uri_parts.proofs.Refusals.GroupTurns.{groups_from-rejects-misplaced-colon}
-use Rattle.uri_parts.proofs.Refusals.GroupTurns.{groups_from-rejects-ipv4-without-room}
-use Rattle.uri_parts.proofs.Refusals.GroupTurns.{groups_from-goes-on-after-group}
-use Rattle.error_laws.proofs.LongerTexts.{groups_end, end_with_room, elided-address-has-room}
-use Rattle.error_laws.proofs.LongerTexts.{groups-with-room-end-address, next-is-kept-in-longer-text}
-use Rattle.error_laws.proofs.LongerTexts.{end-is-past-text, closing, bytes-are-no-end}
-use Rattle.error_laws.proofs.LongerTexts.{empty-text-is-end, digits_end-is-kept-in-longer-text}
-use Rattle.error_laws.proofs.LongerTexts.{ipv4-ends-within-text, next-before-bracket-is-kept}
-use Rattle.error_laws.proofs.LongerTexts.{digits_end-is-no-earlier-in-longer-text}
-use Rattle.error_laws.proofs.LongerTexts.{digits_end-is-kept-where-none-follow}
-use Rattle.error_laws.proofs.LongerTexts.{digits_end-is-within-text, ipv4-is-kept-before-bracket}
+use Rattle.uri_parts.proofs.Refusals.GroupTurns.{groups_from-ends-without-room, dotted, text-with-mark-is-not-ended, groups_from-ends-without-group, groups_from-elides-at-two-colons, groups_from-rejects-lone-colon, groups_from-ends-with-text, groups_from-rejects-misplaced-colon, groups_from-rejects-ipv4-without-room, groups_from-goes-on-after-group}
+use Rattle.error_laws.proofs.LongerTexts.{groups_end, end_with_room, elided-address-has-room, groups-with-room-end-address, next-is-kept-in-longer-text, end-is-past-text, closing, bytes-are-no-end, empty-text-is-end, digits_end-is-kept-in-longer-text, ipv4-ends-within-text, next-before-bracket-is-kept, digits_end-is-no-earlier-in-longer-text, digits_end-is-kept-where-none-follow, digits_end-is-within-text, ipv4-is-kept-before-bracket}
 use Rattle.error_laws.proofs.SharedPrefixes.{mark-is-within-text}
 
 module _ (text more : List ℕ) where

@@ -1,21 +1,15 @@
 -- What is next in a text that goes on, and where digits and IPv4 addresses end in it.
-use Rattle.std.proofs.Common.{Bool, ◌≡◌, ℕ, zero, suc, ◌+◌, ◌-◌, ◌<◌, ◌≤◌, true, false, cond, eqb}
-use Rattle.std.proofs.Common.{List, [], ◌∷◌, ◌++◌, length, take, drop, ◌⊎◌, Option, Some, None, sym}
-use Rattle.std.proofs.Common.{refl, ap, ◌∙◌, arith, ◌&&◌, ⊎_elim, length-drop, length-append, ◌||◌}
+use Rattle.std.proofs.Common.{Bool, ◌≡◌, ℕ, zero, suc, ◌+◌, ◌-◌, ◌<◌, ◌≤◌, true, false, cond, eqb, List, [], ◌∷◌, ◌++◌, length, take, drop, ◌⊎◌, Option, Some, None, sym, refl, ap, ◌∙◌, arith, ◌&&◌, ⊎_elim, length-drop, length-append, ◌||◌}
 use Rattle.std.specs.Prelude.{codes, nat_lt, nat_le, slice_range, option_and_then}
 use Rattle.std.specs.Char.{is_digit}
 use Rattle.std.specs.Net.Reader.{digit_count}
 use Rattle.std.specs.Str.Parse.{digits_value}
-use Rattle.std.proofs.lemmas.Bool.{cases_Bool, cases_lt, cond-true, cond-false, or_left, both_ways}
-use Rattle.std.proofs.lemmas.Bool.{and_from, eq-eqb, ne_eqb, not_from_false}
-use Rattle.std.proofs.lemmas.List.{drop-append-le, drop_more, drop_all, take-append-le}
-use Rattle.std.proofs.lemmas.List.{get_or_append_left}
+use Rattle.std.proofs.lemmas.Bool.{cases_Bool, cases_lt, cond-true, cond-false, or_left, both_ways, and_from, eq-eqb, ne_eqb, not_from_false}
+use Rattle.std.proofs.lemmas.List.{drop-append-le, drop_more, drop_all, take-append-le, get_or_append_left}
 use Rattle.std.proofs.lemmas.List.Sums.{prefix_len-le-length}
 use Rattle.std.proofs.lemmas.Option.{same_Some, none-some}
 use Rattle.uri_parts.specs.Components.{starts, is_end}
-use Rattle.uri_parts.specs.LiteralErrors.{digits_end, octet_end, octets_end, ipv4_end, Groups}
-use Rattle.uri_parts.specs.LiteralErrors.{cannot_begin_ipv6, after_elision, Groups_end, Elision}
-use Rattle.uri_parts.specs.LiteralErrors.{Malformed}
+use Rattle.uri_parts.specs.LiteralErrors.{digits_end, octet_end, octets_end, ipv4_end, Groups, cannot_begin_ipv6, after_elision, Groups_end, Elision, Malformed}
 use Rattle.uri_parts.specs.Scanning.{is_next, is_at_end}
 use Rattle.error_laws.proofs.SharedPrefixes.{is_next-by-byte, mark-is-within-text}
 use Rattle.uri_parts.proofs.Refusals.Literals.{version-letter-begins-no-ipv6}

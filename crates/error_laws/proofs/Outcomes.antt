@@ -1,8 +1,6 @@
 -- What an error says of the texts that begin with what is before it: each has an error too, where
 -- the error is late, and otherwise some text has none.
-use Rattle.std.proofs.Common.{◌≡◌, ℕ, ◌<◌, ◌≤◌, Bool, true, false, List, [], ◌++◌, take, drop, Some}
-use Rattle.std.proofs.Common.{None, refl, sym, ap, subst, ◌∙◌, arith, ◌&&◌, ⊎_elim, length, drop_at}
-use Rattle.std.proofs.Common.{length-take-le}
+use Rattle.std.proofs.Common.{◌≡◌, ℕ, ◌<◌, ◌≤◌, Bool, true, false, List, [], ◌++◌, take, drop, Some, None, refl, sym, ap, subst, ◌∙◌, arith, ◌&&◌, ⊎_elim, length, drop_at, length-take-le}
 use Rattle.std.specs.Str.{IsUtf8}
 use Rattle.std.proofs.lemmas.Bool.{cases_Bool, cases_lt, cond-true, cond-false}
 use Rattle.std.proofs.lemmas.Option.{same_Some}
@@ -13,12 +11,9 @@ use Rattle.uri_parts.specs.declared.error.ParseError.{ParseError}
 use Rattle.uri_parts.specs.Refusals.{OptionalParseError, ◌>>=◌}
 use Rattle.uri_parts.specs.Scanning.{is_next, scan_end, scan}
 use Rattle.uri_parts.proofs.Refusals.Rooted.{scan-stops-at-stray-percent-or-goes-on}
-use Rattle.uri_parts.proofs.Splitting.Cuts.{IsEmptyOrMarked, empty-or-marked-for-more-marks}
-use Rattle.uri_parts.proofs.Splitting.Cuts.{begins-with-mark, begins-with-no-other}
+use Rattle.uri_parts.proofs.Splitting.Cuts.{IsEmptyOrMarked, empty-or-marked-for-more-marks, begins-with-mark, begins-with-no-other}
 use Rattle.error_laws.proofs.Marks.{At}
-use Rattle.error_laws.proofs.SharedPrefixes.{IsPosition, scan-ends-at-position, Alike}
-use Rattle.error_laws.proofs.SharedPrefixes.{prefix-is-alike, next-is-shared, scan-is-shared}
-use Rattle.error_laws.proofs.SharedPrefixes.{scan-goes-on-alike, digits-end-is-shared}
+use Rattle.error_laws.proofs.SharedPrefixes.{IsPosition, scan-ends-at-position, Alike, prefix-is-alike, next-is-shared, scan-is-shared, scan-goes-on-alike, digits-end-is-shared}
 
 -- error law: a text has some error
 abbrev pub IsSomeError : OptionalParseError → Type 0

@@ -1,42 +1,29 @@
 -- The outcomes of errors in a fragment, a query, a path and a port.
-use Rattle.std.proofs.Common.{◌≡◌, ℕ, ◌+◌, ◌<◌, ◌≤◌, Bool, true, false, cond, eqb, List, [], ◌∷◌}
-use Rattle.std.proofs.Common.{drop, Some, None, refl, sym, ap, subst, ◌∙◌, arith, ◌&&◌, ◌||◌, inl}
-use Rattle.std.proofs.Common.{⊎_elim, inr, ◌⊎◌, length-drop}
+use Rattle.std.proofs.Common.{◌≡◌, ℕ, ◌+◌, ◌<◌, ◌≤◌, Bool, true, false, cond, eqb, List, [], ◌∷◌, drop, Some, None, refl, sym, ap, subst, ◌∙◌, arith, ◌&&◌, ◌||◌, inl, ⊎_elim, inr, ◌⊎◌, length-drop}
 use Rattle.std.specs.Prelude.{codes, Ok}
 use Rattle.std.specs.Str.{IsUtf8}
-use Rattle.std.proofs.lemmas.Bool.{cases_Bool, cond-true, cond-false, and_parts, and_from, or_left}
-use Rattle.std.proofs.lemmas.Bool.{or_right, or_from, or_parts, both_ways, eq-eqb, eqb-true, ne_eqb}
-use Rattle.std.proofs.lemmas.Bool.{ltb-true, lt-ltb, not-true, not_from_false, or_cases}
+use Rattle.std.proofs.lemmas.Bool.{cases_Bool, cond-true, cond-false, and_parts, and_from, or_left, or_right, or_from, or_parts, both_ways, eq-eqb, eqb-true, ne_eqb, ltb-true, lt-ltb, not-true, not_from_false, or_cases}
 use Rattle.std.proofs.lemmas.Option.{same_Some, none-some}
 use Rattle.std.proofs.lemmas.Str.{IsUtf8-nil, IsCharBoundary-from_take}
 use Rattle.uri_pct.specs.Prefixes.{valid_prefix}
 use Rattle.uri_pct.specs.Sets.{TableSet, LacksPercent, digit_set, is_one_of}
 use Rattle.uri_pct.specs.Tokens.{IsValidFor}
 use Rattle.uri_pct.proofs.ValidTexts.Cuts.{excludes}
-use Rattle.uri_pct.proofs.ValidTexts.LongestPrefixes.{empty_text_has_empty_valid_prefix}
-use Rattle.uri_pct.proofs.ValidTexts.LongestPrefixes.{valid_prefix_is_longest}
+use Rattle.uri_pct.proofs.ValidTexts.LongestPrefixes.{empty_text_has_empty_valid_prefix, valid_prefix_is_longest}
 use Rattle.uri_parts.specs.declared.error.ParseError.{ParseError}
 use Rattle.uri_parts.specs.Components.{starts, is_end}
 use Rattle.uri_parts.specs.Errors.{unexpected, stray_percent}
 use Rattle.uri_parts.specs.Grammar.{Kind}
-use Rattle.uri_parts.specs.Refusals.{OptionalParseError, ◌>>=◌, error_from_end, error_from_fragment}
-use Rattle.uri_parts.specs.Refusals.{error_from_query, error_from_path, error_from_abempty_path}
-use Rattle.uri_parts.specs.Refusals.{error_from_port, error_from_host}
+use Rattle.uri_parts.specs.Refusals.{OptionalParseError, ◌>>=◌, error_from_end, error_from_fragment, error_from_query, error_from_path, error_from_abempty_path, error_from_port, error_from_host}
 use Rattle.uri_parts.specs.Scanning.{is_next, is_at_end, scan_end, scan}
 use Rattle.uri_parts.proofs.Refusals.Rooted.{scan-stops-at-stray-percent-or-goes-on}
-use Rattle.uri_parts.proofs.Splitting.Cuts.{IsEmptyOrMarked, empty-or-marked-for-more-marks}
-use Rattle.uri_parts.proofs.Splitting.Cuts.{begins-with-no-other}
+use Rattle.uri_parts.proofs.Splitting.Cuts.{IsEmptyOrMarked, empty-or-marked-for-more-marks, begins-with-no-other}
 use Rattle.error_laws.specs.ViablePrefixes.{is_unrooted, is_late_from_port}
 use Rattle.error_laws.proofs.KindFacts.{Facts}
 use Rattle.error_laws.proofs.LongerTexts.{empty-text-is-end}
 use Rattle.error_laws.proofs.Marks.{At}
-use Rattle.error_laws.proofs.Outcomes.{Outcome, carry, stop, Follows, follows-with-more-marks}
-use Rattle.error_laws.proofs.Outcomes.{shared-mark-is-at, shared-mark-follows, digits-end-alike}
-use Rattle.error_laws.proofs.Outcomes.{other-byte-is-not-next, scan-outcome}
-use Rattle.error_laws.proofs.SharedPrefixes.{IsPosition, position-after-mark, scan-goes-on, Alike}
-use Rattle.error_laws.proofs.SharedPrefixes.{scan-ends-at-position, next-is-shared}
-use Rattle.error_laws.proofs.SharedPrefixes.{bytes-are-shared, position-is-shared}
-use Rattle.error_laws.proofs.SharedPrefixes.{scanned-part-is-valid}
+use Rattle.error_laws.proofs.Outcomes.{Outcome, carry, stop, Follows, follows-with-more-marks, shared-mark-is-at, shared-mark-follows, digits-end-alike, other-byte-is-not-next, scan-outcome}
+use Rattle.error_laws.proofs.SharedPrefixes.{IsPosition, position-after-mark, scan-goes-on, Alike, scan-ends-at-position, next-is-shared, bytes-are-shared, position-is-shared, scanned-part-is-valid}
 
 -- error law: nothing is scanned at the end of a text
 scan-stays-at-end : (text : List ℕ) (set : TableSet) (i : ℕ) → drop i text ≡ []

@@ -1,26 +1,19 @@
 -- Positions between the characters of a text, and two texts that begin alike: what is next and what
 -- is scanned within what they share.
-use Rattle.std.proofs.Common.{◌≡◌, ℕ, ◌+◌, ◌-◌, ◌<◌, ◌≤◌, true, false, eqb, List, [], ◌∷◌, ◌++◌, ap}
-use Rattle.std.proofs.Common.{length, get_or, take, drop, refl, sym, subst, ◌∙◌, arith, ◌&&◌}
-use Rattle.std.proofs.Common.{⊎_elim, length-append, length-drop, length-take-le, take-append-drop}
-use Rattle.std.proofs.Common.{take_at, drop_at, append_assoc}
+use Rattle.std.proofs.Common.{◌≡◌, ℕ, ◌+◌, ◌-◌, ◌<◌, ◌≤◌, true, false, eqb, List, [], ◌∷◌, ◌++◌, ap, length, get_or, take, drop, refl, sym, subst, ◌∙◌, arith, ◌&&◌, ⊎_elim, length-append, length-drop, length-take-le, take-append-drop, take_at, drop_at, append_assoc}
 use Rattle.std.specs.Prelude.{Ok, is_ok, codes}
 use Rattle.std.specs.Result.{result_ok}
 use Rattle.std.specs.Str.{IsUtf8}
-use Rattle.std.proofs.lemmas.Bool.{cases_Bool, cases_lt, cond-true, cond-false, and_parts, eqb-true}
-use Rattle.std.proofs.lemmas.Bool.{and_right, false≢true}
+use Rattle.std.proofs.lemmas.Bool.{cases_Bool, cases_lt, cond-true, cond-false, and_parts, eqb-true, and_right, false≢true}
 use Rattle.std.proofs.Math.Seq.{take-append-add}
-use Rattle.std.proofs.lemmas.List.{drop-drop, drop-take, take-take, get_or-take, get_or-drop}
-use Rattle.std.proofs.lemmas.List.{drop_more, drop_all}
+use Rattle.std.proofs.lemmas.List.{drop-drop, drop-take, take-take, get_or-take, get_or-drop, drop_more, drop_all}
 use Rattle.std.proofs.lemmas.Option.{same_Some}
-use Rattle.std.proofs.lemmas.Str.{IsUtf8-take, IsUtf8-drop, IsCharBoundary-from_drop}
-use Rattle.std.proofs.lemmas.Str.{IsCharBoundary-from_take, IsCharBoundary-before_ascii}
+use Rattle.std.proofs.lemmas.Str.{IsUtf8-take, IsUtf8-drop, IsCharBoundary-from_drop, IsCharBoundary-from_take, IsCharBoundary-before_ascii}
 use Rattle.uri_pct.specs.Prefixes.{allows_first, valid_prefix}
 use Rattle.uri_pct.specs.Sets.{TableSet, LacksPercent, allows_past_ascii, digit_set, is_one_of}
 use Rattle.uri_pct.specs.Tokens.{IsValidFor}
 use Rattle.uri_pct.proofs.ValidTexts.Cuts.{excludes}
-use Rattle.uri_pct.proofs.ValidTexts.LongestPrefixes.{valid_prefix_ends_at_boundary}
-use Rattle.uri_pct.proofs.ValidTexts.LongestPrefixes.{valid_prefix_is_valid}
+use Rattle.uri_pct.proofs.ValidTexts.LongestPrefixes.{valid_prefix_ends_at_boundary, valid_prefix_is_valid}
 use Rattle.uri_pct.proofs.ValidTexts.Prefixes.{valid_prefix_is_at_most_length}
 use Rattle.uri_parts.specs.Components.{Lacks, starts, before_any, from_any, has_authority}
 use Rattle.uri_parts.specs.LiteralErrors.{literal}
@@ -28,11 +21,9 @@ use Rattle.uri_parts.specs.Models.Literals.{literal_length}
 use Rattle.uri_parts.specs.Scanning.{is_next, scan_end, scan}
 use Rattle.uri_parts.proofs.Parsing.Acceptance.{is_literal, parses_literal}
 use Rattle.uri_parts.proofs.Parsing.ScanStops.{utf8_after_mark}
-use Rattle.uri_parts.proofs.Refusals.Names.{valid_prefix-at-digit-is-one-more}
-use Rattle.uri_parts.proofs.Refusals.Names.{valid_prefix-at-other-byte-is-zero}
+use Rattle.uri_parts.proofs.Refusals.Names.{valid_prefix-at-digit-is-one-more, valid_prefix-at-other-byte-is-zero}
 use Rattle.uri_parts.proofs.Refusals.LiteralEnds.{literal-ends-as-parsed}
-use Rattle.uri_parts.proofs.Splitting.Cuts.{IsEmptyOrMarked, text-is-cut-at-first-mark}
-use Rattle.uri_parts.proofs.Splitting.Cuts.{cut-at-end-of-text-without-marks, begins-with-no-other}
+use Rattle.uri_parts.proofs.Splitting.Cuts.{IsEmptyOrMarked, text-is-cut-at-first-mark, cut-at-end-of-text-without-marks, begins-with-no-other}
 use Rattle.uri_parts.proofs.Splitting.Recompose.{text-with-mark-is-mark-and-rest}
 use Rattle.uri_parts.proofs.TextKinds.GrammarTexts.{utf8_around_ascii_byte}
 use Rattle.error_laws.proofs.Marks.{At, valid-text-is-scanned-to-mark}

@@ -1,6 +1,5 @@
 -- Where userinfo, a name and a port end in one another, and the last `:` of a text.
-use Rattle.std.proofs.Common.{◌≡◌, ℕ, zero, suc, ◌+◌, ◌<◌, ◌≤◌, true, false, cond, eqb, List, ◌∷◌}
-use Rattle.std.proofs.Common.{drop, refl, ap, ◌∙◌, arith, ⊎_elim}
+use Rattle.std.proofs.Common.{◌≡◌, ℕ, zero, suc, ◌+◌, ◌<◌, ◌≤◌, true, false, cond, eqb, List, ◌∷◌, drop, refl, ap, ◌∙◌, arith, ⊎_elim}
 use Rattle.std.proofs.lemmas.Bool.{cases_Bool, cond-true, cond-false, and_right, eq-eqb}
 use Rattle.std.proofs.lemmas.List.{drop-drop}
 use Rattle.uri_pct.specs.Prefixes.{valid_prefix_from, valid_prefix}
@@ -10,8 +9,7 @@ use Rattle.uri_pct.proofs.ValidTexts.MarksInTexts.{ascii_byte_has_no_continuatio
 use Rattle.uri_pct.proofs.ValidTexts.Prefixes.{valid_prefix_of_superset_goes_on_from_subset}
 use Rattle.uri_pct.proofs.ValidTexts.Validity.{ascii_first_byte_is_allowed_iff_in_set}
 use Rattle.uri_parts.specs.Grammar.{Kind}
-use Rattle.uri_parts.specs.Refusals.{◌>>=◌, last_colon, error_from_port, error_from_abempty_path}
-use Rattle.uri_parts.specs.Refusals.{error_from_host, error_from_name, error_from_authority}
+use Rattle.uri_parts.specs.Refusals.{◌>>=◌, last_colon, error_from_port, error_from_abempty_path, error_from_host, error_from_name, error_from_authority}
 use Rattle.uri_parts.specs.Scanning.{is_next, scan_end}
 use Rattle.uri_parts.proofs.Refusals.Colons.{last_colon_is_below_position}
 use Rattle.uri_parts.proofs.Refusals.Sound.{text-at-mark-is-mark-and-rest}

@@ -1,13 +1,9 @@
 -- The outcomes of errors in a whole text: the law of viable prefixes, and its exceptions.
-use Rattle.std.proofs.Common.{◌≡◌, ℕ, ◌+◌, ◌<◌, ◌≤◌, Bool, true, false, cond, eqb, List, [], ◌∷◌}
-use Rattle.std.proofs.Common.{◌++◌, length, get_or, take, drop, Some, None, refl, sym, ap, subst}
-use Rattle.std.proofs.Common.{◌∙◌, arith, ◌&&◌, ⊎_elim, length-drop, take-append-drop, zero-add}
+use Rattle.std.proofs.Common.{◌≡◌, ℕ, ◌+◌, ◌<◌, ◌≤◌, Bool, true, false, cond, eqb, List, [], ◌∷◌, ◌++◌, length, get_or, take, drop, Some, None, refl, sym, ap, subst, ◌∙◌, arith, ◌&&◌, ⊎_elim, length-drop, take-append-drop, zero-add}
 use Rattle.std.specs.Prelude.{codes, is_none, slice_index}
 use Rattle.std.specs.Char.{is_ascii_alphabetic}
 use Rattle.std.specs.Str.{IsUtf8}
-use Rattle.std.proofs.lemmas.Bool.{cases_Bool, cases_lt, cond-true, cond-false, and_parts, and_left}
-use Rattle.std.proofs.lemmas.Bool.{and_right, and_cases, both_ways, false≢true, ltb-true, lt-ltb}
-use Rattle.std.proofs.lemmas.Bool.{not-true, not-false, or_right}
+use Rattle.std.proofs.lemmas.Bool.{cases_Bool, cases_lt, cond-true, cond-false, and_parts, and_left, and_right, and_cases, both_ways, false≢true, ltb-true, lt-ltb, not-true, not-false, or_right}
 use Rattle.std.proofs.lemmas.List.{drop-drop, get_or-drop}
 use Rattle.std.proofs.lemmas.Option.{same_Some}
 use Rattle.std.proofs.lemmas.Str.{IsUtf8-nil}
@@ -19,32 +15,23 @@ use Rattle.uri_parts.specs.declared.error.ParseError.{ParseError}
 use Rattle.uri_parts.specs.Components.{has_authority, starts}
 use Rattle.uri_parts.specs.Errors.{unexpected, stray_percent}
 use Rattle.uri_parts.specs.Grammar.{Kind, IsTextOf, is_of_kind, first_segment_set}
-use Rattle.uri_parts.specs.Refusals.{OptionalParseError, ◌>>=◌, refusal, error_from_path}
-use Rattle.uri_parts.specs.Refusals.{error_from_authority, error_from_hier_part}
-use Rattle.uri_parts.specs.Refusals.{error_from_relative_path}
+use Rattle.uri_parts.specs.Refusals.{OptionalParseError, ◌>>=◌, refusal, error_from_path, error_from_authority, error_from_hier_part, error_from_relative_path}
 use Rattle.uri_parts.specs.Scanning.{is_next, scan_end, scan}
 use Rattle.uri_parts.proofs.Parsing.ScanStops.{utf8_after_slashes}
-use Rattle.uri_parts.proofs.Parsing.WholeTexts.{parses-is-is_of_kind, slashes-begin-with-no-colon}
-use Rattle.uri_parts.proofs.Parsing.WholeTexts.{slashes-begin-with-no-scheme}
+use Rattle.uri_parts.proofs.Parsing.WholeTexts.{parses-is-is_of_kind, slashes-begin-with-no-colon, slashes-begin-with-no-scheme}
 use Rattle.uri_parts.proofs.Refusals.Accepted.{no-error-iff-text-is-parsed}
 use Rattle.uri_parts.proofs.Refusals.OnLiterals.{errors_on_literals}
-use Rattle.uri_parts.proofs.Refusals.Rooted.{scan-stops-at-stray-percent-or-goes-on}
-use Rattle.uri_parts.proofs.Refusals.Rooted.{nothing-is-scanned-at-mark}
+use Rattle.uri_parts.proofs.Refusals.Rooted.{scan-stops-at-stray-percent-or-goes-on, nothing-is-scanned-at-mark}
 use Rattle.uri_parts.proofs.Refusals.Whole.{parsed_error-is-refusal}
-use Rattle.uri_parts.proofs.Splitting.Cuts.{IsEmptyOrMarked, empty-or-marked-for-more-marks}
-use Rattle.uri_parts.proofs.Splitting.Cuts.{begins-with-mark, begins-with-no-other}
+use Rattle.uri_parts.proofs.Splitting.Cuts.{IsEmptyOrMarked, empty-or-marked-for-more-marks, begins-with-mark, begins-with-no-other}
 use Rattle.error_laws.proofs.Marks.{literal-is-utf8, At}
-use Rattle.error_laws.specs.ViablePrefixes.{IsViablePrefix, begins_without_letter, has_late_error}
-use Rattle.error_laws.specs.ViablePrefixes.{is_late_from_authority, is_late_from_hier}
+use Rattle.error_laws.specs.ViablePrefixes.{IsViablePrefix, begins_without_letter, has_late_error, is_late_from_authority, is_late_from_hier}
 use Rattle.error_laws.proofs.AuthorityOutcomes.{authority-outcome}
 use Rattle.error_laws.proofs.HostOutcomes.{scan-stops-at-its-end}
 use Rattle.error_laws.proofs.KindFacts.{Facts, path-stops-with-segment}
-use Rattle.error_laws.proofs.Outcomes.{Any, Outcome, carry, stop, shared-mark-is-at, scan-is-passed}
-use Rattle.error_laws.proofs.Outcomes.{scan-outcome}
+use Rattle.error_laws.proofs.Outcomes.{Any, Outcome, carry, stop, shared-mark-is-at, scan-is-passed, scan-outcome}
 use Rattle.error_laws.proofs.PathOutcomes.{path-outcome, end-has-no-path-error}
-use Rattle.error_laws.proofs.SharedPrefixes.{IsPosition, position-after-mark, Alike, byte-is-shared}
-use Rattle.error_laws.proofs.SharedPrefixes.{scan-ends-at-position, prefix-is-alike, next-is-shared}
-use Rattle.error_laws.proofs.SharedPrefixes.{slashes-are-shared, scan-is-shared}
+use Rattle.error_laws.proofs.SharedPrefixes.{IsPosition, position-after-mark, Alike, byte-is-shared, scan-ends-at-position, prefix-is-alike, next-is-shared, slashes-are-shared, scan-is-shared}
 
 -- error law: after `//` is a position between characters
 position-after-slashes : (text : List ℕ) (i : ℕ) → IsPosition text i

@@ -1,8 +1,7 @@
 -- Whether what is before an error begins some text of the kind. Each text does that is not one
 -- of three exceptions, in which the error is returned later than it might be: this library's own
 -- choice, since no RFC says which error a text has.
-use Rattle.std.specs.Prelude.{ℕ, ◌+◌, ◌==◌, Bool, false, not, ◌&&◌, ◌||◌, nat_lt, List, ◌++◌}
-use Rattle.std.specs.Prelude.{length, drop, codes, slice_index, Ok, Err, if◌then◌else◌}
+use Rattle.std.specs.Prelude.{ℕ, ◌+◌, ◌==◌, Bool, false, not, ◌&&◌, ◌||◌, nat_lt, List, ◌++◌, length, drop, codes, slice_index, Ok, Err, if◌then◌else◌}
 use Rattle.std.specs.Char.{is_ascii_alphabetic}
 use Rattle.std.specs.Option.{option_map_or}
 use Rattle.uri_pct.specs.Delimiters.{at_sign, colon, left_bracket, percent_sign, slash}

@@ -1,7 +1,6 @@
 -- What is returned of a host in ASCII is the result that is defined.
 use Rattle.std.proofs.Common.{◌≡◌, ℕ, true, List, [], arith, inl, inr, refl, sym, ap, ◌∙◌, subst}
-use Rattle.std.specs.Prelude.{IsSomeAnd, Option, Some, None, Ok, Err, is_none, not, ok_or}
-use Rattle.std.specs.Prelude.{option_map}
+use Rattle.std.specs.Prelude.{IsSomeAnd, Option, Some, None, Ok, Err, is_none, not, ok_or, option_map}
 use Rattle.std.specs.Str.{is_utf8}
 use Rattle.std.proofs.lemmas.Bool.{cond-false, cond-true, false_from_ne_true}
 use Rattle.std.proofs.lemmas.Str.{IsUtf8-from_is_utf8, is_utf8-from_IsUtf8}
@@ -12,17 +11,12 @@ use Rattle.uri_parts.specs.Components.{Components, components, recompose}
 use Rattle.uri_parts.specs.Connecting.{name_bytes}
 use Rattle.uri_parts.specs.Grammar.{Kind}
 use Rattle.uri_idna.specs.declared.error.AsciiHostError.{AsciiHostError}
-use Rattle.uri_idna.specs.declared.error.AsciiHostError.TheVariants.{InvalidName, NameNotUtf8}
-use Rattle.uri_idna.specs.declared.error.AsciiHostError.TheVariants.{OutOfMemory}
-use Rattle.uri_idna.specs.AsciiHosts.{IsAsciiHostError, ascii_host, ascii_host_of}
-use Rattle.uri_idna.specs.AsciiHosts.{is_unencoded_ascii}
-use Rattle.uri_idna.specs.AsciiReferences.{IsAsciiHostErrorOf, ascii_components}
-use Rattle.uri_idna.specs.AsciiReferences.{with_authority, with_host}
+use Rattle.uri_idna.specs.declared.error.AsciiHostError.TheVariants.{InvalidName, NameNotUtf8, OutOfMemory}
+use Rattle.uri_idna.specs.AsciiHosts.{IsAsciiHostError, ascii_host, ascii_host_of, is_unencoded_ascii}
+use Rattle.uri_idna.specs.AsciiReferences.{IsAsciiHostErrorOf, ascii_components, with_authority, with_host}
 use Rattle.uri_idna.proofs.Names.{name_not_utf8_has_no_ascii_form, unencoded_ascii_name_stays}
 use Rattle.fluent_uri_c.specs.declared.errors.Rejection.{Rejection}
-use Rattle.fluent_uri_c.specs.AsciiHosts.{ascii_host_or_error, ascii_host_rejection}
-use Rattle.fluent_uri_c.specs.AsciiHosts.{ascii_uri_of_kind, ascii_uri_or_error, host_or_empty}
-use Rattle.fluent_uri_c.specs.AsciiHosts.{no_ascii_host, takes_memory_for_host}
+use Rattle.fluent_uri_c.specs.AsciiHosts.{ascii_host_or_error, ascii_host_rejection, ascii_uri_of_kind, ascii_uri_or_error, host_or_empty, no_ascii_host, takes_memory_for_host}
 use Rattle.fluent_uri_c.specs.Results.{text_error}
 use Rattle.fluent_uri_c.proofs.HostNames.{empty_is_name}
 use Rattle.fluent_uri_c.proofs.Mends.{IsErrorOf}

@@ -1,13 +1,10 @@
 -- What a batch leaves, text by text.
-use Rattle.std.proofs.Common.{◌≡◌, ◌≢◌, ℕ, zero, suc, ◌+◌, ◌<◌, List, [], ◌∷◌, ◌++◌, length, set}
-use Rattle.std.proofs.Common.{take, drop, refl, sym, ap, subst, ◌∙◌, arith, append_assoc, ⊎_elim}
-use Rattle.std.proofs.Common.{length-append}
+use Rattle.std.proofs.Common.{◌≡◌, ◌≢◌, ℕ, zero, suc, ◌+◌, ◌<◌, List, [], ◌∷◌, ◌++◌, length, set, take, drop, refl, sym, ap, subst, ◌∙◌, arith, append_assoc, ⊎_elim, length-append}
 use Rattle.std.specs.Prelude.{Option, Some, IsSome, IsSomeAnd, slice_get, is_some}
 use Rattle.std.proofs.Math.Seq.{drop-append_seam, take-append_seam}
 use Rattle.std.proofs.lemmas.Bool.{cases_eq}
 use Rattle.std.proofs.lemmas.List.{drop-drop, drop-set-lt}
-use Rattle.fluent_uri_c.specs.Columns.{Buffers, IsColumn, bit_of, buffers, bytes_of, joined_results}
-use Rattle.fluent_uri_c.specs.Columns.{number_of_bool}
+use Rattle.fluent_uri_c.specs.Columns.{Buffers, IsColumn, bit_of, buffers, bytes_of, joined_results, number_of_bool}
 
 -- general fact on slices, for the buffers of a batch for C: what is set at an index is read there
 slice_get-set_same : {O : Type 0} → (xs : List O) (i : ℕ) (x : O) → i < length xs

@@ -1,25 +1,20 @@
 -- The text that is built of components has them again.
-use Rattle.std.proofs.Common.{◌≡◌, ℕ, Bool, true, false, ◌&&◌, ◌||◌, not, List, [], ◌++◌, refl}
-use Rattle.std.proofs.Common.{sym, ◌∙◌, subst}
-use Rattle.std.specs.Prelude.{Option, Some, None, IfSome, codes, is_none, is_some, option_map}
-use Rattle.std.specs.Prelude.{slice_index, unwrap_or}
+use Rattle.std.proofs.Common.{◌≡◌, ℕ, Bool, true, false, ◌&&◌, ◌||◌, not, List, [], ◌++◌, refl, sym, ◌∙◌, subst}
+use Rattle.std.specs.Prelude.{Option, Some, None, IfSome, codes, is_none, is_some, option_map, slice_index, unwrap_or}
 use Rattle.std.specs.Char.{is_ascii_alphabetic}
 use Rattle.std.specs.Str.{IsUtf8, is_utf8}
 use Rattle.std.proofs.lemmas.Bool.{and_from, and_parts, cond-false, or_right}
 use Rattle.std.proofs.lemmas.Option.{none-some}
 use Rattle.std.proofs.lemmas.Str.{IsUtf8-append, IsUtf8-from_is_utf8, is_utf8-from_IsUtf8}
-use Rattle.fluent_uri.specs.Authority.{AuthorityParts, IsAuthorityFor, authority_parts}
-use Rattle.fluent_uri.specs.Authority.{recompose_authority}
+use Rattle.fluent_uri.specs.Authority.{AuthorityParts, IsAuthorityFor, authority_parts, recompose_authority}
 use Rattle.fluent_uri.specs.Components.{marked, starts}
 use Rattle.fluent_uri.specs.Grammar.{Kind, absent_or_passes}
 use Rattle.fluent_uri.specs.Hosts.{host_kind, is_host}
 use Rattle.fluent_uri.specs.Sets.{TableSet, digit_set, scheme_set}
 use Rattle.fluent_uri.specs.Tokens.{is_valid_for}
-use Rattle.uri_parts.proofs.Theorems.{authority_parts-are-unique, is_authority_for-complete}
-use Rattle.uri_parts.proofs.Theorems.{is_host-sound}
+use Rattle.uri_parts.proofs.Theorems.{authority_parts-are-unique, is_authority_for-complete, is_host-sound}
 use Rattle.uri_ops.specs.declared.build.error.BuildError.{BuildError}
-use Rattle.uri_ops.specs.BuilderParts.{BuilderParts, is_authority_text, is_scheme_text, is_text_for}
-use Rattle.uri_ops.specs.BuilderParts.{meet_rules}
+use Rattle.uri_ops.specs.BuilderParts.{BuilderParts, is_authority_text, is_scheme_text, is_text_for, meet_rules}
 use Rattle.uri_ops.specs.Built.{build_error_of_path}
 use Rattle.uri_ops.specs.ComponentSets.{HasComponentSets}
 use Rattle.uri_ops.proofs.Builders.BuilderAuthorities.{authority-text-from-rule}
@@ -28,9 +23,7 @@ use Rattle.uri_ops.proofs.Meanings.AsciiCharacters.{ascii-bytes-are-utf8}
 use Rattle.uri_ops.proofs.Meanings.AuthorityMeanings.{kind-sets-lack-authority-delimiters}
 use Rattle.fluent_uri_c.specs.declared.building.ComponentSpans.{ComponentSpans}
 use Rattle.fluent_uri_c.specs.declared.errors.Rejection.{Rejection}
-use Rattle.fluent_uri_c.specs.Building.{HasGivenComponents, HasValidAuthority, HasValidTail}
-use Rattle.fluent_uri_c.specs.Building.{error_of_building, given, given_authority, given_components}
-use Rattle.fluent_uri_c.specs.Building.{is_host_text, missing, path_rejection, together_rejection}
+use Rattle.fluent_uri_c.specs.Building.{HasGivenComponents, HasValidAuthority, HasValidTail, error_of_building, given, given_authority, given_components, is_host_text, missing, path_rejection, together_rejection}
 use Rattle.fluent_uri_c.specs.Errors.{in_component, rejected}
 use Rattle.fluent_uri_c.specs.Results.{first_rejection}
 

@@ -1,6 +1,5 @@
 -- Where a component ends whose characters are those of a set, and its error there.
-use Rattle.std.proofs.Common.{◌≡◌, ℕ, ◌<◌, ◌≤◌, true, false, ◌&&◌, List, length, refl, sym, ap, ◌∙◌}
-use Rattle.std.proofs.Common.{arith, zero-add}
+use Rattle.std.proofs.Common.{◌≡◌, ℕ, ◌<◌, ◌≤◌, true, false, ◌&&◌, List, length, refl, sym, ap, ◌∙◌, arith, zero-add}
 use Rattle.std.specs.Prelude.{Some, None, IsTrue}
 use Rattle.std.specs.Str.{IsUtf8}
 use Rattle.std.proofs.lemmas.Bool.{and_from, and_right, eq-eqb, ne_eqb}
@@ -17,8 +16,7 @@ use Rattle.uri_parts.specs.Scanning.{is_next, scan_end}
 use Rattle.uri_parts.proofs.Parsing.NextBytes.{text_ends_where_position_is_length}
 use Rattle.uri_ops.specs.BuilderParts.{is_text_for}
 use Rattle.fluent_uri_c.specs.Errors.{parse_rejection}
-use Rattle.fluent_uri_c.specs.Results.{IsPossibleUtf8, component_error, component_refusal}
-use Rattle.fluent_uri_c.specs.Results.{is_possible_length}
+use Rattle.fluent_uri_c.specs.Results.{IsPossibleUtf8, component_error, component_refusal, is_possible_length}
 use Rattle.fluent_uri_c.proofs.ValidBytes.{utf8_error-of-utf8}
 
 -- components for C: a text, and where a scan by the set ends in it

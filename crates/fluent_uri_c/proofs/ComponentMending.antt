@@ -1,7 +1,6 @@
 -- A component, mended from left to right: what a scan passes stays, and the character where it
 -- stops becomes octets.
-use Rattle.std.proofs.Common.{◌≡◌, ℕ, ◌+◌, ◌-◌, ◌<◌, ◌≤◌, true, List, ◌++◌, length, take, drop, map}
-use Rattle.std.proofs.Common.{sym, ap, ◌∙◌, arith, ⊎_elim, append_assoc, length-append, length-drop}
+use Rattle.std.proofs.Common.{◌≡◌, ℕ, ◌+◌, ◌-◌, ◌<◌, ◌≤◌, true, List, ◌++◌, length, take, drop, map, sym, ap, ◌∙◌, arith, ⊎_elim, append_assoc, length-append, length-drop}
 use Rattle.std.specs.Prelude.{encode_utf8, slice_range}
 use Rattle.std.specs.Str.{IsUtf8, IsCharBoundary}
 use Rattle.std.proofs.lemmas.Bool.{cases_lt}

@@ -1,6 +1,5 @@
 -- A host that begins with neither a digit nor a `[` is a name.
-use Rattle.std.proofs.Common.{◌≡◌, ℕ, ◌<◌, ◌≤◌, ◌==◌, false, not, List, [], ◌∷◌}
-use Rattle.std.proofs.Common.{length, arith, ⊎_elim, le-leb, lit≤}
+use Rattle.std.proofs.Common.{◌≡◌, ℕ, ◌<◌, ◌≤◌, ◌==◌, false, not, List, [], ◌∷◌, length, arith, ⊎_elim, le-leb, lit≤}
 use Rattle.std.specs.Prelude.{None, IsTrue, slice_index}
 use Rattle.std.specs.Char.{digit_value, is_ascii_digit}
 use Rattle.std.specs.Int.{IsInRange}

@@ -1,37 +1,25 @@
 -- Components each byte of which normalising keeps are their own decoded form.
-use Rattle.std.proofs.Common.{◌≡◌, ◌<◌, ◌≤◌, ◌-◌, ℕ, zero, suc, Bool, true, false, not, ◌&&◌, List}
-use Rattle.std.proofs.Common.{[], ◌∷◌, ◌++◌, ◌∙◌, ap, arith, drop, eqb, add-zero, get_or, length}
-use Rattle.std.proofs.Common.{refl, subst, sym, take, ⊎_elim}
+use Rattle.std.proofs.Common.{◌≡◌, ◌<◌, ◌≤◌, ◌-◌, ℕ, zero, suc, Bool, true, false, not, ◌&&◌, List, [], ◌∷◌, ◌++◌, ◌∙◌, ap, arith, drop, eqb, add-zero, get_or, length, refl, subst, sym, take, ⊎_elim}
 use Rattle.std.specs.Char.{is_ascii_uppercase, to_ascii_lowercase}
 use Rattle.std.specs.List.{position_or_len}
 use Rattle.std.specs.Str.{IsUtf8, str_to_ascii_lowercase}
-use Rattle.std.proofs.lemmas.Bool.{and_parts, cases_Bool, cases_lt, cond-false, eqb-true}
-use Rattle.std.proofs.lemmas.Bool.{false≢true, ne_eqb, not-false, not-true}
+use Rattle.std.proofs.lemmas.Bool.{and_parts, cases_Bool, cases_lt, cond-false, eqb-true, false≢true, ne_eqb, not-false, not-true}
 use Rattle.std.proofs.lemmas.Bool.Decides.{nat_tests}
 use Rattle.std.proofs.lemmas.List.{drop_all, get_or-drop, length-drop, take-append-drop}
 use Rattle.std.proofs.lemmas.List.Sums.{prefix_len_stops}
 use Rattle.std.proofs.lemmas.Str.{IsUtf8-drop}
 use Rattle.uri_pct.specs.Chunks.{widest_set}
-use Rattle.uri_pct.specs.DecodeUnreserved.{LacksPastAscii, decode_unreserved}
+use Rattle.uri_pct.specs.DecodeUnreserved.{LacksPastAscii, decode_unreserved, encoded_formatting_text}
 use Rattle.uri_pct.specs.Sets.{TableSet}
 use Rattle.uri_pct.specs.Texts.{lacks}
 use Rattle.uri_pct.specs.Tokens.{IsValidFor, Octet, print, text_of_token, tokens}
-use Rattle.uri_pct.proofs.Decodings.Decoding.{BeginsWithOctet, boundary_after_octet}
-use Rattle.uri_pct.proofs.Decodings.Decoding.{bytes_from_percent_begin_with_octet}
-use Rattle.uri_pct.proofs.Decodings.Decoding.{prefix_len_bytes_pass}
+use Rattle.uri_pct.proofs.Decodings.Decoding.{BeginsWithOctet, boundary_after_octet, bytes_from_percent_begin_with_octet, prefix_len_bytes_pass}
 use Rattle.uri_ops.specs.Models.Decodings.{IsOctetAt, decoded_text, lowered_if, lowered_text_if}
-use Rattle.uri_ops.proofs.Meanings.DecodedOctets.{first_value, leading-octet-is-decoded-alone}
-use Rattle.uri_ops.proofs.Meanings.DecodedOctets.{uppercase-reserved-octet-stays}
-use Rattle.uri_ops.proofs.Meanings.DecodedPrefixes.{none_written}
-use Rattle.uri_ops.proofs.Meanings.DecodedPrefixes.{text-before-percent-is-literal-prefix}
-use Rattle.uri_ops.proofs.Meanings.WrittenFormatting.{decoding-without-formatting-is-complete}
-use Rattle.uri_ops.proofs.Meanings.WrittenFormatting.{encoding-formatting-completes-decoding}
-use Rattle.uri_ops.proofs.Meanings.WrittenFormatting.{no-byte-E2-no-formatting}
-use Rattle.uri_ops.proofs.Meanings.WrittenFormatting.{text-without-formatting-stays}
-use Rattle.uri_pct.specs.DecodeUnreserved.{encoded_formatting_text}
+use Rattle.uri_ops.proofs.Meanings.DecodedOctets.{first_value, leading-octet-is-decoded-alone, uppercase-reserved-octet-stays}
+use Rattle.uri_ops.proofs.Meanings.DecodedPrefixes.{none_written, text-before-percent-is-literal-prefix}
+use Rattle.uri_ops.proofs.Meanings.WrittenFormatting.{decoding-without-formatting-is-complete, encoding-formatting-completes-decoding, no-byte-E2-no-formatting, text-without-formatting-stays}
 use Rattle.fluent_uri_c.specs.PlainTexts.{is_kept_octet, is_lower_after}
-use Rattle.fluent_uri_c.proofs.KeptTexts.{keeps, kept-text-lacks-byte-E2, kept-text-splits}
-use Rattle.fluent_uri_c.proofs.KeptTexts.{octet-of-kept-text-is-kept}
+use Rattle.fluent_uri_c.proofs.KeptTexts.{keeps, kept-text-lacks-byte-E2, kept-text-splits, octet-of-kept-text-is-kept}
 
 -- kept components: an octet at the start of a text is at its index 0
 octet-at-start : (text : List ℕ) (o : BeginsWithOctet text) → IsUtf8 text

@@ -1,6 +1,5 @@
 -- A text each byte of which normalising keeps, with plain components, is its own normal text.
-use Rattle.std.proofs.Common.{◌≡◌, ◌||◌, ◌++◌, ◌∙◌, ℕ, Bool, true, false, cond, List, [], ap, refl}
-use Rattle.std.proofs.Common.{option_map, subst, sym}
+use Rattle.std.proofs.Common.{◌≡◌, ◌||◌, ◌++◌, ◌∙◌, ℕ, Bool, true, false, cond, List, [], ap, refl, option_map, subst, sym}
 use Rattle.std.specs.Prelude.{codes, Option, Some, None, IfNone, IfSome, is_some}
 use Rattle.std.specs.Option.{option_and_then}
 use Rattle.std.specs.Str.{IsUtf8, str_to_ascii_lowercase}
@@ -12,16 +11,13 @@ use Rattle.uri_pct.specs.Tokens.{IsValidFor, is_valid_for, print}
 use Rattle.uri_pct.proofs.Decodings.Decoding.{every_set_is_subset_of_widest}
 use Rattle.uri_pct.proofs.ValidTexts.EStrs.{valid_for_superset}
 use Rattle.uri_pct.proofs.General.{IfSome-weaken}
-use Rattle.uri_parts.specs.Authority.{AuthorityParts, IsAuthorityFor, authority_parts}
-use Rattle.uri_parts.specs.Authority.{recompose_authority}
-use Rattle.uri_parts.specs.Components.{Components, IsSplitOf, components, has_authority, marked}
-use Rattle.uri_parts.specs.Components.{recompose, starts}
+use Rattle.uri_parts.specs.Authority.{AuthorityParts, IsAuthorityFor, authority_parts, recompose_authority}
+use Rattle.uri_parts.specs.Components.{Components, IsSplitOf, components, has_authority, marked, recompose, starts}
 use Rattle.uri_parts.specs.Grammar.{IsTextOf, Kind, is_authority}
 use Rattle.uri_parts.specs.Hosts.{host_kind, ipv4_value, is_host}
 use Rattle.uri_parts.specs.Ports.{PortFunction}
 use Rattle.uri_parts.proofs.Authorities.Authority.{is_authority_for-sound, names_exclude_delimiters}
-use Rattle.uri_parts.proofs.Authorities.AuthorityPlaces.{kind_of_unbracketed_host}
-use Rattle.uri_parts.proofs.Authorities.AuthorityPlaces.{reg_name_host_is_valid}
+use Rattle.uri_parts.proofs.Authorities.AuthorityPlaces.{kind_of_unbracketed_host, reg_name_host_is_valid}
 use Rattle.uri_parts.proofs.Authorities.NamesAndPorts.{unbracketed-host-iff-valid-name}
 use Rattle.uri_parts.proofs.Authorities.WholeAuthorities.{is_unbracketed_host}
 use Rattle.uri_parts.proofs.HostForms.Hosts.{is_host-complete}
@@ -29,20 +25,17 @@ use Rattle.uri_parts.proofs.Splitting.Recompose.{components-are-split-of-text}
 use Rattle.uri_ops.specs.ComponentSets.{HasComponentSets}
 use Rattle.uri_ops.specs.Meaning.{authority_meaning, host_meaning, meaning_of, port_meaning}
 use Rattle.uri_ops.specs.Models.Unchanged.{IsUnchangedPath}
-use Rattle.uri_ops.specs.Normal.{host_text, normal_authority, normal_components, normal_path}
-use Rattle.uri_ops.specs.Normal.{normal_text}
+use Rattle.uri_ops.specs.Normal.{host_text, normal_authority, normal_components, normal_path, normal_text}
 use Rattle.uri_ops.specs.Target.{guarded}
 use Rattle.uri_ops.proofs.Meanings.AllowedParts.{is_set_text, set-text-is-valid}
-use Rattle.uri_ops.proofs.Meanings.AuthorityMeanings.{PartsUtf8, authority-parts-are-utf8}
-use Rattle.uri_ops.proofs.Meanings.AuthorityMeanings.{kind-sets-lack-authority-delimiters}
+use Rattle.uri_ops.proofs.Meanings.AuthorityMeanings.{PartsUtf8, authority-parts-are-utf8, kind-sets-lack-authority-delimiters}
 use Rattle.uri_ops.proofs.Meanings.HostMeanings.{meaning-of-name-is-lowered-decoded}
 use Rattle.uri_ops.proofs.Meanings.TextParts.{AreUtf8, ArePartsOfKind, components-of-utf8-are-utf8}
 use Rattle.uri_ops.proofs.Normal.NormalTexts.{text-has-parts-of-kind}
 use Rattle.fluent_uri_c.specs.PlainTexts.{ArePlain, IsPlain, IsPlainAuthority}
 use Rattle.fluent_uri_c.proofs.KeptDecodings.{kept-text-decodes-to-itself}
 use Rattle.fluent_uri_c.proofs.KeptPaths.{kept-path-is-unchanged}
-use Rattle.fluent_uri_c.proofs.KeptTexts.{delimited-component-of-kept-is-kept, keeps}
-use Rattle.fluent_uri_c.proofs.KeptTexts.{kept-text-splits, plain-text-is-kept}
+use Rattle.fluent_uri_c.proofs.KeptTexts.{delimited-component-of-kept-is-kept, keeps, kept-text-splits, plain-text-is-kept}
 
 -- kept texts: no component of the kind may have characters past ASCII
 pub record LacksPastAsciiIn (kind : Kind) : Type 0 where

@@ -1,7 +1,5 @@
 -- The table of the octets that normalising keeps, entry by entry.
-use Rattle.std.proofs.Common.{◌≡◌, ◌+◌, ◌-◌, ◌*◌, ◌/◌, ◌%◌, ◌^◌, ◌<◌, ◌≤◌, ℕ, Bool, true, false}
-use Rattle.std.proofs.Common.{not, ◌&&◌, ◌||◌, ◌∙◌, ◌⊎◌, inl, inr, eqb, ltb, get_or, bit_and, refl}
-use Rattle.std.proofs.Common.{sym, ap, arith}
+use Rattle.std.proofs.Common.{◌≡◌, ◌+◌, ◌-◌, ◌*◌, ◌/◌, ◌%◌, ◌^◌, ◌<◌, ◌≤◌, ℕ, Bool, true, false, not, ◌&&◌, ◌||◌, ◌∙◌, ◌⊎◌, inl, inr, eqb, ltb, get_or, bit_and, refl, sym, ap, arith}
 use Rattle.std.specs.Int.{bit_at}
 use Rattle.std.proofs.lemmas.Bool.{agree_below_at, and_parts, lt-ltb, ne_eqb, false≢true}
 use Rattle.std.proofs.lemmas.Nat.Bits.{shr_and_one}

@@ -1,6 +1,5 @@
 -- The test of a host in brackets.
-use Rattle.std.proofs.Common.{◌≡◌, ℕ, true, false, List, ◌∷◌, ◌++◌, refl, sym, ap, ◌∙◌, ◌&&◌, ◌||◌}
-use Rattle.std.proofs.Common.{[], drop, eqb, length, not}
+use Rattle.std.proofs.Common.{◌≡◌, ℕ, true, false, List, ◌∷◌, ◌++◌, refl, sym, ap, ◌∙◌, ◌&&◌, ◌||◌, [], drop, eqb, length, not}
 use Rattle.std.specs.Prelude.{bytes_eq, codes, is_some, nat_lt}
 use Rattle.std.specs.List.{prefix_len}
 use Rattle.std.proofs.Math.Bool.{or-false}

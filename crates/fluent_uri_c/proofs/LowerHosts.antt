@@ -1,6 +1,5 @@
 -- Hosts in lower case but for the digits of octets, byte by byte.
-use Rattle.std.proofs.Common.{◌≡◌, ◌+◌, ◌<◌, ℕ, zero, suc, true, false, List, [], ◌∷◌}
-use Rattle.std.proofs.Common.{◌∙◌, eqb, get_or, drop, length, refl, ap, arith, ◌≤◌, ◌-◌, ⊎_elim}
+use Rattle.std.proofs.Common.{◌≡◌, ◌+◌, ◌<◌, ℕ, zero, suc, true, false, List, [], ◌∷◌, ◌∙◌, eqb, get_or, drop, length, refl, ap, arith, ◌≤◌, ◌-◌, ⊎_elim}
 use Rattle.std.specs.Char.{is_ascii_uppercase, to_ascii_lowercase}
 use Rattle.std.specs.Str.{str_to_ascii_lowercase}
 use Rattle.std.proofs.lemmas.Bool.{and_from, cases_Bool, cond-false, cond-true, not_from_false}

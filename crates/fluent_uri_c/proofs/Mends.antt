@@ -1,6 +1,5 @@
 -- What mending returns is the result that is defined.
-use Rattle.std.proofs.Common.{◌≡◌, ◌⊎◌, ℕ, Bool, List, inl, inr, refl, sym, ap}
-use Rattle.std.proofs.Common.{◌∙◌, subst}
+use Rattle.std.proofs.Common.{◌≡◌, ◌⊎◌, ℕ, Bool, List, inl, inr, refl, sym, ap, ◌∙◌, subst}
 use Rattle.std.specs.Prelude.{IsTrue, None, Ok, Err}
 use Rattle.std.specs.Result.{is_ok}
 use Rattle.std.proofs.lemmas.Bool.{or_left, or_right}
@@ -13,8 +12,7 @@ use Rattle.uri_mend.specs.Trimming.{trimmed_link}
 use Rattle.fluent_uri_c.specs.declared.errors.Error.TheVariants as Of
 use Rattle.fluent_uri_c.specs.declared.errors.Rejection.{Rejection}
 use Rattle.fluent_uri_c.specs.Errors.{mend_rejection, rejected}
-use Rattle.fluent_uri_c.specs.Mends.{is_link_copied, mended_link_result, mended_result}
-use Rattle.fluent_uri_c.specs.Mends.{takes_memory_for_link}
+use Rattle.fluent_uri_c.specs.Mends.{is_link_copied, mended_link_result, mended_result, takes_memory_for_link}
 use Rattle.fluent_uri_c.specs.Results.{Returned, utf8_error}
 
 -- exports for C: the text that a text is mended to is the one that the contract defines

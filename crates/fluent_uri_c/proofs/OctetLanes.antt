@@ -1,11 +1,9 @@
 -- Sixteen bytes whose octets are looked at one after the other, by the bits of a mask.
-use Rattle.std.proofs.Common.{◌≡◌, ◌+◌, ◌-◌, ◌/◌, ◌^◌, ◌<◌, ◌≤◌, ℕ, true, false, ◌∙◌, eqb, sym, ap}
-use Rattle.std.proofs.Common.{arith, subst, w64, ⊎_elim}
+use Rattle.std.proofs.Common.{◌≡◌, ◌+◌, ◌-◌, ◌/◌, ◌^◌, ◌<◌, ◌≤◌, ℕ, true, false, ◌∙◌, eqb, sym, ap, arith, subst, w64, ⊎_elim}
 use Rattle.std.specs.Int.{bit_at, trailing_zeros}
 use Rattle.std.proofs.lemmas.Bool.{cases_lt, eqb-true, false≢true}
 use Rattle.std.proofs.lemmas.Nat.Bits.{bit_at-zero, bit_at_above}
-use Rattle.uri_pct.proofs.LaneScans.LaneBits.{bit_of_right_shift, is_set_bit}
-use Rattle.uri_pct.proofs.LaneScans.LaneBits.{trailing_zeros_is_first_set_lane}
+use Rattle.uri_pct.proofs.LaneScans.LaneBits.{bit_of_right_shift, is_set_bit, trailing_zeros_is_first_set_lane}
 
 -- octets of sixteen bytes: the bits of the mask from a lane on are those of what is left of it
 module _ (octets left lane : ℕ) (small : octets < 2 ^ 16)

@@ -1,6 +1,5 @@
 -- Exports for C: the order of keys of tables, which are normal forms.
-use Rattle.std.proofs.Common.{◌≡◌, ◌↔◌, ◌⊎◌, inl, inr, ℕ, Bool, true, false, List, [], ◌∷◌, ◌++◌}
-use Rattle.std.proofs.Common.{refl, sym, ap, ◌∙◌, Option, Some, None, Ok, Ordering, Equal, reverse}
+use Rattle.std.proofs.Common.{◌≡◌, ◌↔◌, ◌⊎◌, inl, inr, ℕ, Bool, true, false, List, [], ◌∷◌, ◌++◌, refl, sym, ap, ◌∙◌, Option, Some, None, Ok, Ordering, Equal, reverse}
 use Rattle.std.proofs.lemmas.Map.Text.{is_eq-slice_cmp}
 use Rattle.std.proofs.lemmas.Slice.Eq.{bytes_eq-Decides}
 use Rattle.std.specs.Cmp.{Equal-is}
@@ -18,8 +17,7 @@ use Rattle.uri_rules.specs.Standard.{standard_rules}
 use Rattle.fluent_uri_c.specs.declared.fnv.Fnv.{Fnv}
 use Rattle.fluent_uri_c.specs.Fnv.{fnv_bytes, fnv_write}
 use Rattle.fluent_uri_c.specs.Orders.{AreOneKey, byte_order, key_order, normal_key, order_of_keys}
-use Rattle.fluent_uri_c.specs.Results.{normal_form_of, normal_result, rejection_or_result}
-use Rattle.fluent_uri_c.specs.Results.{text_error}
+use Rattle.fluent_uri_c.specs.Results.{normal_form_of, normal_result, rejection_or_result, text_error}
 
 -- exports for C: a normal form by the rules of schemes is that of the order by them
 pub form-by-rules : (by_rules : Bool) → by_rules ≡ true → (kind : Kind) (text : List ℕ)

@@ -1,15 +1,12 @@
 -- No call is defined to return that memory is out: that comes from a denied request alone.
 use Rattle.std.proofs.Common.{◌≡◌, ℕ, Bool, true, false, List, refl, sym, ap, subst, ◌∙◌, inl, inr}
-use Rattle.std.specs.Prelude.{◌==◌, Option, Some, None, Result, Ok, Err, IsTrue, ◌⊎◌, if◌then◌else◌}
-use Rattle.std.specs.Prelude.{nat_lt, option_map, length}
+use Rattle.std.specs.Prelude.{◌==◌, Option, Some, None, Result, Ok, Err, IsTrue, ◌⊎◌, if◌then◌else◌, nat_lt, option_map, length}
 use Rattle.std.specs.Result.{result_map_both}
 use Rattle.std.specs.Str.Lossy.{utf8_valid_len}
 use Rattle.std.proofs.lemmas.Bool.{both_ways}
 use Rattle.uri_parts.specs.declared.error.ParseError.{ParseError}
 use Rattle.uri_parts.specs.declared.error.ParseErrorKind.{ParseErrorKind}
-use Rattle.uri_parts.specs.declared.error.ParseErrorKind.TheVariants.{InvalidPctEncodedOctet}
-use Rattle.uri_parts.specs.declared.error.ParseErrorKind.TheVariants.{UnexpectedChar}
-use Rattle.uri_parts.specs.declared.error.ParseErrorKind.TheVariants.{InvalidIpv6Addr}
+use Rattle.uri_parts.specs.declared.error.ParseErrorKind.TheVariants.{InvalidPctEncodedOctet, UnexpectedChar, InvalidIpv6Addr}
 use Rattle.uri_parts.specs.Components.{components}
 use Rattle.uri_parts.specs.Grammar.{Kind}
 use Rattle.uri_parts.specs.Refusals.{refusal}
@@ -20,24 +17,14 @@ use Rattle.uri_relative.specs.Rule.{reference_to}
 use Rattle.uri_basic.specs.Target as Basic
 use Rattle.uri_mend.specs.Mending.{can_be_mended, mended_text}
 use Rattle.uri_mend.specs.Trimming.{trimmed_link}
-use Rattle.fluent_uri_c.specs.declared.errors.Error.TheVariants.{OutOfMemory, InvalidArgument}
-use Rattle.fluent_uri_c.specs.declared.errors.Error.TheVariants.{NotUtf8}
+use Rattle.fluent_uri_c.specs.declared.errors.Error.TheVariants.{OutOfMemory, InvalidArgument, NotUtf8}
 use Rattle.fluent_uri_c.specs.declared.errors.Rejection.{Rejection}
-use Rattle.fluent_uri_c.specs.Errors.{error_of_kind, in_reference, number_of, parse_rejection}
-use Rattle.fluent_uri_c.specs.Errors.{rejected, rejected_at}
+use Rattle.fluent_uri_c.specs.Errors.{error_of_kind, in_reference, number_of, parse_rejection, rejected, rejected_at}
 use Rattle.fluent_uri_c.specs.Kinds.{base_numbered, iri_numbered, kind_numbered}
 use Rattle.fluent_uri_c.specs.Mends.{mend_link_result, mend_result, unmendable_error}
 use Rattle.fluent_uri_c.specs.Options.{basic_choice, path_preference, rules_choice}
 use Rattle.fluent_uri_c.specs.Relatives.{relativize_result}
-use Rattle.fluent_uri_c.specs.Results.{IsReturnedOrDenied, Returned, second_text_error, with_base}
-use Rattle.fluent_uri_c.specs.Results.{basic_resolution, component_error, component_refusal}
-use Rattle.fluent_uri_c.specs.Results.{decode_result, encode_result, error_of_basic_target}
-use Rattle.fluent_uri_c.specs.Results.{error_of_target, resolution_by, first_rejection}
-use Rattle.fluent_uri_c.specs.Results.{is_out_of_memory, is_possible_length, length_error}
-use Rattle.fluent_uri_c.specs.Results.{normal_form_of, normal_resolution, normalize_result}
-use Rattle.fluent_uri_c.specs.Results.{rejection_or_result, resolution, resolve_result}
-use Rattle.fluent_uri_c.specs.Results.{resolve_normalized_result, text_error, to_uri_result}
-use Rattle.fluent_uri_c.specs.Results.{utf8_error, with_valid_number}
+use Rattle.fluent_uri_c.specs.Results.{IsReturnedOrDenied, Returned, second_text_error, with_base, basic_resolution, component_error, component_refusal, decode_result, encode_result, error_of_basic_target, error_of_target, resolution_by, first_rejection, is_out_of_memory, is_possible_length, length_error, normal_form_of, normal_resolution, normalize_result, rejection_or_result, resolution, resolve_result, resolve_normalized_result, text_error, to_uri_result, utf8_error, with_valid_number}
 use Rattle.fluent_uri_c.specs.Sets.{decoding_set, encoding_set}
 
 -- exports for C: whether a rejection, if there is one, is that memory is out

@@ -6,14 +6,11 @@ use Rattle.fluent_uri.specs.References.{reference_text}
 use Rattle.fluent_uri_c.specs.declared.bases.Base.{Base}
 use Rattle.fluent_uri_c.specs.declared.bases.Base.TheVariants.{Iri, Rejected, Uri}
 use Rattle.fluent_uri_c.specs.declared.errors.Rejection.{Rejection}
-use Rattle.fluent_uri_c.specs.Bases.{IsBaseOf, IsParsedBase, by_base}
-use Rattle.fluent_uri_c.specs.Bases.{normal_target_by, reference_by, target_by}
+use Rattle.fluent_uri_c.specs.Bases.{IsBaseOf, IsParsedBase, by_base, normal_target_by, reference_by, target_by}
 use Rattle.fluent_uri_c.specs.Kinds.{base_numbered}
 use Rattle.fluent_uri_c.specs.Options.{basic_choice, path_preference, rules_choice}
 use Rattle.fluent_uri_c.specs.Relatives.{reference_from, relativize_result}
-use Rattle.fluent_uri_c.specs.Results.{Returned, normal_target_from, rejection_or_result}
-use Rattle.fluent_uri_c.specs.Results.{resolve_normalized_result, resolve_result, target_from}
-use Rattle.fluent_uri_c.specs.Results.{text_error, with_base, with_valid_number}
+use Rattle.fluent_uri_c.specs.Results.{Returned, normal_target_from, rejection_or_result, resolve_normalized_result, resolve_result, target_from, text_error, with_base, with_valid_number}
 use Rattle.fluent_uri_c.specs.Spans.{parse_error}
 
 of_parsed_base : (result : Kind → List ℕ → Returned) (n : ℕ) (bytes text : List ℕ) (kind : Kind)

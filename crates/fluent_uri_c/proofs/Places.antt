@@ -1,6 +1,5 @@
 -- The components of a text, and the parts of its authority, at their offsets.
-use Rattle.std.proofs.Common.{◌≡◌, ◌∙◌, ◌+◌, ◌-◌, ◌<◌, ◌≤◌, ℕ, true, List, length, take, drop, refl}
-use Rattle.std.proofs.Common.{ap, arith, inl, inr, subst, sym}
+use Rattle.std.proofs.Common.{◌≡◌, ◌∙◌, ◌+◌, ◌-◌, ◌<◌, ◌≤◌, ℕ, true, List, length, take, drop, refl, ap, arith, inl, inr, subst, sym}
 use Rattle.std.specs.Prelude.{Option, Some, None, IfSome, option_map, slice_range}
 use Rattle.std.specs.Str.{IsUtf8}
 use Rattle.std.proofs.lemmas.List.{drop-drop, take-take, take_rest}
@@ -11,20 +10,15 @@ use Rattle.uri_parts.specs.declared.positions.AuthorityPositions.{AuthorityPosit
 use Rattle.uri_parts.specs.Authority.{authority_parts, is_authority_for}
 use Rattle.uri_parts.specs.Components.{components}
 use Rattle.uri_parts.specs.Grammar.{Kind, IsOfKind}
-use Rattle.uri_parts.specs.Positions.{ArePositionsOf, authority_at, delimited_length, host_start_of}
-use Rattle.uri_parts.specs.Positions.{host_end_of}
-use Rattle.uri_parts.proofs.Authorities.AuthorityPlaces.{host_is_at_positions, port_follows_host}
-use Rattle.uri_parts.proofs.Authorities.AuthorityPlaces.{port_is_after_host}
-use Rattle.uri_parts.proofs.Authorities.AuthorityPlaces.{userinfo_is_before_host}
+use Rattle.uri_parts.specs.Positions.{ArePositionsOf, authority_at, delimited_length, host_start_of, host_end_of}
+use Rattle.uri_parts.proofs.Authorities.AuthorityPlaces.{host_is_at_positions, port_follows_host, port_is_after_host, userinfo_is_before_host}
 use Rattle.uri_parts.proofs.Splitting.ComponentPositions.{authority_is_at_positions}
 use Rattle.uri_parts.proofs.Splitting.Places.{IsComponentAt}
 use Rattle.uri_parts.proofs.TextKinds.ComponentRules.{authority-of-text-of-kind-is-valid}
 use Rattle.uri_ops.proofs.Meanings.TextParts.{components-of-utf8-are-utf8}
 use Rattle.fluent_uri_c.specs.declared.parts.Parts.{Parts}
 use Rattle.fluent_uri_c.specs.declared.parts.Span.{Span}
-use Rattle.fluent_uri_c.specs.Spans.{AreSpansOf, IsSpan, absent, authority_host_number}
-use Rattle.fluent_uri_c.specs.Spans.{authority_start, fragment_start, host_of, host_start}
-use Rattle.fluent_uri_c.specs.Spans.{path_start, port_of, port_start, query_start, userinfo_of}
+use Rattle.fluent_uri_c.specs.Spans.{AreSpansOf, IsSpan, absent, authority_host_number, authority_start, fragment_start, host_of, host_start, path_start, port_of, port_start, query_start, userinfo_of}
 
 -- parts for C: a component at its positions is the span from start to end
 pub IsSpan-of-positions : (text : List ℕ) (begin start end : ℕ) (part : Option (List ℕ))

@@ -1,12 +1,10 @@
 -- Plain texts: those that are found to be their own normal forms by their bytes and their parts.
-use Rattle.std.proofs.Common.{◌≡◌, ◌∙◌, ◌<◌, ℕ, Bool, true, false, cond, eqb, ltb, List, length}
-use Rattle.std.proofs.Common.{ap, arith, refl, subst, sym}
+use Rattle.std.proofs.Common.{◌≡◌, ◌∙◌, ◌<◌, ℕ, Bool, true, false, cond, eqb, ltb, List, length, ap, arith, refl, subst, sym}
 use Rattle.std.specs.Prelude.{Option, Some, None, Ok, IfSome, IsSomeAnd, slice_range}
 use Rattle.std.specs.Str.{str_to_ascii_lowercase}
 use Rattle.std.proofs.lemmas.Bool.{eqb-true, false≢true}
 use Rattle.fluent_uri.specs.Components.{components, starts}
-use Rattle.uri_parts.specs.Grammar.{IsTextOf, Kind, iri, iri_ref, kind_by_flags, uri}
-use Rattle.uri_parts.specs.Grammar.{uri_ref}
+use Rattle.uri_parts.specs.Grammar.{IsTextOf, Kind, iri, iri_ref, kind_by_flags, uri, uri_ref}
 use Rattle.fluent_uri.specs.SchemePorts.{default_port}
 use Rattle.uri_ops.specs.ComponentSets.{HasComponentSets}
 use Rattle.uri_ops.specs.Normal.{normal_scheme, normal_text}
@@ -16,8 +14,7 @@ use Rattle.fluent_uri_c.specs.declared.parts.Parts.{Parts}
 use Rattle.fluent_uri_c.specs.declared.parts.Span.{Span}
 use Rattle.fluent_uri_c.specs.Kinds.{kind_numbered}
 use Rattle.fluent_uri_c.specs.PlainTexts.{ArePlain, IsPlain, IsPlainAuthority, is_lower_after}
-use Rattle.fluent_uri_c.specs.Results.{IsPossibleText, normal_form_of, normal_result}
-use Rattle.fluent_uri_c.specs.Results.{normalize_result, rejection_or_result, with_valid_number}
+use Rattle.fluent_uri_c.specs.Results.{IsPossibleText, normal_form_of, normal_result, normalize_result, rejection_or_result, with_valid_number}
 use Rattle.fluent_uri_c.specs.Spans.{ArePartsOf, IsSpan, host_of, parse_error, port_of}
 use Rattle.fluent_uri_c.proofs.KeptNormalForms.{LacksPastAsciiIn, kept-text-is-its-normal-text}
 use Rattle.fluent_uri_c.proofs.KeptTexts.{plain-text-is-kept}

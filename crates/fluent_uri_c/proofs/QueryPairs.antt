@@ -1,6 +1,5 @@
 -- The next pair of a query, as C gets it.
-use Rattle.std.proofs.Common.{ℕ, ◌<◌, ◌≤◌, List, refl, sym, subst, ◌∙◌, arith}
-use Rattle.std.proofs.Common.{⊎_elim, length, ◌+◌}
+use Rattle.std.proofs.Common.{ℕ, ◌<◌, ◌≤◌, List, refl, sym, subst, ◌∙◌, arith, ⊎_elim, length, ◌+◌}
 use Rattle.std.specs.Prelude.{Some, slice_range}
 use Rattle.std.proofs.lemmas.Bool.{cases_lt, cond-false, cond-true, le-ltb, lt-ltb}
 use Rattle.uri_query.specs.declared.places.PairPlace.{PairPlace}

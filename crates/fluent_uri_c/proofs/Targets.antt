@@ -21,10 +21,7 @@ use Rattle.uri_basic.specs.Target as Basic
 use Rattle.fluent_uri_c.specs.declared.errors.Error.TheVariants.{OutOfMemory}
 use Rattle.fluent_uri_c.specs.declared.errors.Rejection.{Rejection}
 use Rattle.fluent_uri_c.specs.Errors.{basic_resolve_rejection, rejected, resolve_rejection}
-use Rattle.fluent_uri_c.specs.Results.{IsReturnedAs, IsTargetReturned, Returned, basic_resolution}
-use Rattle.fluent_uri_c.specs.Results.{error_of_basic_target, error_of_target, normal_form_of}
-use Rattle.fluent_uri_c.specs.Results.{normal_resolution, normal_result, resolution, resolution_by}
-use Rattle.fluent_uri_c.specs.Results.{rejection_or_result, takes_memory_for_target, text_error}
+use Rattle.fluent_uri_c.specs.Results.{IsReturnedAs, IsTargetReturned, Returned, basic_resolution, error_of_basic_target, error_of_target, normal_form_of, normal_resolution, normal_result, resolution, resolution_by, rejection_or_result, takes_memory_for_target, text_error}
 
 -- exports for C: the result of resolving: a target, or the rejection
 returned_of : Result (List ℕ) Target.TargetError → Returned

@@ -1,7 +1,5 @@
 -- What is written of lines, and what a batch of them leaves.
-use Rattle.std.proofs.Common.{◌≡◌, ◌≢◌, ℕ, zero, suc, ◌+◌, ◌<◌, ◌≤◌, List, [], ◌∷◌, ◌++◌, length}
-use Rattle.std.proofs.Common.{take, drop, refl, sym, ap, ◌∙◌, arith, append_assoc, length-append}
-use Rattle.std.proofs.Common.{true, false, Bool, ◌⊎◌, inl, inr}
+use Rattle.std.proofs.Common.{◌≡◌, ◌≢◌, ℕ, zero, suc, ◌+◌, ◌<◌, ◌≤◌, List, [], ◌∷◌, ◌++◌, length, take, drop, refl, sym, ap, ◌∙◌, arith, append_assoc, length-append, true, false, Bool, ◌⊎◌, inl, inr}
 use Rattle.std.specs.Prelude.{Some, None, IsSome, IsTrue, cond, slice_get, nat_lt}
 use Rattle.std.specs.List.{position, position_or_len}
 use Rattle.std.specs.Result.{result_ok}
@@ -15,9 +13,7 @@ use Rattle.fluent_uri_c.specs.Endings.{EndsAt}
 use Rattle.fluent_uri_c.specs.Kinds.{kind_numbered}
 use Rattle.fluent_uri_c.specs.Options.{rules_choice}
 use Rattle.fluent_uri_c.specs.Outcomes.{outcome_of_batch}
-use Rattle.fluent_uri_c.specs.Lines.{HasConsumed, IsFullAt, LeavesLines, LineBuffers}
-use Rattle.fluent_uri_c.specs.Lines.{TakesMemoryAt, is_newline, lines_of, newline}
-use Rattle.fluent_uri_c.specs.Lines.{error_number_at, number_returned, written_at}
+use Rattle.fluent_uri_c.specs.Lines.{HasConsumed, IsFullAt, LeavesLines, LineBuffers, TakesMemoryAt, is_newline, lines_of, newline, error_number_at, number_returned, written_at}
 use Rattle.fluent_uri_c.specs.Results.{is_possible_length, normalize_result}
 
 -- lines for C: a value that is there only if b is true is that value

@@ -1,6 +1,5 @@
 -- What a call leaves that writes a value.
-use Rattle.std.proofs.Common.{◌≡◌, ◌+◌, ◌≤◌, ◌++◌, ◌∙◌, ℕ, Bool, List, Ok, ap, arith, drop, length}
-use Rattle.std.proofs.Common.{length-append, refl, subst, sym, take}
+use Rattle.std.proofs.Common.{◌≡◌, ◌+◌, ◌≤◌, ◌++◌, ◌∙◌, ℕ, Bool, List, Ok, ap, arith, drop, length, length-append, refl, subst, sym, take}
 use Rattle.std.proofs.lemmas.Bool.{cond-false, le-ltb}
 use Rattle.std.proofs.lemmas.List.{take_at}
 use Rattle.fluent_uri_c.specs.declared.outcome.Outcome.{Outcome}

@@ -1,6 +1,5 @@
 -- Hosts in ASCII, as DNS has them: RFC 3987, section 3.1, and UTS 46, section 4.2.
-use Rattle.std.specs.Prelude.{ℕ, ◌&&◌, Bool, false, not, List, [], Option}
-use Rattle.std.specs.Prelude.{is_none, ok_or, option_map, unwrap_or, if◌then◌else◌}
+use Rattle.std.specs.Prelude.{ℕ, ◌&&◌, Bool, false, not, List, [], Option, is_none, ok_or, option_map, unwrap_or, if◌then◌else◌}
 use Rattle.std.specs.Option.{option_map_or}
 use Rattle.std.specs.Str.{is_utf8}
 use Rattle.fluent_uri.specs.Components.{components}
@@ -15,8 +14,7 @@ use Rattle.fluent_uri_c.specs.declared.errors.Error.TheVariants as Of
 use Rattle.fluent_uri_c.specs.declared.errors.Rejection.{Rejection}
 use Rattle.fluent_uri_c.specs.Errors.{rejected}
 use Rattle.fluent_uri_c.specs.Kinds.{iri_numbered, kind_numbered}
-use Rattle.fluent_uri_c.specs.Results.{Returned, rejection_or_result, text_error}
-use Rattle.fluent_uri_c.specs.Results.{with_valid_number}
+use Rattle.fluent_uri_c.specs.Results.{Returned, rejection_or_result, text_error, with_valid_number}
 use Rattle.fluent_uri_c.specs.Spans.{host_of}
 
 -- the rejection of a call for an error of a host

@@ -7,8 +7,7 @@ use Rattle.fluent_uri_c.specs.declared.bases.Base.TheVariants.{Iri, Rejected, Ur
 use Rattle.fluent_uri_c.specs.Kinds.{base_numbered}
 use Rattle.fluent_uri_c.specs.Options.{basic_choice, path_preference, rules_choice}
 use Rattle.fluent_uri_c.specs.Relatives.{reference_from}
-use Rattle.fluent_uri_c.specs.Results.{Returned, normal_target_from, target_from, text_error}
-use Rattle.fluent_uri_c.specs.Results.{with_valid_number}
+use Rattle.fluent_uri_c.specs.Results.{Returned, normal_target_from, target_from, text_error, with_valid_number}
 use Rattle.fluent_uri_c.specs.Spans.{parse_error}
 
 -- the text is what the bytes are as a base of the kind, which has the number in the C header

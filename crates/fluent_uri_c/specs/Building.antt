@@ -1,7 +1,5 @@
 -- The reference that a call for C builds of components: RFC 3986, sections 3 and 5.3.
-use Rattle.std.specs.Prelude.{◌≡◌, ℕ, ◌-◌, ◌^◌, ◌==◌, ◌&&◌, ◌||◌, Bool, true, List, [], length}
-use Rattle.std.specs.Prelude.{nat_le, Option, Some, None, Ok, IfSome, is_none, is_some, option_map}
-use Rattle.std.specs.Prelude.{slice_index, slice_range, unwrap_or, if◌then◌else◌}
+use Rattle.std.specs.Prelude.{◌≡◌, ℕ, ◌-◌, ◌^◌, ◌==◌, ◌&&◌, ◌||◌, Bool, true, List, [], length, nat_le, Option, Some, None, Ok, IfSome, is_none, is_some, option_map, slice_index, slice_range, unwrap_or, if◌then◌else◌}
 use Rattle.std.specs.Char.{is_ascii_alphabetic}
 use Rattle.std.specs.Str.{is_utf8}
 use Rattle.fluent_uri.specs.Authority.{AuthorityParts, authority_parts, recompose_authority}
@@ -21,8 +19,7 @@ use Rattle.fluent_uri_c.specs.declared.errors.Rejection.{Rejection}
 use Rattle.fluent_uri_c.specs.declared.parts.Span.{Span}
 use Rattle.fluent_uri_c.specs.Errors.{in_component, rejected, rejected_at}
 use Rattle.fluent_uri_c.specs.Kinds.{kind_numbered}
-use Rattle.fluent_uri_c.specs.Results.{Returned, component_error, first_rejection, length_error}
-use Rattle.fluent_uri_c.specs.Results.{rejection_or_result, utf8_error, with_valid_number}
+use Rattle.fluent_uri_c.specs.Results.{Returned, component_error, first_rejection, length_error, rejection_or_result, utf8_error, with_valid_number}
 
 -- whether a span that C gives says that its component is absent
 abbrev pub is_absent : Span → Bool

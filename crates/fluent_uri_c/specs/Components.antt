@@ -1,6 +1,5 @@
 -- The components by the numbers of the header: RFC 3986, section 3.
-use Rattle.std.specs.Prelude.{ℕ, List, ◌==◌, Option, Some, None, is_none, option_and_then}
-use Rattle.std.specs.Prelude.{if◌then◌else◌}
+use Rattle.std.specs.Prelude.{ℕ, List, ◌==◌, Option, Some, None, is_none, option_and_then, if◌then◌else◌}
 use Rattle.fluent_uri.specs.Authority.{authority_parts}
 use Rattle.fluent_uri.specs.Components.{components}
 use Rattle.fluent_uri.specs.Grammar.{Kind}

@@ -1,7 +1,5 @@
 -- What the batch over lines leaves: std's `slice_split` says what the lines are.
-use Rattle.std.specs.Prelude.{◌≡◌, ◌⊎◌, ℕ, suc, ◌+◌, ◌<◌, ◌≤◌, List, [], ◌∷◌, ◌++◌, length, drop}
-use Rattle.std.specs.Prelude.{◌==◌, Bool, ◌&&◌, Option, Ok, Err, option_map, slice_get, is_some}
-use Rattle.std.specs.Prelude.{IsOk, IsFalse, IsSomeAnd, IsTrue}
+use Rattle.std.specs.Prelude.{◌≡◌, ◌⊎◌, ℕ, suc, ◌+◌, ◌<◌, ◌≤◌, List, [], ◌∷◌, ◌++◌, length, drop, ◌==◌, Bool, ◌&&◌, Option, Ok, Err, option_map, slice_get, is_some, IsOk, IsFalse, IsSomeAnd, IsTrue}
 use Rattle.std.specs.List.{slice_split}
 use Rattle.std.specs.Result.{result_ok}
 use Rattle.fluent_uri_c.specs.Columns.{SaysFullIfFull, bytes_of, joined_results}

@@ -1,6 +1,5 @@
 -- What a text is mended to by a call for C: RFC 3986, sections 2.1 and 4.2.
-use Rattle.std.specs.Prelude.{ℕ, Bool, ◌&&◌, ◌||◌, List, Option, None, Ok, is_none, is_some}
-use Rattle.std.specs.Prelude.{if◌then◌else◌, option_map}
+use Rattle.std.specs.Prelude.{ℕ, Bool, ◌&&◌, ◌||◌, List, Option, None, Ok, is_none, is_some, if◌then◌else◌, option_map}
 use Rattle.std.specs.List.{list_any}
 use Rattle.std.specs.Result.{is_ok}
 use Rattle.fluent_uri.specs.Grammar.{Kind}
@@ -11,8 +10,7 @@ use Rattle.uri_mend.specs.Trimming.{tab_and_newlines, trimmed_link, without_oute
 use Rattle.fluent_uri_c.specs.declared.errors.Rejection.{Rejection}
 use Rattle.fluent_uri_c.specs.Errors.{parse_rejection}
 use Rattle.fluent_uri_c.specs.Kinds.{kind_numbered}
-use Rattle.fluent_uri_c.specs.Results.{Returned, first_rejection, rejection_or_result, utf8_error}
-use Rattle.fluent_uri_c.specs.Results.{with_valid_number}
+use Rattle.fluent_uri_c.specs.Results.{Returned, first_rejection, rejection_or_result, utf8_error, with_valid_number}
 
 -- why a text cannot be mended to one of the kind, if it cannot: the error of parsing it
 abbrev pub unmendable_error : Kind → List ℕ → Option Rejection

@@ -1,7 +1,5 @@
 -- The origin of a URI, in ASCII: RFC 6454, sections 4 and 6.2.
-use Rattle.std.specs.Prelude.{ℕ, ◌++◌, ◌==◌, ◌&&◌, Bool, true, false, List, [], codes, decimal}
-use Rattle.std.specs.Prelude.{length, nat_lt, Option, Some, None, Ok, is_some, option_map}
-use Rattle.std.specs.Prelude.{if◌then◌else◌}
+use Rattle.std.specs.Prelude.{ℕ, ◌++◌, ◌==◌, ◌&&◌, Bool, true, false, List, [], codes, decimal, length, nat_lt, Option, Some, None, Ok, is_some, option_map, if◌then◌else◌}
 use Rattle.std.specs.Option.{option_map_or}
 use Rattle.std.specs.Str.{str_to_ascii_lowercase}
 use Rattle.fluent_uri.specs.Authority.{AuthorityParts, authority_parts}
@@ -9,8 +7,7 @@ use Rattle.fluent_uri.specs.Components.{components, marked}
 use Rattle.fluent_uri.specs.Grammar.{Kind, uri, uri_ref}
 use Rattle.uri_parts.specs.Ports.{port_number}
 use Rattle.uri_parts.specs.SchemePorts.{default_port}
-use Rattle.fluent_uri_c.specs.Results.{Returned, normal_form_of, rejection_or_result, text_error}
-use Rattle.fluent_uri_c.specs.Results.{with_valid_number}
+use Rattle.fluent_uri_c.specs.Results.{Returned, normal_form_of, rejection_or_result, text_error, with_valid_number}
 
 -- whether the number of a port is below 65536, if there is one
 abbrev pub is_possible_port : Option ℕ → Bool

@@ -1,6 +1,5 @@
 -- What a call leaves in its caller's memory.
-use Rattle.std.specs.Prelude.{◌≡◌, ◌≢◌, ◌⊎◌, ℕ, Bool, List, ◌++◌, length, drop, nat_lt, Err}
-use Rattle.std.specs.Prelude.{IsOkAnd, IsTrue, if◌then◌else◌}
+use Rattle.std.specs.Prelude.{◌≡◌, ◌≢◌, ◌⊎◌, ℕ, Bool, List, ◌++◌, length, drop, nat_lt, Err, IsOkAnd, IsTrue, if◌then◌else◌}
 use Rattle.std.specs.Result.{is_ok}
 use Rattle.fluent_uri_c.specs.declared.errors.Error.TheVariants.{OutOfMemory}
 use Rattle.fluent_uri_c.specs.declared.errors.Rejection.{Rejection}

@@ -1,6 +1,5 @@
 -- The pairs of a query, as the caller learns them: RFC 3986, section 3.4.
-use Rattle.std.specs.Prelude.{◌≡◌, ◌≢◌, ℕ, ◌+◌, ◌<◌, ◌≤◌, List, [], ◌∷◌, Some, drop, length}
-use Rattle.std.specs.Prelude.{IsTrue, nat_lt, slice_range, if◌then◌else◌}
+use Rattle.std.specs.Prelude.{◌≡◌, ◌≢◌, ℕ, ◌+◌, ◌<◌, ◌≤◌, List, [], ◌∷◌, Some, drop, length, IsTrue, nat_lt, slice_range, if◌then◌else◌}
 use Rattle.uri_query.specs.Pairs.{nonempty_substrings, text_before_equals}
 use Rattle.uri_query.specs.Places.{value_of_pair}
 use Rattle.uri_query.specs.declared.places.PairPlace.{PairPlace}

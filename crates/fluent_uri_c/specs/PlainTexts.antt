@@ -1,7 +1,5 @@
 -- What is asked of a text that is plainly its own normal form: RFC 3986, section 6.2.2.
-use Rattle.std.specs.Prelude.{◌≡◌, ◌&&◌, ◌||◌, ◌==◌, ℕ, zero, suc, ◌+◌, ◌*◌, ◌<◌, Bool, true, false}
-use Rattle.std.specs.Prelude.{not, List, [], ◌∷◌, None, IfSome, length, nat_lt, slice_index}
-use Rattle.std.specs.Prelude.{if◌then◌else◌}
+use Rattle.std.specs.Prelude.{◌≡◌, ◌&&◌, ◌||◌, ◌==◌, ℕ, zero, suc, ◌+◌, ◌*◌, ◌<◌, Bool, true, false, not, List, [], ◌∷◌, None, IfSome, length, nat_lt, slice_index, if◌then◌else◌}
 use Rattle.std.specs.Char.{digit_value, is_ascii_uppercase}
 use Rattle.uri_pct.specs.Delimiters.{full_stop, left_bracket, percent_sign, slash}
 use Rattle.uri_pct.specs.Sets.{is_unreserved}

@@ -4,8 +4,7 @@ use Rattle.std.specs.Prelude.{ℕ, Bool, List, Ok}
 use Rattle.fluent_uri.specs.Grammar.{Kind}
 use Rattle.uri_relative.specs.Rule.{reference_to}
 use Rattle.fluent_uri_c.specs.Options.{path_preference}
-use Rattle.fluent_uri_c.specs.Results.{Returned, rejection_or_result, second_text_error, with_base}
-use Rattle.fluent_uri_c.specs.Results.{with_valid_number}
+use Rattle.fluent_uri_c.specs.Results.{Returned, rejection_or_result, second_text_error, with_base, with_valid_number}
 
 -- the result of a call for C that makes a reference from a text of the kind, the base, to a target,
 -- in this order; the Bool is whether a relative path is preferred to a shorter one from the root

@@ -1,7 +1,5 @@
 -- The result of each call for its arguments: a text, or why there is none.
-use Rattle.std.specs.Prelude.{◌≡◌, ◌⊎◌, ℕ, ◌^◌, Bool, false, true, ◌==◌, List, length, nat_lt}
-use Rattle.std.specs.Prelude.{Option, Some, None}
-use Rattle.std.specs.Prelude.{Result, Ok, Err, IsFalse, IsTrue, option_map, if◌then◌else◌}
+use Rattle.std.specs.Prelude.{◌≡◌, ◌⊎◌, ℕ, ◌^◌, Bool, false, true, ◌==◌, List, length, nat_lt, Option, Some, None, Result, Ok, Err, IsFalse, IsTrue, option_map, if◌then◌else◌}
 use Rattle.std.specs.Str.{IsUtf8}
 use Rattle.std.specs.Result.{is_ok, result_map_both}
 use Rattle.std.specs.Str.Lossy.{utf8_valid_len}
@@ -24,8 +22,7 @@ use Rattle.uri_setting.specs.Settings.{rules_set}
 use Rattle.uri_basic.specs.Target as Basic
 use Rattle.fluent_uri_c.specs.declared.errors.Error.TheVariants as Of
 use Rattle.fluent_uri_c.specs.declared.errors.Rejection.{Rejection}
-use Rattle.fluent_uri_c.specs.Errors.{in_reference, number_of, parse_rejection, rejected}
-use Rattle.fluent_uri_c.specs.Errors.{rejected_at}
+use Rattle.fluent_uri_c.specs.Errors.{in_reference, number_of, parse_rejection, rejected, rejected_at}
 use Rattle.fluent_uri_c.specs.Kinds.{kind_numbered, base_numbered, iri_numbered}
 use Rattle.fluent_uri_c.specs.Options.{basic_choice, rules_choice}
 use Rattle.fluent_uri_c.specs.Sets.{encoding_set, decoding_set}

@@ -3,12 +3,10 @@ use Rattle.std.specs.Prelude.{ℕ, List, Option, Bool, false, ◌&&◌, nat_lt, 
 use Rattle.std.specs.Result.{is_ok, result_ok}
 use Rattle.fluent_uri_c.specs.Kinds.{kind_numbered, base_numbered, iri_numbered}
 use Rattle.fluent_uri_c.specs.Components.{component_result}
-use Rattle.fluent_uri_c.specs.Results.{normalize_result, to_uri_result, resolve_result}
+use Rattle.fluent_uri_c.specs.Results.{normalize_result, to_uri_result, resolve_result, decode_result, encode_result, is_possible_length, resolve_normalized_result, takes_memory_for_target}
 use Rattle.fluent_uri_c.specs.Mends.{mend_link_result, mend_link_takes_memory, mend_result}
 use Rattle.fluent_uri_c.specs.Options.{basic_choice, path_preference, rules_choice}
 use Rattle.fluent_uri_c.specs.Relatives.{relativize_result}
-use Rattle.fluent_uri_c.specs.Results.{decode_result, encode_result, is_possible_length}
-use Rattle.fluent_uri_c.specs.Results.{resolve_normalized_result, takes_memory_for_target}
 use Rattle.fluent_uri_c.specs.Sets.{decoding_set, encoding_set}
 
 -- A call on one text, which a batch makes for each text of a column.

@@ -1,6 +1,5 @@
 -- Where the components of a text are, as the caller learns it: RFC 3986, section 3.
-use Rattle.std.specs.Prelude.{◌≡◌, ◌≢◌, ◌↔◌, ℕ, ◌≤◌, ◌+◌, ◌-◌, ◌^◌, List, Option, Some, None}
-use Rattle.std.specs.Prelude.{length, slice_range, option_and_then, option_map, IsSomeAnd}
+use Rattle.std.specs.Prelude.{◌≡◌, ◌≢◌, ◌↔◌, ℕ, ◌≤◌, ◌+◌, ◌-◌, ◌^◌, List, Option, Some, None, length, slice_range, option_and_then, option_map, IsSomeAnd}
 use Rattle.fluent_uri.specs.Authority.{authority_parts}
 use Rattle.fluent_uri.specs.Components.{components}
 use Rattle.fluent_uri.specs.Grammar.{Kind}

@@ -1,6 +1,5 @@
 -- What a call leaves whose result is a text of a kind: the text, and the parts of it.
-use Rattle.std.specs.Prelude.{◌≡◌, ◌≢◌, ℕ, ◌<◌, Bool, List, length, drop, IsOkAnd, IsSomeAnd}
-use Rattle.std.specs.Prelude.{slice_get}
+use Rattle.std.specs.Prelude.{◌≡◌, ◌≢◌, ℕ, ◌<◌, Bool, List, length, drop, IsOkAnd, IsSomeAnd, slice_get}
 use Rattle.std.specs.Result.{is_ok}
 use Rattle.fluent_uri_c.specs.declared.outcome.Outcome.{Outcome}
 use Rattle.fluent_uri_c.specs.declared.parts.Parts.{Parts}

@@ -1,7 +1,5 @@
 -- Expressions of ASCII characters only: their texts are their own characters.
-use Rattle.std.proofs.Common.{◌≡◌, ℕ, zero, suc, Bool, true, List, [], ◌∷◌, ◌++◌, refl, sym, ap}
-use Rattle.std.proofs.Common.{subst}
-use Rattle.std.proofs.Common.{◌∙◌, inl, inr, arith, ◌<◌, ◌&&◌}
+use Rattle.std.proofs.Common.{◌≡◌, ℕ, zero, suc, Bool, true, List, [], ◌∷◌, ◌++◌, refl, sym, ap, subst, ◌∙◌, inl, inr, arith, ◌<◌, ◌&&◌}
 use Rattle.std.specs.Prelude.{nat_lt, map, get_or, drop}
 use Rattle.std.specs.List.{list_all}
 use Rattle.std.specs.Char.{to_ascii_lowercase}
@@ -11,8 +9,7 @@ use Rattle.std.proofs.lemmas.Bool.Decides.{nat_tests}
 use Rattle.std.proofs.lemmas.Str.{encodes-append, chars-encodes, encodes-chars, encode_ascii}
 use Rattle.std.proofs.Math.Utf8.{low_scalar}
 use Rattle.uri_pct.proofs.UnreservedDecoding.Printing.{scalars-append}
-use Rattle.uri_abnf.specs.Abnf.{Abnf, Rule, Literal, Range, Sequence, Either, Repeat, Optional}
-use Rattle.uri_abnf.specs.Abnf.{Has, IsPower, IsOf}
+use Rattle.uri_abnf.specs.Abnf.{Abnf, Rule, Literal, Range, Sequence, Either, Repeat, Optional, Has, IsPower, IsOf}
 
 abbrev pub ascii_only : Abnf → Bool
 ascii_only (Rule name a) = ascii_only a

@@ -9,8 +9,7 @@ use Rattle.uri_parts.specs.Authority.{AuthorityParts, IsAuthorityFor}
 use Rattle.uri_parts.specs.Components.{Lacks, marked}
 use Rattle.uri_parts.specs.Grammar.{Kind}
 use Rattle.uri_parts.proofs.TextKinds.GrammarTexts.{valid_text_lacks_excluded_marks}
-use Rattle.uri_ops.proofs.Meanings.AuthorityMeanings.{authority-parts-are-utf8}
-use Rattle.uri_ops.proofs.Meanings.AuthorityMeanings.{authority-text-lacks-its-ends}
+use Rattle.uri_ops.proofs.Meanings.AuthorityMeanings.{authority-parts-are-utf8, authority-text-lacks-its-ends}
 use Rattle.uri_abnf.specs.Abnf.{Abnf, IsOf, any, opt, lit, ◌⋅◌}
 use Rattle.uri_abnf.specs.Derivations.{Rules, IsAuthorityDerived}
 use Rattle.uri_abnf.specs.Rfc3986.{port}

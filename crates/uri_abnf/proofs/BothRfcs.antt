@@ -1,9 +1,7 @@
 -- The rules of both RFCs fit the sets of the kinds.
 use Rattle.std.proofs.Common.{◌≡◌, ℕ, Bool, true, refl, sym, arith, ◌∙◌}
 use Rattle.std.proofs.lemmas.Bool.Decides.{nat_tests}
-use Rattle.uri_pct.specs.Sets.{userinfo_set, reg_name_set, path_set, query_set, fragment_set}
-use Rattle.uri_pct.specs.Sets.{iuserinfo_set, ireg_name_set, ipath_set, iquery_set, ifragment_set}
-use Rattle.uri_pct.specs.Sets.{pchar_set, segment_nz_nc_set, isegment_nz_nc_set, international}
+use Rattle.uri_pct.specs.Sets.{userinfo_set, reg_name_set, path_set, query_set, fragment_set, iuserinfo_set, ireg_name_set, ipath_set, iquery_set, ifragment_set, pchar_set, segment_nz_nc_set, isegment_nz_nc_set, international}
 use Rattle.uri_parts.specs.Grammar.{Kind, uri, iri}
 use Rattle.uri_abnf.specs.Abnf.{lit, ◌∣◌}
 use Rattle.uri_abnf.specs.Derivations.{uri_rules, iri_rules}
@@ -13,8 +11,7 @@ use Rattle.uri_abnf.specs.Rfc3987.{iunreserved, ipchar, iprivate}
 use Rattle.uri_abnf.specs.Rfc3987 as I
 use Rattle.uri_abnf.proofs.Elements.{has_char}
 use Rattle.uri_abnf.proofs.InternationalSets as International
-use Rattle.uri_abnf.proofs.PathRules.{PathSets, abempty-rule, rootless-rule, noscheme-rule}
-use Rattle.uri_abnf.proofs.PathRules.{any-path-rule}
+use Rattle.uri_abnf.proofs.PathRules.{PathSets, abempty-rule, rootless-rule, noscheme-rule, any-path-rule}
 use Rattle.uri_abnf.proofs.Rules.{AreMade, Fit, set-rule, same-rule}
 use Rattle.uri_abnf.proofs.Sets as Sets
 

@@ -3,8 +3,7 @@ use Rattle.std.proofs.Common.{◌≡◌, ℕ, List, [], ◌++◌, sym, ap, subst
 use Rattle.std.specs.Prelude.{Option, None, Some, IfSome}
 use Rattle.uri_parts.specs.Components.{marked}
 use Rattle.uri_abnf.specs.Abnf.{Abnf, Literal, IsOf, opt, ◌⋅◌}
-use Rattle.uri_abnf.proofs.Texts.{IsMark, cut-gives, cut-is-had, opt-gives, opt-is-had}
-use Rattle.uri_abnf.proofs.Texts.{opt-has-nothing, mark-gives, mark-is-had}
+use Rattle.uri_abnf.proofs.Texts.{IsMark, cut-gives, cut-is-had, opt-gives, opt-is-had, opt-has-nothing, mark-gives, mark-is-had}
 
 module _ (mark : List ℕ) (is : IsMark mark) (g : Abnf) where
   -- a component of the expression after the mark

@@ -1,6 +1,5 @@
 -- References are derived from their components: RFC 3986, sections 3 and 4.
-use Rattle.std.proofs.Common.{◌≡◌, ℕ, List, [], ◌++◌, refl, sym, ap, subst, ◌∙◌, ⊎_elim}
-use Rattle.std.proofs.Common.{append_assoc, append-nil}
+use Rattle.std.proofs.Common.{◌≡◌, ℕ, List, [], ◌++◌, refl, sym, ap, subst, ◌∙◌, ⊎_elim, append_assoc, append-nil}
 use Rattle.std.specs.Prelude.{Option, None, Some, codes, IfSome, IsSome, is_some}
 use Rattle.std.proofs.lemmas.Bool.{cases_Bool, false≢true}
 use Rattle.uri_pct.proofs.General.{None-from-not-is_some}
@@ -11,9 +10,7 @@ use Rattle.uri_abnf.specs.Derivations.{Rules, IsDerived, path_rule, unrooted_pat
 use Rattle.uri_abnf.specs.Rfc3986.{scheme}
 use Rattle.uri_abnf.proofs.Delimited.{after-gives, after-is-had}
 use Rattle.uri_abnf.proofs.Rules.{AreMade, tail, hierarchy, after_colon, relative}
-use Rattle.uri_abnf.proofs.Texts.{cut-gives, cut-is-had, either-gives, left-is-had, right-is-had}
-use Rattle.uri_abnf.proofs.Texts.{mark-gives, mark-is-had, slashes-mark, colon-mark, same-text}
-use Rattle.uri_abnf.proofs.Texts.{question-mark, hash-mark}
+use Rattle.uri_abnf.proofs.Texts.{cut-gives, cut-is-had, either-gives, left-is-had, right-is-had, mark-gives, mark-is-had, slashes-mark, colon-mark, same-text, question-mark, hash-mark}
 
 module _ (r : Rules) where
   -- the text is derived as an authority, if there is one, and a path

@@ -1,6 +1,5 @@
 -- Expressions of one character or one percent-encoded octet.
-use Rattle.std.proofs.Common.{◌≡◌, ℕ, Bool, true, false, List, [], ◌∷◌, refl, sym, ap, subst}
-use Rattle.std.proofs.Common.{◌∙◌, eq-eqb, rules, ◌||◌, inl, inr, ⊎_elim, arith, ◌≤◌}
+use Rattle.std.proofs.Common.{◌≡◌, ℕ, Bool, true, false, List, [], ◌∷◌, refl, sym, ap, subst, ◌∙◌, eq-eqb, rules, ◌||◌, inl, inr, ⊎_elim, arith, ◌≤◌}
 use Rattle.std.specs.Prelude.{◌⊎◌, ◌==◌, map}
 use Rattle.std.specs.Char.{to_ascii_lowercase, is_ascii_hexdigit}
 use Rattle.std.specs.Int.{is_in_range}

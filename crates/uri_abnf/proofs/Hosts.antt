@@ -1,6 +1,5 @@
 -- The rules on hosts: RFC 3986, section 3.2.2.
-use Rattle.std.proofs.Common.{◌≡◌, ℕ, true, List, [], ◌∷◌, ◌++◌, refl, sym, ap, subst, ◌∙◌, ⊎_elim}
-use Rattle.std.proofs.Common.{arith, ◌<◌}
+use Rattle.std.proofs.Common.{◌≡◌, ℕ, true, List, [], ◌∷◌, ◌++◌, refl, sym, ap, subst, ◌∙◌, ⊎_elim, arith, ◌<◌}
 use Rattle.std.specs.Prelude.{codes}
 use Rattle.std.specs.Net.Grammar.{IsColonHex, IsDotted}
 use Rattle.std.specs.Str.{IsUtf8, chars}
@@ -9,21 +8,15 @@ use Rattle.std.proofs.lemmas.Bool.Decides.{nat_tests}
 use Rattle.uri_pct.specs.Sets.{is_one_of, hexdig_set, ipv_future_set}
 use Rattle.uri_parts.specs.Components.{Lacks}
 use Rattle.uri_parts.specs.Grammar.{Kind}
-use Rattle.uri_parts.specs.Hosts.{HostKind, Ipv4, Ipv6, IpvFuture, RegName, IsHost, IsIpvFuture}
-use Rattle.uri_parts.specs.Hosts.{bracketed, is_host, host_kind}
+use Rattle.uri_parts.specs.Hosts.{HostKind, Ipv4, Ipv6, IpvFuture, RegName, IsHost, IsIpvFuture, bracketed, is_host, host_kind}
 use Rattle.uri_parts.proofs.Authorities.Authority.{names_exclude_delimiters}
-use Rattle.uri_parts.proofs.HostForms.Hosts.{is_host-sound, address-in-brackets-is-utf8}
-use Rattle.uri_parts.proofs.HostForms.Hosts.{lacking_text_does_not_begin_with}
-use Rattle.uri_parts.proofs.HostForms.Futures.{ipv4-text-lacks-name-marks}
-use Rattle.uri_parts.proofs.HostForms.Futures.{ipv6-text-lacks-excluded-marks}
-use Rattle.uri_parts.proofs.HostForms.Futures.{ipvfuture-text-lacks-excluded-marks}
-use Rattle.uri_parts.proofs.TextKinds.GrammarTexts.{valid_text_lacks_excluded_marks}
-use Rattle.uri_parts.proofs.TextKinds.GrammarTexts.{utf8_around_ascii_byte}
+use Rattle.uri_parts.proofs.HostForms.Hosts.{is_host-sound, address-in-brackets-is-utf8, lacking_text_does_not_begin_with}
+use Rattle.uri_parts.proofs.HostForms.Futures.{ipv4-text-lacks-name-marks, ipv6-text-lacks-excluded-marks, ipvfuture-text-lacks-excluded-marks}
+use Rattle.uri_parts.proofs.TextKinds.GrammarTexts.{valid_text_lacks_excluded_marks, utf8_around_ascii_byte}
 use Rattle.uri_ops.proofs.Meanings.HostMeanings.{bracketed-address-lacks-delimiters}
 use Rattle.uri_abnf.specs.Abnf.{Abnf, IsOf, some, lit, ◌⋅◌, ◌∣◌}
 use Rattle.uri_abnf.specs.Derivations.{Rules}
-use Rattle.uri_abnf.specs.Rfc3986.{dec-octet, h16, ls32, unreserved, sub-delims, IPvFuture}
-use Rattle.uri_abnf.specs.Rfc3986.{IPv6address, IP-literal, IPv4address}
+use Rattle.uri_abnf.specs.Rfc3986.{dec-octet, h16, ls32, unreserved, sub-delims, IPvFuture, IPv6address, IP-literal, IPv4address}
 use Rattle.uri_abnf.specs.Rfc5234.{DIGIT, HEXDIG}
 use Rattle.uri_abnf.proofs.Addresses4.{ipv4-gives, ipv4-is-had}
 use Rattle.uri_abnf.proofs.Addresses6.{ipv6-gives, ipv6-is-had}
@@ -32,10 +25,7 @@ use Rattle.uri_abnf.proofs.Elements.{has_char, literal-gives-char, char-is-had}
 use Rattle.uri_abnf.proofs.Rules.{Fit}
 use Rattle.uri_abnf.proofs.Schemes.{ascii-char-gives, ascii-char-is-had}
 use Rattle.uri_abnf.proofs.Sets.{hexdig-set, future-set}
-use Rattle.uri_abnf.proofs.Texts.{cut-gives, cut-is-had, either-gives, left-is-had, right-is-had}
-use Rattle.uri_abnf.proofs.Texts.{mark-gives, mark-is-had, dot-mark, open-mark, close-mark}
-use Rattle.uri_abnf.proofs.Texts.{same-text}
-use Rattle.uri_abnf.proofs.Texts.{rule-gives, rule-is-had}
+use Rattle.uri_abnf.proofs.Texts.{cut-gives, cut-is-had, either-gives, left-is-had, right-is-had, mark-gives, mark-is-had, dot-mark, open-mark, close-mark, same-text, rule-gives, rule-is-had}
 use Rattle.uri_abnf.proofs.Tokens.{any-is-valid, valid-is-any, some-is-any, any-is-some}
 
 abbrev future-char : Abnf

@@ -1,12 +1,9 @@
 -- The sets of the expressions of one character or octet in RFC 3987, section 2.2: those of
 -- RFC 3986, with more characters past ASCII.
-use Rattle.std.proofs.Common.{◌≡◌, ℕ, Bool, true, false, refl, rules, arith, ap, ◌∙◌, ◌||◌, ◌&&◌}
-use Rattle.std.proofs.Common.{sym}
+use Rattle.std.proofs.Common.{◌≡◌, ℕ, Bool, true, false, refl, rules, arith, ap, ◌∙◌, ◌||◌, ◌&&◌, sym}
 use Rattle.std.specs.Prelude.{if◌then◌else◌, nat_lt}
 use Rattle.std.proofs.lemmas.Bool.Decides.{nat_tests}
-use Rattle.uri_pct.specs.Sets.{TableSet, allows_past_ascii, is_ucschar, is_iprivate, international}
-use Rattle.uri_pct.specs.Sets.{pchar_set, iuserinfo_set, ireg_name_set, ipath_set, iquery_set}
-use Rattle.uri_pct.specs.Sets.{ifragment_set, isegment_nz_nc_set}
+use Rattle.uri_pct.specs.Sets.{TableSet, allows_past_ascii, is_ucschar, is_iprivate, international, pchar_set, iuserinfo_set, ireg_name_set, ipath_set, iquery_set, ifragment_set, isegment_nz_nc_set}
 use Rattle.uri_abnf.specs.Abnf.{Abnf, lit, ◌∣◌}
 use Rattle.uri_abnf.specs.Rfc3986.{unreserved, sub-delims, pct-encoded, pchar}
 use Rattle.uri_abnf.specs.Rfc3987.{ucschar, iprivate, iunreserved, ipchar}

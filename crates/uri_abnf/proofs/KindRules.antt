@@ -1,15 +1,12 @@
 -- What is derived by the rules is what the kinds ask of a text and its components.
-use Rattle.std.proofs.Common.{◌≡◌, ℕ, true, false, List, [], ◌++◌, refl, sym, subst}
-use Rattle.std.proofs.Common.{inl, inr, ⊎_elim, ◌<◌, length}
+use Rattle.std.proofs.Common.{◌≡◌, ℕ, true, false, List, [], ◌++◌, refl, sym, subst, inl, inr, ⊎_elim, ◌<◌, length}
 use Rattle.std.specs.Prelude.{◌⊎◌, ◌↔◌, Option, None, Some, codes, IfSome, IfNone, IsSome}
 use Rattle.std.specs.Str.{IsUtf8}
 use Rattle.std.proofs.lemmas.Bool.{and_parts, false≢true}
 use Rattle.uri_pct.specs.Sets.{scheme_set}
 use Rattle.uri_pct.specs.Tokens.{IsValidFor}
 use Rattle.uri_pct.proofs.General.{IfSome-weaken, IfSome-combine}
-use Rattle.uri_parts.specs.Components.{Components, IsSplitOf, Lacks, marked, IsAbemptyPath}
-use Rattle.uri_parts.specs.Components.{components}
-use Rattle.uri_parts.specs.Components.{has_authority, has_scheme}
+use Rattle.uri_parts.specs.Components.{Components, IsSplitOf, Lacks, marked, IsAbemptyPath, components, has_authority, has_scheme}
 use Rattle.uri_parts.specs.Grammar.{Kind, is_scheme, has_colon_in_first_segment}
 use Rattle.uri_parts.specs.GrammarInWords.{HasAuthorityParts, FollowsRules}
 use Rattle.uri_parts.proofs.Splitting.Cuts.{IsEmptyOrMarked}
@@ -21,8 +18,7 @@ use Rattle.uri_ops.proofs.Meanings.TextParts.{AreUtf8, components-of-utf8-are-ut
 use Rattle.uri_abnf.specs.Abnf.{IsOf}
 use Rattle.uri_abnf.specs.Derivations.{Rules, IsDerived, path_rule, unrooted_path_rule}
 use Rattle.uri_abnf.specs.Rfc3986.{scheme}
-use Rattle.uri_abnf.proofs.Authorities.{authority-derives, derived-is-authority, authority-lacks}
-use Rattle.uri_abnf.proofs.Authorities.{derived-authority-follows, following-authority-derives}
+use Rattle.uri_abnf.proofs.Authorities.{authority-derives, derived-is-authority, authority-lacks, derived-authority-follows, following-authority-derives}
 use Rattle.uri_abnf.proofs.Derivations.{reference-derives, derived-is-reference}
 use Rattle.uri_abnf.proofs.Rules.{Fit, IsText}
 use Rattle.uri_abnf.proofs.Schemes.{scheme-gives, scheme-is-had}

@@ -1,18 +1,13 @@
 -- The texts of the kinds are the languages of the start rules, and their components are derived.
-use Rattle.std.proofs.Common.{◌≡◌, ℕ, Bool, true, false, List, refl, sym, subst, ◌∙◌, inl, inr}
-use Rattle.std.proofs.Common.{⊎_elim}
+use Rattle.std.proofs.Common.{◌≡◌, ℕ, Bool, true, false, List, refl, sym, subst, ◌∙◌, inl, inr, ⊎_elim}
 use Rattle.std.specs.Prelude.{◌↔◌, ◌⊎◌, IsSome, None}
 use Rattle.std.specs.Str.{IsUtf8}
 use Rattle.std.proofs.lemmas.Bool.{and_parts, false≢true}
 use Rattle.uri_parts.specs.Components.{Components, components}
-use Rattle.uri_parts.specs.Grammar.{Kind, IsOfKind, IsTextOf, kind_by_flags}
-use Rattle.uri_parts.specs.Grammar.{uri, uri_ref, iri, iri_ref}
+use Rattle.uri_parts.specs.Grammar.{Kind, IsOfKind, IsTextOf, kind_by_flags, uri, uri_ref, iri, iri_ref}
 use Rattle.uri_parts.specs.GrammarInWords.{IsInGrammar}
 use Rattle.uri_parts.proofs.Splitting.Splits.{only-split-is-components}
-use Rattle.uri_ops.proofs.TextKinds.GrammarTexts.{uris-are-texts-of-grammar}
-use Rattle.uri_ops.proofs.TextKinds.GrammarTexts.{uri_refs-are-texts-of-grammar}
-use Rattle.uri_ops.proofs.TextKinds.GrammarTexts.{iris-are-texts-of-grammar}
-use Rattle.uri_ops.proofs.TextKinds.GrammarTexts.{iri_refs-are-texts-of-grammar}
+use Rattle.uri_ops.proofs.TextKinds.GrammarTexts.{uris-are-texts-of-grammar, uri_refs-are-texts-of-grammar, iris-are-texts-of-grammar, iri_refs-are-texts-of-grammar}
 use Rattle.uri_abnf.specs.Abnf.{Has, IsOf}
 use Rattle.uri_abnf.specs.Derivations.{Rules, IsDerived, start_rule, uri_rules, iri_rules}
 use Rattle.uri_abnf.specs.Rfc3986 as R
@@ -20,11 +15,8 @@ use Rattle.uri_abnf.specs.Rfc3987 as I
 use Rattle.uri_abnf.specs.Rfc5234 as Core
 use Rattle.uri_abnf.proofs.AsciiTexts.{ascii_only, ascii-text-gives, ascii-text-is-had}
 use Rattle.uri_abnf.proofs.BothRfcs.{uri-rules-fit, iri-rules-fit}
-use Rattle.uri_abnf.proofs.Derivations.{with-scheme-derives, derived-is-with-scheme}
-use Rattle.uri_abnf.proofs.Derivations.{reference-derives, derived-is-reference}
-use Rattle.uri_abnf.proofs.Derivations.{absolute-derives, derived-is-absolute}
-use Rattle.uri_abnf.proofs.KindRules.{derived-components-are-unique, derived-follows}
-use Rattle.uri_abnf.proofs.KindRules.{follows-is-derived, follows-has-scheme}
+use Rattle.uri_abnf.proofs.Derivations.{with-scheme-derives, derived-is-with-scheme, reference-derives, derived-is-reference, absolute-derives, derived-is-absolute}
+use Rattle.uri_abnf.proofs.KindRules.{derived-components-are-unique, derived-follows, follows-is-derived, follows-has-scheme}
 use Rattle.uri_abnf.proofs.Rules.{Fit}
 
 module _ (r : Rules) (kind : Kind) (w : Fit r kind)

@@ -1,6 +1,5 @@
 -- The rules that parts of references are of: authorities, hosts, and the texts of a set.
-use Rattle.std.proofs.Common.{◌≡◌, ℕ, true, false, List, [], ◌∷◌, refl, sym, subst, ◌∙◌}
-use Rattle.std.proofs.Common.{arith, rules}
+use Rattle.std.proofs.Common.{◌≡◌, ℕ, true, false, List, [], ◌∷◌, refl, sym, subst, ◌∙◌, arith, rules}
 use Rattle.std.specs.Prelude.{◌↔◌}
 use Rattle.std.specs.Str.{IsUtf8}
 use Rattle.std.proofs.lemmas.Bool.Decides.{nat_tests}
@@ -9,21 +8,16 @@ use Rattle.uri_pct.specs.DecodeUnreserved.{is_decodable}
 use Rattle.uri_parts.specs.Authority.{AuthorityParts, authority_parts}
 use Rattle.uri_parts.specs.Grammar.{Kind, is_scheme, is_authority}
 use Rattle.uri_parts.specs.Hosts.{IsHost, Ipv4, Ipv6, IpvFuture, RegName, bracketed}
-use Rattle.uri_parts.proofs.Authorities.Authority.{is_authority_for-sound}
-use Rattle.uri_parts.proofs.Authorities.Authority.{is_authority_for-complete}
-use Rattle.uri_parts.proofs.Authorities.Authority.{authority_parts-are-unique}
+use Rattle.uri_parts.proofs.Authorities.Authority.{is_authority_for-sound, is_authority_for-complete, authority_parts-are-unique}
 use Rattle.uri_parts.proofs.HostForms.Hosts.{address-in-brackets-is-utf8}
 use Rattle.uri_ops.proofs.Meanings.HostMeanings.{bracketed-utf8-is-utf8}
 use Rattle.uri_abnf.specs.Abnf.{Abnf, Has, IsOf}
 use Rattle.uri_abnf.specs.Derivations.{Rules, IsAuthorityDerived}
-use Rattle.uri_abnf.specs.Rfc3986.{scheme, reserved, gen-delims, sub-delims, unreserved}
-use Rattle.uri_abnf.specs.Rfc3986.{IPv4address, IPv6address, IPvFuture}
+use Rattle.uri_abnf.specs.Rfc3986.{scheme, reserved, gen-delims, sub-delims, unreserved, IPv4address, IPv6address, IPvFuture}
 use Rattle.uri_abnf.specs.Rfc5234.{ALPHA, DIGIT}
-use Rattle.uri_abnf.proofs.Authorities.{authority-derives, derived-is-authority}
-use Rattle.uri_abnf.proofs.Authorities.{derived-authority-follows, following-authority-derives}
+use Rattle.uri_abnf.proofs.Authorities.{authority-derives, derived-is-authority, derived-authority-follows, following-authority-derives}
 use Rattle.uri_abnf.proofs.Elements.{IsElement, has_char, has_octets, class-has, char-is-had}
-use Rattle.uri_abnf.proofs.Hosts.{ipv4-text-gives, ipv4-text-is-had, ipv6-text-gives}
-use Rattle.uri_abnf.proofs.Hosts.{ipv6-text-is-had, future-gives, future-is-had}
+use Rattle.uri_abnf.proofs.Hosts.{ipv4-text-gives, ipv4-text-is-had, ipv6-text-gives, ipv6-text-is-had, future-gives, future-is-had}
 use Rattle.uri_abnf.proofs.InternationalSets.{allowed_past_ascii_is_past_ascii}
 use Rattle.uri_abnf.proofs.Rules.{Fit}
 use Rattle.uri_abnf.proofs.Schemes.{scheme-gives, scheme-is-had}

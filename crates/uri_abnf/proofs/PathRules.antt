@@ -1,6 +1,5 @@
 -- The rules on paths are what the kinds ask of a path: RFC 3986, section 3.3.
-use Rattle.std.proofs.Common.{◌≡◌, ℕ, zero, suc, true, false, List, [], ◌∷◌, ◌++◌, refl, sym, ap}
-use Rattle.std.proofs.Common.{subst, ◌∙◌, inl, inr, ⊎_elim, arith, ◌<◌, length}
+use Rattle.std.proofs.Common.{◌≡◌, ℕ, zero, suc, true, false, List, [], ◌∷◌, ◌++◌, refl, sym, ap, subst, ◌∙◌, inl, inr, ⊎_elim, arith, ◌<◌, length}
 use Rattle.std.specs.Prelude.{◌⊎◌, ◌↔◌, ◌==◌, codes, IsTrue}
 use Rattle.std.specs.List.{list_any}
 use Rattle.std.specs.Char.{encode_utf8}
@@ -20,14 +19,8 @@ use Rattle.uri_parts.proofs.Authorities.Authority.{Lacks-of-fewer-marks}
 use Rattle.uri_abnf.specs.Abnf.{Abnf, Has, IsOf, any, some, opt, times, lit, ◌⋅◌, ◌∣◌}
 use Rattle.uri_abnf.proofs.Elements.{has_char, has_octets}
 use Rattle.uri_abnf.proofs.Paths.{segments, path-is-segments, segment-is-path, segments-are-path}
-use Rattle.uri_abnf.proofs.Texts.{IsCut, cut-gives, cut-is-had, either-gives, left-is-had}
-use Rattle.uri_abnf.proofs.Texts.{right-is-had, opt-gives, opt-is-had, opt-has-nothing}
-use Rattle.uri_abnf.proofs.Texts.{mark-gives, mark-is-had, slash-mark, text-of-no-chars}
-use Rattle.uri_abnf.proofs.Texts.{letterless-has, times-0-gives, times-0-has-nothing}
-use Rattle.uri_abnf.proofs.Tokens.{Tokens, none, char, octet, IsSetOf, tokens-append, tokens-widen}
-use Rattle.uri_abnf.proofs.Tokens.{some-gives-tokens, tokens-are-valid}
-use Rattle.uri_abnf.proofs.Tokens.{tokens-are-some, valid-are-tokens, any-is-valid, some-is-any}
-use Rattle.uri_abnf.proofs.Tokens.{any-is-some}
+use Rattle.uri_abnf.proofs.Texts.{IsCut, cut-gives, cut-is-had, either-gives, left-is-had, right-is-had, opt-gives, opt-is-had, opt-has-nothing, mark-gives, mark-is-had, slash-mark, text-of-no-chars, letterless-has, times-0-gives, times-0-has-nothing}
+use Rattle.uri_abnf.proofs.Tokens.{Tokens, none, char, octet, IsSetOf, tokens-append, tokens-widen, some-gives-tokens, tokens-are-valid, tokens-are-some, valid-are-tokens, any-is-valid, some-is-any, any-is-some}
 
 -- the expressions for a character of a segment and of a first segment without `:`, and their sets
 pub record PathSets (path : TableSet) : Type 0 where

@@ -1,6 +1,5 @@
 -- Paths as characters: segments, each after a slash.
-use Rattle.std.proofs.Common.{◌≡◌, ℕ, zero, suc, Bool, true, false, List, [], ◌∷◌, ◌++◌, refl}
-use Rattle.std.proofs.Common.{sym, ap, subst, ◌∙◌, inl, ⊎_elim, arith, ◌||◌}
+use Rattle.std.proofs.Common.{◌≡◌, ℕ, zero, suc, Bool, true, false, List, [], ◌∷◌, ◌++◌, refl, sym, ap, subst, ◌∙◌, inl, ⊎_elim, arith, ◌||◌}
 use Rattle.std.specs.Prelude.{◌==◌, codes}
 use Rattle.std.specs.Char.{to_ascii_lowercase}
 use Rattle.std.proofs.lemmas.Bool.{or_cases, or_left, or_right, eqb-true, false≢true}
@@ -8,8 +7,7 @@ use Rattle.uri_pct.specs.Sets.{TableSet}
 use Rattle.uri_abnf.specs.Abnf.{Abnf, Has, IsPower, any, lit, ◌⋅◌, ◌∣◌}
 use Rattle.uri_abnf.proofs.Elements.{has_char}
 use Rattle.uri_abnf.proofs.Texts.{letterless-has}
-use Rattle.uri_abnf.proofs.Tokens.{Tokens, none, char, octet, IsSetOf, tokens-append, tokens-widen}
-use Rattle.uri_abnf.proofs.Tokens.{any-gives-tokens, tokens-are-any}
+use Rattle.uri_abnf.proofs.Tokens.{Tokens, none, char, octet, IsSetOf, tokens-append, tokens-widen, any-gives-tokens, tokens-are-any}
 
 -- segments, each after a slash
 abbrev pub segments : Abnf → Abnf

@@ -1,6 +1,5 @@
 -- The rule on schemes: RFC 3986, section 3.1.
-use Rattle.std.proofs.Common.{◌≡◌, ℕ, true, false, List, [], ◌∷◌, ◌++◌, refl, sym, ap, subst, ◌∙◌}
-use Rattle.std.proofs.Common.{arith, ◌<◌, append-nil, length}
+use Rattle.std.proofs.Common.{◌≡◌, ℕ, true, false, List, [], ◌∷◌, ◌++◌, refl, sym, ap, subst, ◌∙◌, arith, ◌<◌, append-nil, length}
 use Rattle.std.specs.Prelude.{slice_index}
 use Rattle.std.specs.Char.{is_ascii_alphabetic, encode_utf8}
 use Rattle.std.specs.Str.{IsUtf8, chars, encode_utf8_all}
@@ -17,8 +16,7 @@ use Rattle.uri_abnf.specs.Rfc5234.{ALPHA, DIGIT}
 use Rattle.uri_abnf.proofs.Elements.{IsElement, has_char, has_octets, class-has, char-is-had}
 use Rattle.uri_abnf.proofs.Sets.{scheme-set}
 use Rattle.uri_abnf.proofs.Texts.{cut-gives, cut-is-had, rule-gives, rule-is-had}
-use Rattle.uri_abnf.proofs.Tokens.{Tokens, char, octet, any-gives-tokens, tokens-are-any}
-use Rattle.uri_abnf.proofs.Tokens.{tokens-are-valid, valid-are-tokens}
+use Rattle.uri_abnf.proofs.Tokens.{Tokens, char, octet, any-gives-tokens, tokens-are-any, tokens-are-valid, valid-are-tokens}
 
 abbrev scheme-char : Abnf
 scheme-char = ALPHA ∣ DIGIT ∣ lit "+" ∣ lit "-" ∣ lit "."

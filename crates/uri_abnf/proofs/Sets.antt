@@ -1,10 +1,7 @@
 -- The sets of the expressions of one character or octet in RFC 3986, appendix A.
 use Rattle.std.proofs.Common.{◌≡◌, ℕ, refl, rules, arith}
 use Rattle.std.proofs.lemmas.Bool.Decides.{nat_tests}
-use Rattle.uri_pct.specs.Sets.{allows, allows_past_ascii}
-use Rattle.uri_pct.specs.Sets.{userinfo_set, reg_name_set, pchar_set, path_set, query_set}
-use Rattle.uri_pct.specs.Sets.{segment_nz_nc_set, scheme_set, digit_set, hexdig_set}
-use Rattle.uri_pct.specs.Sets.{ipv_future_set}
+use Rattle.uri_pct.specs.Sets.{allows, allows_past_ascii, userinfo_set, reg_name_set, pchar_set, path_set, query_set, segment_nz_nc_set, scheme_set, digit_set, hexdig_set, ipv_future_set}
 use Rattle.uri_abnf.specs.Abnf.{lit, ◌∣◌}
 use Rattle.uri_abnf.specs.Rfc3986.{unreserved, sub-delims, pct-encoded, pchar}
 use Rattle.uri_abnf.specs.Rfc5234.{ALPHA, DIGIT, HEXDIG}

@@ -1,14 +1,11 @@
 -- The languages of expressions over texts in UTF-8.
-use Rattle.std.proofs.Common.{◌≡◌, ℕ, zero, suc, true, List, [], ◌∷◌, ◌++◌, refl, sym, ap, subst}
-use Rattle.std.proofs.Common.{◌∙◌, inl, inr, ⊎_elim, arith, ◌<◌}
+use Rattle.std.proofs.Common.{◌≡◌, ℕ, zero, suc, true, List, [], ◌∷◌, ◌++◌, refl, sym, ap, subst, ◌∙◌, inl, inr, ⊎_elim, arith, ◌<◌}
 use Rattle.std.specs.Prelude.{◌⊎◌, map, codes, get_or, drop}
 use Rattle.std.specs.Char.{to_ascii_lowercase}
 use Rattle.std.specs.Str.{IsUtf8, chars, encode_utf8_all, all_scalars}
 use Rattle.std.proofs.lemmas.Bool.{and_parts, and_from}
 use Rattle.std.proofs.lemmas.Bool.Decides.{nat_tests}
-use Rattle.std.proofs.lemmas.Str.{encodes-append, chars-append, chars-encodes, encodes-chars}
-use Rattle.std.proofs.lemmas.Str.{scalars-chars}
-use Rattle.std.proofs.lemmas.Str.{IsUtf8-append, IsUtf8-nil}
+use Rattle.std.proofs.lemmas.Str.{encodes-append, chars-append, chars-encodes, encodes-chars, scalars-chars, IsUtf8-append, IsUtf8-nil}
 use Prim.Native.String.{String}
 use Rattle.uri_abnf.specs.Abnf.{Abnf, Rule, Literal, Has, IsOf, ◌⋅◌, ◌∣◌, opt, times}
 

@@ -1,19 +1,15 @@
 -- Texts of the characters and percent-encoded octets that an expression has.
-use Rattle.std.proofs.Common.{◌≡◌, ℕ, zero, suc, true, false, List, [], ◌∷◌, ◌++◌, refl, sym}
-use Rattle.std.proofs.Common.{ap, subst, ◌∙◌, eq-eqb, ⊎_elim, arith, ◌≤◌, ◌<◌, length}
+use Rattle.std.proofs.Common.{◌≡◌, ℕ, zero, suc, true, false, List, [], ◌∷◌, ◌++◌, refl, sym, ap, subst, ◌∙◌, eq-eqb, ⊎_elim, arith, ◌≤◌, ◌<◌, length}
 use Rattle.std.specs.Prelude.{◌==◌}
 use Rattle.std.specs.List.{list_all}
 use Rattle.std.specs.Char.{is_ascii_hexdigit}
 use Rattle.std.specs.Str.{IsUtf8, chars}
-use Rattle.std.proofs.lemmas.Bool.{cases_Bool, cond-true, cond-false, and_parts, and_from, eqb-true}
-use Rattle.std.proofs.lemmas.Bool.{false_from_ne_true, false≢true}
+use Rattle.std.proofs.lemmas.Bool.{cases_Bool, cond-true, cond-false, and_parts, and_from, eqb-true, false_from_ne_true, false≢true}
 use Rattle.uri_pct.specs.Sets.{TableSet, allows, LacksPercent}
-use Rattle.uri_pct.specs.Tokens.{tokens_from_chars, allows_token, is_pct_encoded, IsValidFor}
-use Rattle.uri_pct.specs.Tokens.{is_valid_for}
+use Rattle.uri_pct.specs.Tokens.{tokens_from_chars, allows_token, is_pct_encoded, IsValidFor, is_valid_for}
 use Rattle.uri_pct.proofs.UnreservedDecoding.Printing.{char_but_percent_is_its_own_token}
 use Rattle.uri_abnf.specs.Abnf.{Abnf, Has, IsPower, IsOf, any, some}
-use Rattle.uri_abnf.proofs.Elements.{IsElement, has_char, has_octets, element-gives}
-use Rattle.uri_abnf.proofs.Elements.{char-is-had, octet-is-had, element-has-octet}
+use Rattle.uri_abnf.proofs.Elements.{IsElement, has_char, has_octets, element-gives, char-is-had, octet-is-had, element-has-octet}
 use Rattle.uri_abnf.proofs.Texts.{text-of-no-chars}
 
 -- the text is of characters that the expression has, and of percent-encoded octets if it has such

@@ -1,7 +1,6 @@
 -- The text of rules, as RFC 5234 writes them: a line for each rule, with single spaces and no
 -- comments.
-use Rattle.std.specs.Prelude.{◌==◌, ℕ, zero, suc, Bool, List, [], ◌∷◌, ◌++◌, codes}
-use Rattle.std.specs.Prelude.{◌+◌, ◌/◌, ◌%◌, nat_lt, Option, Some, None, if◌then◌else◌}
+use Rattle.std.specs.Prelude.{◌==◌, ℕ, zero, suc, Bool, List, [], ◌∷◌, ◌++◌, codes, ◌+◌, ◌/◌, ◌%◌, nat_lt, Option, Some, None, if◌then◌else◌}
 use Rattle.uri_abnf.specs.Abnf.{Abnf, Rule, Literal, Range, Sequence, Either, Repeat, Optional}
 
 -- the digit of a value below 16

@@ -1,25 +1,15 @@
 -- Whether a path has dot segments with percent-encoded dots, or without: RFC 3986, section 3.3.
-use Rattle.std.proofs.Common.{◌≡◌, ℕ, Bool, true, false, not, List, [], ◌∷◌, ◌++◌, ◌&&◌, refl, sym}
-use Rattle.std.proofs.Common.{ap, ◌∙◌, ◌||◌, drop, rules}
+use Rattle.std.proofs.Common.{◌≡◌, ℕ, Bool, true, false, not, List, [], ◌∷◌, ◌++◌, ◌&&◌, refl, sym, ap, ◌∙◌, ◌||◌, drop, rules}
 use Rattle.std.specs.Prelude.{codes}
 use Rattle.std.specs.List.{list_all, list_any}
 use Rattle.std.proofs.lemmas.Bool.{and_left, and_parts, not-true, or_from, or_parts}
 use Rattle.std.proofs.lemmas.List.Folds.{list_any-append}
-use Rattle.uri_ops.specs.Dots.{IsAbsolute, directory, is_dot_segment}
-use Rattle.uri_ops.specs.Dots.{lacks_dot_segments, segments, up_to_last_slash}
-use Rattle.uri_ops.proofs.Paths.DotLaws.{appended-segments-lack-slashes}
-use Rattle.uri_ops.proofs.Paths.DotLaws.{path-after-slash-appends-its-segments}
-use Rattle.uri_ops.proofs.Paths.DotLaws.{property-of-absolute-path-by-segments}
-use Rattle.uri_ops.proofs.Paths.DotLaws.{segments-of-dotless-path-are-dotless}
+use Rattle.uri_ops.specs.Dots.{IsAbsolute, directory, is_dot_segment, lacks_dot_segments, segments, up_to_last_slash}
+use Rattle.uri_ops.proofs.Paths.DotLaws.{appended-segments-lack-slashes, path-after-slash-appends-its-segments, property-of-absolute-path-by-segments, segments-of-dotless-path-are-dotless}
 use Rattle.uri_ops.proofs.Paths.Segments.{AllPass, is_dotless, pop, popped-segments-pass-test}
-use Rattle.uri_ops.proofs.Paths.SlashedSegments.{before_last_slash-of-slashed-is-popped}
-use Rattle.uri_ops.proofs.Paths.SlashedSegments.{lacks_slash, segments-of-slashed-segments}
-use Rattle.uri_ops.proofs.Paths.SlashedSegments.{segments-of-text-lack-slashes, slashed}
-use Rattle.uri_ops.proofs.Paths.SlashedSegments.{slashed-of-append, slashed-of-push}
-use Rattle.uri_ops.proofs.Paths.SlashedSegments.{slashed-of-segments-is-text-after-slash}
+use Rattle.uri_ops.proofs.Paths.SlashedSegments.{before_last_slash-of-slashed-is-popped, lacks_slash, segments-of-slashed-segments, segments-of-text-lack-slashes, slashed, slashed-of-append, slashed-of-push, slashed-of-segments-is-text-after-slash}
 use Rattle.uri_relative.proofs.Climbs.{directory-of-dotless-segments}
-use Rattle.uri_basic.specs.Deviations.{has_encoded_dot_segment, has_literal_dot_segment}
-use Rattle.uri_basic.specs.Deviations.{is_literal_dot_segment}
+use Rattle.uri_basic.specs.Deviations.{has_encoded_dot_segment, has_literal_dot_segment, is_literal_dot_segment}
 
 -- dot segments: a segment is one, and a dot of it is percent-encoded
 abbrev is_encoded : List ℕ → Bool

@@ -1,33 +1,23 @@
 -- What holds of a path without its dot segments, by its segments.
-use Rattle.std.proofs.Common.{◌≡◌, ℕ, Bool, true, false, not, List, [], ◌∷◌, ◌++◌, drop, refl, sym}
-use Rattle.std.proofs.Common.{ap, subst, ◌∙◌, append_assoc, cond, inl, inr, ⊎_elim, rules}
+use Rattle.std.proofs.Common.{◌≡◌, ℕ, Bool, true, false, not, List, [], ◌∷◌, ◌++◌, drop, refl, sym, ap, subst, ◌∙◌, append_assoc, cond, inl, inr, ⊎_elim, rules}
 use Rattle.std.specs.Prelude.{codes, ◌==◌}
 use Rattle.std.specs.List.{list_all}
-use Rattle.std.proofs.lemmas.Bool.{and_from, and_parts, cases_Bool, cond-true, cond-false}
-use Rattle.std.proofs.lemmas.Bool.{cond_both, eqb-true, false≢true, or_cases, or_parts}
+use Rattle.std.proofs.lemmas.Bool.{and_from, and_parts, cases_Bool, cond-true, cond-false, cond_both, eqb-true, false≢true, or_cases, or_parts}
 use Rattle.std.proofs.lemmas.List.{append-nil}
 use Rattle.std.proofs.lemmas.List.Folds.{list_all-append}
 use Rattle.uri_pct.specs.Sets.{TableSet, is_one_of}
 use Rattle.uri_parts.specs.Components.{IsAbemptyPath, Lacks}
-use Rattle.uri_ops.specs.Dots.{IsAbsolute, before_last_slash, has_slash, is_empty}
-use Rattle.uri_ops.specs.Dots.{last_segment, segments}
+use Rattle.uri_ops.specs.Dots.{IsAbsolute, before_last_slash, has_slash, is_empty, last_segment, segments}
 use Rattle.uri_ops.proofs.Meanings.AllowedParts.{empty-text-is-set-text, is_set_text}
-use Rattle.uri_ops.proofs.Paths.DecodedPaths.{set-text-splits, set-texts-join-at-slash}
-use Rattle.uri_ops.proofs.Paths.DecodedPaths.{joined-segments-of-set-text-are-set-texts}
-use Rattle.uri_ops.proofs.Paths.PathCharacters.{lacked-delimiters-fail-test}
-use Rattle.uri_ops.proofs.Paths.PathCharacters.{test-of-delimiters-gives-lacks}
-use Rattle.uri_ops.proofs.Paths.PathCharacters.{before_last_slash-passes-test}
+use Rattle.uri_ops.proofs.Paths.DecodedPaths.{set-text-splits, set-texts-join-at-slash, joined-segments-of-set-text-are-set-texts}
+use Rattle.uri_ops.proofs.Paths.PathCharacters.{lacked-delimiters-fail-test, test-of-delimiters-gives-lacks, before_last_slash-passes-test}
 use Rattle.uri_ops.proofs.Paths.Segments.{AllPass, is_none, segments-pass-true-test}
-use Rattle.uri_ops.proofs.Paths.SlashedSegments.{NoSlashes, segments-of-text-are-not-none, slashed}
-use Rattle.uri_ops.proofs.Paths.SlashedSegments.{segments-of-text-lack-slashes}
-use Rattle.uri_ops.proofs.Paths.SlashedSegments.{first-segment-and-rest-lack-slashes}
-use Rattle.uri_ops.proofs.Paths.SlashedSegments.{slashed-of-segments-is-text-after-slash}
+use Rattle.uri_ops.proofs.Paths.SlashedSegments.{NoSlashes, segments-of-text-are-not-none, slashed, segments-of-text-lack-slashes, first-segment-and-rest-lack-slashes, slashed-of-segments-is-text-after-slash}
 use Rattle.uri_ops.proofs.Targeting.Targets.{appended-absolute-path-is-absolute}
 use Rattle.uri_pct.proofs.General.{eq_true_from_IsTrue}
 use Rattle.uri_basic.specs.Models.Directories.{IsDirectoryOrNothing, after_segment, parent}
 use Rattle.uri_basic.specs.Removal.{remove_dot_segments}
-use Rattle.uri_basic.proofs.Segments.{after-segment-keeps, kept_of, path-left-by-segments}
-use Rattle.uri_basic.proofs.Segments.{path-left-of-path, parent-is-directory}
+use Rattle.uri_basic.proofs.Segments.{after-segment-keeps, kept_of, path-left-by-segments, path-left-of-path, parent-is-directory}
 
 -- paths: what holds of a text with these segments
 property-of-text-with-segments : (P : List ℕ → Type 0)

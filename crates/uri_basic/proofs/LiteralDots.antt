@@ -1,25 +1,20 @@
 -- Which targets of the basic algorithm have a segment `.` or `..`: RFC 3986, sections 5.2.2, 5.2.4.
-use Rattle.std.proofs.Common.{◌≡◌, ℕ, true, false, not, List, [], ◌∷◌, ◌++◌, refl, sym, ap}
-use Rattle.std.proofs.Common.{◌∙◌, append_assoc, inl, ⊎_elim, rules}
+use Rattle.std.proofs.Common.{◌≡◌, ℕ, true, false, not, List, [], ◌∷◌, ◌++◌, refl, sym, ap, ◌∙◌, append_assoc, inl, ⊎_elim, rules}
 use Rattle.std.specs.Prelude.{Ok, bytes_eq, codes, is_some}
 use Rattle.std.specs.List.{list_any}
-use Rattle.std.proofs.lemmas.Bool.{and_from, and_parts, both_ways, cases_Bool}
-use Rattle.std.proofs.lemmas.Bool.{cond_both, or_from, or_parts}
+use Rattle.std.proofs.lemmas.Bool.{and_from, and_parts, both_ways, cases_Bool, cond_both, or_from, or_parts}
 use Rattle.std.proofs.lemmas.List.{append-nil}
 use Rattle.uri_pct.proofs.General.{not_some_is_none, some_is_not_none}
 use Rattle.uri_parts.specs.Components.{Components, components, recompose}
 use Rattle.uri_ops.specs.Dots.{before_last_slash, has_slash, last_segment}
 use Rattle.uri_ops.proofs.Paths.LastSlashes.{before_last_slash-of-slashless-is-empty}
-use Rattle.uri_ops.proofs.Paths.SlashedSegments.{NoSlashes, first-segment-and-rest-lack-slashes}
-use Rattle.uri_ops.proofs.Paths.SlashedSegments.{segments-of-joined-segments, slashed}
-use Rattle.uri_basic.specs.Deviations.{has_literal_dot_segment, is_literal_dot_segment}
-use Rattle.uri_basic.specs.Deviations.{takes_base_path}
+use Rattle.uri_ops.proofs.Paths.SlashedSegments.{NoSlashes, first-segment-and-rest-lack-slashes, segments-of-joined-segments, slashed}
+use Rattle.uri_basic.specs.Deviations.{has_literal_dot_segment, is_literal_dot_segment, takes_base_path}
 use Rattle.uri_basic.specs.Models.Directories.{IsDirectoryOrNothing, after_segment, parent}
 use Rattle.uri_basic.specs.Removal.{remove_dot_segments}
 use Rattle.uri_basic.specs.Target.{basic_resolution_of_texts, is_ambiguous, target}
 use Rattle.uri_basic.proofs.DotSegments.{literal-dots-at-slash}
-use Rattle.uri_basic.proofs.Kept.{property-of-path-by-segments, removal-by-segments}
-use Rattle.uri_basic.proofs.Kept.{text-is-cut-at-last-slash}
+use Rattle.uri_basic.proofs.Kept.{property-of-path-by-segments, removal-by-segments, text-is-cut-at-last-slash}
 use Rattle.uri_basic.proofs.Segments.{directory-after-segment, kept_of}
 use Rattle.uri_basic.proofs.Targets.{basic-target-has-its-components, result-by-test}
 

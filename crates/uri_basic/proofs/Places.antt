@@ -1,26 +1,18 @@
 -- Where the last segment of a path begins, by its positions.
-use Rattle.std.proofs.Common.{◌≡◌, ℕ, zero, suc, ◌+◌, ◌-◌, ◌<◌, ◌≤◌, false, ◌⊎◌, List, [], ◌∷◌}
-use Rattle.std.proofs.Common.{◌++◌, length, take, drop, get_or, refl, sym, ap, subst, ◌∙◌, arith}
-use Rattle.std.proofs.Common.{append_assoc, eqb, inl, inr, not, ⊎_elim, drop-cons, rules}
+use Rattle.std.proofs.Common.{◌≡◌, ℕ, zero, suc, ◌+◌, ◌-◌, ◌<◌, ◌≤◌, false, ◌⊎◌, List, [], ◌∷◌, ◌++◌, length, take, drop, get_or, refl, sym, ap, subst, ◌∙◌, arith, append_assoc, eqb, inl, inr, not, ⊎_elim, drop-cons, rules}
 use Rattle.std.specs.Prelude.{codes, ◌==◌, slice_range}
 use Rattle.std.proofs.Math.Seq.{take-add}
-use Rattle.std.proofs.lemmas.Bool.{cases_Bool, cond-true, cond-false, ne_eqb, or_from, eq-eqb}
-use Rattle.std.proofs.lemmas.Bool.{eqb-true, not-false, not_from_true}
-use Rattle.std.proofs.lemmas.List.{append-nil, get_or_append_left, length-take-le, take-append-drop}
-use Rattle.std.proofs.lemmas.List.{drop_all, drop_at, get_or-take, length-take, take_more}
-use Rattle.std.proofs.lemmas.List.{get_or-drop, length-append, length-drop, take-append-le, take_at}
+use Rattle.std.proofs.lemmas.Bool.{cases_Bool, cond-true, cond-false, ne_eqb, or_from, eq-eqb, eqb-true, not-false, not_from_true}
+use Rattle.std.proofs.lemmas.List.{append-nil, get_or_append_left, length-take-le, take-append-drop, drop_all, drop_at, get_or-take, length-take, take_more, get_or-drop, length-append, length-drop, take-append-le, take_at}
 use Rattle.std.proofs.lemmas.Str.{IsCharBoundary-after_ascii, IsCharBoundary-from_take}
 use Rattle.std.specs.Str.{IsCharBoundary, IsUtf8}
 use Rattle.uri_pct.specs.Models.ByteRuns.{IsLongestRun}
 use Rattle.uri_ops.specs.Dots.{EndsInSlash, before_last_slash, has_slash, up_to_last_slash}
-use Rattle.uri_ops.proofs.Paths.LastSlashes.{before_last_slash-of-slashless-is-empty}
-use Rattle.uri_ops.proofs.Paths.LastSlashes.{before_last_slash-of-slashless-tail}
+use Rattle.uri_ops.proofs.Paths.LastSlashes.{before_last_slash-of-slashless-is-empty, before_last_slash-of-slashless-tail}
 use Rattle.uri_ops.proofs.Paths.SlashedSegments.{slash-in-suffix-is-in-append}
-use Rattle.uri_basic.specs.Models.Directories.{IsDirectoryOrNothing, after_segment, parent}
-use Rattle.uri_basic.specs.Models.Directories.{path_left}
+use Rattle.uri_basic.specs.Models.Directories.{IsDirectoryOrNothing, after_segment, parent, path_left}
 use Rattle.uri_basic.specs.Removal.{remove_dot_segments}
-use Rattle.uri_basic.proofs.Segments.{parent-of-directory, parent-of-nothing}
-use Rattle.uri_basic.proofs.Segments.{path-left-after-last-segment, path-left-of-path}
+use Rattle.uri_basic.proofs.Segments.{parent-of-directory, parent-of-nothing, path-left-after-last-segment, path-left-of-path}
 
 -- paths: a text has no `/` (47) if none of its bytes is one
 no-byte-is-slash : (text : List ℕ) → ((k : ℕ) → k < length text → get_or text k 0 ≡ 47 → ⊥)

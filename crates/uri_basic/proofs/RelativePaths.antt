@@ -1,12 +1,8 @@
 -- The paths of relativized references: how they are parsed, and what they lead to.
-use Rattle.std.proofs.Common.{◌≡◌, ℕ, zero, suc, ◌-◌, ◌<◌, Bool, true, false, not, cond, eqb, List}
-use Rattle.std.proofs.Common.{[], ◌∷◌, ◌++◌, ◌&&◌, ◌||◌, take, drop, refl, sym, ap, ◌∙◌, inr}
-use Rattle.std.proofs.Common.{⊎_elim, arith, append_assoc, true≢false, rules}
+use Rattle.std.proofs.Common.{◌≡◌, ℕ, zero, suc, ◌-◌, ◌<◌, Bool, true, false, not, cond, eqb, List, [], ◌∷◌, ◌++◌, ◌&&◌, ◌||◌, take, drop, refl, sym, ap, ◌∙◌, inr, ⊎_elim, arith, append_assoc, true≢false, rules}
 use Rattle.std.specs.Prelude.{None, Option, codes, is_none, is_some, nat_lt}
 use Rattle.std.specs.List.{list_all}
-use Rattle.std.proofs.lemmas.Bool.{and_from, and_parts, and_right, cond-false, cond-true, cond_both}
-use Rattle.std.proofs.lemmas.Bool.{eq-eqb, eqb-true, false≢true, ltb-true, or_cases, or_left}
-use Rattle.std.proofs.lemmas.Bool.{or_parts}
+use Rattle.std.proofs.lemmas.Bool.{and_from, and_parts, and_right, cond-false, cond-true, cond_both, eq-eqb, eqb-true, false≢true, ltb-true, or_cases, or_left, or_parts}
 use Rattle.std.proofs.lemmas.List.{take-append-drop}
 use Rattle.std.proofs.lemmas.List.Folds.{list_all-append}
 use Rattle.uri_pct.proofs.General.{eq_true_from_IsTrue}
@@ -15,29 +11,21 @@ use Rattle.uri_pct.specs.Sets.{is_one_of}
 use Rattle.uri_parts.specs.Components.{Components, IsAbemptyPath, Lacks, has_authority, starts}
 use Rattle.uri_parts.specs.Grammar.{has_colon_in_first_segment}
 use Rattle.uri_parts.proofs.Splitting.Marks.{cons_is_not_nil}
-use Rattle.uri_ops.specs.Dots.{IsAbsolute, directory, is_empty, lacks_dot_segments, or_slash}
-use Rattle.uri_ops.specs.Dots.{up_to_last_slash}
+use Rattle.uri_ops.specs.Dots.{IsAbsolute, directory, is_empty, lacks_dot_segments, or_slash, up_to_last_slash}
 use Rattle.uri_ops.specs.Dots as Dots
 use Rattle.uri_ops.specs.Target.{guarded, is_opaque}
 use Rattle.uri_ops.proofs.Paths.DotLaws.{directory-is-absolute, remove-dots-of-dotless}
-use Rattle.uri_ops.proofs.Paths.PathCharacters.{lacked-delimiters-fail-test}
-use Rattle.uri_ops.proofs.Paths.PathCharacters.{test-of-delimiters-gives-lacks}
+use Rattle.uri_ops.proofs.Paths.PathCharacters.{lacked-delimiters-fail-test, test-of-delimiters-gives-lacks}
 use Rattle.uri_ops.proofs.Paths.TakenSegments.{absolute-path-is-slash-and-rest}
 use Rattle.uri_ops.proofs.Targeting.Targets.{appended-absolute-path-is-absolute}
-use Rattle.uri_relative.specs.Relative.{IsSharedPrefix, double_dots, needs_leading_dot}
-use Rattle.uri_relative.specs.Relative.{relative_path, slashes}
-use Rattle.uri_relative.specs.Rule.{path_from_base, shared_directory_len}
-use Rattle.uri_relative.specs.Rule.{shortest_or_preferred_path}
-use Rattle.uri_relative.proofs.Climbs.{merged-relative-path-leads-to-path}
-use Rattle.uri_relative.proofs.Climbs.{remove_dot_segments-follows-dots}
+use Rattle.uri_relative.specs.Relative.{IsSharedPrefix, double_dots, needs_leading_dot, relative_path, slashes}
+use Rattle.uri_relative.specs.Rule.{path_from_base, shared_directory_len, shortest_or_preferred_path}
+use Rattle.uri_relative.proofs.Climbs.{merged-relative-path-leads-to-path, remove_dot_segments-follows-dots}
 use Rattle.uri_relative.proofs.Ways.{guard-counts-as-no-segment, rootless-path-has-no-authority}
 use Rattle.uri_basic.specs.Deviations.{has_encoded_dot_segment}
 use Rattle.uri_basic.specs.Removal.{remove_dot_segments}
 use Rattle.uri_basic.specs.Target.{merge}
-use Rattle.uri_basic.proofs.DotSegments.{directory-of-dotless-path-is-up-to-last-slash}
-use Rattle.uri_basic.proofs.DotSegments.{dotless-path-has-no-encoded-dot}
-use Rattle.uri_basic.proofs.DotSegments.{dotless-path-has-no-literal-dot}
-use Rattle.uri_basic.proofs.DotSegments.{encoded-dots-after-directory, encoded-dots-at-slash}
+use Rattle.uri_basic.proofs.DotSegments.{directory-of-dotless-path-is-up-to-last-slash, dotless-path-has-no-encoded-dot, dotless-path-has-no-literal-dot, encoded-dots-after-directory, encoded-dots-at-slash}
 use Rattle.uri_basic.proofs.SameRemovals.{removal-of-path-without-dots, same-removal}
 use Rattle.uri_basic.proofs.SameTargets.{base-with-empty-path-has-authority}
 

@@ -1,38 +1,29 @@
 -- What the references of `relativize` lead to by the basic algorithm: RFC 3986, section 5.2.
-use Rattle.std.proofs.Common.{◌≡◌, ℕ, Bool, true, false, not, cond, List, [], ◌++◌, ◌&&◌, refl, sym}
-use Rattle.std.proofs.Common.{ap, ◌∙◌, subst, ⊎_elim, rules}
-use Rattle.std.specs.Prelude.{IfNone, IfSome, None, Ok, Option, Some, bytes_eq, codes, is_none}
-use Rattle.std.specs.Prelude.{is_some}
+use Rattle.std.proofs.Common.{◌≡◌, ℕ, Bool, true, false, not, cond, List, [], ◌++◌, ◌&&◌, refl, sym, ap, ◌∙◌, subst, ⊎_elim, rules}
+use Rattle.std.specs.Prelude.{IfNone, IfSome, None, Ok, Option, Some, bytes_eq, codes, is_none, is_some}
 use Rattle.std.specs.Option.{option_eq}
-use Rattle.std.proofs.lemmas.Bool.{and_parts, both_ways, cases_Bool, cond-false, cond-true}
-use Rattle.std.proofs.lemmas.Bool.{cond_both, false≢true, not-false}
+use Rattle.std.proofs.lemmas.Bool.{and_parts, both_ways, cases_Bool, cond-false, cond-true, cond_both, false≢true, not-false}
 use Rattle.std.proofs.lemmas.Slice.Eq.{bytes_eq-Decides}
 use Rattle.uri_pct.proofs.General.{eq_true_from_IsTrue}
 use Rattle.uri_pct.specs.Delimiters.{slash}
-use Rattle.uri_parts.specs.Components.{Components, IsSplitOf, Lacks, components}
-use Rattle.uri_parts.specs.Components.{has_scheme, recompose, starts}
-use Rattle.uri_parts.proofs.Splitting.Recompose.{components-are-split-of-text}
-use Rattle.uri_parts.proofs.Splitting.Recompose.{equal-to-true-is-IsTrue, recompose-components}
+use Rattle.uri_parts.specs.Components.{Components, IsSplitOf, Lacks, components, has_scheme, recompose, starts}
+use Rattle.uri_parts.proofs.Splitting.Recompose.{components-are-split-of-text, equal-to-true-is-IsTrue, recompose-components}
 use Rattle.uri_parts.proofs.Splitting.Splits.{only-split-is-components}
 use Rattle.uri_ops.specs.Dots.{IsAbsolute, lacks_dot_segments}
 use Rattle.uri_ops.specs.Dots as Dots
 use Rattle.uri_ops.specs.Resolving.{with_final_path}
 use Rattle.uri_ops.specs.Target.{guarded, is_opaque}
 use Rattle.uri_ops.proofs.Meanings.ComponentEnds.{no_scheme}
-use Rattle.uri_ops.proofs.Paths.DotLaws.{removing-dots-keeps-absolute}
-use Rattle.uri_ops.proofs.Paths.DotLaws.{removing-dots-leaves-no-dot-segment}
+use Rattle.uri_ops.proofs.Paths.DotLaws.{removing-dots-keeps-absolute, removing-dots-leaves-no-dot-segment}
 use Rattle.uri_ops.proofs.Paths.PathCharacters.{test-of-delimiters-gives-lacks}
 use Rattle.uri_ops.proofs.Paths.TakenSegments.{absolute-path-is-slash-and-rest}
 use Rattle.uri_relative.specs.Forms.{from_authority}
 use Rattle.uri_relative.specs.Leading.{settled}
-use Rattle.uri_relative.specs.Rule.{has_same_authority, has_same_authority_and_path}
-use Rattle.uri_relative.specs.Rule.{has_same_query, has_same_scheme, reference_components}
-use Rattle.uri_relative.specs.Rule.{reference_to, shortest_or_preferred_path}
+use Rattle.uri_relative.specs.Rule.{has_same_authority, has_same_authority_and_path, has_same_query, has_same_scheme, reference_components, reference_to, shortest_or_preferred_path}
 use Rattle.uri_relative.proofs.Forms.{path-and-query-are-split}
 use Rattle.uri_ops.proofs.Targeting.TargetCases.{settled-text-has-settled-components}
 use Rattle.uri_relative.proofs.RootedTargets.{base-that-is-not-opaque-is-rooted}
-use Rattle.uri_relative.proofs.Settled.{dotless-target-is-settled, final-path-is-idempotent}
-use Rattle.uri_relative.proofs.Settled.{rootless-target-is-settled}
+use Rattle.uri_relative.proofs.Settled.{dotless-target-is-settled, final-path-is-idempotent, rootless-target-is-settled}
 use Rattle.uri_basic.specs.Deviations.{has_literal_dot_segment}
 use Rattle.uri_basic.specs.Target.{basic_resolution, basic_resolution_of_texts, target}
 use Rattle.uri_basic.proofs.DotSegments.{dotless-path-has-no-literal-dot}

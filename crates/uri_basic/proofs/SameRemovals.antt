@@ -1,24 +1,16 @@
 -- Where removing dot segments of section 5.2.4 is removing those of `Resolver`, or changes nothing.
-use Rattle.std.proofs.Common.{◌≡◌, ℕ, false, not, List, [], ◌∷◌, ◌++◌, refl, sym, ap, ◌∙◌, ◌&&◌}
-use Rattle.std.proofs.Common.{append_assoc, ⊎_elim, rules}
+use Rattle.std.proofs.Common.{◌≡◌, ℕ, false, not, List, [], ◌∷◌, ◌++◌, refl, sym, ap, ◌∙◌, ◌&&◌, append_assoc, ⊎_elim, rules}
 use Rattle.std.specs.Prelude.{bytes_eq, codes}
 use Rattle.std.specs.List.{list_any}
-use Rattle.std.proofs.lemmas.Bool.{cases_Bool, and_cases, both_ways, not_from_false, or_from}
-use Rattle.std.proofs.lemmas.Bool.{or_parts}
+use Rattle.std.proofs.lemmas.Bool.{cases_Bool, and_cases, both_ways, not_from_false, or_from, or_parts}
 use Rattle.std.proofs.lemmas.List.{append-nil}
 use Rattle.std.proofs.lemmas.Slice.Eq.{bytes_eq-Decides}
 use Rattle.uri_ops.specs.Dots.{IsAbsolute, is_dot_segment, is_double_dot, is_single_dot}
 use Rattle.uri_ops.specs.Dots as Dots
 use Rattle.uri_ops.proofs.Paths.DotLaws.{property-of-absolute-path-by-segments}
-use Rattle.uri_ops.proofs.Paths.Segments.{closing, dotless_of, end_of, next_output, pop, step_of}
-use Rattle.uri_ops.proofs.Paths.Segments.{next_output-passes-test, steps}
-use Rattle.uri_ops.proofs.Paths.SlashedSegments.{NoSlashes, before_last_slash-of-slashed-is-popped}
-use Rattle.uri_ops.proofs.Paths.SlashedSegments.{first-segment-and-rest-lack-slashes, lacks_slash}
-use Rattle.uri_ops.proofs.Paths.SlashedSegments.{remove-dots-by-segments}
-use Rattle.uri_ops.proofs.Paths.SlashedSegments.{segments-of-joined-segments, slashed}
-use Rattle.uri_ops.proofs.Paths.SlashedSegments.{segments-of-slashed-segments, slashed-of-push}
-use Rattle.uri_basic.specs.Deviations.{has_encoded_dot_segment, has_literal_dot_segment}
-use Rattle.uri_basic.specs.Deviations.{is_literal_dot_segment}
+use Rattle.uri_ops.proofs.Paths.Segments.{closing, dotless_of, end_of, next_output, pop, step_of, next_output-passes-test, steps}
+use Rattle.uri_ops.proofs.Paths.SlashedSegments.{NoSlashes, before_last_slash-of-slashed-is-popped, first-segment-and-rest-lack-slashes, lacks_slash, remove-dots-by-segments, segments-of-joined-segments, slashed, segments-of-slashed-segments, slashed-of-push}
+use Rattle.uri_basic.specs.Deviations.{has_encoded_dot_segment, has_literal_dot_segment, is_literal_dot_segment}
 use Rattle.uri_basic.specs.Models.Directories.{after_segment}
 use Rattle.uri_basic.specs.Removal.{remove_dot_segments}
 use Rattle.uri_basic.proofs.Kept.{property-of-path-by-segments, removal-by-segments, root-is-kept}

@@ -1,25 +1,20 @@
 -- Where nothing deviates, the basic algorithm and `Resolver` have the same target.
-use Rattle.std.proofs.Common.{◌≡◌, ℕ, true, false, not, List, [], refl, sym, ap, subst, rules}
-use Rattle.std.proofs.Common.{◌∙◌, ◌&&◌, ⊎_elim}
+use Rattle.std.proofs.Common.{◌≡◌, ℕ, true, false, not, List, [], refl, sym, ap, subst, rules, ◌∙◌, ◌&&◌, ⊎_elim}
 use Rattle.std.specs.Prelude.{None, Ok, Option, Some, is_none, is_some}
-use Rattle.std.proofs.lemmas.Bool.{and_from, and_right, cases_Bool, cond-true, cond-false}
-use Rattle.std.proofs.lemmas.Bool.{and_left, false≢true, not_from_false}
+use Rattle.std.proofs.lemmas.Bool.{and_from, and_right, cases_Bool, cond-true, cond-false, and_left, false≢true, not_from_false}
 use Rattle.uri_parts.specs.Components.{Components, components, has_authority, recompose, starts}
 use Rattle.uri_parts.proofs.Splitting.Recompose.{equal-to-true-is-IsTrue}
 use Rattle.uri_ops.specs.Dots.{directory, is_double_dot, is_empty, last_segment}
-use Rattle.uri_ops.specs.Target.{dotless_if_absolute, dotted_target, guarded, is_opaque, merged}
-use Rattle.uri_ops.specs.Target.{resolution_of, target_of}
+use Rattle.uri_ops.specs.Target.{dotless_if_absolute, dotted_target, guarded, is_opaque, merged, resolution_of, target_of}
 use Rattle.uri_ops.proofs.Paths.DotLaws.{remove-dots-of-dotless}
 use Rattle.uri_ops.proofs.Paths.DotRuns.{empty-text-is-nil}
 use Rattle.uri_ops.proofs.Targeting.Swaps.{merging-base-is-not-opaque}
 use Rattle.uri_pct.proofs.General.{not_some_is_none, some_is_not_none}
 use Rattle.uri_ops.proofs.Targeting.NormalTargets.{resolution-is-unique}
-use Rattle.uri_basic.specs.Deviations.{NothingDeviates, has_encoded_dot_segment}
-use Rattle.uri_basic.specs.Deviations.{has_literal_dot_segment, is_merged, takes_base_path}
+use Rattle.uri_basic.specs.Deviations.{NothingDeviates, has_encoded_dot_segment, has_literal_dot_segment, is_merged, takes_base_path}
 use Rattle.uri_relative.specs.Leading.{LeadsTo, settled, without_fragment}
 use Rattle.uri_basic.specs.Removal.{remove_dot_segments}
-use Rattle.uri_basic.specs.Target.{basic_resolution, basic_resolution_of_texts, is_ambiguous, merge}
-use Rattle.uri_basic.specs.Target.{target}
+use Rattle.uri_basic.specs.Target.{basic_resolution, basic_resolution_of_texts, is_ambiguous, merge, target}
 use Rattle.uri_basic.proofs.SameRemovals.{removal-of-path-without-dots, same-removal}
 
 -- targets: the path without its dot segments is the same if nothing deviates

@@ -1,23 +1,18 @@
 -- Removing dot segments segment by segment, as the code does: the path that is left of a directory
 -- and the rest of a path.
-use Rattle.std.proofs.Common.{◌≡◌, ℕ, true, false, List, [], ◌∷◌, ◌++◌, refl, sym, ap, ◌∙◌, rules}
-use Rattle.std.proofs.Common.{append_assoc, inr, ⊎_elim}
+use Rattle.std.proofs.Common.{◌≡◌, ℕ, true, false, List, [], ◌∷◌, ◌++◌, refl, sym, ap, ◌∙◌, rules, append_assoc, inr, ⊎_elim}
 use Rattle.std.specs.Prelude.{codes, bytes_eq}
 use Rattle.std.proofs.lemmas.Bool.{cases_Bool, cond-true, cond-false, cond_both, or_parts}
 use Rattle.std.proofs.lemmas.List.{append-nil}
 use Rattle.std.proofs.lemmas.Slice.Eq.{bytes_eq-Decides}
 use Rattle.uri_ops.specs.Dots.{before_last_slash, has_slash}
 use Rattle.uri_ops.proofs.Paths.LastSlashes.{before_last_slash-of-slashless-tail}
-use Rattle.uri_ops.proofs.Paths.SlashedSegments.{NoSlashes, first-segment-and-rest-lack-slashes}
-use Rattle.uri_ops.proofs.Paths.SlashedSegments.{slashed}
+use Rattle.uri_ops.proofs.Paths.SlashedSegments.{NoSlashes, first-segment-and-rest-lack-slashes, slashed}
 use Rattle.uri_relative.proofs.LongestPrefixes.{text-with-slash-is-nonempty}
 use Rattle.uri_basic.specs.Removal.{output_of, remove_dot_segments}
-use Rattle.uri_basic.specs.Models.Directories.{IsDirectoryOrNothing, after_segment, buffers_at}
-use Rattle.uri_basic.specs.Models.Directories.{parent, path_left}
+use Rattle.uri_basic.specs.Models.Directories.{IsDirectoryOrNothing, after_segment, buffers_at, parent, path_left}
 use Rattle.uri_basic.proofs.Buffers.{output-after-step, output-of-empty-input}
-use Rattle.uri_basic.proofs.Steps.{last-segment-is-text, other-last-segment-begins-with-no-dots}
-use Rattle.uri_basic.proofs.Steps.{other-segment-begins-with-no-dots, output-after-rooted-segment}
-use Rattle.uri_basic.proofs.Steps.{output-after-rootless-segment, segment-ends-before-slash}
+use Rattle.uri_basic.proofs.Steps.{last-segment-is-text, other-last-segment-begins-with-no-dots, other-segment-begins-with-no-dots, output-after-rooted-segment, output-after-rootless-segment, segment-ends-before-slash}
 
 -- removing dot segments: the buffers after a directory
 buffers-at-directory : (p q : List ℕ)

@@ -1,6 +1,5 @@
 -- Where the components of a target are.
-use Rattle.std.proofs.Common.{◌≡◌, ℕ, ◌+◌, ◌-◌, ◌≤◌, true, false, List, [], ◌++◌, length, rules}
-use Rattle.std.proofs.Common.{sym, ap, arith, option_map, unwrap_or}
+use Rattle.std.proofs.Common.{◌≡◌, ℕ, ◌+◌, ◌-◌, ◌≤◌, true, false, List, [], ◌++◌, length, rules, sym, ap, arith, option_map, unwrap_or}
 use Rattle.std.specs.Prelude.{Err, IfOk, None, Ok, Option, Result, Some, codes, is_some}
 use Rattle.std.specs.Str.{IsUtf8}
 use Rattle.std.proofs.lemmas.Bool.{both_ways, cond_both, false≢true}
@@ -14,8 +13,7 @@ use Rattle.uri_parts.specs.declared.positions.AuthorityPositions.{AuthorityPosit
 use Rattle.uri_parts.proofs.Splitting.Recompose.{recompose-components}
 use Rattle.uri_ops.specs.Dots.{is_empty}
 use Rattle.uri_ops.specs.Models.Places.{before_path}
-use Rattle.uri_ops.proofs.Normal.WrittenPlaces.{length-before_path-is-path_start}
-use Rattle.uri_ops.proofs.Normal.WrittenPlaces.{length-with-delimiter-after}
+use Rattle.uri_ops.proofs.Normal.WrittenPlaces.{length-before_path-is-path_start, length-with-delimiter-after}
 use Rattle.uri_ops.proofs.Targeting.Swaps.{text-of-kind-has-needed-scheme}
 use Rattle.uri_basic.specs.Models.Pieces.{ArePlacesToHost, after_path}
 use Rattle.uri_basic.specs.Target.{basic_resolution_of_texts, is_ambiguous, target}

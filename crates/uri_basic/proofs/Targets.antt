@@ -1,42 +1,29 @@
 -- The text of a target has the components that were put into it, and is of its base's kind.
-use Rattle.std.proofs.Common.{◌≡◌, ℕ, ◌<◌, List, [], ◌∷◌, ◌++◌, refl, sym, ap, ◌∙◌, ◌&&◌, ◌↔◌, inr}
-use Rattle.std.proofs.Common.{Bool, true, false, cond, length, subst, ⊎_elim, rules, append_assoc}
+use Rattle.std.proofs.Common.{◌≡◌, ℕ, ◌<◌, List, [], ◌∷◌, ◌++◌, refl, sym, ap, ◌∙◌, ◌&&◌, ◌↔◌, inr, Bool, true, false, cond, length, subst, ⊎_elim, rules, append_assoc}
 use Rattle.std.specs.Prelude.{codes, Option, Some, None, Ok, Err, IfSome, IfNone, is_some, is_none}
 use Rattle.std.specs.Str.{IsUtf8}
 use Rattle.std.specs.List.{list_all}
-use Rattle.std.proofs.lemmas.Bool.{cond_both, cond-false, cond-true, cases_Bool, false≢true}
-use Rattle.std.proofs.lemmas.Bool.{and_from, and_parts, or_left, or_right}
+use Rattle.std.proofs.lemmas.Bool.{cond_both, cond-false, cond-true, cases_Bool, false≢true, and_from, and_parts, or_left, or_right}
 use Rattle.std.proofs.lemmas.List.Elements.{All-append}
 use Rattle.uri_pct.specs.Sets.{is_one_of}
-use Rattle.uri_parts.specs.Components.{Components, IsSplitOf, Lacks, IsAbemptyPath, components}
-use Rattle.uri_parts.specs.Components.{has_authority, recompose, starts}
+use Rattle.uri_parts.specs.Components.{Components, IsSplitOf, Lacks, IsAbemptyPath, components, has_authority, recompose, starts}
 use Rattle.uri_parts.specs.Grammar.{IsOfKind, IsTextOf, Kind}
-use Rattle.uri_parts.proofs.Splitting.Recompose.{components-are-split-of-text}
-use Rattle.uri_parts.proofs.Splitting.Recompose.{equal-to-true-is-IsTrue}
+use Rattle.uri_parts.proofs.Splitting.Recompose.{components-are-split-of-text, equal-to-true-is-IsTrue}
 use Rattle.uri_parts.proofs.Splitting.Splits.{only-split-is-components}
 use Rattle.uri_ops.specs.ComponentSets.{HasComponentSets}
-use Rattle.uri_ops.specs.Dots.{IsAbsolute, before_last_slash, has_slash, is_empty}
-use Rattle.uri_ops.specs.Dots.{last_segment, up_to_last_slash}
+use Rattle.uri_ops.specs.Dots.{IsAbsolute, before_last_slash, has_slash, is_empty, last_segment, up_to_last_slash}
 use Rattle.uri_ops.specs.NormalTargets.{reference_kind}
 use Rattle.uri_ops.proofs.Meanings.AllowedParts.{empty-text-is-set-text, is_set_text}
 use Rattle.uri_ops.proofs.Meanings.TextParts.{ArePartsOfKind, components-of-kind-meet-grammar}
-use Rattle.uri_ops.proofs.Normal.NormalTexts.{recomposed-components-are-utf8}
-use Rattle.uri_ops.proofs.Normal.NormalTexts.{text-has-parts-of-kind}
+use Rattle.uri_ops.proofs.Normal.NormalTexts.{recomposed-components-are-utf8, text-has-parts-of-kind}
 use Rattle.uri_ops.proofs.Paths.DecodedPaths.{set-text-splits, set-texts-join-at-slash}
-use Rattle.uri_ops.proofs.Paths.PathCharacters.{lacked-delimiters-fail-test}
-use Rattle.uri_ops.proofs.Paths.PathCharacters.{test-of-delimiters-gives-lacks}
-use Rattle.uri_ops.proofs.Paths.PathCharacters.{before_last_slash-passes-test}
+use Rattle.uri_ops.proofs.Paths.PathCharacters.{lacked-delimiters-fail-test, test-of-delimiters-gives-lacks, before_last_slash-passes-test}
 use Rattle.uri_ops.proofs.Targeting.Swaps.{text-of-kind-has-needed-scheme}
-use Rattle.uri_ops.proofs.Targeting.Targets.{appended-absolute-path-is-absolute}
-use Rattle.uri_ops.proofs.Targeting.Targets.{option-that-is-some-has-no-none}
-use Rattle.uri_ops.proofs.Targeting.Targets.{authority-property-implies-other-if-some}
+use Rattle.uri_ops.proofs.Targeting.Targets.{appended-absolute-path-is-absolute, option-that-is-some-has-no-none, authority-property-implies-other-if-some}
 use Rattle.uri_pct.proofs.General.{eq_true_from_IsTrue}
 use Rattle.uri_basic.specs.Removal.{output_of, remove_dot_segments, run}
-use Rattle.uri_basic.specs.Target.{basic_resolution_of_texts, is_ambiguous, merge, target}
-use Rattle.uri_basic.specs.Target.{PathStartsWithDoubleSlash}
-use Rattle.uri_basic.proofs.Kept.{bytes-of-append-pass}
-use Rattle.uri_basic.proofs.Kept.{removal-adds-no-delimiter, removal-keeps-absolute}
-use Rattle.uri_basic.proofs.Kept.{removal-keeps-set-text, text-is-cut-at-last-slash}
+use Rattle.uri_basic.specs.Target.{basic_resolution_of_texts, is_ambiguous, merge, target, PathStartsWithDoubleSlash}
+use Rattle.uri_basic.proofs.Kept.{bytes-of-append-pass, removal-adds-no-delimiter, removal-keeps-absolute, removal-keeps-set-text, text-is-cut-at-last-slash}
 
 -- targets: components with a scheme are split off again when their text is parsed, unless the path
 -- would be parsed as an authority

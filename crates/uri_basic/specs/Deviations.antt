@@ -1,11 +1,9 @@
 -- Where `Resolver` resolves otherwise than the basic algorithm: RFC 3986, sections 5.1 to 5.2.4.
-use Rattle.std.specs.Prelude.{◌≡◌, ℕ, Bool, true, false, not, ◌&&◌, ◌||◌, List, None, bytes_eq}
-use Rattle.std.specs.Prelude.{codes, is_none}
+use Rattle.std.specs.Prelude.{◌≡◌, ℕ, Bool, true, false, not, ◌&&◌, ◌||◌, List, None, bytes_eq, codes, is_none}
 use Rattle.std.specs.List.{list_any}
 use Rattle.uri_pct.specs.Delimiters.{slash}
 use Rattle.uri_parts.specs.Components.{Components, starts}
-use Rattle.uri_ops.specs.Dots.{is_dot_segment, is_double_dot, is_empty, lacks_dot_segments}
-use Rattle.uri_ops.specs.Dots.{last_segment, segments}
+use Rattle.uri_ops.specs.Dots.{is_dot_segment, is_double_dot, is_empty, lacks_dot_segments, last_segment, segments}
 use Rattle.uri_ops.specs.Target.{dotted_target, is_opaque_rejection}
 use Rattle.uri_basic.specs.Target.{is_ambiguous, target}
 

@@ -1,6 +1,5 @@
 -- Dot segments of any path: RFC 3986, section 5.2.4, as it is printed.
-use Rattle.std.specs.Prelude.{ℕ, zero, suc, Bool, ◌||◌, List, [], ◌++◌, length, take, drop, codes}
-use Rattle.std.specs.Prelude.{bytes_eq, if◌then◌else◌}
+use Rattle.std.specs.Prelude.{ℕ, zero, suc, Bool, ◌||◌, List, [], ◌++◌, length, take, drop, codes, bytes_eq, if◌then◌else◌}
 use Rattle.uri_pct.specs.Delimiters.{slash}
 use Rattle.uri_parts.specs.Components.{before_any, from_any, starts}
 use Rattle.uri_ops.specs.Dots.{before_last_slash, is_empty}

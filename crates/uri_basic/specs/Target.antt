@@ -1,7 +1,6 @@
 -- The target of a reference by the basic algorithm: RFC 3986, sections 5.2.2 and 5.2.3, as they are
 -- printed, in the strict form.
-use Rattle.std.specs.Prelude.{ℕ, ◌&&◌, List, ◌++◌, codes, Bool, Result, Ok, Err, is_none}
-use Rattle.std.specs.Prelude.{is_some, if◌then◌else◌}
+use Rattle.std.specs.Prelude.{ℕ, ◌&&◌, List, ◌++◌, codes, Bool, Result, Ok, Err, is_none, is_some, if◌then◌else◌}
 use Rattle.uri_pct.specs.Delimiters.{slash}
 use Rattle.uri_parts.specs.Components.{Components, components, has_authority, recompose, starts}
 use Rattle.uri_ops.specs.Dots.{is_empty, up_to_last_slash}

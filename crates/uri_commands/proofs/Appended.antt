@@ -1,15 +1,12 @@
 -- What a writer holds after texts of which the last may not be whole.
-use Rattle.std.proofs.Common.{◌≡◌, ◌+◌, ◌<◌, ◌≤◌, ◌++◌, ℕ, Bool, true, false, List, [], refl}
-use Rattle.std.proofs.Common.{ap, sym, ◌∙◌, subst, length, Option, Some, None, arith}
-use Rattle.std.proofs.Common.{take, take_all, ltb-true, ltb-false}
+use Rattle.std.proofs.Common.{◌≡◌, ◌+◌, ◌<◌, ◌≤◌, ◌++◌, ℕ, Bool, true, false, List, [], refl, ap, sym, ◌∙◌, subst, length, Option, Some, None, arith, take, take_all, ltb-true, ltb-false}
 use Rattle.std.specs.Prelude.{nat_lt, OnOk, Result, Ok, Err}
 use Rattle.std.proofs.lemmas.List.{take-append-le}
 use Rattle.std.proofs.Math.Seq.{take-append-add}
 use Rattle.std.specs.Io.KnownBytes.{Appends, Keeps}
 use Rattle.std.proofs.KnownBytes.{Appends-kept, Appends-nil, Appends-trans}
 use Rattle.uri_commands.specs.Prefixes.{AppendsPrefix}
-use Rattle.uri_commands.proofs.Prefixes.{AppendsPrefix-of-appended-then-kept}
-use Rattle.uri_commands.proofs.Prefixes.{AppendsPrefix-of-appended}
+use Rattle.uri_commands.proofs.Prefixes.{AppendsPrefix-of-appended-then-kept, AppendsPrefix-of-appended}
 
 -- writers: a prefix of a text is one of a longer text; a, b: what is held before and
 -- after

@@ -1,18 +1,12 @@
 -- Which command the words make.
-use Rattle.std.proofs.Common.{◌≡◌, ◌≤◌, ◌<◌, ◌-◌, take, ℕ, eqb, List, [], ◌∷◌, false, true}
-use Rattle.std.proofs.Common.{drop, length, get_or, String, string_bytes, refl, sym, ap, ◌∙◌}
-use Rattle.std.proofs.Common.{arith, inl, inr}
+use Rattle.std.proofs.Common.{◌≡◌, ◌≤◌, ◌<◌, ◌-◌, take, ℕ, eqb, List, [], ◌∷◌, false, true, drop, length, get_or, String, string_bytes, refl, sym, ap, ◌∙◌, arith, inl, inr}
 use Rattle.std.proofs.lemmas.List.{length-drop, take_all}
 use Rattle.std.specs.Prelude.{if◌then◌else◌, Option, Some, None, MatchOption, codes}
 use Rattle.uri_commands.specs.declared.command.BaseName.{BaseName}
 use Rattle.uri_commands.specs.declared.command.BaseName.TheVariants as bases
 use Rattle.uri_commands.specs.declared.kinds.KindName.{KindName}
 use Rattle.uri_commands.specs.declared.kinds.KindName.TheVariants.{Uri, UriRef, Iri, IriRef}
-use Rattle.uri_commands.specs.Commands.{Command, Parse, Normalize, Mend, Resolve, Links}
-use Rattle.uri_commands.specs.Commands.{output_of}
-use Rattle.uri_commands.specs.Commands.{texts, words_of}
-use Rattle.uri_commands.specs.Commands.{AreWordsOfLinks, AreWordsOfResolve, AreWordsOfTextCommand}
-use Rattle.uri_commands.specs.Commands.{AreWordsOfRuledLinks, AreWordsOfRuledNormalize, IsCommand}
+use Rattle.uri_commands.specs.Commands.{Command, Parse, Normalize, Mend, Resolve, Links, output_of, texts, words_of, AreWordsOfLinks, AreWordsOfResolve, AreWordsOfTextCommand, AreWordsOfRuledLinks, AreWordsOfRuledNormalize, IsCommand}
 
 -- commands: the first three words are those that were taken, and the rest follows
 bytes-of-three-and-rest : {Z : Type 0} (words : List (String Z)) (a b c : String Z)

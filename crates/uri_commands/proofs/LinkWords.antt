@@ -1,6 +1,5 @@
 -- References that are parsed one after the other.
-use Rattle.std.proofs.Common.{◌≡◌, ◌+◌, ◌<◌, ◌++◌, ◌∷◌, ◌∙◌, ℕ, suc, true, List, [], Some, String}
-use Rattle.std.proofs.Common.{string_bytes, length, take, get_or, map, sym, ap}
+use Rattle.std.proofs.Common.{◌≡◌, ◌+◌, ◌<◌, ◌++◌, ◌∷◌, ◌∙◌, ℕ, suc, true, List, [], Some, String, string_bytes, length, take, get_or, map, sym, ap}
 use Rattle.std.proofs.lemmas.List.{map-append, take-map, take_more}
 use Rattle.std.proofs.lemmas.List.Folds.{list_all-append}
 use Rattle.std.proofs.lemmas.Option.{slice_get-get_or, slice_get-map}

@@ -8,9 +8,7 @@ use Rattle.uri_commands.specs.Kinds.{kind_named}
 use Rattle.uri_commands.specs.Refusals.{IsErrorOfCommand, IsErrorOfLink}
 use Rattle.uri_commands.specs.declared.kinds.KindName.{KindName}
 use Rattle.uri_commands.specs.declared.refusal.CommandError.{CommandError}
-use Rattle.uri_commands.specs.declared.refusal.CommandError.TheVariants.{Text, Base, Reference}
-use Rattle.uri_commands.specs.declared.refusal.CommandError.TheVariants.{Target}
-use Rattle.uri_commands.specs.declared.refusal.CommandError.TheVariants.{OutOfMemory, OutputFailed}
+use Rattle.uri_commands.specs.declared.refusal.CommandError.TheVariants.{Text, Base, Reference, Target, OutOfMemory, OutputFailed}
 use Rattle.uri_mend.specs.Mended.{IsMended}
 use Rattle.uri_mend.specs.Mending.{can_be_mended, mended_text}
 use Rattle.uri_mend.specs.Trimming.{trimmed_link}

@@ -10,9 +10,7 @@ use Rattle.uri_commands.specs.Kinds.{kind_named, normal_form_of}
 use Rattle.uri_commands.specs.Refusals.{IsErrorOfCommand, IsErrorOfNormalForm}
 use Rattle.uri_commands.specs.declared.kinds.KindName.{KindName}
 use Rattle.uri_commands.specs.declared.refusal.CommandError.{CommandError}
-use Rattle.uri_commands.specs.declared.refusal.CommandError.TheVariants.{Text, Base, Reference}
-use Rattle.uri_commands.specs.declared.refusal.CommandError.TheVariants.{Target}
-use Rattle.uri_commands.specs.declared.refusal.CommandError.TheVariants.{OutOfMemory, OutputFailed}
+use Rattle.uri_commands.specs.declared.refusal.CommandError.TheVariants.{Text, Base, Reference, Target, OutOfMemory, OutputFailed}
 
 -- commands: the normal form that a call returns is the one that is written
 pub normal_form_is : (by_rules : Bool) (kind : Kind) (text normal : List ℕ)

@@ -3,12 +3,8 @@ use Rattle.std.proofs.Common.{◌≡◌, Bool, List, ◌∷◌, ◌++◌, ℕ, t
 use Rattle.std.specs.Prelude.{IfErr, if◌then◌else◌}
 use Rattle.fluent_uri.specs.Components.{components}
 use Rattle.fluent_uri.specs.Grammar.{IsOfKind, uri, uri_ref}
-use Rattle.uri_commands.specs.Commands.{Parse, Normalize, Mend, Resolve, Links}
-use Rattle.uri_commands.specs.Commands.{are_of_kind}
-use Rattle.uri_commands.specs.Kinds.{kind_named}
-use Rattle.uri_commands.specs.Commands.{kind_of_base, kind_of_references}
-use Rattle.uri_commands.specs.Kinds.{normal_form_of}
-use Rattle.uri_commands.specs.Commands.{target_text}
+use Rattle.uri_commands.specs.Commands.{Parse, Normalize, Mend, Resolve, Links, are_of_kind, kind_of_base, kind_of_references, target_text}
+use Rattle.uri_commands.specs.Kinds.{kind_named, normal_form_of}
 use Rattle.uri_commands.specs.Lines.{component_lines}
 use Rattle.uri_commands.specs.Links.{link_lines}
 use Rattle.uri_mend.specs.Mending.{can_be_mended, mended_text}

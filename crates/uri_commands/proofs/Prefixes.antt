@@ -1,6 +1,5 @@
 -- What a writer got of a text that it takes piece by piece.
-use Rattle.std.proofs.Common.{◌≡◌, ℕ, List, ◌++◌, Option, length, take, drop, sym, ap, ◌∙◌}
-use Rattle.std.proofs.Common.{subst, append_assoc, take-append-drop}
+use Rattle.std.proofs.Common.{◌≡◌, ℕ, List, ◌++◌, Option, length, take, drop, sym, ap, ◌∙◌, subst, append_assoc, take-append-drop}
 use Rattle.std.proofs.KnownBytes.{Appends-trans, Appends-kept}
 use Rattle.std.specs.Io.KnownBytes.{Appends, Keeps}
 use Rattle.uri_commands.specs.Prefixes.{AppendsPrefix}

@@ -1,6 +1,5 @@
 -- The error that is returned for a text that is not of its kind.
-use Rattle.std.proofs.Common.{◌≡◌, ◌↔◌, ◌++◌, List, ℕ, Result, Ok, Err, Some, sym, ap, ◌∙◌}
-use Rattle.std.proofs.Common.{append_assoc, codes, subst}
+use Rattle.std.proofs.Common.{◌≡◌, ◌↔◌, ◌++◌, List, ℕ, Result, Ok, Err, Some, sym, ap, ◌∙◌, append_assoc, codes, subst}
 use Rattle.std.specs.Prelude.{IsOk, IfErr, MatchResult, is_ok}
 use Rattle.std.specs.Result.{IsErrAnd}
 use Rattle.fluent_uri.specs.Grammar.{Kind, IsOfKind}

@@ -1,6 +1,5 @@
 -- The output of `links`.
-use Rattle.std.specs.Prelude.{ℕ, Bool, List, [], ◌++◌, codes, decimal, flat_map, slice_get}
-use Rattle.std.specs.Prelude.{unwrap_or}
+use Rattle.std.specs.Prelude.{ℕ, Bool, List, [], ◌++◌, codes, decimal, flat_map, slice_get, unwrap_or}
 use Rattle.uri_setting.specs.Settings.{rules_set}
 use Rattle.uri_links.specs.Outcomes.{outcomes_of}
 use Rattle.uri_links.specs.declared.links.Outcome.{Outcome}

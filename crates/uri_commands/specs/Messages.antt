@@ -3,8 +3,7 @@ use Rattle.std.specs.Prelude.{ℕ, List, [], ◌++◌, Option, Some, None, codes
 use Rattle.fluent_uri.specs.Errors.{error_index, error_kind_of}
 use Rattle.fluent_uri.specs.declared.ParseError.{ParseError}
 use Rattle.fluent_uri.specs.declared.ParseErrorKind.{ParseErrorKind}
-use Rattle.fluent_uri.specs.declared.ParseErrorKind.TheVariants.{InvalidPctEncodedOctet}
-use Rattle.fluent_uri.specs.declared.ParseErrorKind.TheVariants.{UnexpectedChar, InvalidIpv6Addr}
+use Rattle.fluent_uri.specs.declared.ParseErrorKind.TheVariants.{InvalidPctEncodedOctet, UnexpectedChar, InvalidIpv6Addr}
 use Rattle.fluent_uri.specs.declared.resolve.ResolveError.{ResolveError}
 use Rattle.fluent_uri.specs.declared.resolve.ResolveError.TheVariants as resolve_errors
 use Rattle.uri_commands.specs.declared.refusal.Message.{Message}

@@ -4,18 +4,14 @@ use Rattle.fluent_uri.specs.Components.{components}
 use Rattle.fluent_uri.specs.Grammar.{Kind, IsOfKind, uri, uri_ref}
 use Rattle.fluent_uri.specs.Refusals.{refusal}
 use Rattle.fluent_uri.specs.Resolving.{IsErrorWithUnderflowAllowed}
-use Rattle.uri_commands.specs.Commands.{Command, Parse, Normalize, Mend, Resolve, Links}
-use Rattle.uri_commands.specs.Commands.{are_of_kind, kind_of_base}
+use Rattle.uri_commands.specs.Commands.{Command, Parse, Normalize, Mend, Resolve, Links, are_of_kind, kind_of_base, kind_of_references, output_of}
 use Rattle.uri_commands.specs.Kinds.{kind_named}
-use Rattle.uri_commands.specs.Commands.{kind_of_references, output_of}
 use Rattle.uri_mend.specs.Refusing.{IsLinkErrorOf}
 use Rattle.uri_mend.specs.declared.error.MendError.TheVariants as mend_errors
 use Rattle.uri_mend.specs.declared.error.MendError.TheVariants.{Unmendable}
 use Rattle.uri_commands.specs.Messages.{error_text, resolve_error_text}
 use Rattle.uri_commands.specs.declared.refusal.CommandError.{CommandError}
-use Rattle.uri_commands.specs.declared.refusal.CommandError.TheVariants.{Text, Base, Reference}
-use Rattle.uri_commands.specs.declared.refusal.CommandError.TheVariants.{Target}
-use Rattle.uri_commands.specs.declared.refusal.CommandError.TheVariants.{OutOfMemory, OutputFailed}
+use Rattle.uri_commands.specs.declared.refusal.CommandError.TheVariants.{Text, Base, Reference, Target, OutOfMemory, OutputFailed}
 use Rattle.fluent_uri.specs.declared.ParseError.{ParseError}
 
 -- the text of an error of a command of `uritool`, without `error: ` before it

@@ -1,6 +1,5 @@
 -- The hosts that ToASCII writes are hosts of every kind.
-use Rattle.std.proofs.Common.{◌≡◌, ℕ, Bool, true, false, ◌||◌, eqb, List, [], refl, ap, sym, ◌∙◌}
-use Rattle.std.proofs.Common.{arith, inl, inr, subst}
+use Rattle.std.proofs.Common.{◌≡◌, ℕ, Bool, true, false, ◌||◌, eqb, List, [], refl, ap, sym, ◌∙◌, arith, inl, inr, subst}
 use Rattle.std.specs.Prelude.{Some, codes, unwrap_or}
 use Rattle.std.specs.Char.{is_ascii_digit, is_ascii_lowercase}
 use Rattle.std.specs.List.{list_any}
@@ -24,8 +23,7 @@ use Rattle.uri_ops.proofs.Builders.BuilderHosts.{valid-name-is-host}
 use Rattle.uri_ops.proofs.Meanings.AllowedParts.{is_set_text, set-text-is-utf8, set-text-is-valid}
 use Rattle.uri_ops.proofs.Meanings.AsciiCharacters.{ascii-in-test-is-set-text, is_ascii_in}
 use Rattle.uri_ops.proofs.Meanings.ComponentEnds.{ends-are-excluded-from-set}
-use Rattle.uri_idna.specs.AsciiHosts.{ascii_host, ascii_host_of, ascii_name, dns_name}
-use Rattle.uri_idna.specs.AsciiHosts.{is_ascii_text}
+use Rattle.uri_idna.specs.AsciiHosts.{ascii_host, ascii_host_of, ascii_name, dns_name, is_ascii_text}
 
 -- hosts in ASCII: what ToASCII writes for DNS: lower-case letters, digits, hyphens and full stops
 is_name_char : ℕ → Bool

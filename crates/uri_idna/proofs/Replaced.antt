@@ -1,34 +1,21 @@
 -- A text whose host is replaced by its form in ASCII has its other components unchanged.
-use Rattle.std.proofs.Common.{◌≡◌, ℕ, true, false, ◌&&◌, ◌||◌, not, List, [], ◌++◌, refl}
-use Rattle.std.proofs.Common.{ap, sym, subst, ◌∙◌}
-use Rattle.std.specs.Prelude.{Option, Some, None, IfNone, IfSome, IsSomeAnd, codes, is_some}
-use Rattle.std.specs.Prelude.{option_map}
+use Rattle.std.proofs.Common.{◌≡◌, ℕ, true, false, ◌&&◌, ◌||◌, not, List, [], ◌++◌, refl, ap, sym, subst, ◌∙◌}
+use Rattle.std.specs.Prelude.{Option, Some, None, IfNone, IfSome, IsSomeAnd, codes, is_some, option_map}
 use Rattle.std.specs.Str.{IsUtf8}
 use Rattle.std.proofs.lemmas.Str.{IsUtf8-append}
-use Rattle.uri_parts.specs.Authority.{AuthorityParts, IsAuthorityFor, authority_parts}
-use Rattle.uri_parts.specs.Authority.{recompose_authority}
-use Rattle.uri_parts.specs.Components.{Components, IsAbemptyPath, IsSplitOf, Lacks, components}
-use Rattle.uri_parts.specs.Components.{has_scheme, marked, recompose}
-use Rattle.uri_parts.specs.Grammar.{IsOfKind, IsTextOf, Kind, components_meet_rules}
-use Rattle.uri_parts.specs.Grammar.{has_colon_in_first_segment, is_authority}
-use Rattle.uri_parts.proofs.Theorems.{authority_parts-are-unique, components-are-split-of-text}
-use Rattle.uri_parts.proofs.Theorems.{is_authority_for-complete, is_authority_for-sound}
-use Rattle.uri_parts.proofs.Theorems.{only-split-is-components, recompose-components}
+use Rattle.uri_parts.specs.Authority.{AuthorityParts, IsAuthorityFor, authority_parts, recompose_authority}
+use Rattle.uri_parts.specs.Components.{Components, IsAbemptyPath, IsSplitOf, Lacks, components, has_scheme, marked, recompose}
+use Rattle.uri_parts.specs.Grammar.{IsOfKind, IsTextOf, Kind, components_meet_rules, has_colon_in_first_segment, is_authority}
+use Rattle.uri_parts.proofs.Theorems.{authority_parts-are-unique, components-are-split-of-text, is_authority_for-complete, is_authority_for-sound, only-split-is-components, recompose-components}
 use Rattle.uri_ops.specs.BuilderParts.{is_authority_text}
 use Rattle.uri_ops.specs.ComponentSets.{HasComponentSets}
-use Rattle.uri_ops.proofs.Builders.BuilderAuthorities.{authority-lacks-its-ends}
-use Rattle.uri_ops.proofs.Builders.BuilderAuthorities.{authority-text-from-rule}
-use Rattle.uri_ops.proofs.Builders.BuilderAuthorities.{authority-text-is-utf8}
-use Rattle.uri_ops.proofs.Builders.BuilderAuthorities.{authority-text-meets-rule}
+use Rattle.uri_ops.proofs.Builders.BuilderAuthorities.{authority-lacks-its-ends, authority-text-from-rule, authority-text-is-utf8, authority-text-meets-rule}
 use Rattle.uri_ops.proofs.Meanings.AsciiCharacters.{ascii-bytes-are-utf8}
-use Rattle.uri_ops.proofs.Meanings.AuthorityMeanings.{authority-parts-are-utf8}
-use Rattle.uri_ops.proofs.Meanings.AuthorityMeanings.{kind-sets-lack-authority-delimiters}
+use Rattle.uri_ops.proofs.Meanings.AuthorityMeanings.{authority-parts-are-utf8, kind-sets-lack-authority-delimiters}
 use Rattle.uri_idna.specs.AsciiHosts.{ascii_host}
 use Rattle.uri_ops.proofs.Meanings.TextParts.{ArePartsOfKind, components-of-kind-meet-grammar}
 use Rattle.uri_ops.proofs.Normal.NormalTexts.{text-has-parts-of-kind}
-use Rattle.uri_idna.specs.AsciiReferences.{HasAsciiHost, IsAuthorityWithAsciiHost}
-use Rattle.uri_idna.specs.AsciiReferences.{IsWithAsciiHost, ascii_components, with_ascii_host}
-use Rattle.uri_idna.specs.AsciiReferences.{with_authority, with_host}
+use Rattle.uri_idna.specs.AsciiReferences.{HasAsciiHost, IsAuthorityWithAsciiHost, IsWithAsciiHost, ascii_components, with_ascii_host, with_authority, with_host}
 use Rattle.uri_idna.proofs.AsciiNames.{ascii-host-is-host}
 
 -- replacing a host: a host and the port after it are UTF-8

@@ -1,6 +1,5 @@
 -- Hosts in ASCII, as DNS has them: UTS 46, section 4.2, with the flags of RFC 3987, section 3.1.
-use Rattle.std.specs.Prelude.{◌≡◌, ℕ, ◌&&◌, Bool, List, Option, Some, None, IsTrue, IsUtf8, ⊤}
-use Rattle.std.specs.Prelude.{if◌then◌else◌}
+use Rattle.std.specs.Prelude.{◌≡◌, ℕ, ◌&&◌, Bool, List, Option, Some, None, IsTrue, IsUtf8, ⊤, if◌then◌else◌}
 use Rattle.std.specs.Char.{is_ascii}
 use Rattle.std.specs.List.{list_all}
 use Rattle.idna.specs.Uts46.{to_ascii}
@@ -11,8 +10,7 @@ use Rattle.uri_pct.specs.Texts.{is_unencoded}
 use Rattle.uri_parts.specs.Connecting.{name_bytes}
 use Rattle.uri_parts.specs.Hosts.{HostKind, Ipv4, Ipv6, IpvFuture, RegName, host_kind}
 use Rattle.uri_idna.specs.declared.error.AsciiHostError.{AsciiHostError}
-use Rattle.uri_idna.specs.declared.error.AsciiHostError.TheVariants.{InvalidName, NameNotUtf8}
-use Rattle.uri_idna.specs.declared.error.AsciiHostError.TheVariants.{OutOfMemory}
+use Rattle.uri_idna.specs.declared.error.AsciiHostError.TheVariants.{InvalidName, NameNotUtf8, OutOfMemory}
 
 -- whether bytes are ASCII alone
 abbrev pub is_ascii_text : List ℕ → Bool

@@ -1,8 +1,5 @@
 -- Which texts a search tree finds after one more was added.
-use Rattle.std.proofs.Common.{◌≡◌, ◌+◌, ◌<◌, ◌≤◌, ◌++◌, ◌∷◌, ℕ, zero, suc, Bool}
-use Rattle.std.proofs.Common.{true, false, List, [], length, get_or, nat_eq, ap, arith, refl}
-use Rattle.std.proofs.Common.{sym, ◌∙◌, length-append, add-one, subst, Option, Some, None}
-use Rattle.std.proofs.Common.{true≢false}
+use Rattle.std.proofs.Common.{◌≡◌, ◌+◌, ◌<◌, ◌≤◌, ◌++◌, ◌∷◌, ℕ, zero, suc, Bool, true, false, List, [], length, get_or, nat_eq, ap, arith, refl, sym, ◌∙◌, length-append, add-one, subst, Option, Some, None, true≢false}
 use Rattle.std.specs.List.{position}
 use Rattle.std.proofs.Math.Seq.{get_or-append_seam}
 use Rattle.std.specs.Prelude.{bytes_eq}
@@ -13,20 +10,12 @@ use Rattle.std.proofs.lemmas.List.Quantifiers.{position-Some}
 use Rattle.std.proofs.lemmas.Map.Keys.{any_passes_from_place}
 use Rattle.std.proofs.lemmas.Option.{slice_get-get_or}
 use Rattle.uri_links.proofs.Places.{position-None-no-element-passes}
-use Rattle.uri_links.specs.SearchTrees.{child, descends_right, next_node, node_at, search_from}
-use Rattle.uri_links.specs.SearchTrees.{search, ChildrenFollow}
-use Rattle.uri_links.specs.SearchTrees.{with_node_added, leaf, FindsEach, hash_of, IsSearchTree}
-use Rattle.uri_links.specs.SearchTrees.{found_id}
+use Rattle.uri_links.specs.SearchTrees.{child, descends_right, next_node, node_at, search_from, search, ChildrenFollow, with_node_added, leaf, FindsEach, hash_of, IsSearchTree, found_id}
 use Rattle.uri_links.specs.declared.search_tree.Node.{Node}
 use Rattle.uri_links.specs.declared.search_tree.SearchEnd.{SearchEnd}
 use Rattle.uri_links.specs.declared.search_tree.SearchEnd.TheVariants.{Found, Missing}
-use Rattle.uri_links.proofs.Searches.{search_from-found-here, search_from-ends-here}
-use Rattle.uri_links.proofs.Searches.{search_from-descends, found-text-is-equal}
-use Rattle.uri_links.proofs.Searches.{as-many-nodes-as-texts, found-index-in-range}
-use Rattle.uri_links.proofs.Searches.{next-node-in-range}
-use Rattle.uri_links.proofs.GrownTrees.{leaf-has-no-child, length_grown}
-use Rattle.uri_links.proofs.GrownTrees.{new-node-is-child-of-parent, other-children-unchanged}
-use Rattle.uri_links.proofs.GrownTrees.{children_follow, hashes_grown}
+use Rattle.uri_links.proofs.Searches.{search_from-found-here, search_from-ends-here, search_from-descends, found-text-is-equal, as-many-nodes-as-texts, found-index-in-range, next-node-in-range}
+use Rattle.uri_links.proofs.GrownTrees.{leaf-has-no-child, length_grown, new-node-is-child-of-parent, other-children-unchanged, children_follow, hashes_grown}
 
 -- a search ends at a node that has no child on that side
 module _ (nodes : List Node) (texts : List (List ℕ)) (text : List ℕ)

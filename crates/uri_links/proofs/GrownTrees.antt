@@ -1,14 +1,9 @@
 -- A tree with one more node.
-use Rattle.std.proofs.Common.{◌≡◌, ◌≢◌, ◌+◌, ◌<◌, ◌⊎◌, inl, inr, ◌++◌, ◌∷◌, ℕ, Bool, true, false}
-use Rattle.std.proofs.Common.{List, [], length, nat_eq, ap, arith, refl, sym, ◌∙◌, length-append}
-use Rattle.std.proofs.Common.{length-set, subst}
-use Rattle.std.proofs.Math.Seq.{map-set_same}
-use Rattle.std.proofs.lemmas.List.{map-append}
-use Rattle.std.proofs.Math.Seq.{get_or-append_seam}
+use Rattle.std.proofs.Common.{◌≡◌, ◌≢◌, ◌+◌, ◌<◌, ◌⊎◌, inl, inr, ◌++◌, ◌∷◌, ℕ, Bool, true, false, List, [], length, nat_eq, ap, arith, refl, sym, ◌∙◌, length-append, length-set, subst}
+use Rattle.std.proofs.Math.Seq.{map-set_same, get_or-append_seam}
+use Rattle.std.proofs.lemmas.List.{map-append, get_or-set_same, get_or-set_other, get_or_append_left}
 use Rattle.std.proofs.lemmas.Bool.Decides.{nat_tests}
-use Rattle.std.proofs.lemmas.List.{get_or-set_same, get_or-set_other, get_or_append_left}
-use Rattle.uri_links.specs.SearchTrees.{child, node_at, ChildrenFollow, with_node_added, leaf}
-use Rattle.uri_links.specs.SearchTrees.{with_child, HaveHashes, hash_of}
+use Rattle.uri_links.specs.SearchTrees.{child, node_at, ChildrenFollow, with_node_added, leaf, with_child, HaveHashes, hash_of}
 use Rattle.uri_links.specs.declared.search_tree.Node.{Node}
 
 -- register of links: a child that is put on a side is there

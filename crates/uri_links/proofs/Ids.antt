@@ -1,6 +1,5 @@
 -- The id of an outcome is an index into the texts of the register, also after further references.
-use Rattle.std.proofs.Common.{◌≡◌, ℕ, ◌≤◌, List, [], ◌∷◌, length, Option, Some, None, Ok, Err, refl}
-use Rattle.std.proofs.Common.{subst, arith, length-append}
+use Rattle.std.proofs.Common.{◌≡◌, ℕ, ◌≤◌, List, [], ◌∷◌, length, Option, Some, None, Ok, Err, refl, subst, arith, length-append}
 use Rattle.std.specs.List.{All, AllByRecursion}
 use Rattle.std.specs.Prelude.{Result}
 use Rattle.std.proofs.lemmas.List.Elements.{All-from_recursion}
@@ -11,8 +10,7 @@ use Rattle.fluent_uri.specs.Normal.{normal_text}
 use Rattle.uri_rules.specs.Rules.{Rules, meaning_under}
 use Rattle.fluent_uri.specs.Target.{TargetError, resolution_of}
 use Rattle.fluent_uri.specs.SameMeanings.{same_meaning}
-use Rattle.uri_links.specs.Outcomes.{outcome_of, outcomes_of, index_of_meaning, outcome_of_lookup}
-use Rattle.uri_links.specs.Outcomes.{outcome_of_resolution}
+use Rattle.uri_links.specs.Outcomes.{outcome_of, outcomes_of, index_of_meaning, outcome_of_lookup, outcome_of_resolution}
 use Rattle.uri_links.specs.OutcomesInWords.{IdIsInRange}
 use Rattle.uri_links.specs.declared.links.Outcome.{Outcome}
 use Rattle.uri_links.specs.declared.links.Outcome.TheVariants.{New, Known, Refused}

@@ -11,8 +11,7 @@ use Rattle.fluent_uri.specs.Normal.{normal_text}
 use Rattle.uri_rules.specs.Rules.{Rules, meaning_under}
 use Rattle.fluent_uri.specs.SameMeanings.{same_meaning}
 use Rattle.fluent_uri.specs.Target.{TargetError, resolution_of}
-use Rattle.uri_links.specs.Outcomes.{outcome_of, index_of_meaning, outcome_of_lookup}
-use Rattle.uri_links.specs.Outcomes.{outcome_of_resolution}
+use Rattle.uri_links.specs.Outcomes.{outcome_of, index_of_meaning, outcome_of_lookup, outcome_of_resolution}
 use Rattle.uri_links.specs.OutcomesInWords.{IsOutcome, HasMeaningAt}
 use Rattle.uri_links.specs.declared.links.Outcome.{Outcome}
 use Rattle.uri_links.proofs.Noted.{ComparesMeanings}

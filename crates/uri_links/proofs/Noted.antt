@@ -19,8 +19,7 @@ use Rattle.fluent_uri.specs.Resolving.{IsErrorWithUnderflowAllowed}
 use Rattle.fluent_uri.specs.SameMeanings.{same_meaning}
 use Rattle.fluent_uri.specs.declared.resolve.ResolveError.{ResolveError}
 use Rattle.fluent_uri.specs.declared.resolve.ResolveError.TheVariants as Of
-use Rattle.uri_links.specs.Outcomes.{outcome_of, index_of_meaning, outcome_of_lookup}
-use Rattle.uri_links.specs.Outcomes.{outcome_of_resolution}
+use Rattle.uri_links.specs.Outcomes.{outcome_of, index_of_meaning, outcome_of_lookup, outcome_of_resolution}
 use Rattle.uri_links.specs.Registered.{AreNormal, AreUris, is_uri_text}
 use Rattle.uri_links.specs.declared.links.Outcome.{Outcome}
 use Rattle.uri_links.specs.declared.links.Outcome.TheVariants.{Refused}

@@ -1,6 +1,5 @@
 -- The first index at which a test passes.
-use Rattle.std.proofs.Common.{◌≡◌, ◌+◌, ◌≤◌, Bool, true, false, List, [], ◌∷◌, length, Some, None}
-use Rattle.std.proofs.Common.{cond, not, ◌||◌, ltb, suc, refl, ap, arith}
+use Rattle.std.proofs.Common.{◌≡◌, ◌+◌, ◌≤◌, Bool, true, false, List, [], ◌∷◌, length, Some, None, cond, not, ◌||◌, ltb, suc, refl, ap, arith}
 use Rattle.std.specs.List.{AllByRecursion, list_any, position, position_or_len}
 use Rattle.std.proofs.lemmas.Bool.Decides.{nat_tests}
 

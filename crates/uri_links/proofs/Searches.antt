@@ -1,11 +1,9 @@
 -- A search, a step at a time.
-use Rattle.std.proofs.Common.{◌≡◌, ◌+◌, ◌<◌, ℕ, zero, suc, Bool, true, false, cond, List, [], ◌∷◌}
-use Rattle.std.proofs.Common.{length, get_or, nat_eq, ap, arith, sym, ◌∙◌, map, subst}
+use Rattle.std.proofs.Common.{◌≡◌, ◌+◌, ◌<◌, ℕ, zero, suc, Bool, true, false, cond, List, [], ◌∷◌, length, get_or, nat_eq, ap, arith, sym, ◌∙◌, map, subst}
 use Rattle.std.proofs.lemmas.Bool.Decides.{nat_tests}
 use Rattle.std.proofs.lemmas.List.{get_or-map, length-map}
 use Rattle.std.specs.Prelude.{bytes_eq}
-use Rattle.uri_links.specs.SearchTrees.{descends_right, next_node, search_from, ChildrenFollow}
-use Rattle.uri_links.specs.SearchTrees.{HaveHashes, hash_of, search}
+use Rattle.uri_links.specs.SearchTrees.{descends_right, next_node, search_from, ChildrenFollow, HaveHashes, hash_of, search}
 use Rattle.uri_links.specs.declared.search_tree.Node.{Node}
 use Rattle.uri_links.specs.declared.search_tree.SearchEnd.{SearchEnd}
 use Rattle.uri_links.specs.declared.search_tree.SearchEnd.TheVariants.{Found, Missing}

@@ -1,6 +1,5 @@
 -- The outcomes of several references, a reference at a time.
-use Rattle.std.proofs.Common.{◌≡◌, ℕ, ◌+◌, ◌<◌, List, [], ◌∷◌, ◌++◌, length, get_or, take, map, Ok}
-use Rattle.std.proofs.Common.{Err, refl, sym, ap, ◌∙◌}
+use Rattle.std.proofs.Common.{◌≡◌, ℕ, ◌+◌, ◌<◌, List, [], ◌∷◌, ◌++◌, length, get_or, take, map, Ok, Err, refl, sym, ap, ◌∙◌}
 use Rattle.std.specs.Prelude.{OnErr, Result}
 use Rattle.std.proofs.lemmas.List.{map-append, take_more}
 use Rattle.uri_rules.specs.Rules.{Rules, meaning_under}

@@ -1,15 +1,12 @@
 -- The outcomes of noting references, and the texts of the register afterwards (RFC 3986, sections
 -- 5.2 and 6.2).
-use Rattle.std.specs.Prelude.{ℕ, List, [], ◌∷◌, ◌++◌, length, Option, Some, None, Result, Ok, Err}
-use Rattle.std.specs.Prelude.{position}
+use Rattle.std.specs.Prelude.{ℕ, List, [], ◌∷◌, ◌++◌, length, Option, Some, None, Result, Ok, Err, position}
 use Rattle.fluent_uri.specs.Components.{components}
 use Rattle.fluent_uri.specs.Grammar.{uri}
 use Rattle.fluent_uri.specs.Meaning.{Meaning}
 use Rattle.fluent_uri.specs.Normal.{normal_text}
 use Rattle.uri_rules.specs.Rules.{Rules, meaning_under}
-use Rattle.fluent_uri.specs.Target.{TargetError, BaseWithFragment}
-use Rattle.fluent_uri.specs.Target.{InvalidReferenceAgainstOpaqueBase}
-use Rattle.fluent_uri.specs.Target.{resolution_of}
+use Rattle.fluent_uri.specs.Target.{TargetError, BaseWithFragment, InvalidReferenceAgainstOpaqueBase, resolution_of}
 use Rattle.fluent_uri.specs.declared.resolve.ResolveError.{ResolveError}
 use Rattle.fluent_uri.specs.declared.resolve.ResolveError.TheVariants as Of
 use Rattle.uri_links.specs.declared.links.Outcome.{Outcome}

@@ -1,8 +1,5 @@
 -- A digital search tree over a list of texts, whose nodes are those of the texts at their indices.
-use Rattle.std.specs.Prelude.{◌≡◌, ◌+◌, ◌-◌, ◌/◌, ◌%◌, ◌^◌, ◌<◌, ◌≢◌, ◌∷◌, ◌++◌, ℕ, zero, suc, Bool}
-use Rattle.std.specs.Prelude.{false, Option, Some, None, List, [], length, map, get_or}
-use Rattle.std.specs.Prelude.{if◌then◌else◌, nat_lt, nat_eq}
-use Rattle.std.specs.Prelude.{bytes_eq, slice_set, bit_and}
+use Rattle.std.specs.Prelude.{◌≡◌, ◌+◌, ◌-◌, ◌/◌, ◌%◌, ◌^◌, ◌<◌, ◌≢◌, ◌∷◌, ◌++◌, ℕ, zero, suc, Bool, false, Option, Some, None, List, [], length, map, get_or, if◌then◌else◌, nat_lt, nat_eq, bytes_eq, slice_set, bit_and}
 use Rattle.std.specs.Hash.{str}
 use Rattle.std.specs.List.{fold}
 use Rattle.std.specs.Hash.FoldHasher as folding

@@ -1,15 +1,11 @@
 -- A component within a text, mended from left to right: what a scan passes stays, and the character
 -- where it stops becomes octets, up to the first of the marks that end the component.
-use Rattle.std.proofs.Common.{◌≡◌, ℕ, ◌+◌, ◌<◌, ◌≤◌, true, false, not, eqb, List, [], ◌∷◌}
-use Rattle.std.proofs.Common.{◌++◌, ◌&&◌, length, take, drop, map, get_or, refl, sym, ap, subst}
-use Rattle.std.proofs.Common.{◌∙◌, arith, ⊎_elim, ltb, length-drop}
+use Rattle.std.proofs.Common.{◌≡◌, ℕ, ◌+◌, ◌<◌, ◌≤◌, true, false, not, eqb, List, [], ◌∷◌, ◌++◌, ◌&&◌, length, take, drop, map, get_or, refl, sym, ap, subst, ◌∙◌, arith, ⊎_elim, ltb, length-drop}
 use Rattle.std.specs.Char.{encode_utf8, is_ascii_hexdigit}
 use Rattle.std.specs.List.{list_all}
 use Rattle.std.specs.Str.{IsUtf8, IsCharBoundary}
-use Rattle.std.proofs.lemmas.Bool.{and_from, and_parts, cases_Bool, cases_lt, leb-true, ltb-true}
-use Rattle.std.proofs.lemmas.Bool.{not-true, not_from_false}
-use Rattle.std.proofs.lemmas.List.{drop-append-le, get_or-drop, get_or-take, length-take-le}
-use Rattle.std.proofs.lemmas.List.{take-append-le, take-take}
+use Rattle.std.proofs.lemmas.Bool.{and_from, and_parts, cases_Bool, cases_lt, leb-true, ltb-true, not-true, not_from_false}
+use Rattle.std.proofs.lemmas.List.{drop-append-le, get_or-drop, get_or-take, length-take-le, take-append-le, take-take}
 use Rattle.std.proofs.lemmas.List.Sums.{prefix_len-le-length}
 use Rattle.std.proofs.lemmas.Str.{IsUtf8-take}
 use Rattle.uri_pct.specs.Prefixes.{valid_prefix}
@@ -17,15 +13,10 @@ use Rattle.uri_pct.specs.Sets.{TableSet, LacksPercent, is_one_of}
 use Rattle.uri_pct.specs.Tokens.{IsValidFor, Octet, print}
 use Rattle.uri_pct.proofs.Unicode.Characters.{HasEncoding, char_has_encoding, is_no_ascii_byte}
 use Rattle.uri_pct.proofs.ValidTexts.Cuts.{excludes, valid_prefix-ends-by-mark}
-use Rattle.uri_pct.proofs.ValidTexts.LongestPrefixes.{valid_prefix_ends_at_boundary}
-use Rattle.uri_pct.proofs.ValidTexts.LongestPrefixes.{valid_prefix_is_longest}
-use Rattle.uri_pct.proofs.ValidTexts.LongestPrefixes.{valid_prefix_is_valid}
-use Rattle.uri_pct.proofs.ValidTexts.MarksInTexts.{AreAscii, first_mark_is_at_boundary}
-use Rattle.uri_pct.proofs.ValidTexts.MarksInTexts.{length_before_marks, test_holds_of_each}
+use Rattle.uri_pct.proofs.ValidTexts.LongestPrefixes.{valid_prefix_ends_at_boundary, valid_prefix_is_longest, valid_prefix_is_valid}
+use Rattle.uri_pct.proofs.ValidTexts.MarksInTexts.{AreAscii, first_mark_is_at_boundary, length_before_marks, test_holds_of_each}
 use Rattle.uri_parts.specs.Components.{before_any, from_any}
-use Rattle.uri_parts.proofs.Splitting.Cuts.{before_any-past-other, from_any-past-other}
-use Rattle.uri_parts.proofs.Splitting.Cuts.{cut-at-end-of-text-without-marks}
-use Rattle.uri_parts.proofs.Splitting.Cuts.{text-is-cut-at-first-mark}
+use Rattle.uri_parts.proofs.Splitting.Cuts.{before_any-past-other, from_any-past-other, cut-at-end-of-text-without-marks, text-is-cut-at-first-mark}
 use Rattle.uri_mend.specs.MendedParts.{mended}
 use Rattle.uri_mend.proofs.MendedSteps.{scanned-prefix-is-kept, unscanned-char-is-encoded}
 

@@ -1,8 +1,7 @@
 -- Mending percent-encodes no more than it must: each other reference that percent-encodes
 -- characters of the text percent-encodes those that mending does. And mended components decode to
 -- what they did.
-use Rattle.std.proofs.Common.{◌≡◌, ℕ, true, false, List, [], ◌∷◌, ◌++◌, map, refl, sym, ap}
-use Rattle.std.proofs.Common.{subst, ◌∙◌, ⊎_elim, inl, inr}
+use Rattle.std.proofs.Common.{◌≡◌, ℕ, true, false, List, [], ◌∷◌, ◌++◌, map, refl, sym, ap, subst, ◌∙◌, ⊎_elim, inl, inr}
 use Rattle.std.specs.Prelude.{Option, Some, None, IfSome, option_map}
 use Rattle.std.specs.Char.{encode_utf8}
 use Rattle.std.specs.List.{list_all, flat_map}
@@ -15,12 +14,10 @@ use Rattle.uri_parts.specs.Components.{components}
 use Rattle.uri_parts.specs.Grammar.{Kind, IsTextOf}
 use Rattle.uri_ops.specs.ComponentSets.{HasComponentSets}
 use Rattle.uri_ops.proofs.Meanings.AllowedParts.{is_set_text, set-text-is-valid}
-use Rattle.uri_ops.proofs.Meanings.TextParts.{components-of-utf8-are-utf8}
-use Rattle.uri_ops.proofs.Meanings.TextParts.{grammar-gives-components-of-kind}
+use Rattle.uri_ops.proofs.Meanings.TextParts.{components-of-utf8-are-utf8, grammar-gives-components-of-kind}
 use Rattle.uri_mend.specs.MendedParts.{mend_token, mended}
 use Rattle.uri_mend.specs.Mending.{link_components, mended_components}
-use Rattle.uri_mend.specs.Encodings.{decoded, DecodeAlike, IsTokenOrItsOctets, AreEncodedAs}
-use Rattle.uri_mend.specs.Encodings.{IsPartEncodedAs, AreComponentsEncodedAs}
+use Rattle.uri_mend.specs.Encodings.{decoded, DecodeAlike, IsTokenOrItsOctets, AreEncodedAs, IsPartEncodedAs, AreComponentsEncodedAs}
 use Rattle.uri_mend.proofs.MendedTokens.{tokens-of-mended-text, mended-text-decodes-alike}
 use Rattle.uri_mend.proofs.MendedReferences.{link-components-are-mendable}
 

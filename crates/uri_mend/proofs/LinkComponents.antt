@@ -1,14 +1,11 @@
 -- The components of a text that is no reference, perhaps: its scheme is one, and without a scheme
 -- and an authority its first segment has no `:`.
-use Rattle.std.proofs.Common.{◌≡◌, ℕ, Bool, true, false, not, eqb, List, [], ◌∷◌, ◌++◌, refl, sym}
-use Rattle.std.proofs.Common.{ap, subst, ◌∙◌, ⊎_elim, ◌&&◌, lit<, arith}
+use Rattle.std.proofs.Common.{◌≡◌, ℕ, Bool, true, false, not, eqb, List, [], ◌∷◌, ◌++◌, refl, sym, ap, subst, ◌∙◌, ⊎_elim, ◌&&◌, lit<, arith}
 use Rattle.std.specs.Prelude.{codes, IfSome, IfNone}
 use Rattle.std.specs.Str.{IsUtf8, encode_utf8_all}
-use Rattle.std.proofs.lemmas.Bool.{cases_Bool, cond-true, cond-false, and_parts, both_ways}
-use Rattle.std.proofs.lemmas.Bool.{not-false, eqb-true}
+use Rattle.std.proofs.lemmas.Bool.{cases_Bool, cond-true, cond-false, and_parts, both_ways, not-false, eqb-true}
 use Rattle.std.proofs.lemmas.Str.{IsUtf8-append, encode_ascii}
-use Rattle.uri_parts.specs.Components.{components, starts, before_any, from_any, when}
-use Rattle.uri_parts.specs.Components.{has_scheme, has_authority, after_scheme, after_authority}
+use Rattle.uri_parts.specs.Components.{components, starts, before_any, from_any, when, has_scheme, has_authority, after_scheme, after_authority}
 use Rattle.uri_parts.specs.Grammar.{is_scheme, has_colon_in_first_segment}
 use Rattle.uri_parts.proofs.Splitting.Cuts.{from_any-at-mark, before_any-at-mark}
 use Rattle.uri_parts.proofs.Splitting.Relative.{colon_in_first_segment-is-at-start}

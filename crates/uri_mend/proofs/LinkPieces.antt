@@ -1,30 +1,23 @@
 -- A text, cut before its path, and the pieces of the text that it is mended to.
-use Rattle.std.proofs.Common.{◌≡◌, ℕ, true, false, not, List, [], ◌∷◌, ◌++◌, length, take, drop}
-use Rattle.std.proofs.Common.{refl, sym, ap, subst, ◌∙◌, arith, append_assoc, ◌&&◌, lit<, ◌≤◌, ◌-◌}
-use Rattle.std.proofs.Common.{length-append}
+use Rattle.std.proofs.Common.{◌≡◌, ℕ, true, false, not, List, [], ◌∷◌, ◌++◌, length, take, drop, refl, sym, ap, subst, ◌∙◌, arith, append_assoc, ◌&&◌, lit<, ◌≤◌, ◌-◌, length-append}
 use Rattle.std.specs.Str.{IsUtf8, IsCharBoundary}
 use Rattle.std.proofs.Math.Seq.{take-append_seam}
 use Rattle.std.proofs.lemmas.Str.{IsCharBoundary-from_drop, IsCharBoundary-at_seam}
-use Rattle.uri_parts.specs.Components.{has_authority}
+use Rattle.uri_parts.specs.Components.{has_authority, components, recompose, marked, starts, when, before_any, from_any, after_scheme, after_authority, after_query}
 use Rattle.uri_parts.proofs.Parsing.ScanStops.{utf8_after_slashes}
 use Rattle.std.specs.Prelude.{codes}
 use Rattle.std.proofs.lemmas.Bool.{cond-true, cond-false, and_parts, both_ways, or_left}
 use Rattle.uri_pct.specs.Sets.{allows}
-use Rattle.uri_parts.specs.Components.{components, recompose, marked, starts, when, before_any}
-use Rattle.uri_parts.specs.Components.{from_any, after_scheme, after_authority, after_query}
 use Rattle.uri_parts.specs.Grammar.{Kind}
 use Rattle.uri_parts.proofs.Splitting.Cuts.{before_any-past-other, from_any-past-other}
 use Rattle.uri_parts.proofs.Splitting.Recompose.{recompose-components}
 use Rattle.uri_ops.specs.ComponentSets.{HasComponentSets}
 use Rattle.uri_ops.specs.Models.Places.{before_path}
 use Rattle.uri_mend.specs.MendedParts.{mended}
-use Rattle.uri_mend.specs.Mending.{has_false_scheme, link_components}
-use Rattle.uri_mend.specs.Mending.{mended_components, mended_text}
-use Rattle.uri_mend.specs.Tails.{mended_query, mended_fragment, mended_tail, IsMendedByPieces}
-use Rattle.uri_mend.specs.Tails.{IsPathMendedByPieces, query_of_tail}
+use Rattle.uri_mend.specs.Mending.{has_false_scheme, link_components, mended_components, mended_text}
+use Rattle.uri_mend.specs.Tails.{mended_query, mended_fragment, mended_tail, IsMendedByPieces, IsPathMendedByPieces, query_of_tail}
 use Rattle.uri_mend.proofs.MendedMarks.{allowed-ascii-before-text-stays}
-use Rattle.uri_mend.proofs.LinkComponents.{false-scheme-gets-dot-segment}
-use Rattle.uri_mend.proofs.LinkComponents.{no-false-scheme-gets-nothing}
+use Rattle.uri_mend.proofs.LinkComponents.{false-scheme-gets-dot-segment, no-false-scheme-gets-nothing}
 
 -- links: what follows a path, as the components have it
 end_text : List ℕ → List ℕ

@@ -1,43 +1,32 @@
 -- A text whose prefix shows where its path begins: the prefix has its scheme and its authority.
-use Rattle.std.proofs.Common.{◌≡◌, ℕ, ◌+◌, ◌-◌, ◌<◌, ◌≤◌, Bool, true, false, not, List, [], ◌∷◌}
-use Rattle.std.proofs.Common.{◌++◌, ◌||◌, ◌&&◌, length, take, drop, refl, sym, ap, subst, ◌∙◌}
-use Rattle.std.proofs.Common.{arith, ⊎_elim, length-append}
+use Rattle.std.proofs.Common.{◌≡◌, ℕ, ◌+◌, ◌-◌, ◌<◌, ◌≤◌, Bool, true, false, not, List, [], ◌∷◌, ◌++◌, ◌||◌, ◌&&◌, length, take, drop, refl, sym, ap, subst, ◌∙◌, arith, ⊎_elim, length-append}
 use Rattle.std.specs.List.{list_any}
 use Rattle.std.specs.Prelude.{codes, IfSome, None, Option, Some, is_some, option_map, unwrap_or}
 use Rattle.std.specs.Str.{IsCharBoundary, IsUtf8}
 use Rattle.std.proofs.Math.Seq.{drop-append_seam, take-append_seam}
-use Rattle.std.proofs.lemmas.Bool.{and_parts, both_ways, cases_Bool, cond-true, cond-false}
-use Rattle.std.proofs.lemmas.Bool.{eqb-true}
+use Rattle.std.proofs.lemmas.Bool.{and_parts, both_ways, cases_Bool, cond-true, cond-false, eqb-true}
 use Rattle.std.proofs.lemmas.List.{drop-append-le, length-take-le}
 use Rattle.std.proofs.lemmas.Str.{IsCharBoundary-at_seam}
 use Rattle.uri_pct.specs.Sets.{is_one_of}
-use Rattle.uri_parts.specs.Components.{Components, components, after_authority, after_scheme}
-use Rattle.uri_parts.specs.Components.{before_any, from_any, has_authority, has_scheme, marked}
-use Rattle.uri_parts.specs.Components.{recompose, starts, when}
+use Rattle.uri_parts.specs.Components.{Components, components, after_authority, after_scheme, before_any, from_any, has_authority, has_scheme, marked, recompose, starts, when}
 use Rattle.uri_parts.specs.Grammar.{Kind, IsOfKind, is_scheme}
 use Rattle.uri_parts.specs.PackedPositions.{ArePackedPositionsOf, packed}
 use Rattle.uri_parts.specs.Positions.{authority_at, delimited_length, positions_of}
 use Rattle.uri_parts.specs.declared.packed_positions.PackedPositions.{PackedPositions}
 use Rattle.uri_parts.specs.declared.positions.AuthorityPositions.{AuthorityPositions}
 use Rattle.uri_parts.proofs.Parsing.WholeTexts.{utf8_after_scheme, utf8_after_authority}
-use Rattle.uri_parts.proofs.Splitting.Cuts.{before_any-at-mark, before_any-past-other}
-use Rattle.uri_parts.proofs.Splitting.Cuts.{from_any-at-mark, from_any-past-other}
+use Rattle.uri_parts.proofs.Splitting.Cuts.{before_any-at-mark, before_any-past-other, from_any-at-mark, from_any-past-other}
 use Rattle.uri_parts.proofs.Splitting.Splits.{only-split-is-components}
 use Rattle.uri_ops.specs.Models.Places.{before_path}
 use Rattle.uri_mend.specs.Links.{IsLink, with_ends_at}
 use Rattle.uri_mend.specs.Mending.{can_be_mended, has_false_scheme, link_components}
-use Rattle.uri_mend.specs.Tails.{IsMendedByPieces, IsPathMendedByPieces, dot_segment_if}
-use Rattle.uri_mend.specs.Tails.{mended_path, mended_tail, query_of_tail}
+use Rattle.uri_mend.specs.Tails.{IsMendedByPieces, IsPathMendedByPieces, dot_segment_if, mended_path, mended_tail, query_of_tail}
 use Rattle.uri_mend.specs.declared.link.Link.{Link}
 use Rattle.uri_mend.proofs.LinkComponents.{link-components-without-false-scheme}
-use Rattle.uri_mend.proofs.LinkPieces.{path-without-false-scheme, prefix-without-false-scheme}
-use Rattle.uri_mend.proofs.LinkPieces.{query-without-false-scheme, text-is-cut-before-path}
-use Rattle.uri_mend.proofs.LinkPieces.{text-without-false-scheme-is-mended}
+use Rattle.uri_mend.proofs.LinkPieces.{path-without-false-scheme, prefix-without-false-scheme, query-without-false-scheme, text-is-cut-before-path, text-without-false-scheme-is-mended}
 use Rattle.uri_mend.proofs.MendedPositions.{length-before-path}
 use Rattle.uri_mend.proofs.MendedReferences.{link-components-are-mendable}
-use Rattle.uri_mend.proofs.Unchanged.{prefix_components, prefix-components-are-split}
-use Rattle.uri_mend.proofs.Unchanged.{prefix-components-are-text-before-path}
-use Rattle.uri_mend.proofs.Unchanged.{no_text_of_kind_has_rejected_scheme_and_authority}
+use Rattle.uri_mend.proofs.Unchanged.{prefix_components, prefix-components-are-split, prefix-components-are-text-before-path, no_text_of_kind_has_rejected_scheme_and_authority}
 
 -- prefixes: the text is not empty
 abbrev pub is_some_text : List ℕ → Bool

@@ -1,16 +1,13 @@
 -- The reference that a text is mended to has all that is said of one.
-use Rattle.std.proofs.Common.{◌≡◌, ◌+◌, length, true, false, refl, sym, ap, ◌∙◌, subst, List, ℕ}
-use Rattle.std.proofs.Common.{◌≤◌, arith, length-append}
+use Rattle.std.proofs.Common.{◌≡◌, ◌+◌, length, true, false, refl, sym, ap, ◌∙◌, subst, List, ℕ, ◌≤◌, arith, length-append}
 use Rattle.std.proofs.lemmas.List.{length-take-le}
-use Rattle.std.specs.Prelude.{Bool, IfSome, None, Option, Some, [], ◌++◌, ◌-◌, drop, option_map}
-use Rattle.std.specs.Prelude.{take}
+use Rattle.std.specs.Prelude.{Bool, IfSome, None, Option, Some, [], ◌++◌, ◌-◌, drop, option_map, take}
 use Rattle.std.specs.Str.{IsUtf8}
 use Rattle.uri_pct.specs.Sets.{LacksPercent, TableSet}
 use Rattle.uri_parts.specs.Components.{Components, components}
 use Rattle.uri_parts.specs.Grammar.{Kind, IsOfKind, components_meet_rules}
 use Rattle.uri_ops.specs.ComponentSets.{HasComponentSets}
-use Rattle.uri_ops.proofs.Meanings.TextParts.{components-of-utf8-are-utf8}
-use Rattle.uri_ops.proofs.Meanings.TextParts.{grammar-gives-components-of-kind}
+use Rattle.uri_ops.proofs.Meanings.TextParts.{components-of-utf8-are-utf8, grammar-gives-components-of-kind}
 use Rattle.uri_ops.proofs.Normal.NormalTexts.{recomposed-components-are-utf8}
 use Rattle.uri_mend.specs.Links.{IsLink}
 use Rattle.uri_mend.specs.MendedParts.{mended}
@@ -18,13 +15,9 @@ use Rattle.uri_mend.specs.Tails.{dot_segment_if, mended_tail}
 use Rattle.uri_mend.specs.declared.link.Link.{Link}
 use Rattle.uri_mend.specs.Encodings.{AreComponentsEncodedAs, DecodeAlike}
 use Rattle.uri_mend.specs.Mended.{IsMended}
-use Rattle.uri_mend.specs.Mending.{can_be_mended, has_false_scheme, link_components}
-use Rattle.uri_mend.specs.Mending.{mended_components, mended_text, with_dot_segment}
-use Rattle.uri_mend.proofs.FewestEncodings.{mended-components-are-encoded}
-use Rattle.uri_mend.proofs.FewestEncodings.{mended-components-decode-alike}
-use Rattle.uri_mend.proofs.FewestEncodings.{mended-components-encode-fewest}
-use Rattle.uri_mend.proofs.LinkComponents.{link-components-without-false-scheme}
-use Rattle.uri_mend.proofs.LinkComponents.{with_dot_segment-is-utf8}
+use Rattle.uri_mend.specs.Mending.{can_be_mended, has_false_scheme, link_components, mended_components, mended_text, with_dot_segment}
+use Rattle.uri_mend.proofs.FewestEncodings.{mended-components-are-encoded, mended-components-decode-alike, mended-components-encode-fewest}
+use Rattle.uri_mend.proofs.LinkComponents.{link-components-without-false-scheme, with_dot_segment-is-utf8}
 use Rattle.uri_mend.proofs.MendedTokens.{mended-text-is-utf8}
 use Rattle.uri_mend.proofs.MendedLengths.{length-of-mended-text}
 use Rattle.uri_mend.proofs.MendedReferences.{components-of-mended-text, mended-text-is-of-kind}

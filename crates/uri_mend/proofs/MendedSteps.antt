@@ -1,29 +1,21 @@
 -- A mended component, from left to right: what a scan passes stays, and the character where it
 -- stops becomes octets.
-use Rattle.std.proofs.Common.{◌≡◌, ℕ, ◌+◌, true, false, cond, eqb, List, [], ◌∷◌, ◌++◌, length}
-use Rattle.std.proofs.Common.{take, drop, map, refl, sym, ap, subst, ◌∙◌, arith, ⊎_elim}
-use Rattle.std.proofs.Common.{append_assoc, ◌&&◌}
+use Rattle.std.proofs.Common.{◌≡◌, ℕ, ◌+◌, true, false, cond, eqb, List, [], ◌∷◌, ◌++◌, length, take, drop, map, refl, sym, ap, subst, ◌∙◌, arith, ⊎_elim, append_assoc, ◌&&◌}
 use Rattle.std.specs.Char.{encode_utf8, len_utf8, is_ascii_hexdigit}
 use Rattle.std.specs.Str.{chars, encode_utf8_all, all_scalars, IsUtf8}
 use Rattle.std.proofs.Math.Seq.{take-append-add, drop-append-add}
-use Rattle.std.proofs.lemmas.Bool.{cases_Bool, cond-true, cond-false, and_parts, and_from, eqb-true}
-use Rattle.std.proofs.lemmas.Bool.{and_right}
+use Rattle.std.proofs.lemmas.Bool.{cases_Bool, cond-true, cond-false, and_parts, and_from, eqb-true, and_right}
 use Rattle.std.proofs.lemmas.List.{append-nil, take_all, drop_all}
-use Rattle.std.proofs.lemmas.Str.{length-encode, chars_past_char, chars-encodes, encode_ascii}
-use Rattle.std.proofs.lemmas.Str.{len_utf8_bounds, chars-nil, encodes-chars, scalars-chars}
+use Rattle.std.proofs.lemmas.Str.{length-encode, chars_past_char, chars-encodes, encode_ascii, len_utf8_bounds, chars-nil, encodes-chars, scalars-chars}
 use Rattle.uri_pct.specs.Sets.{TableSet, LacksPercent, allows}
 use Rattle.uri_pct.specs.Prefixes.{valid_prefix, valid_prefix_from, begins_with_hex_digits}
 use Rattle.uri_pct.specs.Texts.{has_hex_digits_after}
 use Rattle.uri_pct.specs.Tokens.{Octet, print, is_pct_encoded, is_valid_for}
 use Rattle.uri_pct.specs.Encoding.{encode_char}
-use Rattle.uri_pct.proofs.EncodedTexts.Encodings.{allowed_char_is_printed_literally}
-use Rattle.uri_pct.proofs.EncodedTexts.Encodings.{disallowed_char_is_encoded_as_octets}
-use Rattle.uri_pct.proofs.Unicode.Characters.{hexdigit_is_ascii}
-use Rattle.uri_pct.proofs.Unicode.Characters.{encoded_chars_begin_with_same_hex_digits}
-use Rattle.uri_pct.proofs.ValidTexts.Cuts.{is_valid_for_is_scanned_to_end}
-use Rattle.uri_pct.proofs.ValidTexts.Cuts.{valid_prefix_by_first_byte}
-use Rattle.uri_pct.proofs.ValidTexts.PrefixSteps.{valid_prefix_by_first_char}
-use Rattle.uri_pct.proofs.ValidTexts.PrefixSteps.{valid_prefix_passes_octet}
+use Rattle.uri_pct.proofs.EncodedTexts.Encodings.{allowed_char_is_printed_literally, disallowed_char_is_encoded_as_octets}
+use Rattle.uri_pct.proofs.Unicode.Characters.{hexdigit_is_ascii, encoded_chars_begin_with_same_hex_digits}
+use Rattle.uri_pct.proofs.ValidTexts.Cuts.{is_valid_for_is_scanned_to_end, valid_prefix_by_first_byte}
+use Rattle.uri_pct.proofs.ValidTexts.PrefixSteps.{valid_prefix_by_first_char, valid_prefix_passes_octet}
 use Rattle.uri_mend.specs.MendedParts.{mended_from_chars, mended}
 
 -- mended components: a first character that begins no octet is mended by itself

@@ -1,7 +1,6 @@
 -- The characters that no path, query or fragment of the four kinds may have, and the marks that end
 -- these.
-use Rattle.std.proofs.Common.{◌≡◌, ℕ, ◌<◌, ◌≤◌, Bool, true, false, refl, sym, ap, subst, ◌∙◌, ◌&&◌}
-use Rattle.std.proofs.Common.{⊎_elim}
+use Rattle.std.proofs.Common.{◌≡◌, ℕ, ◌<◌, ◌≤◌, Bool, true, false, refl, sym, ap, subst, ◌∙◌, ◌&&◌, ⊎_elim}
 use Rattle.std.specs.Prelude.{codes}
 use Rattle.std.proofs.lemmas.Bool.{agree_below_at, and_left, cases_lt}
 use Rattle.uri_pct.specs.Masks.{has_bit}

@@ -1,20 +1,16 @@
 -- Links of pages without their white space.
-use Rattle.std.proofs.Common.{◌≡◌, ℕ, true, false, List, [], ◌∷◌, ◌++◌, drop, refl}
-use Rattle.std.proofs.Common.{sym, ap, ◌∙◌, ⊎_elim, append_assoc, arith, length, subst, ◌<◌}
+use Rattle.std.proofs.Common.{◌≡◌, ℕ, true, false, List, [], ◌∷◌, ◌++◌, drop, refl, sym, ap, ◌∙◌, ⊎_elim, append_assoc, arith, length, subst, ◌<◌}
 use Rattle.std.specs.Char.{is_ascii_whitespace}
 use Rattle.std.specs.List.{list_any, prefix_len}
 use Rattle.std.specs.Str.{IsCharBoundary, IsTrimAscii, IsUtf8}
-use Rattle.std.proofs.lemmas.Bool.{cases_Bool, cond-true, cond-false, not_from_true, not_from_false}
-use Rattle.std.proofs.lemmas.Bool.{or_parts}
+use Rattle.std.proofs.lemmas.Bool.{cases_Bool, cond-true, cond-false, not_from_true, not_from_false, or_parts}
 use Rattle.std.proofs.lemmas.Str.{IsCharBoundary-after_ascii}
 use Rattle.std.proofs.lemmas.Str.Ascii.{trim_ascii_is}
 use Rattle.uri_pct.specs.Sets.{is_one_of}
 use Rattle.uri_pct.proofs.ValidTexts.MarksInTexts.{AreAscii-by-test}
 use Rattle.uri_parts.specs.Components.{before_any, from_any}
 use Rattle.uri_parts.proofs.Parsing.ScanStops.{utf8_from_marks}
-use Rattle.uri_parts.proofs.Splitting.Cuts.{before_any-at-mark, before_any-past-other}
-use Rattle.uri_parts.proofs.Splitting.Cuts.{from_any-at-mark, from_any-past-other}
-use Rattle.uri_parts.proofs.Splitting.Cuts.{IsEmptyOrMarked, text-is-cut-at-first-mark}
+use Rattle.uri_parts.proofs.Splitting.Cuts.{before_any-at-mark, before_any-past-other, from_any-at-mark, from_any-past-other, IsEmptyOrMarked, text-is-cut-at-first-mark}
 use Rattle.uri_mend.specs.Trimming.{tab_and_newlines, without_any, without_outer_space}
 
 -- trimming: a text without these characters is what is before the first of them, and what is after

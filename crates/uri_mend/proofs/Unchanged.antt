@@ -1,36 +1,27 @@
 -- What mending leaves as it is: a text of the kind; and what it refuses: a scheme and an authority
 -- that begin no text of the kind.
-use Rattle.std.proofs.Common.{◌≡◌, ℕ, Bool, true, false, not, List, [], ◌∷◌, ◌++◌, refl}
-use Rattle.std.proofs.Common.{sym, ap, ◌∙◌, ⊎_elim, ◌&&◌, ◌||◌, arith, inl, eqb, drop}
+use Rattle.std.proofs.Common.{◌≡◌, ℕ, Bool, true, false, not, List, [], ◌∷◌, ◌++◌, refl, sym, ap, ◌∙◌, ⊎_elim, ◌&&◌, ◌||◌, arith, inl, eqb, drop}
 use Rattle.std.specs.Prelude.{codes, Option, Some, None, IfSome, IfNone, is_some, option_map}
 use Rattle.std.specs.Str.{IsUtf8}
-use Rattle.std.proofs.lemmas.Bool.{cases_Bool, cond-false, and_parts, and_from, both_ways, and_left}
-use Rattle.std.proofs.lemmas.Bool.{and_right, eqb-true}
+use Rattle.std.proofs.lemmas.Bool.{cases_Bool, cond-false, and_parts, and_from, both_ways, and_left, and_right, eqb-true}
 use Rattle.std.proofs.lemmas.List.{append-nil}
 use Rattle.uri_pct.specs.Sets.{TableSet, LacksPercent}
 use Rattle.uri_pct.specs.Tokens.{is_valid_for}
 use Rattle.uri_pct.proofs.ValidTexts.EStrs.{empty_text_is_valid}
-use Rattle.uri_parts.specs.Components.{Components, components, recompose, marked, starts, Lacks}
-use Rattle.uri_parts.specs.Components.{IsSplitOf, IsAbemptyPath, has_scheme, has_authority}
-use Rattle.uri_parts.specs.Components.{from_any, before_any, after_scheme, after_authority, when}
-use Rattle.uri_parts.specs.Grammar.{Kind, IsOfKind, is_of_kind, absent_or_passes, is_scheme}
-use Rattle.uri_parts.specs.Grammar.{is_authority, has_colon_in_first_segment, components_meet_rules}
+use Rattle.uri_parts.specs.Components.{Components, components, recompose, marked, starts, Lacks, IsSplitOf, IsAbemptyPath, has_scheme, has_authority, from_any, before_any, after_scheme, after_authority, when}
+use Rattle.uri_parts.specs.Grammar.{Kind, IsOfKind, is_of_kind, absent_or_passes, is_scheme, is_authority, has_colon_in_first_segment, components_meet_rules}
 use Rattle.uri_parts.proofs.Splitting.Recompose.{recompose-components}
 use Rattle.uri_parts.proofs.Splitting.Relative.{colon_in_first_segment-is-at-start}
 use Rattle.uri_parts.proofs.Splitting.Splits.{only-split-is-components}
 use Rattle.uri_ops.specs.ComponentSets.{HasComponentSets}
 use Rattle.uri_ops.specs.Models.Places.{before_path}
 use Rattle.uri_ops.proofs.Meanings.AllowedParts.{is_set_text, set-text-is-valid, set-text-is-utf8}
-use Rattle.uri_ops.proofs.Meanings.TextParts.{components-of-utf8-are-utf8}
-use Rattle.uri_ops.proofs.Meanings.TextParts.{grammar-gives-components-of-kind}
+use Rattle.uri_ops.proofs.Meanings.TextParts.{components-of-utf8-are-utf8, grammar-gives-components-of-kind}
 use Rattle.uri_mend.specs.MendedParts.{mended}
-use Rattle.uri_mend.specs.Mending.{has_false_scheme, link_components}
-use Rattle.uri_mend.specs.Mending.{mended_components, mended_text, can_be_mended}
+use Rattle.uri_mend.specs.Mending.{has_false_scheme, link_components, mended_components, mended_text, can_be_mended}
 use Rattle.uri_mend.proofs.MendedSteps.{valid-text-is-its-own-mended-text}
 use Rattle.uri_mend.proofs.LinkComponents.{no-false-scheme-gets-nothing}
-use Rattle.uri_mend.proofs.MendedReferences.{AreMendable, no-scheme-is-found}
-use Rattle.uri_mend.proofs.MendedReferences.{part-with-property-passes}
-use Rattle.uri_mend.proofs.MendedReferences.{link-components-are-mendable}
+use Rattle.uri_mend.proofs.MendedReferences.{AreMendable, no-scheme-is-found, part-with-property-passes, link-components-are-mendable}
 
 -- mending: a scheme and an authority as components, without anything after them
 unfoldable pub prefix_components : Components → Components

@@ -4,8 +4,7 @@ use Rattle.uri_parts.specs.Components.{components}
 use Rattle.uri_parts.specs.Grammar.{Kind, IsOfKind, IsTextOf}
 use Rattle.uri_mend.specs.Encodings.{AreComponentsEncodedAs, DecodeAlike}
 use Rattle.uri_mend.specs.Lengths.{lacked_in_components}
-use Rattle.uri_mend.specs.Mending.{can_be_mended, has_false_scheme, link_components}
-use Rattle.uri_mend.specs.Mending.{mended_components, mended_text, with_dot_segment}
+use Rattle.uri_mend.specs.Mending.{can_be_mended, has_false_scheme, link_components, mended_components, mended_text, with_dot_segment}
 
 -- the text `made` is the reference of the kind that the text `source` is mended to
 pub record IsMended (kind : Kind) (source made : List ℕ) : Type 0 where

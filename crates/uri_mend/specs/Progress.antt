@@ -1,6 +1,5 @@
 -- Steps of mending: how far a text was mended, and how much of this was written. No RFC has this.
-use Rattle.std.specs.Prelude.{◌≡◌, ◌-◌, ◌<◌, ◌≤◌, ◌&&◌, ◌||◌, ◌==◌, ℕ, Bool, true, false, not, List}
-use Rattle.std.specs.Prelude.{◌++◌, drop, length, map, nat_le, nat_lt, slice_index, take}
+use Rattle.std.specs.Prelude.{◌≡◌, ◌-◌, ◌<◌, ◌≤◌, ◌&&◌, ◌||◌, ◌==◌, ℕ, Bool, true, false, not, List, ◌++◌, drop, length, map, nat_le, nat_lt, slice_index, take}
 use Rattle.std.specs.Char.{is_ascii_hexdigit}
 use Rattle.std.specs.List.{list_all}
 use Rattle.std.specs.Str.{IsCharBoundary}

@@ -1,6 +1,5 @@
 -- Steps of mending: what follows an authority. No RFC has this.
-use Rattle.std.specs.Prelude.{◌≡◌, ℕ, Bool, List, [], ◌++◌, codes, drop, option_map, Option}
-use Rattle.std.specs.Prelude.{if◌then◌else◌}
+use Rattle.std.specs.Prelude.{◌≡◌, ℕ, Bool, List, [], ◌++◌, codes, drop, option_map, Option, if◌then◌else◌}
 use Rattle.uri_pct.specs.Delimiters.{number_sign, question_mark}
 use Rattle.uri_parts.specs.Components.{after_query, before_any, from_any, marked, starts, when}
 use Rattle.uri_parts.specs.Grammar.{Kind}

@@ -1,33 +1,12 @@
 -- What the crate is for, theorem by theorem. Each group is what a law states as its contract.
-use Rattle.uri_ops.proofs.TextKinds.FourKinds.{uri-has-component-sets, uri_ref-has-component-sets}
-use Rattle.uri_ops.proofs.TextKinds.FourKinds.{iri-has-component-sets, iri_ref-has-component-sets}
-use Rattle.uri_ops.proofs.TextKinds.GrammarTexts.{uris-are-texts-of-grammar}
-use Rattle.uri_ops.proofs.TextKinds.GrammarTexts.{uri_refs-are-texts-of-grammar}
-use Rattle.uri_ops.proofs.TextKinds.GrammarTexts.{iris-are-texts-of-grammar}
-use Rattle.uri_ops.proofs.TextKinds.GrammarTexts.{iri_refs-are-texts-of-grammar}
-use Rattle.uri_ops.proofs.TextKinds.GrammarTexts.{uri-authority-splits-in-one-way}
-use Rattle.uri_ops.proofs.TextKinds.GrammarTexts.{iri-authority-splits-in-one-way}
-use Rattle.uri_ops.proofs.TextKinds.GrammarTexts.{uri-host-is-of-one-kind}
-use Rattle.uri_ops.proofs.TextKinds.GrammarTexts.{iri-host-is-of-one-kind}
+use Rattle.uri_ops.proofs.TextKinds.FourKinds.{uri-has-component-sets, uri_ref-has-component-sets, iri-has-component-sets, iri_ref-has-component-sets}
+use Rattle.uri_ops.proofs.TextKinds.GrammarTexts.{uris-are-texts-of-grammar, uri_refs-are-texts-of-grammar, iris-are-texts-of-grammar, iri_refs-are-texts-of-grammar, uri-authority-splits-in-one-way, iri-authority-splits-in-one-way, uri-host-is-of-one-kind, iri-host-is-of-one-kind}
 use Rattle.uri_ops.proofs.Paths.DotRuns.{removal-loop-empties-its-input}
-use Rattle.uri_ops.proofs.Paths.DotLaws.{removing-dots-leaves-no-dot-segment}
-use Rattle.uri_ops.proofs.Paths.DotLaws.{removing-dots-keeps-absolute}
-use Rattle.uri_ops.proofs.Paths.DotLaws.{removing-dots-lengthens-no-path}
-use Rattle.uri_ops.proofs.Paths.DotLaws.{remove-dots-of-dotless, dotless-path-does-not-underflow}
-use Rattle.uri_ops.proofs.Paths.DotLaws.{directory-is-absolute}
-use Rattle.uri_ops.proofs.Paths.DotLaws.{directory-ends-in-slash, removing-dots-and-directory-swap}
-use Rattle.uri_ops.proofs.Paths.DotLaws.{directory-underflows-as-path}
-use Rattle.uri_ops.proofs.Paths.DotLaws.{prefix-dots-may-be-removed-first}
-use Rattle.uri_ops.proofs.Paths.DotLaws.{path-underflows-as-prefix-or-remainder}
-use Rattle.uri_ops.proofs.Paths.DotLaws.{base-dots-may-be-removed-before-merging}
-use Rattle.uri_ops.proofs.Paths.DotLaws.{merged-path-underflows-as-base-or-remainder}
+use Rattle.uri_ops.proofs.Paths.DotLaws.{removing-dots-leaves-no-dot-segment, removing-dots-keeps-absolute, removing-dots-lengthens-no-path, remove-dots-of-dotless, dotless-path-does-not-underflow, directory-is-absolute, directory-ends-in-slash, removing-dots-and-directory-swap, directory-underflows-as-path, prefix-dots-may-be-removed-first, path-underflows-as-prefix-or-remainder, base-dots-may-be-removed-before-merging, merged-path-underflows-as-base-or-remainder}
 use Rattle.uri_ops.proofs.Meanings.PortMeanings.{meaning_of-from-bare-meaning}
 use Rattle.uri_ops.proofs.Meanings.SameMeanings.{same_meaning-decides-equality}
-use Rattle.uri_ops.proofs.Normal.NormalTexts.{normal-text-is-text-of-kind, meaning_of-normal_text}
-use Rattle.uri_ops.proofs.Normal.NormalTexts.{normal_text-is-idempotent}
-use Rattle.uri_ops.proofs.Normal.NormalTexts.{same-normal-text-same-meaning}
-use Rattle.uri_ops.proofs.Targeting.Targets.{target-components-are-split}
-use Rattle.uri_ops.proofs.Targeting.Targets.{target-text-has-target-components}
+use Rattle.uri_ops.proofs.Normal.NormalTexts.{normal-text-is-text-of-kind, meaning_of-normal_text, normal_text-is-idempotent, same-normal-text-same-meaning}
+use Rattle.uri_ops.proofs.Targeting.Targets.{target-components-are-split, target-text-has-target-components}
 -- The target of a reference against a base of a kind is a text of that kind: RFC 3986, section 5.2.
 pub use Rattle.uri_ops.proofs.Targeting.TargetTexts.{target-is-of-kind-of-base}
 -- Resolution respects equivalence, so resolving and normalising swap: RFC 3986, sections 5.2 and

@@ -1,18 +1,9 @@
 -- What a builder holds in a state it may hold before the steps that follow: RFC 3986, section 3.
-use Rattle.std.specs.Prelude.{◌≡◌, ◌&&◌, ◌||◌, ℕ, Bool, true, false, List, [], ◌∷◌, Option, Some}
-use Rattle.std.specs.Prelude.{None, refl, is_none, is_some}
+use Rattle.std.specs.Prelude.{◌≡◌, ◌&&◌, ◌||◌, ℕ, Bool, true, false, List, [], ◌∷◌, Option, Some, None, refl, is_none, is_some}
 use Rattle.std.specs.Option.{option_map_or}
 use Rattle.std.proofs.lemmas.Bool.{and_from, and_parts, false≢true}
 use Rattle.uri_ops.specs.BuilderParts.{BuilderParts, lacks_host_and_port, lacks_port}
-use Rattle.uri_ops.specs.Builders.{HoldsAlsoIn, any_authority, ends_in_authority, has_path}
-use Rattle.uri_ops.specs.Builders.{has_path_before_fragment, has_path_last, has_needed_scheme}
-use Rattle.uri_ops.specs.Builders.{is_at_end}
-use Rattle.uri_ops.specs.Builders.{is_before_authority, is_before_fragment, is_before_host}
-use Rattle.uri_ops.specs.Builders.{is_before_path, is_before_port, is_before_query}
-use Rattle.uri_ops.specs.Builders.{is_before_userinfo, is_fresh, is_fresh_reference}
-use Rattle.uri_ops.specs.Builders.{is_in_authority, lacks_query_and_fragment, lacks_all}
-use Rattle.uri_ops.specs.Builders.{lacks_authority}
-use Rattle.uri_ops.specs.Builders.{lacks_path, is_in_order}
+use Rattle.uri_ops.specs.Builders.{HoldsAlsoIn, any_authority, ends_in_authority, has_path, has_path_before_fragment, has_path_last, has_needed_scheme, is_at_end, is_before_authority, is_before_fragment, is_before_host, is_before_path, is_before_port, is_before_query, is_before_userinfo, is_fresh, is_fresh_reference, is_in_authority, lacks_query_and_fragment, lacks_all, lacks_authority, lacks_path, is_in_order}
 use Rattle.uri_ops.specs.Dots.{is_empty}
 
 -- where `t` implies `u`, "`f` or `t`" implies "`f` or `u`": `f` is that a builder is marked failed

@@ -1,7 +1,6 @@
 -- The states of a builder: which parts it may hold before each step, unless it is marked failed.
 -- RFC 3986, section 3, has their order.
-use Rattle.std.specs.Prelude.{◌≡◌, ◌&&◌, ◌||◌, not, ℕ, Bool, true, false, List, is_some, is_none}
-use Rattle.std.specs.Prelude.{string_bytes}
+use Rattle.std.specs.Prelude.{◌≡◌, ◌&&◌, ◌||◌, not, ℕ, Bool, true, false, List, is_some, is_none, string_bytes}
 use Rattle.std.specs.Option.{option_map_or}
 use Rattle.uri_ops.specs.declared.build.draft.Draft.{Draft}
 use Rattle.uri_ops.specs.BuilderParts.{BuilderParts, lacks_host_and_port, lacks_port}

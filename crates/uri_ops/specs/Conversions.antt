@@ -1,7 +1,6 @@
 -- When a value of one kind is one of another: RFC 3986, sections 3 and 4.1, and RFC 3987, section
 -- 3.1.
-use Rattle.std.specs.Prelude.{◌≡◌, ◌↔◌, ℕ, Bool, not, nat_lt, List, Option, Some, None, is_some}
-use Rattle.std.specs.Prelude.{option_map, Result, IsOk, IfOk, IfErr, if◌then◌else◌}
+use Rattle.std.specs.Prelude.{◌≡◌, ◌↔◌, ℕ, Bool, not, nat_lt, List, Option, Some, None, is_some, option_map, Result, IsOk, IfOk, IfErr, if◌then◌else◌}
 use Rattle.std.specs.List.{position}
 use Rattle.std.specs.Option.{option_or}
 use Rattle.std.specs.Result.{result_err}

@@ -1,7 +1,6 @@
 -- Dot segments: RFC 3986, section 5.2.4, for a path that begins with `/`. A dot counts
 -- percent-encoded too.
-use Rattle.std.specs.Prelude.{◌≡◌, ℕ, zero, suc, ◌+◌, Bool, true, false, not, ◌||◌, ◌==◌, List, []}
-use Rattle.std.specs.Prelude.{◌∷◌, ◌++◌, length, drop, codes, bytes_eq, IsTrue, if◌then◌else◌}
+use Rattle.std.specs.Prelude.{◌≡◌, ℕ, zero, suc, ◌+◌, Bool, true, false, not, ◌||◌, ◌==◌, List, [], ◌∷◌, ◌++◌, length, drop, codes, bytes_eq, IsTrue, if◌then◌else◌}
 use Rattle.std.specs.List.{list_all, list_any, slice_split}
 use Rattle.uri_parts.specs.Components.{starts, before_any, from_any}
 use Rattle.uri_pct.specs.Delimiters.{slash}

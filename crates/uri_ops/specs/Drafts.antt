@@ -1,6 +1,5 @@
 -- How a builder's text holds its parts: RFC 3986, section 5.3.
-use Rattle.std.specs.Prelude.{◌≡◌, ℕ, ◌+◌, Bool, false, List, length, take, drop, Option}
-use Rattle.std.specs.Prelude.{Some, None, option_map}
+use Rattle.std.specs.Prelude.{◌≡◌, ℕ, ◌+◌, Bool, false, List, length, take, drop, Option, Some, None, option_map}
 use Rattle.uri_ops.specs.declared.build.lengths.Lengths.{Lengths}
 use Rattle.uri_ops.specs.BuilderParts.{BuilderParts, parts_text}
 

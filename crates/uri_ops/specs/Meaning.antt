@@ -1,7 +1,6 @@
 -- What a text means: RFC 3986, section 6.2.2 with, of section 6.2.3, what it says of ports;
 -- RFC 3987, section 5.3.2.
-use Rattle.std.specs.Prelude.{ℕ, ◌&&◌, ◌||◌, List, map, Option, Some, None, is_some, option_map}
-use Rattle.std.specs.Prelude.{if◌then◌else◌}
+use Rattle.std.specs.Prelude.{ℕ, ◌&&◌, ◌||◌, List, map, Option, Some, None, is_some, option_map, if◌then◌else◌}
 use Rattle.std.specs.Option.{option_and_then}
 use Rattle.std.specs.Str.{str_to_ascii_lowercase}
 use Rattle.uri_pct.specs.Sets.{TableSet}

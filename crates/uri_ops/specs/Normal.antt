@@ -1,6 +1,5 @@
 -- The normal text of a meaning: RFC 3986, section 6.2.2, recomposed as in section 5.3.
-use Rattle.std.specs.Prelude.{ℕ, List, [], codes, Option, is_some, option_map, if◌then◌else◌, Bool}
-use Rattle.std.specs.Prelude.{◌&&◌}
+use Rattle.std.specs.Prelude.{ℕ, List, [], codes, Option, is_some, option_map, if◌then◌else◌, Bool, ◌&&◌}
 use Rattle.std.specs.Net.Text.{ipv6_text}
 use Rattle.std.specs.Str.{str_to_ascii_lowercase}
 use Rattle.std.specs.Option.{option_and_then}
@@ -14,8 +13,7 @@ use Rattle.uri_parts.specs.Hosts.{bracketed}
 use Rattle.uri_parts.specs.Authority.{AuthorityParts, recompose_authority}
 use Rattle.uri_parts.specs.Ports.{PortFunction}
 use Rattle.uri_ops.specs.Target.{guarded}
-use Rattle.uri_ops.specs.Meaning.{HostMeaning, Address, FutureAddress, Name, AuthorityMeaning}
-use Rattle.uri_ops.specs.Meaning.{Meaning, authority_meaning, dotless_path}
+use Rattle.uri_ops.specs.Meaning.{HostMeaning, Address, FutureAddress, Name, AuthorityMeaning, Meaning, authority_meaning, dotless_path}
 use Rattle.uri_ops.specs.Dots.{underflows}
 
 -- the normal text of what a host means: an IPv6 address has the text of RFC 5952

@@ -4,8 +4,7 @@ use Rattle.std.specs.Result.{result_map_both}
 use Rattle.uri_parts.specs.Grammar.{Kind, IsTextOf}
 use Rattle.uri_parts.specs.Ports.{PortFunction}
 use Rattle.uri_parts.specs.Components.{Components, components}
-use Rattle.uri_ops.specs.Target.{TargetError, resolution_of_texts, BaseWithFragment}
-use Rattle.uri_ops.specs.Target.{InvalidReferenceAgainstOpaqueBase, resolution_of}
+use Rattle.uri_ops.specs.Target.{TargetError, resolution_of_texts, BaseWithFragment, InvalidReferenceAgainstOpaqueBase, resolution_of}
 use Rattle.uri_ops.specs.Meaning.{Meaning, meaning_of}
 use Rattle.uri_ops.specs.Normalizers.{IsNormalForm}
 use Rattle.uri_ops.specs.Resolving.{IsErrorWithUnderflowAllowed}

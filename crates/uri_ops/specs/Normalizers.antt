@@ -1,12 +1,10 @@
 -- What a normaliser holds, returns and rejects: RFC 3986, section 6.2.2.
 use Rattle.std.specs.Prelude.{◌≡◌, ◌↔◌, ℕ, Bool, List}
 use Rattle.uri_parts.specs.Components.{components}
-use Rattle.uri_parts.specs.Grammar.{Kind}
+use Rattle.uri_parts.specs.Grammar.{Kind, IsTextOf}
 use Rattle.uri_ops.specs.Meaning.{meaning_of}
-use Rattle.uri_ops.specs.Normal.{normal_text}
-use Rattle.uri_ops.specs.Normal.{path_underflows}
+use Rattle.uri_ops.specs.Normal.{normal_text, path_underflows}
 use Rattle.uri_parts.specs.Ports.{PortFunction}
-use Rattle.uri_parts.specs.Grammar.{IsTextOf}
 use Rattle.uri_ops.specs.declared.normalize.Normalizer.{Normalizer}
 
 -- the setting of a normaliser: whether dot segments of a path may underflow

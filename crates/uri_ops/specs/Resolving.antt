@@ -4,9 +4,7 @@ use Rattle.uri_parts.specs.Components.{Components, components}
 use Rattle.uri_ops.specs.declared.resolve.Resolver.{Resolver}
 use Rattle.uri_ops.specs.declared.resolve.text_view.TextView.{TextView}
 use Rattle.uri_ops.specs.declared.resolve.error.ResolveError.{ResolveError}
-use Rattle.uri_ops.specs.Target.{BaseWithFragment, InvalidReferenceAgainstOpaqueBase}
-use Rattle.uri_ops.specs.Target.{dotless_if_absolute}
-use Rattle.uri_ops.specs.Target.{guarded, target_underflows, resolution_of}
+use Rattle.uri_ops.specs.Target.{BaseWithFragment, InvalidReferenceAgainstOpaqueBase, dotless_if_absolute, guarded, target_underflows, resolution_of}
 use Rattle.uri_ops.specs.Encoded.{encode_past_ascii}
 use Rattle.uri_ops.specs.declared.resolve.error.ResolveError.TheVariants as Of
 

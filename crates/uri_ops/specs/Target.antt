@@ -1,7 +1,6 @@
 -- The target of a reference: RFC 3986, section 5.2.2 in its strict form. Where it differs from the
 -- RFC, a line says so.
-use Rattle.std.specs.Prelude.{ℕ, Bool, not, ◌&&◌, ◌||◌, List, ◌++◌, codes, Option, Result, Ok, Err}
-use Rattle.std.specs.Prelude.{is_some, is_none, if◌then◌else◌}
+use Rattle.std.specs.Prelude.{ℕ, Bool, not, ◌&&◌, ◌||◌, List, ◌++◌, codes, Option, Result, Ok, Err, is_some, is_none, if◌then◌else◌}
 use Rattle.uri_parts.specs.Components.{Components, components, starts, has_authority, recompose}
 use Rattle.uri_ops.specs.Dots.{is_empty, remove_dot_segments, underflows, directory}
 use Rattle.uri_pct.specs.Delimiters.{slash}

@@ -1,6 +1,5 @@
 -- When normal forms are equal.
-use Rattle.std.proofs.Common.{◌≡◌, ◌↔◌, ℕ, true, List, refl, sym, ap, ◌∙◌, Ordering, Less, Equal}
-use Rattle.std.proofs.Common.{Greater, subst}
+use Rattle.std.proofs.Common.{◌≡◌, ◌↔◌, ℕ, true, List, refl, sym, ap, ◌∙◌, Ordering, Less, Equal, Greater, subst}
 use Rattle.std.proofs.lemmas.Map.Text.{is_eq-slice_cmp}
 use Rattle.std.proofs.lemmas.Slice.Eq.{bytes_eq-Decides}
 use Rattle.std.specs.Cmp.Lexicographic.{slice_cmp}

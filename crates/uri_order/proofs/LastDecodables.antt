@@ -1,13 +1,11 @@
 -- Whether the octets of a decodable character end tokens: at most four octets from the end say it.
-use Rattle.std.proofs.Common.{◌≡◌, ℕ, ◌<◌, ◌≤◌, ◌⊎◌, inl, inr, List, [], ◌∷◌, ◌++◌}
-use Rattle.std.proofs.Common.{length, map, set, refl, sym, ap, ◌∙◌, arith, ⊎_elim}
+use Rattle.std.proofs.Common.{◌≡◌, ℕ, ◌<◌, ◌≤◌, ◌⊎◌, inl, inr, List, [], ◌∷◌, ◌++◌, length, map, set, refl, sym, ap, ◌∙◌, arith, ⊎_elim}
 use Rattle.std.specs.Char.{encode_utf8}
 use Rattle.std.proofs.lemmas.List.{append-nil, length-append}
 use Rattle.std.proofs.lemmas.Str.{encode_same, length-encode, len_utf8_bounds}
 use Rattle.uri_pct.specs.Sets.{TableSet}
 use Rattle.uri_pct.specs.Tokens.{Token, Octet}
-use Rattle.uri_order.specs.LastTokens.{EndInNoOctet, EndInNoDecodable}
-use Rattle.uri_order.specs.LastTokens.{TokensEndInNoDecodable}
+use Rattle.uri_order.specs.LastTokens.{EndInNoOctet, EndInNoDecodable, TokensEndInNoDecodable}
 
 -- UTF-8: a character has from one to four bytes
 pub char_has_one_to_four_bytes : (c : ℕ) → (1 ≤ length (encode_utf8 c))

@@ -1,9 +1,6 @@
 -- What normalising makes of tokens that end in an octet: the octet by itself, unless it ends the
 -- octets of a decodable character.
-use Rattle.std.proofs.Common.{◌≡◌, ℕ, zero, suc, ◌<◌, ◌≤◌, ◌⊎◌, inl, inr, true, false, List}
-use Rattle.std.proofs.Common.{[], ◌∷◌, ◌++◌, length, take, map, refl, sym, ap, ◌∙◌, cond, eqb}
-use Rattle.std.proofs.Common.{arith, ⊎_elim}
-use Rattle.std.proofs.Common.{append_assoc, Option, Some, None, length-append}
+use Rattle.std.proofs.Common.{◌≡◌, ℕ, zero, suc, ◌<◌, ◌≤◌, ◌⊎◌, inl, inr, true, false, List, [], ◌∷◌, ◌++◌, length, take, map, refl, sym, ap, ◌∙◌, cond, eqb, arith, ⊎_elim, append_assoc, Option, Some, None, length-append}
 use Rattle.std.specs.List.{flat_map}
 use Rattle.std.specs.Char.{IsScalar, encode_utf8}
 use Rattle.std.proofs.lemmas.Bool.{cases_Bool, cond-true, cond-false, ne_eqb}
@@ -11,18 +8,11 @@ use Rattle.std.proofs.lemmas.List.{append-nil, map-append, take_all, drop_all, t
 use Rattle.std.proofs.lemmas.List.Concat.{flat_map-append}
 use Rattle.uri_pct.specs.Sets.{TableSet}
 use Rattle.uri_pct.specs.Tokens.{Token, Char, Octet}
-use Rattle.uri_pct.specs.Pieces.{Piece, WellFormed, IllFormed, ByteRange, piece_bytes, char_of}
-use Rattle.uri_pct.specs.Pieces.{is_in_byte_range, len_in_ranges, first_piece_tail_len, first_piece}
-use Rattle.uri_pct.specs.Pieces.{following_ranges, pieces_from, utf8_pieces, IsOfCharacter}
-use Rattle.uri_pct.specs.DecodeUnreserved.{is_decodable, decode_piece, decode_run}
-use Rattle.uri_pct.specs.DecodeUnreserved.{decode_after_run, decode_tokens, encode_formatting}
-use Rattle.uri_pct.specs.DecodeUnreserved.{formatting_as_octets}
-use Rattle.uri_pct.proofs.Unicode.Pieces.{first_piece_tail_is_within_rest}
-use Rattle.uri_pct.proofs.Unicode.Pieces.{first_piece_has_first_bytes}
-use Rattle.uri_pct.proofs.Unicode.Pieces.{pieces_from_are_pieces_after_skipped_bytes}
+use Rattle.uri_pct.specs.Pieces.{Piece, WellFormed, IllFormed, ByteRange, piece_bytes, char_of, is_in_byte_range, len_in_ranges, first_piece_tail_len, first_piece, following_ranges, pieces_from, utf8_pieces, IsOfCharacter}
+use Rattle.uri_pct.specs.DecodeUnreserved.{is_decodable, decode_piece, decode_run, decode_after_run, decode_tokens, encode_formatting, formatting_as_octets}
+use Rattle.uri_pct.proofs.Unicode.Pieces.{first_piece_tail_is_within_rest, first_piece_has_first_bytes, pieces_from_are_pieces_after_skipped_bytes}
 use Rattle.uri_pct.proofs.Unicode.CharacterPieces.{first_piece_is_of_character}
-use Rattle.uri_pct.proofs.UnreservedDecoding.DecodedTokens.{char_separates_decoded_tokens}
-use Rattle.uri_pct.proofs.UnreservedDecoding.DecodedTokens.{decodable_char_octets_decode_as_char}
+use Rattle.uri_pct.proofs.UnreservedDecoding.DecodedTokens.{char_separates_decoded_tokens, decodable_char_octets_decode_as_char}
 use Rattle.uri_order.specs.LastTokens.{EndInNoDecodable, TokensEndInNoDecodable}
 
 -- UTF-8: no bytes fit no ranges

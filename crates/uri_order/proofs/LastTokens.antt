@@ -1,24 +1,14 @@
 -- The last token of a valid text: an octet if the third byte from the end is `%`, else a character.
-use Rattle.std.proofs.Common.{◌≡◌, ℕ, suc, ◌+◌, ◌-◌, ◌*◌, ◌<◌, ◌≤◌, ◌⊎◌, inl, inr, true}
-use Rattle.std.proofs.Common.{false}
-use Rattle.std.proofs.Common.{List, [], ◌∷◌, ◌++◌, length, get_or, take, drop, refl, sym, ap}
-use Rattle.std.proofs.Common.{◌∙◌, subst, arith, ⊎_elim, append_assoc, eqb, lit<}
+use Rattle.std.proofs.Common.{◌≡◌, ℕ, suc, ◌+◌, ◌-◌, ◌*◌, ◌<◌, ◌≤◌, ◌⊎◌, inl, inr, true, false, List, [], ◌∷◌, ◌++◌, length, get_or, take, drop, refl, sym, ap, ◌∙◌, subst, arith, ⊎_elim, append_assoc, eqb, lit<}
 use Rattle.std.specs.List.{list_all}
 use Rattle.std.specs.Char.{IsScalar, encode_utf8, digit_value, is_ascii_hexdigit}
 use Rattle.std.specs.Str.{chars, all_scalars, IsUtf8}
-use Rattle.std.proofs.lemmas.Bool.{cases_Bool, cond-true, cond-false, and_parts, and_from}
-use Rattle.std.proofs.lemmas.Bool.{and_right, ne_eqb}
-use Rattle.std.proofs.lemmas.List.{take-append-drop, drop_more, length-drop}
-use Rattle.std.proofs.lemmas.List.{get_or-drop, get_or_at, length-append, append-nil, take_at}
-use Rattle.std.proofs.lemmas.List.{drop_at, nil_from_length}
-use Rattle.std.proofs.lemmas.List.{take_all, take_more}
+use Rattle.std.proofs.lemmas.Bool.{cases_Bool, cond-true, cond-false, and_parts, and_from, and_right, ne_eqb}
+use Rattle.std.proofs.lemmas.List.{take-append-drop, drop_more, length-drop, get_or-drop, get_or_at, length-append, append-nil, take_at, drop_at, nil_from_length, take_all, take_more}
 use Rattle.std.proofs.lemmas.List.Folds.{list_all-append}
-use Rattle.std.proofs.lemmas.Str.{chars-append, chars-nil, IsUtf8-take, IsUtf8-drop}
-use Rattle.std.proofs.lemmas.Str.{IsCharBoundary-before_ascii, chars-encodes, cons_from_encodes}
-use Rattle.std.proofs.lemmas.Str.{IsCharBoundary-from_take, encode_ascii}
+use Rattle.std.proofs.lemmas.Str.{chars-append, chars-nil, IsUtf8-take, IsUtf8-drop, IsCharBoundary-before_ascii, chars-encodes, cons_from_encodes, IsCharBoundary-from_take, encode_ascii}
 use Rattle.uri_pct.specs.Chunks.{widest_set}
-use Rattle.uri_pct.specs.Tokens.{Token, Char, Octet, is_pct_encoded, tokens_from_chars, tokens}
-use Rattle.uri_pct.specs.Tokens.{allows_token, is_valid_for, IsValidFor}
+use Rattle.uri_pct.specs.Tokens.{Token, Char, Octet, is_pct_encoded, tokens_from_chars, tokens, allows_token, is_valid_for, IsValidFor}
 use Rattle.uri_pct.specs.Representation.{RepresentsToken, Represents}
 use Rattle.uri_pct.proofs.Decodings.Decoding.{BeginsWithOctet, bytes_from_percent_begin_with_octet}
 use Rattle.uri_pct.proofs.UnreservedDecoding.Representations.{text_represents_its_printable_tokens}

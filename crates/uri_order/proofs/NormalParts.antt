@@ -1,6 +1,5 @@
 -- The components of a normal text, in the pieces that they are read in.
-use Rattle.std.proofs.Common.{◌≡◌, ℕ, Bool, true, false, List, [], ◌++◌, refl, sym, ap, ◌∙◌}
-use Rattle.std.proofs.Common.{cond, eqb, length, option_map}
+use Rattle.std.proofs.Common.{◌≡◌, ℕ, Bool, true, false, List, [], ◌++◌, refl, sym, ap, ◌∙◌, cond, eqb, length, option_map}
 use Rattle.std.specs.Prelude.{codes, Option, Some, None, is_some}
 use Rattle.std.specs.Str.{chars, str_to_ascii_lowercase}
 use Rattle.std.proofs.lemmas.Bool.{and_from, cond-false, cond-true, eqb-true}
@@ -12,8 +11,7 @@ use Rattle.uri_pct.specs.Tokens.{IsValidFor, is_valid_for, print, tokens_from_ch
 use Rattle.uri_pct.proofs.General.{is_some-option_map}
 use Rattle.uri_parts.specs.Components.{Components, starts}
 use Rattle.uri_parts.specs.Grammar.{Kind}
-use Rattle.uri_parts.specs.Hosts.{host_kind, ipv4_value}
-use Rattle.uri_parts.specs.Hosts.{ipv6_value, literal_kind, literal_of, name_kind}
+use Rattle.uri_parts.specs.Hosts.{host_kind, ipv4_value, ipv6_value, literal_kind, literal_of, name_kind}
 use Rattle.uri_parts.specs.Ports.{PortFunction}
 use Rattle.uri_ops.specs.Dots.{remove_dot_segments}
 use Rattle.uri_ops.specs.Meaning.{components_meaning, dotless_path, host_meaning}

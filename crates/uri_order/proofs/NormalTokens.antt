@@ -1,7 +1,5 @@
 -- The normal text of a component, with that of its last token at its end.
-use Rattle.std.proofs.Common.{◌≡◌, ℕ, ◌<◌, Bool, true, false, List, [], ◌∷◌, ◌++◌, length, map}
-use Rattle.std.proofs.Common.{refl}
-use Rattle.std.proofs.Common.{sym, ap, ◌∙◌, arith, eqb, ⊎_elim}
+use Rattle.std.proofs.Common.{◌≡◌, ℕ, ◌<◌, Bool, true, false, List, [], ◌∷◌, ◌++◌, length, map, refl, sym, ap, ◌∙◌, arith, eqb, ⊎_elim}
 use Rattle.std.specs.Prelude.{◌&&◌, ◌||◌, ◌==◌}
 use Rattle.std.specs.Char.{IsScalar, encode_utf8, to_ascii_lowercase}
 use Rattle.std.specs.Int.{is_in_range}
@@ -12,9 +10,7 @@ use Rattle.std.proofs.lemmas.Str.{encode_ascii}
 use Rattle.std.proofs.lemmas.Str.Ascii.{lowercase_ascii}
 use Rattle.uri_pct.specs.Sets.{TableSet, allows}
 use Rattle.uri_pct.specs.Tokens.{Token, Char, Octet, tokens, text_of_token, print}
-use Rattle.uri_pct.specs.DecodeUnreserved.{is_bidi_formatting, is_never_literal}
-use Rattle.uri_pct.specs.DecodeUnreserved.{formatting_as_octets}
-use Rattle.uri_pct.specs.DecodeUnreserved.{decode_after_run, decode_run}
+use Rattle.uri_pct.specs.DecodeUnreserved.{is_bidi_formatting, is_never_literal, formatting_as_octets, decode_after_run, decode_run}
 use Rattle.uri_pct.specs.Pieces.{pieces_from}
 use Rattle.uri_pct.proofs.UnreservedDecoding.Formatting.{ascii_char_separates_encode_formatting}
 use Rattle.uri_pct.proofs.ValidTexts.Allowed.{decodable_char_is_printable}
@@ -23,8 +19,7 @@ use Rattle.uri_ops.proofs.Meanings.WrittenFormatting.{set_allows_formatting_by_u
 use Rattle.uri_ops.specs.Models.Decodings.{lowered_if, lowered_code_if, cased_append}
 use Rattle.uri_order.specs.LastTokens.{EndsIn, EndsInDecodable, TokensEndInNoDecodable}
 use Rattle.uri_order.specs.NormalComponents.{normal_component}
-use Rattle.uri_order.proofs.LastOctets.{decoded, last_octet_stays, last_character_stays}
-use Rattle.uri_order.proofs.LastOctets.{last_decodable_is_decoded}
+use Rattle.uri_order.proofs.LastOctets.{decoded, last_octet_stays, last_character_stays, last_decodable_is_decoded}
 use Rattle.uri_order.proofs.LastTokens.{empty_text_has_no_tokens}
 use Rattle.uri_order.proofs.LastDecodables.{char_has_one_to_four_bytes}
 

@@ -1,6 +1,5 @@
 -- Paths that are read from their end: their segments are decoded one by one.
-use Rattle.std.proofs.Common.{◌≡◌, ℕ, Bool, true, false, cond, List, [], ◌∷◌, ◌++◌, refl, sym, ap}
-use Rattle.std.proofs.Common.{◌∙◌, subst}
+use Rattle.std.proofs.Common.{◌≡◌, ℕ, Bool, true, false, cond, List, [], ◌∷◌, ◌++◌, refl, sym, ap, ◌∙◌, subst}
 use Rattle.std.specs.Prelude.{codes}
 use Rattle.std.specs.Str.{IsUtf8}
 use Rattle.std.proofs.lemmas.List.{append-nil}
@@ -9,11 +8,8 @@ use Rattle.uri_pct.specs.Sets.{TableSet, unreserved_set}
 use Rattle.uri_pct.specs.Tokens.{IsValidFor}
 use Rattle.uri_pct.proofs.Decodings.Decoding.{every_set_is_subset_of_widest}
 use Rattle.uri_ops.specs.Dots.{IsAbsolute, remove_dot_segments}
-use Rattle.uri_ops.proofs.Meanings.AllowedParts.{decoding-splits-at-slash, empty-text-is-set-text}
+use Rattle.uri_ops.proofs.Meanings.AllowedParts.{decoding-splits-at-slash, empty-text-is-set-text, print_decoded-of-nil-is-nil, set-text-from-utf8, set-text-is-utf8, set-text-is-valid}
 use Rattle.uri_pct.proofs.UnreservedDecoding.Printing.{print_decoded}
-use Rattle.uri_ops.proofs.Meanings.AllowedParts.{print_decoded-of-nil-is-nil}
-use Rattle.uri_ops.proofs.Meanings.AllowedParts.{set-text-from-utf8, set-text-is-utf8}
-use Rattle.uri_ops.proofs.Meanings.AllowedParts.{set-text-is-valid}
 use Rattle.uri_ops.proofs.Paths.DecodedPaths.{dotless-set-text-is-set-text, set-text-splits}
 use Rattle.uri_order.specs.NormalComponents.{normal_component}
 use Rattle.uri_order.specs.SegmentsLeft.{segments_left}

@@ -1,19 +1,16 @@
 -- What the rules of schemes change in the components of a text.
-use Rattle.std.proofs.Common.{◌≡◌, ◌↔◌, ℕ, Bool, true, false, cond, List, [], ◌++◌, refl, sym, ap}
-use Rattle.std.proofs.Common.{◌∙◌, ◌&&◌, Option, Some, None, option_map}
+use Rattle.std.proofs.Common.{◌≡◌, ◌↔◌, ℕ, Bool, true, false, cond, List, [], ◌++◌, refl, sym, ap, ◌∙◌, ◌&&◌, Option, Some, None, option_map}
 use Rattle.std.specs.Prelude.{codes, is_some, bytes_eq}
 use Rattle.std.specs.Option.{option_and_then}
 use Rattle.std.specs.Str.{str_to_ascii_lowercase}
 use Rattle.std.proofs.lemmas.List.{append-nil}
 use Rattle.std.proofs.lemmas.Slice.Eq.{bytes_eq-Decides}
-use Rattle.uri_parts.specs.Components.{Components}
+use Rattle.uri_parts.specs.Components.{Components, components, recompose}
 use Rattle.uri_parts.specs.Grammar.{Kind, IsTextOf}
-use Rattle.uri_parts.specs.Components.{components, recompose}
 use Rattle.uri_parts.proofs.Splitting.Recompose.{recompose-components}
 use Rattle.uri_ops.specs.ComponentSets.{HasComponentSets}
 use Rattle.uri_ops.specs.Dots.{is_empty}
-use Rattle.uri_ops.specs.Meaning.{AuthorityMeaning, authority_meaning, components_meaning}
-use Rattle.uri_ops.specs.Meaning.{meaning_of}
+use Rattle.uri_ops.specs.Meaning.{AuthorityMeaning, authority_meaning, components_meaning, meaning_of}
 use Rattle.uri_ops.specs.Normal.{normal_authority, normal_authority_with_delimiter, normal_text}
 use Rattle.uri_ops.proofs.Normal.NormalTexts.{text-has-parts-of-kind}
 use Rattle.uri_order.specs.Addresses.{ipv6_host_of}
@@ -24,8 +21,7 @@ use Rattle.uri_rules.specs.Edits.{edited, edited_by, has_default_host, has_root_
 use Rattle.uri_rules.specs.Rules.{Rules, is_localhost, is_scheme_of}
 use Rattle.uri_rules.proofs.EditedTexts.{edited-text-is-normal-form}
 use Rattle.uri_rules.proofs.RuledMeanings.{map-cond}
-use Rattle.uri_rules.proofs.RuledTexts.{ruled_authority, ruled_components}
-use Rattle.uri_rules.proofs.RuledTexts.{ruled_components-have-meaning-under}
+use Rattle.uri_rules.proofs.RuledTexts.{ruled_authority, ruled_components, ruled_components-have-meaning-under}
 
 -- general fact on booleans, for rules: two tests of one fact are equal
 tests_of_one_fact_are_equal : {P : Type 0} (s t : Bool) → (s ≡ true ↔ P) → (t ≡ true ↔ P) → s ≡ t

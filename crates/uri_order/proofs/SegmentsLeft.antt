@@ -1,35 +1,21 @@
 -- The segments that are left of a path, from the last one.
-use Rattle.std.proofs.Common.{◌≡◌, ℕ, zero, suc, ◌+◌, Bool, true, false, cond, not, List, []}
-use Rattle.std.proofs.Common.{◌∷◌, ◌++◌, ◌-◌, ◌<◌, ◌||◌, length, eqb, refl, sym, ap, subst, ◌∙◌}
-use Rattle.std.proofs.Common.{add-one, inl, inr, ⊎_elim, arith, lit<}
-use Rattle.std.proofs.Common.{Option, Some, None, MatchOption, Bor}
+use Rattle.std.proofs.Common.{◌≡◌, ℕ, zero, suc, ◌+◌, Bool, true, false, cond, not, List, [], ◌∷◌, ◌++◌, ◌-◌, ◌<◌, ◌||◌, length, eqb, refl, sym, ap, subst, ◌∙◌, add-one, inl, inr, ⊎_elim, arith, lit<, Option, Some, None, MatchOption, Bor}
 use Rattle.std.specs.Str.Pattern.{RFindsChar, SplitsAroundMatch}
 use Rattle.std.proofs.lemmas.List.{append-nil, length-append}
 use Rattle.std.specs.Prelude.{codes}
-use Rattle.std.proofs.lemmas.Bool.{and_from, and_parts, cond-false, cond-true}
-use Rattle.std.proofs.lemmas.Bool.{false≢true, not-true, not_from_false, or_parts, or_right}
+use Rattle.std.proofs.lemmas.Bool.{and_from, and_parts, cond-false, cond-true, false≢true, not-true, not_from_false, or_parts, or_right}
 use Rattle.uri_pct.specs.Texts.{lacks}
 use Rattle.uri_pct.proofs.ValidTexts.Delimiters.{rsplit_once_cuts_at_last}
 use Rattle.uri_pct.proofs.General.{eq_true_from_IsTrue}
 use Rattle.uri_parts.specs.Components.{IsAbemptyPath}
 use Rattle.uri_parts.proofs.Splitting.Marks.{cons_is_not_nil}
 use Rattle.uri_parts.proofs.Splitting.Recompose.{equal-to-true-is-IsTrue}
-use Rattle.uri_ops.specs.Dots.{IsAbsolute, before_last_slash, has_slash, is_dot_segment, is_empty}
-use Rattle.uri_ops.specs.Dots.{is_double_dot, is_single_dot, remove_dot_segments}
-use Rattle.uri_ops.proofs.Paths.Segments.{closing, closing-of-append, dotless_of}
-use Rattle.uri_ops.proofs.Paths.Segments.{dotless_of-with-empty-last, end_of, next_output, step_of}
-use Rattle.uri_ops.proofs.Paths.Segments.{appended-segments-pass-test, steps}
-use Rattle.uri_ops.proofs.Paths.Segments.{segments-after-steps-pass-test}
-use Rattle.uri_ops.proofs.Paths.SlashedSegments.{NoSlashes, before_last_slash-of-append}
-use Rattle.uri_ops.proofs.Paths.SlashedSegments.{lacks_slash}
-use Rattle.uri_ops.proofs.Paths.SlashedSegments.{before_last_slash-of-slashed-is-popped, slashed}
-use Rattle.uri_ops.proofs.Paths.SlashedSegments.{remove-dots-by-segments, slashed-of-append}
-use Rattle.uri_ops.proofs.Paths.SlashedSegments.{slashed-of-push}
-use Rattle.uri_ops.proofs.Paths.DotLaws.{property-of-absolute-path-by-segments, rooted}
-use Rattle.uri_ops.proofs.Paths.DotLaws.{segments-with-empty-last-lack-slashes}
+use Rattle.uri_ops.specs.Dots.{IsAbsolute, before_last_slash, has_slash, is_dot_segment, is_empty, is_double_dot, is_single_dot, remove_dot_segments}
+use Rattle.uri_ops.proofs.Paths.Segments.{closing, closing-of-append, dotless_of, dotless_of-with-empty-last, end_of, next_output, step_of, appended-segments-pass-test, steps, segments-after-steps-pass-test}
+use Rattle.uri_ops.proofs.Paths.SlashedSegments.{NoSlashes, before_last_slash-of-append, lacks_slash, before_last_slash-of-slashed-is-popped, slashed, remove-dots-by-segments, slashed-of-append, slashed-of-push}
+use Rattle.uri_ops.proofs.Paths.DotLaws.{property-of-absolute-path-by-segments, rooted, segments-with-empty-last-lack-slashes}
 use Rattle.uri_ops.proofs.Paths.LastSlashes.{before_last_slash-of-directory}
-use Rattle.uri_order.specs.SegmentsLeft.{is_abempty_path, segments_left, with_segment}
-use Rattle.uri_order.specs.SegmentsLeft.{without_last_segments}
+use Rattle.uri_order.specs.SegmentsLeft.{is_abempty_path, segments_left, with_segment, without_last_segments}
 
 -- segments left: they are what the steps over the segments leave
 segments_left-by-steps : (xs : List (List ℕ)) → NoSlashes xs

@@ -1,7 +1,6 @@
 -- The last token of a text that normalising decodes, and the tokens before it: RFC 3986, section
 -- 6.2.2.2; RFC 3987, section 5.3.2.3.
-use Rattle.std.specs.Prelude.{◌≡◌, ◌≢◌, ℕ, ◌+◌, true, List, [], ◌∷◌, ◌++◌}
-use Rattle.std.specs.Prelude.{length, map, slice_index}
+use Rattle.std.specs.Prelude.{◌≡◌, ◌≢◌, ℕ, ◌+◌, true, List, [], ◌∷◌, ◌++◌, length, map, slice_index}
 use Rattle.std.specs.Char.{IsScalar, encode_utf8}
 use Rattle.uri_pct.specs.Sets.{TableSet}
 use Rattle.uri_pct.specs.Chunks.{widest_set}

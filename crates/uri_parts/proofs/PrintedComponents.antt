@@ -7,8 +7,7 @@ use Rattle.uri_pct.specs.declared.pct_enc.EStr.{EStr}
 use Rattle.uri_pct.specs.EncodedTexts.{text_of}
 use Rattle.uri_parts.specs.AuthorityTexts.{host_kind_of, HasRegisteredName}
 use Rattle.uri_parts.specs.Hosts.{HostKind}
-use Rattle.uri_parts.specs.Printing.{debug_host, debug_host_of, debug_field, debug_authority_of}
-use Rattle.uri_parts.specs.Printing.{debug_reference_of}
+use Rattle.uri_parts.specs.Printing.{debug_host, debug_host_of, debug_field, debug_authority_of, debug_reference_of}
 use Rattle.uri_parts.specs.declared.component.HostOf.{HostOf}
 use Rattle.uri_parts.specs.declared.component.HostOf.TheVariants as hosts
 

@@ -1,43 +1,15 @@
 -- What the proofs of the parser's functions cite and unfold: their attributes name it.
 use Rattle.std.specs.Prelude.{⊤}
-use Rattle.uri_pct.proofs.TableSets.Constants.{digit_masks_are_digit_set}
-use Rattle.uri_pct.proofs.TableSets.Constants.{scheme_masks_are_scheme_set}
-use Rattle.uri_pct.proofs.TableSets.Constants.{segment_nz_nc_masks_are_segment_nz_nc_set}
-use Rattle.uri_pct.proofs.TableSets.Constants.{isegment_nz_nc_masks_are_isegment_nz_nc_set}
-use Rattle.uri_parts.specs.Refusals.{error_from_end, error_from_fragment, error_from_query}
-use Rattle.uri_parts.specs.Refusals.{error_from_path}
-use Rattle.uri_parts.specs.Refusals.{error_from_relative_path}
-use Rattle.uri_parts.specs.Models.AuthorityParsing.{port_length, name_and_port_length}
-use Rattle.uri_parts.specs.Models.AuthorityParsing.{name_ends_authority}
-use Rattle.uri_parts.specs.Models.AuthorityParsing.{host_end, host_and_port_length}
-use Rattle.uri_parts.specs.Models.AuthorityParsing.{further_userinfo_length, userinfo_length}
-use Rattle.uri_parts.specs.Models.AuthorityParsing.{host_offset, other_authority}
-use Rattle.uri_parts.specs.Models.AuthorityParsing.{other_authority_length}
-use Rattle.uri_parts.specs.Models.AuthorityParsing.{found_authority_length, found_authority}
-use Rattle.uri_parts.specs.Models.ParseErrors.{error_after_port, port_error, host_error}
-use Rattle.uri_parts.specs.Models.ParseErrors.{left_over_error, name_error, userinfo_error}
-use Rattle.uri_parts.specs.Models.ParseErrors.{other_authority_error, authority_error}
-use Rattle.uri_parts.specs.Models.ParseErrors.{hier_part_error}
-use Rattle.uri_parts.specs.Models.ParseErrors.{schemeless_error, parsed_error}
-use Rattle.uri_parts.specs.Models.Parsing.{query_end_at, path_positions, authority_positions}
-use Rattle.uri_parts.specs.Models.Parsing.{hier_part_positions, relative_positions}
-use Rattle.uri_parts.specs.Models.Parsing.{schemeless_positions, parsed_positions}
+use Rattle.uri_pct.proofs.TableSets.Constants.{digit_masks_are_digit_set, scheme_masks_are_scheme_set, segment_nz_nc_masks_are_segment_nz_nc_set, isegment_nz_nc_masks_are_isegment_nz_nc_set}
+use Rattle.uri_parts.specs.Refusals.{error_from_end, error_from_fragment, error_from_query, error_from_path, error_from_relative_path}
+use Rattle.uri_parts.specs.Models.AuthorityParsing.{port_length, name_and_port_length, name_ends_authority, host_end, host_and_port_length, further_userinfo_length, userinfo_length, host_offset, other_authority, other_authority_length, found_authority_length, found_authority}
+use Rattle.uri_parts.specs.Models.ParseErrors.{error_after_port, port_error, host_error, left_over_error, name_error, userinfo_error, other_authority_error, authority_error, hier_part_error, schemeless_error, parsed_error}
+use Rattle.uri_parts.specs.Models.Parsing.{query_end_at, path_positions, authority_positions, hier_part_positions, relative_positions, schemeless_positions, parsed_positions}
 use Rattle.uri_parts.proofs.Authorities.AuthorityCuts.{suffix, drop-after-drop-of-one}
-use Rattle.uri_parts.proofs.Parsing.NextBytes.{starts_at_position, stray_percent_ends_scan}
-use Rattle.uri_parts.proofs.Parsing.NextBytes.{authority_may_end_at_end, authority_may_end_at_byte}
-use Rattle.uri_parts.proofs.Parsing.NextBytes.{authority_may_end_at_slash}
-use Rattle.uri_parts.proofs.Parsing.NextBytes.{text_ends_where_position_is_length}
-use Rattle.uri_parts.proofs.Parsing.NextBytes.{name_has_no_port_where_authority_may_end}
-use Rattle.uri_parts.proofs.Parsing.WebSchemes.{scheme_of_http_ends_at_4}
-use Rattle.uri_parts.proofs.Parsing.WebSchemes.{scheme_of_https_ends_at_5}
-use Rattle.uri_parts.proofs.Refusals.Colons.{last_colon-at-colon, last_colon-stays-past-other-byte}
-use Rattle.uri_parts.proofs.Refusals.Colons.{last_colon_is_below_position}
-use Rattle.uri_parts.proofs.Refusals.Digits.{digits_end-stays-at-other-byte}
-use Rattle.uri_parts.proofs.Refusals.Digits.{digits_end-stays-where-none-may-follow}
-use Rattle.uri_parts.proofs.Refusals.Digits.{digits_end-stays-past-text}
-use Rattle.uri_parts.proofs.Refusals.Digits.{octets_end-of-no-octets-stays}
-use Rattle.uri_parts.proofs.Refusals.Digits.{octets_end-goes-on-after-dot}
-use Rattle.uri_parts.proofs.Refusals.Digits.{octets_end-fails-without-dot}
+use Rattle.uri_parts.proofs.Parsing.NextBytes.{starts_at_position, stray_percent_ends_scan, authority_may_end_at_end, authority_may_end_at_byte, authority_may_end_at_slash, text_ends_where_position_is_length, name_has_no_port_where_authority_may_end}
+use Rattle.uri_parts.proofs.Parsing.WebSchemes.{scheme_of_http_ends_at_4, scheme_of_https_ends_at_5}
+use Rattle.uri_parts.proofs.Refusals.Colons.{last_colon-at-colon, last_colon-stays-past-other-byte, last_colon_is_below_position}
+use Rattle.uri_parts.proofs.Refusals.Digits.{digits_end-stays-at-other-byte, digits_end-stays-where-none-may-follow, digits_end-stays-past-text, octets_end-of-no-octets-stays, octets_end-goes-on-after-dot, octets_end-fails-without-dot}
 
 -- what is next
 pub ruleset marks = (authority_may_end_at_end, authority_may_end_at_byte)

@@ -1,6 +1,5 @@
 -- The components of an authority: RFC 3986, section 3.2.
-use Rattle.std.specs.Prelude.{◌≡◌, ℕ, Bool, true, false, ◌&&◌, List, [], ◌++◌, drop, codes}
-use Rattle.std.specs.Prelude.{bytes_eq, Option, IfSome, if◌then◌else◌}
+use Rattle.std.specs.Prelude.{◌≡◌, ℕ, Bool, true, false, ◌&&◌, List, [], ◌++◌, drop, codes, bytes_eq, Option, IfSome, if◌then◌else◌}
 use Rattle.std.specs.List.{list_any}
 use Rattle.std.specs.Option.{option_map_or}
 use Rattle.uri_pct.specs.Sets.{TableSet, LacksPercent, digit_set}

@@ -1,8 +1,5 @@
 -- The five components of any text: RFC 3986, appendix B; and their text: section 5.3.
-use Rattle.std.specs.Prelude.{◌≡◌, ℕ, ◌<◌, Bool, true, false, not, ◌&&◌, ◌⊎◌, ◌==◌, List, [], ◌∷◌}
-use Rattle.std.specs.Prelude.{◌++◌}
-use Rattle.std.specs.Prelude.{length, take, drop, slice_index, codes, All, IsTrue, Option, Some}
-use Rattle.std.specs.Prelude.{None, IfSome, IfNone, if◌then◌else◌}
+use Rattle.std.specs.Prelude.{◌≡◌, ℕ, ◌<◌, Bool, true, false, not, ◌&&◌, ◌⊎◌, ◌==◌, List, [], ◌∷◌, ◌++◌, length, take, drop, slice_index, codes, All, IsTrue, Option, Some, None, IfSome, IfNone, if◌then◌else◌}
 use Rattle.std.specs.List.{prefix_len}
 use Rattle.uri_pct.specs.Sets.{is_one_of}
 use Rattle.uri_pct.specs.Delimiters.{colon, number_sign, question_mark, slash}

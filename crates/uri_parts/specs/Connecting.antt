@@ -6,9 +6,7 @@ use Rattle.uri_pct.specs.Tokens.{tokens, bytes_decoded_from}
 use Rattle.uri_parts.specs.declared.connect.SocketTarget.{SocketTarget}
 use Rattle.uri_parts.specs.declared.connect.SocketTarget.TheVariants as Of
 use Rattle.uri_parts.specs.declared.connect.SocketError.{SocketError}
-use Rattle.uri_parts.specs.declared.connect.SocketError.TheVariants.{InvalidPort}
-use Rattle.uri_parts.specs.declared.connect.SocketError.TheVariants.{UnsupportedMechanism}
-use Rattle.uri_parts.specs.declared.connect.SocketError.TheVariants.{NameNotUtf8, OutOfMemory}
+use Rattle.uri_parts.specs.declared.connect.SocketError.TheVariants.{InvalidPort, UnsupportedMechanism, NameNotUtf8, OutOfMemory}
 use Rattle.uri_parts.specs.Addresses.{ipv4_octets, ipv6_segments}
 use Rattle.uri_parts.specs.Hosts.{HostKind, Ipv4, Ipv6, IpvFuture, RegName}
 

@@ -1,12 +1,9 @@
 -- Which texts are of a kind: RFC 3986, sections 3 and 4.1, and RFC 3987, section 2.2.
-use Rattle.std.specs.Prelude.{◌≡◌, ◌==◌, ℕ, Bool, true, false, not, ◌&&◌, ◌||◌, List, codes}
-use Rattle.std.specs.Prelude.{slice_index, Option, Some, None, is_some, if◌then◌else◌}
+use Rattle.std.specs.Prelude.{◌≡◌, ◌==◌, ℕ, Bool, true, false, not, ◌&&◌, ◌||◌, List, codes, slice_index, Option, Some, None, is_some, if◌then◌else◌}
 use Rattle.std.specs.List.{list_any}
 use Rattle.std.specs.Char.{is_ascii_alphabetic}
 use Rattle.std.specs.Str.{IsUtf8}
-use Rattle.uri_pct.specs.Sets.{TableSet, scheme_set, userinfo_set, reg_name_set, path_set}
-use Rattle.uri_pct.specs.Sets.{query_set, fragment_set, iuserinfo_set, ireg_name_set, ipath_set}
-use Rattle.uri_pct.specs.Sets.{iquery_set, ifragment_set, segment_nz_nc_set, isegment_nz_nc_set}
+use Rattle.uri_pct.specs.Sets.{TableSet, scheme_set, userinfo_set, reg_name_set, path_set, query_set, fragment_set, iuserinfo_set, ireg_name_set, ipath_set, iquery_set, ifragment_set, segment_nz_nc_set, isegment_nz_nc_set}
 use Rattle.uri_pct.specs.Tokens.{is_valid_for}
 use Rattle.uri_pct.specs.Delimiters.{colon}
 use Rattle.uri_parts.specs.Authority.{is_authority_for}

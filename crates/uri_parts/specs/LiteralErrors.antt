@@ -1,8 +1,6 @@
 -- Where an address in brackets and its `]` end, or which error it has: RFC 3986, section 3.2.2,
 -- says which addresses there are; the error is this library's own choice.
-use Rattle.std.specs.Prelude.{ℕ, zero, suc, ◌+◌, ◌-◌, ◌==◌, min, Bool, true, false, not, ◌&&◌, ◌||◌}
-use Rattle.std.specs.Prelude.{List, drop, codes, nat_lt, nat_le, slice_index, slice_range, Option}
-use Rattle.std.specs.Prelude.{Some, None, Ok, Err, option_and_then, if◌then◌else◌}
+use Rattle.std.specs.Prelude.{ℕ, zero, suc, ◌+◌, ◌-◌, ◌==◌, min, Bool, true, false, not, ◌&&◌, ◌||◌, List, drop, codes, nat_lt, nat_le, slice_index, slice_range, Option, Some, None, Ok, Err, option_and_then, if◌then◌else◌}
 use Rattle.std.specs.Str.Parse.{digits_value}
 use Rattle.std.specs.Net.Reader.{digit_count, digit_zero}
 use Rattle.uri_pct.specs.Delimiters.{colon, full_stop, right_bracket}

@@ -1,6 +1,5 @@
 -- How a text is scanned from an index on, and where what is there ends: no RFC has this.
-use Rattle.std.specs.Prelude.{ℕ, ◌+◌, Bool, ◌&&◌, List, drop, nat_lt, Result, Ok, Err}
-use Rattle.std.specs.Prelude.{if◌then◌else◌}
+use Rattle.std.specs.Prelude.{ℕ, ◌+◌, Bool, ◌&&◌, List, drop, nat_lt, Result, Ok, Err, if◌then◌else◌}
 use Rattle.uri_pct.specs.Delimiters.{percent_sign}
 use Rattle.uri_pct.specs.Prefixes.{valid_prefix}
 use Rattle.uri_pct.specs.Sets.{TableSet}

@@ -1,6 +1,5 @@
 -- General facts for all crates: on tests, and on components that may be absent.
-use Rattle.std.proofs.Common.{◌≡◌, ℕ, Bool, true, false, ◌||◌, List, refl, rules}
-use Rattle.std.proofs.Common.{option_map, sym, subst, not, cond, eqb, ◌<◌, arith}
+use Rattle.std.proofs.Common.{◌≡◌, ℕ, Bool, true, false, ◌||◌, List, refl, rules, option_map, sym, subst, not, cond, eqb, ◌<◌, arith}
 use Rattle.std.proofs.lemmas.Bool.{false≢true}
 use Rattle.std.proofs.lemmas.Bool.Decides.{nat_tests}
 use Rattle.std.specs.Prelude.{Option, Some, None, IsTrue, IfSome, is_some, is_none}

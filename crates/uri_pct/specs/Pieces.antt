@@ -1,6 +1,5 @@
 -- The characters and the ill-formed parts of bytes: Unicode, section 3.9, table 3-7.
-use Rattle.std.specs.Prelude.{◌≡◌, ℕ, zero, suc, Bool, true, false, ◌==◌, List, [], ◌∷◌, length}
-use Rattle.std.specs.Prelude.{take, Option, Some, None, option_map, slice_index, if◌then◌else◌}
+use Rattle.std.specs.Prelude.{◌≡◌, ℕ, zero, suc, Bool, true, false, ◌==◌, List, [], ◌∷◌, length, take, Option, Some, None, option_map, slice_index, if◌then◌else◌}
 use Rattle.std.specs.Char.{encode_utf8, IsScalar}
 use Rattle.std.specs.Int.{is_in_range}
 use Rattle.std.specs.List.{find, flat_map}

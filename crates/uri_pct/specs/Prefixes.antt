@@ -1,7 +1,6 @@
 -- The longest prefix of a text that is valid for a set: RFC 3986, section 2.1. It is found byte by
 -- byte; the law `valid_prefixes_are_longest` says what it is.
-use Rattle.std.specs.Prelude.{ℕ, zero, suc, ◌+◌, Bool, ◌&&◌}
-use Rattle.std.specs.Prelude.{◌==◌, nat_lt, List, [], ◌∷◌, drop, slice_index, if◌then◌else◌}
+use Rattle.std.specs.Prelude.{ℕ, zero, suc, ◌+◌, Bool, ◌&&◌, ◌==◌, nat_lt, List, [], ◌∷◌, drop, slice_index, if◌then◌else◌}
 use Rattle.std.specs.Char.{is_ascii_hexdigit}
 use Rattle.std.specs.Str.{chars, continuation_len}
 use Rattle.uri_pct.specs.Sets.{TableSet, allows_past_ascii}

@@ -1,6 +1,5 @@
 -- What a text holds, by its bytes: RFC 3986, section 2.1.
-use Rattle.std.specs.Prelude.{◌≡◌, ℕ, Bool, IsTrue, not, ◌==◌, List, ◌∷◌, ◌++◌, slice_index, ◌<◌}
-use Rattle.std.specs.Prelude.{length, false, ◌+◌, ◌&&◌, string_bytes}
+use Rattle.std.specs.Prelude.{◌≡◌, ℕ, Bool, IsTrue, not, ◌==◌, List, ◌∷◌, ◌++◌, slice_index, ◌<◌, length, false, ◌+◌, ◌&&◌, string_bytes}
 use Rattle.std.specs.List.{list_all}
 use Rattle.std.specs.Char.{is_ascii_hexdigit}
 use Rattle.std.specs.declared.string.String.{String}

@@ -1,11 +1,8 @@
 -- Where the pairs of a query are, by where its `&` and `=` are.
-use Rattle.std.proofs.Common.{◌≡◌, ℕ, ◌+◌, ◌-◌, ◌<◌, ◌≤◌, true, false, not, eqb, List, [], ◌∷◌}
-use Rattle.std.proofs.Common.{◌++◌, length, take, drop, get_or, cond, refl, sym, ap, ◌∙◌, arith}
-use Rattle.std.proofs.Common.{⊎_elim, append-nil, ltb, suc}
+use Rattle.std.proofs.Common.{◌≡◌, ℕ, ◌+◌, ◌-◌, ◌<◌, ◌≤◌, true, false, not, eqb, List, [], ◌∷◌, ◌++◌, length, take, drop, get_or, cond, refl, sym, ap, ◌∙◌, arith, ⊎_elim, append-nil, ltb, suc}
 use Rattle.std.specs.Prelude.{Some, None, slice_range}
 use Rattle.std.specs.List.{onto_first, slice_split}
-use Rattle.std.proofs.lemmas.Bool.{and_parts, and_right, cases_lt, cond-false, cond-true, eqb-true}
-use Rattle.std.proofs.lemmas.Bool.{le-ltb, not-true, lt-ltb, false≢true, not-false}
+use Rattle.std.proofs.lemmas.Bool.{and_parts, and_right, cases_lt, cond-false, cond-true, eqb-true, le-ltb, not-true, lt-ltb, false≢true, not-false}
 use Rattle.std.proofs.Math.Seq.{drop-cons}
 use Rattle.std.proofs.lemmas.List.{drop_all, length-take-le, take-take}
 use Rattle.std.proofs.lemmas.List.Edits.{get_or-between, length-between}
@@ -15,11 +12,9 @@ use Rattle.std.proofs.lemmas.List.Sums.{list_all-from_AllPass}
 use Rattle.std.proofs.lemmas.Slice.{between_is}
 use Rattle.fluent_uri.specs.Texts.{lacks}
 use Rattle.uri_pct.specs.Models.ByteRuns.{IsLongestRun}
-use Rattle.uri_query.specs.Pairs.{nonempty_substrings, text_after_equals, text_before_equals}
-use Rattle.uri_query.specs.Pairs.{those_with_bytes}
+use Rattle.uri_query.specs.Pairs.{nonempty_substrings, text_after_equals, text_before_equals, those_with_bytes}
 use Rattle.uri_query.specs.Places.{value_of_pair}
-use Rattle.uri_query.proofs.Cuts.{text_after_equals-append, text_before_equals-append}
-use Rattle.uri_query.proofs.Cuts.{text_before_equals-of-whole}
+use Rattle.uri_query.proofs.Cuts.{text_after_equals-append, text_before_equals-append, text_before_equals-of-whole}
 use Rattle.uri_query.proofs.PairsAgain.{text_without_ampersand_is_one_piece}
 
 -- places of pairs: a run of bytes other than this one is a text that lacks it

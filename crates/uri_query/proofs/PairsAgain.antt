@@ -1,14 +1,11 @@
 -- The query that is made of pairs decodes to the pairs again.
-use Rattle.std.proofs.Common.{◌≡◌, ℕ, ◌/◌, ◌%◌, ◌<◌, true, false, not, cond, List, [], ◌∷◌}
-use Rattle.std.proofs.Common.{◌++◌, length, map, string_bytes, refl, ap, sym, ◌∙◌, arith, ⊎_elim}
-use Rattle.std.proofs.Common.{append_assoc, append-nil}
+use Rattle.std.proofs.Common.{◌≡◌, ℕ, ◌/◌, ◌%◌, ◌<◌, true, false, not, cond, List, [], ◌∷◌, ◌++◌, length, map, string_bytes, refl, ap, sym, ◌∙◌, arith, ⊎_elim, append_assoc, append-nil}
 use Rattle.std.proofs.Math.Dec.{eqb}
 use Rattle.std.specs.Prelude.{nat_lt, codes, filter, encode_utf8}
 use Rattle.std.specs.Fmt.{digit_glyph}
 use Rattle.std.specs.List.{flat_map, onto_first, slice_split}
 use Rattle.std.specs.Str.{IsUtf8, chars}
-use Rattle.std.proofs.lemmas.Bool.{and_from, and_parts, cases_Bool, cases_lt, cond-true, cond-false}
-use Rattle.std.proofs.lemmas.Bool.{eqb-true, false≢true, le-ltb, not-true}
+use Rattle.std.proofs.lemmas.Bool.{and_from, and_parts, cases_Bool, cases_lt, cond-true, cond-false, eqb-true, false≢true, le-ltb, not-true}
 use Rattle.std.proofs.lemmas.List.{map-append}
 use Rattle.std.proofs.lemmas.List.Concat.{flat_map-append}
 use Rattle.std.proofs.lemmas.List.Elements.{filter-append}
@@ -22,9 +19,7 @@ use Rattle.fluent_uri.specs.Sets.{allows, allows_past_ascii, data_set}
 use Rattle.fluent_uri.specs.Texts.{lacks}
 use Rattle.fluent_uri.specs.Tokens.{Octet, bytes_decoded_from, print, text_of_token, tokens}
 use Rattle.fluent_uri.proofs.Calling.{calling, lossy_text-is-utf8_lossy}
-use Rattle.uri_query.specs.Pairs.{append_pair, data_text, decode_nonempty_substrings, decode_pair}
-use Rattle.uri_query.specs.Pairs.{decode_pairs, decode_text, pair_text, pair_texts, query_from}
-use Rattle.uri_query.specs.Pairs.{query_text, text_after_equals, text_before_equals}
+use Rattle.uri_query.specs.Pairs.{append_pair, data_text, decode_nonempty_substrings, decode_pair, decode_pairs, decode_text, pair_text, pair_texts, query_from, query_text, text_after_equals, text_before_equals}
 use Rattle.uri_query.specs.declared.pairs.Pair.{Pair}
 use Rattle.uri_query.proofs.Cuts.{text_after_equals-append, text_before_equals-append}
 

@@ -1,6 +1,5 @@
 -- A query as pairs of decoded texts, and pairs as a query: RFC 3986, sections 2.1 and 3.4.
-use Rattle.std.specs.Prelude.{ℕ, not, ◌==◌, List, [], ◌∷◌, ◌++◌, codes, filter, map, string_bytes}
-use Rattle.std.specs.Prelude.{if◌then◌else◌}
+use Rattle.std.specs.Prelude.{ℕ, not, ◌==◌, List, [], ◌∷◌, ◌++◌, codes, filter, map, string_bytes, if◌then◌else◌}
 use Rattle.std.specs.List.{slice_split}
 use Rattle.fluent_uri.specs.Dots.{is_empty}
 use Rattle.fluent_uri.specs.Encoding.{encode_text}

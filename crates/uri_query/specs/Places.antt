@@ -1,9 +1,7 @@
 -- Where the pairs of a query are: RFC 3986, section 3.4.
-use Rattle.std.specs.Prelude.{◌≡◌, ℕ, ◌+◌, ◌<◌, ◌≤◌, List, ◌∷◌, Option, Some, None, drop, length}
-use Rattle.std.specs.Prelude.{nat_lt, slice_range, if◌then◌else◌}
+use Rattle.std.specs.Prelude.{◌≡◌, ℕ, ◌+◌, ◌<◌, ◌≤◌, List, ◌∷◌, Option, Some, None, drop, length, nat_lt, slice_range, if◌then◌else◌}
 use Rattle.fluent_uri.specs.Texts.{lacks}
-use Rattle.uri_query.specs.Pairs.{equals_sign, nonempty_substrings, text_after_equals}
-use Rattle.uri_query.specs.Pairs.{text_before_equals}
+use Rattle.uri_query.specs.Pairs.{equals_sign, nonempty_substrings, text_after_equals, text_before_equals}
 use Rattle.uri_query.specs.declared.places.PairPlace.{PairPlace}
 
 -- the value of a pair, a substring of a query, as it is there: what is after its first `=`, if it

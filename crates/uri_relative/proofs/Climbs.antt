@@ -1,7 +1,5 @@
 -- Where a path of `../` leads to.
-use Rattle.std.proofs.Common.{◌≡◌, ℕ, zero, suc, ◌+◌, ◌-◌, Bool, true, false, cond, eqb, List, []}
-use Rattle.std.proofs.Common.{◌∷◌, ◌++◌, length, take, drop, refl, sym, ap, subst, ◌∙◌, arith}
-use Rattle.std.proofs.Common.{append_assoc, inl, inr, ◌||◌}
+use Rattle.std.proofs.Common.{◌≡◌, ℕ, zero, suc, ◌+◌, ◌-◌, Bool, true, false, cond, eqb, List, [], ◌∷◌, ◌++◌, length, take, drop, refl, sym, ap, subst, ◌∙◌, arith, append_assoc, inl, inr, ◌||◌}
 use Rattle.std.specs.Prelude.{codes}
 use Rattle.std.proofs.lemmas.List.{append-nil, take-append-drop}
 use Rattle.std.proofs.lemmas.List.Splits.{length-slice_split}
@@ -9,29 +7,14 @@ use Rattle.std.proofs.lemmas.List.Folds.{list_all-append}
 use Rattle.std.proofs.lemmas.Bool.{and_parts, false≢true, cond-false}
 use Rattle.std.proofs.lemmas.Bool.Decides.{nat_tests}
 use Rattle.uri_parts.specs.Components.{IsAbemptyPath}
-use Rattle.uri_ops.specs.Dots.{is_empty, IsAbsolute, EndsInSlash, lacks_dot_segments, segments}
-use Rattle.uri_ops.specs.Dots.{remove_dot_segments, underflows, directory}
-use Rattle.uri_ops.proofs.Paths.Segments.{pop, pop-undoes-push, is_none}
-use Rattle.uri_ops.proofs.Paths.Segments.{pushed-segments-are-not-none, AllPass, is_dotless}
-use Rattle.uri_ops.proofs.Paths.Segments.{step_of, next_output}
-use Rattle.uri_ops.proofs.Paths.SlashedSegments.{slashed, NoSlashes, lacks_slash}
-use Rattle.uri_ops.proofs.Paths.SlashedSegments.{segments-of-slashed-segments}
-use Rattle.uri_ops.proofs.Paths.SlashedSegments.{segments-of-text-are-not-none}
-use Rattle.uri_ops.proofs.Paths.SlashedSegments.{directory-by-segments}
-use Rattle.uri_ops.proofs.Paths.Segments.{parent-of-dotless-is-pop}
+use Rattle.uri_ops.specs.Dots.{is_empty, IsAbsolute, EndsInSlash, lacks_dot_segments, segments, remove_dot_segments, underflows, directory}
+use Rattle.uri_ops.proofs.Paths.Segments.{pop, pop-undoes-push, is_none, pushed-segments-are-not-none, AllPass, is_dotless, step_of, next_output, parent-of-dotless-is-pop}
+use Rattle.uri_ops.proofs.Paths.SlashedSegments.{slashed, NoSlashes, lacks_slash, segments-of-slashed-segments, segments-of-text-are-not-none, directory-by-segments}
 use Rattle.uri_ops.proofs.Paths.Underflows.{underflows_at}
-use Rattle.uri_ops.proofs.Paths.DotLaws.{path-after-slash-appends-its-segments}
-use Rattle.uri_ops.proofs.Paths.DotLaws.{appended-segments-lack-slashes}
-use Rattle.uri_ops.proofs.Paths.DotLaws.{property-of-path-to-slash-by-segments}
-use Rattle.uri_ops.proofs.Paths.DotLaws.{property-of-absolute-path-by-segments}
-use Rattle.uri_ops.proofs.Paths.DotLaws.{segments-of-dotless-path-are-dotless}
-use Rattle.uri_ops.proofs.Paths.DotLaws.{remove-dots-of-dotless, dotless-path-does-not-underflow}
+use Rattle.uri_ops.proofs.Paths.DotLaws.{path-after-slash-appends-its-segments, appended-segments-lack-slashes, property-of-path-to-slash-by-segments, property-of-absolute-path-by-segments, segments-of-dotless-path-are-dotless, remove-dots-of-dotless, dotless-path-does-not-underflow}
 use Rattle.uri_ops.proofs.Paths.DotRuns.{empty-text-is-nil}
-use Rattle.uri_ops.proofs.Paths.TakenSegments.{removing-dots-after-directory}
-use Rattle.uri_ops.proofs.Paths.TakenSegments.{underflow-after-directory}
-use Rattle.uri_relative.specs.Relative.{double_dots, slashes, relative_path, relative_from}
-use Rattle.uri_relative.specs.Relative.{needs_leading_dot}
-use Rattle.uri_relative.specs.Relative.{IsSharedPrefix}
+use Rattle.uri_ops.proofs.Paths.TakenSegments.{removing-dots-after-directory, underflow-after-directory}
+use Rattle.uri_relative.specs.Relative.{double_dots, slashes, relative_path, relative_from, needs_leading_dot, IsSharedPrefix}
 
 -- relativized paths: one `../` more, before or after the others
 double-dot-moves-past-others : (n : ℕ) (q : List ℕ) → double_dots n ++ (codes "../" ++ q)

@@ -1,14 +1,12 @@
 -- The positions of the components after a scheme, and of a query and a fragment.
-use Rattle.std.proofs.Common.{◌≡◌, ℕ, ◌+◌, ◌-◌, ◌≤◌, List, [], length, refl, sym, ap, ◌∙◌}
-use Rattle.std.proofs.Common.{arith, length-append, option_map, subst}
+use Rattle.std.proofs.Common.{◌≡◌, ℕ, ◌+◌, ◌-◌, ◌≤◌, List, [], length, refl, sym, ap, ◌∙◌, arith, length-append, option_map, subst}
 use Rattle.std.specs.Prelude.{codes, true, false, is_some, IfSome, Option, Some, None}
 use Rattle.std.proofs.lemmas.Bool.{false≢true}
 use Rattle.std.proofs.lemmas.Option.{none-some, same_Some}
 use Rattle.uri_parts.specs.declared.positions.AuthorityPositions.{AuthorityPositions}
 use Rattle.uri_parts.specs.declared.positions.Positions.{Positions}
 use Rattle.uri_parts.specs.Components.{Components, marked}
-use Rattle.uri_parts.specs.Positions.{authority_at, host_end_of, host_start_of, delimited_length}
-use Rattle.uri_parts.specs.Positions.{positions_of}
+use Rattle.uri_parts.specs.Positions.{authority_at, host_end_of, host_start_of, delimited_length, positions_of}
 
 -- relativized references: an authority's positions are all from n on
 pub record AuthorityBeginsAfter (n : ℕ) (places : AuthorityPositions) : Type 0 where

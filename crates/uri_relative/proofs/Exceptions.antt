@@ -1,26 +1,18 @@
 -- The targets that no reference without a scheme and an authority leads to: RFC 3986, section 5.2.
-use Rattle.std.proofs.Common.{◌≡◌, ℕ, Bool, true, false, not, ◌&&◌, ◌||◌, List, [], ◌∷◌, refl}
-use Rattle.std.proofs.Common.{sym, ap, ◌∙◌, ⊎_elim, inl, inr}
+use Rattle.std.proofs.Common.{◌≡◌, ℕ, Bool, true, false, not, ◌&&◌, ◌||◌, List, [], ◌∷◌, refl, sym, ap, ◌∙◌, ⊎_elim, inl, inr}
 use Rattle.std.specs.Prelude.{Option, None, Some, is_none, is_some}
-use Rattle.std.proofs.lemmas.Bool.{and_parts, both_ways, cases_Bool, cond-true}
-use Rattle.std.proofs.lemmas.Bool.{not-true, or_cases}
+use Rattle.std.proofs.lemmas.Bool.{and_parts, both_ways, cases_Bool, cond-true, not-true, or_cases}
 use Rattle.uri_pct.specs.Delimiters.{slash}
-use Rattle.uri_parts.specs.Components.{Components, IsAbemptyPath, components, recompose}
-use Rattle.uri_parts.specs.Components.{starts}
+use Rattle.uri_parts.specs.Components.{Components, IsAbemptyPath, components, recompose, starts}
 use Rattle.uri_parts.proofs.Splitting.Recompose.{equal-to-true-is-IsTrue}
 use Rattle.uri_ops.specs.Dots.{IsAbsolute, is_empty}
 use Rattle.uri_ops.specs.Target.{is_opaque, is_opaque_rejection, query_or, target_of}
-use Rattle.uri_ops.proofs.Targeting.RefusalOrder.{ok-result-has-no-opaque-rejection}
-use Rattle.uri_ops.proofs.Targeting.RefusalOrder.{result_or_target_error}
+use Rattle.uri_ops.proofs.Targeting.RefusalOrder.{ok-result-has-no-opaque-rejection, result_or_target_error}
 use Rattle.uri_ops.proofs.Targeting.Targets.{target-text-has-target-components}
-use Rattle.uri_relative.specs.Leading.{NeedsSchemeOrAuthority, without_fragment, is_rootless}
-use Rattle.uri_relative.specs.Leading.{has_emptied_path}
-use Rattle.uri_relative.specs.Leading.{needs_authority, settled, would_inherit_query}
+use Rattle.uri_relative.specs.Leading.{NeedsSchemeOrAuthority, without_fragment, is_rootless, has_emptied_path, needs_authority, settled, would_inherit_query}
 use Rattle.uri_relative.specs.Relative.{joined_path}
 use Rattle.uri_relative.proofs.RootedTargets.{base-that-is-not-opaque-is-rooted}
-use Rattle.uri_relative.proofs.JoinedPaths.{target-path-stays-absolute}
-use Rattle.uri_relative.proofs.JoinedPaths.{nonempty-joined-path-is-absolute}
-use Rattle.uri_relative.proofs.JoinedPaths.{path-joined-to-absolute-is-absolute}
+use Rattle.uri_relative.proofs.JoinedPaths.{target-path-stays-absolute, nonempty-joined-path-is-absolute, path-joined-to-absolute-is-absolute}
 use Rattle.uri_ops.proofs.Targeting.TargetCases.{settled-text-has-settled-components}
 use Rattle.uri_relative.proofs.ReferenceForms.{IsPathForm, reference-without-authority-is-path-form}
 

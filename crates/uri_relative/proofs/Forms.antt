@@ -1,45 +1,32 @@
 -- The forms of references that lead to a target: RFC 3986, sections 4.2 and 5.2.2.
-use Rattle.std.proofs.Common.{◌≡◌, ℕ, ◌+◌, ◌≤◌, ◌<◌, Bool, true, false, not, List, [], ◌++◌}
-use Rattle.std.proofs.Common.{◌&&◌, ◌||◌, ◌∷◌, drop, length, refl, sym, ap, ◌∙◌, subst, arith}
-use Rattle.std.proofs.Common.{rules}
+use Rattle.std.proofs.Common.{◌≡◌, ℕ, ◌+◌, ◌≤◌, ◌<◌, Bool, true, false, not, List, [], ◌++◌, ◌&&◌, ◌||◌, ◌∷◌, drop, length, refl, sym, ap, ◌∙◌, subst, arith, rules}
 use Rattle.std.specs.Prelude.{codes, Option, None, Some, IfSome, IfNone, is_some, is_none}
 use Rattle.std.proofs.Math.Bool.{and-false}
 use Rattle.std.proofs.lemmas.List.{length-append}
-use Rattle.std.proofs.lemmas.Bool.{and_from, and_parts, both_ways, cond_both, or_left}
-use Rattle.std.proofs.lemmas.Bool.{cond-false, cond-true, false≢true, not_from_false}
+use Rattle.std.proofs.lemmas.Bool.{and_from, and_parts, both_ways, cond_both, or_left, cond-false, cond-true, false≢true, not_from_false}
 use Rattle.std.proofs.lemmas.Str.{IsUtf8-nil}
 use Rattle.uri_pct.specs.Delimiters.{slash}
-use Rattle.uri_parts.specs.Components.{Components, IsAbemptyPath, IsSplitOf, Lacks, marked}
-use Rattle.uri_parts.specs.Components.{has_authority, has_scheme, recompose, starts}
-use Rattle.uri_parts.specs.Grammar.{Kind, components_meet_rules, has_colon_in_first_segment}
-use Rattle.uri_parts.specs.Grammar.{absent_or_passes, is_authority, is_scheme}
+use Rattle.uri_parts.specs.Components.{Components, IsAbemptyPath, IsSplitOf, Lacks, marked, has_authority, has_scheme, recompose, starts}
+use Rattle.uri_parts.specs.Grammar.{Kind, components_meet_rules, has_colon_in_first_segment, absent_or_passes, is_authority, is_scheme}
 use Rattle.uri_pct.specs.Sets.{TableSet, allows}
 use Rattle.uri_pct.specs.Tokens.{is_valid_for}
 use Rattle.uri_pct.proofs.ValidTexts.EStrs.{empty_text_is_valid}
 use Rattle.uri_parts.proofs.Splitting.Marks.{IsEmptyOrMarked-query_text}
 use Rattle.uri_ops.specs.Dots.{IsAbsolute, lacks_dot_segments}
 use Rattle.uri_ops.specs.NormalTargets.{reference_kind}
-use Rattle.uri_ops.specs.Target.{underflows_if_absolute, guarded, is_opaque, is_fragment_only}
-use Rattle.uri_ops.specs.Target.{dotted_target}
+use Rattle.uri_ops.specs.Target.{underflows_if_absolute, guarded, is_opaque, is_fragment_only, dotted_target}
 use Rattle.uri_ops.proofs.Meanings.ComponentEnds.{no_scheme}
 use Rattle.uri_ops.proofs.Meanings.AllowedParts.{validity-splits-at-slash}
 use Rattle.uri_ops.proofs.Meanings.AsciiCharacters.{ascii-bytes-are-utf8}
-use Rattle.uri_ops.proofs.Paths.PathCharacters.{lacked-delimiters-fail-test}
-use Rattle.uri_ops.proofs.Paths.PathCharacters.{test-of-delimiters-gives-lacks}
+use Rattle.uri_ops.proofs.Paths.PathCharacters.{lacked-delimiters-fail-test, test-of-delimiters-gives-lacks}
 use Rattle.uri_ops.proofs.Paths.TakenSegments.{absolute-path-is-slash-and-rest}
-use Rattle.uri_relative.specs.Forms.{IsDotlessTargetOf, IsReferenceTo, IsUnguarded, NeedsPath}
-use Rattle.uri_relative.specs.Forms.{after_path}
-use Rattle.uri_relative.specs.Forms.{after_scheme, from_authority}
+use Rattle.uri_relative.specs.Forms.{IsDotlessTargetOf, IsReferenceTo, IsUnguarded, NeedsPath, after_path, after_scheme, from_authority}
 use Rattle.uri_relative.specs.Leading.{IsRelativeTo, needs_authority}
 use Rattle.uri_relative.specs.Relative.{IsPathTo}
 use Rattle.uri_relative.specs.Shortest.{IsShortestPath, Shortest}
-use Rattle.uri_relative.proofs.References.{target_of-fragment-form, target_of-authority-form}
-use Rattle.uri_relative.proofs.References.{target_of-path-form}
-use Rattle.uri_relative.proofs.References.{path-form-does-not-underflow, target_of-query-form}
-use Rattle.uri_relative.proofs.References.{target_of-whole-target}
+use Rattle.uri_relative.proofs.References.{target_of-fragment-form, target_of-authority-form, target_of-path-form, path-form-does-not-underflow, target_of-query-form, target_of-whole-target}
 use Rattle.uri_relative.proofs.Settled.{settled-target-does-not-underflow}
-use Rattle.uri_relative.proofs.ShortestForms.{fragment-form-is-shortest, path-form-is-shortest}
-use Rattle.uri_relative.proofs.ShortestForms.{query-form-is-shortest}
+use Rattle.uri_relative.proofs.ShortestForms.{fragment-form-is-shortest, path-form-is-shortest, query-form-is-shortest}
 
 -- targets to relativize: each component is absent or meets its rule of the grammar
 pub record MeetsRules (kind : Kind) (t : Components) : Type 0 where

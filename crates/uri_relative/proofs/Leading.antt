@@ -1,30 +1,23 @@
 -- References that lead to a target: RFC 3986, section 5.2.
-use Rattle.std.proofs.Common.{◌≡◌, ℕ, Bool, true, false, not, List, ◌++◌, ◌&&◌, ◌||◌, sym, ap}
-use Rattle.std.proofs.Common.{◌∙◌, ◌≤◌, append_assoc, length, subst}
+use Rattle.std.proofs.Common.{◌≡◌, ℕ, Bool, true, false, not, List, ◌++◌, ◌&&◌, ◌||◌, sym, ap, ◌∙◌, ◌≤◌, append_assoc, length, subst}
 use Rattle.std.specs.Prelude.{Ok, is_some}
 use Rattle.std.specs.Str.{IsUtf8}
 use Rattle.std.proofs.Math.Bool.{and-false}
 use Rattle.std.proofs.lemmas.Bool.{and_from, cond-false, cond-true}
 use Rattle.uri_parts.specs.Components.{Components, IsSplitOf, components, recompose}
-use Rattle.uri_parts.specs.Grammar.{Kind, IsOfKind, components_meet_rules}
-use Rattle.uri_parts.specs.Grammar.{has_colon_in_first_segment}
+use Rattle.uri_parts.specs.Grammar.{Kind, IsOfKind, components_meet_rules, has_colon_in_first_segment}
 use Rattle.uri_parts.proofs.Splitting.Recompose.{components-are-split-of-text, recompose-components}
 use Rattle.uri_parts.proofs.Splitting.Splits.{only-split-is-components}
 use Rattle.uri_parts.proofs.TextKinds.KindSets.{kind-that-needs-scheme-has-one}
 use Rattle.uri_ops.specs.ComponentSets.{HasComponentSets}
 use Rattle.uri_ops.specs.Resolving.{with_final_path}
-use Rattle.uri_ops.specs.Target.{dotless_if_absolute, is_fragment_only, is_opaque, dotted_target}
-use Rattle.uri_ops.specs.Target.{resolution_of}
-use Rattle.uri_ops.specs.Target.{target_of}
+use Rattle.uri_ops.specs.Target.{dotless_if_absolute, is_fragment_only, is_opaque, dotted_target, resolution_of, target_of}
 use Rattle.uri_ops.proofs.Meanings.AllowedParts.{set-text-from-utf8, set-text-is-valid}
 use Rattle.uri_ops.proofs.Meanings.TextParts.{components-of-utf8-are-utf8}
-use Rattle.uri_ops.proofs.Paths.PathMeanings.{path-without-dots-is-set-text}
-use Rattle.uri_ops.proofs.Paths.PathMeanings.{guarded-set-text-is-set-text}
+use Rattle.uri_ops.proofs.Paths.PathMeanings.{path-without-dots-is-set-text, guarded-set-text-is-set-text}
 use Rattle.uri_ops.proofs.Targeting.TargetCases.{settled-text-has-settled-components}
 use Rattle.uri_relative.specs.Forms.{IsDotlessTargetOf, IsReferenceTo}
-use Rattle.uri_relative.specs.Leading.{LeadsBackToTarget, IsNoLonger, IsRelativeTo, LeadsTo}
-use Rattle.uri_relative.specs.Leading.{without_fragment}
-use Rattle.uri_relative.specs.Leading.{settled}
+use Rattle.uri_relative.specs.Leading.{LeadsBackToTarget, IsNoLonger, IsRelativeTo, LeadsTo, without_fragment, settled}
 use Rattle.uri_relative.proofs.Forms.{components-of-kind-meet-rules}
 use Rattle.uri_relative.proofs.Returning.{reference-leads-back-to-resolved-target}
 use Rattle.uri_relative.proofs.Settled.{final-path-is-idempotent}

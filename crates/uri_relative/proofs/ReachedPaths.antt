@@ -1,8 +1,6 @@
 -- Each path that is joined to a base's and leads to a path: where it leads, and how short one is
 -- that leads there, where the base's path has no dot segment.
-use Rattle.std.proofs.Common.{◌≡◌, ◌⊎◌, ℕ, suc, ◌+◌, ◌*◌, ◌<◌, ◌≤◌, Bool, true, false, not, cond}
-use Rattle.std.proofs.Common.{eqb, List, [], ◌∷◌, ◌++◌, ◌||◌, length, take, drop, refl, sym}
-use Rattle.std.proofs.Common.{ap, subst, ◌∙◌, arith, append_assoc, inl, inr, ⊎_elim}
+use Rattle.std.proofs.Common.{◌≡◌, ◌⊎◌, ℕ, suc, ◌+◌, ◌*◌, ◌<◌, ◌≤◌, Bool, true, false, not, cond, eqb, List, [], ◌∷◌, ◌++◌, ◌||◌, length, take, drop, refl, sym, ap, subst, ◌∙◌, arith, append_assoc, inl, inr, ⊎_elim}
 use Rattle.std.specs.Prelude.{codes}
 use Rattle.std.specs.List.{list_any, prefix_len}
 use Rattle.std.proofs.lemmas.Bool.{cases_Bool, cond-true, false≢true, not_from_false, or_parts}
@@ -12,22 +10,13 @@ use Rattle.uri_parts.specs.Grammar.{has_colon_in_first_segment}
 use Rattle.uri_ops.specs.Dots.{has_slash, is_empty, remove_dot_segments, segments}
 use Rattle.uri_ops.proofs.Paths.DotLaws.{path-after-slash-appends-its-segments}
 use Rattle.uri_ops.proofs.Paths.DotRuns.{not-empty-has-length}
-use Rattle.uri_ops.proofs.Paths.Segments.{AllPass, appended-segments-pass-test, dotless_of-append}
-use Rattle.uri_ops.proofs.Paths.Segments.{closing, is_none, is_dotless, steps}
-use Rattle.uri_ops.proofs.Paths.Segments.{steps-of-dotless-append-all}
-use Rattle.uri_ops.proofs.Paths.SlashedSegments.{NoSlashes, first-segment-and-rest-lack-slashes}
-use Rattle.uri_ops.proofs.Paths.SlashedSegments.{is_one_of-slash-is-equality}
-use Rattle.uri_ops.proofs.Paths.SlashedSegments.{lacks_slash, remove-dots-by-segments}
-use Rattle.uri_ops.proofs.Paths.SlashedSegments.{segments-of-text-lack-slashes}
-use Rattle.uri_ops.proofs.Paths.SlashedSegments.{segments-of-text-are-not-none}
-use Rattle.uri_ops.proofs.Paths.SlashedSegments.{slashed, slashed-of-append, slashed-of-push}
-use Rattle.uri_ops.proofs.Paths.SlashedSegments.{slashed-of-segments-is-text-after-slash}
+use Rattle.uri_ops.proofs.Paths.Segments.{AllPass, appended-segments-pass-test, dotless_of-append, closing, is_none, is_dotless, steps, steps-of-dotless-append-all}
+use Rattle.uri_ops.proofs.Paths.SlashedSegments.{NoSlashes, first-segment-and-rest-lack-slashes, is_one_of-slash-is-equality, lacks_slash, remove-dots-by-segments, segments-of-text-lack-slashes, segments-of-text-are-not-none, slashed, slashed-of-append, slashed-of-push, slashed-of-segments-is-text-after-slash}
 use Rattle.uri_relative.specs.Relative.{needs_leading_dot, relative_path}
 use Rattle.uri_relative.proofs.Climbs.{dir}
 use Rattle.uri_relative.proofs.Lengths.{length-of-path-up-to-some, length-of-path-up-to-nothing}
 use Rattle.uri_relative.proofs.Shrinking.{segments_left}
-use Rattle.uri_relative.proofs.SharedSegments.{BeginWithSameSegment}
-use Rattle.uri_relative.proofs.SharedSegments.{segments-share-directory-prefix}
+use Rattle.uri_relative.proofs.SharedSegments.{BeginWithSameSegment, segments-share-directory-prefix}
 
 -- relativized paths: the first segment (s) of a path has a `:` (58) exactly if the path has one
 -- there

@@ -1,7 +1,6 @@
 -- The forms of a reference by what it leads to: with a scheme, with an authority, or a path. RFC
 -- 3986, sections 4.2 and 5.2.2.
-use Rattle.std.proofs.Common.{◌≡◌, ℕ, ◌+◌, ◌≤◌, Bool, true, false, cond, List, [], ◌++◌}
-use Rattle.std.proofs.Common.{length, refl, sym, ap, ◌∙◌, arith, ⊎_elim, length-append}
+use Rattle.std.proofs.Common.{◌≡◌, ℕ, ◌+◌, ◌≤◌, Bool, true, false, cond, List, [], ◌++◌, length, refl, sym, ap, ◌∙◌, arith, ⊎_elim, length-append}
 use Rattle.std.specs.Prelude.{codes, Option, is_some}
 use Rattle.std.proofs.lemmas.Bool.{cases_Bool, cond-false, cond-true}
 use Rattle.uri_pct.specs.Delimiters.{slash}
@@ -9,8 +8,7 @@ use Rattle.uri_parts.specs.Components.{Components, marked, recompose, starts}
 use Rattle.uri_parts.specs.Grammar.{Kind}
 use Rattle.uri_ops.specs.Dots.{is_empty}
 use Rattle.uri_ops.specs.Resolving.{with_final_path}
-use Rattle.uri_ops.specs.Target.{dotless_if_absolute, guarded}
-use Rattle.uri_ops.specs.Target.{dotted_target, merged, query_or, target_of}
+use Rattle.uri_ops.specs.Target.{dotless_if_absolute, guarded, dotted_target, merged, query_or, target_of}
 use Rattle.uri_relative.specs.Forms.{after_path}
 use Rattle.uri_relative.specs.Relative.{joined_path}
 use Rattle.uri_relative.specs.Shortest.{IsReferenceFrom}

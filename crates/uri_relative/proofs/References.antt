@@ -1,15 +1,12 @@
 -- What the references of each form resolve to: RFC 3986, section 5.2.2.
-use Rattle.std.proofs.Common.{◌≡◌, ℕ, Bool, true, false, List, [], ◌&&◌, refl, sym, ap}
-use Rattle.std.proofs.Common.{◌∙◌, ⊎_elim}
+use Rattle.std.proofs.Common.{◌≡◌, ℕ, Bool, true, false, List, [], ◌&&◌, refl, sym, ap, ◌∙◌, ⊎_elim}
 use Rattle.std.specs.Prelude.{Option, None, is_some}
 use Rattle.std.proofs.lemmas.Bool.{cases_Bool, cond-true, cond-false}
 use Rattle.uri_pct.proofs.General.{eq_true_from_IsTrue}
 use Rattle.uri_pct.specs.Delimiters.{slash}
 use Rattle.uri_parts.specs.Components.{Components, IsAbemptyPath, starts}
 use Rattle.uri_ops.specs.Dots.{remove_dot_segments, underflows}
-use Rattle.uri_ops.specs.Target.{dotless_if_absolute, underflows_if_absolute, guarded}
-use Rattle.uri_ops.specs.Target.{dotted_target, merged}
-use Rattle.uri_ops.specs.Target.{target_of, target_underflows}
+use Rattle.uri_ops.specs.Target.{dotless_if_absolute, underflows_if_absolute, guarded, dotted_target, merged, target_of, target_underflows}
 use Rattle.uri_ops.specs.Resolving.{with_final_path}
 use Rattle.uri_ops.proofs.Paths.MergedPaths.{merged-path-is-absolute}
 use Rattle.uri_relative.specs.Relative.{IsPathTo, joined_path}

@@ -4,10 +4,8 @@ use Rattle.std.specs.Prelude.{None, Ok, is_some}
 use Rattle.uri_pct.proofs.General.{None-from-not-is_some}
 use Rattle.uri_parts.specs.Components.{Components, components, recompose}
 use Rattle.uri_ops.specs.Resolving.{with_final_path}
-use Rattle.uri_ops.specs.Target.{is_opaque_rejection, dotted_target, resolution_of}
-use Rattle.uri_ops.specs.Target.{resolution_of_texts, target_of}
-use Rattle.uri_ops.proofs.Targeting.RefusalOrder.{ok-result-has-no-opaque-rejection}
-use Rattle.uri_ops.proofs.Targeting.RefusalOrder.{result_or_target_error}
+use Rattle.uri_ops.specs.Target.{is_opaque_rejection, dotted_target, resolution_of, resolution_of_texts, target_of}
+use Rattle.uri_ops.proofs.Targeting.RefusalOrder.{ok-result-has-no-opaque-rejection, result_or_target_error}
 use Rattle.uri_ops.proofs.Targeting.Targets.{target-text-has-target-components}
 use Rattle.uri_relative.specs.Leading.{LeadsTo, without_fragment, settled}
 use Rattle.uri_relative.proofs.Settled.{final-path-is-idempotent}

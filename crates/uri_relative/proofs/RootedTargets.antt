@@ -1,16 +1,13 @@
 -- Which targets need an authority in their reference, and which bases have a rooted path: RFC 3986,
 -- section 5.2.2.
-use Rattle.std.proofs.Common.{◌≡◌, ◌≢◌, ℕ, Bool, true, false, List, []}
-use Rattle.std.proofs.Common.{◌&&◌, refl, sym, ap, ◌∙◌, inl, inr, ⊎_elim}
+use Rattle.std.proofs.Common.{◌≡◌, ◌≢◌, ℕ, Bool, true, false, List, [], ◌&&◌, refl, sym, ap, ◌∙◌, inl, inr, ⊎_elim}
 use Rattle.std.specs.Prelude.{codes, Option, None, Some, IfSome, is_some, is_none}
-use Rattle.std.proofs.lemmas.Bool.{and_from, both_ways, cases_Bool, or_left, or_right}
-use Rattle.std.proofs.lemmas.Bool.{false≢true, not-false, not_from_false}
+use Rattle.std.proofs.lemmas.Bool.{and_from, both_ways, cases_Bool, or_left, or_right, false≢true, not-false, not_from_false}
 use Rattle.uri_pct.specs.Delimiters.{slash}
 use Rattle.uri_parts.specs.Components.{Components, IsAbemptyPath, Lacks, components, starts}
 use Rattle.uri_parts.specs.Grammar.{Kind}
 use Rattle.uri_pct.proofs.General.{not_some_is_none, eq_true_from_IsTrue}
-use Rattle.uri_parts.proofs.Splitting.Recompose.{components-are-split-of-text}
-use Rattle.uri_parts.proofs.Splitting.Recompose.{equal-to-true-is-IsTrue}
+use Rattle.uri_parts.proofs.Splitting.Recompose.{components-are-split-of-text, equal-to-true-is-IsTrue}
 use Rattle.uri_ops.specs.Dots.{is_empty}
 use Rattle.uri_ops.specs.Target.{is_opaque}
 use Rattle.uri_ops.proofs.Paths.DotRuns.{empty-text-is-nil}

@@ -1,14 +1,9 @@
 -- Which reference is chosen.
-use Rattle.std.proofs.Common.{◌≡◌, ℕ, ◌<◌, ◌≤◌, Bool, true, false, not, ◌&&◌, List, [], length}
-use Rattle.std.proofs.Common.{◌+◌, ◌++◌, drop, refl, sym, ap, ◌∙◌, ⊎_elim, arith}
+use Rattle.std.proofs.Common.{◌≡◌, ℕ, ◌<◌, ◌≤◌, Bool, true, false, not, ◌&&◌, List, [], length, ◌+◌, ◌++◌, drop, refl, sym, ap, ◌∙◌, ⊎_elim, arith}
 use Rattle.std.specs.Prelude.{Option, None, Some, bytes_eq, codes, is_none, is_some}
 use Rattle.std.specs.Bool.{Decides}
 use Rattle.std.specs.Option.{option_eq}
-use Rattle.std.proofs.lemmas.Bool.{and_from, and_left, and_parts, and_right, both_ways}
-use Rattle.std.proofs.lemmas.Bool.{cases_Bool, cond-false, cond-true, cond_both}
-use Rattle.std.proofs.lemmas.Bool.{false_from_ne_true, le-leb}
-use Rattle.std.proofs.lemmas.Bool.{lt-leb, not_from_false, not_from_true, or_from, or_left}
-use Rattle.std.proofs.lemmas.Bool.{or_right}
+use Rattle.std.proofs.lemmas.Bool.{and_from, and_left, and_parts, and_right, both_ways, cases_Bool, cond-false, cond-true, cond_both, false_from_ne_true, le-leb, lt-leb, not_from_false, not_from_true, or_from, or_left, or_right}
 use Rattle.std.proofs.lemmas.Bool.Decides.{Decides-like}
 use Rattle.std.proofs.lemmas.Slice.Eq.{bytes_eq-Decides}
 use Rattle.uri_pct.specs.Delimiters.{slash}
@@ -17,13 +12,8 @@ use Rattle.uri_ops.specs.Dots.{lacks_dot_segments, or_slash, remove_dot_segments
 use Rattle.uri_ops.specs.Target.{guarded, is_opaque}
 use Rattle.uri_ops.proofs.Paths.DotLaws.{remove-dots-of-dotless}
 use Rattle.uri_relative.specs.Forms.{IsUnguarded, NeedsPath, from_authority}
-use Rattle.uri_relative.specs.Relative.{IsLongestPrefix, IsSharedPrefix, relative_from}
-use Rattle.uri_relative.specs.Relative.{relative_path, slashes}
-use Rattle.uri_relative.specs.Rule.{has_same_authority, has_same_query, has_same_scheme}
-use Rattle.uri_relative.specs.Rule.{path_from_base, reference_components}
-use Rattle.uri_relative.specs.Rule.{shortest_or_preferred_path}
-use Rattle.uri_relative.specs.Rule.{has_same_authority_and_path}
-use Rattle.uri_relative.specs.Rule.{shared_directory_len}
+use Rattle.uri_relative.specs.Relative.{IsLongestPrefix, IsSharedPrefix, relative_from, relative_path, slashes}
+use Rattle.uri_relative.specs.Rule.{has_same_authority, has_same_query, has_same_scheme, path_from_base, reference_components, shortest_or_preferred_path, has_same_authority_and_path, shared_directory_len}
 use Rattle.uri_relative.proofs.Climbs.{remove_dot_segments-follows-dots}
 use Rattle.uri_relative.proofs.SharedLengths.{longest-shared-prefix-has-shared_directory_len}
 use Rattle.uri_relative.proofs.Ways.{guard-counts-as-no-segment}

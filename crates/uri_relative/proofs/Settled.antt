@@ -1,10 +1,8 @@
 -- Targets of which no dot segment is left to remove: RFC 3986, section 5.2.2.
-use Rattle.std.proofs.Common.{◌≡◌, ℕ, Bool, true, false, cond, List, [], ◌∷◌, ◌++◌, ◌&&◌, arith}
-use Rattle.std.proofs.Common.{drop, eqb, get_or, refl, sym, ap, ◌∙◌, subst, ⊎_elim}
+use Rattle.std.proofs.Common.{◌≡◌, ℕ, Bool, true, false, cond, List, [], ◌∷◌, ◌++◌, ◌&&◌, arith, drop, eqb, get_or, refl, sym, ap, ◌∙◌, subst, ⊎_elim}
 use Rattle.std.specs.Prelude.{codes, Option, None, Some, IfNone, is_some, is_none}
 use Rattle.std.proofs.Math.Bool.{and-false}
-use Rattle.std.proofs.lemmas.Bool.{and_from, and_parts, both_ways, cases_Bool, cond-true}
-use Rattle.std.proofs.lemmas.Bool.{cond-false, eqb-true, false_from_ne_true, false≢true}
+use Rattle.std.proofs.lemmas.Bool.{and_from, and_parts, both_ways, cases_Bool, cond-true, cond-false, eqb-true, false_from_ne_true, false≢true}
 use Rattle.std.proofs.lemmas.Str.{IsCharBoundary-after_ascii}
 use Rattle.std.specs.Str.{IsCharBoundary, IsUtf8}
 use Rattle.uri_pct.proofs.General.{eq_true_from_IsTrue}
@@ -14,13 +12,8 @@ use Rattle.uri_parts.proofs.Splitting.Recompose.{equal-to-true-is-IsTrue}
 use Rattle.uri_ops.specs.Dots.{IsAbsolute, lacks_dot_segments, remove_dot_segments, underflows}
 use Rattle.uri_ops.specs.Resolving.{with_final_path}
 use Rattle.uri_ops.specs.Target.{dotless_if_absolute, underflows_if_absolute, guarded}
-use Rattle.uri_ops.proofs.Paths.DotLaws.{removing-dots-keeps-absolute}
-use Rattle.uri_ops.proofs.Paths.DotLaws.{removing-dots-leaves-no-dot-segment}
-use Rattle.uri_ops.proofs.Paths.DotLaws.{remove-dots-of-dotless}
-use Rattle.uri_ops.proofs.Paths.DotLaws.{dotless-path-does-not-underflow}
-use Rattle.uri_ops.proofs.Paths.PathMeanings.{two-slashes-begin-with-slash}
-use Rattle.uri_ops.proofs.Paths.PathMeanings.{guard-is-removed-as-dot-segment}
-use Rattle.uri_ops.proofs.Paths.PathMeanings.{dotless_if_absolute-is-idempotent}
+use Rattle.uri_ops.proofs.Paths.DotLaws.{removing-dots-keeps-absolute, removing-dots-leaves-no-dot-segment, remove-dots-of-dotless, dotless-path-does-not-underflow}
+use Rattle.uri_ops.proofs.Paths.PathMeanings.{two-slashes-begin-with-slash, guard-is-removed-as-dot-segment, dotless_if_absolute-is-idempotent}
 use Rattle.uri_ops.proofs.Paths.TakenSegments.{absolute-path-is-slash-and-rest}
 use Rattle.uri_relative.specs.Forms.{IsUnguarded, is_guarded}
 use Rattle.uri_relative.proofs.Climbs.{underflows-follows-dots}

@@ -1,19 +1,15 @@
 -- What the segments of a path make of a directory, against the segments that they share: RFC 3986,
 -- section 5.2.4.
-use Rattle.std.proofs.Common.{◌≡◌, ◌⊎◌, ℕ, ◌+◌, ◌*◌, ◌<◌, ◌≤◌, Bool, true, false, List, [], ◌∷◌}
-use Rattle.std.proofs.Common.{◌++◌, ◌||◌, length, refl, sym, ap, ◌∙◌, arith, append_assoc, inl, inr}
-use Rattle.std.proofs.Common.{length-append}
+use Rattle.std.proofs.Common.{◌≡◌, ◌⊎◌, ℕ, ◌+◌, ◌*◌, ◌<◌, ◌≤◌, Bool, true, false, List, [], ◌∷◌, ◌++◌, ◌||◌, length, refl, sym, ap, ◌∙◌, arith, append_assoc, inl, inr, length-append}
 use Rattle.std.proofs.Math.Bool.{and-false}
 use Rattle.std.proofs.lemmas.List.{append-nil}
 use Rattle.std.proofs.lemmas.Bool.{false≢true}
 use Rattle.uri_ops.specs.Dots.{is_double_dot, is_single_dot}
 use Rattle.uri_ops.proofs.Paths.DotRuns.{single-dot-is-not-empty}
-use Rattle.uri_ops.proofs.Paths.Segments.{closing, end_of, pop, pop-undoes-push, step_of, steps}
-use Rattle.uri_ops.proofs.Paths.Segments.{next_output}
+use Rattle.uri_ops.proofs.Paths.Segments.{closing, end_of, pop, pop-undoes-push, step_of, steps, next_output}
 use Rattle.uri_ops.proofs.Paths.SlashedSegments.{slashed}
 use Rattle.uri_relative.proofs.Climbs.{segments-are-all-but-last-and-last}
-use Rattle.uri_relative.proofs.Shrinking.{segments_left, length-of-first-segment-and-rest}
-use Rattle.uri_relative.proofs.Shrinking.{no-segments-have-length-zero}
+use Rattle.uri_relative.proofs.Shrinking.{segments_left, length-of-first-segment-and-rest, no-segments-have-length-zero}
 
 -- the segments begin with the same one
 unfoldable pub BeginWithSameSegment : List (List ℕ) → List (List ℕ) → Type 0

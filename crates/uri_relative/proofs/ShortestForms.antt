@@ -1,33 +1,23 @@
 -- No reference that leads to a target is shorter than the one that is written, where the base's
 -- path has no dot segment: RFC 3986, sections 4.2 and 5.2.2.
-use Rattle.std.proofs.Common.{◌≡◌, ℕ, ◌+◌, ◌≤◌, Bool, true, false, not, List, [], ◌++◌}
-use Rattle.std.proofs.Common.{◌&&◌, ◌||◌, length, refl, sym, ap, ◌∙◌, arith, ⊎_elim, length-append}
+use Rattle.std.proofs.Common.{◌≡◌, ℕ, ◌+◌, ◌≤◌, Bool, true, false, not, List, [], ◌++◌, ◌&&◌, ◌||◌, length, refl, sym, ap, ◌∙◌, arith, ⊎_elim, length-append}
 use Rattle.std.specs.Prelude.{codes, Option, None, Some, IfNone, is_none, is_some}
-use Rattle.std.proofs.lemmas.Bool.{and_parts, both_ways, cases_Bool, cond-false, cond-true}
-use Rattle.std.proofs.lemmas.Bool.{false≢true, not-true}
+use Rattle.std.proofs.lemmas.Bool.{and_parts, both_ways, cases_Bool, cond-false, cond-true, false≢true, not-true}
 use Rattle.uri_pct.proofs.General.{eq_true_from_IsTrue, none-is-not-some}
 use Rattle.uri_pct.specs.Delimiters.{slash}
-use Rattle.uri_parts.specs.Components.{Components, IsAbemptyPath, has_authority}
-use Rattle.uri_parts.specs.Components.{marked, recompose, starts}
+use Rattle.uri_parts.specs.Components.{Components, IsAbemptyPath, has_authority, marked, recompose, starts}
 use Rattle.uri_parts.specs.Grammar.{Kind, has_colon_in_first_segment}
 use Rattle.uri_ops.specs.Dots.{IsAbsolute, is_empty, lacks_dot_segments, remove_dot_segments}
 use Rattle.uri_ops.specs.Target.{dotless_if_absolute, guarded, is_fragment_only, is_opaque}
 use Rattle.uri_ops.proofs.Paths.DotLaws.{remove-dots-of-dotless}
-use Rattle.uri_ops.proofs.Paths.PathMeanings.{guard-is-removed-as-dot-segment}
-use Rattle.uri_ops.proofs.Paths.PathMeanings.{dotless_if_absolute-is-idempotent}
+use Rattle.uri_ops.proofs.Paths.PathMeanings.{guard-is-removed-as-dot-segment, dotless_if_absolute-is-idempotent}
 use Rattle.uri_relative.specs.Forms.{IsUnguarded, NeedsPath, after_path, from_authority}
 use Rattle.uri_relative.specs.Relative.{joined_path}
 use Rattle.uri_relative.specs.Shortest.{Shortest}
-use Rattle.uri_relative.proofs.JoinedPaths.{target-path-stays-absolute}
-use Rattle.uri_relative.proofs.JoinedPaths.{nonempty-joined-path-is-absolute}
-use Rattle.uri_relative.proofs.Settled.{finish-keeps-rootless-path}
-use Rattle.uri_relative.proofs.Settled.{path-without-slashes-needs-no-guard}
+use Rattle.uri_relative.proofs.JoinedPaths.{target-path-stays-absolute, nonempty-joined-path-is-absolute}
+use Rattle.uri_relative.proofs.Settled.{finish-keeps-rootless-path, path-without-slashes-needs-no-guard}
 use Rattle.uri_relative.proofs.Shrinking.{length-of-recompose, no-slashes-without-authority}
-use Rattle.uri_relative.proofs.ReferenceForms.{reference-with-scheme-is-no-shorter, IsPathForm}
-use Rattle.uri_relative.proofs.ReferenceForms.{reference-is-of-one-form}
-use Rattle.uri_relative.proofs.ReferenceForms.{length-of-query-and-fragment}
-use Rattle.uri_relative.proofs.ReferenceForms.{equal-ends-have-equal-length}
-use Rattle.uri_relative.proofs.ReferenceForms.{path-form-has-end-or-inherits-query}
+use Rattle.uri_relative.proofs.ReferenceForms.{reference-with-scheme-is-no-shorter, IsPathForm, reference-is-of-one-form, length-of-query-and-fragment, equal-ends-have-equal-length, path-form-has-end-or-inherits-query}
 
 module _ (kind : Kind) (b t : Components) where
   -- the target, where its scheme is another

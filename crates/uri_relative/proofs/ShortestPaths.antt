@@ -1,8 +1,6 @@
 -- No path that is joined to a base's and leads to a path is shorter than the relative one, where
 -- the base's path has no dot segment.
-use Rattle.std.proofs.Common.{◌≡◌, ℕ, ◌+◌, ◌<◌, ◌≤◌, true, false}
-use Rattle.std.proofs.Common.{List, [], ◌∷◌, ◌++◌, length, take, drop, get_or, sym}
-use Rattle.std.proofs.Common.{ap, subst, ◌∙◌, arith, append_assoc, ⊎_elim, length-append}
+use Rattle.std.proofs.Common.{◌≡◌, ℕ, ◌+◌, ◌<◌, ◌≤◌, true, false, List, [], ◌∷◌, ◌++◌, length, take, drop, get_or, sym, ap, subst, ◌∙◌, arith, append_assoc, ⊎_elim, length-append}
 use Rattle.std.specs.Prelude.{None}
 use Rattle.std.proofs.Math.Seq.{drop-append_seam, take-append_seam}
 use Rattle.std.proofs.lemmas.List.{length-drop}
@@ -10,23 +8,17 @@ use Rattle.std.proofs.lemmas.Bool.{cases_Bool, cond-false, cond-true}
 use Rattle.uri_pct.specs.Delimiters.{slash}
 use Rattle.uri_parts.specs.Components.{has_authority, starts}
 use Rattle.uri_parts.specs.Grammar.{has_colon_in_first_segment}
-use Rattle.uri_ops.specs.Dots.{IsAbsolute, EndsInSlash, directory, is_empty}
-use Rattle.uri_ops.specs.Dots.{lacks_dot_segments, remove_dot_segments, segments}
+use Rattle.uri_ops.specs.Dots.{IsAbsolute, EndsInSlash, directory, is_empty, lacks_dot_segments, remove_dot_segments, segments}
 use Rattle.uri_ops.specs.Target.{dotless_if_absolute, guarded}
-use Rattle.uri_ops.proofs.Paths.DotLaws.{property-of-absolute-path-by-segments}
-use Rattle.uri_ops.proofs.Paths.DotLaws.{segments-of-dotless-path-are-dotless}
+use Rattle.uri_ops.proofs.Paths.DotLaws.{property-of-absolute-path-by-segments, segments-of-dotless-path-are-dotless}
 use Rattle.uri_ops.proofs.Paths.Segments.{AllPass, is_dotless, pushed-segments-are-not-none, pop}
 use Rattle.uri_ops.proofs.Paths.SlashedSegments.{NoSlashes, lacks_slash, slashed, slashed-of-push}
-use Rattle.uri_relative.specs.Relative.{IsLongestPrefix, IsSharedPrefix, joined_path}
-use Rattle.uri_relative.specs.Relative.{relative_from, relative_path, slashes}
+use Rattle.uri_relative.specs.Relative.{IsLongestPrefix, IsSharedPrefix, joined_path, relative_from, relative_path, slashes}
 use Rattle.uri_relative.specs.Shortest.{IsShortestPath}
-use Rattle.uri_relative.proofs.Climbs.{path-below-directory-has-its-segments-first, dir}
-use Rattle.uri_relative.proofs.Climbs.{directory-of-dotless-segments, prefix-all-pass}
-use Rattle.uri_relative.proofs.Climbs.{segments-are-all-but-last-and-last, slashes-count-segments}
+use Rattle.uri_relative.proofs.Climbs.{path-below-directory-has-its-segments-first, dir, directory-of-dotless-segments, prefix-all-pass, segments-are-all-but-last-and-last, slashes-count-segments}
 use Rattle.uri_relative.proofs.LongestPrefixes.{longer-shared-prefix-gives-shorter-path}
 use Rattle.uri_relative.proofs.Shrinking.{target-path-is-no-longer}
-use Rattle.uri_relative.proofs.ReachedPaths.{segments-left-are-directory-and-rest}
-use Rattle.uri_relative.proofs.ReachedPaths.{nonempty-segments-have-first, leads}
+use Rattle.uri_relative.proofs.ReachedPaths.{segments-left-are-directory-and-rest, nonempty-segments-have-first, leads}
 
 -- relativized paths: base and path share a prefix, by which the relative path is no longer than x
 record SharesPrefix (base path x : List ℕ) : Type 0 where

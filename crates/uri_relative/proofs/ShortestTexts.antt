@@ -5,8 +5,7 @@ use Rattle.uri_parts.specs.Components.{IsSplitOf, components, recompose}
 use Rattle.uri_parts.specs.Grammar.{IsOfKind, Kind}
 use Rattle.uri_parts.proofs.Splitting.Recompose.{components-are-split-of-text, recompose-components}
 use Rattle.uri_ops.specs.Target.{is_opaque_rejection, target_of}
-use Rattle.uri_ops.proofs.Targeting.RefusalOrder.{ok-result-has-no-opaque-rejection}
-use Rattle.uri_ops.proofs.Targeting.RefusalOrder.{result_or_target_error}
+use Rattle.uri_ops.proofs.Targeting.RefusalOrder.{ok-result-has-no-opaque-rejection, result_or_target_error}
 use Rattle.uri_ops.proofs.Targeting.Targets.{target-text-has-target-components}
 use Rattle.uri_relative.specs.Forms.{IsReferenceTo}
 use Rattle.uri_relative.specs.Leading.{without_fragment, settled}

@@ -1,27 +1,15 @@
 -- Removing dot segments makes room for the guard `/.` that is then put before a path.
-use Rattle.std.proofs.Common.{◌≡◌, ◌⊎◌, ℕ, ◌+◌, ◌<◌, ◌≤◌, Bool, true, false, eqb, List, []}
-use Rattle.std.proofs.Common.{◌∷◌, ◌++◌, ◌&&◌, ◌||◌, length, refl, sym, ap, ◌∙◌, subst, arith}
-use Rattle.std.proofs.Common.{inl, inr, ⊎_elim, length-append}
+use Rattle.std.proofs.Common.{◌≡◌, ◌⊎◌, ℕ, ◌+◌, ◌<◌, ◌≤◌, Bool, true, false, eqb, List, [], ◌∷◌, ◌++◌, ◌&&◌, ◌||◌, length, refl, sym, ap, ◌∙◌, subst, arith, inl, inr, ⊎_elim, length-append}
 use Rattle.std.specs.Prelude.{codes, Option, None, Some, IfNone, is_none, is_some}
-use Rattle.std.proofs.lemmas.Bool.{and_parts, both_ways, cases_Bool, cond_both, cond-true}
-use Rattle.std.proofs.lemmas.Bool.{false≢true, or_parts}
-use Rattle.uri_parts.specs.Components.{Components, components, has_authority, marked, recompose}
-use Rattle.uri_parts.specs.Components.{starts}
-use Rattle.uri_parts.proofs.Splitting.Recompose.{components-are-split-of-text, recompose-components}
-use Rattle.uri_parts.proofs.Splitting.Recompose.{equal-to-true-is-IsTrue}
-use Rattle.uri_ops.specs.Dots.{IsAbsolute, has_slash, is_double_dot, is_single_dot}
-use Rattle.uri_ops.specs.Dots.{remove_dot_segments}
+use Rattle.std.proofs.lemmas.Bool.{and_parts, both_ways, cases_Bool, cond_both, cond-true, false≢true, or_parts}
+use Rattle.uri_parts.specs.Components.{Components, components, has_authority, marked, recompose, starts}
+use Rattle.uri_parts.proofs.Splitting.Recompose.{components-are-split-of-text, recompose-components, equal-to-true-is-IsTrue}
+use Rattle.uri_ops.specs.Dots.{IsAbsolute, has_slash, is_double_dot, is_single_dot, remove_dot_segments}
 use Rattle.uri_ops.specs.Resolving.{with_final_path}
 use Rattle.uri_ops.specs.Target.{dotless_if_absolute, guarded}
-use Rattle.uri_ops.proofs.Paths.DotLaws.{length-of-slashed-append-is-sum}
-use Rattle.uri_ops.proofs.Paths.DotLaws.{popped-segments-are-no-longer}
-use Rattle.uri_ops.proofs.Paths.DotLaws.{property-of-absolute-path-by-segments}
-use Rattle.uri_ops.proofs.Paths.DotLaws.{removing-dots-lengthens-no-path}
-use Rattle.uri_ops.proofs.Paths.Segments.{dotless_of, closing, end_of, pop, step_of, steps}
-use Rattle.uri_ops.proofs.Paths.Segments.{next_output}
-use Rattle.uri_ops.proofs.Paths.SlashedSegments.{NoSlashes, first-segment-and-rest-lack-slashes}
-use Rattle.uri_ops.proofs.Paths.SlashedSegments.{remove-dots-by-segments}
-use Rattle.uri_ops.proofs.Paths.SlashedSegments.{slashed}
+use Rattle.uri_ops.proofs.Paths.DotLaws.{length-of-slashed-append-is-sum, popped-segments-are-no-longer, property-of-absolute-path-by-segments, removing-dots-lengthens-no-path}
+use Rattle.uri_ops.proofs.Paths.Segments.{dotless_of, closing, end_of, pop, step_of, steps, next_output}
+use Rattle.uri_ops.proofs.Paths.SlashedSegments.{NoSlashes, first-segment-and-rest-lack-slashes, remove-dots-by-segments, slashed}
 use Rattle.uri_relative.specs.Leading.{settled}
 use Rattle.uri_relative.proofs.Settled.{finish-keeps-rootless-path}
 

@@ -1,7 +1,5 @@
 -- The two paths that lead to a path.
-use Rattle.std.proofs.Common.{◌≡◌, ℕ, zero, suc, ◌+◌, ◌-◌, ◌<◌, ◌≤◌, Bool, true, false, not}
-use Rattle.std.proofs.Common.{cond, eqb, List, [], ◌∷◌, ◌++◌, ◌&&◌, length, take, drop, get_or}
-use Rattle.std.proofs.Common.{refl, sym, ap, ◌∙◌, subst, inr, arith, lit<, append_assoc}
+use Rattle.std.proofs.Common.{◌≡◌, ℕ, zero, suc, ◌+◌, ◌-◌, ◌<◌, ◌≤◌, Bool, true, false, not, cond, eqb, List, [], ◌∷◌, ◌++◌, ◌&&◌, length, take, drop, get_or, refl, sym, ap, ◌∙◌, subst, inr, arith, lit<, append_assoc}
 use Rattle.std.specs.Prelude.{codes, None, OnOk, Result, Ok, Err}
 use Rattle.std.specs.List.{list_all}
 use Rattle.std.specs.Str.{IsUtf8, IsCharBoundary, chars}
@@ -16,25 +14,18 @@ use Rattle.uri_pct.proofs.ValidTexts.Validity.{ascii_char_is_allowed_iff_in_set}
 use Rattle.uri_parts.specs.Components.{starts, has_authority}
 use Rattle.uri_parts.specs.Grammar.{has_colon_in_first_segment}
 use Rattle.uri_ops.specs.ComponentSets.{IsComponentSet}
-use Rattle.uri_ops.specs.Dots.{is_empty, IsAbsolute, lacks_dot_segments, directory}
-use Rattle.uri_ops.specs.Dots.{remove_dot_segments, underflows}
+use Rattle.uri_ops.specs.Dots.{is_empty, IsAbsolute, lacks_dot_segments, directory, remove_dot_segments, underflows}
 use Rattle.uri_ops.specs.Target.{guarded, merged}
 use Rattle.uri_ops.proofs.Meanings.AllowedParts.{is_set_text, set-text-from-utf8, set-text-is-valid}
 use Rattle.uri_ops.proofs.Meanings.AsciiCharacters.{ascii-bytes-are-utf8}
 use Rattle.uri_ops.proofs.Paths.DotLaws.{remove-dots-of-dotless, dotless-path-does-not-underflow}
-use Rattle.uri_ops.proofs.Paths.PathCharacters.{lacked-delimiters-fail-test}
-use Rattle.uri_ops.proofs.Paths.PathCharacters.{test-of-delimiters-gives-lacks}
+use Rattle.uri_ops.proofs.Paths.PathCharacters.{lacked-delimiters-fail-test, test-of-delimiters-gives-lacks}
 use Rattle.uri_ops.proofs.Paths.PathMeanings.{dot-is-set-text, guarded-set-text-is-set-text}
 use Rattle.uri_ops.proofs.Paths.DecodedPaths.{set-text-splits, set-texts-join-at-slash}
 use Rattle.uri_ops.proofs.Paths.SlashedSegments.{slashed}
 use Rattle.uri_ops.proofs.Paths.TakenSegments.{absolute-path-is-slash-and-rest}
-use Rattle.uri_relative.specs.Relative.{double_dots, relative_path, relative_from}
-use Rattle.uri_relative.specs.Relative.{needs_leading_dot, slashes}
-use Rattle.uri_relative.specs.Relative.{IsSharedPrefix, IsPathTo, joined_path}
-use Rattle.uri_relative.proofs.Climbs.{FollowsDotsFromDirectory, remove_dot_segments-follows-dots}
-use Rattle.uri_relative.proofs.Climbs.{underflows-follows-dots, merged-relative-path-leads-to-path}
-use Rattle.uri_relative.proofs.Climbs.{merged-relative-path-does-not-underflow}
-use Rattle.uri_relative.proofs.Climbs.{relative_path-of-some-climbs}
+use Rattle.uri_relative.specs.Relative.{double_dots, relative_path, relative_from, needs_leading_dot, slashes, IsSharedPrefix, IsPathTo, joined_path}
+use Rattle.uri_relative.proofs.Climbs.{FollowsDotsFromDirectory, remove_dot_segments-follows-dots, underflows-follows-dots, merged-relative-path-leads-to-path, merged-relative-path-does-not-underflow, relative_path-of-some-climbs}
 
 -- relativized paths: the path is not empty, has no leading `/`, and no `:` in its first segment
 record IsRelative (way : List ℕ) : Type 0 where

@@ -1,6 +1,5 @@
 -- What a reference that leads from a base to a target is: the inverse of RFC 3986, section 5.2.
-use Rattle.std.specs.Prelude.{◌≡◌, ◌≢◌, ◌≤◌, ℕ, Bool, false, not, ◌&&◌, ◌||◌, List, length, None}
-use Rattle.std.specs.Prelude.{Ok, is_some, is_none}
+use Rattle.std.specs.Prelude.{◌≡◌, ◌≢◌, ◌≤◌, ℕ, Bool, false, not, ◌&&◌, ◌||◌, List, length, None, Ok, is_some, is_none}
 use Rattle.uri_pct.specs.Delimiters.{slash}
 use Rattle.uri_parts.specs.Components.{Components, components, recompose, starts}
 use Rattle.uri_ops.specs.Dots.{is_empty}

@@ -1,6 +1,5 @@
 -- A path that leads from a directory to a path: the inverse of RFC 3986, sections 5.2.3 and 5.2.4.
-use Rattle.std.specs.Prelude.{◌≡◌, ◌≤◌, ℕ, zero, suc, Bool, true, false, ◌==◌, ◌||◌, ◌-◌, List, []}
-use Rattle.std.specs.Prelude.{◌++◌, take, drop, codes, if◌then◌else◌, length}
+use Rattle.std.specs.Prelude.{◌≡◌, ◌≤◌, ℕ, zero, suc, Bool, true, false, ◌==◌, ◌||◌, ◌-◌, List, [], ◌++◌, take, drop, codes, if◌then◌else◌, length}
 use Rattle.std.specs.List.{count_by}
 use Rattle.uri_pct.specs.Delimiters.{slash}
 use Rattle.uri_pct.specs.Sets.{TableSet}

@@ -2,8 +2,7 @@
 use Rattle.std.specs.Prelude.{◌≡◌, ℕ, Bool, false, List}
 use Rattle.uri_parts.specs.Components.{components}
 use Rattle.uri_parts.specs.Grammar.{Kind}
-use Rattle.uri_relative.specs.Leading.{IsNoLonger, IsRelativeTo, LeadsBackToTarget, LeadsTo}
-use Rattle.uri_relative.specs.Leading.{settled}
+use Rattle.uri_relative.specs.Leading.{IsNoLonger, IsRelativeTo, LeadsBackToTarget, LeadsTo, settled}
 use Rattle.uri_relative.specs.Rule.{reference_to}
 use Rattle.uri_relative.specs.Shortest.{IsShortest}
 

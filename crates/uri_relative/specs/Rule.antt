@@ -1,7 +1,6 @@
 -- The reference that is chosen to lead from a base to a target: the inverse of RFC 3986, section
 -- 5.2.
-use Rattle.std.specs.Prelude.{ℕ, suc, Bool, not, ◌&&◌, ◌||◌, ◌==◌, List, [], ◌∷◌, length, None}
-use Rattle.std.specs.Prelude.{bytes_eq, if◌then◌else◌, is_some, nat_le, nat_lt}
+use Rattle.std.specs.Prelude.{ℕ, suc, Bool, not, ◌&&◌, ◌||◌, ◌==◌, List, [], ◌∷◌, length, None, bytes_eq, if◌then◌else◌, is_some, nat_le, nat_lt}
 use Rattle.std.specs.Option.{option_eq}
 use Rattle.uri_pct.specs.Delimiters.{slash}
 use Rattle.uri_parts.specs.Components.{Components, components, recompose, starts}

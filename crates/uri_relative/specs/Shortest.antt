@@ -1,9 +1,7 @@
 -- That no reference to a target is shorter: RFC 3986, sections 4.2 and 5.2.
-use Rattle.std.specs.Prelude.{◌≡◌, ◌≤◌, ℕ, true, false, List, length}
-use Rattle.std.specs.Prelude.{Ok}
+use Rattle.std.specs.Prelude.{◌≡◌, ◌≤◌, ℕ, true, false, List, length, Ok}
 use Rattle.uri_parts.specs.Components.{Components, IsSplitOf, components, has_authority, recompose}
-use Rattle.uri_parts.specs.Grammar.{IsOfKind, Kind, components_meet_rules}
-use Rattle.uri_parts.specs.Grammar.{has_colon_in_first_segment}
+use Rattle.uri_parts.specs.Grammar.{IsOfKind, Kind, components_meet_rules, has_colon_in_first_segment}
 use Rattle.uri_ops.specs.Dots.{is_empty, lacks_dot_segments, remove_dot_segments}
 use Rattle.uri_ops.specs.NormalTargets.{reference_kind}
 use Rattle.uri_ops.specs.Target.{is_opaque_rejection, resolution_of, target_of}

@@ -1,7 +1,5 @@
 -- Where an edited text has its components.
-use Rattle.std.proofs.Common.{◌≡◌, ℕ, ◌+◌, ◌-◌, ◌<◌, ◌≤◌, Bool, true, false, cond, List, [], ◌∷◌}
-use Rattle.std.proofs.Common.{◌++◌, length, take, drop, get_or, refl, sym, ap, subst, ◌∙◌, arith}
-use Rattle.std.proofs.Common.{append_assoc, length-append, lit<, Option, Some, rules}
+use Rattle.std.proofs.Common.{◌≡◌, ℕ, ◌+◌, ◌-◌, ◌<◌, ◌≤◌, Bool, true, false, cond, List, [], ◌∷◌, ◌++◌, length, take, drop, get_or, refl, sym, ap, subst, ◌∙◌, arith, append_assoc, length-append, lit<, Option, Some, rules}
 use Rattle.std.specs.Prelude.{codes}
 use Rattle.std.specs.Str.{IsUtf8, IsCharBoundary}
 use Rattle.std.proofs.Math.Seq.{drop-append_seam, take-append_seam}
@@ -12,12 +10,10 @@ use Rattle.uri_parts.specs.Components.{Components, components, marked, recompose
 use Rattle.uri_parts.specs.PackedPositions.{ArePackedPositionsOf, packed}
 use Rattle.uri_parts.specs.Positions.{before_fragment, delimited_length, positions_of}
 use Rattle.uri_parts.proofs.Splitting.Marks.{fragment_text}
-use Rattle.uri_parts.proofs.Splitting.Places.{before_hash, get_or-after-prefix, length-before_hash}
-use Rattle.uri_parts.proofs.Splitting.Places.{recompose-before_hash}
-use Rattle.uri_parts.proofs.Splitting.Recompose.{recompose-components}
+use Rattle.uri_parts.proofs.Splitting.Places.{before_hash, get_or-after-prefix, length-before_hash, recompose-before_hash}
+use Rattle.uri_parts.proofs.Splitting.Recompose.{recompose-components, components_of_parts}
 use Rattle.uri_ops.specs.Models.Places.{before_path}
 use Rattle.uri_ops.proofs.Normal.WrittenPlaces.{length-before_path-is-path_start}
-use Rattle.uri_parts.proofs.Splitting.Recompose.{components_of_parts}
 use Rattle.uri_ops.proofs.Targeting.TextViews.{path_start-is-boundary}
 use Rattle.uri_rules.specs.Edits.{edited, edited_by, has_default_host, has_root_path}
 

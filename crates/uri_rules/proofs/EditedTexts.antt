@@ -1,6 +1,5 @@
 -- A normal text, edited by the rules of its scheme, is the normal text under the rules.
-use Rattle.std.proofs.Common.{◌≡◌, ℕ, Bool, true, false, cond, List, [], refl, sym, ap, ◌∙◌, rules}
-use Rattle.std.proofs.Common.{◌&&◌, Option, Some, None, option_map}
+use Rattle.std.proofs.Common.{◌≡◌, ℕ, Bool, true, false, cond, List, [], refl, sym, ap, ◌∙◌, rules, ◌&&◌, Option, Some, None, option_map}
 use Rattle.std.specs.Prelude.{codes, is_some}
 use Rattle.std.specs.Char.{encode_utf8}
 use Rattle.std.specs.Str.{str_to_ascii_lowercase}
@@ -19,12 +18,10 @@ use Rattle.uri_ops.proofs.Normal.NormalTexts.{components-of-normal_text}
 use Rattle.uri_ops.proofs.Normal.NormalComponents.{lowering-scheme-is-idempotent}
 use Rattle.uri_rules.specs.Edits.{edited_by, is_text}
 use Rattle.uri_rules.specs.NormalForms.{IsNormalFormUnder}
-use Rattle.uri_rules.specs.Rules.{Rules, is_localhost, is_scheme_of, path_under, root, under_rules}
-use Rattle.uri_rules.specs.Rules.{authority_under, empty_authority, has_no_token, meaning_under}
+use Rattle.uri_rules.specs.Rules.{Rules, is_localhost, is_scheme_of, path_under, root, under_rules, authority_under, empty_authority, has_no_token, meaning_under}
 use Rattle.uri_rules.proofs.NormalForms.{normal-text-under-rules-is-normal-form}
 use Rattle.uri_rules.proofs.RuledMeanings.{map-cond, print-is-empty-without-tokens}
-use Rattle.uri_rules.proofs.RuledTexts.{ruled_text, ruled-text-has-meaning-under}
-use Rattle.uri_rules.proofs.RuledTexts.{ruled-text-is-text-of-kind}
+use Rattle.uri_rules.proofs.RuledTexts.{ruled_text, ruled-text-has-meaning-under, ruled-text-is-text-of-kind}
 
 -- edits: an authority that is `localhost` becomes empty
 edited-authority-is-normal : (local : Bool) (o : Option AuthorityMeaning)

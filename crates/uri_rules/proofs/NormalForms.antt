@@ -6,9 +6,7 @@ use Rattle.uri_ops.specs.Normal.{normal_text}
 use Rattle.uri_ops.specs.Normalizers.{IsNormalForm}
 use Rattle.uri_rules.specs.NormalForms.{IsNormalFormUnder}
 use Rattle.uri_rules.specs.Rules.{Rules, meaning_under, under_rules}
-use Rattle.uri_rules.proofs.RuledTexts.{meaning_under-normal_text}
-use Rattle.uri_rules.proofs.RuledTexts.{normal-text-under-rules-is-text-of-kind}
-use Rattle.uri_rules.proofs.RuledTexts.{same-normal-text-same-meaning-under}
+use Rattle.uri_rules.proofs.RuledTexts.{meaning_under-normal_text, normal-text-under-rules-is-text-of-kind, same-normal-text-same-meaning-under}
 
 pub normal-text-under-rules-is-normal-form : (kind : Kind) (rules : Rules)
     → HasComponentSets kind → (text normal : List ℕ) → IsTextOf kind text

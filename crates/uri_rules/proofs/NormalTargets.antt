@@ -10,15 +10,10 @@ use Rattle.uri_ops.specs.NormalTargets.{reference_kind}
 use Rattle.uri_ops.specs.Resolving.{IsErrorWithUnderflowAllowed}
 use Rattle.uri_ops.specs.Target.{resolution_of_texts}
 use Rattle.uri_ops.specs.declared.resolve.error.ResolveError.{ResolveError}
-use Rattle.uri_ops.proofs.Targeting.NormalTargets.{equal-mapped-results-have-equal-targets}
-use Rattle.uri_ops.proofs.Targeting.NormalTargets.{equal-mapped-results-have-equal-errors}
-use Rattle.uri_ops.proofs.Targeting.NormalTargets.{equal-mapped-results-are-ok-alike}
-use Rattle.uri_ops.proofs.Targeting.NormalTargets.{resolution-is-unique}
-use Rattle.uri_ops.proofs.Targeting.NormalTargets.{same-resolution-error-with-underflow-allowed}
+use Rattle.uri_ops.proofs.Targeting.NormalTargets.{equal-mapped-results-have-equal-targets, equal-mapped-results-have-equal-errors, equal-mapped-results-are-ok-alike, resolution-is-unique, same-resolution-error-with-underflow-allowed}
 use Rattle.uri_rules.specs.NormalForms.{IsNormalFormUnder}
 use Rattle.uri_rules.specs.Rules.{Rules, meaning_under}
-use Rattle.uri_rules.specs.Targets.{HasMeaningUnder, IsNormalFormOfTargetUnder}
-use Rattle.uri_rules.specs.Targets.{IsNormalTargetErrorUnder, IsNormalTargetUnder, resolved_under}
+use Rattle.uri_rules.specs.Targets.{HasMeaningUnder, IsNormalFormOfTargetUnder, IsNormalTargetErrorUnder, IsNormalTargetUnder, resolved_under}
 use Rattle.uri_rules.proofs.NormalForms.{same-meaning-same-normal-form-under}
 use Rattle.uri_rules.proofs.RuledTargets.{resolving-respects-meaning-under}
 

@@ -1,6 +1,5 @@
 -- What the rules of schemes make of a meaning.
-use Rattle.std.proofs.Common.{◌≡◌, ℕ, ◌<◌, Bool, true, false, cond, List, [], ◌∷◌, ◌++◌, length}
-use Rattle.std.proofs.Common.{refl, ap, ◌∙◌, ◌&&◌, arith, Option, Some, None, option_map, rules}
+use Rattle.std.proofs.Common.{◌≡◌, ℕ, ◌<◌, Bool, true, false, cond, List, [], ◌∷◌, ◌++◌, length, refl, ap, ◌∙◌, ◌&&◌, arith, Option, Some, None, option_map, rules}
 use Rattle.std.specs.Prelude.{is_some}
 use Rattle.std.specs.Char.{encode_utf8}
 use Rattle.std.proofs.lemmas.Bool.{cond-false}
@@ -11,9 +10,7 @@ use Rattle.uri_parts.specs.Grammar.{Kind}
 use Rattle.uri_parts.specs.Ports.{PortFunction}
 use Rattle.uri_ops.specs.Dots.{is_empty}
 use Rattle.uri_ops.specs.Meaning.{AuthorityMeaning, Meaning, meaning_of}
-use Rattle.uri_rules.specs.Rules.{Rules, authority_under, empty_authority, has_no_token}
-use Rattle.uri_rules.specs.Rules.{is_localhost, is_scheme_of, meaning_under, only_ports}
-use Rattle.uri_rules.specs.Rules.{path_under, root, under_rules}
+use Rattle.uri_rules.specs.Rules.{Rules, authority_under, empty_authority, has_no_token, is_localhost, is_scheme_of, meaning_under, only_ports, path_under, root, under_rules}
 
 -- general fact on booleans, for rules: a function of what a test chooses
 pub map-cond : {A B : Type 0} (f : A → B) (b : Bool) (x y : A)

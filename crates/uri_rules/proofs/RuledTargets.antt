@@ -1,6 +1,5 @@
 -- Resolving respects equivalence under the rules of schemes, so resolving and normalising swap.
-use Rattle.std.proofs.Common.{◌≡◌, ℕ, Bool, true, false, not, cond, List, [], ◌∷◌, ◌++◌, refl, sym}
-use Rattle.std.proofs.Common.{ap, ◌∙◌, ◌&&◌, ◌||◌, Option, Some, None, option_map}
+use Rattle.std.proofs.Common.{◌≡◌, ℕ, Bool, true, false, not, cond, List, [], ◌∷◌, ◌++◌, refl, sym, ap, ◌∙◌, ◌&&◌, ◌||◌, Option, Some, None, option_map}
 use Rattle.std.specs.Prelude.{codes, is_some, is_none, Result, Ok, Err}
 use Rattle.std.specs.Option.{option_and_then}
 use Rattle.std.specs.Result.{result_map_both}
@@ -14,29 +13,18 @@ use Rattle.uri_ops.specs.Dots.{is_empty, directory}
 use Rattle.uri_ops.specs.Meaning.{Meaning, authority_meaning, components_meaning, meaning_of}
 use Rattle.uri_ops.specs.Normal.{normal_text}
 use Rattle.uri_ops.specs.NormalTargets.{reference_kind}
-use Rattle.uri_ops.specs.Target.{TargetError, is_opaque_rejection, is_opaque, is_fragment_only}
-use Rattle.uri_ops.specs.Target.{dotted_target, target_of, query_or}
+use Rattle.uri_ops.specs.Target.{TargetError, is_opaque_rejection, is_opaque, is_fragment_only, dotted_target, target_of, query_or}
 use Rattle.uri_ops.proofs.Meanings.AllowedParts.{is_set_text}
 use Rattle.uri_ops.proofs.Normal.NormalTexts.{text-has-parts-of-kind}
 use Rattle.uri_parts.proofs.Splitting.Recompose.{components_of_parts}
-use Rattle.uri_ops.proofs.Targeting.JoinedMeanings.{target-path-has-meaning-of-joined}
-use Rattle.uri_ops.proofs.Targeting.JoinedMeanings.{reference-kind-has-component-sets}
+use Rattle.uri_ops.proofs.Targeting.JoinedMeanings.{target-path-has-meaning-of-joined, reference-kind-has-component-sets}
 use Rattle.uri_ops.proofs.Targeting.RefusalOrder.{result_or_target_error, map-of-result_or_error}
-use Rattle.uri_ops.proofs.Targeting.Swaps.{resolving-respects-meaning}
-use Rattle.uri_ops.proofs.Targeting.Swaps.{text-of-kind-has-needed-scheme}
-use Rattle.uri_ops.proofs.Targeting.Swaps.{dotted_target-has-scheme-as-base}
+use Rattle.uri_ops.proofs.Targeting.Swaps.{resolving-respects-meaning, text-of-kind-has-needed-scheme, dotted_target-has-scheme-as-base}
 use Rattle.uri_ops.proofs.Targeting.Targets.{target-text-has-target-components}
-use Rattle.uri_rules.specs.Rules.{Rules, authority_under, is_scheme_of, meaning_under, path_under}
-use Rattle.uri_rules.specs.Rules.{under_rules}
+use Rattle.uri_rules.specs.Rules.{Rules, authority_under, is_scheme_of, meaning_under, path_under, under_rules}
 use Rattle.uri_rules.specs.Targets.{resolved_under}
-use Rattle.uri_rules.proofs.RuledTexts.{ruled_authority, components-without-scheme-are-ruled}
-use Rattle.uri_rules.proofs.RuledTexts.{ruled_path, ruled_text, ruled_components-have-meaning-under}
-use Rattle.uri_rules.proofs.RuledTexts.{ruled_components, normal-text-under-rules-is-text-of-kind}
-use Rattle.uri_rules.proofs.RuledTexts.{ruled_authority-has-meaning-under, components-of-ruled_text}
-use Rattle.uri_rules.proofs.RuledTexts.{path-without-authority-is-ruled, ruled-text-is-text-of-kind}
-use Rattle.uri_rules.proofs.RuledTexts.{ruled-text-has-meaning-under, meaning_under-normal_text}
-use Rattle.uri_rules.proofs.RuledMeanings.{authority_under-if-some-is-idempotent}
-use Rattle.uri_rules.proofs.RuledMeanings.{under_rules-is-idempotent}
+use Rattle.uri_rules.proofs.RuledTexts.{ruled_authority, components-without-scheme-are-ruled, ruled_path, ruled_text, ruled_components-have-meaning-under, ruled_components, normal-text-under-rules-is-text-of-kind, ruled_authority-has-meaning-under, components-of-ruled_text, path-without-authority-is-ruled, ruled-text-is-text-of-kind, ruled-text-has-meaning-under, meaning_under-normal_text}
+use Rattle.uri_rules.proofs.RuledMeanings.{authority_under-if-some-is-idempotent, under_rules-is-idempotent}
 
 -- general fact on booleans, for rules: what one test chooses is alike if both choices are
 choices-are-alike : {A B : Type 0} (f : A → B) (b : Bool) (x y u v : A) → f x ≡ f u → f y ≡ f v

@@ -1,9 +1,7 @@
 -- A ruled text is a text with what the rules of its scheme change, not yet normal. Under default
 -- ports alone it has the meaning that the text has under the rules. So the laws of normal texts
 -- hold under any rules.
-use Rattle.std.proofs.Common.{◌≡◌, ℕ, Bool, true, false, cond, List, [], ◌∷◌, refl, sym, ap, ◌∙◌}
-use Rattle.std.proofs.Common.{⊎_elim, ◌&&◌, ◌||◌, Option, Some, None, option_map, inr, not, rules}
-use Rattle.std.proofs.Common.{lit<, subst}
+use Rattle.std.proofs.Common.{◌≡◌, ℕ, Bool, true, false, cond, List, [], ◌∷◌, refl, sym, ap, ◌∙◌, ⊎_elim, ◌&&◌, ◌||◌, Option, Some, None, option_map, inr, not, rules, lit<, subst}
 use Rattle.std.specs.Prelude.{codes, is_some, IfSome, IfNone, ◌↔◌, if◌then◌else◌}
 use Rattle.std.specs.Option.{option_and_then}
 use Rattle.std.specs.Str.{str_to_ascii_lowercase, IsUtf8, chars}
@@ -18,12 +16,10 @@ use Rattle.uri_pct.proofs.UnreservedDecoding.Formatting.{ascii_char_separates_en
 use Rattle.uri_pct.proofs.General.{is_some-option_map}
 use Rattle.std.specs.Net.Reader.{read_ipv4, read_octet, read_number}
 use Rattle.uri_parts.specs.Hosts.{host_kind, ipv4_value}
-use Rattle.uri_parts.specs.Components.{Components, IsSplitOf, Lacks, IsAbemptyPath, components}
-use Rattle.uri_parts.specs.Components.{recompose, has_authority, has_scheme, starts}
-use Rattle.uri_parts.specs.Grammar.{Kind, IsTextOf, is_authority, components_meet_rules}
-use Rattle.uri_parts.specs.Grammar.{has_colon_in_first_segment}
+use Rattle.uri_parts.specs.Components.{Components, IsSplitOf, Lacks, IsAbemptyPath, components, recompose, has_authority, has_scheme, starts}
+use Rattle.uri_parts.specs.Grammar.{Kind, IsTextOf, is_authority, components_meet_rules, has_colon_in_first_segment}
 use Rattle.uri_parts.proofs.Authorities.AuthorityPlaces.{empty_is_authority}
-use Rattle.uri_parts.proofs.Splitting.Recompose.{components-are-split-of-text}
+use Rattle.uri_parts.proofs.Splitting.Recompose.{components-are-split-of-text, components_of_parts}
 use Rattle.uri_parts.proofs.Splitting.Splits.{only-split-is-components}
 use Rattle.uri_ops.specs.ComponentSets.{HasComponentSets, IsComponentSet}
 use Rattle.uri_ops.specs.Dots.{is_empty}
@@ -31,22 +27,15 @@ use Rattle.uri_ops.specs.Meaning.{authority_meaning, dotless_path, components_me
 use Rattle.uri_ops.specs.Normal.{normal_text}
 use Rattle.uri_ops.specs.Target.{dotless_if_absolute}
 use Rattle.uri_pct.proofs.UnreservedDecoding.Printing.{print_decoded}
-use Rattle.uri_ops.proofs.Meanings.AllowedParts.{is_set_text, set-text-from-utf8}
-use Rattle.uri_ops.proofs.Meanings.AllowedParts.{validity-splits-at-slash}
+use Rattle.uri_ops.proofs.Meanings.AllowedParts.{is_set_text, set-text-from-utf8, validity-splits-at-slash}
 use Rattle.uri_ops.proofs.Meanings.AsciiCharacters.{ascii-bytes-are-utf8}
-use Rattle.uri_parts.proofs.Splitting.Recompose.{components_of_parts}
 use Rattle.uri_ops.proofs.Meanings.TextParts.{ArePartsOfKind, components-of-kind-meet-grammar}
-use Rattle.uri_ops.proofs.Normal.NormalTexts.{meaning_of-normal_text, normal-text-is-text-of-kind}
-use Rattle.uri_ops.proofs.Normal.NormalTexts.{recomposed-components-are-utf8}
-use Rattle.uri_ops.proofs.Normal.NormalTexts.{text-has-parts-of-kind}
+use Rattle.uri_ops.proofs.Normal.NormalTexts.{meaning_of-normal_text, normal-text-is-text-of-kind, recomposed-components-are-utf8, text-has-parts-of-kind}
 use Rattle.uri_ops.proofs.Paths.DotLaws.{remove-dots-of-dotless}
 use Rattle.uri_ops.proofs.Paths.DecodedStarts.{decoding-keeps-emptiness}
-use Rattle.uri_ops.proofs.Paths.PathMeanings.{path-without-dots-is-set-text}
-use Rattle.uri_ops.proofs.Paths.PathMeanings.{removing-dots-keeps-leading-slash}
-use Rattle.uri_rules.specs.Rules.{Rules, empty_authority, has_no_token, is_localhost, is_scheme_of}
-use Rattle.uri_rules.specs.Rules.{root, authority_under, path_under, under_rules, meaning_under}
-use Rattle.uri_rules.proofs.RuledMeanings.{map-cond, meaning-under-ports-alone}
-use Rattle.uri_rules.proofs.RuledMeanings.{print-is-empty-without-tokens, under_rules-is-idempotent}
+use Rattle.uri_ops.proofs.Paths.PathMeanings.{path-without-dots-is-set-text, removing-dots-keeps-leading-slash}
+use Rattle.uri_rules.specs.Rules.{Rules, empty_authority, has_no_token, is_localhost, is_scheme_of, root, authority_under, path_under, under_rules, meaning_under}
+use Rattle.uri_rules.proofs.RuledMeanings.{map-cond, meaning-under-ports-alone, print-is-empty-without-tokens, under_rules-is-idempotent}
 
 -- the authority as the rules of its scheme have it: empty if its normal form is `localhost` and
 -- that is the default host

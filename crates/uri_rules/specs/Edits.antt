@@ -1,6 +1,5 @@
 -- What the rules change in a normal text: RFC 3986, section 6.2.3.
-use Rattle.std.specs.Prelude.{ℕ, Bool, false, ◌&&◌, List, [], codes, bytes_eq, Option, Some, None}
-use Rattle.std.specs.Prelude.{is_some, if◌then◌else◌}
+use Rattle.std.specs.Prelude.{ℕ, Bool, false, ◌&&◌, List, [], codes, bytes_eq, Option, Some, None, is_some, if◌then◌else◌}
 use Rattle.uri_parts.specs.Components.{Components}
 use Rattle.uri_ops.specs.Dots.{is_empty}
 use Rattle.uri_ops.specs.Normal.{normal_scheme}

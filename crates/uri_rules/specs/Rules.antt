@@ -1,6 +1,5 @@
 -- What a text means under the rules of its scheme: RFC 3986, section 6.2.3.
-use Rattle.std.specs.Prelude.{ℕ, Bool, true, false, ◌&&◌, List, [], ◌∷◌, codes, bytes_eq}
-use Rattle.std.specs.Prelude.{Option, Some, None, is_some, option_map, if◌then◌else◌}
+use Rattle.std.specs.Prelude.{ℕ, Bool, true, false, ◌&&◌, List, [], ◌∷◌, codes, bytes_eq, Option, Some, None, is_some, option_map, if◌then◌else◌}
 use Rattle.uri_pct.specs.Delimiters.{slash}
 use Rattle.uri_pct.specs.Tokens.{Token, Char}
 use Rattle.uri_parts.specs.Grammar.{Kind}

@@ -6,8 +6,7 @@ use Rattle.uri_basic.specs.declared.error.BasicResolveError.{BasicResolveError}
 use Rattle.uri_basic.specs.declared.error.BasicResolveError.TheVariants as errors
 use Rattle.uri_basic.specs.Resolving.{IsBasicError}
 use Rattle.uri_basic.specs.Target.{basic_resolution_of_texts}
-use Rattle.uri_streams.specs.Results.{Text, Error, basic_resolution_result, basic_target_result}
-use Rattle.uri_streams.specs.Results.{double_slash_message}
+use Rattle.uri_streams.specs.Results.{Text, Error, basic_resolution_result, basic_target_result, double_slash_message}
 use Rattle.uri_streams.specs.Returned.{result_in}
 use Rattle.uri_streams.specs.declared.fault.LineError.TheVariants.{PathStartsWithDoubleSlash}
 use Rattle.uri_streams.specs.declared.line_result.LineResult.{LineResult as Returned}

@@ -1,21 +1,15 @@
 -- What `check` writes for each line, and for the lines of an input.
-use Rattle.std.proofs.Common.{◌≡◌, ◌+◌, ◌++◌, ◌⊎◌, ℕ, Bool, true, false, cond, List, [], ◌∷◌, refl}
-use Rattle.std.proofs.Common.{ap, sym, subst, ◌∙◌, inl, inr, length, Option, Some, None}
+use Rattle.std.proofs.Common.{◌≡◌, ◌+◌, ◌++◌, ◌⊎◌, ℕ, Bool, true, false, cond, List, [], ◌∷◌, refl, ap, sym, subst, ◌∙◌, inl, inr, length, Option, Some, None}
 use Rattle.std.specs.Prelude.{not, ◌&&◌, nat_lt, Result, Ok, Err, slice_get, if◌then◌else◌}
 use Rattle.std.specs.List.{AllPass, concat, filter, list_all}
 use Rattle.std.specs.Str.{is_utf8}
 use Rattle.std.proofs.lemmas.List.Sums.{list_all-from_AllPass}
 use Rattle.std.proofs.lemmas.Bool.{and_parts}
 use Rattle.fluent_uri.specs.Grammar.{is_of_kind}
-use Rattle.uri_streams.specs.Checks.{AreMergedFrom, checking, has_text_of_kind, is_passed}
-use Rattle.uri_streams.specs.Checks.{is_text_of_kind, is_within_maximum, lines_for}
-use Rattle.uri_streams.specs.Checks.{lines_within_maximum, output_for, passes_over_errors}
-use Rattle.uri_streams.specs.Fields.{Cut, cut_at_field, cut_of, cut_without_other_fields, field_cut}
-use Rattle.uri_streams.specs.Fields.{fields_of}
+use Rattle.uri_streams.specs.Checks.{AreMergedFrom, checking, has_text_of_kind, is_passed, is_text_of_kind, is_within_maximum, lines_for, lines_within_maximum, output_for, passes_over_errors}
+use Rattle.uri_streams.specs.Fields.{Cut, cut_at_field, cut_of, cut_without_other_fields, field_cut, fields_of}
 use Rattle.uri_streams.specs.Lines.{end_byte, line_text}
-use Rattle.uri_streams.specs.Outputs.{error_output, is_error, is_last, is_stop, line_cut}
-use Rattle.uri_streams.specs.Outputs.{line_output, line_result, output_of, processed}
-use Rattle.uri_streams.specs.Outputs.{processed_lines, result_output}
+use Rattle.uri_streams.specs.Outputs.{error_output, is_error, is_last, is_stop, line_cut, line_output, line_result, output_of, processed, processed_lines, result_output}
 use Rattle.uri_commands.specs.Kinds.{kind_named}
 use Rattle.uri_streams.specs.Results.{LineResult, passed_if, passes_check}
 use Rattle.uri_streams.specs.Tasks.{Known, cut_result, given_text}

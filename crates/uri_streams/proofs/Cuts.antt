@@ -1,7 +1,5 @@
 -- A line that is kept in part is an error as the whole is: it is too long either way.
-use Rattle.std.proofs.Common.{◌≡◌, ◌<◌, ◌≤◌, ◌+◌, ◌-◌, ℕ, Bool, true, false, cond, List}
-use Rattle.std.proofs.Common.{refl, ap, sym, ◌∙◌, length, take, arith, inl, inr, ◌++◌}
-use Rattle.std.proofs.Common.{◌⊎◌, ⊎_elim, length-take-le, take_all, lt-ltb, ltb-true, ltb-false}
+use Rattle.std.proofs.Common.{◌≡◌, ◌<◌, ◌≤◌, ◌+◌, ◌-◌, ℕ, Bool, true, false, cond, List, refl, ap, sym, ◌∙◌, length, take, arith, inl, inr, ◌++◌, ◌⊎◌, ⊎_elim, length-take-le, take_all, lt-ltb, ltb-true, ltb-false}
 use Rattle.std.specs.Prelude.{Err, nat_lt}
 use Rattle.std.specs.Io.BufRead.{ends_with_byte, strip_last}
 use Rattle.uri_streams.specs.Fields.{Cut, cut_without_other_fields}

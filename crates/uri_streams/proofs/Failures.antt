@@ -1,6 +1,5 @@
 -- What a writer holds, and what was reported, after a failure.
-use Rattle.std.proofs.Common.{◌≡◌, ◌≢◌, ◌++◌, ℕ, false, List, [], All, refl}
-use Rattle.std.proofs.Common.{ap, sym, ◌∙◌, subst, Option, Some, None, true≢false}
+use Rattle.std.proofs.Common.{◌≡◌, ◌≢◌, ◌++◌, ℕ, false, List, [], All, refl, ap, sym, ◌∙◌, subst, Option, Some, None, true≢false}
 use Rattle.std.proofs.lemmas.List.{append-nil}
 use Rattle.std.proofs.lemmas.List.Concat.{flat_map-append}
 use Rattle.std.proofs.lemmas.List.Elements.{All-nil}
@@ -16,20 +15,16 @@ use Rattle.uri_commands.specs.Sinks.{KeepsFinalError}
 use Rattle.uri_commands.specs.declared.sink.Sink.{Sink}
 use Rattle.uri_streams.specs.Causes.{caused_by_output, is_input_cause, is_output_cause}
 use Rattle.uri_streams.specs.Lines.{end_byte, lines_of}
-use Rattle.uri_streams.specs.Outputs.{ProcessedLine, processed_lines, processed_in, line_output}
-use Rattle.uri_streams.specs.Outputs.{errors_of, line_report, output_of}
-use Rattle.uri_streams.specs.Runs.{ErrorOutput, Reports, StopsAfterPrefix, WritesOutput}
-use Rattle.uri_streams.specs.Runs.{ReportsPrefix, WritesWholeLines}
-use Rattle.uri_streams.specs.Models.{FailsInWriting, HasWrittenSoFar, KeepsFailures}
-use Rattle.uri_streams.specs.Models.{ProcessedSoFar, StepFails}
+use Rattle.uri_streams.specs.Outputs.{ProcessedLine, processed_lines, processed_in, line_output, errors_of, line_report, output_of}
+use Rattle.uri_streams.specs.Runs.{ErrorOutput, Reports, StopsAfterPrefix, WritesOutput, ReportsPrefix, WritesWholeLines}
+use Rattle.uri_streams.specs.Models.{FailsInWriting, HasWrittenSoFar, KeepsFailures, ProcessedSoFar, StepFails}
 use Rattle.uri_streams.specs.declared.failure.Cause.{Cause}
 use Rattle.uri_streams.specs.declared.failure.Cause.TheVariants.{Output}
 use Rattle.uri_streams.specs.declared.job.Job.{Job}
 use Rattle.uri_streams.specs.declared.run.Tally.{Tally}
 use Rattle.uri_streams.specs.declared.source.Source.{Source}
 use Rattle.uri_streams.specs.declared.task.Task.{Task}
-use Rattle.uri_streams.proofs.Reports.{Reports-then-nothing, ReportsPrefix-after-Reports}
-use Rattle.uri_streams.proofs.Reports.{ReportsPrefix-of-longer}
+use Rattle.uri_streams.proofs.Reports.{Reports-then-nothing, ReportsPrefix-after-Reports, ReportsPrefix-of-longer}
 
 -- writers of `urilines`: what is appended after nothing was is appended; a, b, c: what is held
 pub Appends-after-Keeps : (a b c : Option (List ℕ)) (bs : List ℕ) → Keeps a b → Appends b c bs

@@ -1,8 +1,5 @@
 -- The fields of a line, one after the other.
-use Rattle.std.proofs.Common.{◌≡◌, ◌<◌, ◌+◌, ◌-◌, ◌++◌, ◌∷◌, [], ℕ, suc, zero, List, Bool}
-use Rattle.std.proofs.Common.{Some, None, All, true, false, cond, eqb, refl, ap, sym, subst, ◌∙◌}
-use Rattle.std.proofs.Common.{length, take, drop, arith, get_or, length-take-le, length-drop}
-use Rattle.std.proofs.Common.{eqb-true, add-one, get_or-take}
+use Rattle.std.proofs.Common.{◌≡◌, ◌<◌, ◌+◌, ◌-◌, ◌++◌, ◌∷◌, [], ℕ, suc, zero, List, Bool, Some, None, All, true, false, cond, eqb, refl, ap, sym, subst, ◌∙◌, length, take, drop, arith, get_or, length-take-le, length-drop, eqb-true, add-one, get_or-take}
 use Rattle.std.specs.Prelude.{Err, Ok, slice_get, slice_range}
 use Rattle.std.specs.List.{onto_first, slice_split}
 use Rattle.std.proofs.Math.Seq.{drop-cons, drop-drop, drop-length, take-add, take-suc}
@@ -13,9 +10,7 @@ use Rattle.std.proofs.lemmas.List.Splits.{slice_split_at, slice_split_none}
 use Rattle.std.proofs.lemmas.Option.{slice_get_past}
 use Rattle.memchr.specs.Find.{NoneBefore, Nowhere, Passes, is_byte}
 use Rattle.std.proofs.lemmas.Bool.{false_from_ne_true}
-use Rattle.uri_streams.specs.Fields.{Cut, IsFieldStart, fields_after_delimiters}
-use Rattle.uri_streams.specs.Fields.{fields_before_delimiters}
-use Rattle.uri_streams.specs.Fields.{field_cut, fields_of, cut_at_field, cut_without_other_fields}
+use Rattle.uri_streams.specs.Fields.{Cut, IsFieldStart, fields_after_delimiters, fields_before_delimiters, field_cut, fields_of, cut_at_field, cut_without_other_fields}
 use Rattle.uri_streams.specs.declared.fault.NoText.TheVariants.{NoField}
 
 -- general fact on lists, for fields of `urilines`: what is left after k elements begins with this

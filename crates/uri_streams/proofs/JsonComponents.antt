@@ -1,7 +1,6 @@
 -- The value of a reference has its components, and each under a name of its own.
 use Rattle.std.proofs.Common.{◌≡◌, ℕ, Bool, true, false, List, [], ◌∷◌, refl, sym, ap, ◌∙◌, rules}
-use Rattle.std.specs.Prelude.{codes, Option, Some, None, IfSome, option_map, option_and_then, map}
-use Rattle.std.specs.Prelude.{◌&&◌, bytes_eq, if◌then◌else◌, nat_lt, unwrap_or}
+use Rattle.std.specs.Prelude.{codes, Option, Some, None, IfSome, option_map, option_and_then, map, ◌&&◌, bytes_eq, if◌then◌else◌, nat_lt, unwrap_or}
 use Rattle.std.specs.List.{AllByRecursion, IsDistinct, list_all}
 use Rattle.std.specs.Str.{chars, encode_utf8_all}
 use Rattle.std.proofs.lemmas.Bool.{and_parts}
@@ -9,14 +8,11 @@ use Rattle.fluent_uri.specs.Authority.{authority_parts}
 use Rattle.fluent_uri.specs.Components.{Components}
 use Rattle.fluent_uri.specs.Hosts.{host_kind}
 use Rattle.uri_streams.specs.Json.{host_word}
-use Rattle.uri_streams.specs.JsonTexts.{JsonValue, Object, Members, EndOfObject, Member}
-use Rattle.uri_streams.specs.JsonTexts.{is_unescaped}
-use Rattle.uri_streams.specs.JsonValues.{text_members, with_present, present}
-use Rattle.uri_streams.specs.JsonValues.{named_components, components_value}
+use Rattle.uri_streams.specs.JsonTexts.{JsonValue, Object, Members, EndOfObject, Member, is_unescaped}
+use Rattle.uri_streams.specs.JsonValues.{text_members, with_present, present, named_components, components_value}
 use Rattle.uri_streams.proofs.JsonStringTexts.{IsPlain, ascii-is-plain}
 use Rattle.uri_streams.proofs.JsonPairs.{AreUtf8, text_in, text-is-in-its-value}
-use Rattle.uri_streams.proofs.JsonObjects.{IsPlainIfPresent, host_word-is-plain}
-use Rattle.uri_streams.proofs.JsonObjects.{HasPlainAuthority, HasPlainComponents}
+use Rattle.uri_streams.proofs.JsonObjects.{IsPlainIfPresent, host_word-is-plain, HasPlainAuthority, HasPlainComponents}
 
 -- lines of JSON: the names of members, and the texts of their strings
 abbrev named_in : Members → List (List ℕ × List ℕ)

@@ -11,8 +11,7 @@ use Rattle.std.proofs.lemmas.Str.{IsUtf8-append, IsUtf8-encode, IsUtf8-nil, IsUt
 use Rattle.uri_query.specs.Pairs.{decode_pair}
 use Rattle.fluent_uri.specs.Components.{components, recompose}
 use Rattle.fluent_uri.specs.Grammar.{IsTextOf}
-use Rattle.uri_pct.specs.Pieces.{Piece, WellFormed, IllFormed, IsOfCharacter, char_of, lossy_piece}
-use Rattle.uri_pct.specs.Pieces.{lossy_text, utf8_pieces}
+use Rattle.uri_pct.specs.Pieces.{Piece, WellFormed, IllFormed, IsOfCharacter, char_of, lossy_piece, lossy_text, utf8_pieces}
 use Rattle.uri_pct.proofs.Unicode.CharacterPieces.{utf8_pieces-are-of-characters}
 use Rattle.uri_parts.proofs.Splitting.Recompose.{recompose-components}
 use Rattle.uri_streams.specs.Json.{json_of}
@@ -23,8 +22,7 @@ use Rattle.uri_commands.specs.Kinds.{kind_named}
 use Rattle.uri_commands.specs.declared.kinds.KindName.{KindName}
 use Rattle.uri_streams.proofs.JsonComponents.{equal-objects-have-equal-components}
 use Rattle.uri_streams.proofs.JsonObjects.{json_of-is-json-object}
-use Rattle.uri_streams.proofs.JsonPairs.{AreUtf8, pairs-are-json-array}
-use Rattle.uri_streams.proofs.JsonPairs.{equal-arrays-have-equal-pairs}
+use Rattle.uri_streams.proofs.JsonPairs.{AreUtf8, pairs-are-json-array, equal-arrays-have-equal-pairs}
 use Rattle.uri_streams.proofs.JsonReading.{json-text-represents-one-value}
 use Rattle.uri_streams.proofs.PlainComponents.{text-has-plain-components}
 

@@ -4,14 +4,10 @@ use Rattle.std.specs.Prelude.{codes, Option, Some, None, IfSome, option_map, opt
 use Rattle.fluent_uri.specs.Authority.{authority_parts}
 use Rattle.fluent_uri.specs.Components.{Components}
 use Rattle.fluent_uri.specs.Hosts.{HostKind, Ipv4, Ipv6, IpvFuture, RegName, host_kind}
-use Rattle.uri_streams.specs.Json.{member, member_before, member_after, host_word}
-use Rattle.uri_streams.specs.Json.{authority_members, json_of}
-use Rattle.uri_streams.specs.JsonTexts.{RepresentsValue, RepresentsMembers}
-use Rattle.uri_streams.specs.JsonTexts.{RepresentsMoreMembers, IsJsonTextOf}
+use Rattle.uri_streams.specs.Json.{member, member_before, member_after, host_word, authority_members, json_of}
+use Rattle.uri_streams.specs.JsonTexts.{RepresentsValue, RepresentsMembers, RepresentsMoreMembers, IsJsonTextOf}
 use Rattle.uri_streams.specs.JsonValues.{text_members, with_present, present, components_value}
-use Rattle.uri_streams.proofs.JsonStringTexts.{AreTextOf, ◌and_then◌, nothing-is-text}
-use Rattle.uri_streams.proofs.JsonStringTexts.{mark-is-structural, IsPlain, ascii-is-plain}
-use Rattle.uri_streams.proofs.JsonStringTexts.{plain-string-is-text, value-is-json-text}
+use Rattle.uri_streams.proofs.JsonStringTexts.{AreTextOf, ◌and_then◌, nothing-is-text, mark-is-structural, IsPlain, ascii-is-plain, plain-string-is-text, value-is-json-text}
 use Rattle.uri_streams.proofs.JsonPairs.{comma-is-structural}
 
 -- lines of JSON: a text that is absent or needs no escape

@@ -4,14 +4,10 @@ use Rattle.std.specs.Prelude.{codes}
 use Rattle.std.specs.Str.{IsUtf8, chars, encode_utf8_all}
 use Rattle.std.proofs.lemmas.Str.{encodes-chars}
 use Rattle.uri_query.specs.Pairs.{NameAndValue}
-use Rattle.uri_streams.specs.JsonTexts.{JsonValue, Array, String, Elements, EndOfArray, Element}
-use Rattle.uri_streams.specs.JsonTexts.{IsStructural, RepresentsValue, RepresentsElements}
-use Rattle.uri_streams.specs.JsonTexts.{RepresentsMoreElements, IsJsonTextOf}
+use Rattle.uri_streams.specs.JsonTexts.{JsonValue, Array, String, Elements, EndOfArray, Element, IsStructural, RepresentsValue, RepresentsElements, RepresentsMoreElements, IsJsonTextOf}
 use Rattle.uri_streams.specs.JsonValues.{pair_value, pair_elements}
 use Rattle.uri_streams.specs.Queries.{pair_json, following_pairs_json, pairs_json}
-use Rattle.uri_streams.proofs.JsonStringTexts.{AreTextOf, ◌and_then◌, nothing-is-text}
-use Rattle.uri_streams.proofs.JsonStringTexts.{mark-is-structural, escaped-string-is-text}
-use Rattle.uri_streams.proofs.JsonStringTexts.{value-is-json-text}
+use Rattle.uri_streams.proofs.JsonStringTexts.{AreTextOf, ◌and_then◌, nothing-is-text, mark-is-structural, escaped-string-is-text, value-is-json-text}
 
 -- lines of JSON: names and values in UTF-8
 abbrev pub AreUtf8 : List NameAndValue → Type 0

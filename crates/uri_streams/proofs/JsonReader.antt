@@ -1,15 +1,9 @@
 -- A reader of JSON's values, for the proof that a JSON text represents one value.
-use Rattle.std.proofs.Common.{◌≡◌, ℕ, zero, suc, ◌+◌, ◌<◌, ◌≤◌, ◌==◌, Bool, true, false, List, []}
-use Rattle.std.proofs.Common.{◌∷◌, ◌++◌, length, get_or, drop, append_assoc, refl, ap, ◌∙◌, arith}
+use Rattle.std.proofs.Common.{◌≡◌, ℕ, zero, suc, ◌+◌, ◌<◌, ◌≤◌, ◌==◌, Bool, true, false, List, [], ◌∷◌, ◌++◌, length, get_or, drop, append_assoc, refl, ap, ◌∙◌, arith}
 use Rattle.std.specs.Prelude.{codes, if◌then◌else◌}
-use Rattle.uri_streams.specs.JsonTexts.{JsonValue, False, Null, True, Object, Array, Number, String}
-use Rattle.uri_streams.specs.JsonTexts.{Elements, EndOfArray, Element, Members, EndOfObject, Member}
-use Rattle.uri_streams.specs.JsonTexts.{◌then◌, IsStructural, RepresentsString, RepresentsValue}
-use Rattle.uri_streams.specs.JsonTexts.{RepresentsMoreElements, RepresentsMoreMembers}
+use Rattle.uri_streams.specs.JsonTexts.{JsonValue, False, Null, True, Object, Array, Number, String, Elements, EndOfArray, Element, Members, EndOfObject, Member, ◌then◌, IsStructural, RepresentsString, RepresentsValue, RepresentsMoreElements, RepresentsMoreMembers}
 use Rattle.uri_streams.proofs.JsonStrings.{read_characters, characters-are-read, string-begins-text}
-use Rattle.uri_streams.proofs.JsonTokens.{skip, is_number_character, EndsNumber, BeginsStructural}
-use Rattle.uri_streams.proofs.JsonTokens.{structural-begins-text, read_number, after_number}
-use Rattle.uri_streams.proofs.JsonTokens.{number-is-not-empty}
+use Rattle.uri_streams.proofs.JsonTokens.{skip, is_number_character, EndsNumber, BeginsStructural, structural-begins-text, read_number, after_number, number-is-not-empty}
 
 -- reading JSON: a value by its first character, and the text after it and whitespace. The functions
 -- read elements and members; the number bounds the characters of a string. What begins no value is

@@ -1,25 +1,12 @@
 -- What a JSON text represents is read of it. So a text represents one value.
-use Rattle.std.proofs.Common.{◌≡◌, ℕ, zero, suc, ◌+◌, ◌<◌, ◌≤◌, ◌==◌, List, [], ◌++◌, drop}
-use Rattle.std.proofs.Common.{append-nil, append_assoc, refl, sym, ap, ◌∙◌, subst, arith}
+use Rattle.std.proofs.Common.{◌≡◌, ℕ, zero, suc, ◌+◌, ◌<◌, ◌≤◌, ◌==◌, List, [], ◌++◌, drop, append-nil, append_assoc, refl, sym, ap, ◌∙◌, subst, arith}
 use Rattle.std.specs.Prelude.{if◌then◌else◌}
 use Rattle.std.specs.Str.{chars}
 use Rattle.std.proofs.lemmas.Bool.{cond-true, cond-false}
-use Rattle.uri_streams.specs.JsonTexts.{JsonValue, False, Null, True, Object, Array, Number, String}
-use Rattle.uri_streams.specs.JsonTexts.{Elements, EndOfArray, Element, Members, EndOfObject, Member}
-use Rattle.uri_streams.specs.JsonTexts.{◌then◌, IsWhitespace, RepresentsValue, RepresentsElements}
-use Rattle.uri_streams.specs.JsonTexts.{RepresentsMoreElements, RepresentsMembers}
-use Rattle.uri_streams.specs.JsonTexts.{RepresentsMoreMembers, IsJsonTextOf}
-use Rattle.uri_streams.proofs.JsonReader.{read, read_elements, read_more_elements, read_members}
-use Rattle.uri_streams.proofs.JsonReader.{read_more_members, more_steps, steps_of_elements}
-use Rattle.uri_streams.proofs.JsonReader.{steps_of_members, is_no_value, then_elements}
-use Rattle.uri_streams.proofs.JsonReader.{represented-value-is-a-value, comma-begins-text}
-use Rattle.uri_streams.proofs.JsonReader.{more-elements-end-number, more-members-end-number}
-use Rattle.uri_streams.proofs.JsonReader.{three-parts-before-rest, four-parts-before-rest}
-use Rattle.uri_streams.proofs.JsonReader.{member-is-read, elements-take-steps, members-take-steps}
+use Rattle.uri_streams.specs.JsonTexts.{JsonValue, False, Null, True, Object, Array, Number, String, Elements, EndOfArray, Element, Members, EndOfObject, Member, ◌then◌, IsWhitespace, RepresentsValue, RepresentsElements, RepresentsMoreElements, RepresentsMembers, RepresentsMoreMembers, IsJsonTextOf}
+use Rattle.uri_streams.proofs.JsonReader.{read, read_elements, read_more_elements, read_members, read_more_members, more_steps, steps_of_elements, steps_of_members, is_no_value, then_elements, represented-value-is-a-value, comma-begins-text, more-elements-end-number, more-members-end-number, three-parts-before-rest, four-parts-before-rest, member-is-read, elements-take-steps, members-take-steps}
 use Rattle.uri_streams.proofs.JsonStrings.{characters-are-read, string-begins-text}
-use Rattle.uri_streams.proofs.JsonTokens.{skip, whitespace-is-skipped, EndsNumber}
-use Rattle.uri_streams.proofs.JsonTokens.{whitespace-ends-number, BeginsStructural}
-use Rattle.uri_streams.proofs.JsonTokens.{structural-begins-text, after_number, number-is-read}
+use Rattle.uri_streams.proofs.JsonTokens.{skip, whitespace-is-skipped, EndsNumber, whitespace-ends-number, BeginsStructural, structural-begins-text, after_number, number-is-read}
 
 -- reading JSON: what a text represents is read of it; text: what is after elements or members
 mutual

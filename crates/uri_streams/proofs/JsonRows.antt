@@ -5,10 +5,7 @@ use Rattle.std.specs.Char.{encode_utf8}
 use Rattle.std.specs.Str.{chars}
 use Rattle.fluent_uri.specs.Components.{components}
 use Rattle.uri_streams.specs.Json.{json_of}
-use Rattle.uri_streams.specs.JsonTexts.{Array, EndOfArray, ◌then◌, IsWhitespace, IsNumber, IsOneOf}
-use Rattle.uri_streams.specs.JsonTexts.{IsOptional, IsFraction, IsExponent, AreSomeDigits}
-use Rattle.uri_streams.specs.JsonTexts.{IsStructural, IsUnicodeEscape, is_unescaped, escaped_by}
-use Rattle.uri_streams.specs.JsonTexts.{hex_number, RepresentsCharacter, RepresentsValue}
+use Rattle.uri_streams.specs.JsonTexts.{Array, EndOfArray, ◌then◌, IsWhitespace, IsNumber, IsOneOf, IsOptional, IsFraction, IsExponent, AreSomeDigits, IsStructural, IsUnicodeEscape, is_unescaped, escaped_by, hex_number, RepresentsCharacter, RepresentsValue}
 use Rattle.uri_streams.specs.JsonValues.{named_components, present}
 use Rattle.uri_streams.specs.Queries.{pairs_json}
 

@@ -1,6 +1,5 @@
 -- Bytes that are texts of JSON's rules; those of strings, with or without escapes.
-use Rattle.std.proofs.Common.{◌≡◌, ℕ, zero, suc, ◌<◌, ◌%◌, ◌&&◌, ◌==◌, Bool, true, false, List, []}
-use Rattle.std.proofs.Common.{◌∷◌, ◌++◌, append-nil, refl, sym, ap, ◌∙◌, subst, arith, inl, inr}
+use Rattle.std.proofs.Common.{◌≡◌, ℕ, zero, suc, ◌<◌, ◌%◌, ◌&&◌, ◌==◌, Bool, true, false, List, [], ◌∷◌, ◌++◌, append-nil, refl, sym, ap, ◌∙◌, subst, arith, inl, inr}
 use Rattle.std.specs.Prelude.{codes, Some, nat_lt, encode_utf8, if◌then◌else◌}
 use Rattle.std.specs.Char.{is_ascii_hexdigit, IsScalar}
 use Rattle.std.specs.Int.{is_in_range}
@@ -8,14 +7,9 @@ use Rattle.std.specs.List.{list_all, flat_map}
 use Rattle.std.specs.Str.{IsUtf8, IsAscii, chars, all_scalars}
 use Rattle.std.proofs.lemmas.Bool.{and_parts, and_from, eqb-true, ltb-true}
 use Rattle.std.proofs.lemmas.Bool.Decides.{nat_tests, Decides-below_and}
-use Rattle.std.proofs.lemmas.Str.{chars-append, chars-IsAscii, chars-encodes, chars-nil}
-use Rattle.std.proofs.lemmas.Str.{IsUtf8-append, IsUtf8-nil, IsUtf8-encode, IsUtf8-from_ascii}
-use Rattle.std.proofs.lemmas.Str.{scalars-chars}
+use Rattle.std.proofs.lemmas.Str.{chars-append, chars-IsAscii, chars-encodes, chars-nil, IsUtf8-append, IsUtf8-nil, IsUtf8-encode, IsUtf8-from_ascii, scalars-chars}
 use Rattle.std.proofs.lemmas.Str.Ascii.{IsAscii-nil, IsAscii-cons}
-use Rattle.uri_streams.specs.JsonTexts.{JsonValue, Rule, ◌then◌, Is, IsStructural}
-use Rattle.uri_streams.specs.JsonTexts.{is_unescaped, escaped_by, hex_number}
-use Rattle.uri_streams.specs.JsonTexts.{RepresentsCharacter, RepresentsCharacters}
-use Rattle.uri_streams.specs.JsonTexts.{RepresentsString, RepresentsValue, IsJsonTextOf}
+use Rattle.uri_streams.specs.JsonTexts.{JsonValue, Rule, ◌then◌, Is, IsStructural, is_unescaped, escaped_by, hex_number, RepresentsCharacter, RepresentsCharacters, RepresentsString, RepresentsValue, IsJsonTextOf}
 use Rattle.uri_streams.specs.Queries.{hex_digit, control_json, escaped_char, escaped_text}
 
 -- writing JSON: the bytes are a text of the rule, in UTF-8

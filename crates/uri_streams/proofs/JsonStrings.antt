@@ -1,15 +1,12 @@
 -- A reader of JSON's strings: it reads the characters that a text represents.
-use Rattle.std.proofs.Common.{◌≡◌, ℕ, zero, suc, ◌<◌, ◌==◌, Bool, true, false, List, [], ◌∷◌, ◌++◌}
-use Rattle.std.proofs.Common.{length, get_or, drop, refl, sym, ap, ◌∙◌, subst, append_assoc, arith}
-use Rattle.std.proofs.Common.{inl, inr}
+use Rattle.std.proofs.Common.{◌≡◌, ℕ, zero, suc, ◌<◌, ◌==◌, Bool, true, false, List, [], ◌∷◌, ◌++◌, length, get_or, drop, refl, sym, ap, ◌∙◌, subst, append_assoc, arith, inl, inr}
 use Rattle.std.specs.Prelude.{Some, if◌then◌else◌}
 use Rattle.std.specs.Char.Utf16.{is_high_surrogate, surrogate_pair_char}
 use Rattle.std.specs.Int.{is_in_range}
 use Rattle.std.specs.Option.{unwrap_or}
 use Rattle.std.proofs.lemmas.Bool.{cond-true, cond-false, eqb-true}
 use Rattle.std.proofs.lemmas.Bool.Decides.{nat_tests}
-use Rattle.uri_streams.specs.JsonTexts.{is_unescaped, escaped_by, hex_number, IsUnicodeEscape}
-use Rattle.uri_streams.specs.JsonTexts.{RepresentsCharacter, RepresentsCharacters, RepresentsString}
+use Rattle.uri_streams.specs.JsonTexts.{is_unescaped, escaped_by, hex_number, IsUnicodeEscape, RepresentsCharacter, RepresentsCharacters, RepresentsString}
 
 -- reading JSON: the number of the escape `\uXXXX` that begins the text
 abbrev escaped_number : List ℕ → ℕ

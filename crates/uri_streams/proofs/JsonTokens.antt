@@ -1,7 +1,5 @@
 -- Whitespace, structural characters and numbers of a JSON text, and what is read of them.
-use Rattle.std.proofs.Common.{◌≡◌, ℕ, ◌<◌, Bool, true, false, List, [], ◌∷◌, ◌++◌, length}
-use Rattle.std.proofs.Common.{get_or, length-append, refl, sym, ap, ◌∙◌, subst, append_assoc, arith}
-use Rattle.std.proofs.Common.{inl, inr}
+use Rattle.std.proofs.Common.{◌≡◌, ℕ, ◌<◌, Bool, true, false, List, [], ◌∷◌, ◌++◌, length, get_or, length-append, refl, sym, ap, ◌∙◌, subst, append_assoc, arith, inl, inr}
 use Rattle.std.specs.Prelude.{codes, if◌then◌else◌}
 use Rattle.std.specs.Char.{is_ascii_digit}
 use Rattle.std.specs.List.{list_all}
@@ -9,9 +7,7 @@ use Rattle.std.proofs.lemmas.Bool.{cond-true, cond-false, and_parts, and_from}
 use Rattle.std.proofs.lemmas.Bool.Decides.{nat_tests}
 use Rattle.std.proofs.lemmas.List.Folds.{list_all-append}
 use Rattle.fluent_uri.specs.Sets.{is_one_of}
-use Rattle.uri_streams.specs.JsonTexts.{Rule, ◌then◌, Is, IsOneOf, IsOptional, is_whitespace}
-use Rattle.uri_streams.specs.JsonTexts.{IsWhitespace, IsStructural, AreDigits, AreSomeDigits}
-use Rattle.uri_streams.specs.JsonTexts.{IsInteger, IsNumber}
+use Rattle.uri_streams.specs.JsonTexts.{Rule, ◌then◌, Is, IsOneOf, IsOptional, is_whitespace, IsWhitespace, IsStructural, AreDigits, AreSomeDigits, IsInteger, IsNumber}
 
 -- reading JSON: the text without the whitespace that begins it
 abbrev pub skip : List ℕ → List ℕ

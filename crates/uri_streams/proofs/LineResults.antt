@@ -7,8 +7,7 @@ use Rattle.std.proofs.lemmas.Str.{IsUtf8-from_is_utf8, is_utf8-from_IsUtf8}
 use Rattle.std.proofs.lemmas.Bool.{false_from_ne_true}
 use Rattle.uri_commands.specs.MendedLinks.{mended_link}
 use Rattle.uri_streams.specs.Results.{LineResult}
-use Rattle.uri_streams.specs.Tasks.{Known, bytes_result, given_text, no_text_result, text_kind}
-use Rattle.uri_streams.specs.Tasks.{text_result}
+use Rattle.uri_streams.specs.Tasks.{Known, bytes_result, given_text, no_text_result, text_kind, text_result}
 use Rattle.uri_streams.specs.declared.fault.NoText.TheVariants.{NotUtf8}
 use Rattle.uri_streams.specs.declared.job.Job.{Job}
 

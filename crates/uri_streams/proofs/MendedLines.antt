@@ -1,6 +1,5 @@
 -- What `mended` returned of a link is the result of its line.
-use Rattle.std.proofs.Common.{◌≡◌, ◌≢◌, ℕ, Bool, true, false, true≢false, List, Result, Ok, Err}
-use Rattle.std.proofs.Common.{refl, ap, sym, ◌∙◌}
+use Rattle.std.proofs.Common.{◌≡◌, ◌≢◌, ℕ, Bool, true, false, true≢false, List, Result, Ok, Err, refl, ap, sym, ◌∙◌}
 use Rattle.std.specs.Prelude.{IfOk, String, if◌then◌else◌, string_bytes}
 use Rattle.fluent_uri.specs.Grammar.{Kind}
 use Rattle.fluent_uri.specs.declared.ParseError.{ParseError}
@@ -12,9 +11,7 @@ use Rattle.uri_commands.specs.Messages.{error_text}
 use Rattle.uri_commands.specs.Refusals.{IsErrorOfCommand, command_error_text}
 use Rattle.uri_commands.specs.declared.kinds.KindName.{KindName}
 use Rattle.uri_commands.specs.declared.refusal.CommandError.{CommandError}
-use Rattle.uri_commands.specs.declared.refusal.CommandError.TheVariants.{Text as TextError}
-use Rattle.uri_commands.specs.declared.refusal.CommandError.TheVariants.{Base, Reference, Target}
-use Rattle.uri_commands.specs.declared.refusal.CommandError.TheVariants.{OutOfMemory, OutputFailed}
+use Rattle.uri_commands.specs.declared.refusal.CommandError.TheVariants.{Text as TextError, Base, Reference, Target, OutOfMemory, OutputFailed}
 use Rattle.uri_mend.specs.Mending.{can_be_mended, mended_text}
 use Rattle.uri_mend.specs.Refusing.{IsMendErrorOf}
 use Rattle.uri_mend.specs.Trimming.{trimmed_link}

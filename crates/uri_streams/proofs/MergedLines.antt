@@ -1,6 +1,5 @@
 -- The lines of an input, some of them put together, and lists of lines that are merged.
-use Rattle.std.proofs.Common.{◌≡◌, ◌++◌, ◌⊎◌, ℕ, Bool, true, false, cond, eqb, List, [], ◌∷◌}
-use Rattle.std.proofs.Common.{refl, ap, sym, subst, ◌∙◌, inl, inr, append-nil}
+use Rattle.std.proofs.Common.{◌≡◌, ◌++◌, ◌⊎◌, ℕ, Bool, true, false, cond, eqb, List, [], ◌∷◌, refl, ap, sym, subst, ◌∙◌, inl, inr, append-nil}
 use Rattle.std.specs.Prelude.{not, ◌&&◌}
 use Rattle.std.specs.List.{concat, filter}
 use Rattle.uri_streams.specs.Checks.{AreMergedFrom}

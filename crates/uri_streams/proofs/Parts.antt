@@ -1,12 +1,7 @@
 -- What is kept of parts of a line that are read one after the other.
-use Rattle.std.proofs.Common.{◌≡◌, ◌<◌, ◌≤◌, ◌+◌, ◌-◌, ℕ, Bool, true, false, List, ◌++◌, Option}
-use Rattle.std.proofs.Common.{Some, None, IfSome, cond, drop, length, take, min, ap, arith, refl}
-use Rattle.std.proofs.Common.{subst, sym, ◌∙◌, take-take, take_all, length-take-le}
-use Rattle.std.proofs.Common.{lt-ltb, ltb-true, ltb-false, ◌≢◌, All, eqb, eq-eqb, get_or-take}
-use Rattle.std.proofs.Common.{◌==◌, get_or}
+use Rattle.std.proofs.Common.{◌≡◌, ◌<◌, ◌≤◌, ◌+◌, ◌-◌, ℕ, Bool, true, false, List, ◌++◌, Option, Some, None, IfSome, cond, drop, length, take, min, ap, arith, refl, subst, sym, ◌∙◌, take-take, take_all, length-take-le, lt-ltb, ltb-true, ltb-false, ◌≢◌, All, eqb, eq-eqb, get_or-take, ◌==◌, get_or}
 use Rattle.std.specs.Prelude.{◌&&◌, nat_lt, slice_index, OnErr, OnOk, Result, Ok, Err}
-use Rattle.std.specs.Io.BufRead.{drop_through, ends_with_byte, take_through, DropsConsumable}
-use Rattle.std.specs.Io.BufRead.{DropsThrough}
+use Rattle.std.specs.Io.BufRead.{drop_through, ends_with_byte, take_through, DropsConsumable, DropsThrough}
 use Rattle.std.specs.Io.KnownBytes.{Consumes, IsAtEnd, Keeps, prepend_known}
 use Rattle.std.proofs.BufReadLemmas.{take_through_nonempty}
 use Rattle.std.proofs.lemmas.List.{take-append-drop, take-append-le, length-take, append-nil}

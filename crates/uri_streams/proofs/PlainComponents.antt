@@ -1,6 +1,5 @@
 -- The components of a text of a kind have no character that JSON escapes.
-use Rattle.std.proofs.Common.{◌≡◌, ℕ, zero, suc, ◌<◌, ◌≤◌, ◌&&◌, ◌||◌, not, Bool, true, false, List}
-use Rattle.std.proofs.Common.{[], ◌∷◌, ◌++◌, refl, sym, ap, ◌∙◌, subst, arith, ⊎_elim}
+use Rattle.std.proofs.Common.{◌≡◌, ℕ, zero, suc, ◌<◌, ◌≤◌, ◌&&◌, ◌||◌, not, Bool, true, false, List, [], ◌∷◌, ◌++◌, refl, sym, ap, ◌∙◌, subst, arith, ⊎_elim}
 use Rattle.std.specs.Prelude.{codes, Option, Some, None}
 use Rattle.std.specs.Char.{IsScalar, encode_utf8}
 use Rattle.std.specs.List.{list_all}
@@ -8,8 +7,7 @@ use Rattle.std.specs.Str.{IsUtf8, chars, all_scalars, encode_utf8_all}
 use Rattle.std.proofs.lemmas.Bool.{and_parts, and_from, cases_lt}
 use Rattle.std.proofs.lemmas.Bool.Decides.{nat_tests, Decides-below_and}
 use Rattle.std.proofs.lemmas.List.Folds.{list_all-append}
-use Rattle.std.proofs.lemmas.Str.{chars-append, IsUtf8-append, encode_ascii}
-use Rattle.std.proofs.lemmas.Str.{encodes-chars, scalars-chars}
+use Rattle.std.proofs.lemmas.Str.{chars-append, IsUtf8-append, encode_ascii, encodes-chars, scalars-chars}
 use Rattle.uri_pct.proofs.General.{IfSome-weaken, IfSome-combine}
 use Rattle.uri_pct.proofs.ValidTexts.Cuts.{excludes}
 use Rattle.uri_pct.specs.Sets.{TableSet, LacksPercent, is_one_of, digit_set, scheme_set}
@@ -19,15 +17,12 @@ use Rattle.uri_parts.specs.Components.{components, Lacks, marked}
 use Rattle.uri_parts.specs.Grammar.{Kind, IsTextOf, is_authority, kind_by_flags}
 use Rattle.uri_parts.specs.Hosts.{HostKind, Ipv4, Ipv6, IpvFuture, RegName, IsHost, bracketed}
 use Rattle.uri_parts.proofs.Authorities.Authority.{is_authority_for-sound}
-use Rattle.uri_parts.proofs.HostForms.Futures.{ipv4-text-lacks-name-marks}
-use Rattle.uri_parts.proofs.HostForms.Futures.{ipv6-text-lacks-excluded-marks}
-use Rattle.uri_parts.proofs.HostForms.Futures.{ipvfuture-text-lacks-excluded-marks}
+use Rattle.uri_parts.proofs.HostForms.Futures.{ipv4-text-lacks-name-marks, ipv6-text-lacks-excluded-marks, ipvfuture-text-lacks-excluded-marks}
 use Rattle.uri_parts.proofs.HostForms.Hosts.{address-in-brackets-is-utf8}
 use Rattle.uri_parts.proofs.TextKinds.GrammarTexts.{valid_text_lacks_excluded_marks}
 use Rattle.uri_ops.proofs.Meanings.AllowedParts.{is_set_text, set-text-is-utf8, set-text-is-valid}
 use Rattle.uri_ops.proofs.Meanings.AuthorityMeanings.{authority-parts-are-utf8}
-use Rattle.uri_ops.proofs.Meanings.TextParts.{components-of-utf8-are-utf8}
-use Rattle.uri_ops.proofs.Meanings.TextParts.{grammar-gives-components-of-kind}
+use Rattle.uri_ops.proofs.Meanings.TextParts.{components-of-utf8-are-utf8, grammar-gives-components-of-kind}
 use Rattle.uri_ops.proofs.Paths.PathCharacters.{lacked-delimiters-fail-test}
 use Rattle.uri_streams.specs.JsonTexts.{is_unescaped}
 use Rattle.uri_commands.specs.Kinds.{kind_named}

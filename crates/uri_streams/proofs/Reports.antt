@@ -1,16 +1,12 @@
 -- What the error output of a run got, and what its observer saw.
-use Rattle.std.proofs.Common.{◌≡◌, ◌+◌, ◌++◌, ℕ, Bool, true, false, List, [], ◌∷◌, refl, ap, sym}
-use Rattle.std.proofs.Common.{◌∙◌, subst, Option, Some, None, length, arith, true≢false, cond}
-use Rattle.std.proofs.Common.{append_assoc, zero-add}
+use Rattle.std.proofs.Common.{◌≡◌, ◌+◌, ◌++◌, ℕ, Bool, true, false, List, [], ◌∷◌, refl, ap, sym, ◌∙◌, subst, Option, Some, None, length, arith, true≢false, cond, append_assoc, zero-add}
 use Rattle.std.specs.Prelude.{if◌then◌else◌}
 use Rattle.std.proofs.lemmas.List.{append-nil}
 use Rattle.std.proofs.lemmas.List.Sums.{sum_by-append}
 use Rattle.std.proofs.KnownBytes.{Appends-nil, Appends-trans, Keeps-refl, Keeps-trans}
 use Rattle.uri_commands.specs.Prefixes.{AppendsPrefix}
-use Rattle.uri_commands.proofs.Appended.{AppendsPrefix-after-Appends, AppendsPrefix-of-longer}
-use Rattle.uri_commands.proofs.Appended.{AppendsPrefix-of-kept, AppendsPrefix-then-Keeps}
-use Rattle.uri_streams.specs.Outputs.{ProcessedLine, error_count, is_error, tallies_after}
-use Rattle.uri_streams.specs.Outputs.{tallies_of}
+use Rattle.uri_commands.proofs.Appended.{AppendsPrefix-after-Appends, AppendsPrefix-of-longer, AppendsPrefix-of-kept, AppendsPrefix-then-Keeps}
+use Rattle.uri_streams.specs.Outputs.{ProcessedLine, error_count, is_error, tallies_after, tallies_of}
 use Rattle.uri_streams.specs.Runs.{ErrorOutput, Reports, ReportsPrefix, Sees}
 use Rattle.uri_streams.specs.declared.run.Tally.{Tally}
 

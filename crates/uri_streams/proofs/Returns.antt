@@ -1,7 +1,5 @@
 -- Whether a `\r` is before the end of a line that is read in parts.
-use Rattle.std.proofs.Common.{◌≡◌, ◌≢◌, ◌<◌, ◌+◌, ◌-◌, ◌++◌, ℕ, Bool, true, false, cond, List, []}
-use Rattle.std.proofs.Common.{All, refl, ap, sym, ◌∙◌, length, length-append, take, arith, get_or}
-use Rattle.std.proofs.Common.{append-nil, lt-ltb, ltb-true, ltb-false, eqb-true, eq-eqb, ◌==◌}
+use Rattle.std.proofs.Common.{◌≡◌, ◌≢◌, ◌<◌, ◌+◌, ◌-◌, ◌++◌, ℕ, Bool, true, false, cond, List, [], All, refl, ap, sym, ◌∙◌, length, length-append, take, arith, get_or, append-nil, lt-ltb, ltb-true, ltb-false, eqb-true, eq-eqb, ◌==◌}
 use Rattle.std.specs.Io.{IsEmptyOrEndsWith}
 use Rattle.std.specs.Io.BufRead.{ends_with_byte, strip_last}
 use Rattle.std.specs.Prelude.{◌&&◌, nat_lt, not}

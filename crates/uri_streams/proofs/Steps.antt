@@ -1,6 +1,5 @@
 -- What is read of a line, and written for it, is a step.
-use Rattle.std.proofs.Common.{◌≡◌, ◌+◌, ◌++◌, ℕ, Bool, false, List, [], ◌∷◌, refl, ap, sym, ◌∙◌}
-use Rattle.std.proofs.Common.{subst, Option, Some, None, IfSome, inl, cond, ◌<◌, ◌≢◌, length, arith}
+use Rattle.std.proofs.Common.{◌≡◌, ◌+◌, ◌++◌, ℕ, Bool, false, List, [], ◌∷◌, refl, ap, sym, ◌∙◌, subst, Option, Some, None, IfSome, inl, cond, ◌<◌, ◌≢◌, length, arith}
 use Rattle.std.specs.Prelude.{◌&&◌, IfErr, IfOk, Result, Ok, Err, not}
 use Rattle.std.specs.Io.Buffered.{reader_remaining}
 use Rattle.std.proofs.BufReadLemmas.{Consumes_through, take_through_nonempty}
@@ -13,14 +12,10 @@ use Rattle.uri_streams.specs.Causes.{is_input_cause}
 use Rattle.uri_commands.specs.declared.sink.Sink.{Sink}
 use Rattle.uri_streams.specs.Lines.{end_byte, lines_of}
 use Rattle.uri_streams.specs.Fields.{Cut}
-use Rattle.uri_streams.specs.Outputs.{ProcessedLine, errors_of, is_error, is_stop, line_cut}
-use Rattle.uri_streams.specs.Outputs.{line_end, line_ending, line_output, line_result, output_of}
-use Rattle.uri_streams.specs.Outputs.{processed, processed_lines, result_output, result_report}
+use Rattle.uri_streams.specs.Outputs.{ProcessedLine, errors_of, is_error, is_stop, line_cut, line_end, line_ending, line_output, line_result, output_of, processed, processed_lines, result_output, result_report}
 use Rattle.uri_streams.specs.Results.{LineResult}
 use Rattle.uri_streams.specs.Returned.{IsResult, result_in}
-use Rattle.uri_streams.specs.Models.{FailsInWriting, IsBufferedLine, IsStepOf, ReadsFirstLine}
-use Rattle.uri_streams.specs.Models.{ReadsPartOfLine, StepFails, Steps, WritesLineOutput}
-use Rattle.uri_streams.specs.Models.{WritesOutputPrefix, WritesResult, bytes_output, bytes_report}
+use Rattle.uri_streams.specs.Models.{FailsInWriting, IsBufferedLine, IsStepOf, ReadsFirstLine, ReadsPartOfLine, StepFails, Steps, WritesLineOutput, WritesOutputPrefix, WritesResult, bytes_output, bytes_report}
 use Rattle.uri_streams.specs.Runs.{ErrorOutput, Reports, ReportsPrefix, error_output_of}
 use Rattle.uri_streams.specs.Tasks.{Known, Remembers, cut_result}
 use Rattle.uri_streams.specs.declared.failure.Cause.{Cause}
@@ -29,11 +24,9 @@ use Rattle.uri_streams.specs.declared.line_result.LineResult.{LineResult as Retu
 use Rattle.uri_streams.specs.declared.output.StepResult.{StepResult}
 use Rattle.uri_streams.specs.declared.source.Source.{Source}
 use Rattle.uri_streams.specs.declared.task.Task.{Task}
-use Rattle.uri_streams.proofs.Cuts.{StandsFor, StandsFor-of-limited-line}
-use Rattle.uri_streams.proofs.Cuts.{bytes_output-if-StandsFor, line_cut-if-StandsFor}
+use Rattle.uri_streams.proofs.Cuts.{StandsFor, StandsFor-of-limited-line, bytes_output-if-StandsFor, line_cut-if-StandsFor}
 use Rattle.uri_streams.proofs.Parts.{Consumes-buffered}
-use Rattle.uri_commands.proofs.Appended.{AppendsPrefix-after-Keeps, AppendsPrefix-of-longer}
-use Rattle.uri_commands.proofs.Appended.{AppendsPrefix-of-kept}
+use Rattle.uri_commands.proofs.Appended.{AppendsPrefix-after-Keeps, AppendsPrefix-of-longer, AppendsPrefix-of-kept}
 use Rattle.uri_streams.proofs.Failures.{Appends-after-Keeps, KeepsFailures-in-writing}
 use Rattle.uri_streams.proofs.Reports.{ReportsPrefix-of-longer, ReportsPrefix-of-nothing}
 use Rattle.uri_streams.proofs.Returns.{output-end-is-line-end}

@@ -1,8 +1,5 @@
 -- The first line is taken, and its output is written.
-use Rattle.std.proofs.Common.{◌≡◌, ◌+◌, ◌-◌, ◌^◌, ◌<◌, ◌≤◌, ◌++◌, ℕ, Bool, true, false, cond, eqb}
-use Rattle.std.proofs.Common.{List, [], ◌∷◌, refl, ap, sym, ◌∙◌, subst, append_assoc, length}
-use Rattle.std.proofs.Common.{length-append, Option, Some, None, arith, ◌⊎◌, ⊎_elim, true≢false}
-use Rattle.std.proofs.Common.{min, zero-add, drop}
+use Rattle.std.proofs.Common.{◌≡◌, ◌+◌, ◌-◌, ◌^◌, ◌<◌, ◌≤◌, ◌++◌, ℕ, Bool, true, false, cond, eqb, List, [], ◌∷◌, refl, ap, sym, ◌∙◌, subst, append_assoc, length, length-append, Option, Some, None, arith, ◌⊎◌, ⊎_elim, true≢false, min, zero-add, drop}
 use Rattle.std.specs.List.{concat, flat_map}
 use Rattle.std.specs.Prelude.{if◌then◌else◌}
 use Rattle.std.proofs.lemmas.List.{append-nil, drop-drop}
@@ -12,11 +9,8 @@ use Rattle.std.specs.Io.BufRead.{take_through, drop_through}
 use Rattle.std.specs.Io.KnownBytes.{Appends}
 use Rattle.std.proofs.KnownBytes.{Appends-nil, Appends-trans, Appends-kept}
 use Rattle.uri_streams.specs.Lines.{end_byte, lines_of, prepend_to_first_line}
-use Rattle.uri_streams.specs.Outputs.{ProcessedLine, processed, processed_lines, processed_in}
-use Rattle.uri_streams.specs.Outputs.{error_count, errors_of, line_report, tallies_of}
-use Rattle.uri_streams.specs.Outputs.{is_error, is_last, line_result, line_output, output_of}
-use Rattle.uri_streams.specs.Runs.{ErrorOutput, LeavesRest, Reports, Sees, WritesOutput}
-use Rattle.uri_streams.specs.Runs.{left_after}
+use Rattle.uri_streams.specs.Outputs.{ProcessedLine, processed, processed_lines, processed_in, error_count, errors_of, line_report, tallies_of, is_error, is_last, line_result, line_output, output_of}
+use Rattle.uri_streams.specs.Runs.{ErrorOutput, LeavesRest, Reports, Sees, WritesOutput, left_after}
 use Rattle.uri_streams.proofs.MergedLines.{concat-of-lines}
 use Rattle.uri_streams.specs.Models.{FindsEnd, HasWrittenSoFar, ProcessedSoFar, Steps, WritesLine}
 use Rattle.uri_streams.specs.Tasks.{Known, Remembers}
@@ -24,8 +18,7 @@ use Rattle.uri_streams.specs.declared.job.Job.{Job}
 use Rattle.uri_streams.specs.declared.output.StepResult.{StepResult}
 use Rattle.uri_streams.specs.declared.run.Tally.{Tally}
 use Rattle.uri_streams.specs.declared.task.Task.{Task}
-use Rattle.uri_streams.proofs.Reports.{Reports-after-Reports, Reports-nothing, Reports-then-nothing}
-use Rattle.uri_streams.proofs.Reports.{Sees-after-Sees, Sees-nothing, tallies_of-one-more}
+use Rattle.uri_streams.proofs.Reports.{Reports-after-Reports, Reports-nothing, Reports-then-nothing, Sees-after-Sees, Sees-nothing, tallies_of-one-more}
 
 -- lines: the first is up to the first end, and the others are after it
 lines-step : (end x : ℕ) (xs : List ℕ) → lines_of end (x ∷ xs)

@@ -1,6 +1,5 @@
 -- The result under a task, by its command.
-use Rattle.std.proofs.Common.{◌≡◌, ℕ, Bool, true, List, Result, Ok, Err, IfOk, refl, ap, sym, subst}
-use Rattle.std.proofs.Common.{◌∙◌, Some}
+use Rattle.std.proofs.Common.{◌≡◌, ℕ, Bool, true, List, Result, Ok, Err, IfOk, refl, ap, sym, subst, ◌∙◌, Some}
 use Rattle.std.specs.Prelude.{codes, ◌++◌, if◌then◌else◌}
 use Rattle.fluent_uri.specs.Grammar.{IsOfKind, Kind, is_of_kind, uri_ref}
 use Rattle.fluent_uri.specs.Refusals.{refusal}
@@ -13,8 +12,7 @@ use Rattle.uri_links.specs.Outcomes.{outcome_of}
 use Rattle.uri_commands.specs.Kinds.{kind_named}
 use Rattle.uri_streams.specs.Results.{LineResult, Error, normalize_result, parse_message}
 use Rattle.uri_streams.specs.Returned.{IsResult, result_in}
-use Rattle.uri_streams.specs.Tasks.{HasMet, Known, Remembers, text_if_new, link_result}
-use Rattle.uri_streams.specs.Tasks.{no_text_result, noted_result, text_result, unique_result}
+use Rattle.uri_streams.specs.Tasks.{HasMet, Known, Remembers, text_if_new, link_result, no_text_result, noted_result, text_result, unique_result}
 use Rattle.uri_streams.specs.Fields.{no_text_message}
 use Rattle.uri_streams.specs.declared.line_result.LineResult.{LineResult as Returned}
 use Rattle.uri_streams.specs.declared.command.Command.{Command}

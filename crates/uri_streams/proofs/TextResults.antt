@@ -1,6 +1,5 @@
 -- What a kind's calls return is the result of a text.
-use Rattle.std.proofs.Common.{◌≡◌, ◌≢◌, ℕ, Bool, true, false, List, Result, Ok, Err, [], ◌++◌, Some}
-use Rattle.std.proofs.Common.{refl, ap, sym, ◌∙◌}
+use Rattle.std.proofs.Common.{◌≡◌, ◌≢◌, ℕ, Bool, true, false, List, Result, Ok, Err, [], ◌++◌, Some, refl, ap, sym, ◌∙◌}
 use Rattle.fluent_uri.specs.Components.{components}
 use Rattle.fluent_uri.specs.Grammar.{Kind, IsOfKind, is_of_kind}
 use Rattle.fluent_uri.specs.Refusals.{refusal}
@@ -18,8 +17,7 @@ use Rattle.uri_commands.specs.declared.refusal.CommandError.TheVariants.{Target}
 use Rattle.uri_ops.specs.Normalizers.{HasNormalText}
 use Rattle.uri_parts.specs.SchemePorts.{default_port}
 use Rattle.uri_rules.proofs.RuledMeanings.{meaning-under-ports-alone}
-use Rattle.uri_streams.specs.Results.{LineResult, Text, Error, parse_message}
-use Rattle.uri_streams.specs.Results.{parsed_result, resolution_result, target_result}
+use Rattle.uri_streams.specs.Results.{LineResult, Text, Error, parse_message, parsed_result, resolution_result, target_result}
 use Rattle.uri_streams.specs.Returned.{result_in}
 use Rattle.uri_streams.specs.declared.line_result.LineResult.{LineResult as Returned}
 use Rattle.uri_streams.specs.declared.line_result.LineResult.TheVariants as returned

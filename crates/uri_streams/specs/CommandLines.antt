@@ -1,6 +1,5 @@
 -- The job that a command line of `urilines` asks for.
-use Rattle.std.specs.Prelude.{◌≡◌, ◌<◌, ◌-◌, ◌⊎◌, ℕ, Bool, true, false, List, [], ◌∷◌, ◌||◌, ◌==◌}
-use Rattle.std.specs.Prelude.{codes, nat_lt, Option, Some, None, option_map, unwrap_or}
+use Rattle.std.specs.Prelude.{◌≡◌, ◌<◌, ◌-◌, ◌⊎◌, ℕ, Bool, true, false, List, [], ◌∷◌, ◌||◌, ◌==◌, codes, nat_lt, Option, Some, None, option_map, unwrap_or}
 use Rattle.std.specs.Borrow.{Bor}
 use Rattle.std.specs.declared.hash.RandomState.{RandomState}
 use Rattle.uri_parts.specs.Fragments.{IsWithFragment}
@@ -17,9 +16,7 @@ use Rattle.uri_streams.specs.declared.command.Command.{Command}
 use Rattle.uri_streams.specs.declared.command.Command.TheVariants.{Each, Unique, Links}
 use Rattle.uri_commands.specs.declared.kinds.KindName.{KindName}
 use Rattle.uri_commands.specs.declared.kinds.KindName.TheVariants as kinds
-use Rattle.uri_streams.specs.declared.command.LineCommand.TheVariants.{Normalize, Resolve, Check}
-use Rattle.uri_streams.specs.declared.command.LineCommand.TheVariants.{Mend, Parse, Query}
-use Rattle.uri_streams.specs.declared.command.LineCommand.TheVariants.{Relativize}
+use Rattle.uri_streams.specs.declared.command.LineCommand.TheVariants.{Normalize, Resolve, Check, Mend, Parse, Query, Relativize}
 use Rattle.uri_streams.specs.declared.command_line.CommandLine.{CommandLine}
 use Rattle.uri_streams.specs.declared.command_line.CommandLineError.{CommandLineError}
 use Rattle.uri_streams.specs.declared.command_line.CommandLineError.TheVariants as line_errors

@@ -1,7 +1,5 @@
 -- What a command gets of a line: its text, or one of its fields.
-use Rattle.std.specs.Prelude.{ℕ, ◌≡◌, ◌≤◌, ◌+◌, List, [], ◌∷◌, ◌++◌, ◌==◌, codes, decimal, drop}
-use Rattle.std.specs.Prelude.{length, Option, Some, None, Result, Ok, Err, nat_lt, slice_get, take}
-use Rattle.std.specs.Prelude.{if◌then◌else◌}
+use Rattle.std.specs.Prelude.{ℕ, ◌≡◌, ◌≤◌, ◌+◌, List, [], ◌∷◌, ◌++◌, ◌==◌, codes, decimal, drop, length, Option, Some, None, Result, Ok, Err, nat_lt, slice_get, take, if◌then◌else◌}
 use Rattle.std.specs.List.{flat_map, slice_split}
 use Rattle.uri_streams.specs.declared.fault.NoText.{NoText}
 use Rattle.uri_streams.specs.declared.fault.NoText.TheVariants.{TooLong, NoField, NotUtf8}

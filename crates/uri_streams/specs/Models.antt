@@ -1,7 +1,5 @@
 -- What private functions say of a run on its way.
-use Rattle.std.specs.Prelude.{◌≡◌, ◌≢◌, ◌<◌, ◌≤◌, ◌+◌, ◌⊎◌, ℕ, List, [], ◌++◌, length, take, All}
-use Rattle.std.specs.Prelude.{Bool, true, false, Option, Some, IfSome, ◌&&◌, ◌-◌, slice_index, ◌||◌}
-use Rattle.std.specs.Prelude.{IfErr, IfOk, IsTrue, Result, drop}
+use Rattle.std.specs.Prelude.{◌≡◌, ◌≢◌, ◌<◌, ◌≤◌, ◌+◌, ◌⊎◌, ℕ, List, [], ◌++◌, length, take, All, Bool, true, false, Option, Some, IfSome, ◌&&◌, ◌-◌, slice_index, ◌||◌, IfErr, IfOk, IsTrue, Result, drop}
 use Rattle.std.specs.Str.{IsAscii}
 use Rattle.std.specs.Io.{StopsAt}
 use Rattle.std.specs.Io.BufRead.{take_through, drop_through}
@@ -13,10 +11,7 @@ use Rattle.uri_commands.specs.Sinks.{KeepsFinalError}
 use Rattle.uri_commands.specs.declared.sink.Sink.{Sink}
 use Rattle.uri_streams.specs.Causes.{caused_by_input, caused_by_output, is_input_cause}
 use Rattle.uri_streams.specs.Lines.{end_byte, ends_with_return, line_text, lines_of}
-use Rattle.uri_streams.specs.Outputs.{ProcessedLine, error_count, is_error, is_last, is_stop}
-use Rattle.uri_streams.specs.Outputs.{line_cut, line_output, line_result, output_of, processed}
-use Rattle.uri_streams.specs.Outputs.{errors_of, processed_in, processed_lines, result_output}
-use Rattle.uri_streams.specs.Outputs.{line_report, result_report, tallies_of}
+use Rattle.uri_streams.specs.Outputs.{ProcessedLine, error_count, is_error, is_last, is_stop, line_cut, line_output, line_result, output_of, processed, errors_of, processed_in, processed_lines, result_output, line_report, result_report, tallies_of}
 use Rattle.uri_streams.specs.Results.{LineResult}
 use Rattle.uri_streams.specs.Runs.{ErrorOutput, Reports, ReportsPrefix, Sees, error_output_of}
 use Rattle.uri_streams.specs.Tasks.{Known, Remembers}

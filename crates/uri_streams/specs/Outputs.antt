@@ -1,6 +1,5 @@
 -- What is written for an input: one line for each of its lines, unless that has no output.
-use Rattle.std.specs.Prelude.{ℕ, ◌+◌, List, [], ◌∷◌, ◌++◌, codes, decimal, Bool, true, false, ◌&&◌}
-use Rattle.std.specs.Prelude.{if◌then◌else◌}
+use Rattle.std.specs.Prelude.{ℕ, ◌+◌, List, [], ◌∷◌, ◌++◌, codes, decimal, Bool, true, false, ◌&&◌, if◌then◌else◌}
 use Rattle.std.specs.List.{count_by, flat_map}
 use Rattle.uri_streams.specs.Fields.{Cut, bounded_cut}
 use Rattle.uri_streams.specs.Results.{LineResult, Text, Unchanged, NoLine, Error}

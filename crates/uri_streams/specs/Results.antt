@@ -1,16 +1,13 @@
 -- The result of the text of a line under a command, whatever the other lines are.
-use Rattle.std.specs.Prelude.{ℕ, List, [], ◌++◌, codes, Bool, not, Result, Ok, Err, unwrap_or}
-use Rattle.std.specs.Prelude.{option_map, if◌then◌else◌}
+use Rattle.std.specs.Prelude.{ℕ, List, [], ◌++◌, codes, Bool, not, Result, Ok, Err, unwrap_or, option_map, if◌then◌else◌}
 use Rattle.fluent_uri.specs.Components.{components}
 use Rattle.fluent_uri.specs.Grammar.{Kind, uri, uri_ref, iri, iri_ref, is_of_kind}
 use Rattle.fluent_uri.specs.Iris.{iri_text}
 use Rattle.fluent_uri.specs.Refusals.{refusal}
-use Rattle.fluent_uri.specs.Target.{TargetError, BaseWithFragment}
-use Rattle.fluent_uri.specs.Target.{InvalidReferenceAgainstOpaqueBase, resolution_of}
+use Rattle.fluent_uri.specs.Target.{TargetError, BaseWithFragment, InvalidReferenceAgainstOpaqueBase, resolution_of}
 use Rattle.fluent_uri.specs.Uris.{uri_text}
 use Rattle.fluent_uri.specs.declared.resolve.ResolveError.TheVariants as resolve_errors
-use Rattle.uri_basic.specs.Target.{BasicTargetError, PathStartsWithDoubleSlash}
-use Rattle.uri_basic.specs.Target.{basic_resolution_of_texts}
+use Rattle.uri_basic.specs.Target.{BasicTargetError, PathStartsWithDoubleSlash, basic_resolution_of_texts}
 use Rattle.uri_commands.specs.Kinds.{kind_named, normal_form_of}
 use Rattle.uri_commands.specs.Messages.{error_text, resolve_error_text}
 use Rattle.uri_mend.specs.Mending.{can_be_mended, mended_text}
@@ -21,9 +18,7 @@ use Rattle.uri_streams.specs.Queries.{query_json}
 use Rattle.uri_streams.specs.declared.command.Base.{Base}
 use Rattle.uri_streams.specs.declared.command.Base.TheVariants as bases
 use Rattle.uri_streams.specs.declared.command.LineCommand.{LineCommand}
-use Rattle.uri_streams.specs.declared.command.LineCommand.TheVariants.{Normalize, Resolve, Check}
-use Rattle.uri_streams.specs.declared.command.LineCommand.TheVariants.{Relativize, Mend, Parse}
-use Rattle.uri_streams.specs.declared.command.LineCommand.TheVariants.{Query}
+use Rattle.uri_streams.specs.declared.command.LineCommand.TheVariants.{Normalize, Resolve, Check, Relativize, Mend, Parse, Query}
 
 -- the result of a line of an input: a text in place of the one that the command got, the line as it
 -- is, no line, or an error with its message

@@ -3,8 +3,7 @@ use Rattle.std.specs.Prelude.{◌≡◌, ℕ, List, ◌++◌, codes, string_byte
 use Rattle.std.specs.Borrow.{Bor}
 use Rattle.uri_commands.specs.Refusals.{command_error_text}
 use Rattle.uri_streams.specs.Fields.{Cut, no_text_message}
-use Rattle.uri_streams.specs.Results.{LineResult, Text, Unchanged, NoLine, Error}
-use Rattle.uri_streams.specs.Results.{double_slash_message}
+use Rattle.uri_streams.specs.Results.{LineResult, Text, Unchanged, NoLine, Error, double_slash_message}
 use Rattle.uri_streams.specs.Tasks.{Known, Remembers}
 use Rattle.uri_streams.specs.declared.line_result.LineResult.{LineResult as Returned}
 use Rattle.uri_streams.specs.declared.command.Command.{Command}

@@ -1,14 +1,12 @@
 -- What a run reads and writes.
-use Rattle.std.specs.Prelude.{◌≡◌, ◌≢◌, ℕ, Bool, List, ◌++◌, length, All, true, false, Option}
-use Rattle.std.specs.Prelude.{IfSome, Some, drop}
+use Rattle.std.specs.Prelude.{◌≡◌, ◌≢◌, ℕ, Bool, List, ◌++◌, length, All, true, false, Option, IfSome, Some, drop}
 use Rattle.std.specs.List.{concat}
 use Rattle.std.specs.Io.KnownBytes.{Appends, Keeps}
 use Rattle.uri_commands.specs.Prefixes.{AppendsPrefix}
 use Rattle.uri_commands.specs.declared.sink.Sink.{Sink}
 use Rattle.uri_streams.specs.Causes.{is_input}
 use Rattle.uri_streams.specs.Lines.{end_byte, lines_of}
-use Rattle.uri_streams.specs.Outputs.{ProcessedLine, error_count, output_of, processed_in}
-use Rattle.uri_streams.specs.Outputs.{errors_of, processed_lines, tallies_of}
+use Rattle.uri_streams.specs.Outputs.{ProcessedLine, error_count, output_of, processed_in, errors_of, processed_lines, tallies_of}
 use Rattle.uri_streams.specs.Tasks.{Known}
 use Rattle.uri_streams.specs.declared.failure.Failure.{Failure}
 use Rattle.uri_streams.specs.declared.job.Job.{Job}

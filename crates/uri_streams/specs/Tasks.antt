@@ -1,6 +1,5 @@
 -- The result of the text of a line under a command, after the lines before it.
-use Rattle.std.specs.Prelude.{◌≡◌, ℕ, List, [], ◌∷◌, ◌++◌, codes, Bool, bytes_eq, decimal}
-use Rattle.std.specs.Prelude.{Result, Ok, Err, if◌then◌else◌}
+use Rattle.std.specs.Prelude.{◌≡◌, ℕ, List, [], ◌∷◌, ◌++◌, codes, Bool, bytes_eq, decimal, Result, Ok, Err, if◌then◌else◌}
 use Rattle.std.specs.HashSet.{contains_text}
 use Rattle.std.specs.List.{list_any}
 use Rattle.std.specs.Str.{is_utf8}
@@ -17,9 +16,7 @@ use Rattle.uri_links.specs.declared.links.Outcome.{Outcome}
 use Rattle.uri_links.specs.declared.links.Outcome.TheVariants as outcomes
 use Rattle.uri_streams.specs.Fields.{no_text_message}
 use Rattle.uri_commands.specs.Kinds.{kind_named}
-use Rattle.uri_streams.specs.Results.{LineResult, Text, NoLine, Error, command_result}
-use Rattle.uri_streams.specs.Results.{normalize_result, parse_message, passed_if}
-use Rattle.uri_streams.specs.Results.{text_kind as line_text_kind}
+use Rattle.uri_streams.specs.Results.{LineResult, Text, NoLine, Error, command_result, normalize_result, parse_message, passed_if, text_kind as line_text_kind}
 use Rattle.uri_streams.specs.declared.command.Command.{Command}
 use Rattle.uri_streams.specs.declared.command.Command.TheVariants.{Each, Unique, Links}
 use Rattle.uri_streams.specs.declared.command.LineCommand.TheVariants.{Check}

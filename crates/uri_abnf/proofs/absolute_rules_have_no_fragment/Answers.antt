@@ -1,7 +1,6 @@
 use Rattle.std.proofs.Common.{true, refl}
 use Rattle.uri_parts.specs.Grammar.{uri, iri}
-use Rattle.uri_ops.proofs.TextKinds.GrammarTexts.{uris-are-texts-of-grammar}
-use Rattle.uri_ops.proofs.TextKinds.GrammarTexts.{iris-are-texts-of-grammar}
+use Rattle.uri_ops.proofs.TextKinds.GrammarTexts.{uris-are-texts-of-grammar, iris-are-texts-of-grammar}
 use Rattle.uri_abnf.specs.Derivations.{uri_rules, iri_rules}
 use Rattle.uri_abnf.proofs.BothRfcs.{uri-rules-fit, iri-rules-fit}
 use Rattle.uri_abnf.proofs.Languages.{absolute-texts}

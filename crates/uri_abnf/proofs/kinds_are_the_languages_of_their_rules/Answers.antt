@@ -1,6 +1,4 @@
-use Rattle.uri_abnf.proofs.Languages.{uri-characters-are-language}
-use Rattle.uri_abnf.proofs.Languages.{uri-reference-characters-are-language, iris-are-language}
-use Rattle.uri_abnf.proofs.Languages.{iri-references-are-language}
+use Rattle.uri_abnf.proofs.Languages.{uri-characters-are-language, uri-reference-characters-are-language, iris-are-language, iri-references-are-language}
 use Rattle.uri_abnf.proofs.kinds_are_the_languages_of_their_rules.Goals as goal
 
 pub returns-clause-uri : goal.returns-clause-uri

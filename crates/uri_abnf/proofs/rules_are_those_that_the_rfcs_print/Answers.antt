@@ -1,5 +1,4 @@
-use Rattle.uri_abnf.proofs.PrintedRules.{rfc5234-is-printed, rfc3986-is-printed}
-use Rattle.uri_abnf.proofs.PrintedRules.{rfc3987-is-printed}
+use Rattle.uri_abnf.proofs.PrintedRules.{rfc5234-is-printed, rfc3986-is-printed, rfc3987-is-printed}
 use Rattle.uri_abnf.proofs.rules_are_those_that_the_rfcs_print.Goals as goal
 
 pub returns-clause-rfc5234 : goal.returns-clause-rfc5234

@@ -1,20 +1,16 @@
 -- The texts of a kind whose sets have no characters past ASCII have none.
-use Rattle.std.proofs.Common.{◌≡◌, ℕ, zero, suc, ◌<◌, Bool, true, false, eqb, ltb, List, [], ◌∷◌}
-use Rattle.std.proofs.Common.{◌++◌, take, refl, sym, ap, subst, ◌∙◌, arith, ◌&&◌, ⊎_elim}
+use Rattle.std.proofs.Common.{◌≡◌, ℕ, zero, suc, ◌<◌, Bool, true, false, eqb, ltb, List, [], ◌∷◌, ◌++◌, take, refl, sym, ap, subst, ◌∙◌, arith, ◌&&◌, ⊎_elim}
 use Rattle.std.specs.Prelude.{codes, Option, Some, None, IfSome}
 use Rattle.std.specs.Char.{is_ascii_hexdigit, is_ascii_digit}
 use Rattle.std.specs.List.{list_all}
 use Rattle.std.specs.Str.{IsUtf8}
 use Rattle.std.proofs.lemmas.List.Folds.{list_all-append}
-use Rattle.std.proofs.lemmas.Bool.{cases_Bool, cases_lt, cond-true, cond-false, and_parts, and_from}
-use Rattle.std.proofs.lemmas.Bool.{lt-ltb, both_ways, eqb-true}
+use Rattle.std.proofs.lemmas.Bool.{cases_Bool, cases_lt, cond-true, cond-false, and_parts, and_from, lt-ltb, both_ways, eqb-true}
 use Rattle.std.proofs.lemmas.Bool.Decides.{nat_tests}
-use Rattle.uri_pct.specs.Sets.{TableSet, LacksPercent, allows_past_ascii, digit_set}
-use Rattle.uri_pct.specs.Sets.{is_userinfo_char}
+use Rattle.uri_pct.specs.Sets.{TableSet, LacksPercent, allows_past_ascii, digit_set, is_userinfo_char}
 use Rattle.uri_pct.specs.Tokens.{IsValidFor}
 use Rattle.uri_pct.specs.Prefixes.{allows_first, begins_with_hex_digits, first_char}
-use Rattle.uri_pct.proofs.ValidTexts.Validity.{valid_from, validity_of_tokens_is_validity_of_bytes}
-use Rattle.uri_pct.proofs.ValidTexts.Validity.{first_byte_past_ascii_is_allowed_by_its_char}
+use Rattle.uri_pct.proofs.ValidTexts.Validity.{valid_from, validity_of_tokens_is_validity_of_bytes, first_byte_past_ascii_is_allowed_by_its_char}
 use Rattle.uri_pct.proofs.Unicode.Characters.{hexdigit_is_ascii}
 use Rattle.uri_parts.specs.Components.{Components, components, marked, recompose}
 use Rattle.uri_parts.specs.Grammar.{Kind, is_scheme, is_authority, IsTextOf}
@@ -27,17 +23,13 @@ use Rattle.uri_parts.proofs.Splitting.Recompose.{recompose-components}
 use Rattle.uri_ops.specs.ComponentSets.{IsComponentSet, HasComponentSets}
 use Rattle.uri_ops.specs.Encoded.{ascii_set, ascii_kind}
 use Rattle.uri_ops.proofs.Meanings.AsciiCharacters.{valid_ascii_text}
-use Rattle.uri_ops.proofs.Meanings.HostMeanings.{ipvfuture-has-ascii-parts}
-use Rattle.uri_ops.proofs.Meanings.HostMeanings.{ipvfuture-is-userinfo-characters}
+use Rattle.uri_ops.proofs.Meanings.HostMeanings.{ipvfuture-has-ascii-parts, ipvfuture-is-userinfo-characters}
 use Rattle.uri_ops.proofs.Meanings.AuthorityMeanings.{authority-parts-are-utf8}
 use Rattle.uri_ops.proofs.Meanings.AllowedParts.{is_set_text, set-text-is-utf8, set-text-is-valid}
 use Rattle.uri_ops.proofs.Meanings.TextParts.{ArePartsOfKind}
 use Rattle.uri_pct.proofs.General.{IfSome-weaken, IfSome-combine}
 use Rattle.uri_ops.proofs.Normal.NormalTexts.{text-has-parts-of-kind}
-use Rattle.uri_ops.proofs.AsciiForms.EncodedAuthorities.{text-passing-ascii-test-is-ascii}
-use Rattle.uri_ops.proofs.AsciiForms.EncodedAuthorities.{bracketed-ascii-address-is-ascii}
-use Rattle.uri_ops.proofs.AsciiForms.EncodedAuthorities.{address-text-is-ascii}
-use Rattle.uri_ops.proofs.AsciiForms.EncodedAuthorities.{dotted-decimal-is-ascii}
+use Rattle.uri_ops.proofs.AsciiForms.EncodedAuthorities.{text-passing-ascii-test-is-ascii, bracketed-ascii-address-is-ascii, address-text-is-ascii, dotted-decimal-is-ascii}
 use Rattle.uri_ops.proofs.AsciiForms.EncodedMeanings.{schemes-are-ascii}
 
 -- IRIs as URIs: the text has no byte past ASCII

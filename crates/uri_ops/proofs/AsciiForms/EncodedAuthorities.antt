@@ -1,6 +1,5 @@
 -- An authority without characters past ASCII is one, and has the meaning of the authority.
-use Rattle.std.proofs.Common.{◌≡◌, ℕ, Bool, true, ltb, List, [], ◌∷◌, ◌++◌, map, refl, sym, ap}
-use Rattle.std.proofs.Common.{subst, ◌∙◌, inl, inr, option_map, arith}
+use Rattle.std.proofs.Common.{◌≡◌, ℕ, Bool, true, ltb, List, [], ◌∷◌, ◌++◌, map, refl, sym, ap, subst, ◌∙◌, inl, inr, option_map, arith}
 use Rattle.std.specs.Prelude.{codes, Option, Some, None, IfSome}
 use Rattle.std.specs.Char.{is_ascii_digit}
 use Rattle.std.specs.List.{list_all}
@@ -17,40 +16,24 @@ use Rattle.uri_pct.specs.Tokens.{IsValidFor}
 use Rattle.uri_pct.specs.DecodeUnreserved.{decode_unreserved, lower_token}
 use Rattle.uri_pct.proofs.ValidTexts.Cuts.{excludes}
 use Rattle.uri_parts.specs.Components.{marked}
-use Rattle.uri_parts.specs.Hosts.{HostKind, Ipv4, Ipv6, IpvFuture, RegName, IsHost, bracketed}
-use Rattle.uri_parts.specs.Hosts.{host_kind, ipv4_value}
-use Rattle.uri_parts.specs.Authority.{AuthorityParts, IsAuthorityFor, LackAuthorityDelimiters}
-use Rattle.uri_parts.specs.Authority.{authority_parts, recompose_authority}
+use Rattle.uri_parts.specs.Hosts.{HostKind, Ipv4, Ipv6, IpvFuture, RegName, IsHost, bracketed, host_kind, ipv4_value}
+use Rattle.uri_parts.specs.Authority.{AuthorityParts, IsAuthorityFor, LackAuthorityDelimiters, authority_parts, recompose_authority}
 use Rattle.uri_parts.specs.Grammar.{Kind, is_authority}
-use Rattle.uri_parts.proofs.Authorities.Authority.{is_authority_for-sound}
-use Rattle.uri_parts.proofs.Authorities.Authority.{is_authority_for-complete}
-use Rattle.uri_parts.proofs.Authorities.Authority.{authority_parts-are-unique}
-use Rattle.uri_parts.proofs.Authorities.Authority.{names_exclude_delimiters}
-use Rattle.uri_parts.proofs.HostForms.Addresses.{is_address_char, is_address_text}
-use Rattle.uri_parts.proofs.HostForms.Addresses.{ipv6-text-is-address-text}
-use Rattle.uri_parts.proofs.HostForms.Hosts.{is_host-sound, lacking_text_does_not_begin_with}
-use Rattle.uri_parts.proofs.HostForms.Hosts.{address-in-brackets-is-utf8}
+use Rattle.uri_parts.proofs.Authorities.Authority.{is_authority_for-sound, is_authority_for-complete, authority_parts-are-unique, names_exclude_delimiters}
+use Rattle.uri_parts.proofs.HostForms.Addresses.{is_address_char, is_address_text, ipv6-text-is-address-text}
+use Rattle.uri_parts.proofs.HostForms.Hosts.{is_host-sound, lacking_text_does_not_begin_with, address-in-brackets-is-utf8}
 use Rattle.uri_parts.proofs.TextKinds.GrammarTexts.{valid_text_lacks_excluded_marks}
 use Rattle.uri_parts.proofs.HostForms.Futures.{ipv4-text-is-digits-and-dots}
 use Rattle.uri_ops.specs.ComponentSets.{IsComponentSet, HasComponentSets}
 use Rattle.uri_ops.specs.Encoded.{encode_past_ascii, ascii_set, ascii_kind}
 use Rattle.uri_ops.specs.Meaning.{Name, host_meaning, authority_meaning}
-use Rattle.uri_ops.proofs.Meanings.AllowedParts.{is_set_text, set-text-from-utf8, set-text-is-utf8}
-use Rattle.uri_ops.proofs.Meanings.AllowedParts.{set-text-is-valid}
+use Rattle.uri_ops.proofs.Meanings.AllowedParts.{is_set_text, set-text-from-utf8, set-text-is-utf8, set-text-is-valid}
 use Rattle.uri_ops.proofs.Meanings.AsciiCharacters.{is_ascii_in, valid_ascii_text}
-use Rattle.uri_ops.proofs.Meanings.HostMeanings.{address-characters-are-ascii}
-use Rattle.uri_ops.proofs.Meanings.HostMeanings.{ipvfuture-has-ascii-parts}
-use Rattle.uri_ops.proofs.Meanings.HostMeanings.{ipvfuture-is-userinfo-characters}
-use Rattle.uri_ops.proofs.Meanings.HostMeanings.{meaning-of-name-is-lowered-decoded}
-use Rattle.uri_ops.proofs.Meanings.HostMeanings.{unbracketed-valid-text-is-name}
-use Rattle.uri_ops.proofs.Meanings.AuthorityMeanings.{PartsUtf8, authority-parts-are-utf8}
-use Rattle.uri_ops.proofs.Meanings.AuthorityMeanings.{kind-sets-lack-authority-delimiters}
+use Rattle.uri_ops.proofs.Meanings.HostMeanings.{address-characters-are-ascii, ipvfuture-has-ascii-parts, ipvfuture-is-userinfo-characters, meaning-of-name-is-lowered-decoded, unbracketed-valid-text-is-name}
+use Rattle.uri_ops.proofs.Meanings.AuthorityMeanings.{PartsUtf8, authority-parts-are-utf8, kind-sets-lack-authority-delimiters}
 use Rattle.uri_ops.proofs.AsciiForms.EncodedTokens.{encoded-text-is-utf8}
-use Rattle.uri_ops.proofs.AsciiForms.EncodedDecodings.{encoded-part-is-valid-for-ascii_set}
-use Rattle.uri_ops.proofs.AsciiForms.EncodedDecodings.{decode_unreserved-of-encoded-text}
-use Rattle.uri_ops.proofs.AsciiForms.EncodedPaths.{encoding-of-append-is-append}
-use Rattle.uri_ops.proofs.AsciiForms.EncodedPaths.{ascii-text-is-its-own-encoding}
-use Rattle.uri_ops.proofs.AsciiForms.EncodedPaths.{encoding-keeps-leading-delimiter}
+use Rattle.uri_ops.proofs.AsciiForms.EncodedDecodings.{encoded-part-is-valid-for-ascii_set, decode_unreserved-of-encoded-text}
+use Rattle.uri_ops.proofs.AsciiForms.EncodedPaths.{encoding-of-append-is-append, ascii-text-is-its-own-encoding, encoding-keeps-leading-delimiter}
 use Rattle.uri_ops.proofs.AsciiForms.EncodedComponents.{encoding-keeps-delimiters}
 use Rattle.uri_pct.proofs.General.{IfSome-combine}
 

@@ -1,27 +1,16 @@
 -- The components of a text without characters past ASCII are those of the text, without them.
-use Rattle.std.proofs.Common.{◌≡◌, ℕ, ◌<◌, Bool, true, false, not, ltb, List, length, refl, sym, ap}
-use Rattle.std.proofs.Common.{◌∙◌, ◌&&◌, ⊎_elim, inl, inr, option_map, arith}
+use Rattle.std.proofs.Common.{◌≡◌, ℕ, ◌<◌, Bool, true, false, not, ltb, List, length, refl, sym, ap, ◌∙◌, ◌&&◌, ⊎_elim, inl, inr, option_map, arith}
 use Rattle.std.specs.Prelude.{codes, Option, Some, None, IfSome, IfNone}
 use Rattle.std.specs.List.{list_all}
 use Rattle.std.specs.Str.{IsUtf8}
 use Rattle.std.proofs.lemmas.Bool.Decides.{nat_tests}
-use Rattle.uri_parts.specs.Components.{Components, IsSplitOf, Lacks, IsAbemptyPath, marked, starts}
-use Rattle.uri_parts.specs.Components.{has_scheme, has_authority, from_any, components, recompose}
-use Rattle.uri_parts.proofs.Splitting.Recompose.{components-are-split-of-text}
-use Rattle.uri_parts.proofs.Splitting.Recompose.{equal-to-true-is-IsTrue}
+use Rattle.uri_parts.specs.Components.{Components, IsSplitOf, Lacks, IsAbemptyPath, marked, starts, has_scheme, has_authority, from_any, components, recompose}
+use Rattle.uri_parts.proofs.Splitting.Recompose.{components-are-split-of-text, equal-to-true-is-IsTrue}
 use Rattle.uri_parts.proofs.Splitting.Splits.{only-split-is-components}
 use Rattle.uri_parts.proofs.Authorities.NamesAndPorts.{utf8_before_marks}
 use Rattle.uri_ops.specs.Encoded.{encode_past_ascii}
-use Rattle.uri_ops.proofs.Meanings.TextParts.{AreUtf8, scheme-ends-are-ascii}
-use Rattle.uri_ops.proofs.Meanings.TextParts.{components-of-utf8-are-utf8}
-use Rattle.uri_ops.proofs.AsciiForms.EncodedPaths.{encoding-of-append-is-append}
-use Rattle.uri_ops.proofs.AsciiForms.EncodedPaths.{encoding-of-nil-is-nil}
-use Rattle.uri_ops.proofs.AsciiForms.EncodedPaths.{ascii-text-is-its-own-encoding}
-use Rattle.uri_ops.proofs.AsciiForms.EncodedPaths.{encoding-keeps-lacked-delimiters}
-use Rattle.uri_ops.proofs.AsciiForms.EncodedPaths.{encoding-keeps-leading-delimiter}
-use Rattle.uri_ops.proofs.AsciiForms.EncodedPaths.{encoding-keeps-emptiness}
-use Rattle.uri_ops.proofs.AsciiForms.EncodedPaths.{encoding-keeps-two-slashes}
-use Rattle.uri_ops.proofs.AsciiForms.EncodedPaths.{encoding-and-cutting-swap}
+use Rattle.uri_ops.proofs.Meanings.TextParts.{AreUtf8, scheme-ends-are-ascii, components-of-utf8-are-utf8}
+use Rattle.uri_ops.proofs.AsciiForms.EncodedPaths.{encoding-of-append-is-append, encoding-of-nil-is-nil, ascii-text-is-its-own-encoding, encoding-keeps-lacked-delimiters, encoding-keeps-leading-delimiter, encoding-keeps-emptiness, encoding-keeps-two-slashes, encoding-and-cutting-swap}
 use Rattle.uri_pct.proofs.General.{eq_true_from_IsTrue}
 use Rattle.uri_ops.proofs.Paths.DotRuns.{not-empty-has-length}
 use Rattle.uri_ops.proofs.Paths.Piecewise.{text-with-bytes-is-not-empty}

@@ -4,22 +4,16 @@ use Rattle.std.specs.Char.{encode_utf8}
 use Rattle.std.specs.List.{list_all, flat_map}
 use Rattle.std.proofs.lemmas.List.{append-nil}
 use Rattle.std.proofs.lemmas.List.Folds.{list_all-append}
-use Rattle.std.proofs.lemmas.Bool.{cases_lt, cond-true, cond-false, and_parts, and_from, or_right}
-use Rattle.std.proofs.lemmas.Bool.{lt-ltb, le-ltb}
+use Rattle.std.proofs.lemmas.Bool.{cases_lt, cond-true, cond-false, and_parts, and_from, or_right, lt-ltb, le-ltb}
 use Rattle.uri_pct.specs.Sets.{TableSet, allows, allows_past_ascii}
 use Rattle.uri_pct.specs.Tokens.{Token, Char, Octet, tokens, allows_token, is_valid_for}
-use Rattle.uri_pct.specs.DecodeUnreserved.{is_decodable, decode_run, decode_after_run}
-use Rattle.uri_pct.specs.DecodeUnreserved.{decode_tokens, encode_formatting, decode_unreserved}
-use Rattle.uri_pct.proofs.ValidTexts.Validity.{ascii_char_is_allowed_iff_in_set}
-use Rattle.uri_pct.proofs.ValidTexts.Validity.{char_past_ascii_is_allowed_by_flags}
+use Rattle.uri_pct.specs.DecodeUnreserved.{is_decodable, decode_run, decode_after_run, decode_tokens, encode_formatting, decode_unreserved}
+use Rattle.uri_pct.proofs.ValidTexts.Validity.{ascii_char_is_allowed_iff_in_set, char_past_ascii_is_allowed_by_flags}
 use Rattle.uri_pct.proofs.ValidTexts.Allowed.{allowed_past_ascii_is_scalar}
-use Rattle.uri_pct.proofs.UnreservedDecoding.DecodedTokens.{decodable_char_octets_split_decoding}
-use Rattle.uri_pct.proofs.UnreservedDecoding.DecodedTokens.{octets_before_tokens_lengthen_run}
+use Rattle.uri_pct.proofs.UnreservedDecoding.DecodedTokens.{decodable_char_octets_split_decoding, octets_before_tokens_lengthen_run}
 use Rattle.uri_ops.specs.Encoded.{encode_past_ascii, ascii_set}
-use Rattle.uri_ops.proofs.Meanings.AllowedParts.{is_set_text, set-text-from-utf8, set-text-is-utf8}
-use Rattle.uri_ops.proofs.Meanings.AllowedParts.{set-text-is-valid}
-use Rattle.uri_ops.proofs.AsciiForms.EncodedTokens.{encoded_token, tokens-of-encoded-text}
-use Rattle.uri_ops.proofs.AsciiForms.EncodedTokens.{encoded-text-is-utf8}
+use Rattle.uri_ops.proofs.Meanings.AllowedParts.{is_set_text, set-text-from-utf8, set-text-is-utf8, set-text-is-valid}
+use Rattle.uri_ops.proofs.AsciiForms.EncodedTokens.{encoded_token, tokens-of-encoded-text, encoded-text-is-utf8}
 
 module _ (set : TableSet) (octets : set.pct_encoded ≡ true) where
   ascii_set-allows-octets : (bytes : List ℕ)

@@ -1,7 +1,6 @@
 -- A text without characters past ASCII is of the kind of URIs that goes with its kind. It is
 -- equivalent to the text that it was made from.
-use Rattle.std.proofs.Common.{◌≡◌, ℕ, true, false, eqb, ltb, not, List, refl, sym, ap, subst, ◌∙◌}
-use Rattle.std.proofs.Common.{◌&&◌, ◌||◌, option_map, arith}
+use Rattle.std.proofs.Common.{◌≡◌, ℕ, true, false, eqb, ltb, not, List, refl, sym, ap, subst, ◌∙◌, ◌&&◌, ◌||◌, option_map, arith}
 use Rattle.std.specs.Prelude.{codes, Option, Some, None, IfSome, is_some, slice_index}
 use Rattle.std.specs.Char.{is_ascii_alphabetic}
 use Rattle.std.specs.List.{list_all, list_any}
@@ -13,36 +12,25 @@ use Rattle.uri_pct.specs.Tokens.{is_valid_for}
 use Rattle.uri_pct.specs.DecodeUnreserved.{decode_unreserved}
 use Rattle.uri_pct.proofs.ValidTexts.MarksInTexts.{AreAscii-by-test}
 use Rattle.uri_parts.specs.Components.{Components, components, before_any}
-use Rattle.uri_parts.specs.Grammar.{Kind, is_scheme, is_authority, has_colon_in_first_segment}
-use Rattle.uri_parts.specs.Grammar.{components_meet_rules, IsTextOf}
+use Rattle.uri_parts.specs.Grammar.{Kind, is_scheme, is_authority, has_colon_in_first_segment, components_meet_rules, IsTextOf}
 use Rattle.uri_parts.proofs.Authorities.NamesAndPorts.{utf8_before_marks}
 use Rattle.uri_ops.specs.Target.{dotless_if_absolute}
 use Rattle.uri_ops.specs.ComponentSets.{HasComponentSets}
 use Rattle.uri_parts.specs.Ports.{PortFunction}
 use Rattle.uri_ops.specs.Meaning.{authority_meaning, dotless_path, components_meaning, meaning_of}
 use Rattle.uri_ops.specs.Encoded.{encode_past_ascii, ascii_set, ascii_kind}
-use Rattle.uri_ops.proofs.Paths.PathCharacters.{lacked-delimiters-fail-test}
-use Rattle.uri_ops.proofs.Paths.PathCharacters.{test-of-delimiters-gives-lacks}
+use Rattle.uri_ops.proofs.Paths.PathCharacters.{lacked-delimiters-fail-test, test-of-delimiters-gives-lacks}
 use Rattle.uri_ops.proofs.Meanings.Lacking.{lacks_any-gives-lacks, lacks-gives-lacks_any}
 use Rattle.uri_ops.proofs.Meanings.AllowedParts.{is_set_text, set-text-is-utf8}
-use Rattle.uri_ops.proofs.Meanings.AsciiCharacters.{valid_ascii_text}
-use Rattle.uri_ops.proofs.Meanings.AsciiCharacters.{percent-is-no-scheme-character}
+use Rattle.uri_ops.proofs.Meanings.AsciiCharacters.{valid_ascii_text, percent-is-no-scheme-character}
 use Rattle.uri_ops.proofs.Paths.PathMeanings.{path-without-dots-is-set-text}
 use Rattle.uri_ops.proofs.Meanings.TextParts.{ArePartsOfKind, components-of-kind-meet-grammar}
 use Rattle.uri_ops.proofs.Normal.NormalTexts.{text-has-parts-of-kind}
 use Rattle.uri_ops.proofs.AsciiForms.EncodedTokens.{encoded-text-is-utf8}
-use Rattle.uri_ops.proofs.AsciiForms.EncodedDecodings.{encoded-part-is-valid-for-ascii_set}
-use Rattle.uri_ops.proofs.AsciiForms.EncodedDecodings.{decode_unreserved-of-encoded-text}
-use Rattle.uri_ops.proofs.AsciiForms.EncodedPaths.{ascii-text-is-its-own-encoding}
-use Rattle.uri_ops.proofs.AsciiForms.EncodedPaths.{encoding-keeps-lacked-delimiters}
-use Rattle.uri_ops.proofs.AsciiForms.EncodedPaths.{encoding-and-cutting-swap}
-use Rattle.uri_ops.proofs.AsciiForms.EncodedPaths.{dotless_if_absolute-and-encoding-swap}
-use Rattle.uri_ops.proofs.AsciiForms.EncodedComponents.{encoded_components}
-use Rattle.uri_ops.proofs.AsciiForms.EncodedComponents.{components-of-encoded-text-are-encoded}
-use Rattle.uri_ops.proofs.AsciiForms.EncodedAuthorities.{text-passing-ascii-test-is-ascii}
-use Rattle.uri_ops.proofs.AsciiForms.EncodedAuthorities.{decode_unreserved-encoded_option}
-use Rattle.uri_ops.proofs.AsciiForms.EncodedAuthorities.{encoded-authority-is-of-ascii_kind}
-use Rattle.uri_ops.proofs.AsciiForms.EncodedAuthorities.{encoding-keeps-authority-meaning}
+use Rattle.uri_ops.proofs.AsciiForms.EncodedDecodings.{encoded-part-is-valid-for-ascii_set, decode_unreserved-of-encoded-text}
+use Rattle.uri_ops.proofs.AsciiForms.EncodedPaths.{ascii-text-is-its-own-encoding, encoding-keeps-lacked-delimiters, encoding-and-cutting-swap, dotless_if_absolute-and-encoding-swap}
+use Rattle.uri_ops.proofs.AsciiForms.EncodedComponents.{encoded_components, components-of-encoded-text-are-encoded}
+use Rattle.uri_ops.proofs.AsciiForms.EncodedAuthorities.{text-passing-ascii-test-is-ascii, decode_unreserved-encoded_option, encoded-authority-is-of-ascii_kind, encoding-keeps-authority-meaning}
 
 -- IRIs as URIs: a scheme is ASCII
 pub schemes-are-ascii : (s : List ℕ) → IsUtf8 s → is_scheme s ≡ true → list_all (λ c. ltb c 128) s

@@ -1,7 +1,5 @@
 -- Without characters past ASCII a text has the same marks, and a path the same dot segments.
-use Rattle.std.proofs.Common.{◌≡◌, ℕ, ◌<◌, ◌≤◌, nat_lt, Bool, true, false, eqb, ltb, not, List}
-use Rattle.std.proofs.Common.{[], ◌∷◌, ◌++◌, map, refl, sym, ap, subst, ◌∙◌, arith, ◌&&◌, ⊎_elim}
-use Rattle.std.proofs.Common.{append-nil, lit<}
+use Rattle.std.proofs.Common.{◌≡◌, ℕ, ◌<◌, ◌≤◌, nat_lt, Bool, true, false, eqb, ltb, not, List, [], ◌∷◌, ◌++◌, map, refl, sym, ap, subst, ◌∙◌, arith, ◌&&◌, ⊎_elim, append-nil, lit<}
 use Rattle.std.specs.Prelude.{codes, Option, is_none as is_absent}
 use Rattle.std.specs.Char.{is_ascii_hexdigit}
 use Rattle.std.specs.List.{list_all, flat_map}
@@ -10,42 +8,26 @@ use Rattle.std.proofs.lemmas.Str.{IsUtf8-from_is_utf8, is_utf8-from_IsUtf8}
 use Rattle.std.proofs.lemmas.List.{map-append}
 use Rattle.std.proofs.lemmas.List.Concat.{flat_map-append}
 use Rattle.std.proofs.lemmas.List.Folds.{list_all-append}
-use Rattle.std.proofs.lemmas.Bool.{cases_Bool, cases_lt, cond-true, cond-false, and_parts, and_from}
-use Rattle.std.proofs.lemmas.Bool.{ltb-true, lt-ltb, le-ltb, not_from_false, false_from_ne_true}
-use Rattle.std.proofs.lemmas.Bool.{both_ways, and_right}
+use Rattle.std.proofs.lemmas.Bool.{cases_Bool, cases_lt, cond-true, cond-false, and_parts, and_from, ltb-true, lt-ltb, le-ltb, not_from_false, false_from_ne_true, both_ways, and_right}
 use Rattle.std.proofs.lemmas.Bool.Decides.{nat_tests}
 use Rattle.uri_pct.specs.Sets.{is_one_of}
 use Rattle.uri_pct.proofs.ValidTexts.MarksInTexts.{test_holds_of_each}
-use Rattle.uri_parts.specs.Components.{Lacks, starts, has_authority, before_any, from_any}
-use Rattle.uri_parts.specs.Components.{IsAbemptyPath}
-use Rattle.uri_parts.proofs.Splitting.Cuts.{IsEmptyOrMarked, text-is-cut-at-first-mark}
-use Rattle.uri_parts.proofs.Splitting.Cuts.{cut-at-end-of-text-without-marks}
+use Rattle.uri_parts.specs.Components.{Lacks, starts, has_authority, before_any, from_any, IsAbemptyPath}
+use Rattle.uri_parts.proofs.Splitting.Cuts.{IsEmptyOrMarked, text-is-cut-at-first-mark, cut-at-end-of-text-without-marks}
 use Rattle.uri_parts.proofs.TextKinds.GrammarTexts.{utf8_around_ascii_byte}
-use Rattle.uri_ops.specs.Dots.{is_empty, has_slash, remove_dot_segments, underflows, directory}
-use Rattle.uri_ops.specs.Dots.{IsAbsolute}
+use Rattle.uri_ops.specs.Dots.{is_empty, has_slash, remove_dot_segments, underflows, directory, IsAbsolute}
 use Rattle.uri_ops.specs.Target.{dotless_if_absolute, guarded}
 use Rattle.uri_ops.specs.Encoded.{encode_byte_past_ascii, encode_past_ascii}
 use Rattle.uri_ops.proofs.Paths.Segments.{AllPass, dotless_of, parent}
-use Rattle.uri_ops.proofs.Paths.SlashedSegments.{slashed, NoSlashes}
-use Rattle.uri_ops.proofs.Paths.SlashedSegments.{first-segment-and-rest-lack-slashes}
-use Rattle.uri_ops.proofs.Paths.SlashedSegments.{remove-dots-by-segments, underflows-by-segments}
-use Rattle.uri_ops.proofs.Paths.SlashedSegments.{directory-by-segments}
+use Rattle.uri_ops.proofs.Paths.SlashedSegments.{slashed, NoSlashes, first-segment-and-rest-lack-slashes, remove-dots-by-segments, underflows-by-segments, directory-by-segments}
 use Rattle.uri_ops.proofs.Paths.DotLaws.{property-of-absolute-path-by-segments, rooted}
-use Rattle.uri_ops.proofs.Paths.PathCharacters.{lacked-delimiters-fail-test}
-use Rattle.uri_ops.proofs.Paths.PathCharacters.{test-of-delimiters-gives-lacks}
+use Rattle.uri_ops.proofs.Paths.PathCharacters.{lacked-delimiters-fail-test, test-of-delimiters-gives-lacks}
 use Rattle.uri_ops.proofs.Meanings.Lacking.{lacks_any-gives-lacks, lacks-gives-lacks_any}
-use Rattle.uri_ops.proofs.Paths.SegmentMaps.{KeepsDots, dotless_of-and-map-swap}
-use Rattle.uri_ops.proofs.Paths.SegmentMaps.{parent-and-map-swap}
-use Rattle.uri_ops.proofs.Paths.SegmentMaps.{underflows_over-of-mapped-segments}
+use Rattle.uri_ops.proofs.Paths.SegmentMaps.{KeepsDots, dotless_of-and-map-swap, parent-and-map-swap, underflows_over-of-mapped-segments}
 use Rattle.uri_ops.proofs.Paths.DotBytes.{single-dot-by-decoded-bytes, double-dot-by-decoded-bytes}
-use Rattle.uri_ops.proofs.Paths.DecodedStarts.{leading-slash-splits-off}
-use Rattle.uri_ops.proofs.Paths.DecodedStarts.{second-slash-makes-two-slashes}
-use Rattle.uri_ops.proofs.Paths.DecodedStarts.{no-leading-slash-no-two-slashes}
+use Rattle.uri_ops.proofs.Paths.DecodedStarts.{leading-slash-splits-off, second-slash-makes-two-slashes, no-leading-slash-no-two-slashes}
 use Rattle.uri_ops.proofs.Meanings.ComponentEnds.{is_outside_octets}
-use Rattle.uri_ops.proofs.AsciiForms.EncodedTokens.{octet_text, is_byte, byte-digits-have-its-value}
-use Rattle.uri_ops.proofs.AsciiForms.EncodedTokens.{utf8-of-character-is-bytes}
-use Rattle.uri_ops.proofs.AsciiForms.EncodedTokens.{encoded-text-is-utf8}
-use Rattle.uri_ops.proofs.AsciiForms.EncodedTokens.{encoding-keeps-decoded-bytes}
+use Rattle.uri_ops.proofs.AsciiForms.EncodedTokens.{octet_text, is_byte, byte-digits-have-its-value, utf8-of-character-is-bytes, encoded-text-is-utf8, encoding-keeps-decoded-bytes}
 use Rattle.uri_parts.proofs.Splitting.Recompose.{equal-to-true-is-IsTrue}
 
 -- IRIs as URIs: characters past ASCII are encoded byte by byte, so in each half of a text

@@ -1,7 +1,5 @@
 -- Where the components of a text are once its characters past ASCII are octets.
-use Rattle.std.proofs.Common.{◌≡◌, ℕ, ◌+◌, ◌-◌, ◌<◌, ◌≤◌, true, List, [], ◌∷◌, ◌++◌, length, take}
-use Rattle.std.proofs.Common.{drop, refl, sym, ap, subst, ◌∙◌, arith, append_assoc, append-nil}
-use Rattle.std.proofs.Common.{length-append, option_map, lit<}
+use Rattle.std.proofs.Common.{◌≡◌, ℕ, ◌+◌, ◌-◌, ◌<◌, ◌≤◌, true, List, [], ◌∷◌, ◌++◌, length, take, drop, refl, sym, ap, subst, ◌∙◌, arith, append_assoc, append-nil, length-append, option_map, lit<}
 use Rattle.std.specs.Prelude.{codes, Option, Some, None, IfSome, unwrap_or}
 use Rattle.std.specs.Str.{IsUtf8}
 use Rattle.std.proofs.Math.Seq.{take-add, take-append_seam}
@@ -11,34 +9,19 @@ use Rattle.uri_parts.specs.declared.positions.Positions.{Positions}
 use Rattle.uri_parts.specs.Authority.{AuthorityParts, authority_parts, recompose_authority}
 use Rattle.uri_parts.specs.Components.{Components, components, marked}
 use Rattle.uri_parts.specs.Grammar.{Kind, is_authority, IsTextOf}
-use Rattle.uri_parts.specs.Positions.{ArePositionsOf, authority_at, host_end_of, host_start_of}
-use Rattle.uri_parts.specs.Positions.{delimited_length, positions_of}
+use Rattle.uri_parts.specs.Positions.{ArePositionsOf, authority_at, host_end_of, host_start_of, delimited_length, positions_of}
 use Rattle.uri_parts.proofs.Authorities.Authority.{is_authority_for-sound}
 use Rattle.uri_parts.proofs.Splitting.Recompose.{recompose-components}
 use Rattle.uri_ops.specs.ComponentSets.{HasComponentSets}
 use Rattle.uri_ops.specs.Encoded.{encode_past_ascii}
-use Rattle.uri_ops.specs.Models.EncodedPlaces.{ArePositionsOrdered, AreAuthorityPositionsOrdered}
-use Rattle.uri_ops.specs.Models.EncodedPlaces.{authority_positions_in_encoded, position_in_encoded}
-use Rattle.uri_ops.specs.Models.EncodedPlaces.{positions_in_encoded}
+use Rattle.uri_ops.specs.Models.EncodedPlaces.{ArePositionsOrdered, AreAuthorityPositionsOrdered, authority_positions_in_encoded, position_in_encoded, positions_in_encoded}
 use Rattle.uri_ops.specs.Models.Written.{authority_parts_at, positions_by_authority_parts}
-use Rattle.uri_ops.proofs.AsciiForms.EncodedAuthorities.{parts-of-encoded-authority-are-encoded}
-use Rattle.uri_ops.proofs.AsciiForms.EncodedAuthorities.{encoded_authority_parts}
-use Rattle.uri_ops.proofs.AsciiForms.EncodedAuthorities.{encoding-and-recomposing-authority-swap}
-use Rattle.uri_ops.proofs.AsciiForms.EncodedComponents.{components-of-encoded-text-are-encoded}
-use Rattle.uri_ops.proofs.AsciiForms.EncodedComponents.{encoded_components}
-use Rattle.uri_ops.proofs.AsciiForms.EncodedComponents.{encoding-keeps-delimiters}
+use Rattle.uri_ops.proofs.AsciiForms.EncodedAuthorities.{parts-of-encoded-authority-are-encoded, encoded_authority_parts, encoding-and-recomposing-authority-swap}
+use Rattle.uri_ops.proofs.AsciiForms.EncodedComponents.{components-of-encoded-text-are-encoded, encoded_components, encoding-keeps-delimiters}
 use Rattle.uri_ops.proofs.AsciiForms.EncodedMeanings.{schemes-stay-when-encoded}
-use Rattle.uri_ops.proofs.AsciiForms.EncodedPaths.{encoding-of-append-is-append}
-use Rattle.uri_ops.proofs.AsciiForms.EncodedPaths.{encoding-of-nil-is-nil}
-use Rattle.uri_ops.proofs.AsciiForms.EncodedPaths.{encoding-starts-with-ascii-byte}
+use Rattle.uri_ops.proofs.AsciiForms.EncodedPaths.{encoding-of-append-is-append, encoding-of-nil-is-nil, encoding-starts-with-ascii-byte}
 use Rattle.uri_ops.proofs.Normal.NormalTexts.{text-has-parts-of-kind}
-use Rattle.uri_ops.proofs.Normal.WrittenPlaces.{positions-with-parts-are-of-components}
-use Rattle.uri_ops.proofs.Normal.WrittenPlaces.{option_map-adding-zero-is-unchanged}
-use Rattle.uri_ops.proofs.Normal.WrittenPlaces.{length-with-delimiter-before}
-use Rattle.uri_ops.proofs.Normal.WrittenPlaces.{length-with-delimiter-after}
-use Rattle.uri_ops.proofs.Normal.WrittenPlaces.{positions-of-parts-are-of-text}
-use Rattle.uri_ops.proofs.Normal.WrittenPlaces.{pushed-authority-parts-have-positions}
-use Rattle.uri_ops.proofs.Normal.WrittenPlaces.{pushed-components-have-positions}
+use Rattle.uri_ops.proofs.Normal.WrittenPlaces.{positions-with-parts-are-of-components, option_map-adding-zero-is-unchanged, length-with-delimiter-before, length-with-delimiter-after, positions-of-parts-are-of-text, pushed-authority-parts-have-positions, pushed-components-have-positions}
 
 -- IRIs as URIs: what is between positions i and j is encoded after what is before i;
 -- old, new: the encoded text up to each

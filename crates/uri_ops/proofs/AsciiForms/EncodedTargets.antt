@@ -1,47 +1,28 @@
 -- Without characters past ASCII a base and a reference come to the same target without them.
-use Rattle.std.proofs.Common.{◌≡◌, ℕ, Bool, true, false, cond, List, [], ◌∷◌, ◌++◌, refl, sym, ap}
-use Rattle.std.proofs.Common.{subst, ◌∙◌, ◌&&◌, ⊎_elim, option_map, arith}
+use Rattle.std.proofs.Common.{◌≡◌, ℕ, Bool, true, false, cond, List, [], ◌∷◌, ◌++◌, refl, sym, ap, subst, ◌∙◌, ◌&&◌, ⊎_elim, option_map, arith}
 use Rattle.std.specs.Prelude.{Option, Some, None, Result, Ok, Err, is_some, is_none, is_ok}
 use Rattle.std.specs.Result.{result_map_both}
 use Rattle.std.specs.List.{list_all}
 use Rattle.std.specs.Str.{IsUtf8, is_utf8}
-use Rattle.std.proofs.lemmas.Str.{IsUtf8-append, IsUtf8-nil, IsUtf8-from_is_utf8}
-use Rattle.std.proofs.lemmas.Str.{is_utf8-from_IsUtf8}
+use Rattle.std.proofs.lemmas.Str.{IsUtf8-append, IsUtf8-nil, IsUtf8-from_is_utf8, is_utf8-from_IsUtf8}
 use Rattle.std.proofs.lemmas.Bool.{cases_Bool, cond_both, and_parts, and_from, and_left, false≢true}
 use Rattle.std.proofs.lemmas.Bool.Decides.{nat_tests}
 use Rattle.uri_parts.specs.Components.{Components, starts, IsAbemptyPath, components, recompose}
-use Rattle.uri_parts.proofs.Splitting.Recompose.{components-are-split-of-text}
-use Rattle.uri_parts.proofs.Splitting.Recompose.{equal-to-true-is-IsTrue}
+use Rattle.uri_parts.proofs.Splitting.Recompose.{components-are-split-of-text, equal-to-true-is-IsTrue, components_of_parts}
 use Rattle.uri_ops.specs.Dots.{is_empty, underflows, directory}
-use Rattle.uri_ops.specs.Target.{TargetError, is_opaque_rejection, merged, dotted_target}
-use Rattle.uri_ops.specs.Target.{dotless_if_absolute, guarded, target_of, target_underflows}
-use Rattle.uri_ops.specs.Target.{resolution_of}
+use Rattle.uri_ops.specs.Target.{TargetError, is_opaque_rejection, merged, dotted_target, dotless_if_absolute, guarded, target_of, target_underflows, resolution_of}
 use Rattle.uri_ops.specs.Encoded.{encode_past_ascii}
 use Rattle.uri_ops.specs.Resolving.{IsTargetOfEncoded, IsErrorForEncoded, IsTarget, IsErrorFor}
 use Rattle.uri_ops.specs.declared.resolve.error.ResolveError.{ResolveError}
 use Rattle.uri_ops.proofs.Paths.Segments.{AllPass, appended-segments-pass-test}
-use Rattle.uri_ops.proofs.Paths.SlashedSegments.{slashed, directory-by-segments}
-use Rattle.uri_ops.proofs.Paths.SlashedSegments.{parent-segments-pass-test}
+use Rattle.uri_ops.proofs.Paths.SlashedSegments.{slashed, directory-by-segments, parent-segments-pass-test}
 use Rattle.uri_ops.proofs.Paths.DotLaws.{property-of-absolute-path-by-segments, rooted}
 use Rattle.uri_ops.proofs.Paths.DecodedPaths.{utf8-joined-at-slash-is-utf8}
 use Rattle.uri_ops.proofs.Meanings.TextParts.{AreUtf8, components-of-utf8-are-utf8}
-use Rattle.uri_parts.proofs.Splitting.Recompose.{components_of_parts}
-use Rattle.uri_ops.proofs.Targeting.Swaps.{merging-base-is-not-opaque}
-use Rattle.uri_ops.proofs.Targeting.Swaps.{base-that-is-not-opaque-has-abempty-path}
-use Rattle.uri_ops.proofs.AsciiForms.EncodedPaths.{encoding-of-append-is-append}
-use Rattle.uri_ops.proofs.AsciiForms.EncodedPaths.{encoding-keeps-leading-delimiter}
-use Rattle.uri_ops.proofs.AsciiForms.EncodedPaths.{encoding-keeps-emptiness}
-use Rattle.uri_ops.proofs.AsciiForms.EncodedPaths.{segments-of-utf8-path-are-utf8}
-use Rattle.uri_ops.proofs.AsciiForms.EncodedPaths.{encoding-keeps-underflow}
-use Rattle.uri_ops.proofs.AsciiForms.EncodedPaths.{directory-and-encoding-swap}
-use Rattle.uri_ops.proofs.AsciiForms.EncodedPaths.{dotless_if_absolute-and-encoding-swap}
-use Rattle.uri_ops.proofs.AsciiForms.EncodedPaths.{guarding-and-encoding-swap}
-use Rattle.uri_ops.proofs.AsciiForms.EncodedComponents.{encoded_components}
-use Rattle.uri_ops.proofs.AsciiForms.EncodedComponents.{encoding-and-recomposing-swap}
-use Rattle.uri_ops.proofs.AsciiForms.EncodedComponents.{components-of-encoded-text-are-encoded}
-use Rattle.uri_ops.proofs.Targeting.RefusalOrder.{result_or_target_error, map-of-result_or_error}
-use Rattle.uri_ops.proofs.Targeting.RefusalOrder.{rejected-results-are-equal}
-use Rattle.uri_ops.proofs.Targeting.RefusalOrder.{ok-result-has-no-opaque-rejection}
+use Rattle.uri_ops.proofs.Targeting.Swaps.{merging-base-is-not-opaque, base-that-is-not-opaque-has-abempty-path}
+use Rattle.uri_ops.proofs.AsciiForms.EncodedPaths.{encoding-of-append-is-append, encoding-keeps-leading-delimiter, encoding-keeps-emptiness, segments-of-utf8-path-are-utf8, encoding-keeps-underflow, directory-and-encoding-swap, dotless_if_absolute-and-encoding-swap, guarding-and-encoding-swap}
+use Rattle.uri_ops.proofs.AsciiForms.EncodedComponents.{encoded_components, encoding-and-recomposing-swap, components-of-encoded-text-are-encoded}
+use Rattle.uri_ops.proofs.Targeting.RefusalOrder.{result_or_target_error, map-of-result_or_error, rejected-results-are-equal, ok-result-has-no-opaque-rejection}
 use Rattle.uri_pct.proofs.General.{is_none-option_map, is_some-option_map, not_some_is_none}
 use Rattle.uri_ops.specs.declared.resolve.error.ResolveError.TheVariants as Of
 

@@ -1,7 +1,5 @@
 -- The tokens of a text without characters past ASCII: the octets of each are in its place.
-use Rattle.std.proofs.Common.{◌≡◌, ℕ, ◌+◌, ◌*◌, ◌/◌, ◌%◌, ◌<◌, ◌≤◌, Bool, true, false, cond, eqb}
-use Rattle.std.proofs.Common.{ltb, List, [], ◌∷◌, ◌++◌, get_or, map, refl, sym, ap, subst, ◌∙◌}
-use Rattle.std.proofs.Common.{arith, ◌&&◌, ⊎_elim, append_assoc}
+use Rattle.std.proofs.Common.{◌≡◌, ℕ, ◌+◌, ◌*◌, ◌/◌, ◌%◌, ◌<◌, ◌≤◌, Bool, true, false, cond, eqb, ltb, List, [], ◌∷◌, ◌++◌, get_or, map, refl, sym, ap, subst, ◌∙◌, arith, ◌&&◌, ⊎_elim, append_assoc}
 use Rattle.std.specs.Char.{IsScalar, encode_utf8, digit_value, is_ascii_hexdigit}
 use Rattle.std.specs.Fmt.{digit_glyph}
 use Rattle.std.specs.List.{list_all, flat_map}
@@ -10,18 +8,13 @@ use Rattle.std.proofs.lemmas.Str.{chars-encodes, chars-IsAscii, encode_ascii}
 use Rattle.std.proofs.lemmas.List.{append-nil}
 use Rattle.std.proofs.lemmas.List.Concat.{flat_map-append}
 use Rattle.std.proofs.lemmas.List.Folds.{list_all-append}
-use Rattle.std.proofs.lemmas.Bool.{cases_Bool, cases_lt, agree_below_at, cond-true, cond-false}
-use Rattle.std.proofs.lemmas.Bool.{and_left, and_right, and_from, and_parts, eqb-true, ltb-true}
-use Rattle.std.proofs.lemmas.Bool.{lt-ltb, le-ltb}
+use Rattle.std.proofs.lemmas.Bool.{cases_Bool, cases_lt, agree_below_at, cond-true, cond-false, and_left, and_right, and_from, and_parts, eqb-true, ltb-true, lt-ltb, le-ltb}
 use Rattle.std.proofs.lemmas.Bool.Decides.{nat_tests}
-use Rattle.uri_pct.specs.Tokens.{Token, Char, Octet, tokens, tokens_from_chars, bytes_decoded_from}
-use Rattle.uri_pct.specs.Tokens.{bytes_of_one_token, is_pct_encoded, text_of_token}
+use Rattle.uri_pct.specs.Tokens.{Token, Char, Octet, tokens, tokens_from_chars, bytes_decoded_from, bytes_of_one_token, is_pct_encoded, text_of_token}
 use Rattle.uri_pct.specs.Prefixes.{begins_with_hex_digits}
-use Rattle.uri_pct.proofs.Unicode.Characters.{char_has_encoding, is_no_ascii_byte}
-use Rattle.uri_pct.proofs.Unicode.Characters.{char_past_ascii_begins_past_ascii, hexdigit_is_ascii}
+use Rattle.uri_pct.proofs.Unicode.Characters.{char_has_encoding, is_no_ascii_byte, char_past_ascii_begins_past_ascii, hexdigit_is_ascii}
 use Rattle.uri_ops.specs.Encoded.{encode_byte_past_ascii, encode_past_ascii}
-use Rattle.uri_ops.proofs.Meanings.AsciiCharacters.{ascii-bytes-are-ascii-text}
-use Rattle.uri_ops.proofs.Meanings.AsciiCharacters.{ascii-bytes-are-utf8}
+use Rattle.uri_ops.proofs.Meanings.AsciiCharacters.{ascii-bytes-are-ascii-text, ascii-bytes-are-utf8}
 use Rattle.uri_pct.proofs.TableSets.Constants.{past_ascii_is_no_hexdigit}
 use Rattle.uri_pct.proofs.EncodedTexts.Encodings.{octets_decode_to_their_bytes}
 use Rattle.uri_pct.proofs.ValidTexts.Validity.{chars_not_pct_encoded_begin_no_octet}

@@ -1,6 +1,5 @@
 -- The text of an authority that is built part by part is one: RFC 3986, section 3.2.
-use Rattle.std.proofs.Common.{◌≡◌, ℕ, true, List, [], ◌++◌, refl, sym, ap, subst, ◌∙◌, append_assoc}
-use Rattle.std.proofs.Common.{append-nil, arith}
+use Rattle.std.proofs.Common.{◌≡◌, ℕ, true, List, [], ◌++◌, refl, sym, ap, subst, ◌∙◌, append_assoc, append-nil, arith}
 use Rattle.std.specs.Prelude.{codes, Some, None, is_none}
 use Rattle.std.specs.Str.{IsUtf8}
 use Rattle.std.proofs.lemmas.Str.{IsUtf8-append, IsUtf8-from_is_utf8, is_utf8-from_IsUtf8}
@@ -8,32 +7,23 @@ use Rattle.std.proofs.lemmas.Bool.{and_parts, and_from}
 use Rattle.std.proofs.lemmas.Bool.Decides.{nat_tests}
 use Rattle.uri_pct.specs.Sets.{TableSet, digit_set, reg_name_set}
 use Rattle.uri_pct.specs.Tokens.{IsValidFor, is_valid_for}
-use Rattle.uri_parts.specs.Authority.{AuthorityParts, IsAuthorityFor, authority_parts}
-use Rattle.uri_parts.specs.Authority.{is_authority_for}
+use Rattle.uri_parts.specs.Authority.{AuthorityParts, IsAuthorityFor, authority_parts, is_authority_for}
 use Rattle.uri_pct.proofs.ValidTexts.Cuts.{excludes}
 use Rattle.uri_parts.specs.Components.{Lacks, marked}
 use Rattle.uri_parts.specs.Grammar.{Kind, is_authority}
 use Rattle.uri_parts.specs.Hosts.{HostKind, IsHost, Ipv4, Ipv6, IpvFuture, RegName}
-use Rattle.uri_parts.proofs.Authorities.Authority.{authority_parts-are-unique}
-use Rattle.uri_parts.proofs.Authorities.Authority.{is_authority_for-complete}
-use Rattle.uri_parts.proofs.Authorities.Authority.{is_authority_for-sound}
+use Rattle.uri_parts.proofs.Authorities.Authority.{authority_parts-are-unique, is_authority_for-complete, is_authority_for-sound}
 use Rattle.uri_parts.proofs.Authorities.AuthorityPlaces.{empty_is_authority}
-use Rattle.uri_parts.proofs.HostForms.Futures.{ipv4-text-lacks-name-marks}
-use Rattle.uri_parts.proofs.HostForms.Futures.{ipv6-text-lacks-excluded-marks}
-use Rattle.uri_parts.proofs.HostForms.Futures.{ipvfuture-text-lacks-excluded-marks}
+use Rattle.uri_parts.proofs.HostForms.Futures.{ipv4-text-lacks-name-marks, ipv6-text-lacks-excluded-marks, ipvfuture-text-lacks-excluded-marks}
 use Rattle.uri_parts.proofs.HostForms.Hosts.{address-in-brackets-is-utf8}
 use Rattle.uri_parts.proofs.TextKinds.GrammarTexts.{valid_text_lacks_excluded_marks}
 use Rattle.uri_ops.specs.BuilderParts.{is_authority_text, lacks_host_and_port, lacks_port}
 use Rattle.uri_ops.specs.ComponentSets.{HasComponentSets}
 use Rattle.uri_ops.specs.Dots.{is_empty}
 use Rattle.uri_ops.specs.HostParts.{IsHostText}
-use Rattle.uri_ops.proofs.Meanings.AuthorityMeanings.{kind-sets-lack-authority-delimiters}
-use Rattle.uri_ops.proofs.Meanings.AuthorityMeanings.{authority-text-lacks-its-ends}
-use Rattle.uri_ops.proofs.Meanings.AuthorityMeanings.{authority-parts-are-utf8}
-use Rattle.uri_ops.proofs.Meanings.ComponentEnds.{ends-are-excluded-from-set}
-use Rattle.uri_ops.proofs.Meanings.ComponentEnds.{fewer-characters-are-excluded-too}
-use Rattle.uri_ops.proofs.Meanings.HostMeanings.{bracketed-address-lacks-delimiters}
-use Rattle.uri_ops.proofs.Meanings.HostMeanings.{ipv_future_set-excludes-delimiters}
+use Rattle.uri_ops.proofs.Meanings.AuthorityMeanings.{kind-sets-lack-authority-delimiters, authority-text-lacks-its-ends, authority-parts-are-utf8}
+use Rattle.uri_ops.proofs.Meanings.ComponentEnds.{ends-are-excluded-from-set, fewer-characters-are-excluded-too}
+use Rattle.uri_ops.proofs.Meanings.HostMeanings.{bracketed-address-lacks-delimiters, ipv_future_set-excludes-delimiters}
 use Rattle.uri_pct.proofs.General.{IfSome-combine, None-from-is_none}
 use Rattle.uri_ops.proofs.Meanings.AsciiCharacters.{ascii-bytes-are-utf8}
 use Rattle.uri_ops.proofs.Paths.DotRuns.{empty-text-is-nil}

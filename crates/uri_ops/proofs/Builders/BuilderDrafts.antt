@@ -1,6 +1,5 @@
 -- What each step of a builder makes of its draft: the text of the parts so changed.
-use Rattle.std.proofs.Common.{◌≡◌, ℕ, Bool, true, false, List, ◌++◌, length, sym, ap}
-use Rattle.std.proofs.Common.{◌∙◌, append_assoc, refl, string_bytes, arith}
+use Rattle.std.proofs.Common.{◌≡◌, ℕ, Bool, true, false, List, ◌++◌, length, sym, ap, ◌∙◌, append_assoc, refl, string_bytes, arith}
 use Rattle.std.specs.Prelude.{codes, Some, is_none}
 use Rattle.std.specs.Str.{IsUtf8}
 use Rattle.std.proofs.lemmas.Str.{is_utf8-from_IsUtf8}
@@ -11,16 +10,10 @@ use Rattle.uri_pct.specs.Tokens.{is_valid_for}
 use Rattle.uri_parts.specs.Grammar.{is_scheme}
 use Rattle.uri_ops.specs.declared.build.draft.Draft.{Draft}
 use Rattle.uri_ops.specs.declared.build.lengths.Lengths.{Lengths}
-use Rattle.uri_ops.specs.BuilderParts.{AddsOrFails, AddsUnlessFailed, BuilderParts, is_scheme_text}
-use Rattle.uri_ops.specs.BuilderParts.{is_text_for, with_authority, with_fragment, with_path}
-use Rattle.uri_ops.specs.BuilderParts.{with_query, with_scheme}
-use Rattle.uri_ops.specs.Builders.{draft_parts, lacks_query_and_fragment, lacks_all}
-use Rattle.uri_ops.specs.Builders.{lacks_authority, lacks_path}
+use Rattle.uri_ops.specs.BuilderParts.{AddsOrFails, AddsUnlessFailed, BuilderParts, is_scheme_text, is_text_for, with_authority, with_fragment, with_path, with_query, with_scheme}
+use Rattle.uri_ops.specs.Builders.{draft_parts, lacks_query_and_fragment, lacks_all, lacks_authority, lacks_path}
 use Rattle.uri_ops.specs.Drafts.{after_part, parts_in}
-use Rattle.uri_ops.proofs.Builders.BuilderSteps.{text-with-authority-is-draft}
-use Rattle.uri_ops.proofs.Builders.BuilderSteps.{text-with-fragment-is-draft}
-use Rattle.uri_ops.proofs.Builders.BuilderSteps.{text-with-path-is-draft, text-with-query-is-draft}
-use Rattle.uri_ops.proofs.Builders.BuilderSteps.{text-with-scheme-is-draft}
+use Rattle.uri_ops.proofs.Builders.BuilderSteps.{text-with-authority-is-draft, text-with-fragment-is-draft, text-with-path-is-draft, text-with-query-is-draft, text-with-scheme-is-draft}
 use Rattle.uri_ops.proofs.Builders.Drafting.{IsDraftOfParts, absent-part-has-no-length}
 
 -- building: what a step adds to the draft that is taken, it adds to what the builder held

@@ -1,7 +1,5 @@
 -- What a step inside an authority makes of a draft: the authority, which ends the text, goes on.
-use Rattle.std.proofs.Common.{◌≡◌, ℕ, ◌+◌, ◌-◌, Bool, true, false, ◌&&◌, List, [], ◌∷◌, ◌++◌}
-use Rattle.std.proofs.Common.{length, take, drop, refl, sym, ap, subst, ◌∙◌, arith, length-append}
-use Rattle.std.proofs.Common.{string_bytes}
+use Rattle.std.proofs.Common.{◌≡◌, ℕ, ◌+◌, ◌-◌, Bool, true, false, ◌&&◌, List, [], ◌∷◌, ◌++◌, length, take, drop, refl, sym, ap, subst, ◌∙◌, arith, length-append, string_bytes}
 use Rattle.std.specs.Prelude.{codes, Option, Some, None, is_none, option_map}
 use Rattle.std.specs.Option.{option_map_or}
 use Rattle.std.specs.Str.{IsUtf8}
@@ -15,17 +13,13 @@ use Rattle.uri_pct.specs.Tokens.{is_valid_for}
 use Rattle.uri_parts.specs.Grammar.{Kind}
 use Rattle.uri_ops.specs.declared.build.draft.Draft.{Draft}
 use Rattle.uri_ops.specs.declared.build.lengths.Lengths.{Lengths}
-use Rattle.uri_ops.specs.BuilderParts.{BuilderParts, is_authority_text, is_text_for}
-use Rattle.uri_ops.specs.BuilderParts.{lacks_host_and_port, lacks_port, with_more_authority}
-use Rattle.uri_ops.specs.Builders.{any_authority, draft_parts, ends_in_authority}
-use Rattle.uri_ops.specs.Builders.{lacks_query_and_fragment, lacks_path}
+use Rattle.uri_ops.specs.BuilderParts.{BuilderParts, is_authority_text, is_text_for, lacks_host_and_port, lacks_port, with_more_authority}
+use Rattle.uri_ops.specs.Builders.{any_authority, draft_parts, ends_in_authority, lacks_query_and_fragment, lacks_path}
 use Rattle.uri_ops.specs.ComponentSets.{HasComponentSets}
 use Rattle.uri_ops.specs.Dots.{is_empty}
 use Rattle.uri_ops.specs.Drafts.{after_part, part_in, parts_in}
 use Rattle.uri_ops.specs.HostParts.{IsHostText}
-use Rattle.uri_ops.proofs.Builders.BuilderAuthorities.{host-extends-authority}
-use Rattle.uri_ops.proofs.Builders.BuilderAuthorities.{port-extends-authority}
-use Rattle.uri_ops.proofs.Builders.BuilderAuthorities.{userinfo-begins-authority}
+use Rattle.uri_ops.proofs.Builders.BuilderAuthorities.{host-extends-authority, port-extends-authority, userinfo-begins-authority}
 use Rattle.uri_ops.proofs.Builders.BuilderSteps.{text-with-more-authority-is-draft}
 use Rattle.uri_ops.proofs.Builders.Drafting.{IsDraftOfParts, absent-part-has-no-length}
 

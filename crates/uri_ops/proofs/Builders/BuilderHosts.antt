@@ -1,6 +1,5 @@
 -- The hosts and ports that a builder takes are hosts, and digits.
-use Rattle.std.proofs.Common.{◌≡◌, ℕ, ◌<◌, ◌^◌, Bool, true, ltb, List, [], ◌∷◌, refl, arith, inl}
-use Rattle.std.proofs.Common.{inr}
+use Rattle.std.proofs.Common.{◌≡◌, ℕ, ◌<◌, ◌^◌, Bool, true, ltb, List, [], ◌∷◌, refl, arith, inl, inr}
 use Rattle.std.specs.Prelude.{codes}
 use Rattle.std.specs.Char.{digit_value, is_ascii_digit}
 use Rattle.std.specs.Fmt.{decimal}
@@ -25,12 +24,9 @@ use Rattle.uri_parts.proofs.HostForms.Futures.{ipv4-text-is-digits-and-dots}
 use Rattle.uri_ops.specs.BuilderParts.{is_text_for}
 use Rattle.uri_ops.specs.HostParts.{IsHostText}
 use Rattle.uri_ops.proofs.Builders.BuilderDrafts.{valid_utf8_is_text_for_set}
-use Rattle.uri_ops.proofs.Meanings.HostMeanings.{unbracketed-valid-text-is-host}
-use Rattle.uri_ops.proofs.Meanings.HostMeanings.{address-text-is-utf8}
-use Rattle.uri_ops.proofs.Meanings.HostMeanings.{bracketed-utf8-is-utf8}
+use Rattle.uri_ops.proofs.Meanings.HostMeanings.{unbracketed-valid-text-is-host, address-text-is-utf8, bracketed-utf8-is-utf8}
 use Rattle.uri_ops.proofs.Meanings.AllowedParts.{set-text-is-utf8, set-text-is-valid}
-use Rattle.uri_ops.proofs.Meanings.AsciiCharacters.{is_ascii_in, ascii-in-test-is-set-text}
-use Rattle.uri_ops.proofs.Meanings.AsciiCharacters.{ascii-in-test-is-utf8}
+use Rattle.uri_ops.proofs.Meanings.AsciiCharacters.{is_ascii_in, ascii-in-test-is-set-text, ascii-in-test-is-utf8}
 
 -- building: the test that every character passes
 any_ascii : ℕ → Bool

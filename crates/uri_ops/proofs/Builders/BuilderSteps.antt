@@ -1,18 +1,11 @@
 -- What each step of a builder makes of its text: the text of the parts so changed.
-use Rattle.std.proofs.Common.{◌≡◌, ℕ, ◌+◌, false, List, [], ◌++◌, length, refl, sym, ap, ◌∙◌}
-use Rattle.std.proofs.Common.{length-append, append-nil}
+use Rattle.std.proofs.Common.{◌≡◌, ℕ, ◌+◌, false, List, [], ◌++◌, length, refl, sym, ap, ◌∙◌, length-append, append-nil}
 use Rattle.std.specs.Prelude.{codes, Option, Some, None, option_map, unwrap_or}
 use Rattle.uri_parts.specs.Components.{recompose}
 use Rattle.uri_ops.specs.declared.build.lengths.Lengths.{Lengths}
-use Rattle.uri_ops.specs.BuilderParts.{BuilderParts, with_authority, with_fragment}
-use Rattle.uri_ops.specs.BuilderParts.{with_more_authority, with_path, with_query, with_scheme}
+use Rattle.uri_ops.specs.BuilderParts.{BuilderParts, with_authority, with_fragment, with_more_authority, with_path, with_query, with_scheme}
 use Rattle.uri_ops.specs.Drafts.{IsDraft, after_part, part_in, parts_in}
-use Rattle.uri_ops.proofs.Builders.Drafting.{IsDraftOfParts, recompose-with-authority-appended}
-use Rattle.uri_ops.proofs.Builders.Drafting.{recompose-with-fragment-appended}
-use Rattle.uri_ops.proofs.Builders.Drafting.{recompose-with-longer-authority}
-use Rattle.uri_ops.proofs.Builders.Drafting.{recompose-with-path-appended}
-use Rattle.uri_ops.proofs.Builders.Drafting.{recompose-with-query-appended}
-use Rattle.uri_ops.proofs.Builders.Drafting.{text-of-parts-is-their-draft}
+use Rattle.uri_ops.proofs.Builders.Drafting.{IsDraftOfParts, recompose-with-authority-appended, recompose-with-fragment-appended, recompose-with-longer-authority, recompose-with-path-appended, recompose-with-query-appended, text-of-parts-is-their-draft}
 
 -- building: the text of five components, each with its delimiters
 abbrev whole : Option (List ℕ) → Option (List ℕ) → List ℕ → Option (List ℕ) → Option (List ℕ)

@@ -1,54 +1,36 @@
 -- The text of a builder's parts is of its kind, with these components, exactly if nothing is
 -- rejected.
-use Rattle.std.proofs.Common.{◌≡◌, ℕ, ◌<◌, Bool, true, false, not, ◌&&◌, ◌||◌, List, [], ◌∷◌, ◌++◌}
-use Rattle.std.proofs.Common.{length, refl, sym, ap, subst, ◌∙◌, inl, inr, cond, string_bytes}
-use Rattle.std.proofs.Common.{arith}
-use Rattle.std.specs.Prelude.{codes, Option, Some, None, IfSome, IfNone, is_some, unwrap_or}
-use Rattle.std.specs.Prelude.{slice_index}
+use Rattle.std.proofs.Common.{◌≡◌, ℕ, ◌<◌, Bool, true, false, not, ◌&&◌, ◌||◌, List, [], ◌∷◌, ◌++◌, length, refl, sym, ap, subst, ◌∙◌, inl, inr, cond, string_bytes, arith}
+use Rattle.std.specs.Prelude.{codes, Option, Some, None, IfSome, IfNone, is_some, unwrap_or, slice_index}
 use Rattle.std.specs.Char.{is_ascii_alphabetic}
 use Rattle.std.specs.Str.{IsUtf8}
 use Rattle.std.proofs.lemmas.Str.{IsUtf8-from_is_utf8}
-use Rattle.std.proofs.lemmas.Bool.{and_parts, and_from, cond-true, cond-false, false≢true, not-true}
-use Rattle.std.proofs.lemmas.Bool.{not_from_false}
+use Rattle.std.proofs.lemmas.Bool.{and_parts, and_from, cond-true, cond-false, false≢true, not-true, not_from_false}
 use Rattle.std.proofs.lemmas.Bool.Decides.{nat_tests}
 use Rattle.uri_pct.specs.Sets.{TableSet, scheme_set}
 use Rattle.uri_pct.specs.Tokens.{is_valid_for}
 use Rattle.uri_parts.specs.Positions.{positions_of}
-use Rattle.uri_parts.specs.Components.{IsSplitOf, IsAbemptyPath, Lacks, has_authority, has_scheme}
-use Rattle.uri_parts.specs.Components.{components, marked, starts}
-use Rattle.uri_parts.specs.Grammar.{IsOfKind, Kind, components_meet_rules}
-use Rattle.uri_parts.specs.Grammar.{has_colon_in_first_segment, absent_or_passes, is_authority}
-use Rattle.uri_parts.specs.Grammar.{is_scheme}
+use Rattle.uri_parts.specs.Components.{IsSplitOf, IsAbemptyPath, Lacks, has_authority, has_scheme, components, marked, starts}
+use Rattle.uri_parts.specs.Grammar.{IsOfKind, Kind, components_meet_rules, has_colon_in_first_segment, absent_or_passes, is_authority, is_scheme}
 use Rattle.uri_parts.proofs.Splitting.Marks.{query_text, IsEmptyOrMarked-query_text}
-use Rattle.uri_parts.proofs.Splitting.Recompose.{components-are-split-of-text}
-use Rattle.uri_parts.proofs.Splitting.Recompose.{equal-to-true-is-IsTrue}
-use Rattle.uri_parts.proofs.Splitting.Relative.{scheme_set_lacks_percent}
-use Rattle.uri_parts.proofs.Splitting.Relative.{scheme_set_excludes_delimiters}
+use Rattle.uri_parts.proofs.Splitting.Recompose.{components-are-split-of-text, equal-to-true-is-IsTrue}
+use Rattle.uri_parts.proofs.Splitting.Relative.{scheme_set_lacks_percent, scheme_set_excludes_delimiters}
 use Rattle.uri_parts.proofs.TextKinds.GrammarTexts.{valid_text_lacks_excluded_marks}
 use Rattle.uri_parts.proofs.Splitting.Splits.{only-split-is-components}
 use Rattle.uri_parts.proofs.TextKinds.KindSets.{scheme-rule-holds-without-need}
 use Rattle.uri_ops.specs.declared.build.error.BuildError.{BuildError}
-use Rattle.uri_ops.specs.declared.build.error.BuildError.TheVariants.{FirstPathSegmentContainsColon}
-use Rattle.uri_ops.specs.declared.build.error.BuildError.TheVariants.{NonemptyRootlessPath}
-use Rattle.uri_ops.specs.declared.build.error.BuildError.TheVariants.{PathStartsWithDoubleSlash}
-use Rattle.uri_ops.specs.BuilderParts.{BuilderParts, MeetsOrFailed, as_components}
-use Rattle.uri_ops.specs.BuilderParts.{is_authority_text, is_scheme_text, is_text_for, meet_rules}
-use Rattle.uri_ops.specs.BuilderParts.{parts_text}
+use Rattle.uri_ops.specs.declared.build.error.BuildError.TheVariants.{FirstPathSegmentContainsColon, NonemptyRootlessPath, PathStartsWithDoubleSlash}
+use Rattle.uri_ops.specs.BuilderParts.{BuilderParts, MeetsOrFailed, as_components, is_authority_text, is_scheme_text, is_text_for, meet_rules, parts_text}
 use Rattle.uri_ops.specs.Built.{IsTextOfParts, refusal, build_error_of_path}
 use Rattle.uri_ops.specs.ComponentSets.{HasComponentSets}
 use Rattle.uri_ops.specs.Dots.{is_empty}
 use Rattle.uri_ops.specs.declared.build.draft.Draft.{Draft}
 use Rattle.uri_ops.specs.Builders.{draft_parts, has_path, is_at_end}
 use Rattle.uri_ops.proofs.Builders.PartRules.{in-order-parts-pass-their-test}
-use Rattle.uri_ops.proofs.Builders.BuilderAuthorities.{authority-lacks-its-ends}
-use Rattle.uri_ops.proofs.Builders.BuilderAuthorities.{authority-text-meets-rule}
-use Rattle.uri_ops.proofs.Builders.BuilderAuthorities.{authority-text-is-utf8}
+use Rattle.uri_ops.proofs.Builders.BuilderAuthorities.{authority-lacks-its-ends, authority-text-meets-rule, authority-text-is-utf8}
 use Rattle.uri_ops.proofs.Builders.Drafting.{meet_rules-gives-rules}
-use Rattle.uri_ops.proofs.Meanings.ComponentEnds.{no_scheme, path-set-excludes-its-ends}
-use Rattle.uri_ops.proofs.Meanings.ComponentEnds.{query-set-excludes-its-end}
-use Rattle.uri_ops.proofs.Meanings.AllowedParts.{is_set_text, set-text-from-utf8}
-use Rattle.uri_ops.proofs.Meanings.AllowedParts.{empty-text-is-set-text, set-text-is-utf8}
-use Rattle.uri_ops.proofs.Meanings.AllowedParts.{set-text-is-valid}
+use Rattle.uri_ops.proofs.Meanings.ComponentEnds.{no_scheme, path-set-excludes-its-ends, query-set-excludes-its-end}
+use Rattle.uri_ops.proofs.Meanings.AllowedParts.{is_set_text, set-text-from-utf8, empty-text-is-set-text, set-text-is-utf8, set-text-is-valid}
 use Rattle.uri_pct.proofs.General.{eq_true_from_IsTrue}
 use Rattle.uri_ops.proofs.Meanings.TextParts.{ArePartsOfKind, components-of-kind-meet-grammar}
 use Rattle.uri_ops.proofs.Normal.NormalComponents.{text-with-first-letter-is-not-empty}

@@ -1,6 +1,5 @@
 -- Each step of a builder knows where the host is in the authority.
-use Rattle.std.proofs.Common.{◌≡◌, ℕ, ◌+◌, Bool, true, false, List, [], ◌∷◌, ◌++◌, length, refl}
-use Rattle.std.proofs.Common.{sym, ap, subst, ◌∙◌, arith, length-append}
+use Rattle.std.proofs.Common.{◌≡◌, ℕ, ◌+◌, Bool, true, false, List, [], ◌∷◌, ◌++◌, length, refl, sym, ap, subst, ◌∙◌, arith, length-append}
 use Rattle.std.specs.Prelude.{codes, Option, Some, None, IfSome, option_map, unwrap_or}
 use Rattle.std.specs.Option.{option_map_or}
 use Rattle.std.specs.Str.{IsUtf8, is_utf8}
@@ -17,22 +16,16 @@ use Rattle.uri_parts.proofs.Authorities.Authority.{is_authority_for-sound}
 use Rattle.uri_ops.specs.declared.build.draft.Draft.{Draft}
 use Rattle.uri_ops.specs.declared.build.lengths.Lengths.{Lengths}
 use Rattle.uri_ops.specs.declared.build.places.HostRange.{HostRange}
-use Rattle.uri_ops.specs.BuilderParts.{AddsUnlessFailed, BuilderParts, MeetsOrFailed}
-use Rattle.uri_ops.specs.BuilderParts.{is_authority_text, is_text_for, lacks_host_and_port}
-use Rattle.uri_ops.specs.BuilderParts.{lacks_port, with_authority, with_more_authority}
+use Rattle.uri_ops.specs.BuilderParts.{AddsUnlessFailed, BuilderParts, MeetsOrFailed, is_authority_text, is_text_for, lacks_host_and_port, lacks_port, with_authority, with_more_authority}
 use Rattle.uri_ops.specs.Builders.{draft_parts, ends_in_authority, lacks_path, is_in_order}
 use Rattle.uri_ops.specs.ComponentSets.{HasComponentSets}
 use Rattle.uri_ops.specs.Dots.{is_empty}
 use Rattle.uri_ops.specs.HostParts.{IsHostText}
 use Rattle.uri_ops.specs.Models.DraftPlaces.{IsHostAtIfSome, IsHostAt, HasRightHostRange}
-use Rattle.uri_ops.proofs.Builders.BuilderAuthorities.{authority-text-meets-rule}
-use Rattle.uri_ops.proofs.Builders.BuilderAuthorities.{host-extends-authority}
-use Rattle.uri_ops.proofs.Builders.BuilderAuthorities.{port-extends-authority}
-use Rattle.uri_ops.proofs.Builders.BuilderAuthorities.{userinfo-begins-authority}
+use Rattle.uri_ops.proofs.Builders.BuilderAuthorities.{authority-text-meets-rule, host-extends-authority, port-extends-authority, userinfo-begins-authority}
 use Rattle.uri_ops.proofs.Builders.Drafting.{meet_rules-gives-rules}
 use Rattle.uri_ops.proofs.Builders.PartRules.{in-order-parts-pass-their-test, failure-is-kept}
-use Rattle.uri_ops.proofs.Normal.WrittenPlaces.{length-with-delimiter-after}
-use Rattle.uri_ops.proofs.Normal.WrittenPlaces.{length-with-delimiter-before}
+use Rattle.uri_ops.proofs.Normal.WrittenPlaces.{length-with-delimiter-after, length-with-delimiter-before}
 
 -- building: an authority is as long as userinfo, host and port with their delimiters
 authority-is-as-long-as-its-parts : (users names : TableSet) (a : List ℕ)

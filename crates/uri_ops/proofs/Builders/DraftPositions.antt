@@ -1,6 +1,5 @@
 -- Where the parts of a builder are in its text.
-use Rattle.std.proofs.Common.{◌≡◌, ℕ, ◌+◌, ◌≤◌, List, [], ◌++◌, length, refl, sym, ap, subst, ◌∙◌}
-use Rattle.std.proofs.Common.{arith, length-append, string_bytes, option_map, false}
+use Rattle.std.proofs.Common.{◌≡◌, ℕ, ◌+◌, ◌≤◌, List, [], ◌++◌, length, refl, sym, ap, subst, ◌∙◌, arith, length-append, string_bytes, option_map, false}
 use Rattle.std.specs.Prelude.{codes, Option, Some, None, IfSome, unwrap_or}
 use Rattle.std.proofs.lemmas.Bool.Decides.{nat_tests}
 use Rattle.uri_parts.specs.Components.{Components, marked}
@@ -11,12 +10,9 @@ use Rattle.uri_ops.specs.declared.build.places.HostRange.{HostRange}
 use Rattle.uri_ops.specs.BuilderParts.{BuilderParts, as_components, parts_text}
 use Rattle.uri_ops.specs.Builders.{draft_parts}
 use Rattle.uri_ops.specs.Drafts.{lengths_of}
-use Rattle.uri_ops.specs.Models.DraftPlaces.{IsHostAt, HasRightHostRange}
-use Rattle.uri_ops.specs.Models.DraftPlaces.{authority_positions_from_length}
-use Rattle.uri_ops.specs.Models.DraftPlaces.{positions_from_lengths, delimited_len}
+use Rattle.uri_ops.specs.Models.DraftPlaces.{IsHostAt, HasRightHostRange, authority_positions_from_length, positions_from_lengths, delimited_len}
 use Rattle.uri_ops.proofs.Builders.DraftHosts.{host-range-of-some-authority}
-use Rattle.uri_ops.proofs.Normal.WrittenPlaces.{length-with-delimiter-after}
-use Rattle.uri_ops.proofs.Normal.WrittenPlaces.{length-with-delimiter-before}
+use Rattle.uri_ops.proofs.Normal.WrittenPlaces.{length-with-delimiter-after, length-with-delimiter-before}
 
 -- building: the length of a component with its delimiters, from the length of the component
 delimited_len-of-component-length : (marks : ℕ) (o : Option (List ℕ))

@@ -1,7 +1,6 @@
 -- The text of the parts of a builder: parsing it gives the parts, and a text with these parts is
 -- such a text.
-use Rattle.std.proofs.Common.{◌≡◌, ℕ, ◌+◌, Bool, true, false, List, [], ◌++◌, length, drop, refl}
-use Rattle.std.proofs.Common.{sym, ap, ◌∙◌, arith, append_assoc, append-nil, length-append}
+use Rattle.std.proofs.Common.{◌≡◌, ℕ, ◌+◌, Bool, true, false, List, [], ◌++◌, length, drop, refl, sym, ap, ◌∙◌, arith, append_assoc, append-nil, length-append}
 use Rattle.std.specs.Prelude.{codes, Option, Some, None, option_map, unwrap_or, is_none}
 use Rattle.std.proofs.lemmas.Bool.{and_from, false≢true}
 use Rattle.std.proofs.Math.Seq.{drop-append_seam, take-append_seam}
@@ -10,8 +9,7 @@ use Rattle.uri_parts.specs.Components.{marked, recompose}
 use Rattle.uri_parts.specs.Grammar.{Kind, absent_or_passes}
 use Rattle.uri_parts.proofs.Splitting.Recompose.{components_of_parts}
 use Rattle.uri_ops.specs.declared.build.lengths.Lengths.{Lengths}
-use Rattle.uri_ops.specs.BuilderParts.{BuilderParts, is_authority_text, is_scheme_text, is_text_for}
-use Rattle.uri_ops.specs.BuilderParts.{meet_rules, parts_text}
+use Rattle.uri_ops.specs.BuilderParts.{BuilderParts, is_authority_text, is_scheme_text, is_text_for, meet_rules, parts_text}
 use Rattle.uri_ops.specs.Drafts.{IsDraft, after_part, lengths_of, part_in, parts_in}
 
 -- building: a component with its delimiters (before,

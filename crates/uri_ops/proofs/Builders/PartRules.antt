@@ -1,19 +1,12 @@
 -- What each step keeps of a builder's parts: each meets its rule, and they are at the next place.
-use Rattle.std.proofs.Common.{◌≡◌, ℕ, Bool, true, false, ◌&&◌, ◌||◌, List, [], ◌++◌, refl, sym, ap}
-use Rattle.std.proofs.Common.{◌∙◌, arith}
+use Rattle.std.proofs.Common.{◌≡◌, ℕ, Bool, true, false, ◌&&◌, ◌||◌, List, [], ◌++◌, refl, sym, ap, ◌∙◌, arith}
 use Rattle.std.specs.Prelude.{Option, Some, None, is_some, is_none, option_map}
 use Rattle.std.specs.Option.{option_map_or}
 use Rattle.std.proofs.lemmas.Bool.{and_parts, and_from, false≢true}
 use Rattle.std.proofs.lemmas.Bool.Decides.{nat_tests}
 use Rattle.uri_parts.specs.Grammar.{Kind, absent_or_passes}
-use Rattle.uri_ops.specs.BuilderParts.{AddsUnlessFailed, BuilderParts, MeetsOrFailed}
-use Rattle.uri_ops.specs.BuilderParts.{is_authority_text, is_scheme_text, is_text_for, meet_rules}
-use Rattle.uri_ops.specs.BuilderParts.{with_authority, with_fragment, with_more_authority}
-use Rattle.uri_ops.specs.BuilderParts.{with_path, with_query, with_scheme}
-use Rattle.uri_ops.specs.Builders.{any_authority, ends_in_authority, has_path}
-use Rattle.uri_ops.specs.Builders.{has_path_before_fragment, has_path_last, has_needed_scheme}
-use Rattle.uri_ops.specs.Builders.{is_fresh, lacks_query_and_fragment, lacks_all, lacks_authority}
-use Rattle.uri_ops.specs.Builders.{lacks_path, is_in_order}
+use Rattle.uri_ops.specs.BuilderParts.{AddsUnlessFailed, BuilderParts, MeetsOrFailed, is_authority_text, is_scheme_text, is_text_for, meet_rules, with_authority, with_fragment, with_more_authority, with_path, with_query, with_scheme}
+use Rattle.uri_ops.specs.Builders.{any_authority, ends_in_authority, has_path, has_path_before_fragment, has_path_last, has_needed_scheme, is_fresh, lacks_query_and_fragment, lacks_all, lacks_authority, lacks_path, is_in_order}
 use Rattle.uri_ops.specs.Dots.{is_empty}
 use Rattle.uri_pct.proofs.General.{second-holds-if-first-is-false}
 use Rattle.uri_ops.proofs.Builders.BuilderGrowth.{ExtendsAuthority}

@@ -1,29 +1,20 @@
 -- Texts that a set allows, cut at `/`, and their decoded forms as printed.
-use Rattle.std.proofs.Common.{◌≡◌, ℕ, ◌+◌, ◌*◌, Bool, true, false, eqb, List, [], ◌∷◌, ◌++◌, refl}
-use Rattle.std.proofs.Common.{ap, ◌∙◌, ◌&&◌, ⊎_elim, lit<, arith}
+use Rattle.std.proofs.Common.{◌≡◌, ℕ, ◌+◌, ◌*◌, Bool, true, false, eqb, List, [], ◌∷◌, ◌++◌, refl, ap, ◌∙◌, ◌&&◌, ⊎_elim, lit<, arith}
 use Rattle.std.specs.Char.{digit_value, is_ascii_hexdigit}
 use Rattle.std.specs.List.{list_all}
 use Rattle.std.specs.Str.{chars, IsUtf8, is_utf8}
-use Rattle.std.proofs.lemmas.Str.{IsUtf8-from_is_utf8, is_utf8-from_IsUtf8, IsUtf8-nil}
-use Rattle.std.proofs.lemmas.Str.{chars-append, encode_ascii}
+use Rattle.std.proofs.lemmas.Str.{IsUtf8-from_is_utf8, is_utf8-from_IsUtf8, IsUtf8-nil, chars-append, encode_ascii}
 use Rattle.std.proofs.lemmas.List.Concat.{flat_map-append}
 use Rattle.std.proofs.lemmas.List.Folds.{list_all-append}
 use Rattle.std.proofs.lemmas.Bool.{cases_Bool, cond-false, and_right, and_parts, and_from}
 use Rattle.std.proofs.lemmas.Bool.Decides.{nat_tests}
 use Rattle.uri_pct.specs.Sets.{TableSet, LacksPercent, IsSubset, unreserved_set, allows}
-use Rattle.uri_pct.specs.Tokens.{Token, Char, Octet, tokens, tokens_from_chars, bytes_decoded_from}
-use Rattle.uri_pct.specs.Tokens.{is_pct_encoded, print, allows_token, is_valid_for, IsValidFor}
-use Rattle.uri_pct.specs.DecodeUnreserved.{is_printable, decode_unreserved, decode_run}
-use Rattle.uri_pct.specs.DecodeUnreserved.{decode_after_run, decode_tokens, encode_formatting}
+use Rattle.uri_pct.specs.Tokens.{Token, Char, Octet, tokens, tokens_from_chars, bytes_decoded_from, is_pct_encoded, print, allows_token, is_valid_for, IsValidFor}
+use Rattle.uri_pct.specs.DecodeUnreserved.{is_printable, decode_unreserved, decode_run, decode_after_run, decode_tokens, encode_formatting}
 use Rattle.uri_pct.specs.Pieces.{pieces_from}
-use Rattle.uri_pct.proofs.UnreservedDecoding.Printing.{print_decoded}
-use Rattle.uri_pct.proofs.UnreservedDecoding.Printing.{printed_tokens_parse_to_themselves}
-use Rattle.uri_pct.proofs.UnreservedDecoding.Printing.{printed_tokens_are_utf8}
-use Rattle.uri_pct.proofs.UnreservedDecoding.Printing.{char_but_percent_is_its_own_token}
+use Rattle.uri_pct.proofs.UnreservedDecoding.Printing.{print_decoded, printed_tokens_parse_to_themselves, printed_tokens_are_utf8, char_but_percent_is_its_own_token}
 use Rattle.uri_pct.proofs.ValidTexts.Allowed.{valid_text_has_printable_tokens}
-use Rattle.uri_pct.proofs.UnreservedDecoding.DecodedTokens.{printed_decode_unreserved_stays_valid}
-use Rattle.uri_pct.proofs.UnreservedDecoding.DecodedTokens.{decode_unreserved_keeps_bytes}
-use Rattle.uri_pct.proofs.UnreservedDecoding.DecodedTokens.{char_separates_decoded_tokens}
+use Rattle.uri_pct.proofs.UnreservedDecoding.DecodedTokens.{printed_decode_unreserved_stays_valid, decode_unreserved_keeps_bytes, char_separates_decoded_tokens}
 use Rattle.uri_pct.proofs.UnreservedDecoding.Formatting.{ascii_char_separates_encode_formatting}
 use Rattle.uri_pct.proofs.UnreservedDecoding.DecodedTwice.{decode_unreserved_is_idempotent}
 use Rattle.uri_pct.proofs.UnreservedDecoding.DecodedTokens as DecodedTokens

@@ -1,20 +1,16 @@
 -- Texts without octets and without characters past ASCII, such as schemes, and the same in lower
 -- case.
-use Rattle.std.proofs.Common.{◌≡◌, ℕ, zero, suc, Bool, true, false, eqb, ltb, List, [], ◌∷◌, refl}
-use Rattle.std.proofs.Common.{sym, ap, ◌∙◌, arith}
+use Rattle.std.proofs.Common.{◌≡◌, ℕ, zero, suc, Bool, true, false, eqb, ltb, List, [], ◌∷◌, refl, sym, ap, ◌∙◌, arith}
 use Rattle.std.specs.Prelude.{slice_index}
 use Rattle.std.specs.Char.{is_ascii_alphabetic, to_ascii_lowercase}
 use Rattle.std.specs.List.{list_all}
 use Rattle.std.specs.Str.{IsUtf8, IsAscii, str_to_ascii_lowercase}
 use Rattle.std.proofs.lemmas.Str.{IsUtf8-from_ascii}
 use Rattle.std.proofs.lemmas.Str.Ascii.{lowercase_ascii, lowercase-lowercase}
-use Rattle.std.proofs.lemmas.Bool.{and_left, and_right, and_from, cond-false, eqb-true, both_ways}
-use Rattle.std.proofs.lemmas.Bool.{false_from_ne_true, and_parts, cond-true, lt-ltb, ltb-true}
+use Rattle.std.proofs.lemmas.Bool.{and_left, and_right, and_from, cond-false, eqb-true, both_ways, false_from_ne_true, and_parts, cond-true, lt-ltb, ltb-true}
 use Rattle.std.proofs.lemmas.Bool.Decides.{nat_tests}
 use Rattle.uri_pct.specs.Sets.{TableSet, LacksPercent, is_scheme_char}
-use Rattle.uri_pct.proofs.ValidTexts.Validity.{valid_from, validity_by_first_byte}
-use Rattle.uri_pct.proofs.ValidTexts.Validity.{validity_of_tokens_is_validity_of_bytes}
-use Rattle.uri_pct.proofs.ValidTexts.Validity.{ascii_first_byte_is_allowed_iff_in_set}
+use Rattle.uri_pct.proofs.ValidTexts.Validity.{valid_from, validity_by_first_byte, validity_of_tokens_is_validity_of_bytes, ascii_first_byte_is_allowed_iff_in_set}
 use Rattle.uri_parts.specs.Grammar.{is_scheme}
 pub use Rattle.uri_parts.proofs.TextKinds.AsciiSets.{is_ascii_in, valid_ascii_text}
 use Rattle.uri_ops.proofs.Meanings.AllowedParts.{is_set_text, set-text-from-utf8}

@@ -1,7 +1,6 @@
 -- An authority that is printed from its meaning is one, lacks the marks that would end it, and has
 -- that meaning.
-use Rattle.std.proofs.Common.{◌≡◌, ℕ, Bool, true, false, cond, not, List, [], ◌∷◌, ◌++◌, refl, sym}
-use Rattle.std.proofs.Common.{ap, subst, ◌∙◌, ◌||◌, arith, append_assoc, append-nil, option_map}
+use Rattle.std.proofs.Common.{◌≡◌, ℕ, Bool, true, false, cond, not, List, [], ◌∷◌, ◌++◌, refl, sym, ap, subst, ◌∙◌, ◌||◌, arith, append_assoc, append-nil, option_map}
 use Rattle.std.specs.Prelude.{codes, Option, Some, None, IfSome}
 use Rattle.std.specs.List.{list_any, list_all}
 use Rattle.std.specs.Str.{IsUtf8}
@@ -15,33 +14,23 @@ use Rattle.uri_pct.proofs.ValidTexts.Cuts.{excludes}
 use Rattle.uri_pct.proofs.ValidTexts.MarksInTexts.{test_holds_of_each}
 use Rattle.uri_parts.specs.Components.{Lacks, marked}
 use Rattle.uri_parts.specs.Hosts.{HostKind, IsHost, host_kind}
-use Rattle.uri_parts.specs.Authority.{AuthorityParts, IsAuthorityFor, LackAuthorityDelimiters}
-use Rattle.uri_parts.specs.Authority.{authority_parts, recompose_authority}
+use Rattle.uri_parts.specs.Authority.{AuthorityParts, IsAuthorityFor, LackAuthorityDelimiters, authority_parts, recompose_authority}
 use Rattle.uri_parts.specs.Grammar.{Kind, is_authority}
-use Rattle.uri_parts.proofs.Authorities.Authority.{is_authority_for-sound}
-use Rattle.uri_parts.proofs.Authorities.Authority.{is_authority_for-complete}
-use Rattle.uri_parts.proofs.Authorities.Authority.{authority_parts-are-unique}
-use Rattle.uri_parts.proofs.Authorities.Authority.{names_exclude_delimiters}
+use Rattle.uri_parts.proofs.Authorities.Authority.{is_authority_for-sound, is_authority_for-complete, authority_parts-are-unique, names_exclude_delimiters}
 use Rattle.uri_parts.proofs.HostForms.Futures.{joined-texts-lack-marks}
 use Rattle.uri_parts.proofs.HostForms.Hosts.{is_host-complete}
-use Rattle.uri_parts.proofs.TextKinds.GrammarTexts.{utf8_around_ascii_byte}
-use Rattle.uri_parts.proofs.TextKinds.GrammarTexts.{valid_text_lacks_excluded_marks}
+use Rattle.uri_parts.proofs.TextKinds.GrammarTexts.{utf8_around_ascii_byte, valid_text_lacks_excluded_marks}
 use Rattle.uri_ops.specs.Dots.{is_empty}
 use Rattle.uri_parts.specs.Ports.{is_default}
 use Rattle.uri_ops.specs.ComponentSets.{HasComponentSets}
 use Rattle.uri_ops.specs.Meaning.{AuthorityMeaning, host_meaning, port_meaning, authority_meaning}
 use Rattle.uri_ops.specs.Normal.{normal_parts}
-use Rattle.uri_ops.proofs.Meanings.AllowedParts.{is_set_text, set-text-from-utf8, set-text-is-utf8}
-use Rattle.uri_ops.proofs.Meanings.AllowedParts.{set-text-is-valid}
+use Rattle.uri_ops.proofs.Meanings.AllowedParts.{is_set_text, set-text-from-utf8, set-text-is-utf8, set-text-is-valid}
 use Rattle.uri_ops.proofs.Meanings.AsciiCharacters.{ascii-bytes-are-utf8}
 use Rattle.uri_ops.proofs.Paths.PathCharacters.{test-of-delimiters-gives-lacks}
-use Rattle.uri_ops.proofs.Meanings.ComponentEnds.{ends-are-excluded-from-set}
-use Rattle.uri_ops.proofs.Meanings.ComponentEnds.{fewer-characters-are-excluded-too}
+use Rattle.uri_ops.proofs.Meanings.ComponentEnds.{ends-are-excluded-from-set, fewer-characters-are-excluded-too}
 use Rattle.uri_ops.proofs.Meanings.HostMeanings.{IsHostWithMeaning, normal-host-has-meaning}
-use Rattle.uri_ops.proofs.Normal.NormalComponents.{NormalAuthoritiesKeepMeaning}
-use Rattle.uri_ops.proofs.Normal.NormalComponents.{normal-component-is-part}
-use Rattle.uri_ops.proofs.Normal.NormalComponents.{normal-component-decodes-as-component}
-use Rattle.uri_ops.proofs.Normal.NormalComponents.{part-lacks-excluded-characters}
+use Rattle.uri_ops.proofs.Normal.NormalComponents.{NormalAuthoritiesKeepMeaning, normal-component-is-part, normal-component-decodes-as-component, part-lacks-excluded-characters}
 use Rattle.uri_pct.proofs.General.{IfSome-combine, IfSome-weaken}
 
 -- meanings of authorities: a set that has none of some delimiters excludes each of them

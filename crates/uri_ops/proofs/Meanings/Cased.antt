@@ -1,12 +1,10 @@
 -- What is written of a part, as it is or with its letters lowered.
-use Rattle.std.proofs.Common.{◌≡◌, ℕ, ◌≤◌, Bool, true, false, List, [], ◌∷◌, ◌++◌, map, refl, sym}
-use Rattle.std.proofs.Common.{ap, subst, ◌∙◌, arith, ⊎_elim}
+use Rattle.std.proofs.Common.{◌≡◌, ℕ, ◌≤◌, Bool, true, false, List, [], ◌∷◌, ◌++◌, map, refl, sym, ap, subst, ◌∙◌, arith, ⊎_elim}
 use Rattle.std.specs.Prelude.{slice_index}
 use Rattle.std.specs.List.{list_all, flat_map, All}
 use Rattle.std.specs.Char.{encode_utf8, to_ascii_lowercase}
 use Rattle.std.specs.Str.{chars, encode_utf8_all, all_scalars, IsUtf8, str_to_ascii_lowercase}
-use Rattle.std.proofs.lemmas.Bool.{cases_Bool, cond-true, cond-false, and_parts, and_from, or_parts}
-use Rattle.std.proofs.lemmas.Bool.{cases_lt, leb-true}
+use Rattle.std.proofs.lemmas.Bool.{cases_Bool, cond-true, cond-false, and_parts, and_from, or_parts, cases_lt, leb-true}
 use Rattle.std.proofs.lemmas.Bool.Decides.{nat_tests}
 use Rattle.std.proofs.lemmas.List.{append-nil, map-append}
 use Rattle.std.proofs.lemmas.List.Elements.{All-nil, All-cons, All-head, All-tail}
@@ -19,12 +17,10 @@ use Rattle.uri_pct.specs.DecodeUnreserved.{is_decodable, decode_piece, lower_tok
 use Rattle.uri_pct.specs.Sets.{TableSet, allows, allows_past_ascii, is_unreserved}
 use Rattle.uri_pct.specs.Tokens.{Char, Octet, print}
 use Rattle.uri_pct.proofs.Unicode.CharacterPieces.{utf8_pieces-are-of-characters}
-use Rattle.uri_pct.proofs.Unicode.Characters.{char_has_encoding, char_past_ascii_begins_past_ascii}
-use Rattle.uri_pct.proofs.Unicode.Characters.{is_no_ascii_byte}
+use Rattle.uri_pct.proofs.Unicode.Characters.{char_has_encoding, char_past_ascii_begins_past_ascii, is_no_ascii_byte}
 use Rattle.uri_pct.proofs.EncodedTexts.Encodings.{pieces_of_text_are_encoded_as_text}
 use Rattle.uri_ops.specs.Models.Decodings.{lowered_if, lowered_text_if}
-use Rattle.uri_pct.proofs.UnreservedDecoding.Formatting.{lowering_keeps_octets}
-use Rattle.uri_pct.proofs.UnreservedDecoding.Formatting.{lowercase_keeps_char_past_ascii}
+use Rattle.uri_pct.proofs.UnreservedDecoding.Formatting.{lowering_keeps_octets, lowercase_keeps_char_past_ascii}
 
 -- meanings in lower case: literal tokens are written as the UTF-8 of their characters
 print-of-characters-is-their-utf8 : (cs : List ℕ) → print (map Char cs) ≡ encode_utf8_all cs

@@ -1,21 +1,17 @@
 -- Where components end: the marks that a set excludes, and the texts that begin with no scheme.
-use Rattle.std.proofs.Common.{◌≡◌, ℕ, Bool, true, false, eqb, not, nat_lt, List, [], ◌∷◌, ◌++◌}
-use Rattle.std.proofs.Common.{take, drop, refl, sym, ap, ◌∙◌, ◌&&◌, ⊎_elim, arith}
+use Rattle.std.proofs.Common.{◌≡◌, ℕ, Bool, true, false, eqb, not, nat_lt, List, [], ◌∷◌, ◌++◌, take, drop, refl, sym, ap, ◌∙◌, ◌&&◌, ⊎_elim, arith}
 use Rattle.std.specs.Prelude.{codes}
 use Rattle.std.specs.Char.{is_ascii_hexdigit}
 use Rattle.std.specs.List.{list_all, list_any}
-use Rattle.std.proofs.lemmas.Bool.{cases_Bool, and_parts, and_from, and_left, or_parts, or_left}
-use Rattle.std.proofs.lemmas.Bool.{both_ways, not_from_false}
+use Rattle.std.proofs.lemmas.Bool.{cases_Bool, and_parts, and_from, and_left, or_parts, or_left, both_ways, not_from_false}
 use Rattle.std.proofs.lemmas.Bool.Decides.{nat_tests}
 use Rattle.uri_pct.specs.Sets.{TableSet, is_one_of}
 use Rattle.uri_pct.proofs.ValidTexts.Cuts.{excludes}
-use Rattle.uri_pct.proofs.ValidTexts.MarksInTexts.{length_before_mark_at_start_is_zero}
-use Rattle.uri_pct.proofs.ValidTexts.MarksInTexts.{length_before_marks_counts_other_byte}
+use Rattle.uri_pct.proofs.ValidTexts.MarksInTexts.{length_before_mark_at_start_is_zero, length_before_marks_counts_other_byte}
 use Rattle.uri_parts.specs.Components.{starts, has_scheme, before_any, from_any}
 use Rattle.uri_parts.specs.Grammar.{has_colon_in_first_segment, Kind}
 use Rattle.uri_parts.proofs.Splitting.Cuts.{IsEmptyOrMarked}
-use Rattle.uri_parts.proofs.Splitting.Relative.{question_or_hash_ends_scheme}
-use Rattle.uri_parts.proofs.Splitting.Relative.{question_or_hash_is_no_colon}
+use Rattle.uri_parts.proofs.Splitting.Relative.{question_or_hash_ends_scheme, question_or_hash_is_no_colon}
 use Rattle.uri_ops.specs.ComponentSets.{HasComponentSets}
 
 -- meanings of components: an ASCII character other than `%` and hexadecimal digits, as a delimiter

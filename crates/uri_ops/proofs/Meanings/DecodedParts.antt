@@ -1,6 +1,5 @@
 -- Decoding the parts of a text gives the decoding of its tokens.
-use Rattle.std.proofs.Common.{◌≡◌, ℕ, true, List, [], ◌∷◌, ◌++◌, map, refl, sym, ap, ◌∙◌}
-use Rattle.std.proofs.Common.{append_assoc, arith}
+use Rattle.std.proofs.Common.{◌≡◌, ℕ, true, List, [], ◌∷◌, ◌++◌, map, refl, sym, ap, ◌∙◌, append_assoc, arith}
 use Rattle.std.specs.List.{list_all, flat_map}
 use Rattle.std.specs.Char.{encode_utf8, IsScalar}
 use Rattle.std.specs.Str.{chars, IsUtf8}
@@ -12,8 +11,7 @@ use Rattle.std.proofs.lemmas.Bool.Decides.{nat_tests}
 use Rattle.uri_pct.specs.Chunks.{Chunk, Text, Byte, prepend_to_chunks, chunks_of_tokens, widest_set}
 use Rattle.uri_pct.specs.Parts.{Decoded, parts_from, parts}
 use Rattle.uri_pct.specs.Pieces.{Piece, utf8_pieces, pieces_from}
-use Rattle.uri_pct.specs.DecodeUnreserved.{is_printable, decode_piece, decode_run, decode_after_run}
-use Rattle.uri_pct.specs.DecodeUnreserved.{decode_tokens}
+use Rattle.uri_pct.specs.DecodeUnreserved.{is_printable, decode_piece, decode_run, decode_after_run, decode_tokens}
 use Rattle.uri_pct.specs.Sets.{TableSet}
 use Rattle.uri_pct.specs.Tokens.{Token, Char, Octet, tokens, IsValidFor}
 use Rattle.uri_pct.proofs.ValidTexts.Allowed.{valid_text_has_printable_tokens}

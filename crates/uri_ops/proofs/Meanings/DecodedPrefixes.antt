@@ -1,35 +1,25 @@
 -- A prefix of a text is decoded by itself if it consists of characters and octets of ASCII. If the
 -- set has no characters past ASCII, every octet may be in it.
-use Rattle.std.proofs.Common.{◌≡◌, ℕ, take_all, ◌+◌, ◌*◌, ◌-◌, ◌<◌, Bool, true, ◌&&◌, false, eqb}
-use Rattle.std.proofs.Common.{ltb, not, List, [], ◌∷◌, ◌++◌, length, get_or, take, drop, map, ◌≤◌}
-use Rattle.std.proofs.Common.{add-zero, refl, sym, ap, subst, ◌∙◌, arith, ◌||◌, ◌⊎◌, append_assoc}
+use Rattle.std.proofs.Common.{◌≡◌, ℕ, take_all, ◌+◌, ◌*◌, ◌-◌, ◌<◌, Bool, true, ◌&&◌, false, eqb, ltb, not, List, [], ◌∷◌, ◌++◌, length, get_or, take, drop, map, ◌≤◌, add-zero, refl, sym, ap, subst, ◌∙◌, arith, ◌||◌, ◌⊎◌, append_assoc}
 use Rattle.std.specs.List.{position_or_len}
 use Rattle.std.specs.Char.{digit_value, is_ascii_hexdigit, to_ascii_lowercase}
 use Rattle.std.specs.Str.{chars, IsUtf8, IsCharBoundary}
 use Rattle.std.proofs.lemmas.Bool.{ne_eqb, or_parts, not-true}
 use Rattle.std.proofs.lemmas.Bool.Decides.{nat_tests}
-use Rattle.std.proofs.lemmas.List.{append-nil, take-append-drop, drop-drop, length-drop}
-use Rattle.std.proofs.lemmas.List.{get_or-drop, drop_all, drop_more, map-append}
+use Rattle.std.proofs.lemmas.List.{append-nil, take-append-drop, drop-drop, length-drop, get_or-drop, drop_all, drop_more, map-append}
 use Rattle.std.proofs.lemmas.List.Folds.{list_all-append}
-use Rattle.std.proofs.lemmas.Str.{IsUtf8-take, IsUtf8-drop, IsCharBoundary-from_rest}
-use Rattle.std.proofs.lemmas.Str.{IsCharBoundary-after_ascii}
+use Rattle.std.proofs.lemmas.Str.{IsUtf8-take, IsUtf8-drop, IsCharBoundary-from_rest, IsCharBoundary-after_ascii}
 use Rattle.uri_pct.specs.Chunks.{widest_set}
-use Rattle.uri_pct.specs.DecodeUnreserved.{LacksPastAscii, decode_octet, decode_after_run}
-use Rattle.uri_pct.specs.DecodeUnreserved.{decode_tokens, lower_token}
+use Rattle.uri_pct.specs.DecodeUnreserved.{LacksPastAscii, decode_octet, decode_after_run, decode_tokens, lower_token}
 use Rattle.uri_pct.specs.Sets.{TableSet}
 use Rattle.uri_pct.specs.Texts.{lacks}
-use Rattle.uri_pct.specs.Tokens.{Char, Octet, tokens, tokens_from_chars, print, is_valid_for}
-use Rattle.uri_pct.specs.Tokens.{IsValidFor}
-use Rattle.uri_pct.proofs.Decodings.Decoding.{bytes_from_percent_begin_with_octet}
-use Rattle.uri_pct.proofs.Decodings.Decoding.{boundary_after_octet, tokens_after_unencoded_prefix}
-use Rattle.uri_pct.proofs.Decodings.Decoding.{first_percent_is_at_boundary, prefix_len_bytes_pass}
+use Rattle.uri_pct.specs.Tokens.{Char, Octet, tokens, tokens_from_chars, print, is_valid_for, IsValidFor}
+use Rattle.uri_pct.proofs.Decodings.Decoding.{bytes_from_percent_begin_with_octet, boundary_after_octet, tokens_after_unencoded_prefix, first_percent_is_at_boundary, prefix_len_bytes_pass}
 use Rattle.uri_pct.proofs.Unicode.Pieces.{take_then_take_is_take_of_sum}
-use Rattle.uri_ops.specs.Models.Decodings.{IsOctetAt, KeepsPrefixWhenDecoded, cased_append}
-use Rattle.uri_ops.specs.Models.Decodings.{lowered_if, lowered_text_if, decoded_text}
+use Rattle.uri_ops.specs.Models.Decodings.{IsOctetAt, KeepsPrefixWhenDecoded, cased_append, lowered_if, lowered_text_if, decoded_text}
 use Rattle.uri_ops.proofs.Meanings.Cased.{print-lowers-characters}
 use Rattle.uri_ops.proofs.Meanings.DecodedParts.{decode_run-of-nil-is-nil}
-use Rattle.uri_ops.proofs.Meanings.DecodedOctets.{decode_tokens-after-chars}
-use Rattle.uri_ops.proofs.Meanings.DecodedOctets.{first-octet-token-is-decoded-alone}
+use Rattle.uri_ops.proofs.Meanings.DecodedOctets.{decode_tokens-after-chars, first-octet-token-is-decoded-alone}
 
 -- meanings, decoded: a prefix without `%` (37) is its own decoded form, in lower case if lowers,
 -- before that of what follows

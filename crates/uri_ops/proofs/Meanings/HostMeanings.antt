@@ -1,6 +1,5 @@
 -- A host that is printed from its meaning is a host, and has that meaning.
-use Rattle.std.proofs.Common.{◌≡◌, ℕ, ◌<◌, true, false, ltb, List, [], ◌∷◌, ◌++◌, map, refl, sym}
-use Rattle.std.proofs.Common.{ap, subst, ◌∙◌, arith, inl, inr}
+use Rattle.std.proofs.Common.{◌≡◌, ℕ, ◌<◌, true, false, ltb, List, [], ◌∷◌, ◌++◌, map, refl, sym, ap, subst, ◌∙◌, arith, inl, inr}
 use Rattle.std.specs.Prelude.{codes, Option, Some, None}
 use Rattle.std.specs.Char.{is_ascii_hexdigit, to_ascii_lowercase}
 use Rattle.std.specs.List.{list_all}
@@ -19,45 +18,25 @@ use Rattle.uri_pct.specs.Sets.{TableSet, is_one_of, ipv_future_set, is_userinfo_
 use Rattle.uri_pct.specs.Tokens.{print, is_valid_for}
 use Rattle.uri_pct.specs.DecodeUnreserved.{lower_token, decode_unreserved}
 use Rattle.uri_pct.proofs.ValidTexts.Cuts.{excludes}
-use Rattle.uri_pct.proofs.UnreservedDecoding.Printing.{printed_tokens_are_utf8}
-use Rattle.uri_pct.proofs.UnreservedDecoding.Printing.{printed_tokens_are_valid_iff_allowed}
-use Rattle.uri_pct.proofs.ValidTexts.Allowed.{lowered_tokens_are_printable}
-use Rattle.uri_pct.proofs.ValidTexts.Allowed.{lowered_tokens_are_allowed}
-use Rattle.uri_pct.proofs.ValidTexts.Allowed.{lowering_tokens_is_idempotent}
+use Rattle.uri_pct.proofs.UnreservedDecoding.Printing.{printed_tokens_are_utf8, printed_tokens_are_valid_iff_allowed}
+use Rattle.uri_pct.proofs.ValidTexts.Allowed.{lowered_tokens_are_printable, lowered_tokens_are_allowed, lowering_tokens_is_idempotent}
 use Rattle.uri_pct.proofs.UnreservedDecoding.DecodedTokens.{decode_unreserved_keeps_tokens_allowed}
 use Rattle.uri_pct.proofs.UnreservedDecoding.DecodedTwice.{decoding_keeps_lowered_decoded_text}
 use Rattle.uri_parts.specs.Components.{Lacks, starts}
-use Rattle.uri_parts.specs.Hosts.{HostKind, Ipv4, Ipv6, IpvFuture, RegName, IsHost, IsIpvFuture}
-use Rattle.uri_parts.specs.Hosts.{bracketed, host_kind, is_host, ipv4_value, name_kind}
-use Rattle.uri_parts.proofs.TextKinds.GrammarTexts.{utf8_around_ascii_byte}
-use Rattle.uri_parts.proofs.TextKinds.GrammarTexts.{valid_text_lacks_excluded_marks}
+use Rattle.uri_parts.specs.Hosts.{HostKind, Ipv4, Ipv6, IpvFuture, RegName, IsHost, IsIpvFuture, bracketed, host_kind, is_host, ipv4_value, name_kind}
+use Rattle.uri_parts.proofs.TextKinds.GrammarTexts.{utf8_around_ascii_byte, valid_text_lacks_excluded_marks}
 use Rattle.uri_parts.proofs.Parsing.ScanStops.{utf8_after_ascii_byte}
-use Rattle.uri_parts.proofs.HostForms.Addresses.{is_address_char, is_address_text}
-use Rattle.uri_parts.proofs.HostForms.Addresses.{ipv6-text-is-address-text}
-use Rattle.uri_parts.proofs.HostForms.Futures.{joined-texts-lack-marks}
-use Rattle.uri_parts.proofs.HostForms.Futures.{ipv6-text-lacks-excluded-marks}
-use Rattle.uri_parts.proofs.HostForms.Futures.{ipvfuture-text-lacks-excluded-marks}
-use Rattle.uri_parts.proofs.HostForms.Futures.{hexdigit_is_userinfo_char}
-use Rattle.uri_parts.proofs.HostForms.Futures.{ipv4-text-is-digits-and-dots}
-use Rattle.uri_parts.proofs.HostForms.Hosts.{is_host-sound, is_host-complete}
-use Rattle.uri_parts.proofs.HostForms.Hosts.{lacking_text_does_not_begin_with}
-use Rattle.uri_parts.proofs.HostForms.Hosts.{address-in-brackets-is-utf8}
+use Rattle.uri_parts.proofs.HostForms.Addresses.{is_address_char, is_address_text, ipv6-text-is-address-text}
+use Rattle.uri_parts.proofs.HostForms.Futures.{joined-texts-lack-marks, ipv6-text-lacks-excluded-marks, ipvfuture-text-lacks-excluded-marks, hexdigit_is_userinfo_char, ipv4-text-is-digits-and-dots}
+use Rattle.uri_parts.proofs.HostForms.Hosts.{is_host-sound, is_host-complete, lacking_text_does_not_begin_with, address-in-brackets-is-utf8}
 use Rattle.uri_ops.specs.ComponentSets.{IsComponentSet}
 use Rattle.uri_ops.specs.Meaning.{HostMeaning, FutureAddress, Name, host_meaning}
 use Rattle.uri_ops.specs.Normal.{host_text}
 use Rattle.uri_ops.proofs.Meanings.AddressNumbers.{ipv6_text-has-its-segments}
-use Rattle.uri_ops.proofs.Meanings.AllowedParts.{is_set_text, set-text-from-utf8, set-text-is-valid}
-use Rattle.uri_ops.proofs.Meanings.AllowedParts.{set-text-has-printable-tokens}
-use Rattle.uri_ops.proofs.Meanings.AllowedParts.{decoded-set-text-is-printable}
-use Rattle.uri_ops.proofs.Meanings.AsciiCharacters.{is_ascii_in, valid_ascii_text}
-use Rattle.uri_ops.proofs.Meanings.AsciiCharacters.{ascii-in-test-is-utf8, ascii-bytes-are-utf8}
-use Rattle.uri_ops.proofs.Meanings.AsciiCharacters.{ascii-in-test-is-set-text}
-use Rattle.uri_ops.proofs.Meanings.AsciiCharacters.{ascii-passes-wider-test}
-use Rattle.uri_ops.proofs.Meanings.AsciiCharacters.{lowered-ascii-passes-test}
-use Rattle.uri_ops.proofs.Meanings.AsciiCharacters.{lowering-is-idempotent}
+use Rattle.uri_ops.proofs.Meanings.AllowedParts.{is_set_text, set-text-from-utf8, set-text-is-valid, set-text-has-printable-tokens, decoded-set-text-is-printable}
+use Rattle.uri_ops.proofs.Meanings.AsciiCharacters.{is_ascii_in, valid_ascii_text, ascii-in-test-is-utf8, ascii-bytes-are-utf8, ascii-in-test-is-set-text, ascii-passes-wider-test, lowered-ascii-passes-test, lowering-is-idempotent}
 use Rattle.uri_ops.proofs.Paths.PathCharacters.{test-of-delimiters-gives-lacks}
-use Rattle.uri_ops.proofs.Meanings.ComponentEnds.{ends-are-excluded-from-set}
-use Rattle.uri_ops.proofs.Meanings.ComponentEnds.{fewer-characters-are-excluded-too}
+use Rattle.uri_ops.proofs.Meanings.ComponentEnds.{ends-are-excluded-from-set, fewer-characters-are-excluded-too}
 
 -- meanings of hosts: the text printed from a meaning is a host with it, and ends no authority
 pub record IsHostWithMeaning (names : TableSet) (m : HostMeaning) (text : List ℕ) : Type 0 where

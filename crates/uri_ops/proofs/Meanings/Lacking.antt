@@ -1,27 +1,20 @@
 -- Which characters a part lacks: its decoded form lacks them too.
-use Rattle.std.proofs.Common.{◌≡◌, ℕ, zero, suc, Bool, true, false, cond, eqb, not, List, [], ◌∷◌}
-use Rattle.std.proofs.Common.{◌++◌, refl, sym, ap, ◌∙◌, arith, ◌&&◌, ⊎_elim}
+use Rattle.std.proofs.Common.{◌≡◌, ℕ, zero, suc, Bool, true, false, cond, eqb, not, List, [], ◌∷◌, ◌++◌, refl, sym, ap, ◌∙◌, arith, ◌&&◌, ⊎_elim}
 use Rattle.std.specs.List.{list_all, list_any, flat_map}
 use Rattle.std.specs.Str.{continuation_len}
-use Rattle.std.proofs.lemmas.Bool.{cases_Bool, and_parts, and_from, or_parts, or_from, not-true}
-use Rattle.std.proofs.lemmas.Bool.{not_from_false, false_from_ne_true}
+use Rattle.std.proofs.lemmas.Bool.{cases_Bool, and_parts, and_from, or_parts, or_from, not-true, not_from_false, false_from_ne_true}
 use Rattle.std.proofs.lemmas.Bool.Decides.{nat_tests}
-use Rattle.uri_pct.specs.Sets.{TableSet, LacksPercent, IsSubset, unreserved_set, is_unreserved}
-use Rattle.uri_pct.specs.Sets.{is_one_of, allows_past_ascii}
+use Rattle.uri_pct.specs.Sets.{TableSet, LacksPercent, IsSubset, unreserved_set, is_unreserved, is_one_of, allows_past_ascii}
 use Rattle.uri_pct.specs.Tokens.{Token, Char, Octet, tokens, print}
 use Rattle.uri_pct.specs.Pieces.{Piece, WellFormed, IllFormed, utf8_pieces}
-use Rattle.uri_pct.specs.DecodeUnreserved.{is_decodable, decode_piece, decode_run, decode_after_run}
-use Rattle.uri_pct.specs.DecodeUnreserved.{is_never_literal, formatting_as_octets}
-use Rattle.uri_pct.specs.DecodeUnreserved.{encode_formatting}
+use Rattle.uri_pct.specs.DecodeUnreserved.{is_decodable, decode_piece, decode_run, decode_after_run, is_never_literal, formatting_as_octets, encode_formatting}
 use Rattle.uri_pct.specs.Prefixes.{begins_with_hex_digits, allows_first}
 use Rattle.uri_pct.proofs.ValidTexts.Cuts.{excludes}
 use Rattle.uri_pct.proofs.ValidTexts.Validity.{valid_from, validity_of_tokens_is_validity_of_bytes}
 use Rattle.uri_parts.proofs.TextKinds.GrammarTexts.{valid_text_lacks_excluded_marks}
 use Rattle.uri_ops.proofs.Paths.PathCharacters.{lacked-delimiters-fail-test}
-use Rattle.uri_ops.proofs.Meanings.AllowedParts.{is_set_text, set-text-from-utf8, set-text-is-utf8}
+use Rattle.uri_ops.proofs.Meanings.AllowedParts.{is_set_text, set-text-from-utf8, set-text-is-utf8, set-text-is-valid, decoded-set-text-is-set-text}
 use Rattle.uri_pct.proofs.UnreservedDecoding.Printing.{print_decoded}
-use Rattle.uri_ops.proofs.Meanings.AllowedParts.{set-text-is-valid}
-use Rattle.uri_ops.proofs.Meanings.AllowedParts.{decoded-set-text-is-set-text}
 
 -- meanings of components: the text has none of these delimiters
 abbrev pub lacks_any : List ℕ → List ℕ → Bool

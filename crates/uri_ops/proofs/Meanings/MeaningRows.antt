@@ -5,8 +5,7 @@ use Rattle.std.specs.Str.{chars, bytes_eq}
 use Rattle.std.specs.Char.{encode_utf8}
 use Rattle.std.specs.Fmt.{digits}
 use Rattle.std.specs.Net.Text.{hex, hex_groups_text, ipv6_text}
-use Rattle.std.specs.Net.Reader.{read_ipv6, read_ipv4, read_octet, read_number, read_segment}
-use Rattle.std.specs.Net.Reader.{read_segments}
+use Rattle.std.specs.Net.Reader.{read_ipv6, read_ipv4, read_octet, read_number, read_segment, read_segments}
 use Rattle.uri_pct.specs.Sets as Sets
 use Rattle.uri_pct.specs.Tokens as Tokens
 use Rattle.uri_pct.specs.Pieces as Pieces

@@ -1,6 +1,5 @@
 -- The meaning under a port function is a function of the bare meaning.
-use Rattle.std.proofs.Common.{◌≡◌, ℕ, Bool, true, false, cond, ◌||◌, List, [], ◌∷◌, refl, sym, ap}
-use Rattle.std.proofs.Common.{◌∙◌, Option, Some, None, option_map, arith}
+use Rattle.std.proofs.Common.{◌≡◌, ℕ, Bool, true, false, cond, ◌||◌, List, [], ◌∷◌, refl, sym, ap, ◌∙◌, Option, Some, None, option_map, arith}
 use Rattle.std.specs.Option.{option_and_then}
 use Rattle.std.proofs.lemmas.Bool.{cond-false}
 use Rattle.std.proofs.lemmas.Bool.Decides.{nat_tests}
@@ -8,8 +7,7 @@ use Rattle.uri_parts.specs.Components.{Components, components}
 use Rattle.uri_parts.specs.Grammar.{Kind}
 use Rattle.uri_parts.specs.Ports.{PortFunction, no_defaults, is_default}
 use Rattle.uri_ops.specs.Dots.{is_empty}
-use Rattle.uri_ops.specs.Meaning.{AuthorityMeaning, Meaning, port_meaning, authority_meaning}
-use Rattle.uri_ops.specs.Meaning.{components_meaning, meaning_of, bare_meaning_of, under}
+use Rattle.uri_ops.specs.Meaning.{AuthorityMeaning, Meaning, port_meaning, authority_meaning, components_meaning, meaning_of, bare_meaning_of, under}
 
 -- meanings of ports: leaving out an empty port, and then the default, is leaving out either
 port_meaning-of-bare-port_meaning : (default : Option ℕ) (port : Option (List ℕ))

@@ -5,11 +5,9 @@ use Rattle.std.specs.Prelude.{bytes_eq}
 use Rattle.std.specs.Option.{option_eq}
 use Rattle.std.proofs.lemmas.Bool.Decides.{Decides-eqb, Decides-and, Decides-like}
 use Rattle.std.proofs.lemmas.Slice.Eq.{bytes_eq-Decides, slice_eq-Decides}
-use Rattle.uri_ops.specs.Meaning.{HostMeaning, Address, FutureAddress, Name, AuthorityMeaning}
-use Rattle.uri_ops.specs.Meaning.{Meaning}
+use Rattle.uri_ops.specs.Meaning.{HostMeaning, Address, FutureAddress, Name, AuthorityMeaning, Meaning}
 use Rattle.uri_pct.specs.Tokens.{Token, Char, Octet}
-use Rattle.uri_ops.specs.SameMeanings.{same_token, same_tokens, same_host, same_authority}
-use Rattle.uri_ops.specs.SameMeanings.{same_meaning}
+use Rattle.uri_ops.specs.SameMeanings.{same_token, same_tokens, same_host, same_authority, same_meaning}
 
 -- equal meanings: comparing two options decides whether they are equal, if E does for values
 option_eq-decides-equality : {A : Type 0} (E : A → A → Bool) → ((a b : A) → Decides (E a b) (a ≡ b))

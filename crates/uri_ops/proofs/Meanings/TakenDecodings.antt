@@ -1,6 +1,5 @@
 -- What a `Decoding` takes.
-use Rattle.std.proofs.Common.{◌≡◌, ℕ, Bool, true, false, List, [], ◌∷◌, ◌++◌, map, ap, ◌∙◌}
-use Rattle.std.proofs.Common.{string_bytes, arith}
+use Rattle.std.proofs.Common.{◌≡◌, ℕ, Bool, true, false, List, [], ◌∷◌, ◌++◌, map, ap, ◌∙◌, string_bytes, arith}
 use Rattle.std.specs.Str.{IsUtf8}
 use Rattle.std.proofs.lemmas.List.{append-nil}
 use Rattle.std.proofs.lemmas.Bool.Decides.{nat_tests}
@@ -13,14 +12,9 @@ use Rattle.uri_pct.specs.Sets.{TableSet}
 use Rattle.uri_pct.specs.Tables.{set_of}
 use Rattle.uri_pct.specs.Tokens.{Octet, tokens, print, IsValidFor}
 use Rattle.uri_ops.specs.declared.normalize.decode_unreserved.Decoding.{Decoding}
-use Rattle.uri_ops.specs.Models.Decodings.{AppendsDecodedParts, decoded_parts, lowered_if}
-use Rattle.uri_ops.specs.Models.Decodings.{lowered_text_if}
-use Rattle.uri_ops.proofs.Meanings.Cased.{AllowsDecodable, print-lowers-characters}
-use Rattle.uri_ops.proofs.Meanings.Cased.{octets-stay-when-lowered, decoded-pieces-are-encoded-text}
-use Rattle.uri_ops.proofs.Meanings.Cased.{bytes-past-ascii-stay-when-lowered}
-use Rattle.uri_ops.proofs.Meanings.Cased.{lowered-pieces-are-encoded-lowered-text}
-use Rattle.uri_ops.proofs.Meanings.DecodedParts.{decoded_parts-of-run}
-use Rattle.uri_ops.proofs.Meanings.DecodedParts.{decoded_parts-are-decoded-tokens}
+use Rattle.uri_ops.specs.Models.Decodings.{AppendsDecodedParts, decoded_parts, lowered_if, lowered_text_if}
+use Rattle.uri_ops.proofs.Meanings.Cased.{AllowsDecodable, print-lowers-characters, octets-stay-when-lowered, decoded-pieces-are-encoded-text, bytes-past-ascii-stay-when-lowered, lowered-pieces-are-encoded-lowered-text}
+use Rattle.uri_ops.proofs.Meanings.DecodedParts.{decoded_parts-of-run, decoded_parts-are-decoded-tokens}
 
 -- meanings, decoded past ASCII: a literal part of a text is written in lower case if lowers
 pub literal-part-is-lowered : (lowers : Bool) (set : TableSet) (text : List ℕ) → IsUtf8 text

@@ -1,18 +1,13 @@
 -- The components of a text of a kind: each is in UTF-8 and meets its rule, and they are cut apart.
-use Rattle.std.proofs.Common.{◌≡◌, ℕ, Bool, true, false, not, List, drop, refl, arith}
-use Rattle.std.proofs.Common.{◌&&◌, ◌||◌, ⊎_elim}
+use Rattle.std.proofs.Common.{◌≡◌, ℕ, Bool, true, false, not, List, drop, refl, arith, ◌&&◌, ◌||◌, ⊎_elim}
 use Rattle.std.specs.Prelude.{codes, Option, Some, None, IfSome, is_some}
 use Rattle.std.specs.Str.{IsUtf8}
 use Rattle.std.proofs.lemmas.Bool.{cases_Bool}
 use Rattle.std.proofs.lemmas.Bool.Decides.{nat_tests}
 use Rattle.uri_pct.proofs.ValidTexts.MarksInTexts.{AreAscii, AreAscii-by-test}
-use Rattle.uri_parts.specs.Components.{Components, starts, before_any, from_any, has_scheme}
-use Rattle.uri_parts.specs.Components.{has_authority, after_scheme, after_authority, after_query}
-use Rattle.uri_parts.specs.Components.{components, when}
-use Rattle.uri_parts.specs.Grammar.{Kind, absent_or_passes, is_scheme, has_colon_in_first_segment}
-use Rattle.uri_parts.specs.Grammar.{is_authority, components_meet_rules}
-use Rattle.uri_parts.proofs.Parsing.ScanStops.{utf8_from_marks, utf8_after_mark}
-use Rattle.uri_parts.proofs.Parsing.ScanStops.{utf8_after_slashes}
+use Rattle.uri_parts.specs.Components.{Components, starts, before_any, from_any, has_scheme, has_authority, after_scheme, after_authority, after_query, components, when}
+use Rattle.uri_parts.specs.Grammar.{Kind, absent_or_passes, is_scheme, has_colon_in_first_segment, is_authority, components_meet_rules}
+use Rattle.uri_parts.proofs.Parsing.ScanStops.{utf8_from_marks, utf8_after_mark, utf8_after_slashes}
 use Rattle.uri_ops.proofs.Meanings.AllowedParts.{is_set_text, set-text-from-utf8, set-text-is-valid}
 use Rattle.uri_pct.proofs.General.{IfSome-combine}
 use Rattle.uri_parts.proofs.Parsing.WholeTexts.{utf8_after_authority, utf8_after_scheme}

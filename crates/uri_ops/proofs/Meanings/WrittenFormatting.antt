@@ -1,32 +1,22 @@
 -- Where a printed text has its formatting characters as octets, the tokens that were printed have.
-use Rattle.std.proofs.Common.{◌≡◌, ℕ, ◌≤◌, Bool, true, false, eqb, List, [], ◌∷◌, ◌++◌, length}
-use Rattle.std.proofs.Common.{take, drop, refl, sym, ap, ◌∙◌, arith, ◌&&◌, ◌||◌}
+use Rattle.std.proofs.Common.{◌≡◌, ℕ, ◌≤◌, Bool, true, false, eqb, List, [], ◌∷◌, ◌++◌, length, take, drop, refl, sym, ap, ◌∙◌, arith, ◌&&◌, ◌||◌}
 use Rattle.std.specs.Char.{encode_utf8}
 use Rattle.std.specs.List.{list_all, list_any, flat_map}
 use Rattle.std.specs.Str.{chars, encode_utf8_all, IsUtf8}
 use Rattle.std.proofs.Math.Seq.{take-append_seam, drop-append_seam}
-use Rattle.std.proofs.lemmas.Bool.{cond-false, and_parts, or_parts, or_from, false_from_ne_true}
-use Rattle.std.proofs.lemmas.Bool.{both_ways}
+use Rattle.std.proofs.lemmas.Bool.{cond-false, and_parts, or_parts, or_from, false_from_ne_true, both_ways}
 use Rattle.std.proofs.lemmas.Bool.Decides.{nat_tests}
 use Rattle.std.proofs.lemmas.List.{append-nil}
 use Rattle.std.proofs.lemmas.List.Concat.{flat_map-append}
 use Rattle.std.proofs.lemmas.List.Folds.{list_any-append}
 use Rattle.std.proofs.lemmas.Str.{encodes-chars}
 use Rattle.uri_pct.specs.Chunks.{widest_set}
-use Rattle.uri_pct.specs.DecodeUnreserved.{is_bidi_formatting, is_printable, formatting_as_octets}
-use Rattle.uri_pct.specs.DecodeUnreserved.{encode_formatting, decode_tokens, decode_unreserved}
-use Rattle.uri_pct.specs.DecodeUnreserved.{encoded_formatting_char, encoded_formatting_text}
+use Rattle.uri_pct.specs.DecodeUnreserved.{is_bidi_formatting, is_printable, formatting_as_octets, encode_formatting, decode_tokens, decode_unreserved, encoded_formatting_char, encoded_formatting_text}
 use Rattle.uri_pct.specs.Sets.{TableSet, allows, allows_past_ascii, is_ucschar, is_iprivate}
 use Rattle.uri_pct.specs.Tokens.{Token, Char, Octet, tokens, text_of_token, print, IsValidFor}
-use Rattle.uri_pct.proofs.ValidTexts.Allowed.{valid_text_has_printable_tokens}
-use Rattle.uri_pct.proofs.ValidTexts.Allowed.{lowered_tokens_are_printable}
-use Rattle.uri_pct.proofs.UnreservedDecoding.Formatting.{ascii_char_is_no_formatting_char}
-use Rattle.uri_pct.proofs.UnreservedDecoding.Formatting.{never_literal_is_formatting_if_both_flags}
-use Rattle.uri_pct.proofs.UnreservedDecoding.Formatting.{encode_formatting_commutes_with_lowering}
-use Rattle.uri_pct.proofs.UnreservedDecoding.Printing.{octet_digits_are_hexadecimal, chars_of_token}
-use Rattle.uri_pct.proofs.UnreservedDecoding.Printing.{chars_of_token_encode_to_its_text}
-use Rattle.uri_pct.proofs.UnreservedDecoding.Printing.{chars_of_printed_tokens}
-use Rattle.uri_pct.proofs.UnreservedDecoding.Printing.{printed_tokens_are_utf8}
+use Rattle.uri_pct.proofs.ValidTexts.Allowed.{valid_text_has_printable_tokens, lowered_tokens_are_printable}
+use Rattle.uri_pct.proofs.UnreservedDecoding.Formatting.{ascii_char_is_no_formatting_char, never_literal_is_formatting_if_both_flags, encode_formatting_commutes_with_lowering}
+use Rattle.uri_pct.proofs.UnreservedDecoding.Printing.{octet_digits_are_hexadecimal, chars_of_token, chars_of_token_encode_to_its_text, chars_of_printed_tokens, printed_tokens_are_utf8}
 use Rattle.uri_pct.proofs.UnreservedDecoding.DecodedTokens.{decode_tokens_keeps_tokens_printable}
 use Rattle.uri_ops.specs.Models.Decodings.{lowered_if}
 use Rattle.uri_pct.proofs.UnreservedDecoding.Formatting as Formatting

@@ -1,16 +1,12 @@
 -- Blocks of a text by a test of its indices: what a mask of lanes says of those of a block.
-use Rattle.std.proofs.Common.{◌≡◌, ℕ, ◌+◌, ◌-◌, ◌/◌, ◌^◌, ◌<◌, ◌≤◌, Bool, true, false, not, eqb, ap}
-use Rattle.std.proofs.Common.{sym, ◌∙◌, ◌&&◌, ◌||◌, List, length, map, get_or, refl, bit_and}
-use Rattle.std.proofs.Common.{bit_or, arith, w64, ⊎_elim, subst, pow_mono}
+use Rattle.std.proofs.Common.{◌≡◌, ℕ, ◌+◌, ◌-◌, ◌/◌, ◌^◌, ◌<◌, ◌≤◌, Bool, true, false, not, eqb, ap, sym, ◌∙◌, ◌&&◌, ◌||◌, List, length, map, get_or, refl, bit_and, bit_or, arith, w64, ⊎_elim, subst, pow_mono}
 use Rattle.std.specs.Int.{bit_at, trailing_zeros}
 use Rattle.std.specs.Int.Bits.{and_lt}
 use Rattle.std.specs.Simd.Lanes.{chunk, mask_l}
 use Rattle.std.proofs.lemmas.Bool.{cases_lt, not-false}
 use Rattle.std.proofs.lemmas.Nat.{or_lt, shr_below}
 use Rattle.std.proofs.lemmas.Nat.Bits.{bit_at-zero, bit_at_above, bit_at-trailing_zeros}
-use Rattle.uri_pct.proofs.LaneScans.LaneBits.{bit_of_right_shift, is_set_bit}
-use Rattle.uri_pct.proofs.LaneScans.LaneBits.{equality_mask_is_below_2_16}
-use Rattle.uri_pct.proofs.LaneScans.LaneBits.{mask_bit_is_equality_of_byte}
+use Rattle.uri_pct.proofs.LaneScans.LaneBits.{bit_of_right_shift, is_set_bit, equality_mask_is_below_2_16, mask_bit_is_equality_of_byte}
 use Rattle.uri_pct.proofs.TableSets.Masks.{bit_of_bit_and, bit_of_bit_or}
 use Rattle.uri_ops.specs.Models.Unchanged.{is_literal_at}
 

@@ -1,8 +1,6 @@
 -- The components of a normal text: they meet the grammar, are cut apart where the text is, and have
 -- the meaning that the text was printed from.
-use Rattle.std.proofs.Common.{◌≡◌, ℕ, ◌<◌, Bool, true, false, cond, not, List, [], ◌∷◌, ◌++◌}
-use Rattle.std.proofs.Common.{length, refl, ap, ◌∙◌, ◌&&◌, ◌||◌, ⊎_elim, inl, inr, arith}
-use Rattle.std.proofs.Common.{option_map}
+use Rattle.std.proofs.Common.{◌≡◌, ℕ, ◌<◌, Bool, true, false, cond, not, List, [], ◌∷◌, ◌++◌, length, refl, ap, ◌∙◌, ◌&&◌, ◌||◌, ⊎_elim, inl, inr, arith, option_map}
 use Rattle.std.specs.Prelude.{codes, Option, Some, None, IfSome, IfNone, is_some, slice_index}
 use Rattle.std.specs.Option.{option_and_then}
 use Rattle.std.specs.Char.{is_ascii_alphabetic}
@@ -13,37 +11,24 @@ use Rattle.uri_pct.specs.Sets.{TableSet, scheme_set}
 use Rattle.uri_pct.specs.Tokens.{print, is_valid_for}
 use Rattle.uri_pct.specs.DecodeUnreserved.{decode_unreserved}
 use Rattle.uri_pct.proofs.ValidTexts.Cuts.{excludes}
-use Rattle.uri_parts.specs.Components.{Components, IsSplitOf, Lacks, IsAbemptyPath, marked}
-use Rattle.uri_parts.specs.Components.{has_scheme, has_authority, recompose}
+use Rattle.uri_parts.specs.Components.{Components, IsSplitOf, Lacks, IsAbemptyPath, marked, has_scheme, has_authority, recompose}
 use Rattle.uri_parts.specs.Grammar.{Kind, is_scheme, has_colon_in_first_segment, is_authority}
 use Rattle.uri_parts.proofs.Splitting.Marks.{query_text, IsEmptyOrMarked-query_text}
-use Rattle.uri_parts.proofs.Splitting.Relative.{scheme_set_lacks_percent}
-use Rattle.uri_parts.proofs.Splitting.Relative.{scheme_set_excludes_delimiters}
+use Rattle.uri_parts.proofs.Splitting.Relative.{scheme_set_lacks_percent, scheme_set_excludes_delimiters}
 use Rattle.uri_parts.proofs.TextKinds.GrammarTexts.{valid_text_lacks_excluded_marks}
 use Rattle.uri_ops.specs.Target.{dotless_if_absolute, guarded}
 use Rattle.uri_ops.specs.ComponentSets.{IsComponentSet, HasComponentSets}
 use Rattle.uri_parts.specs.Ports.{PortFunction}
 use Rattle.uri_ops.specs.Meaning.{authority_meaning, dotless_path, components_meaning}
 use Rattle.uri_ops.specs.Normal.{normal_authority, normal_components}
-use Rattle.uri_ops.proofs.Meanings.ComponentEnds.{no_scheme, path-set-excludes-its-ends}
-use Rattle.uri_ops.proofs.Meanings.ComponentEnds.{query-set-excludes-its-end}
+use Rattle.uri_ops.proofs.Meanings.ComponentEnds.{no_scheme, path-set-excludes-its-ends, query-set-excludes-its-end}
 use Rattle.uri_ops.proofs.Meanings.PortMeanings.{authority_meaning-from-bare-meaning}
-use Rattle.uri_ops.proofs.Targeting.Targets.{guarded-path-without-authority-has-no-two-slashes}
-use Rattle.uri_ops.proofs.Targeting.Targets.{dotless-abempty-path-is-abempty}
-use Rattle.uri_ops.proofs.Meanings.AllowedParts.{is_set_text, set-text-is-utf8, set-text-is-valid}
+use Rattle.uri_ops.proofs.Targeting.Targets.{guarded-path-without-authority-has-no-two-slashes, dotless-abempty-path-is-abempty}
+use Rattle.uri_ops.proofs.Meanings.AllowedParts.{is_set_text, set-text-is-utf8, set-text-is-valid, print_decoded-of-nil-is-nil, decode_unreserved-is-idempotent, decoded-set-text-is-set-text}
 use Rattle.uri_pct.proofs.UnreservedDecoding.Printing.{print_decoded}
-use Rattle.uri_ops.proofs.Meanings.AllowedParts.{print_decoded-of-nil-is-nil}
-use Rattle.uri_ops.proofs.Meanings.AllowedParts.{decode_unreserved-is-idempotent}
-use Rattle.uri_ops.proofs.Meanings.AllowedParts.{decoded-set-text-is-set-text}
-use Rattle.uri_ops.proofs.Paths.DecodedStarts.{decoding-keeps-leading-slash}
-use Rattle.uri_ops.proofs.Paths.DecodedStarts.{decoding-keeps-two-slashes}
-use Rattle.uri_ops.proofs.Paths.DecodedStarts.{decoding-adds-no-colon-first}
-use Rattle.uri_ops.proofs.Paths.PathMeanings.{guarded-set-text-is-set-text}
-use Rattle.uri_ops.proofs.Paths.PathMeanings.{path-without-dots-is-set-text}
-use Rattle.uri_ops.proofs.Paths.PathMeanings.{normal-path-decodes-as-path}
-use Rattle.uri_ops.proofs.Meanings.AsciiCharacters.{lowering-is-idempotent}
-use Rattle.uri_ops.proofs.Meanings.AsciiCharacters.{lowered-scheme-is-scheme}
-use Rattle.uri_ops.proofs.Meanings.AsciiCharacters.{lowered-scheme-is-utf8}
+use Rattle.uri_ops.proofs.Paths.DecodedStarts.{decoding-keeps-leading-slash, decoding-keeps-two-slashes, decoding-adds-no-colon-first}
+use Rattle.uri_ops.proofs.Paths.PathMeanings.{guarded-set-text-is-set-text, path-without-dots-is-set-text, normal-path-decodes-as-path}
+use Rattle.uri_ops.proofs.Meanings.AsciiCharacters.{lowering-is-idempotent, lowered-scheme-is-scheme, lowered-scheme-is-utf8}
 use Rattle.uri_ops.proofs.Meanings.TextParts.{ArePartsOfKind}
 use Rattle.uri_pct.proofs.General.{eq_true_from_IsTrue}
 use Rattle.uri_parts.proofs.Splitting.Recompose.{equal-to-true-is-IsTrue}

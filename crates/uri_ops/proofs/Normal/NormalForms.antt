@@ -8,8 +8,7 @@ use Rattle.uri_ops.specs.Meaning.{meaning_of}
 use Rattle.uri_ops.specs.Normal.{normal_text}
 use Rattle.uri_ops.specs.Normalizers.{HasNormalText, IsNormalForm}
 use Rattle.uri_parts.specs.Ports.{PortFunction}
-use Rattle.uri_ops.proofs.Normal.NormalTexts.{normal-text-is-text-of-kind, meaning_of-normal_text}
-use Rattle.uri_ops.proofs.Normal.NormalTexts.{same-normal-text-same-meaning}
+use Rattle.uri_ops.proofs.Normal.NormalTexts.{normal-text-is-text-of-kind, meaning_of-normal_text, same-normal-text-same-meaning}
 
 module _ (kind own : Kind) (own_kind : own ≡ kind) (sets : HasComponentSets kind)
     (ports : PortFunction)

@@ -1,6 +1,5 @@
 -- The pieces of a normal text, as they are appended one after the other.
-use Rattle.std.proofs.Common.{◌≡◌, ℕ, Bool, true, false, ◌&&◌, List, [], ◌∷◌, ◌++◌, refl, ap, ◌∙◌}
-use Rattle.std.proofs.Common.{option_map, arith, sym}
+use Rattle.std.proofs.Common.{◌≡◌, ℕ, Bool, true, false, ◌&&◌, List, [], ◌∷◌, ◌++◌, refl, ap, ◌∙◌, option_map, arith, sym}
 use Rattle.std.specs.Prelude.{codes, Option, Some, None, is_some}
 use Rattle.std.specs.Str.{IsUtf8}
 use Rattle.std.proofs.lemmas.Bool.{cond-false, cond-true, false≢true}
@@ -20,8 +19,7 @@ use Rattle.uri_parts.specs.Ports.{PortFunction}
 use Rattle.uri_ops.specs.Target.{guarded}
 use Rattle.uri_pct.proofs.UnreservedDecoding.Printing.{print_decoded}
 use Rattle.uri_ops.proofs.Meanings.AllowedParts.{set-text-from-utf8}
-use Rattle.uri_ops.proofs.Paths.DecodedStarts.{decoding-keeps-two-slashes}
-use Rattle.uri_ops.proofs.Paths.DecodedStarts.{no-leading-slash-no-two-slashes}
+use Rattle.uri_ops.proofs.Paths.DecodedStarts.{decoding-keeps-two-slashes, no-leading-slash-no-two-slashes}
 use Rattle.uri_ops.proofs.Paths.GuardedPaths.{path-without-two-slashes-has-no-guard}
 use Rattle.uri_pct.proofs.General.{is_some-option_map}
 

@@ -16,8 +16,7 @@ use Rattle.uri_parts.specs.Ports.{PortFunction}
 use Rattle.uri_ops.specs.Models.Written.{authority_parts_at, positions_by_authority_parts}
 use Rattle.uri_ops.proofs.Meanings.AuthorityMeanings.{normal-authority-has-normal-parts}
 use Rattle.uri_ops.proofs.Normal.NormalTexts.{components-of-normal_text, text-has-parts-of-kind}
-use Rattle.uri_ops.proofs.Normal.WrittenPlaces.{positions-with-parts-are-of-components}
-use Rattle.uri_ops.proofs.Normal.WrittenPlaces.{positions-of-parts-are-of-text}
+use Rattle.uri_ops.proofs.Normal.WrittenPlaces.{positions-with-parts-are-of-components, positions-of-parts-are-of-text}
 
 module _ (kind : Kind) (sets : HasComponentSets kind) (ports : PortFunction) where
   normal-authority-positions-by-parts : (place : ℕ) (default : Option ℕ) (o : Option (List ℕ))

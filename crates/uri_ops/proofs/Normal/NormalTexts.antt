@@ -13,13 +13,8 @@ use Rattle.uri_ops.specs.Meaning.{components_meaning, meaning_of}
 use Rattle.uri_ops.specs.Normal.{normal_text}
 use Rattle.uri_ops.proofs.Meanings.AllowedParts.{is_set_text, set-text-is-utf8}
 use Rattle.uri_ops.proofs.Meanings.AsciiCharacters.{ascii-bytes-are-utf8}
-use Rattle.uri_ops.proofs.Meanings.TextParts.{ArePartsOfKind, components-of-utf8-are-utf8}
-use Rattle.uri_ops.proofs.Meanings.TextParts.{grammar-gives-components-of-kind}
-use Rattle.uri_ops.proofs.Meanings.TextParts.{components-of-kind-meet-grammar}
-use Rattle.uri_ops.proofs.Normal.NormalComponents.{components_of_normal_text}
-use Rattle.uri_ops.proofs.Normal.NormalComponents.{normal-components-are-of-kind}
-use Rattle.uri_ops.proofs.Normal.NormalComponents.{normal-components-are-split}
-use Rattle.uri_ops.proofs.Normal.NormalComponents.{normal-components-have-same-meaning}
+use Rattle.uri_ops.proofs.Meanings.TextParts.{ArePartsOfKind, components-of-utf8-are-utf8, grammar-gives-components-of-kind, components-of-kind-meet-grammar}
+use Rattle.uri_ops.proofs.Normal.NormalComponents.{components_of_normal_text, normal-components-are-of-kind, normal-components-are-split, normal-components-have-same-meaning}
 use Rattle.uri_ops.proofs.Meanings.AuthorityMeanings.{normal-authorities-are-authorities}
 use Rattle.uri_pct.proofs.General.{IfSome-weaken}
 

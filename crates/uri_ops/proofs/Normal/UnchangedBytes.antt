@@ -1,17 +1,12 @@
 -- Texts without formatting characters whose octets stay: byte by byte, and in the parts of a text.
-use Rattle.std.proofs.Common.{◌≡◌, ℕ, ◌+◌, ◌<◌, ◌≤◌, Bool, true, false, eqb, List, [], ◌∷◌, ◌++◌}
-use Rattle.std.proofs.Common.{not, length, get_or, refl, sym, ap, ◌∙◌, arith, ◌||◌, ◌&&◌, ⊎_elim}
-use Rattle.std.proofs.Common.{suc, ◌-◌, subst}
+use Rattle.std.proofs.Common.{◌≡◌, ℕ, ◌+◌, ◌<◌, ◌≤◌, Bool, true, false, eqb, List, [], ◌∷◌, ◌++◌, not, length, get_or, refl, sym, ap, ◌∙◌, arith, ◌||◌, ◌&&◌, ⊎_elim, suc, ◌-◌, subst}
 use Rattle.std.specs.Prelude.{Option, Some, None, IfSome}
 use Rattle.std.specs.Char.{is_ascii_hexdigit}
 use Rattle.std.specs.List.{list_any}
-use Rattle.std.proofs.lemmas.Bool.{and_parts, and_from, cases_lt, not-true, not_from_false}
-use Rattle.std.proofs.lemmas.Bool.{or_from, or_left, or_parts}
+use Rattle.std.proofs.lemmas.Bool.{and_parts, and_from, cases_lt, not-true, not_from_false, or_from, or_left, or_parts}
 use Rattle.std.proofs.lemmas.Bool.Decides.{nat_tests}
 use Rattle.uri_parts.specs.Components.{marked}
-use Rattle.uri_ops.specs.Models.Unchanged.{IsKept, is_kept, is_kept_at, is_kept_octet, keeps_digits}
-use Rattle.uri_ops.specs.Models.Unchanged.{is_dot_kept_at, is_literal_at, is_literal_byte}
-use Rattle.uri_ops.specs.Models.Unchanged.{stays_at}
+use Rattle.uri_ops.specs.Models.Unchanged.{IsKept, is_kept, is_kept_at, is_kept_octet, keeps_digits, is_dot_kept_at, is_literal_at, is_literal_byte, stays_at}
 
 -- unchanged texts: at a byte that begins neither an octet nor a formatting character, a text is
 -- kept

@@ -1,29 +1,19 @@
 -- Parts of a text that are printed as they are: components whose octets stay, and hosts.
-use Rattle.std.proofs.Common.{◌≡◌, ℕ, ◌+◌, ◌*◌, ◌≤◌, ◌<◌, Bool, true, false, eqb, ltb, List}
-use Rattle.std.proofs.Common.{[], ◌∷◌, ◌++◌, map, refl, sym, ap, subst, ◌∙◌, ◌&&◌, ◌||◌, append-nil}
-use Rattle.std.proofs.Common.{option_map, arith, length, take, drop, zero, suc, ⊎_elim}
+use Rattle.std.proofs.Common.{◌≡◌, ℕ, ◌+◌, ◌*◌, ◌≤◌, ◌<◌, Bool, true, false, eqb, ltb, List, [], ◌∷◌, ◌++◌, map, refl, sym, ap, subst, ◌∙◌, ◌&&◌, ◌||◌, append-nil, option_map, arith, length, take, drop, zero, suc, ⊎_elim}
 use Rattle.std.specs.Prelude.{Option, Some, None, IfSome}
 use Rattle.std.specs.Char.{digit_value, is_ascii_hexdigit}
 use Rattle.std.specs.List.{list_any, position_or_len}
 use Rattle.std.specs.Str.{chars, IsUtf8, str_to_ascii_lowercase}
-use Rattle.std.proofs.lemmas.Bool.{and_parts, and_right, cases_Bool, cond-false, eqb-true}
-use Rattle.std.proofs.lemmas.Bool.{ltb-true, ne_eqb, not-true, or_cases, or_parts}
+use Rattle.std.proofs.lemmas.Bool.{and_parts, and_right, cases_Bool, cond-false, eqb-true, ltb-true, ne_eqb, not-true, or_cases, or_parts}
 use Rattle.std.proofs.lemmas.Bool.Decides.{nat_tests}
 use Rattle.std.proofs.lemmas.List.{take-append-drop, length-drop}
 use Rattle.std.proofs.lemmas.Str.{IsUtf8-drop}
 use Rattle.uri_pct.specs.Chunks.{widest_set}
-use Rattle.uri_pct.specs.DecodeUnreserved.{LacksPastAscii, encode_formatting, is_bidi_formatting}
-use Rattle.uri_pct.specs.DecodeUnreserved.{is_never_literal, lower_token, decode_unreserved}
-use Rattle.uri_pct.specs.DecodeUnreserved.{decode_after_run, decode_octet, decode_tokens}
-use Rattle.uri_pct.specs.DecodeUnreserved.{encoded_formatting_text}
+use Rattle.uri_pct.specs.DecodeUnreserved.{LacksPastAscii, encode_formatting, is_bidi_formatting, is_never_literal, lower_token, decode_unreserved, decode_after_run, decode_octet, decode_tokens, encoded_formatting_text}
 use Rattle.uri_pct.specs.Sets.{TableSet, LacksPercent}
 use Rattle.uri_pct.specs.Texts.{lacks}
-use Rattle.uri_pct.specs.Tokens.{Char, IsValidFor, Octet, print, text_of_token, tokens}
-use Rattle.uri_pct.specs.Tokens.{tokens_from_chars}
-use Rattle.uri_pct.proofs.Decodings.Decoding.{BeginsWithOctet, boundary_after_octet}
-use Rattle.uri_pct.proofs.Decodings.Decoding.{every_set_is_subset_of_widest}
-use Rattle.uri_pct.proofs.Decodings.Decoding.{bytes_from_percent_begin_with_octet}
-use Rattle.uri_pct.proofs.Decodings.Decoding.{tokens_after_unencoded_prefix}
+use Rattle.uri_pct.specs.Tokens.{Char, IsValidFor, Octet, print, text_of_token, tokens, tokens_from_chars}
+use Rattle.uri_pct.proofs.Decodings.Decoding.{BeginsWithOctet, boundary_after_octet, every_set_is_subset_of_widest, bytes_from_percent_begin_with_octet, tokens_after_unencoded_prefix}
 use Rattle.uri_pct.proofs.ValidTexts.EStrs.{valid_for_superset}
 use Rattle.uri_parts.specs.Components.{starts}
 use Rattle.uri_parts.specs.Grammar.{Kind}
@@ -37,17 +27,10 @@ use Rattle.uri_ops.specs.Normal.{host_text}
 use Rattle.uri_ops.proofs.Meanings.AuthorityMeanings.{kind-sets-lack-authority-delimiters}
 use Rattle.uri_ops.proofs.Meanings.Cased.{print-lowers-characters}
 use Rattle.uri_ops.proofs.Meanings.HostMeanings.{meaning-of-name-is-lowered-decoded}
-use Rattle.uri_ops.proofs.Meanings.DecodedOctets.{decode_tokens-after-chars}
-use Rattle.uri_ops.proofs.Meanings.DecodedOctets.{leading-octet-is-decoded-alone}
-use Rattle.uri_ops.proofs.Meanings.DecodedOctets.{uppercase-octet-prints-itself}
+use Rattle.uri_ops.proofs.Meanings.DecodedOctets.{decode_tokens-after-chars, leading-octet-is-decoded-alone, uppercase-octet-prints-itself}
 use Rattle.uri_ops.proofs.Meanings.DecodedParts.{decode_run-of-nil-is-nil}
-use Rattle.uri_ops.proofs.Meanings.DecodedPrefixes.{decoded-empty-text-is-empty}
-use Rattle.uri_ops.proofs.Meanings.DecodedPrefixes.{octet-with-digit-below-8-is-ascii}
-use Rattle.uri_ops.proofs.Meanings.DecodedPrefixes.{text-before-percent-is-literal-prefix}
-use Rattle.uri_ops.proofs.Meanings.WrittenFormatting.{decoding-without-formatting-is-complete}
-use Rattle.uri_ops.proofs.Meanings.WrittenFormatting.{encoding-formatting-completes-decoding}
-use Rattle.uri_ops.proofs.Meanings.WrittenFormatting.{no-byte-E2-no-formatting}
-use Rattle.uri_ops.proofs.Meanings.WrittenFormatting.{text-without-formatting-stays}
+use Rattle.uri_ops.proofs.Meanings.DecodedPrefixes.{decoded-empty-text-is-empty, octet-with-digit-below-8-is-ascii, text-before-percent-is-literal-prefix}
+use Rattle.uri_ops.proofs.Meanings.WrittenFormatting.{decoding-without-formatting-is-complete, encoding-formatting-completes-decoding, no-byte-E2-no-formatting, text-without-formatting-stays}
 use Rattle.uri_ops.proofs.Normal.UnchangedBytes.{kept-text-lacks-byte-E2, kept-text-splits}
 
 -- unchanged texts: an octet is decoded by itself if it is kept

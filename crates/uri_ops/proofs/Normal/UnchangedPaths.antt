@@ -1,20 +1,15 @@
 -- Texts in which normalising leaves each byte: it leaves their paths.
-use Rattle.std.proofs.Common.{◌≡◌, ℕ, ◌+◌, ◌<◌, ◌≤◌, Bool, true, false, List, [], ◌++◌, length, ap}
-use Rattle.std.proofs.Common.{sym, ◌∙◌, ◌&&◌, get_or, arith, append_assoc, subst, ⊎_elim}
+use Rattle.std.proofs.Common.{◌≡◌, ℕ, ◌+◌, ◌<◌, ◌≤◌, Bool, true, false, List, [], ◌++◌, length, ap, sym, ◌∙◌, ◌&&◌, get_or, arith, append_assoc, subst, ⊎_elim}
 use Rattle.std.specs.Prelude.{codes, is_some}
-use Rattle.std.proofs.lemmas.Bool.{and_parts, and_right, cases_Bool, cases_lt, cond-false}
-use Rattle.std.proofs.lemmas.Bool.{cond-true}
+use Rattle.std.proofs.lemmas.Bool.{and_parts, and_right, cases_Bool, cases_lt, cond-false, cond-true}
 use Rattle.std.proofs.lemmas.List.{length-append}
 use Rattle.uri_parts.specs.Components.{Components, components, marked, starts}
 use Rattle.uri_parts.specs.Positions.{positions_of}
 use Rattle.uri_parts.proofs.Splitting.Recompose.{equal-to-true-is-IsTrue, recompose-components}
 use Rattle.uri_ops.specs.Dots.{IsAbsolute, lacks_dot_segments, underflows}
-use Rattle.uri_ops.specs.Models.Unchanged.{IsKept, IsUnchangedPath, is_dot_kept_at, is_kept_at}
-use Rattle.uri_ops.specs.Models.Unchanged.{is_literal_byte, stays_at}
-use Rattle.uri_ops.proofs.Normal.UnchangedBytes.{bytes-kept-by-index-are-kept, kept-text-splits}
-use Rattle.uri_ops.proofs.Normal.UnchangedBytes.{literal-byte-is-kept}
-use Rattle.uri_ops.proofs.Normal.WrittenPlaces.{length-with-delimiter-after}
-use Rattle.uri_ops.proofs.Normal.WrittenPlaces.{length-with-delimiter-before}
+use Rattle.uri_ops.specs.Models.Unchanged.{IsKept, IsUnchangedPath, is_dot_kept_at, is_kept_at, is_literal_byte, stays_at}
+use Rattle.uri_ops.proofs.Normal.UnchangedBytes.{bytes-kept-by-index-are-kept, kept-text-splits, literal-byte-is-kept}
+use Rattle.uri_ops.proofs.Normal.WrittenPlaces.{length-with-delimiter-after, length-with-delimiter-before}
 use Rattle.uri_ops.proofs.Paths.DotLaws.{remove-dots-of-dotless, dotless-path-does-not-underflow}
 use Rattle.uri_ops.proofs.Paths.KeptDots.{path-is-dotless-in-text}
 

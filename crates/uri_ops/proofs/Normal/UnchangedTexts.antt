@@ -1,7 +1,5 @@
 -- A text that is its own normal text, by what is asked of its bytes and its components.
-use Rattle.std.proofs.Common.{◌≡◌, ℕ, Bool, true, false, cond, List, [], ◌++◌, refl, sym, ap, subst}
-use Rattle.std.proofs.Common.{◌∙◌}
-use Rattle.std.proofs.Common.{option_map, ⊎_elim}
+use Rattle.std.proofs.Common.{◌≡◌, ℕ, Bool, true, false, cond, List, [], ◌++◌, refl, sym, ap, subst, ◌∙◌, option_map, ⊎_elim}
 use Rattle.std.specs.Prelude.{codes, Option, Some, None, IfSome, IfNone, is_some}
 use Rattle.std.specs.Str.{IsUtf8}
 use Rattle.std.proofs.lemmas.Bool.{and_parts, cases_Bool, cond-false}
@@ -9,10 +7,8 @@ use Rattle.uri_pct.specs.DecodeUnreserved.{decode_unreserved}
 use Rattle.uri_pct.specs.Sets.{TableSet}
 use Rattle.uri_pct.specs.Tokens.{IsValidFor, print}
 use Rattle.uri_pct.proofs.General.{IfSome-weaken}
-use Rattle.uri_parts.specs.Authority.{AuthorityParts, authority_parts, is_authority_for}
-use Rattle.uri_parts.specs.Authority.{recompose_authority}
-use Rattle.uri_parts.specs.Components.{Components, IsSplitOf, components, has_authority, marked}
-use Rattle.uri_parts.specs.Components.{recompose, starts}
+use Rattle.uri_parts.specs.Authority.{AuthorityParts, authority_parts, is_authority_for, recompose_authority}
+use Rattle.uri_parts.specs.Components.{Components, IsSplitOf, components, has_authority, marked, recompose, starts}
 use Rattle.uri_parts.specs.Grammar.{IsTextOf, Kind, is_authority}
 use Rattle.uri_parts.specs.Hosts.{host_kind, is_host}
 use Rattle.uri_parts.specs.Ports.{PortFunction}
@@ -20,20 +16,15 @@ use Rattle.uri_parts.proofs.Authorities.Authority.{is_authority_for-sound}
 use Rattle.uri_parts.proofs.Splitting.Recompose.{components-are-split-of-text}
 use Rattle.uri_ops.specs.ComponentSets.{HasComponentSets}
 use Rattle.uri_ops.specs.Meaning.{authority_meaning, host_meaning, meaning_of}
-use Rattle.uri_ops.specs.Models.Unchanged.{AreUnchanged, IsKept, IsUnchangedHost, IsUnchangedPort}
-use Rattle.uri_ops.specs.Models.Unchanged.{KindLacksPastAscii}
-use Rattle.uri_ops.specs.Normal.{default_port_of, host_text, normal_authority, normal_path}
-use Rattle.uri_ops.specs.Normal.{normal_text}
+use Rattle.uri_ops.specs.Models.Unchanged.{AreUnchanged, IsKept, IsUnchangedHost, IsUnchangedPort, KindLacksPastAscii}
+use Rattle.uri_ops.specs.Normal.{default_port_of, host_text, normal_authority, normal_path, normal_text}
 use Rattle.uri_ops.specs.Target.{guarded}
 use Rattle.uri_ops.proofs.Meanings.AllowedParts.{is_set_text, set-text-is-valid}
 use Rattle.uri_ops.proofs.Meanings.AuthorityMeanings.{PartsUtf8, authority-parts-are-utf8}
 use Rattle.uri_ops.proofs.Meanings.TextParts.{AreUtf8, ArePartsOfKind, components-of-utf8-are-utf8}
 use Rattle.uri_ops.proofs.Normal.NormalTexts.{text-has-parts-of-kind}
-use Rattle.uri_ops.proofs.Normal.UnchangedBytes.{delimited-component-of-kept-is-kept}
-use Rattle.uri_ops.proofs.Normal.UnchangedBytes.{kept-text-lacks-byte-E2, kept-text-splits}
-use Rattle.uri_ops.proofs.Normal.UnchangedParts.{kept-decodes-to-itself}
-use Rattle.uri_ops.proofs.Normal.UnchangedParts.{kept-option-decodes-to-itself}
-use Rattle.uri_ops.proofs.Normal.UnchangedParts.{lower-name-is-its-normal-form}
+use Rattle.uri_ops.proofs.Normal.UnchangedBytes.{delimited-component-of-kept-is-kept, kept-text-lacks-byte-E2, kept-text-splits}
+use Rattle.uri_ops.proofs.Normal.UnchangedParts.{kept-decodes-to-itself, kept-option-decodes-to-itself, lower-name-is-its-normal-form}
 
 -- unchanged texts: the host of an authority passes the test of hosts
 host-of-authority-is-host : (users names : TableSet) (a : List ℕ)

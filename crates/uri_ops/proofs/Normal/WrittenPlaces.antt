@@ -1,6 +1,5 @@
 -- A text that is put together of components has the positions that their lengths give.
-use Rattle.std.proofs.Common.{◌≡◌, ℕ, ◌+◌, List, [], ◌∷◌, ◌++◌, length, refl, ap, ◌∙◌, arith}
-use Rattle.std.proofs.Common.{length-append, option_map}
+use Rattle.std.proofs.Common.{◌≡◌, ℕ, ◌+◌, List, [], ◌∷◌, ◌++◌, length, refl, ap, ◌∙◌, arith, length-append, option_map}
 use Rattle.std.specs.Prelude.{codes, Option, Some, None}
 use Rattle.uri_parts.specs.declared.positions.AuthorityPositions.{AuthorityPositions}
 use Rattle.uri_parts.specs.declared.positions.Positions.{Positions}
@@ -11,11 +10,9 @@ use Rattle.std.specs.Option.{option_and_then}
 use Rattle.std.proofs.lemmas.Bool.Decides.{nat_tests}
 use Rattle.uri_parts.specs.Grammar.{Kind}
 use Rattle.uri_ops.specs.Meaning.{authority_meaning, meaning_of}
-use Rattle.uri_ops.specs.Normal.{normal_authority, normal_components, normal_parts, normal_part}
-use Rattle.uri_ops.specs.Normal.{normal_path_text, normal_scheme, normal_text}
+use Rattle.uri_ops.specs.Normal.{normal_authority, normal_components, normal_parts, normal_part, normal_path_text, normal_scheme, normal_text}
 use Rattle.uri_parts.specs.Ports.{PortFunction}
-use Rattle.uri_ops.proofs.Normal.NormalPieces.{five-appended-texts-are-one}
-use Rattle.uri_ops.proofs.Normal.NormalPieces.{normal_path-by-components}
+use Rattle.uri_ops.proofs.Normal.NormalPieces.{five-appended-texts-are-one, normal_path-by-components}
 use Rattle.uri_ops.specs.Models.Places.{before_path}
 use Rattle.uri_ops.specs.Models.Written.{authority_parts_at, positions_by_authority_parts}
 

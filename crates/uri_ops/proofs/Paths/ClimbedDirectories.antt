@@ -1,36 +1,19 @@
 -- A reference's path after a directory without dot segments.
-use Rattle.std.proofs.Common.{◌≡◌, ◌<◌, ◌-◌, ◌+◌, ℕ, Bool, eqb, List, [], ◌∷◌, ◌++◌, length, take}
-use Rattle.std.proofs.Common.{append_assoc, drop, get_or, inr}
-use Rattle.std.proofs.Common.{refl, sym, ap, subst, ◌∙◌, ◌||◌, arith}
-use Rattle.std.proofs.Math.Seq.{take-length}
-use Rattle.uri_ops.specs.Dots.{EndsInSlash, before_last_slash, is_empty, remove_dot_segments}
-use Rattle.uri_ops.specs.Dots.{IsAbsolute, lacks_dot_segments, underflows}
-use Rattle.uri_ops.specs.Models.Directories.{BeginsWith, EndsIn, IsDotlessDirectory}
-use Rattle.uri_ops.specs.Models.Directories.{RemovalState, parent_directory}
+use Rattle.std.proofs.Common.{◌≡◌, ◌<◌, ◌-◌, ◌+◌, ℕ, Bool, eqb, List, [], ◌∷◌, ◌++◌, length, take, append_assoc, drop, get_or, inr, refl, sym, ap, subst, ◌∙◌, ◌||◌, arith, true, false}
+use Rattle.std.proofs.Math.Seq.{take-length, drop-append_seam, take-append_seam}
+use Rattle.uri_ops.specs.Dots.{EndsInSlash, before_last_slash, is_empty, remove_dot_segments, IsAbsolute, lacks_dot_segments, underflows}
+use Rattle.uri_ops.specs.Models.Directories.{BeginsWith, EndsIn, IsDotlessDirectory, RemovalState, parent_directory}
 use Rattle.uri_ops.specs.Models.LeadingSegments.{IsDotlessPrefix, begins_with_dot}
-use Rattle.uri_ops.proofs.Paths.LeftPaths.{appending-keeps-text-to-start}
-use Rattle.uri_ops.proofs.Paths.LeftPaths.{removal-state-has-directory}
-use Rattle.uri_ops.proofs.Paths.LeftPaths.{appending-extends-text-from-start}
-use Rattle.uri_ops.proofs.Paths.LeftPaths.{removal-state-of-equals}
-use Rattle.uri_ops.proofs.Paths.LeftPaths.{removal-state-begins-with-directory}
-use Rattle.uri_ops.proofs.Paths.LeftPaths.{removal-passes-dotless-prefix}
-use Rattle.uri_ops.proofs.Paths.LeftPaths.{removal-state-without-rest-is-done}
-use Rattle.uri_ops.proofs.Paths.Piecewise.{removal-ends-with-nothing-left}
-use Rattle.uri_ops.proofs.Paths.Piecewise.{identity-keeps-slashes-and-dots}
-use Rattle.std.proofs.Math.Seq.{drop-append_seam, take-append_seam}
-use Rattle.std.proofs.lemmas.List.{drop_all, get_or-drop, length-append, length-drop}
-use Rattle.std.proofs.lemmas.List.{take-append-drop}
+use Rattle.uri_ops.proofs.Paths.LeftPaths.{appending-keeps-text-to-start, removal-state-has-directory, appending-extends-text-from-start, removal-state-of-equals, removal-state-begins-with-directory, removal-passes-dotless-prefix, removal-state-without-rest-is-done}
+use Rattle.uri_ops.proofs.Paths.Piecewise.{removal-ends-with-nothing-left, identity-keeps-slashes-and-dots}
+use Rattle.std.proofs.lemmas.List.{drop_all, get_or-drop, length-append, length-drop, take-append-drop}
 use Rattle.uri_ops.specs.Models.Places.{IsSlashOrStart}
 use Rattle.uri_ops.proofs.Targeting.Targets.{appended-absolute-path-is-absolute}
 use Rattle.std.specs.Prelude.{◌==◌}
 use Rattle.std.proofs.lemmas.Bool.{false≢true}
-use Rattle.std.proofs.Common.{true, false}
 use Rattle.uri_ops.proofs.Paths.DotStarts.{take-one-more-byte}
-use Rattle.uri_ops.proofs.Paths.LastSlashes.{before_last_slash-of-directory}
-use Rattle.uri_ops.proofs.Paths.LastSlashes.{text-is-empty-if-positions-are-equal}
-use Rattle.uri_ops.proofs.Paths.LastSlashes.{length-of-directory}
-use Rattle.uri_ops.proofs.Paths.PushedPaths.{absolute-path-begins-with-no-dot}
-use Rattle.uri_ops.proofs.Paths.PushedPaths.{text-after-old-is-pushed-text, whole}
+use Rattle.uri_ops.proofs.Paths.LastSlashes.{before_last_slash-of-directory, text-is-empty-if-positions-are-equal, length-of-directory}
+use Rattle.uri_ops.proofs.Paths.PushedPaths.{absolute-path-begins-with-no-dot, text-after-old-is-pushed-text, whole}
 
 -- paths: one whose last byte is `/` (47) ends in it
 path-with-last-byte-slash-ends-in-slash : (path : List ℕ) → 0 < length path

@@ -1,7 +1,6 @@
 -- The decoded form of a path, as printed: its segments, and its dot segments, which may be removed
 -- before or after decoding.
-use Rattle.std.proofs.Common.{◌≡◌, ℕ, true, false, List, [], ◌∷◌, ◌++◌, map, refl, sym, ap, subst}
-use Rattle.std.proofs.Common.{◌∙◌, arith, lit<}
+use Rattle.std.proofs.Common.{◌≡◌, ℕ, true, false, List, [], ◌∷◌, ◌++◌, map, refl, sym, ap, subst, ◌∙◌, arith, lit<}
 use Rattle.std.specs.List.{list_all}
 use Rattle.std.specs.Str.{IsUtf8}
 use Rattle.std.proofs.lemmas.Str.{IsUtf8-append, IsUtf8-nil, IsUtf8-encode, encode_ascii}
@@ -14,26 +13,14 @@ use Rattle.uri_pct.proofs.ValidTexts.Validity.{ascii_char_is_allowed_iff_in_set}
 use Rattle.uri_parts.specs.Components.{IsAbemptyPath}
 use Rattle.uri_parts.proofs.TextKinds.GrammarTexts.{utf8_around_ascii_byte}
 use Rattle.uri_ops.specs.Dots.{has_slash, remove_dot_segments, underflows, directory, IsAbsolute}
-use Rattle.uri_ops.proofs.Paths.Segments.{dotless_of, parent, AllPass, appended-segments-pass-test}
-use Rattle.uri_ops.proofs.Paths.Segments.{dotless_of-pass-test}
-use Rattle.uri_ops.proofs.Paths.SlashedSegments.{slashed, NoSlashes}
-use Rattle.uri_ops.proofs.Paths.SlashedSegments.{first-segment-and-rest-lack-slashes}
-use Rattle.uri_ops.proofs.Paths.SlashedSegments.{remove-dots-by-segments}
-use Rattle.uri_ops.proofs.Paths.SlashedSegments.{underflows-by-segments, directory-by-segments}
-use Rattle.uri_ops.proofs.Paths.SlashedSegments.{parent-segments-pass-test}
+use Rattle.uri_ops.proofs.Paths.Segments.{dotless_of, parent, AllPass, appended-segments-pass-test, dotless_of-pass-test}
+use Rattle.uri_ops.proofs.Paths.SlashedSegments.{slashed, NoSlashes, first-segment-and-rest-lack-slashes, remove-dots-by-segments, underflows-by-segments, directory-by-segments, parent-segments-pass-test}
 use Rattle.uri_ops.proofs.Paths.DotLaws.{property-of-absolute-path-by-segments, rooted}
-use Rattle.uri_ops.proofs.Meanings.AllowedParts.{is_set_text, set-text-from-utf8, set-text-is-utf8}
-use Rattle.uri_ops.proofs.Meanings.AllowedParts.{set-text-is-valid}
+use Rattle.uri_ops.proofs.Meanings.AllowedParts.{is_set_text, set-text-from-utf8, set-text-is-utf8, set-text-is-valid, empty-text-is-set-text, print_decoded-of-nil-is-nil, decoded-text-is-utf8, decoding-keeps-decoded-bytes, decoding-splits-at-slash, validity-splits-at-slash}
 use Rattle.uri_pct.proofs.UnreservedDecoding.Printing.{print_decoded}
-use Rattle.uri_ops.proofs.Meanings.AllowedParts.{empty-text-is-set-text}
-use Rattle.uri_ops.proofs.Meanings.AllowedParts.{print_decoded-of-nil-is-nil}
-use Rattle.uri_ops.proofs.Meanings.AllowedParts.{decoded-text-is-utf8, decoding-keeps-decoded-bytes}
-use Rattle.uri_ops.proofs.Meanings.AllowedParts.{decoding-splits-at-slash, validity-splits-at-slash}
 use Rattle.uri_ops.proofs.Paths.DotBytes.{single-dot-by-decoded-bytes, double-dot-by-decoded-bytes}
 use Rattle.uri_ops.proofs.Meanings.Lacking.{decoding-adds-no-reserved}
-use Rattle.uri_ops.proofs.Paths.SegmentMaps.{KeepsDots, dotless_of-and-map-swap}
-use Rattle.uri_ops.proofs.Paths.SegmentMaps.{parent-and-map-swap}
-use Rattle.uri_ops.proofs.Paths.SegmentMaps.{underflows_over-of-mapped-segments}
+use Rattle.uri_ops.proofs.Paths.SegmentMaps.{KeepsDots, dotless_of-and-map-swap, parent-and-map-swap, underflows_over-of-mapped-segments}
 
 -- paths: two texts in UTF-8 with a `/` (47) between them are UTF-8
 pub utf8-joined-at-slash-is-utf8 : (x y : List ℕ) → IsUtf8 x → IsUtf8 y → IsUtf8 (x ++ 47 ∷ y)

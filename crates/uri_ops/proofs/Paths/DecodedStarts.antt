@@ -1,6 +1,5 @@
 -- The decoded form of a path, as printed, begins as the path does.
-use Rattle.std.proofs.Common.{◌≡◌, ℕ, true, false, eqb, List, [], ◌∷◌, ◌++◌, refl, sym, ap, ◌∙◌}
-use Rattle.std.proofs.Common.{◌⊎◌, ⊎_elim, inl, inr}
+use Rattle.std.proofs.Common.{◌≡◌, ℕ, true, false, eqb, List, [], ◌∷◌, ◌++◌, refl, sym, ap, ◌∙◌, ◌⊎◌, ⊎_elim, inl, inr}
 use Rattle.std.specs.Prelude.{codes}
 use Rattle.std.specs.List.{list_any}
 use Rattle.std.specs.Str.{chars}
@@ -14,14 +13,10 @@ use Rattle.uri_parts.proofs.Splitting.Cuts.{cut-at-end-of-text-without-marks}
 use Rattle.uri_ops.specs.Dots.{is_empty, has_slash}
 use Rattle.uri_ops.proofs.Paths.PathCharacters.{test-of-delimiters-gives-lacks}
 use Rattle.uri_pct.proofs.UnreservedDecoding.Printing.{print_decoded}
-use Rattle.uri_ops.proofs.Meanings.AllowedParts.{is_set_text, set-text-is-utf8}
-use Rattle.uri_ops.proofs.Meanings.AllowedParts.{print_decoded-of-nil-is-nil}
-use Rattle.uri_ops.proofs.Meanings.AllowedParts.{decoding-keeps-decoded-bytes}
-use Rattle.uri_ops.proofs.Meanings.AllowedParts.{decoding-splits-at-slash}
+use Rattle.uri_ops.proofs.Meanings.AllowedParts.{is_set_text, set-text-is-utf8, print_decoded-of-nil-is-nil, decoding-keeps-decoded-bytes, decoding-splits-at-slash}
 use Rattle.uri_ops.proofs.Paths.DotBytes.{text-decoding-to-no-bytes-is-empty}
 use Rattle.uri_ops.proofs.Meanings.Lacking.{lacks-gives-lacks_any, decoding-adds-no-reserved}
-use Rattle.uri_ops.proofs.Paths.DecodedPaths.{decoding-adds-no-slash, set-text-splits}
-use Rattle.uri_ops.proofs.Paths.DecodedPaths.{decoding-keeps-first-slash}
+use Rattle.uri_ops.proofs.Paths.DecodedPaths.{decoding-adds-no-slash, set-text-splits, decoding-keeps-first-slash}
 use Rattle.uri_parts.proofs.Splitting.Marks.{cons_is_not_nil}
 
 -- paths: the text is its first segment, a `/` (47) and what follows it

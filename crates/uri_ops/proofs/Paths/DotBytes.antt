@@ -1,15 +1,12 @@
 -- A dot segment is one that decodes to the bytes of one dot or of two.
-use Rattle.std.proofs.Common.{◌≡◌, ℕ, ◌+◌, ◌*◌, ◌<◌, Bool, true, false, eqb, List, [], ◌∷◌, ◌++◌}
-use Rattle.std.proofs.Common.{length, refl, sym, ap, subst, ◌∙◌, arith, ◌&&◌, ⊎_elim, inl, inr, ◌⊎◌}
+use Rattle.std.proofs.Common.{◌≡◌, ℕ, ◌+◌, ◌*◌, ◌<◌, Bool, true, false, eqb, List, [], ◌∷◌, ◌++◌, length, refl, sym, ap, subst, ◌∙◌, arith, ◌&&◌, ⊎_elim, inl, inr, ◌⊎◌}
 use Rattle.std.specs.Prelude.{codes, bytes_eq}
 use Rattle.std.specs.Char.{encode_utf8, digit_value, is_ascii_hexdigit}
 use Rattle.std.specs.List.{list_any}
 use Rattle.std.specs.Str.{chars, IsUtf8, encode_utf8_all}
 use Rattle.std.proofs.lemmas.List.{append-nil, length-append}
-use Rattle.std.proofs.lemmas.Str.{encodes-chars, length-encode, len_utf8_bounds, encode_ascii}
-use Rattle.std.proofs.lemmas.Str.{encode_same}
-use Rattle.std.proofs.lemmas.Bool.{cases_Bool, cond-true, cond-false, and_parts, or_cases}
-use Rattle.std.proofs.lemmas.Bool.{false≢true, false_from_ne_true, eqb-true}
+use Rattle.std.proofs.lemmas.Str.{encodes-chars, length-encode, len_utf8_bounds, encode_ascii, encode_same}
+use Rattle.std.proofs.lemmas.Bool.{cases_Bool, cond-true, cond-false, and_parts, or_cases, false≢true, false_from_ne_true, eqb-true}
 use Rattle.std.proofs.lemmas.Bool.Decides.{nat_tests}
 use Rattle.uri_pct.specs.Tokens.{tokens, tokens_from_chars, bytes_decoded_from, is_pct_encoded}
 use Rattle.uri_ops.specs.Dots.{dots, is_single_dot, is_double_dot}

@@ -1,33 +1,14 @@
 -- The laws of dot segments, on texts.
-use Rattle.std.proofs.Common.{◌≡◌, ℕ, ◌+◌, ◌<◌, ◌≤◌, Bool, true, false, List, [], ◌∷◌, ◌++◌, length}
-use Rattle.std.proofs.Common.{refl, sym, ap, subst, ◌∙◌, arith, ◌||◌, ⊎_elim, append_assoc, rules}
+use Rattle.std.proofs.Common.{◌≡◌, ℕ, ◌+◌, ◌<◌, ◌≤◌, Bool, true, false, List, [], ◌∷◌, ◌++◌, length, refl, sym, ap, subst, ◌∙◌, arith, ◌||◌, ⊎_elim, append_assoc, rules}
 use Rattle.std.specs.Prelude.{codes}
 use Rattle.std.specs.List.{list_all}
 use Rattle.std.proofs.lemmas.List.{append-nil, length-append}
 use Rattle.std.proofs.lemmas.Bool.{and_parts, eqb-true, false≢true}
 use Rattle.uri_parts.specs.Components.{IsAbemptyPath}
-use Rattle.uri_ops.specs.Dots.{is_single_dot, is_double_dot, is_dot_segment, segments}
-use Rattle.uri_ops.specs.Dots.{lacks_dot_segments, run, remove_dot_segments, underflows, directory}
-use Rattle.uri_ops.specs.Dots.{IsAbsolute, EndsInSlash}
-use Rattle.uri_ops.proofs.Paths.Segments.{pop, is_none, next_output, step_of, steps, end_of}
-use Rattle.uri_ops.proofs.Paths.Segments.{closing, dotless_of, parent, AllPass, is_dotless}
-use Rattle.uri_ops.proofs.Paths.Segments.{pushed-segments-are-not-none, appended-segments-pass-test}
-use Rattle.uri_ops.proofs.Paths.Segments.{segments-after-steps-pass-test, dotless_of-pass-test}
-use Rattle.uri_ops.proofs.Paths.Segments.{dotless_of-of-dotless, dotless_of-is-dotless}
-use Rattle.uri_ops.proofs.Paths.Segments.{dotless_of-with-empty-last, dotless_of-prefix-first}
-use Rattle.uri_ops.proofs.Paths.Segments.{dotless_of-of-directory, dotless_of-is-not-empty}
-use Rattle.uri_ops.proofs.Paths.Underflows.{underflows_over, dotless-segments-do-not-underflow}
-use Rattle.uri_ops.proofs.Paths.Underflows.{segments-underflow-as-prefix-or-remainder}
-use Rattle.uri_ops.proofs.Paths.Underflows.{trailing-slash-changes-no-underflow}
-use Rattle.uri_ops.proofs.Paths.Underflows.{parent-underflows-as-segments}
-use Rattle.uri_ops.proofs.Paths.SlashedSegments.{slashed, lacks_slash, NoSlashes, slashed-of-append}
-use Rattle.uri_ops.proofs.Paths.SlashedSegments.{slashed-of-push, remove-dots-by-segments}
-use Rattle.uri_ops.proofs.Paths.SlashedSegments.{underflows-by-segments}
-use Rattle.uri_ops.proofs.Paths.SlashedSegments.{directory-by-segments, parent-segments-pass-test}
-use Rattle.uri_ops.proofs.Paths.SlashedSegments.{slashed-of-segments-is-text-after-slash}
-use Rattle.uri_ops.proofs.Paths.SlashedSegments.{segments-of-text-lack-slashes}
-use Rattle.uri_ops.proofs.Paths.SlashedSegments.{segments-of-text-are-not-none}
-use Rattle.uri_ops.proofs.Paths.SlashedSegments.{segments-of-slashed-segments}
+use Rattle.uri_ops.specs.Dots.{is_single_dot, is_double_dot, is_dot_segment, segments, lacks_dot_segments, run, remove_dot_segments, underflows, directory, IsAbsolute, EndsInSlash}
+use Rattle.uri_ops.proofs.Paths.Segments.{pop, is_none, next_output, step_of, steps, end_of, closing, dotless_of, parent, AllPass, is_dotless, pushed-segments-are-not-none, appended-segments-pass-test, segments-after-steps-pass-test, dotless_of-pass-test, dotless_of-of-dotless, dotless_of-is-dotless, dotless_of-with-empty-last, dotless_of-prefix-first, dotless_of-of-directory, dotless_of-is-not-empty}
+use Rattle.uri_ops.proofs.Paths.Underflows.{underflows_over, dotless-segments-do-not-underflow, segments-underflow-as-prefix-or-remainder, trailing-slash-changes-no-underflow, parent-underflows-as-segments}
+use Rattle.uri_ops.proofs.Paths.SlashedSegments.{slashed, lacks_slash, NoSlashes, slashed-of-append, slashed-of-push, remove-dots-by-segments, underflows-by-segments, directory-by-segments, parent-segments-pass-test, slashed-of-segments-is-text-after-slash, segments-of-text-lack-slashes, segments-of-text-are-not-none, segments-of-slashed-segments}
 use Rattle.uri_pct.proofs.General.{eq_true_from_IsTrue}
 
 -- paths: what holds of `/` before each of some segments holds of any list of one segment or more

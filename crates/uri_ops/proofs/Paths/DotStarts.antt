@@ -1,28 +1,18 @@
 -- A path in which neither `.` nor `%` is after a `/` has no dot segment, but for its first.
-use Rattle.std.proofs.Common.{◌≤◌, ◌-◌, inl, inr, subst, drop, ⊎_elim, ◌≡◌, ℕ, zero, suc, ◌+◌, ◌<◌}
-use Rattle.std.proofs.Common.{append_assoc, rules}
-use Rattle.std.specs.Prelude.{codes}
-use Rattle.std.proofs.Common.{Bool, true, false, not, List, [], ◌∷◌, ◌++◌, length, take, get_or}
-use Rattle.std.proofs.Common.{refl, sym, ap, ◌∙◌, ◌&&◌, ◌||◌, arith}
-use Rattle.std.specs.Prelude.{◌==◌}
+use Rattle.std.proofs.Common.{◌≤◌, ◌-◌, inl, inr, subst, drop, ⊎_elim, ◌≡◌, ℕ, zero, suc, ◌+◌, ◌<◌, append_assoc, rules, Bool, true, false, not, List, [], ◌∷◌, ◌++◌, length, take, get_or, refl, sym, ap, ◌∙◌, ◌&&◌, ◌||◌, arith}
+use Rattle.std.specs.Prelude.{codes, ◌==◌}
 use Rattle.std.proofs.Math.Seq.{take-suc}
 use Rattle.std.proofs.lemmas.List.{append-nil, drop_all, drop_at, take-append-drop, take_at}
-use Rattle.std.proofs.lemmas.Bool.{false≢true}
+use Rattle.std.proofs.lemmas.Bool.{false≢true, cases_lt, and_from, or_from, or_parts}
 use Rattle.uri_parts.specs.Components.{IsAbemptyPath}
 use Rattle.std.proofs.lemmas.Str.{IsCharBoundary-after_ascii}
 use Rattle.std.specs.Str.{IsCharBoundary, IsUtf8}
 use Rattle.uri_ops.specs.Models.Directories.{IsCutAtSegment}
-use Rattle.std.proofs.lemmas.Bool.{cases_lt, and_from, or_from, or_parts}
 use Rattle.std.proofs.lemmas.Bool.Decides.{nat_tests}
 use Rattle.uri_ops.specs.Dots.{has_slash, is_dot_segment, segments}
-use Rattle.uri_ops.specs.Models.LeadingSegments.{IsPrefixToSlashDot, BeginsWithoutDotSegment}
-use Rattle.uri_ops.specs.Models.LeadingSegments.{IsDotlessPrefix}
-use Rattle.uri_ops.specs.Models.LeadingSegments.{has_slash_dot_at, begins_with_dot}
+use Rattle.uri_ops.specs.Models.LeadingSegments.{IsPrefixToSlashDot, BeginsWithoutDotSegment, IsDotlessPrefix, has_slash_dot_at, begins_with_dot}
 use Rattle.uri_ops.proofs.Paths.Segments.{AllPass, is_dotless}
-use Rattle.uri_ops.proofs.Paths.SlashedSegments.{NoSlashes, slash-in-suffix-is-in-append}
-use Rattle.uri_ops.proofs.Paths.SlashedSegments.{first-segment-and-rest-lack-slashes}
-use Rattle.uri_ops.proofs.Paths.SlashedSegments.{segments-of-text-lack-slashes}
-use Rattle.uri_ops.proofs.Paths.SlashedSegments.{slashed, slashed-of-segments-is-text-after-slash}
+use Rattle.uri_ops.proofs.Paths.SlashedSegments.{NoSlashes, slash-in-suffix-is-in-append, first-segment-and-rest-lack-slashes, segments-of-text-lack-slashes, slashed, slashed-of-segments-is-text-after-slash}
 
 -- dot segments: the byte is `.` or `%`, with which each dot segment begins
 abbrev pub is_dot_start : ℕ → Bool

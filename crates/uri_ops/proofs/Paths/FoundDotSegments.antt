@@ -1,24 +1,18 @@
 -- A dot segment that a path's segments are found to have.
-use Rattle.std.proofs.Common.{◌≡◌, ◌<◌, ℕ, Bool, true, false, not, List, ◌++◌, ◌&&◌, ◌||◌}
-use Rattle.std.proofs.Common.{length, take, drop, subst, sym, ap, ◌∙◌}
+use Rattle.std.proofs.Common.{◌≡◌, ◌<◌, ℕ, Bool, true, false, not, List, ◌++◌, ◌&&◌, ◌||◌, length, take, drop, subst, sym, ap, ◌∙◌}
 use Rattle.std.specs.List.{list_all}
 use Rattle.std.proofs.lemmas.Bool.{and_right, or_right}
 use Rattle.std.proofs.lemmas.List.{take-append-drop}
 use Rattle.std.proofs.lemmas.List.Folds.{list_all-append}
 use Rattle.uri_parts.specs.Components.{IsAbemptyPath}
-use Rattle.uri_ops.specs.Dots.{has_slash, is_dot_segment, is_double_dot, is_single_dot}
-use Rattle.uri_ops.specs.Dots.{lacks_dot_segments, segments}
+use Rattle.uri_ops.specs.Dots.{has_slash, is_dot_segment, is_double_dot, is_single_dot, lacks_dot_segments, segments}
 use Rattle.uri_ops.specs.Models.Directories.{IsDotlessDirectory, RemovalState}
 use Rattle.uri_ops.specs.Models.LeadingSegments.{IsFirstSegment}
-use Rattle.uri_ops.proofs.Paths.DotLaws.{appended-segments-lack-slashes, rooted}
-use Rattle.uri_ops.proofs.Paths.DotLaws.{path-after-slash-appends-its-segments}
-use Rattle.uri_ops.proofs.Paths.LeftPaths.{property-of-dotless-directory-by-segments}
-use Rattle.uri_ops.proofs.Paths.LeftPaths.{removal-state-has-directory}
+use Rattle.uri_ops.proofs.Paths.DotLaws.{appended-segments-lack-slashes, rooted, path-after-slash-appends-its-segments}
+use Rattle.uri_ops.proofs.Paths.LeftPaths.{property-of-dotless-directory-by-segments, removal-state-has-directory}
 use Rattle.uri_ops.proofs.Paths.Segments.{is_dotless}
 use Rattle.uri_ops.proofs.Paths.SlashedSegments.{segments-of-slashed-segments}
-use Rattle.uri_ops.proofs.Paths.TakenSegments.{absolute-path-is-slash-and-rest}
-use Rattle.uri_ops.proofs.Paths.TakenSegments.{segments-of-slashless-text-is-one}
-use Rattle.uri_ops.proofs.Paths.TakenSegments.{segments-split-at-first-slash}
+use Rattle.uri_ops.proofs.Paths.TakenSegments.{absolute-path-is-slash-and-rest, segments-of-slashless-text-is-one, segments-split-at-first-slash}
 
 -- dot segments: a path whose first segment is one has one
 first-dot-segment-is-in-path : (segment rest : List ℕ) → has_slash segment ≡ false

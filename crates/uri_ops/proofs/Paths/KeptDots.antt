@@ -1,17 +1,12 @@
 -- Paths whose octets stay, and in which no dot after a `/` begins a dot segment: they have none.
-use Rattle.std.proofs.Common.{◌≡◌, ℕ, zero, suc, ◌+◌, ◌-◌, ◌<◌, ◌≤◌, Bool, true, false, not, ◌&&◌}
-use Rattle.std.proofs.Common.{◌||◌, List, [], ◌∷◌, ◌++◌, length, get_or, eqb, ltb, leb, ap, arith}
-use Rattle.std.proofs.Common.{refl, sym, ◌∙◌, ⊎_elim}
+use Rattle.std.proofs.Common.{◌≡◌, ℕ, zero, suc, ◌+◌, ◌-◌, ◌<◌, ◌≤◌, Bool, true, false, not, ◌&&◌, ◌||◌, List, [], ◌∷◌, ◌++◌, length, get_or, eqb, ltb, leb, ap, arith, refl, sym, ◌∙◌, ⊎_elim}
 use Rattle.std.specs.Prelude.{codes}
-use Rattle.std.proofs.lemmas.Bool.{and_from, and_parts, cases_Bool, eqb-true, false≢true}
-use Rattle.std.proofs.lemmas.Bool.{leb-true, ltb-true, not-true, not_from_false, or_cases}
-use Rattle.std.proofs.lemmas.Bool.{or_from, or_left, or_right}
+use Rattle.std.proofs.lemmas.Bool.{and_from, and_parts, cases_Bool, eqb-true, false≢true, leb-true, ltb-true, not-true, not_from_false, or_cases, or_from, or_left, or_right}
 use Rattle.std.proofs.lemmas.Bool.Decides.{nat_tests}
 use Rattle.std.proofs.lemmas.List.{get_or-append-add, get_or_append_left}
 use Rattle.uri_pct.specs.Sets.{is_one_of}
 use Rattle.uri_ops.specs.Dots.{IsAbsolute, is_dot_segment, lacks_dot_segments, segments}
-use Rattle.uri_ops.specs.Models.Unchanged.{IsKept, is_dot_kept_at, is_kept, is_kept_octet}
-use Rattle.uri_ops.specs.Models.Unchanged.{keeps_digits}
+use Rattle.uri_ops.specs.Models.Unchanged.{IsKept, is_dot_kept_at, is_kept, is_kept_octet, keeps_digits}
 use Rattle.uri_ops.proofs.Normal.UnchangedBytes.{kept-text-splits}
 use Rattle.uri_ops.proofs.Paths.DotStarts.{segment-without-dot-start-is-dotless}
 use Rattle.uri_ops.proofs.Paths.Segments.{AllPass, is_dotless}

@@ -1,28 +1,19 @@
 -- The cut at the last `/` of what is in a text from a place on.
-use Rattle.std.proofs.Common.{◌≡◌, ℕ, suc, ◌+◌, ◌-◌, ◌<◌, ◌≤◌, true, false, eqb, List, [], ◌∷◌}
-use Rattle.std.proofs.Common.{◌++◌, length, take, drop, get_or, refl, sym, ap, subst, ◌∙◌, arith}
-use Rattle.std.proofs.Common.{append_assoc, add-zero, drop-cons, cond, inl, inr, ⊎_elim}
-use Rattle.std.proofs.Common.{rules, tests}
+use Rattle.std.proofs.Common.{◌≡◌, ℕ, suc, ◌+◌, ◌-◌, ◌<◌, ◌≤◌, true, false, eqb, List, [], ◌∷◌, ◌++◌, length, take, drop, get_or, refl, sym, ap, subst, ◌∙◌, arith, append_assoc, add-zero, drop-cons, cond, inl, inr, ⊎_elim, rules, tests}
 use Rattle.std.proofs.Math.Seq.{take-add}
-use Rattle.std.proofs.lemmas.List.{append-nil, take-append-drop, drop-drop, take_at, drop_at}
-use Rattle.std.proofs.lemmas.List.{take-append-le, length-append, length-drop, length-take}
-use Rattle.std.proofs.lemmas.List.{length-take-le, get_or-drop, get_or-take}
-use Rattle.std.proofs.lemmas.Bool.{cond-false, cond-true, or_parts, eqb-true, ne_eqb}
-use Rattle.std.proofs.lemmas.Bool.{false≢true}
+use Rattle.std.proofs.lemmas.List.{append-nil, take-append-drop, drop-drop, take_at, drop_at, take-append-le, length-append, length-drop, length-take, length-take-le, get_or-drop, get_or-take}
+use Rattle.std.proofs.lemmas.Bool.{cond-false, cond-true, or_parts, eqb-true, ne_eqb, false≢true}
 use Rattle.std.proofs.lemmas.Bool.Decides.{nat_tests}
 use Rattle.std.proofs.lemmas.Str.{IsCharBoundary-after_ascii}
 use Rattle.std.specs.Prelude.{codes, ◌==◌}
 use Rattle.std.specs.Str.{IsUtf8, IsCharBoundary}
 use Rattle.uri_parts.specs.Components.{IsAbemptyPath}
-use Rattle.uri_ops.specs.Dots.{is_empty, has_slash, is_double_dot, before_last_slash, last_segment}
-use Rattle.uri_ops.specs.Dots.{remove_dot_segments, directory, IsAbsolute, EndsInSlash}
+use Rattle.uri_ops.specs.Dots.{is_empty, has_slash, is_double_dot, before_last_slash, last_segment, remove_dot_segments, directory, IsAbsolute, EndsInSlash}
 use Rattle.uri_ops.specs.Models.Directories.{IsDotlessDirectory, parent_directory}
 use Rattle.uri_ops.specs.Models.Places.{IsSlashOrStart}
 use Rattle.uri_ops.proofs.Paths.DotStarts.{take-one-more-byte}
 use Rattle.uri_ops.proofs.Paths.TakenSegments.{trailing-double-dot-leaves-slash}
-use Rattle.uri_ops.proofs.Paths.SlashedSegments.{slash-in-suffix-is-in-append}
-use Rattle.uri_ops.proofs.Paths.SlashedSegments.{before_last_slash-of-append}
-use Rattle.uri_ops.proofs.Paths.SlashedSegments.{last_segment-of-append}
+use Rattle.uri_ops.proofs.Paths.SlashedSegments.{slash-in-suffix-is-in-append, before_last_slash-of-append, last_segment-of-append}
 use Rattle.uri_pct.proofs.General.{eq_true_from_IsTrue}
 
 -- paths: what is before the last `/` (47) of two texts joined by it,

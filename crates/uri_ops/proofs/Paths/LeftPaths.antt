@@ -1,40 +1,20 @@
 -- What is left of a path while its segments are taken one after the other: what is after a
 -- directory without dot segments, which is all that was kept so far.
-use Rattle.std.proofs.Common.{◌≡◌, ℕ, ◌-◌, ◌<◌, ◌≤◌, Bool, true, false, List, [], ◌∷◌, ◌++◌, length}
-use Rattle.std.proofs.Common.{take, drop, refl, sym, ap, subst, ◌∙◌, ◌||◌, append_assoc, arith, inl}
-use Rattle.std.proofs.Common.{inr, ⊎_elim}
+use Rattle.std.proofs.Common.{◌≡◌, ℕ, ◌-◌, ◌<◌, ◌≤◌, Bool, true, false, List, [], ◌∷◌, ◌++◌, length, take, drop, refl, sym, ap, subst, ◌∙◌, ◌||◌, append_assoc, arith, inl, inr, ⊎_elim}
 use Rattle.std.specs.Prelude.{codes, ◌==◌}
 use Rattle.std.specs.List.{list_all, slice_range}
 use Rattle.std.proofs.Math.Bool.{or-false, or_assoc}
-use Rattle.std.proofs.lemmas.List.{append-nil, take-append-drop, drop_at, take_at, drop-append-le}
-use Rattle.std.proofs.lemmas.List.{take-append-le, length-drop, length-take-le}
+use Rattle.std.proofs.lemmas.List.{append-nil, take-append-drop, drop_at, take_at, drop-append-le, take-append-le, length-drop, length-take-le}
 use Rattle.std.proofs.lemmas.List.Folds.{list_all-append}
-use Rattle.std.proofs.lemmas.Bool.{and_parts, and_from, cases_Bool, false≢true}
-use Rattle.std.proofs.lemmas.Bool.{or_right}
+use Rattle.std.proofs.lemmas.Bool.{and_parts, and_from, cases_Bool, false≢true, or_right}
 use Rattle.uri_parts.specs.Components.{IsAbemptyPath}
-use Rattle.uri_ops.specs.Dots.{is_single_dot, is_double_dot, is_empty}
-use Rattle.uri_ops.specs.Dots.{before_last_slash, has_slash, lacks_dot_segments, segments}
-use Rattle.uri_ops.specs.Dots.{remove_dot_segments, underflows, IsAbsolute}
-use Rattle.uri_ops.specs.Models.Directories.{IsDotlessDirectory, IsCutAtSegment, RemovalState}
-use Rattle.uri_ops.specs.Models.Directories.{parent_directory}
-use Rattle.uri_ops.proofs.Paths.Segments.{pop, is_none, next_output, step_of, AllPass, is_dotless}
-use Rattle.uri_ops.proofs.Paths.Segments.{pop-undoes-push, popped-segments-pass-test}
-use Rattle.uri_ops.proofs.Paths.Segments.{appended-segments-pass-test, pushed-segments-are-not-none}
-use Rattle.uri_ops.proofs.Paths.Segments.{single-dot-is-not-double}
+use Rattle.uri_ops.specs.Dots.{is_single_dot, is_double_dot, is_empty, before_last_slash, has_slash, lacks_dot_segments, segments, remove_dot_segments, underflows, IsAbsolute}
+use Rattle.uri_ops.specs.Models.Directories.{IsDotlessDirectory, IsCutAtSegment, RemovalState, parent_directory}
+use Rattle.uri_ops.proofs.Paths.Segments.{pop, is_none, next_output, step_of, AllPass, is_dotless, pop-undoes-push, popped-segments-pass-test, appended-segments-pass-test, pushed-segments-are-not-none, single-dot-is-not-double}
 use Rattle.uri_ops.proofs.Paths.Underflows.{underflows_at}
-use Rattle.uri_ops.proofs.Paths.SlashedSegments.{slashed, lacks_slash, NoSlashes, slashed-of-push}
-use Rattle.uri_ops.proofs.Paths.SlashedSegments.{before_last_slash-of-slashed-is-popped}
-use Rattle.uri_ops.proofs.Paths.SlashedSegments.{slashed-is-empty-if-no-segments}
-use Rattle.uri_ops.proofs.Paths.SlashedSegments.{segments-of-slashed-segments}
-use Rattle.uri_ops.proofs.Paths.DotLaws.{property-of-path-to-slash-by-segments, rooted}
-use Rattle.uri_ops.proofs.Paths.DotLaws.{path-after-slash-appends-its-segments}
-use Rattle.uri_ops.proofs.Paths.DotLaws.{appended-segments-lack-slashes}
-use Rattle.uri_ops.proofs.Paths.DotLaws.{segments-with-empty-last-lack-slashes}
-use Rattle.uri_ops.proofs.Paths.DotLaws.{segments-of-dotless-path-are-dotless}
-use Rattle.uri_ops.proofs.Paths.DotLaws.{slashed-segments-are-absolute, remove-dots-of-dotless}
-use Rattle.uri_ops.proofs.Paths.DotLaws.{dotless-path-does-not-underflow}
-use Rattle.uri_ops.proofs.Paths.TakenSegments.{removing-dots-after-directory}
-use Rattle.uri_ops.proofs.Paths.TakenSegments.{underflow-after-directory}
+use Rattle.uri_ops.proofs.Paths.SlashedSegments.{slashed, lacks_slash, NoSlashes, slashed-of-push, before_last_slash-of-slashed-is-popped, slashed-is-empty-if-no-segments, segments-of-slashed-segments}
+use Rattle.uri_ops.proofs.Paths.DotLaws.{property-of-path-to-slash-by-segments, rooted, path-after-slash-appends-its-segments, appended-segments-lack-slashes, segments-with-empty-last-lack-slashes, segments-of-dotless-path-are-dotless, slashed-segments-are-absolute, remove-dots-of-dotless, dotless-path-does-not-underflow}
+use Rattle.uri_ops.proofs.Paths.TakenSegments.{removing-dots-after-directory, underflow-after-directory}
 use Rattle.uri_ops.proofs.Targeting.Targets.{appended-absolute-path-is-absolute}
 use Rattle.uri_pct.proofs.General.{eq_true_from_IsTrue}
 

@@ -1,7 +1,6 @@
 -- A merged path decodes to the same if the base's path and the reference's are replaced by those of
 -- their normal texts.
-use Rattle.std.proofs.Common.{◌≡◌, ℕ, true, List, [], ◌∷◌, ◌++◌, sym, ap, subst, ◌∙◌, ◌&&◌, ⊎_elim}
-use Rattle.std.proofs.Common.{inr, append_assoc, rules}
+use Rattle.std.proofs.Common.{◌≡◌, ℕ, true, List, [], ◌∷◌, ◌++◌, sym, ap, subst, ◌∙◌, ◌&&◌, ⊎_elim, inr, append_assoc, rules}
 use Rattle.std.specs.Prelude.{codes, Option, is_none}
 use Rattle.std.proofs.lemmas.Bool.{cond_both, cond-true}
 use Rattle.uri_pct.specs.Sets.{TableSet}
@@ -10,22 +9,12 @@ use Rattle.uri_parts.specs.Components.{has_authority, IsAbemptyPath}
 use Rattle.uri_ops.specs.Dots.{remove_dot_segments, directory, IsAbsolute, EndsInSlash}
 use Rattle.uri_ops.specs.Target.{dotless_if_absolute, guarded}
 use Rattle.uri_ops.specs.ComponentSets.{IsComponentSet}
-use Rattle.uri_ops.proofs.Paths.DotLaws.{directory-is-absolute, directory-ends-in-slash}
-use Rattle.uri_ops.proofs.Paths.DotLaws.{base-dots-may-be-removed-before-merging}
-use Rattle.uri_ops.proofs.Targeting.Targets.{appended-absolute-path-is-absolute}
-use Rattle.uri_ops.proofs.Targeting.Targets.{dotless-abempty-path-is-abempty}
+use Rattle.uri_ops.proofs.Paths.DotLaws.{directory-is-absolute, directory-ends-in-slash, base-dots-may-be-removed-before-merging}
+use Rattle.uri_ops.proofs.Targeting.Targets.{appended-absolute-path-is-absolute, dotless-abempty-path-is-abempty}
 use Rattle.uri_pct.proofs.UnreservedDecoding.Printing.{print_decoded}
-use Rattle.uri_ops.proofs.Meanings.AllowedParts.{is_set_text, set-text-is-utf8}
-use Rattle.uri_ops.proofs.Meanings.AllowedParts.{print_decoded-of-nil-is-nil}
-use Rattle.uri_ops.proofs.Meanings.AllowedParts.{decoding-splits-at-slash}
-use Rattle.uri_ops.proofs.Meanings.AllowedParts.{decode_unreserved-is-idempotent}
-use Rattle.uri_ops.proofs.Paths.DecodedPaths.{set-text-splits, set-texts-join-at-slash}
-use Rattle.uri_ops.proofs.Paths.DecodedPaths.{dotless-set-text-is-set-text}
-use Rattle.uri_ops.proofs.Paths.DecodedPaths.{directory-of-set-text-is-set-text}
-use Rattle.uri_ops.proofs.Paths.DecodedPaths.{directory-and-decoding-swap}
-use Rattle.uri_ops.proofs.Paths.DecodedPaths.{removing-dots-and-decoding-swap}
-use Rattle.uri_ops.proofs.Paths.PathMeanings.{guard-is-removed-as-dot-segment}
-use Rattle.uri_ops.proofs.Paths.PathMeanings.{path-without-dots-is-set-text}
+use Rattle.uri_ops.proofs.Meanings.AllowedParts.{is_set_text, set-text-is-utf8, print_decoded-of-nil-is-nil, decoding-splits-at-slash, decode_unreserved-is-idempotent}
+use Rattle.uri_ops.proofs.Paths.DecodedPaths.{set-text-splits, set-texts-join-at-slash, dotless-set-text-is-set-text, directory-of-set-text-is-set-text, directory-and-decoding-swap, removing-dots-and-decoding-swap}
+use Rattle.uri_ops.proofs.Paths.PathMeanings.{guard-is-removed-as-dot-segment, path-without-dots-is-set-text}
 use Rattle.uri_ops.proofs.Normal.NormalComponents.{decoded-abempty-path-is-abempty}
 use Rattle.uri_pct.proofs.General.{eq_true_from_IsTrue}
 

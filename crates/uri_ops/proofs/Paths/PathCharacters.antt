@@ -1,6 +1,5 @@
 -- The characters of what is left of a path are the path's.
-use Rattle.std.proofs.Common.{◌≡◌, ℕ, Bool, true, false, not, List, [], ◌∷◌, ◌++◌, refl, sym, ap}
-use Rattle.std.proofs.Common.{◌∙◌, ◌&&◌}
+use Rattle.std.proofs.Common.{◌≡◌, ℕ, Bool, true, false, not, List, [], ◌∷◌, ◌++◌, refl, sym, ap, ◌∙◌, ◌&&◌}
 use Rattle.std.specs.List.{list_all}
 use Rattle.std.proofs.lemmas.List.Folds.{list_all-append}
 use Rattle.std.proofs.lemmas.List.Elements.{All-weaker}
@@ -8,9 +7,7 @@ use Rattle.std.proofs.lemmas.List.Sums.{AllPass-from_list_all, list_all-from_All
 use Rattle.std.proofs.lemmas.Bool.{and_parts, and_from, cond_both, not-true, not_from_false}
 use Rattle.uri_pct.specs.Sets.{is_one_of}
 use Rattle.uri_parts.specs.Components.{Lacks}
-use Rattle.uri_ops.specs.Dots.{is_double_dot, is_empty, has_slash, before_last_slash}
-use Rattle.uri_ops.specs.Dots.{up_to_last_slash, last_segment, remove_dot_segments, directory}
-use Rattle.uri_ops.specs.Dots.{IsAbsolute}
+use Rattle.uri_ops.specs.Dots.{is_double_dot, is_empty, has_slash, before_last_slash, up_to_last_slash, last_segment, remove_dot_segments, directory, IsAbsolute}
 use Rattle.uri_ops.proofs.Paths.Segments.{dotless_of, dotless_of-pass-test}
 use Rattle.uri_ops.proofs.Paths.SlashedSegments.{slashed, remove-dots-by-segments}
 use Rattle.uri_ops.proofs.Paths.DotLaws.{property-of-absolute-path-by-segments}

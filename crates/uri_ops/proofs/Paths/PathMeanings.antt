@@ -1,13 +1,10 @@
 -- The path of a meaning: removing its dot segments, guarding and decoding it again change nothing.
-use Rattle.std.proofs.Common.{◌≡◌, ℕ, true, eqb, List, [], ◌∷◌, ◌++◌, refl, sym, ap, subst, ◌∙◌}
-use Rattle.std.proofs.Common.{◌&&◌, ⊎_elim, arith, lit<}
-use Rattle.std.specs.Prelude.{codes, Option}
-use Rattle.std.specs.Prelude.{is_none as is_absent}
+use Rattle.std.proofs.Common.{◌≡◌, ℕ, true, eqb, List, [], ◌∷◌, ◌++◌, refl, sym, ap, subst, ◌∙◌, ◌&&◌, ⊎_elim, arith, lit<}
+use Rattle.std.specs.Prelude.{codes, Option, is_none as is_absent}
 use Rattle.std.specs.Str.{IsUtf8, chars}
 use Rattle.std.proofs.Math.Utf8.{low_scalar}
 use Rattle.std.proofs.lemmas.Str.{IsUtf8-encode, encode_ascii}
-use Rattle.std.proofs.lemmas.Bool.{cases_Bool, cond-true, cond-false, cond_both, and_from}
-use Rattle.std.proofs.lemmas.Bool.{and_parts, eqb-true}
+use Rattle.std.proofs.lemmas.Bool.{cases_Bool, cond-true, cond-false, cond_both, and_from, and_parts, eqb-true}
 use Rattle.uri_pct.specs.Sets.{TableSet}
 use Rattle.uri_pct.specs.Tokens.{tokens_from_chars, is_valid_for}
 use Rattle.uri_pct.specs.DecodeUnreserved.{decode_unreserved}
@@ -16,19 +13,12 @@ use Rattle.uri_parts.specs.Components.{starts, has_authority}
 use Rattle.uri_ops.specs.Dots.{remove_dot_segments, IsAbsolute}
 use Rattle.uri_ops.specs.Target.{dotless_if_absolute, guarded}
 use Rattle.uri_ops.specs.ComponentSets.{IsComponentSet}
-use Rattle.uri_ops.proofs.Paths.Segments.{is_none, next_output, step_of, steps, dotless_of}
-use Rattle.uri_ops.proofs.Paths.Segments.{dotless_of-prefix-first}
+use Rattle.uri_ops.proofs.Paths.Segments.{is_none, next_output, step_of, steps, dotless_of, dotless_of-prefix-first}
 use Rattle.uri_ops.proofs.Paths.SlashedSegments.{slashed, remove-dots-by-segments}
-use Rattle.uri_ops.proofs.Paths.DotLaws.{property-of-absolute-path-by-segments}
-use Rattle.uri_ops.proofs.Paths.DotLaws.{removing-dots-keeps-absolute}
-use Rattle.uri_ops.proofs.Paths.DotLaws.{removing_dots_is_idempotent}
-use Rattle.uri_ops.proofs.Meanings.AllowedParts.{is_set_text, set-text-from-utf8}
-use Rattle.uri_ops.proofs.Meanings.AllowedParts.{empty-text-is-set-text}
+use Rattle.uri_ops.proofs.Paths.DotLaws.{property-of-absolute-path-by-segments, removing-dots-keeps-absolute, removing_dots_is_idempotent}
+use Rattle.uri_ops.proofs.Meanings.AllowedParts.{is_set_text, set-text-from-utf8, empty-text-is-set-text, decode_unreserved-is-idempotent}
 use Rattle.uri_pct.proofs.UnreservedDecoding.Printing.{print_decoded}
-use Rattle.uri_ops.proofs.Meanings.AllowedParts.{decode_unreserved-is-idempotent}
-use Rattle.uri_ops.proofs.Paths.DecodedPaths.{set-texts-join-at-slash, set-text-splits}
-use Rattle.uri_ops.proofs.Paths.DecodedPaths.{removing-dots-and-decoding-swap}
-use Rattle.uri_ops.proofs.Paths.DecodedPaths.{dotless-set-text-is-set-text}
+use Rattle.uri_ops.proofs.Paths.DecodedPaths.{set-texts-join-at-slash, set-text-splits, removing-dots-and-decoding-swap, dotless-set-text-is-set-text}
 use Rattle.uri_ops.proofs.Paths.DecodedStarts.{decoding-keeps-leading-slash}
 use Rattle.uri_pct.proofs.General.{eq_true_from_IsTrue}
 use Rattle.uri_parts.proofs.Splitting.Recompose.{equal-to-true-is-IsTrue}

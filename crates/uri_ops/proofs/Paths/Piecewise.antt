@@ -1,8 +1,6 @@
 -- Removing dot segments from a path whose substrings are changed one after the other, as by
 -- decoding them.
-use Rattle.std.proofs.Common.{◌≡◌, ℕ, ◌<◌, Bool, true, false, List, [], ◌∷◌, ◌++◌, length, take}
-use Rattle.std.proofs.Common.{drop, refl, sym, ap, subst, ◌∙◌, ◌||◌, ⊎_elim, inl, inr, append_assoc}
-use Rattle.std.proofs.Common.{arith, rules, tests}
+use Rattle.std.proofs.Common.{◌≡◌, ℕ, ◌<◌, Bool, true, false, List, [], ◌∷◌, ◌++◌, length, take, drop, refl, sym, ap, subst, ◌∙◌, ◌||◌, ⊎_elim, inl, inr, append_assoc, arith, rules, tests}
 use Rattle.std.specs.Prelude.{codes, ◌==◌}
 use Rattle.std.proofs.lemmas.Bool.{eqb-true, false≢true}
 use Rattle.std.proofs.lemmas.List.{append-nil, drop_at, take-append-drop, take_at}
@@ -11,27 +9,15 @@ use Rattle.uri_parts.specs.Components.{IsAbemptyPath}
 use Rattle.uri_parts.proofs.Splitting.Marks.{cons_is_not_nil}
 use Rattle.uri_parts.proofs.Splitting.Recompose.{equal-to-true-is-IsTrue}
 use Rattle.uri_ops.specs.ComponentSets.{IsComponentSet}
-use Rattle.uri_ops.specs.Dots.{before_last_slash, has_slash, is_double_dot, is_empty, is_single_dot}
-use Rattle.uri_ops.specs.Dots.{lacks_dot_segments, remove_dot_segments, underflows}
-use Rattle.uri_ops.specs.Models.Directories.{IsCutAtSegment, RemovalState, IsDotlessDirectory}
-use Rattle.uri_ops.specs.Models.Directories.{parent_directory}
+use Rattle.uri_ops.specs.Dots.{before_last_slash, has_slash, is_double_dot, is_empty, is_single_dot, lacks_dot_segments, remove_dot_segments, underflows}
+use Rattle.uri_ops.specs.Models.Directories.{IsCutAtSegment, RemovalState, IsDotlessDirectory, parent_directory}
 use Rattle.uri_ops.specs.Models.LeadingSegments.{IsFirstSegment, IsDotlessPrefix}
 use Rattle.uri_ops.specs.Models.SegmentModes.{KeepsSlashesAndDots}
-use Rattle.uri_ops.proofs.Meanings.AllowedParts.{is_set_text, empty-text-is-set-text}
+use Rattle.uri_ops.proofs.Meanings.AllowedParts.{is_set_text, empty-text-is-set-text, set-text-is-utf8, decoding-splits-at-slash, print_decoded-of-nil-is-nil}
 use Rattle.uri_pct.proofs.UnreservedDecoding.Printing.{print_decoded}
-use Rattle.uri_ops.proofs.Meanings.AllowedParts.{set-text-is-utf8}
-use Rattle.uri_ops.proofs.Meanings.AllowedParts.{decoding-splits-at-slash}
-use Rattle.uri_ops.proofs.Meanings.AllowedParts.{print_decoded-of-nil-is-nil}
-use Rattle.uri_ops.proofs.Paths.DotLaws.{removing-dots-leaves-no-dot-segment}
-use Rattle.uri_ops.proofs.Paths.DotLaws.{remove-dots-of-dotless}
-use Rattle.uri_ops.proofs.Paths.LeftPaths.{removal-state-has-directory, removal-state-of-equals}
-use Rattle.uri_ops.proofs.Paths.LeftPaths.{removal-passes-double-dot, removal-passes-dotless-prefix}
-use Rattle.uri_ops.proofs.Paths.LeftPaths.{removal-state-without-rest-is-done}
-use Rattle.uri_ops.proofs.Paths.LeftPaths.{removal-passes-single-dot}
-use Rattle.uri_ops.proofs.Paths.DecodedPaths.{decoding-keeps-dot-segments, decoding-adds-no-slash}
-use Rattle.uri_ops.proofs.Paths.DecodedPaths.{set-text-splits, set-texts-join-at-slash}
-use Rattle.uri_ops.proofs.Paths.DecodedPaths.{decoding-keeps-first-slash}
-use Rattle.uri_ops.proofs.Paths.DecodedPaths.{removing-dots-and-decoding-swap}
+use Rattle.uri_ops.proofs.Paths.DotLaws.{removing-dots-leaves-no-dot-segment, remove-dots-of-dotless}
+use Rattle.uri_ops.proofs.Paths.LeftPaths.{removal-state-has-directory, removal-state-of-equals, removal-passes-double-dot, removal-passes-dotless-prefix, removal-state-without-rest-is-done, removal-passes-single-dot}
+use Rattle.uri_ops.proofs.Paths.DecodedPaths.{decoding-keeps-dot-segments, decoding-adds-no-slash, set-text-splits, set-texts-join-at-slash, decoding-keeps-first-slash, removing-dots-and-decoding-swap}
 use Rattle.uri_ops.proofs.Paths.DecodedStarts.{decoding-keeps-emptiness}
 use Rattle.uri_pct.proofs.General.{eq_true_from_IsTrue}
 use Rattle.uri_ops.proofs.Paths.DotRuns.{not-empty-has-length}

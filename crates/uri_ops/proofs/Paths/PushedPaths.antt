@@ -1,8 +1,6 @@
 -- What is appended of a path without its dot segments, and of a reference's path after the
 -- directory of a base's path.
-use Rattle.std.proofs.Common.{◌≡◌, ◌<◌, ◌≤◌, ℕ, zero, suc, Bool, true, false, List, [], ◌∷◌, ◌++◌}
-use Rattle.std.proofs.Common.{length, take, drop, sym, ap, subst, ◌∙◌, ◌||◌, inr, arith}
-use Rattle.std.proofs.Common.{⊎_elim}
+use Rattle.std.proofs.Common.{◌≡◌, ◌<◌, ◌≤◌, ℕ, zero, suc, Bool, true, false, List, [], ◌∷◌, ◌++◌, length, take, drop, sym, ap, subst, ◌∙◌, ◌||◌, inr, arith, ⊎_elim}
 use Rattle.std.proofs.Math.Seq.{take-length}
 use Rattle.std.proofs.lemmas.Bool.{eqb-true, false≢true}
 use Rattle.uri_pct.proofs.General.{eq_true_from_IsTrue}
@@ -10,20 +8,11 @@ use Rattle.std.specs.Prelude.{◌==◌}
 use Rattle.std.specs.Str.{IsUtf8, IsCharBoundary}
 use Rattle.std.proofs.lemmas.Str.{IsCharBoundary-after_ascii}
 use Rattle.std.proofs.lemmas.List.{length-drop, take-append-drop, take_at, drop_at}
-use Rattle.uri_ops.specs.Dots.{lacks_dot_segments, remove_dot_segments, underflows, directory}
-use Rattle.uri_ops.specs.Dots.{IsAbsolute, EndsInSlash}
-use Rattle.uri_ops.specs.Models.Directories.{IsCutAtSegment, IsDotlessDirectory}
+use Rattle.uri_ops.specs.Dots.{lacks_dot_segments, remove_dot_segments, underflows, directory, IsAbsolute, EndsInSlash}
+use Rattle.uri_ops.specs.Models.Directories.{IsCutAtSegment, IsDotlessDirectory, RemovalState}
 use Rattle.uri_ops.specs.Models.LeadingSegments.{begins_with_dot}
 use Rattle.uri_ops.specs.Target.{merged}
-use Rattle.uri_ops.specs.Models.Directories.{RemovalState}
-use Rattle.uri_ops.proofs.Paths.DotLaws.{directory-is-absolute, directory-ends-in-slash}
-use Rattle.uri_ops.proofs.Paths.DotLaws.{removing-dots-keeps-absolute}
-use Rattle.uri_ops.proofs.Paths.DotLaws.{removing-dots-and-directory-swap}
-use Rattle.uri_ops.proofs.Paths.DotLaws.{prefix-dots-may-be-removed-first}
-use Rattle.uri_ops.proofs.Paths.DotLaws.{removing-dots-leaves-no-dot-segment}
-use Rattle.uri_ops.proofs.Paths.DotLaws.{remove-dots-of-dotless}
-use Rattle.uri_ops.proofs.Paths.DotLaws.{path-underflows-as-prefix-or-remainder}
-use Rattle.uri_ops.proofs.Paths.DotLaws.{dotless-path-does-not-underflow}
+use Rattle.uri_ops.proofs.Paths.DotLaws.{directory-is-absolute, directory-ends-in-slash, removing-dots-keeps-absolute, removing-dots-and-directory-swap, prefix-dots-may-be-removed-first, removing-dots-leaves-no-dot-segment, remove-dots-of-dotless, path-underflows-as-prefix-or-remainder, dotless-path-does-not-underflow}
 
 -- paths: a prefix of an absolute path, one byte at least, is absolute
 pub prefix-of-absolute-path-is-absolute : (path : List ℕ) (n : ℕ) → IsAbsolute path → 0 < n

@@ -1,13 +1,11 @@
 -- A change of segments that keeps which of them are dots may come before or after the removal of
 -- dot segments.
-use Rattle.std.proofs.Common.{◌≡◌, ℕ, Bool, true, false, cond, List, [], ◌∷◌, ◌++◌, map, refl, sym}
-use Rattle.std.proofs.Common.{ap, ◌∙◌, ◌||◌}
+use Rattle.std.proofs.Common.{◌≡◌, ℕ, Bool, true, false, cond, List, [], ◌∷◌, ◌++◌, map, refl, sym, ap, ◌∙◌, ◌||◌}
 use Rattle.std.specs.List.{list_all}
 use Rattle.std.proofs.lemmas.List.{map-append}
 use Rattle.std.proofs.lemmas.Bool.{and_parts}
 use Rattle.uri_ops.specs.Dots.{is_single_dot, is_double_dot, is_dot_segment}
-use Rattle.uri_ops.proofs.Paths.Segments.{pop, is_none, next_output, step_of, steps, end_of}
-use Rattle.uri_ops.proofs.Paths.Segments.{closing, dotless_of, parent, AllPass}
+use Rattle.uri_ops.proofs.Paths.Segments.{pop, is_none, next_output, step_of, steps, end_of, closing, dotless_of, parent, AllPass}
 use Rattle.uri_ops.proofs.Paths.Underflows.{underflows_at, underflows_over}
 
 module _ (f : List ℕ → List ℕ) where

@@ -1,7 +1,5 @@
 -- Sixteen bytes without `/`.
-use Rattle.std.proofs.Common.{◌≡◌, ℕ, zero, suc, ◌+◌, ◌<◌, ◌≤◌, false, eqb, List, length, drop}
-use Rattle.std.proofs.Common.{get_or, map, ◌-◌, ◌/◌, ◌%◌, ◌^◌, w64, ⊎_elim}
-use Rattle.std.proofs.Common.{sym, ap, ◌∙◌, arith, drop-cons}
+use Rattle.std.proofs.Common.{◌≡◌, ℕ, zero, suc, ◌+◌, ◌<◌, ◌≤◌, false, eqb, List, length, drop, get_or, map, ◌-◌, ◌/◌, ◌%◌, ◌^◌, w64, ⊎_elim, sym, ap, ◌∙◌, arith, drop-cons}
 use Rattle.std.specs.Simd.Lanes.{mask_l, chunk}
 use Rattle.std.specs.Int.{bit_at, leading_zeros}
 use Rattle.std.proofs.Math.Nat.{pow-suc}

@@ -1,22 +1,15 @@
 -- A path that begins with `/` as its segments: what is done to the text is done to them.
-use Rattle.std.proofs.Common.{◌≡◌, ℕ, zero, suc, ◌+◌, ◌≤◌, Bool, true, false, cond, eqb, not, List}
-use Rattle.std.proofs.Common.{[], ◌∷◌, ◌++◌, length, take, drop, refl, sym, ap, ◌∙◌, arith, ◌||◌}
-use Rattle.std.proofs.Common.{⊎_elim, append_assoc}
+use Rattle.std.proofs.Common.{◌≡◌, ℕ, zero, suc, ◌+◌, ◌≤◌, Bool, true, false, cond, eqb, not, List, [], ◌∷◌, ◌++◌, length, take, drop, refl, sym, ap, ◌∙◌, arith, ◌||◌, ⊎_elim, append_assoc}
 use Rattle.std.specs.Prelude.{codes}
 use Rattle.std.specs.List.{list_all, prefix_len, onto_first}
 use Rattle.std.proofs.lemmas.List.{append-nil, length-append}
 use Rattle.std.proofs.lemmas.List.Folds.{list_any-append}
-use Rattle.std.proofs.lemmas.Bool.{cases_Bool, cond-true, cond-false, and_parts, and_from, eqb-true}
-use Rattle.std.proofs.lemmas.Bool.{or_parts, or_right, not_from_false, not-true}
+use Rattle.std.proofs.lemmas.Bool.{cases_Bool, cond-true, cond-false, and_parts, and_from, eqb-true, or_parts, or_right, not_from_false, not-true}
 use Rattle.std.proofs.lemmas.Bool.Decides.{nat_tests}
 use Rattle.uri_pct.specs.Sets.{is_one_of}
 use Rattle.uri_parts.specs.Components.{before_any, from_any}
-use Rattle.uri_ops.specs.Dots.{is_single_dot, is_double_dot, is_dot_segment, segments, is_empty}
-use Rattle.uri_ops.specs.Dots.{has_slash, before_last_slash, last_segment, Buffers, or_slash, step}
-use Rattle.uri_ops.specs.Dots.{run, remove_dot_segments, underflows, directory}
-use Rattle.uri_ops.proofs.Paths.Segments.{pop, is_none, next_output, step_of, steps, end_of}
-use Rattle.uri_ops.proofs.Paths.Segments.{closing, dotless_of, parent, AllPass}
-use Rattle.uri_ops.proofs.Paths.Segments.{next_output-passes-test}
+use Rattle.uri_ops.specs.Dots.{is_single_dot, is_double_dot, is_dot_segment, segments, is_empty, has_slash, before_last_slash, last_segment, Buffers, or_slash, step, run, remove_dot_segments, underflows, directory}
+use Rattle.uri_ops.proofs.Paths.Segments.{pop, is_none, next_output, step_of, steps, end_of, closing, dotless_of, parent, AllPass, next_output-passes-test}
 use Rattle.uri_ops.proofs.Paths.Underflows.{underflows_at, underflows_over}
 
 -- each segment after a `/`

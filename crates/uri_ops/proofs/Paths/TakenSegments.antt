@@ -1,29 +1,13 @@
 -- The segments of a path, taken one after the other after a directory that has no dot segment.
-use Rattle.std.proofs.Common.{◌≡◌, ℕ, Bool, true, false, List, [], ◌∷◌, ◌++◌, drop, refl, sym, ap}
-use Rattle.std.proofs.Common.{◌∙◌, ◌||◌}
+use Rattle.std.proofs.Common.{◌≡◌, ℕ, Bool, true, false, List, [], ◌∷◌, ◌++◌, drop, refl, sym, ap, ◌∙◌, ◌||◌}
 use Rattle.std.proofs.lemmas.List.{append-nil}
 use Rattle.std.proofs.lemmas.Bool.{and_from, eqb-true, false≢true, not_from_false, or_right}
 use Rattle.uri_parts.specs.Components.{IsAbemptyPath}
-use Rattle.uri_ops.specs.Dots.{is_single_dot, is_double_dot, is_dot_segment, has_slash, segments}
-use Rattle.uri_ops.specs.Dots.{remove_dot_segments, underflows, IsAbsolute}
-use Rattle.uri_ops.proofs.Paths.Segments.{is_none, step_of, steps, end_of, closing, dotless_of}
-use Rattle.uri_ops.proofs.Paths.Segments.{AllPass, is_dotless, steps-of-dotless-append-all}
-use Rattle.uri_ops.proofs.Paths.Segments.{dotless_of-append, dotless_of-with-empty-last}
-use Rattle.uri_ops.proofs.Paths.Segments.{closing-of-append, next_output-passes-test}
-use Rattle.uri_ops.proofs.Paths.Segments.{appended-segments-pass-test}
-use Rattle.uri_ops.proofs.Paths.Underflows.{underflows_at, underflows_over, underflows_over_is_or}
-use Rattle.uri_ops.proofs.Paths.Underflows.{dotless-segments-do-not-underflow}
-use Rattle.uri_ops.proofs.Paths.Underflows.{underflows_over-of-append}
-use Rattle.uri_ops.proofs.Paths.Underflows.{trailing-slash-changes-no-underflow}
-use Rattle.uri_ops.proofs.Paths.SlashedSegments.{slashed, lacks_slash, NoSlashes, slashed-of-push}
-use Rattle.uri_ops.proofs.Paths.SlashedSegments.{remove-dots-by-segments, underflows-by-segments}
-use Rattle.uri_ops.proofs.Paths.SlashedSegments.{slashed-of-segments-is-text-after-slash}
-use Rattle.uri_ops.proofs.Paths.SlashedSegments.{segments-of-text-lack-slashes}
-use Rattle.uri_ops.proofs.Paths.SlashedSegments.{segments-of-text-are-not-none}
-use Rattle.uri_ops.proofs.Paths.SlashedSegments.{segments-of-joined-segments}
-use Rattle.uri_ops.proofs.Paths.DotLaws.{rooted, path-after-slash-appends-its-segments}
-use Rattle.uri_ops.proofs.Paths.DotLaws.{appended-segments-lack-slashes}
-use Rattle.uri_ops.proofs.Paths.DotLaws.{segments-with-empty-last-lack-slashes}
+use Rattle.uri_ops.specs.Dots.{is_single_dot, is_double_dot, is_dot_segment, has_slash, segments, remove_dot_segments, underflows, IsAbsolute}
+use Rattle.uri_ops.proofs.Paths.Segments.{is_none, step_of, steps, end_of, closing, dotless_of, AllPass, is_dotless, steps-of-dotless-append-all, dotless_of-append, dotless_of-with-empty-last, closing-of-append, next_output-passes-test, appended-segments-pass-test}
+use Rattle.uri_ops.proofs.Paths.Underflows.{underflows_at, underflows_over, underflows_over_is_or, dotless-segments-do-not-underflow, underflows_over-of-append, trailing-slash-changes-no-underflow}
+use Rattle.uri_ops.proofs.Paths.SlashedSegments.{slashed, lacks_slash, NoSlashes, slashed-of-push, remove-dots-by-segments, underflows-by-segments, slashed-of-segments-is-text-after-slash, segments-of-text-lack-slashes, segments-of-text-are-not-none, segments-of-joined-segments}
+use Rattle.uri_ops.proofs.Paths.DotLaws.{rooted, path-after-slash-appends-its-segments, appended-segments-lack-slashes, segments-with-empty-last-lack-slashes}
 use Rattle.uri_pct.proofs.General.{eq_true_from_IsTrue}
 
 -- of a segment after ones without dot segments: what it leaves of them and what follows it are the

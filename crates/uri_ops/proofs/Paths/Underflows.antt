@@ -1,11 +1,9 @@
 -- Which segments go above the root: a double dot where no segment is left.
-use Rattle.std.proofs.Common.{◌≡◌, ℕ, Bool, true, false, cond, List, [], ◌∷◌, ◌++◌, refl, sym}
-use Rattle.std.proofs.Common.{ap, ◌∙◌, ◌||◌}
+use Rattle.std.proofs.Common.{◌≡◌, ℕ, Bool, true, false, cond, List, [], ◌∷◌, ◌++◌, refl, sym, ap, ◌∙◌, ◌||◌}
 use Rattle.std.specs.List.{list_all}
 use Rattle.std.proofs.lemmas.Bool.{and_parts, or_parts, not-true}
 use Rattle.uri_ops.specs.Dots.{is_single_dot, is_double_dot}
-use Rattle.uri_ops.proofs.Paths.Segments.{is_none, step_of, steps, parent, AllPass, is_dotless}
-use Rattle.uri_ops.proofs.Paths.Segments.{steps-of-dotless-append-all, steps_are_dotless}
+use Rattle.uri_ops.proofs.Paths.Segments.{is_none, step_of, steps, parent, AllPass, is_dotless, steps-of-dotless-append-all, steps_are_dotless}
 
 -- a double dot meets an empty output, at this segment or before it
 unfoldable pub underflows_at : Bool → Bool → Bool → List (List ℕ) → Bool

@@ -1,6 +1,5 @@
 -- The segments of a path as they are appended, decoded.
-use Rattle.std.proofs.Common.{◌≡◌, ℕ, true, List, [], ◌∷◌, ◌++◌, length, drop, refl, sym, ap, ◌∙◌}
-use Rattle.std.proofs.Common.{◌&&◌, arith}
+use Rattle.std.proofs.Common.{◌≡◌, ℕ, true, List, [], ◌∷◌, ◌++◌, length, drop, refl, sym, ap, ◌∙◌, ◌&&◌, arith}
 use Rattle.std.specs.Prelude.{codes, slice_index, ◌==◌}
 use Rattle.std.proofs.lemmas.Bool.{and_parts, eqb-true, false≢true, ne_eqb}
 use Rattle.uri_pct.specs.DecodeUnreserved.{decode_unreserved}
@@ -10,11 +9,9 @@ use Rattle.uri_ops.specs.ComponentSets.{IsComponentSet}
 use Rattle.uri_ops.specs.Dots.{IsAbsolute, remove_dot_segments, underflows}
 use Rattle.uri_ops.specs.Models.Directories.{IsDotlessDirectory}
 use Rattle.uri_pct.proofs.UnreservedDecoding.Printing.{print_decoded}
-use Rattle.uri_ops.proofs.Meanings.AllowedParts.{is_set_text}
-use Rattle.uri_ops.proofs.Meanings.AllowedParts.{print_decoded-of-nil-is-nil}
+use Rattle.uri_ops.proofs.Meanings.AllowedParts.{is_set_text, print_decoded-of-nil-is-nil}
 use Rattle.uri_ops.proofs.Paths.LeftPaths.{slashed-dotless-segments-are-directory}
-use Rattle.uri_ops.proofs.Paths.DecodedPaths.{set-text-splits, removing-dots-and-decoding-swap}
-use Rattle.uri_ops.proofs.Paths.DecodedPaths.{decoding-keeps-first-slash, decoding-keeps-underflow}
+use Rattle.uri_ops.proofs.Paths.DecodedPaths.{set-text-splits, removing-dots-and-decoding-swap, decoding-keeps-first-slash, decoding-keeps-underflow}
 use Rattle.uri_ops.proofs.Paths.SlashedSegments.{slashed}
 use Rattle.uri_ops.proofs.Paths.TakenSegments.{absolute-path-is-slash-and-rest}
 

@@ -1,7 +1,6 @@
 -- If base and reference are replaced by their normal texts, the target is equivalent, and the
 -- errors are the same.
-use Rattle.std.proofs.Common.{◌≡◌, ℕ, true, false, cond, List, [], ◌∷◌, ◌++◌, refl, sym, ap, ◌∙◌}
-use Rattle.std.proofs.Common.{◌||◌, ⊎_elim, option_map, arith}
+use Rattle.std.proofs.Common.{◌≡◌, ℕ, true, false, cond, List, [], ◌∷◌, ◌++◌, refl, sym, ap, ◌∙◌, ◌||◌, ⊎_elim, option_map, arith}
 use Rattle.std.specs.Prelude.{codes, Option, Some, None, IfSome, is_some, is_none}
 use Rattle.std.specs.Str.{IsUtf8}
 use Rattle.std.proofs.lemmas.Bool.{cases_Bool, cond-true, cond-false, cond_both, false≢true}
@@ -13,30 +12,20 @@ use Rattle.uri_parts.specs.Components.{Components, starts, IsAbemptyPath}
 use Rattle.uri_parts.specs.Grammar.{Kind, is_authority}
 use Rattle.uri_parts.proofs.Splitting.Recompose.{components_of_parts}
 use Rattle.uri_ops.specs.Dots.{is_empty, directory}
-use Rattle.uri_ops.specs.Target.{is_opaque, is_fragment_only, is_opaque_rejection, dotted_target}
-use Rattle.uri_ops.specs.Target.{dotless_if_absolute, guarded}
+use Rattle.uri_ops.specs.Target.{is_opaque, is_fragment_only, is_opaque_rejection, dotted_target, dotless_if_absolute, guarded}
 use Rattle.uri_ops.specs.ComponentSets.{IsComponentSet, HasComponentSets}
 use Rattle.uri_parts.specs.Ports.{PortFunction}
 use Rattle.uri_ops.specs.Meaning.{Meaning, authority_meaning, components_meaning}
 use Rattle.uri_ops.specs.Normal.{normal_authority, normal_components}
 use Rattle.uri_ops.specs.NormalTargets.{reference_kind}
 use Rattle.uri_pct.proofs.UnreservedDecoding.Printing.{print_decoded}
-use Rattle.uri_ops.proofs.Meanings.AllowedParts.{is_set_text}
-use Rattle.uri_ops.proofs.Meanings.AllowedParts.{print_decoded-of-nil-is-nil}
-use Rattle.uri_ops.proofs.Meanings.AllowedParts.{decode_unreserved-is-idempotent}
-use Rattle.uri_ops.proofs.Paths.DecodedStarts.{decoding-keeps-emptiness}
-use Rattle.uri_ops.proofs.Paths.DecodedStarts.{decoding-keeps-leading-slash}
-use Rattle.uri_ops.proofs.Paths.PathMeanings.{two-slashes-begin-with-slash}
-use Rattle.uri_ops.proofs.Paths.PathMeanings.{removing-dots-keeps-leading-slash}
-use Rattle.uri_ops.proofs.Paths.PathMeanings.{dotless_if_absolute-is-idempotent}
-use Rattle.uri_ops.proofs.Paths.PathMeanings.{guard-is-removed-as-dot-segment}
-use Rattle.uri_ops.proofs.Paths.PathMeanings.{path-without-dots-is-set-text}
-use Rattle.uri_ops.proofs.Paths.PathMeanings.{dotless_if_absolute-and-decoding-swap}
+use Rattle.uri_ops.proofs.Meanings.AllowedParts.{is_set_text, print_decoded-of-nil-is-nil, decode_unreserved-is-idempotent}
+use Rattle.uri_ops.proofs.Paths.DecodedStarts.{decoding-keeps-emptiness, decoding-keeps-leading-slash}
+use Rattle.uri_ops.proofs.Paths.PathMeanings.{two-slashes-begin-with-slash, removing-dots-keeps-leading-slash, dotless_if_absolute-is-idempotent, guard-is-removed-as-dot-segment, path-without-dots-is-set-text, dotless_if_absolute-and-decoding-swap}
 use Rattle.uri_ops.proofs.Meanings.PortMeanings.{with_default, bare-authority-meaning-with_default}
 use Rattle.uri_ops.proofs.Meanings.TextParts.{ArePartsOfKind}
 use Rattle.uri_ops.proofs.Meanings.AsciiCharacters.{lowering-is-idempotent}
-use Rattle.uri_ops.proofs.Normal.NormalComponents.{normal-component-decodes-as-component}
-use Rattle.uri_ops.proofs.Normal.NormalComponents.{normal-components-have-same-meaning}
+use Rattle.uri_ops.proofs.Normal.NormalComponents.{normal-component-decodes-as-component, normal-components-have-same-meaning}
 use Rattle.uri_ops.proofs.Meanings.AuthorityMeanings.{normal-authorities-are-authorities}
 use Rattle.uri_ops.proofs.Paths.MergedPaths.{merged-normal-paths-decode-as-merged}
 use Rattle.uri_pct.proofs.General.{is_none-option_map}

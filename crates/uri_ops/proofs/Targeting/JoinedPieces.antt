@@ -1,19 +1,15 @@
 -- What a target has of a base and a reference (section 5.2.2), by what the reference has.
-use Rattle.std.proofs.Common.{◌≡◌, ℕ, ◌+◌, true, false, List, [], ◌∷◌, ◌++◌, length, refl, sym, ap}
-use Rattle.std.proofs.Common.{◌∙◌, arith, ◌&&◌, append_assoc, length-append, option_map}
+use Rattle.std.proofs.Common.{◌≡◌, ℕ, ◌+◌, true, false, List, [], ◌∷◌, ◌++◌, length, refl, sym, ap, ◌∙◌, arith, ◌&&◌, append_assoc, length-append, option_map}
 use Rattle.std.specs.Prelude.{codes, Option, Some, None, is_some, ◌==◌}
 use Rattle.std.proofs.lemmas.Bool.{cond-true, false≢true, ne_eqb}
 use Rattle.std.proofs.lemmas.Bool.Decides.{nat_tests}
-use Rattle.uri_parts.specs.Components.{Components, IsAbemptyPath, components, marked, recompose}
-use Rattle.uri_parts.specs.Components.{starts}
+use Rattle.uri_parts.specs.Components.{Components, IsAbemptyPath, components, marked, recompose, starts}
 use Rattle.uri_parts.proofs.Splitting.Recompose.{components-are-split-of-text}
 use Rattle.uri_ops.specs.Models.Places.{before_path}
 use Rattle.uri_ops.specs.Dots.{directory, is_empty, remove_dot_segments, underflows}
-use Rattle.uri_ops.specs.Target.{dotless_if_absolute, underflows_if_absolute, is_opaque_rejection}
-use Rattle.uri_ops.specs.Target.{dotted_target, merged}
+use Rattle.uri_ops.specs.Target.{dotless_if_absolute, underflows_if_absolute, is_opaque_rejection, dotted_target, merged}
 use Rattle.uri_ops.proofs.Paths.DotLaws.{directory-is-absolute}
-use Rattle.uri_ops.proofs.Targeting.Swaps.{merging-base-is-not-opaque}
-use Rattle.uri_ops.proofs.Targeting.Swaps.{base-that-is-not-opaque-has-abempty-path}
+use Rattle.uri_ops.proofs.Targeting.Swaps.{merging-base-is-not-opaque, base-that-is-not-opaque-has-abempty-path}
 use Rattle.uri_ops.proofs.Targeting.Targets.{appended-absolute-path-is-absolute}
 use Rattle.uri_pct.proofs.General.{eq_true_from_IsTrue, not_some_is_none}
 

@@ -9,15 +9,11 @@ use Rattle.uri_parts.specs.Components.{Components, components}
 use Rattle.uri_parts.specs.Grammar.{Kind, IsTextOf}
 use Rattle.uri_ops.specs.ComponentSets.{HasComponentSets}
 use Rattle.uri_ops.specs.Meaning.{meaning_of}
-use Rattle.uri_ops.specs.NormalTargets.{HasMeaningOf, HasTargetMeaning, IsErrorUnderSetting}
-use Rattle.uri_ops.specs.NormalTargets.{IsNormalFormOfTarget, IsTargetOfMeanings, IsErrorOfMeanings}
-use Rattle.uri_ops.specs.NormalTargets.{IsNormalTarget, IsNormalTargetError, reference_kind}
-use Rattle.uri_ops.specs.NormalTargets.{resolved_meaning}
+use Rattle.uri_ops.specs.NormalTargets.{HasMeaningOf, HasTargetMeaning, IsErrorUnderSetting, IsNormalFormOfTarget, IsTargetOfMeanings, IsErrorOfMeanings, IsNormalTarget, IsNormalTargetError, reference_kind, resolved_meaning}
 use Rattle.uri_ops.specs.Normalizers.{IsNormalForm}
 use Rattle.uri_parts.specs.Ports.{PortFunction}
 use Rattle.uri_ops.specs.Resolving.{IsTarget, IsErrorFor, IsErrorWithUnderflowAllowed}
-use Rattle.uri_ops.specs.Target.{TargetError, BaseWithFragment, InvalidReferenceAgainstOpaqueBase}
-use Rattle.uri_ops.specs.Target.{resolution_of, resolution_of_texts}
+use Rattle.uri_ops.specs.Target.{TargetError, BaseWithFragment, InvalidReferenceAgainstOpaqueBase, resolution_of, resolution_of_texts}
 use Rattle.uri_ops.specs.declared.resolve.error.ResolveError.{ResolveError}
 use Rattle.uri_ops.proofs.Targeting.Swaps.{resolving-respects-meaning}
 use Rattle.uri_ops.specs.declared.resolve.error.ResolveError.TheVariants as Of

@@ -4,17 +4,13 @@ use Rattle.std.specs.Prelude.{IfErr, IfOk, Ok, Result}
 use Rattle.std.proofs.lemmas.Result.{IfErr-weaker, IfOk-weaker}
 use Rattle.std.specs.Str.{IsUtf8}
 use Rattle.uri_parts.specs.Components.{Components, components}
-use Rattle.uri_parts.specs.Grammar.{Kind, IsOfKind}
+use Rattle.uri_parts.specs.Grammar.{Kind, IsOfKind, IsTextOf}
 use Rattle.uri_ops.specs.ComponentSets.{HasComponentSets}
-use Rattle.uri_ops.specs.NormalTargets.{reference_kind}
-use Rattle.uri_ops.specs.Resolving.{IsTargetOfEncoded, IsErrorForEncoded}
-use Rattle.uri_ops.specs.NormalTargets.{IsTargetOfMeanings, IsErrorOfMeanings}
+use Rattle.uri_ops.specs.NormalTargets.{reference_kind, IsTargetOfMeanings, IsErrorOfMeanings}
+use Rattle.uri_ops.specs.Resolving.{IsTargetOfEncoded, IsErrorForEncoded, IsTarget, IsErrorFor}
 use Rattle.uri_ops.specs.Resolved.{IsResolved}
-use Rattle.uri_ops.specs.Resolving.{IsTarget, IsErrorFor}
-use Rattle.uri_parts.specs.Grammar.{IsTextOf}
 use Rattle.uri_ops.specs.declared.resolve.error.ResolveError.{ResolveError}
-use Rattle.uri_ops.proofs.AsciiForms.EncodedTargets.{target-is-target-of-encoded}
-use Rattle.uri_ops.proofs.AsciiForms.EncodedTargets.{error-is-error-for-encoded}
+use Rattle.uri_ops.proofs.AsciiForms.EncodedTargets.{target-is-target-of-encoded, error-is-error-for-encoded}
 use Rattle.uri_ops.proofs.Targeting.NormalTargets.{target-respects-meaning, error-respects-meaning}
 use Rattle.uri_ops.proofs.Targeting.TargetTexts.{target-is-of-kind-of-base}
 

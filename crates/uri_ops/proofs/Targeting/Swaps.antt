@@ -1,19 +1,15 @@
 -- What a reference resolves to, against a base, is a function of the meanings of both.
-use Rattle.std.proofs.Common.{◌≡◌, ℕ, true, false, not, List, sym, ap, ◌∙◌, ◌&&◌, inr}
-use Rattle.std.proofs.Common.{option_map, arith}
+use Rattle.std.proofs.Common.{◌≡◌, ℕ, true, false, not, List, sym, ap, ◌∙◌, ◌&&◌, inr, option_map, arith}
 use Rattle.std.specs.Prelude.{codes, Option, Some, None, IfSome, Result, is_some, is_none}
 use Rattle.std.proofs.lemmas.Bool.{and_cases, cond_both, not-false}
 use Rattle.std.proofs.lemmas.Bool.Decides.{nat_tests}
 use Rattle.uri_pct.specs.Tokens.{print}
 use Rattle.uri_pct.specs.DecodeUnreserved.{decode_unreserved}
-use Rattle.uri_parts.specs.Components.{Components, Lacks, starts, IsAbemptyPath, components}
-use Rattle.uri_parts.specs.Components.{recompose}
+use Rattle.uri_parts.specs.Components.{Components, Lacks, starts, IsAbemptyPath, components, recompose}
 use Rattle.uri_parts.specs.Grammar.{Kind, IsTextOf}
-use Rattle.uri_parts.proofs.Splitting.Recompose.{components-are-split-of-text}
-use Rattle.uri_parts.proofs.Splitting.Recompose.{equal-to-true-is-IsTrue}
+use Rattle.uri_parts.proofs.Splitting.Recompose.{components-are-split-of-text, equal-to-true-is-IsTrue, components_of_parts}
 use Rattle.uri_ops.specs.Dots.{is_empty}
-use Rattle.uri_ops.specs.Target.{TargetError, is_opaque, is_opaque_rejection, dotted_target}
-use Rattle.uri_ops.specs.Target.{target_of}
+use Rattle.uri_ops.specs.Target.{TargetError, is_opaque, is_opaque_rejection, dotted_target, target_of}
 use Rattle.uri_ops.specs.ComponentSets.{HasComponentSets}
 use Rattle.uri_parts.specs.Ports.{PortFunction}
 use Rattle.uri_ops.specs.Meaning.{Meaning, components_meaning, meaning_of}
@@ -21,16 +17,9 @@ use Rattle.uri_ops.specs.Normal.{normal_text, normal_components}
 use Rattle.uri_ops.specs.NormalTargets.{reference_kind, resolved_meaning}
 use Rattle.uri_ops.proofs.Targeting.Targets.{target-text-has-target-components}
 use Rattle.uri_ops.proofs.Meanings.TextParts.{ArePartsOfKind}
-use Rattle.uri_ops.proofs.Normal.NormalTexts.{text-has-parts-of-kind, normal-text-is-text-of-kind}
-use Rattle.uri_ops.proofs.Normal.NormalTexts.{meaning_of-normal_text}
-use Rattle.uri_parts.proofs.Splitting.Recompose.{components_of_parts}
-use Rattle.uri_ops.proofs.Targeting.JoinedMeanings.{with_scheme}
-use Rattle.uri_ops.proofs.Targeting.JoinedMeanings.{reference-kind-has-component-sets}
-use Rattle.uri_ops.proofs.Targeting.JoinedMeanings.{target-path-has-meaning-of-joined}
-use Rattle.uri_ops.proofs.Targeting.JoinedMeanings.{joined-normal-components-have-same-meaning}
-use Rattle.uri_ops.proofs.Targeting.JoinedMeanings.{normal-components-are-rejected-alike}
-use Rattle.uri_ops.proofs.Targeting.RefusalOrder.{result_or_target_error, map-of-result_or_error}
-use Rattle.uri_ops.proofs.Targeting.RefusalOrder.{rejected-results-are-equal}
+use Rattle.uri_ops.proofs.Normal.NormalTexts.{text-has-parts-of-kind, normal-text-is-text-of-kind, meaning_of-normal_text}
+use Rattle.uri_ops.proofs.Targeting.JoinedMeanings.{with_scheme, reference-kind-has-component-sets, target-path-has-meaning-of-joined, joined-normal-components-have-same-meaning, normal-components-are-rejected-alike}
+use Rattle.uri_ops.proofs.Targeting.RefusalOrder.{result_or_target_error, map-of-result_or_error, rejected-results-are-equal}
 use Rattle.uri_pct.proofs.General.{is_some-option_map, none-is-not-some}
 use Rattle.uri_parts.proofs.TextKinds.KindSets.{with_scheme as scheme_where_needed}
 

@@ -1,6 +1,5 @@
 -- Which case of the pseudocode a reference is, and the pieces of a target in each case.
-use Rattle.std.proofs.Common.{◌≡◌, ℕ, ◌+◌, true, false, List, [], ◌++◌, length, sym, ap, ◌∙◌}
-use Rattle.std.proofs.Common.{option_map, arith}
+use Rattle.std.proofs.Common.{◌≡◌, ℕ, ◌+◌, true, false, List, [], ◌++◌, length, sym, ap, ◌∙◌, option_map, arith}
 use Rattle.std.specs.Prelude.{codes, Option, is_some}
 use Rattle.std.proofs.lemmas.Bool.{cond-true, cond-false}
 use Rattle.std.proofs.lemmas.Bool.Decides.{nat_tests}
@@ -8,11 +7,7 @@ use Rattle.uri_parts.specs.declared.positions.AuthorityPositions.{AuthorityPosit
 use Rattle.uri_parts.specs.Components.{Components, components, marked, recompose}
 use Rattle.uri_parts.specs.Positions.{authority_at, positions_of}
 use Rattle.uri_ops.specs.declared.resolve.target_case.TargetCase.{TargetCase}
-use Rattle.uri_ops.specs.declared.resolve.target_case.TargetCase.TheVariants.{WithScheme}
-use Rattle.uri_ops.specs.declared.resolve.target_case.TargetCase.TheVariants.{WithAuthority}
-use Rattle.uri_ops.specs.declared.resolve.target_case.TargetCase.TheVariants.{EmptyPath}
-use Rattle.uri_ops.specs.declared.resolve.target_case.TargetCase.TheVariants.{AbsolutePath}
-use Rattle.uri_ops.specs.declared.resolve.target_case.TargetCase.TheVariants.{MergedPath}
+use Rattle.uri_ops.specs.declared.resolve.target_case.TargetCase.TheVariants.{WithScheme, WithAuthority, EmptyPath, AbsolutePath, MergedPath}
 use Rattle.uri_ops.specs.Models.Places.{before_path}
 use Rattle.uri_ops.specs.Models.TargetCases.{IsCaseOf, target_in_case, with_authority}
 use Rattle.uri_ops.specs.Resolving.{with_final_path}

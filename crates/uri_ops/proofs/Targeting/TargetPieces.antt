@@ -1,7 +1,5 @@
 -- Targets that are a prefix of the base and a suffix of the reference.
-use Rattle.std.proofs.Common.{◌≡◌, ℕ, ◌+◌, true, false, Bool, List, [], ◌++◌, length, take, drop}
-use Rattle.std.proofs.Common.{ap, inr, subst, sym, ◌∙◌, ◌&&◌, ◌||◌, append_assoc, arith}
-use Rattle.std.proofs.Common.{length-append}
+use Rattle.std.proofs.Common.{◌≡◌, ℕ, ◌+◌, true, false, Bool, List, [], ◌++◌, length, take, drop, ap, inr, subst, sym, ◌∙◌, ◌&&◌, ◌||◌, append_assoc, arith, length-append}
 use Rattle.std.specs.Prelude.{codes, Option, None, Ok, is_some}
 use Rattle.std.proofs.lemmas.Bool.{cond-false, cond-true}
 use Rattle.std.proofs.lemmas.List.{append-nil}
@@ -11,32 +9,25 @@ use Rattle.uri_parts.specs.Components.{Components, components, marked, recompose
 use Rattle.uri_parts.specs.PackedPositions.{ArePackedPositionsOf, packed}
 use Rattle.uri_parts.specs.Positions.{before_fragment, positions_of}
 use Rattle.uri_parts.proofs.Splitting.Places.{length-before_hash}
-use Rattle.uri_ops.specs.Dots.{EndsInSlash, IsAbsolute, directory, has_slash, is_double_dot}
-use Rattle.uri_ops.specs.Dots.{is_empty}
-use Rattle.uri_ops.specs.Dots.{lacks_dot_segments, remove_dot_segments, underflows}
+use Rattle.uri_ops.specs.Dots.{EndsInSlash, IsAbsolute, directory, has_slash, is_double_dot, is_empty, lacks_dot_segments, remove_dot_segments, underflows}
 use Rattle.uri_ops.specs.Models.Directories.{IsDotlessDirectory, RemovalState}
 use Rattle.uri_ops.specs.Models.Places.{IsSlashOrStart, before_path}
 use Rattle.uri_ops.specs.Models.TargetCases.{IsCaseOf}
-use Rattle.uri_ops.specs.Models.TargetPieces.{ArePiecesOfTarget, HasJoinedPath}
+use Rattle.uri_ops.specs.Models.TargetPieces.{ArePiecesOfTarget, HasJoinedPath, IsDirectoryOfBase}
 use Rattle.uri_ops.specs.declared.resolve.target_case.TargetCase.TheVariants.{AbsolutePath}
-use Rattle.uri_ops.specs.Models.TargetPieces.{IsDirectoryOfBase}
 use Rattle.uri_ops.specs.Resolving.{IsTarget, with_final_path}
-use Rattle.uri_ops.specs.Target.{dotless_if_absolute, underflows_if_absolute, guarded}
-use Rattle.uri_ops.specs.Target.{is_opaque_rejection, dotted_target, merged, query_or}
-use Rattle.uri_ops.specs.Target.{resolution_of}
+use Rattle.uri_ops.specs.Target.{dotless_if_absolute, underflows_if_absolute, guarded, is_opaque_rejection, dotted_target, merged, query_or, resolution_of}
 use Rattle.uri_ops.specs.declared.resolve.target_pieces.TargetPieces.{TargetPieces}
 use Rattle.uri_ops.proofs.Normal.WrittenPlaces.{length-before_path-is-path_start}
 use Rattle.uri_ops.proofs.Paths.ClimbedDirectories.{first-bytes-are-prefix}
-use Rattle.uri_ops.proofs.Paths.DotLaws.{directory-is-absolute, directory-ends-in-slash}
-use Rattle.uri_ops.proofs.Paths.DotLaws.{remove-dots-of-dotless, dotless-path-does-not-underflow}
+use Rattle.uri_ops.proofs.Paths.DotLaws.{directory-is-absolute, directory-ends-in-slash, remove-dots-of-dotless, dotless-path-does-not-underflow}
 use Rattle.uri_ops.proofs.Paths.LastSlashes.{prefix-with-last-slash-is-directory}
 use Rattle.uri_ops.proofs.Paths.LeftPaths.{dotless-path-after-directory-is-dotless}
 use Rattle.uri_ops.proofs.Paths.GuardedPaths.{path-after-authority-needs-no-guard}
 use Rattle.uri_ops.proofs.Targeting.JoinedPieces.{joined-with-relative-path}
 use Rattle.uri_ops.proofs.Targeting.TargetCases.{case-gives-line}
 use Rattle.uri_parts.proofs.Splitting.Recompose.{equal-to-true-is-IsTrue}
-use Rattle.uri_ops.proofs.Targeting.Targets.{appended-absolute-path-is-absolute}
-use Rattle.uri_ops.proofs.Targeting.Targets.{target-text-has-target-components}
+use Rattle.uri_ops.proofs.Targeting.Targets.{appended-absolute-path-is-absolute, target-text-has-target-components}
 use Rattle.uri_pct.proofs.General.{eq_true_from_IsTrue, some_is_not_none, None-from-not-is_some}
 use Rattle.uri_ops.proofs.Paths.DotRuns.{empty-text-is-nil}
 

@@ -4,8 +4,7 @@ use Rattle.std.specs.Prelude.{codes}
 use Rattle.std.proofs.lemmas.Bool.Decides.{nat_tests}
 use Rattle.uri_parts.specs.Components.{components}
 use Rattle.uri_ops.specs.Dots.{remove_dot_segments, underflows, directory, run}
-use Rattle.uri_ops.specs.Target.{TargetError, BaseWithFragment, InvalidReferenceAgainstOpaqueBase}
-use Rattle.uri_ops.specs.Target.{resolution_of, target_underflows}
+use Rattle.uri_ops.specs.Target.{TargetError, BaseWithFragment, InvalidReferenceAgainstOpaqueBase, resolution_of, target_underflows}
 
 -- examples of targets: base and reference resolve to the target, without an underflow
 ResolvesTo : List ℕ → List ℕ → List ℕ → Type 0

@@ -8,23 +8,17 @@ use Rattle.uri_parts.specs.Components.{Components, IsAbemptyPath, components, re
 use Rattle.uri_parts.specs.Grammar.{Kind, is_scheme, is_authority, components_meet_rules, IsTextOf}
 use Rattle.uri_parts.proofs.Splitting.Recompose.{components-are-split-of-text}
 use Rattle.uri_ops.specs.Dots.{is_empty}
-use Rattle.uri_ops.specs.Target.{is_opaque_rejection, dotted_target, dotless_if_absolute, guarded}
-use Rattle.uri_ops.specs.Target.{target_of, resolution_of}
+use Rattle.uri_ops.specs.Target.{is_opaque_rejection, dotted_target, dotless_if_absolute, guarded, target_of, resolution_of}
 use Rattle.uri_ops.specs.ComponentSets.{HasComponentSets}
 use Rattle.uri_ops.specs.NormalTargets.{reference_kind}
 use Rattle.uri_ops.proofs.Meanings.AllowedParts.{is_set_text}
-use Rattle.uri_ops.proofs.Paths.PathMeanings.{guarded-set-text-is-set-text}
-use Rattle.uri_ops.proofs.Paths.PathMeanings.{path-without-dots-is-set-text}
+use Rattle.uri_ops.proofs.Paths.PathMeanings.{guarded-set-text-is-set-text, path-without-dots-is-set-text}
 use Rattle.uri_ops.proofs.Paths.MergedPaths.{merged-set-text-is-set-text}
 use Rattle.uri_ops.proofs.Targeting.Targets.{target-text-has-target-components}
 use Rattle.uri_ops.proofs.Meanings.TextParts.{ArePartsOfKind, components-of-kind-meet-grammar}
-use Rattle.uri_ops.proofs.Normal.NormalTexts.{recomposed-components-are-utf8}
-use Rattle.uri_ops.proofs.Normal.NormalTexts.{text-has-parts-of-kind}
-use Rattle.uri_ops.proofs.Targeting.Swaps.{text-of-kind-has-needed-scheme}
-use Rattle.uri_ops.proofs.Targeting.Swaps.{merging-base-is-not-opaque}
-use Rattle.uri_ops.proofs.Targeting.Swaps.{base-that-is-not-opaque-has-abempty-path}
-use Rattle.uri_ops.proofs.Targeting.RefusalOrder.{result_or_target_error}
-use Rattle.uri_ops.proofs.Targeting.RefusalOrder.{ok-result-has-no-opaque-rejection}
+use Rattle.uri_ops.proofs.Normal.NormalTexts.{recomposed-components-are-utf8, text-has-parts-of-kind}
+use Rattle.uri_ops.proofs.Targeting.Swaps.{text-of-kind-has-needed-scheme, merging-base-is-not-opaque, base-that-is-not-opaque-has-abempty-path}
+use Rattle.uri_ops.proofs.Targeting.RefusalOrder.{result_or_target_error, ok-result-has-no-opaque-rejection}
 use Rattle.uri_pct.proofs.General.{not_some_is_none}
 
 module _ (kind : Kind) (sets : HasComponentSets kind) where

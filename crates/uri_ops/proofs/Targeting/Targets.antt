@@ -1,23 +1,17 @@
 -- The text of a target has the components that were put into it.
-use Rattle.std.proofs.Common.{◌≡◌, ℕ, ◌<◌, true, false, cond, List, [], ◌∷◌, ◌++◌, length, refl}
-use Rattle.std.proofs.Common.{sym, ap, ◌∙◌, ◌&&◌, ◌||◌, inr, ⊎_elim, rules, arith}
+use Rattle.std.proofs.Common.{◌≡◌, ℕ, ◌<◌, true, false, cond, List, [], ◌∷◌, ◌++◌, length, refl, sym, ap, ◌∙◌, ◌&&◌, ◌||◌, inr, ⊎_elim, rules, arith}
 use Rattle.std.specs.Prelude.{codes, Option, Some, None, IfSome, IfNone, is_some, is_none}
 use Rattle.std.proofs.lemmas.Bool.{cond_both, and_parts, cases_Bool, false≢true, false_from_ne_true}
 use Rattle.std.proofs.lemmas.List.Elements.{All-append}
 use Rattle.std.proofs.lemmas.Bool.Decides.{nat_tests}
 use Rattle.uri_pct.specs.Sets.{is_one_of}
-use Rattle.uri_parts.specs.Components.{Components, IsSplitOf, Lacks, IsAbemptyPath, marked, starts}
-use Rattle.uri_parts.specs.Components.{has_authority, components, recompose}
+use Rattle.uri_parts.specs.Components.{Components, IsSplitOf, Lacks, IsAbemptyPath, marked, starts, has_authority, components, recompose}
 use Rattle.uri_parts.proofs.Splitting.Splits.{only-split-is-components}
-use Rattle.uri_parts.proofs.Splitting.Recompose.{components-are-split-of-text, recompose-components}
-use Rattle.uri_parts.proofs.Splitting.Recompose.{equal-to-true-is-IsTrue}
+use Rattle.uri_parts.proofs.Splitting.Recompose.{components-are-split-of-text, recompose-components, equal-to-true-is-IsTrue}
 use Rattle.uri_ops.specs.Dots.{is_empty, remove_dot_segments, directory, IsAbsolute}
-use Rattle.uri_ops.specs.Target.{is_fragment_only, merged, dotted_target, dotless_if_absolute}
-use Rattle.uri_ops.specs.Target.{guarded, target_of}
+use Rattle.uri_ops.specs.Target.{is_fragment_only, merged, dotted_target, dotless_if_absolute, guarded, target_of}
 use Rattle.uri_ops.proofs.Paths.DotLaws.{removing-dots-keeps-absolute, directory-is-absolute}
-use Rattle.uri_ops.proofs.Paths.PathCharacters.{test-of-delimiters-gives-lacks}
-use Rattle.uri_ops.proofs.Paths.PathCharacters.{removing-dots-adds-no-character}
-use Rattle.uri_ops.proofs.Paths.PathCharacters.{directory-adds-no-character}
+use Rattle.uri_ops.proofs.Paths.PathCharacters.{test-of-delimiters-gives-lacks, removing-dots-adds-no-character, directory-adds-no-character}
 use Rattle.uri_pct.proofs.General.{None-from-is_none}
 use Rattle.uri_ops.proofs.Paths.DotRuns.{empty-text-is-nil}
 

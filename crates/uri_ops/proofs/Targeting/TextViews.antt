@@ -1,7 +1,5 @@
 -- The substrings of a text between the positions of its components.
-use Rattle.std.proofs.Common.{◌≡◌, ℕ, ◌+◌, ◌-◌, ◌≤◌, true, List, [], ◌∷◌, ◌++◌, length, take, drop}
-use Rattle.std.proofs.Common.{refl}
-use Rattle.std.proofs.Common.{sym, ap, subst, ◌∙◌, arith, append_assoc, length-append, option_map}
+use Rattle.std.proofs.Common.{◌≡◌, ℕ, ◌+◌, ◌-◌, ◌≤◌, true, List, [], ◌∷◌, ◌++◌, length, take, drop, refl, sym, ap, subst, ◌∙◌, arith, append_assoc, length-append, option_map}
 use Rattle.std.specs.Prelude.{codes, Option, Some, None, IfSome, slice_range}
 use Rattle.std.specs.Str.{IsUtf8, IsCharBoundary}
 use Rattle.std.proofs.Math.Seq.{drop-append_seam, take-append_seam}
@@ -12,25 +10,19 @@ use Rattle.uri_parts.specs.declared.positions.AuthorityPositions.{AuthorityPosit
 use Rattle.uri_parts.specs.declared.positions.Positions.{Positions}
 use Rattle.uri_parts.specs.Components.{components, marked}
 use Rattle.uri_parts.specs.Grammar.{Kind, is_authority, IsTextOf}
-use Rattle.uri_parts.specs.Positions.{ArePositionsOf, authority_at, before_fragment, host_end_of}
-use Rattle.uri_parts.specs.Positions.{delimited_length}
+use Rattle.uri_parts.specs.Positions.{ArePositionsOf, authority_at, before_fragment, host_end_of, delimited_length}
 use Rattle.uri_parts.proofs.Authorities.AuthorityPlaces.{host_is_at_positions}
 use Rattle.uri_parts.proofs.Splitting.Fragments.{slice_range-from-start, boundary-at-fragment-mark}
 use Rattle.uri_parts.proofs.Splitting.Marks.{fragment_text}
-use Rattle.uri_parts.proofs.Splitting.Places.{boundary_after_mark, before_hash}
-use Rattle.uri_parts.proofs.Splitting.Places.{split-text-is-before-fragment-and-fragment}
-use Rattle.uri_parts.proofs.Splitting.Places.{length-before_hash, slice-between-prefix-and-suffix}
+use Rattle.uri_parts.proofs.Splitting.Places.{boundary_after_mark, before_hash, split-text-is-before-fragment-and-fragment, length-before_hash, slice-between-prefix-and-suffix}
 use Rattle.uri_parts.proofs.Splitting.ComponentPositions.{path_is_at_positions}
 use Rattle.uri_parts.proofs.Splitting.Recompose.{components-are-split-of-text, recompose-components}
 use Rattle.uri_ops.specs.Dots.{IsAbsolute}
 use Rattle.uri_ops.specs.Models.Directories.{EndsIn}
 use Rattle.uri_ops.specs.Models.Places.{IsSlashOrStart, before_path}
 use Rattle.uri_ops.proofs.Normal.NormalTexts.{text-has-parts-of-kind}
-use Rattle.uri_ops.proofs.Normal.WrittenPlaces.{length-with-delimiter-before}
-use Rattle.uri_ops.proofs.Normal.WrittenPlaces.{length-before_path-is-path_start}
-use Rattle.uri_ops.proofs.Normal.WrittenPlaces.{length-with-delimiter-after}
-use Rattle.uri_ops.proofs.Paths.LastSlashes.{cut, slash-position-is-prefix-length}
-use Rattle.uri_ops.proofs.Paths.LastSlashes.{prefix-through-slash-ends-in-slash}
+use Rattle.uri_ops.proofs.Normal.WrittenPlaces.{length-with-delimiter-before, length-before_path-is-path_start, length-with-delimiter-after}
+use Rattle.uri_ops.proofs.Paths.LastSlashes.{cut, slash-position-is-prefix-length, prefix-through-slash-ends-in-slash}
 
 -- positions in a target: a host ends within its authority
 pub host-ends-within-authority : (kind : Kind) (text : List ℕ) → IsTextOf kind text → (a : List ℕ)

@@ -1,27 +1,22 @@
 -- When a text of one kind is one of another.
-use Rattle.std.proofs.Common.{◌≡◌, ℕ, ◌+◌, ◌≤◌, Bool, true, false, not, ltb, List, [], ◌∷◌, length}
-use Rattle.std.proofs.Common.{refl, sym, ap, ◌∙◌, ◌||◌, ⊎_elim, arith, option_map}
+use Rattle.std.proofs.Common.{◌≡◌, ℕ, ◌+◌, ◌≤◌, Bool, true, false, not, ltb, List, [], ◌∷◌, length, refl, sym, ap, ◌∙◌, ◌||◌, ⊎_elim, arith, option_map}
 use Rattle.std.specs.Prelude.{◌↔◌, Option, Some, None, is_some}
 use Rattle.std.specs.List.{list_all, position, prefix_len}
 use Rattle.std.specs.Option.{option_or}
 use Rattle.std.specs.Str.{IsUtf8}
-use Rattle.std.proofs.lemmas.Bool.{cases_Bool, cases_lt, cond-true, cond-false, and_parts, and_from}
-use Rattle.std.proofs.lemmas.Bool.{lt-ltb, le-ltb, false≢true}
+use Rattle.std.proofs.lemmas.Bool.{cases_Bool, cases_lt, cond-true, cond-false, and_parts, and_from, lt-ltb, le-ltb, false≢true}
 use Rattle.uri_parts.specs.Components.{components}
-use Rattle.uri_parts.specs.Grammar.{Kind, IsOfKind, components_meet_rules, iri, iri_ref, uri}
-use Rattle.uri_parts.specs.Grammar.{uri_ref}
+use Rattle.uri_parts.specs.Grammar.{Kind, IsOfKind, components_meet_rules, iri, iri_ref, uri, uri_ref}
 use Rattle.uri_parts.proofs.TextKinds.KindSets.{uri_has_scheme, uri_is_uri_ref, iri_has_scheme}
 use Rattle.uri_ops.specs.declared.convert.ConvertError.{ConvertError}
 use Rattle.uri_ops.specs.declared.convert.ConvertError.TheVariants.{NoScheme, NotAscii}
 use Rattle.uri_ops.specs.ComponentSets.{HasComponentSets}
-use Rattle.uri_ops.specs.Conversions.{is_past_ascii, first_past_ascii, missing_scheme_error}
-use Rattle.uri_ops.specs.Conversions.{not_ascii_error, uri_conversion_error}
+use Rattle.uri_ops.specs.Conversions.{is_past_ascii, first_past_ascii, missing_scheme_error, not_ascii_error, uri_conversion_error}
 use Rattle.uri_ops.specs.Encoded.{encode_past_ascii, ascii_kind, AreEquivalent}
 use Rattle.uri_ops.specs.Meaning.{bare_meaning_of, meaning_of}
 use Rattle.uri_parts.specs.Ports.{PortFunction, no_defaults}
 use Rattle.uri_ops.proofs.AsciiForms.AsciiTexts.{texts-of-ascii-kinds-are-ascii}
-use Rattle.uri_ops.proofs.AsciiForms.EncodedMeanings.{encoded-text-is-of-ascii_kind}
-use Rattle.uri_ops.proofs.AsciiForms.EncodedMeanings.{encoding-keeps-meaning_of-text}
+use Rattle.uri_ops.proofs.AsciiForms.EncodedMeanings.{encoded-text-is-of-ascii_kind, encoding-keeps-meaning_of-text}
 use Rattle.uri_ops.proofs.AsciiForms.EncodedPaths.{ascii-text-is-its-own-encoding}
 use Rattle.uri_ops.proofs.TextKinds.FourKinds.{iri-has-component-sets, iri_ref-has-component-sets}
 use Rattle.uri_ops.proofs.TextKinds.WiderKinds.{text-is-of-wider-kind, ascii_kind-is-within-kind}

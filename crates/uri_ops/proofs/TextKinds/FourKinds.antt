@@ -3,8 +3,7 @@ use Rattle.std.proofs.Common.{◌≡◌, ℕ, Bool, true, false, List, refl, sym
 use Rattle.std.specs.Prelude.{codes}
 use Rattle.std.specs.List.{list_any}
 use Rattle.std.proofs.lemmas.Bool.{or_left, false≢true}
-use Rattle.uri_pct.specs.Sets.{TableSet, is_unreserved, is_reg_name_char, is_userinfo_char}
-use Rattle.uri_pct.specs.Sets.{is_pchar, is_path_char, is_query_char}
+use Rattle.uri_pct.specs.Sets.{TableSet, is_unreserved, is_reg_name_char, is_userinfo_char, is_pchar, is_path_char, is_query_char}
 use Rattle.uri_parts.specs.Grammar.{Kind, kind_by_flags, uri, uri_ref, iri, iri_ref}
 use Rattle.uri_ops.specs.ComponentSets.{IsComponentSet, HasComponentSets}
 

@@ -1,34 +1,24 @@
 -- The texts that pass the tests of a kind are those of its grammar.
-use Rattle.std.proofs.Common.{◌≡◌, ℕ, Bool, true, false, not, List, refl, sym, ap, subst, ◌∙◌, ◌&&◌}
-use Rattle.std.proofs.Common.{◌||◌, inl, inr, ⊎_elim}
+use Rattle.std.proofs.Common.{◌≡◌, ℕ, Bool, true, false, not, List, refl, sym, ap, subst, ◌∙◌, ◌&&◌, ◌||◌, inl, inr, ⊎_elim}
 use Rattle.std.specs.Prelude.{◌↔◌, ◌⊎◌, is_some}
 use Rattle.std.specs.Str.{IsUtf8}
 use Rattle.std.proofs.lemmas.Bool.{false≢true}
 use Rattle.uri_pct.specs.Sets.{TableSet}
-use Rattle.uri_parts.specs.Authority.{AuthorityParts, IsAuthorityFor, LackAuthorityDelimiters}
-use Rattle.uri_parts.specs.Authority.{authority_parts}
+use Rattle.uri_parts.specs.Authority.{AuthorityParts, IsAuthorityFor, LackAuthorityDelimiters, authority_parts}
 use Rattle.uri_parts.specs.Components.{Components, components}
-use Rattle.uri_parts.specs.Grammar.{Kind, IsOfKind, is_scheme, is_authority}
-use Rattle.uri_parts.specs.Grammar.{has_colon_in_first_segment}
-use Rattle.uri_parts.specs.Grammar.{components_meet_rules, uri, uri_ref, iri, iri_ref}
+use Rattle.uri_parts.specs.Grammar.{Kind, IsOfKind, is_scheme, is_authority, has_colon_in_first_segment, components_meet_rules, uri, uri_ref, iri, iri_ref}
 use Rattle.uri_parts.specs.GrammarInWords.{HasAuthorityParts, FollowsRules, IsInGrammar}
 use Rattle.uri_parts.specs.Hosts.{HostKind, IsHost, host_kind}
-use Rattle.uri_parts.proofs.Authorities.Authority.{is_authority_for-sound}
-use Rattle.uri_parts.proofs.Authorities.Authority.{is_authority_for-complete}
-use Rattle.uri_parts.proofs.Authorities.Authority.{authority_parts-are-unique}
-use Rattle.uri_parts.proofs.Authorities.Authority.{names_exclude_delimiters}
+use Rattle.uri_parts.proofs.Authorities.Authority.{is_authority_for-sound, is_authority_for-complete, authority_parts-are-unique, names_exclude_delimiters}
 use Rattle.uri_parts.proofs.HostForms.Hosts.{is_host-complete}
 use Rattle.uri_parts.proofs.Splitting.Recompose.{components-are-split-of-text}
 use Rattle.uri_parts.proofs.Splitting.Splits.{only-split-is-components}
 use Rattle.uri_ops.specs.ComponentSets.{HasComponentSets}
 use Rattle.uri_ops.proofs.Meanings.AuthorityMeanings.{kind-sets-lack-authority-delimiters}
-use Rattle.uri_ops.proofs.TextKinds.FourKinds.{uri-has-component-sets, uri_ref-has-component-sets}
-use Rattle.uri_ops.proofs.TextKinds.FourKinds.{iri-has-component-sets, iri_ref-has-component-sets}
+use Rattle.uri_ops.proofs.TextKinds.FourKinds.{uri-has-component-sets, uri_ref-has-component-sets, iri-has-component-sets, iri_ref-has-component-sets}
 use Rattle.uri_ops.proofs.Meanings.AllowedParts.{is_set_text, set-text-from-utf8, set-text-is-valid}
 use Rattle.uri_pct.proofs.General.{IfSome-weaken, IfSome-combine}
-use Rattle.uri_ops.proofs.Meanings.TextParts.{ArePartsOfKind, AreUtf8, components-of-utf8-are-utf8}
-use Rattle.uri_ops.proofs.Meanings.TextParts.{grammar-gives-components-of-kind}
-use Rattle.uri_ops.proofs.Meanings.TextParts.{components-of-kind-meet-grammar}
+use Rattle.uri_ops.proofs.Meanings.TextParts.{ArePartsOfKind, AreUtf8, components-of-utf8-are-utf8, grammar-gives-components-of-kind, components-of-kind-meet-grammar}
 
 -- general fact on booleans, for the grammar of the four kinds; s, n, a, c: a scheme is there, is
 -- needed, an authority is there, `:` is in the first segment

@@ -1,30 +1,21 @@
 -- A text of a kind is of each kind with wider sets.
-use Rattle.std.proofs.Common.{◌≡◌, ℕ, Bool, true, false, not, List, [], ◌∷◌, refl, sym, ◌∙◌, ◌&&◌}
-use Rattle.std.proofs.Common.{◌||◌, ⊎_elim}
+use Rattle.std.proofs.Common.{◌≡◌, ℕ, Bool, true, false, not, List, [], ◌∷◌, refl, sym, ◌∙◌, ◌&&◌, ◌||◌, ⊎_elim}
 use Rattle.std.specs.Prelude.{is_some}
 use Rattle.std.specs.List.{list_all}
 use Rattle.std.specs.Str.{IsUtf8}
-use Rattle.std.proofs.lemmas.Bool.{cases_lt, and_parts, and_from, or_cases, or_left, or_right}
-use Rattle.std.proofs.lemmas.Bool.{false≢true}
-use Rattle.uri_pct.specs.Sets.{TableSet, IsSubset, allows, allows_past_ascii, is_ucschar}
-use Rattle.uri_pct.specs.Sets.{is_iprivate}
+use Rattle.std.proofs.lemmas.Bool.{cases_lt, and_parts, and_from, or_cases, or_left, or_right, false≢true}
+use Rattle.uri_pct.specs.Sets.{TableSet, IsSubset, allows, allows_past_ascii, is_ucschar, is_iprivate}
 use Rattle.uri_pct.specs.Tokens.{Token, Char, Octet, tokens, allows_token, is_valid_for, IsValidFor}
-use Rattle.uri_pct.proofs.ValidTexts.Validity.{ascii_char_is_allowed_iff_in_set}
-use Rattle.uri_pct.proofs.ValidTexts.Validity.{char_past_ascii_is_allowed_by_flags}
+use Rattle.uri_pct.proofs.ValidTexts.Validity.{ascii_char_is_allowed_iff_in_set, char_past_ascii_is_allowed_by_flags}
 use Rattle.uri_parts.specs.Components.{components}
-use Rattle.uri_parts.specs.Grammar.{Kind, is_authority, has_colon_in_first_segment}
+use Rattle.uri_parts.specs.Grammar.{Kind, is_authority, has_colon_in_first_segment, IsTextOf}
 use Rattle.uri_parts.specs.Hosts.{HostKind, Ipv4, Ipv6, IpvFuture, RegName, IsHost}
 use Rattle.uri_parts.specs.Authority.{authority_parts}
-use Rattle.uri_parts.proofs.Authorities.Authority.{is_authority_for-sound}
-use Rattle.uri_parts.proofs.Authorities.Authority.{is_authority_for-complete}
+use Rattle.uri_parts.proofs.Authorities.Authority.{is_authority_for-sound, is_authority_for-complete}
 use Rattle.uri_ops.specs.ComponentSets.{HasComponentSets, IsWithin}
 use Rattle.uri_ops.specs.Encoded.{ascii_set, ascii_kind}
-use Rattle.uri_parts.specs.Grammar.{IsTextOf}
-use Rattle.uri_ops.proofs.Meanings.AllowedParts.{is_set_text, set-text-from-utf8, set-text-is-utf8}
-use Rattle.uri_ops.proofs.Meanings.AllowedParts.{set-text-is-valid}
-use Rattle.uri_ops.proofs.Meanings.TextParts.{components-of-utf8-are-utf8}
-use Rattle.uri_ops.proofs.Meanings.TextParts.{grammar-gives-components-of-kind}
-use Rattle.uri_ops.proofs.Meanings.TextParts.{components-of-kind-meet-grammar}
+use Rattle.uri_ops.proofs.Meanings.AllowedParts.{is_set_text, set-text-from-utf8, set-text-is-utf8, set-text-is-valid}
+use Rattle.uri_ops.proofs.Meanings.TextParts.{components-of-utf8-are-utf8, grammar-gives-components-of-kind, components-of-kind-meet-grammar}
 use Rattle.uri_ops.proofs.Meanings.AuthorityMeanings.{kind-sets-lack-authority-delimiters}
 use Rattle.uri_pct.proofs.General.{IfSome-weaken}
 

@@ -1,8 +1,7 @@
 -- What a `Decoding` appends for the parts of a component, one part after the other: RFC 3986,
 -- section 6.2.2.2.
 use Rattle.std.specs.Prelude.{take, drop, length, if◌then◌else◌}
-use Rattle.std.proofs.Common.{◌≡◌, ℕ, Bool, true, false, List, [], ◌++◌, map, refl, sym, ap, ◌∙◌}
-use Rattle.std.proofs.Common.{◌+◌, ◌*◌, ◌≤◌, ◌∷◌, append_assoc, string_bytes}
+use Rattle.std.proofs.Common.{◌≡◌, ℕ, Bool, true, false, List, [], ◌++◌, map, refl, sym, ap, ◌∙◌, ◌+◌, ◌*◌, ◌≤◌, ◌∷◌, append_assoc, string_bytes}
 use Rattle.std.specs.List.{flat_map}
 use Rattle.std.specs.Char.{digit_value, is_ascii_hexdigit, to_ascii_lowercase}
 use Rattle.std.specs.Str.{IsCharBoundary, chars, str_to_ascii_lowercase}

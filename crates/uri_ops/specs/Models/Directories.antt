@@ -1,8 +1,7 @@
 -- Directories, after which the segments of a path are taken one after the other: RFC 3986, section
 -- 5.2.4.
 use Rattle.std.specs.Prelude.{◌≡◌, ◌⊎◌, ◌||◌, Bool, true, List, [], ◌++◌, ℕ, codes}
-use Rattle.uri_ops.specs.Dots.{IsAbsolute, EndsInSlash, before_last_slash, lacks_dot_segments}
-use Rattle.uri_ops.specs.Dots.{remove_dot_segments, underflows}
+use Rattle.uri_ops.specs.Dots.{IsAbsolute, EndsInSlash, before_last_slash, lacks_dot_segments, remove_dot_segments, underflows}
 
 -- the path is a directory without dot segments: it begins with and ends in `/` (section 5.2.3)
 pub record IsDotlessDirectory (path : List ℕ) : Type 0 where

@@ -1,8 +1,7 @@
 -- What may be done with the segments of a path while its dot segments are removed (RFC 3986,
 -- section 5.2.4).
 use Rattle.std.specs.Prelude.{◌≡◌, ◌++◌, ◌∷◌, ℕ, Bool, List, [], true, false}
-use Rattle.uri_ops.specs.Dots.{has_slash, is_double_dot, is_empty, is_single_dot}
-use Rattle.uri_ops.specs.Dots.{lacks_dot_segments}
+use Rattle.uri_ops.specs.Dots.{has_slash, is_double_dot, is_empty, is_single_dot, lacks_dot_segments}
 
 -- a change of paths that goes from `/` to `/`, and keeps which segments are dots, such as decoding
 pub record KeepsSlashesAndDots (change : List ℕ → List ℕ) (among : List ℕ → Bool) : Type 0 where

@@ -1,7 +1,6 @@
 -- The cases of the pseudocode of RFC 3986, section 5.2.2, and what each takes from a base and a
 -- reference.
-use Rattle.std.specs.Prelude.{◌≡◌, true, false, List, ℕ, [], ◌++◌, codes}
-use Rattle.std.specs.Prelude.{IfSome, is_some, length, option_map, unwrap_or}
+use Rattle.std.specs.Prelude.{◌≡◌, true, false, List, ℕ, [], ◌++◌, codes, IfSome, is_some, length, option_map, unwrap_or}
 use Rattle.uri_pct.specs.Delimiters.{slash}
 use Rattle.uri_parts.specs.Components.{Components, IsAbemptyPath, marked, starts}
 use Rattle.uri_parts.specs.Positions.{positions_of}
@@ -10,11 +9,7 @@ use Rattle.uri_ops.specs.Target.{merged, query_or}
 use Rattle.uri_ops.specs.Models.Places.{before_path}
 use Rattle.uri_ops.specs.declared.resolve.dotted_target.DottedTarget.{DottedTarget}
 use Rattle.uri_ops.specs.declared.resolve.target_case.TargetCase.{TargetCase}
-use Rattle.uri_ops.specs.declared.resolve.target_case.TargetCase.TheVariants.{WithScheme}
-use Rattle.uri_ops.specs.declared.resolve.target_case.TargetCase.TheVariants.{WithAuthority}
-use Rattle.uri_ops.specs.declared.resolve.target_case.TargetCase.TheVariants.{EmptyPath}
-use Rattle.uri_ops.specs.declared.resolve.target_case.TargetCase.TheVariants.{AbsolutePath}
-use Rattle.uri_ops.specs.declared.resolve.target_case.TargetCase.TheVariants.{MergedPath}
+use Rattle.uri_ops.specs.declared.resolve.target_case.TargetCase.TheVariants.{WithScheme, WithAuthority, EmptyPath, AbsolutePath, MergedPath}
 
 -- a reference that has neither a scheme nor an authority: the target has the base's
 pub record HasPathFirst (r : Components) : Type 0 where

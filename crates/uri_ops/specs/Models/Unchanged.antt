@@ -1,7 +1,5 @@
 -- What is asked of a text which then is its own normal text: RFC 3986, section 6.2.2.
-use Rattle.std.specs.Prelude.{◌≡◌, ◌||◌, ◌&&◌, ◌==◌, ◌≤◌, ◌<◌, ◌+◌, ◌-◌, ◌*◌, ℕ, Bool, true, false}
-use Rattle.std.specs.Prelude.{not, nat_le, nat_lt, codes, length, is_some}
-use Rattle.std.specs.Prelude.{List, [], ◌∷◌, Option, IfSome, slice_index}
+use Rattle.std.specs.Prelude.{◌≡◌, ◌||◌, ◌&&◌, ◌==◌, ◌≤◌, ◌<◌, ◌+◌, ◌-◌, ◌*◌, ℕ, Bool, true, false, not, nat_le, nat_lt, codes, length, is_some, List, [], ◌∷◌, Option, IfSome, slice_index}
 use Rattle.std.specs.Char.{digit_value, is_ascii_hexdigit, is_ascii_uppercase}
 use Rattle.std.specs.Str.{str_to_ascii_lowercase}
 use Rattle.uri_pct.specs.DecodeUnreserved.{LacksPastAscii}

@@ -1,7 +1,5 @@
 -- An authority has one cut, and passes its test exactly if the parts of that cut meet the grammar.
-use Rattle.std.proofs.Common.{◌≡◌, ℕ, true, false, not, eqb, ltb, List, [], ◌∷◌, ◌++◌, drop, refl}
-use Rattle.std.proofs.Common.{sym, ap, subst, ◌∙◌, arith, ◌&&◌, inl, inr, ◌⊎◌, append_assoc}
-use Rattle.std.proofs.Common.{append-nil}
+use Rattle.std.proofs.Common.{◌≡◌, ℕ, true, false, not, eqb, ltb, List, [], ◌∷◌, ◌++◌, drop, refl, sym, ap, subst, ◌∙◌, arith, ◌&&◌, inl, inr, ◌⊎◌, append_assoc, append-nil}
 use Rattle.std.specs.Prelude.{codes, bytes_eq, Option, Some, None, IfSome}
 use Rattle.std.specs.List.{list_any, list_all}
 use Rattle.std.specs.Char.{is_ascii_hexdigit}
@@ -14,23 +12,12 @@ use Rattle.uri_pct.specs.Sets.{TableSet, is_one_of, digit_set, ipv_future_set}
 use Rattle.uri_pct.specs.Tokens.{is_valid_for, IsValidFor}
 use Rattle.uri_pct.proofs.ValidTexts.Cuts.{excludes}
 use Rattle.uri_parts.specs.Components.{Lacks, before_any, from_any, starts, marked, when}
-use Rattle.uri_parts.specs.Hosts.{HostKind, Ipv4, Ipv6, IpvFuture, RegName, IsHost, bracketed}
-use Rattle.uri_parts.specs.Hosts.{is_host}
-use Rattle.uri_parts.specs.Authority.{AuthorityParts, recompose_authority, IsAuthorityFor}
-use Rattle.uri_parts.specs.Authority.{LackAuthorityDelimiters, after_userinfo, leading_host}
-use Rattle.uri_parts.specs.Authority.{after_host, authority_parts, is_authority_for}
-use Rattle.uri_parts.proofs.Splitting.Cuts.{cut-at-end-of-text-without-marks, IsEmptyOrMarked}
-use Rattle.uri_parts.proofs.Splitting.Cuts.{text-after-other-byte-lacks-marks}
-use Rattle.uri_parts.proofs.TextKinds.GrammarTexts.{utf8_around_ascii_byte}
-use Rattle.uri_parts.proofs.TextKinds.GrammarTexts.{valid_text_lacks_excluded_marks}
-use Rattle.uri_parts.proofs.HostForms.Futures.{ipv4-text-lacks-name-marks}
-use Rattle.uri_parts.proofs.HostForms.Futures.{ipv6-text-lacks-excluded-marks}
-use Rattle.uri_parts.proofs.HostForms.Futures.{ipvfuture-text-lacks-excluded-marks}
-use Rattle.uri_parts.proofs.HostForms.Futures.{joined-texts-lack-marks}
-use Rattle.uri_parts.proofs.HostForms.Hosts.{lacking_text_does_not_begin_with}
-use Rattle.uri_parts.proofs.HostForms.Hosts.{address-in-brackets-is-utf8, is_host-sound}
-use Rattle.uri_parts.proofs.HostForms.Hosts.{is_host-complete}
-use Rattle.uri_parts.proofs.HostForms.Hosts.{reg_name_set-excludes-host-delimiters}
+use Rattle.uri_parts.specs.Hosts.{HostKind, Ipv4, Ipv6, IpvFuture, RegName, IsHost, bracketed, is_host}
+use Rattle.uri_parts.specs.Authority.{AuthorityParts, recompose_authority, IsAuthorityFor, LackAuthorityDelimiters, after_userinfo, leading_host, after_host, authority_parts, is_authority_for}
+use Rattle.uri_parts.proofs.Splitting.Cuts.{cut-at-end-of-text-without-marks, IsEmptyOrMarked, text-after-other-byte-lacks-marks}
+use Rattle.uri_parts.proofs.TextKinds.GrammarTexts.{utf8_around_ascii_byte, valid_text_lacks_excluded_marks}
+use Rattle.uri_parts.proofs.HostForms.Futures.{ipv4-text-lacks-name-marks, ipv6-text-lacks-excluded-marks, ipvfuture-text-lacks-excluded-marks, joined-texts-lack-marks}
+use Rattle.uri_parts.proofs.HostForms.Hosts.{lacking_text_does_not_begin_with, address-in-brackets-is-utf8, is_host-sound, is_host-complete, reg_name_set-excludes-host-delimiters}
 
 -- cutting authorities: a set excludes ASCII delimiters that are in neither it nor an octet
 set-excludes-marks-outside-it : (set : TableSet) (marks : List ℕ)

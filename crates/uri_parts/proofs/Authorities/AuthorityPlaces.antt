@@ -1,24 +1,19 @@
 -- At their positions the parts of an authority can be cut out, and what is cut out is them.
-use Rattle.std.proofs.Common.{◌≡◌, ℕ, ◌+◌, ◌-◌, ◌<◌, ◌≤◌, true, false, eqb, List, [], ◌∷◌, ◌++◌}
-use Rattle.std.proofs.Common.{length, get_or, take, drop, refl, sym, ap, subst, ◌∙◌, arith, not}
-use Rattle.std.proofs.Common.{◌||◌, ◌⊎◌, inl, append_assoc, append-nil, length-append}
+use Rattle.std.proofs.Common.{◌≡◌, ℕ, ◌+◌, ◌-◌, ◌<◌, ◌≤◌, true, false, eqb, List, [], ◌∷◌, ◌++◌, length, get_or, take, drop, refl, sym, ap, subst, ◌∙◌, arith, not, ◌||◌, ◌⊎◌, inl, append_assoc, append-nil, length-append}
 use Rattle.std.specs.Prelude.{codes, Some, None, Option, slice_range, is_some}
 use Rattle.std.specs.Option.{option_map_or}
 use Rattle.std.specs.Str.{IsUtf8, IsCharBoundary, chars}
 use Rattle.std.proofs.Math.Seq.{drop-append_seam, take-append_seam}
-use Rattle.std.proofs.lemmas.Str.{IsCharBoundary-start, IsCharBoundary-end}
-use Rattle.std.proofs.lemmas.Str.{IsCharBoundary-before_ascii}
+use Rattle.std.proofs.lemmas.Str.{IsCharBoundary-start, IsCharBoundary-end, IsCharBoundary-before_ascii}
 use Rattle.std.proofs.lemmas.Bool.{ne_eqb, and_from, or_right, cond-true, cond-false}
 use Rattle.std.proofs.lemmas.Slice.Eq.{bytes_eq-Decides}
 use Rattle.uri_pct.specs.Sets.{TableSet, digit_set}
 use Rattle.uri_pct.specs.Tokens.{is_valid_for, tokens_from_chars, IsValidFor}
 use Rattle.uri_parts.specs.Components.{marked, starts}
-use Rattle.uri_parts.specs.Hosts.{is_host, host_kind, name_kind, literal_kind, literal_of}
-use Rattle.uri_parts.specs.Hosts.{ipv4_value, ipv6_value}
+use Rattle.uri_parts.specs.Hosts.{is_host, host_kind, name_kind, literal_kind, literal_of, ipv4_value, ipv6_value}
 use Rattle.uri_parts.specs.Authority.{recompose_authority, authority_parts, is_authority_for}
 use Rattle.uri_parts.specs.Positions.{host_start_of, host_end_of, delimited_length}
-use Rattle.uri_parts.proofs.Splitting.Places.{slice-between-prefix-and-suffix, get_or-after-prefix}
-use Rattle.uri_parts.proofs.Splitting.Places.{boundary_after_mark}
+use Rattle.uri_parts.proofs.Splitting.Places.{slice-between-prefix-and-suffix, get_or-after-prefix, boundary_after_mark}
 use Rattle.std.proofs.lemmas.List.{drop-drop}
 use Rattle.std.proofs.lemmas.Bool.Decides.{nat_tests}
 

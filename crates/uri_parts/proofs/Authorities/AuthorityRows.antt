@@ -2,14 +2,12 @@
 use Rattle.std.proofs.Common.{◌≡◌, true, false, [], ◌∷◌, refl}
 use Rattle.std.specs.Prelude.{codes, map, replicate, Some, None}
 use Rattle.std.specs.List.{list_any, list_all}
-use Rattle.std.specs.Net.Reader.{read_ipv4, read_ipv6, read_segments, read_segment, read_number}
-use Rattle.std.specs.Net.Reader.{read_octet}
+use Rattle.std.specs.Net.Reader.{read_ipv4, read_ipv6, read_segments, read_segment, read_number, read_octet}
 use Rattle.std.specs.Str.{chars}
 use Rattle.uri_pct.specs.Sets.{userinfo_set, reg_name_set}
 use Rattle.uri_pct.specs.Tokens as Tokens
 use Rattle.uri_pct.specs.Tokens.{tokens_from_chars}
-use Rattle.uri_parts.specs.Hosts.{Ipv4, Ipv6, IpvFuture, RegName, host_kind, is_host, ipv4_value}
-use Rattle.uri_parts.specs.Hosts.{ipv6_value, is_ipv_future}
+use Rattle.uri_parts.specs.Hosts.{Ipv4, Ipv6, IpvFuture, RegName, host_kind, is_host, ipv4_value, ipv6_value, is_ipv_future}
 use Rattle.uri_parts.specs.Authority.{authority_parts, is_authority_for}
 
 -- examples of authorities: the components of `u@h:80` are userinfo, host and port

@@ -1,6 +1,5 @@
 -- What is after a bracket has a closing one, and is parsed as the literal before that.
-use Rattle.std.proofs.Common.{◌≡◌, ℕ, ◌+◌, true, List, ◌∷◌, ◌++◌, length, drop, refl, sym, ap}
-use Rattle.std.proofs.Common.{subst, ◌∙◌, arith, ◌||◌, ⊎_elim, append_assoc, length-append, lit<}
+use Rattle.std.proofs.Common.{◌≡◌, ℕ, ◌+◌, true, List, ◌∷◌, ◌++◌, length, drop, refl, sym, ap, subst, ◌∙◌, arith, ◌||◌, ⊎_elim, append_assoc, length-append, lit<}
 use Rattle.std.specs.Prelude.{codes, is_some}
 use Rattle.std.specs.Str.{IsUtf8}
 use Rattle.std.proofs.Math.Seq.{drop-append_seam}
@@ -15,11 +14,8 @@ use Rattle.uri_parts.specs.Models.Literals.{literal_length}
 use Rattle.uri_parts.proofs.Parsing.Acceptance.{is_literal, parses_literal}
 use Rattle.uri_parts.proofs.HostForms.Addresses.{ipv6_value-sound}
 use Rattle.uri_parts.proofs.Authorities.Authority.{Lacks-of-fewer-marks}
-use Rattle.uri_parts.proofs.Splitting.Cuts.{text-is-cut-at-first-mark}
-use Rattle.uri_parts.proofs.Splitting.Cuts.{cut-at-end-of-text-without-marks}
-use Rattle.uri_parts.proofs.HostForms.Futures.{ipv6-text-lacks-excluded-marks}
-use Rattle.uri_parts.proofs.HostForms.Futures.{ipvfuture-text-lacks-excluded-marks}
-use Rattle.uri_parts.proofs.HostForms.Futures.{is_ipv_future-sound}
+use Rattle.uri_parts.proofs.Splitting.Cuts.{text-is-cut-at-first-mark, cut-at-end-of-text-without-marks}
+use Rattle.uri_parts.proofs.HostForms.Futures.{ipv6-text-lacks-excluded-marks, ipvfuture-text-lacks-excluded-marks, is_ipv_future-sound}
 use Rattle.uri_parts.proofs.HostForms.Hosts.{option-is-none-or-some}
 use Rattle.uri_parts.proofs.TextKinds.GrammarTexts.{utf8_around_ascii_byte}
 use Rattle.uri_parts.proofs.Splitting.Recompose.{text-with-mark-is-mark-and-rest}

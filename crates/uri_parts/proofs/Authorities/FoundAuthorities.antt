@@ -1,12 +1,9 @@
 -- An authority is parsed exactly where the one that is cut out is taken apart, and its
 -- positions are where it is cut.
-use Rattle.std.proofs.Common.{◌≡◌, ℕ, ◌+◌, true, false, eqb, List, ◌∷◌, ◌++◌}
-use Rattle.std.proofs.Common.{length, drop, refl, sym, ap, ◌∙◌, arith, ◌||◌, ◌&&◌, ⊎_elim}
-use Rattle.std.proofs.Common.{append_assoc, length-append, subst, zero-add, lit<}
+use Rattle.std.proofs.Common.{◌≡◌, ℕ, ◌+◌, true, false, eqb, List, ◌∷◌, ◌++◌, length, drop, refl, sym, ap, ◌∙◌, arith, ◌||◌, ◌&&◌, ⊎_elim, append_assoc, length-append, subst, zero-add, lit<}
 use Rattle.std.specs.Prelude.{codes}
 use Rattle.std.specs.Str.{IsUtf8}
-use Rattle.std.proofs.lemmas.Bool.{cases_Bool, cond-true, cond-false, and_left, and_parts, eq-eqb}
-use Rattle.std.proofs.lemmas.Bool.{ne_eqb, both_ways, false_from_ne_true}
+use Rattle.std.proofs.lemmas.Bool.{cases_Bool, cond-true, cond-false, and_left, and_parts, eq-eqb, ne_eqb, both_ways, false_from_ne_true}
 use Rattle.std.proofs.Math.Bool.{or-false}
 use Rattle.std.proofs.lemmas.Bool.Decides.{nat_tests}
 use Rattle.uri_pct.specs.Sets.{TableSet}
@@ -16,43 +13,25 @@ use Rattle.uri_pct.proofs.ValidTexts.Cuts.{cut}
 use Rattle.uri_pct.proofs.ValidTexts.MarksInTexts.{length_before_marks, AreAscii-by-test}
 use Rattle.uri_parts.specs.Components.{before_any, from_any, starts, Lacks}
 use Rattle.uri_parts.specs.Positions.{authority_at}
-use Rattle.uri_parts.specs.Models.AuthorityParsing.{name_and_port_length, name_ends_authority}
-use Rattle.uri_parts.specs.Models.AuthorityParsing.{host_end, host_and_port_length, host_offset}
-use Rattle.uri_parts.specs.Models.AuthorityParsing.{text_from_host, other_authority_length}
-use Rattle.uri_parts.specs.Models.AuthorityParsing.{found_authority_length}
-use Rattle.uri_parts.proofs.Parsing.Acceptance.{finds_host, passes_user, finds_other}
-use Rattle.uri_parts.proofs.Parsing.Acceptance.{finds_authority}
-use Rattle.uri_parts.specs.Models.AuthorityParsing.{other_authority, found_authority}
+use Rattle.uri_parts.specs.Models.AuthorityParsing.{name_and_port_length, name_ends_authority, host_end, host_and_port_length, host_offset, text_from_host, other_authority_length, found_authority_length, other_authority, found_authority}
+use Rattle.uri_parts.proofs.Parsing.Acceptance.{finds_host, passes_user, finds_other, finds_authority}
 use Rattle.uri_parts.specs.Grammar.{Kind}
 use Rattle.uri_parts.proofs.Authorities.Authority.{cut-of-text-without-marks, Lacks-of-fewer-marks}
 use Rattle.uri_parts.proofs.Authorities.AuthorityCuts.{length-of-text-before-marks}
-use Rattle.uri_parts.proofs.Splitting.Cuts.{text-is-cut-at-first-mark}
-use Rattle.uri_parts.proofs.Splitting.Cuts.{cut-at-end-of-text-without-marks, before_any-past-other}
-use Rattle.uri_parts.proofs.Splitting.Cuts.{text-after-other-byte-lacks-marks}
+use Rattle.uri_parts.proofs.Splitting.Cuts.{text-is-cut-at-first-mark, cut-at-end-of-text-without-marks, before_any-past-other, text-after-other-byte-lacks-marks}
 use Rattle.uri_parts.proofs.HostForms.Futures.{joined-texts-lack-marks}
 use Rattle.uri_parts.proofs.HostForms.Hosts.{lacking_text_does_not_begin_with}
-use Rattle.uri_parts.proofs.Authorities.NamesAndPorts.{cut_at_further_mark}
-use Rattle.uri_parts.proofs.Authorities.NamesAndPorts.{cut-text-begins-with-same-other-byte}
-use Rattle.uri_parts.proofs.Authorities.NamesAndPorts.{utf8_before_marks}
-use Rattle.uri_parts.proofs.Authorities.HostParsing.{host_end-unbracketed}
-use Rattle.uri_parts.proofs.Authorities.HostParsing.{host_and_port_length-unbracketed}
-use Rattle.uri_parts.proofs.Authorities.HostParsing.{finds_host-unbracketed, bracket_begins_no_name}
-use Rattle.uri_parts.proofs.Authorities.HostParsing.{finds_host-is-parses_host_and_port}
-use Rattle.uri_parts.proofs.Authorities.HostParsing.{host-that-is-found-has-its-positions}
+use Rattle.uri_parts.proofs.Authorities.NamesAndPorts.{cut_at_further_mark, cut-text-begins-with-same-other-byte, utf8_before_marks}
+use Rattle.uri_parts.proofs.Authorities.HostParsing.{host_end-unbracketed, host_and_port_length-unbracketed, finds_host-unbracketed, bracket_begins_no_name, finds_host-is-parses_host_and_port, host-that-is-found-has-its-positions}
 use Rattle.uri_parts.proofs.Splitting.Relative.{scan_stops_at_first_mark}
 use Rattle.uri_parts.proofs.TextKinds.Separations.{SeparatesComponents}
 use Rattle.uri_parts.proofs.TextKinds.GrammarTexts.{valid_text_lacks_excluded_marks}
-use Rattle.uri_parts.proofs.Parsing.ScanStops.{scan-stops-at-first-mark-or-within, utf8_from_marks}
-use Rattle.uri_parts.proofs.Parsing.ScanStops.{utf8_after_mark}
-use Rattle.uri_parts.proofs.Authorities.WholeAuthorities.{parses_host_and_port}
-use Rattle.uri_parts.proofs.Authorities.WholeAuthorities.{parses_whole_authority}
+use Rattle.uri_parts.proofs.Parsing.ScanStops.{scan-stops-at-first-mark-or-within, utf8_from_marks, utf8_after_mark}
+use Rattle.uri_parts.proofs.Authorities.WholeAuthorities.{parses_host_and_port, parses_whole_authority}
 use Rattle.uri_parts.proofs.Splitting.Recompose.{text-with-mark-is-mark-and-rest}
 use Rattle.uri_pct.proofs.General.{second-holds-if-first-is-false}
-use Rattle.uri_parts.proofs.Authorities.HostPositions.{places, authority_at-without-userinfo}
-use Rattle.uri_parts.proofs.Authorities.HostPositions.{authority_at-with-userinfo}
-use Rattle.uri_parts.proofs.Authorities.UserinfoLengths.{host_offset-is-after-userinfo-and-at-sign}
-use Rattle.uri_parts.proofs.Authorities.UserinfoLengths.{text_from_host-is-after-at-sign}
-use Rattle.uri_parts.proofs.Authorities.UserinfoLengths.{passes_user-is-at-sign-after-userinfo}
+use Rattle.uri_parts.proofs.Authorities.HostPositions.{places, authority_at-without-userinfo, authority_at-with-userinfo}
+use Rattle.uri_parts.proofs.Authorities.UserinfoLengths.{host_offset-is-after-userinfo-and-at-sign, text_from_host-is-after-at-sign, passes_user-is-at-sign-after-userinfo}
 
 -- authorities, parsed: what the parser finds agrees with what is cut out of the text
 pub record IsFound (kind : Kind) (rest : List ℕ) : Type 0 where

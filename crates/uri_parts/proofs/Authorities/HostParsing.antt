@@ -1,12 +1,9 @@
 -- A host and a port are parsed to the end of an authority exactly where what is cut out is a host
 -- and a port.
-use Rattle.std.proofs.Common.{◌≡◌, ℕ, ◌+◌, true, false, List, [], ◌∷◌, ◌++◌, length, drop, refl}
-use Rattle.std.proofs.Common.{sym, ap, subst, ◌∙◌, arith, ◌&&◌, ⊎_elim, inl, inr}
-use Rattle.std.proofs.Common.{append_assoc, length-append, lit<}
+use Rattle.std.proofs.Common.{◌≡◌, ℕ, ◌+◌, true, false, List, [], ◌∷◌, ◌++◌, length, drop, refl, sym, ap, subst, ◌∙◌, arith, ◌&&◌, ⊎_elim, inl, inr, append_assoc, length-append, lit<}
 use Rattle.std.specs.Prelude.{codes}
 use Rattle.std.specs.Str.{IsUtf8}
-use Rattle.std.proofs.lemmas.Bool.{cases_Bool, cond-false, and_left, and_parts, eq-eqb, ne_eqb}
-use Rattle.std.proofs.lemmas.Bool.{eqb-true, both_ways, false_from_ne_true}
+use Rattle.std.proofs.lemmas.Bool.{cases_Bool, cond-false, and_left, and_parts, eq-eqb, ne_eqb, eqb-true, both_ways, false_from_ne_true}
 use Rattle.std.proofs.lemmas.Bool.Decides.{nat_tests}
 use Rattle.uri_pct.specs.Sets.{TableSet}
 use Rattle.uri_pct.specs.Tokens.{is_valid_for}
@@ -17,43 +14,20 @@ use Rattle.uri_parts.specs.Components.{before_any, from_any, starts, Lacks}
 use Rattle.uri_parts.specs.Hosts.{bracketed}
 use Rattle.uri_parts.specs.Models.Literals.{literal_length}
 use Rattle.uri_parts.specs.Authority.{leading_host}
-use Rattle.uri_parts.specs.Models.AuthorityParsing.{is_empty_or_begins_with_any, port_length}
-use Rattle.uri_parts.specs.Models.AuthorityParsing.{name_and_port_length, name_ends_authority}
-use Rattle.uri_parts.specs.Models.AuthorityParsing.{host_end, host_and_port_length}
+use Rattle.uri_parts.specs.Models.AuthorityParsing.{is_empty_or_begins_with_any, port_length, name_and_port_length, name_ends_authority, host_end, host_and_port_length}
 use Rattle.uri_parts.proofs.Parsing.Acceptance.{is_literal, parses_literal, passes_host, finds_host}
 use Rattle.uri_parts.specs.Grammar.{Kind}
-use Rattle.uri_parts.proofs.Authorities.Authority.{host-is-cut-where-it-ends}
-use Rattle.uri_parts.proofs.Authorities.Authority.{empty-text-lacks-marks, bracketed_lacks_at_sign}
-use Rattle.uri_parts.proofs.Authorities.Authority.{Lacks-of-fewer-marks}
+use Rattle.uri_parts.proofs.Authorities.Authority.{host-is-cut-where-it-ends, empty-text-lacks-marks, bracketed_lacks_at_sign, Lacks-of-fewer-marks}
 use Rattle.uri_parts.proofs.Authorities.AuthorityCuts.{length-of-text-before-marks, suffix}
-use Rattle.uri_parts.proofs.Splitting.Cuts.{text-is-cut-at-first-mark}
-use Rattle.uri_parts.proofs.Splitting.Cuts.{cut-at-end-of-text-without-marks, before_any-past-other}
-use Rattle.uri_parts.proofs.Splitting.Cuts.{text-after-other-byte-lacks-marks}
+use Rattle.uri_parts.proofs.Splitting.Cuts.{text-is-cut-at-first-mark, cut-at-end-of-text-without-marks, before_any-past-other, text-after-other-byte-lacks-marks}
 use Rattle.uri_parts.proofs.HostForms.Futures.{joined-texts-lack-marks}
 use Rattle.uri_parts.proofs.TextKinds.Separations.{SeparatesComponents}
 use Rattle.uri_parts.proofs.TextKinds.GrammarTexts.{valid_text_lacks_excluded_marks}
-use Rattle.uri_parts.proofs.Parsing.ScanStops.{scan-stops-at-first-mark-or-within, utf8_from_marks}
-use Rattle.uri_parts.proofs.Parsing.ScanStops.{utf8_after_mark}
-use Rattle.uri_parts.proofs.Authorities.WholeAuthorities.{is_unbracketed_host, is_empty_or_port}
-use Rattle.uri_parts.proofs.Authorities.WholeAuthorities.{parses_host_and_port}
+use Rattle.uri_parts.proofs.Parsing.ScanStops.{scan-stops-at-first-mark-or-within, utf8_from_marks, utf8_after_mark}
+use Rattle.uri_parts.proofs.Authorities.WholeAuthorities.{is_unbracketed_host, is_empty_or_port, parses_host_and_port}
 use Rattle.uri_parts.proofs.Splitting.Recompose.{text-with-mark-is-mark-and-rest}
-use Rattle.uri_parts.proofs.Authorities.NamesAndPorts.{cut_at_further_mark}
-use Rattle.uri_parts.proofs.Authorities.NamesAndPorts.{cut-text-begins-with-same-other-byte}
-use Rattle.uri_parts.proofs.Authorities.NamesAndPorts.{utf8_before_marks}
-use Rattle.uri_parts.proofs.Authorities.NamesAndPorts.{port-ends-at-mark-iff-cut-is-port}
-use Rattle.uri_parts.proofs.Authorities.NamesAndPorts.{port_length-of-whole-port}
-use Rattle.uri_parts.proofs.Authorities.NamesAndPorts.{other_byte_begins_no_port}
-use Rattle.uri_parts.proofs.Authorities.NamesAndPorts.{port-is-empty-or-begins-with-colon}
-use Rattle.uri_parts.proofs.Authorities.NamesAndPorts.{port-lacks-at-sign}
-use Rattle.uri_parts.proofs.Authorities.NamesAndPorts.{unbracketed-host-iff-valid-name}
-use Rattle.uri_parts.proofs.Authorities.ClosedLiterals.{literal-lacks-excluded-marks, IsClosed}
-use Rattle.uri_parts.proofs.Authorities.ClosedLiterals.{bracket-before-marks-closes-literal}
-use Rattle.uri_parts.proofs.Authorities.ClosedLiterals.{parsed-literal-has-closing-bracket}
-use Rattle.uri_parts.proofs.Authorities.ClosedLiterals.{parses_literal-is-is_literal-of-address}
-use Rattle.uri_parts.proofs.Authorities.ClosedLiterals.{bracketed-address-and-tail-are-text}
-use Rattle.uri_parts.proofs.Authorities.ClosedLiterals.{literal-length-is-bracketed-length}
-use Rattle.uri_parts.proofs.Authorities.ClosedLiterals.{text-after-literal-is-tail}
-use Rattle.uri_parts.proofs.Authorities.ClosedLiterals.{address-and-tail-are-utf8}
+use Rattle.uri_parts.proofs.Authorities.NamesAndPorts.{cut_at_further_mark, cut-text-begins-with-same-other-byte, utf8_before_marks, port-ends-at-mark-iff-cut-is-port, port_length-of-whole-port, other_byte_begins_no_port, port-is-empty-or-begins-with-colon, port-lacks-at-sign, unbracketed-host-iff-valid-name}
+use Rattle.uri_parts.proofs.Authorities.ClosedLiterals.{literal-lacks-excluded-marks, IsClosed, bracket-before-marks-closes-literal, parsed-literal-has-closing-bracket, parses_literal-is-is_literal-of-address, bracketed-address-and-tail-are-text, literal-length-is-bracketed-length, text-after-literal-is-tail, address-and-tail-are-utf8}
 
 -- authorities, parsed: a host that is passed, with what is after it in the authority
 pub record FoundHost (kind : Kind) (rest : List ℕ) : Type 0 where

@@ -1,38 +1,29 @@
 -- A name and a port are parsed to a mark exactly where what is cut out there is one.
-use Rattle.std.proofs.Common.{◌≡◌, ℕ, suc, ◌+◌, ◌<◌, Bool, true, false, eqb, List, [], ◌∷◌, length}
-use Rattle.std.proofs.Common.{drop, All, refl, sym, ap, ◌∙◌, arith, ◌||◌, ◌&&◌, ⊎_elim, inl, inr}
+use Rattle.std.proofs.Common.{◌≡◌, ℕ, suc, ◌+◌, ◌<◌, Bool, true, false, eqb, List, [], ◌∷◌, length, drop, All, refl, sym, ap, ◌∙◌, arith, ◌||◌, ◌&&◌, ⊎_elim, inl, inr}
 use Rattle.std.specs.Prelude.{codes, is_some}
 use Rattle.std.specs.Str.{IsUtf8}
 use Rattle.std.proofs.NetLemmas.Alphabet.{IsDigitOrDot}
 use Rattle.std.proofs.lemmas.Str.{IsUtf8-take}
-use Rattle.std.proofs.lemmas.Bool.{cases_Bool, cond-true, cond-false, and_left, and_parts, or_right}
-use Rattle.std.proofs.lemmas.Bool.{eq-eqb, ne_eqb, eqb-true, false≢true, false_from_ne_true}
+use Rattle.std.proofs.lemmas.Bool.{cases_Bool, cond-true, cond-false, and_left, and_parts, or_right, eq-eqb, ne_eqb, eqb-true, false≢true, false_from_ne_true}
 use Rattle.std.proofs.lemmas.Bool.Decides.{nat_tests}
 use Rattle.uri_pct.specs.Sets.{TableSet, LacksPercent, IsSubset, digit_set, reg_name_set, is_one_of}
 use Rattle.uri_pct.specs.Tokens.{is_valid_for}
 use Rattle.uri_pct.specs.Prefixes.{valid_prefix, after}
 use Rattle.uri_pct.proofs.ValidTexts.Cuts.{excludes, cut, is_valid_for_is_scanned_to_end}
 use Rattle.uri_pct.proofs.ValidTexts.LongestPrefixes.{empty_text_has_empty_valid_prefix}
-use Rattle.uri_pct.proofs.ValidTexts.MarksInTexts.{length_before_marks, AreAscii}
-use Rattle.uri_pct.proofs.ValidTexts.MarksInTexts.{first_mark_is_at_boundary}
+use Rattle.uri_pct.proofs.ValidTexts.MarksInTexts.{length_before_marks, AreAscii, first_mark_is_at_boundary}
 use Rattle.uri_pct.proofs.ValidTexts.PrefixSteps.{valid_prefix_passes_ascii_char_of_set}
 use Rattle.uri_parts.specs.Components.{before_any, from_any, starts, Lacks}
 use Rattle.uri_parts.specs.Hosts.{ipv4_value}
 use Rattle.uri_parts.specs.Models.AuthorityParsing.{is_empty_or_begins_with_any, port_length}
 use Rattle.uri_parts.proofs.HostForms.Addresses.{ipv4_value-sound}
 use Rattle.uri_parts.proofs.Authorities.Authority.{empty-text-lacks-marks}
-use Rattle.uri_parts.proofs.Authorities.AuthorityCuts.{length-of-text-before-marks}
-use Rattle.uri_parts.proofs.Authorities.AuthorityCuts.{drop-after-drop-of-one}
-use Rattle.uri_parts.proofs.Splitting.Cuts.{IsEmptyOrMarked, text-is-cut-at-first-mark}
-use Rattle.uri_parts.proofs.Splitting.Cuts.{before_any-at-mark, from_any-at-mark}
-use Rattle.uri_parts.proofs.Splitting.Cuts.{before_any-past-other, from_any-past-other}
-use Rattle.uri_parts.proofs.Splitting.Cuts.{text-after-other-byte-lacks-marks}
-use Rattle.uri_parts.proofs.HostForms.Futures.{ipv4-text-is-digits-and-dots}
-use Rattle.uri_parts.proofs.HostForms.Futures.{digit_or_dot_is_reg_name_char}
+use Rattle.uri_parts.proofs.Authorities.AuthorityCuts.{length-of-text-before-marks, drop-after-drop-of-one}
+use Rattle.uri_parts.proofs.Splitting.Cuts.{IsEmptyOrMarked, text-is-cut-at-first-mark, before_any-at-mark, from_any-at-mark, before_any-past-other, from_any-past-other, text-after-other-byte-lacks-marks}
+use Rattle.uri_parts.proofs.HostForms.Futures.{ipv4-text-is-digits-and-dots, digit_or_dot_is_reg_name_char}
 use Rattle.uri_parts.proofs.HostForms.Hosts.{option-is-none-or-some}
 use Rattle.uri_parts.proofs.TextKinds.GrammarTexts.{valid_text_lacks_excluded_marks}
-use Rattle.uri_parts.proofs.Parsing.ScanStops.{scan-stops-at-first-mark-or-within}
-use Rattle.uri_parts.proofs.Parsing.ScanStops.{utf8_after_ascii_byte}
+use Rattle.uri_parts.proofs.Parsing.ScanStops.{scan-stops-at-first-mark-or-within, utf8_after_ascii_byte}
 use Rattle.uri_parts.proofs.Authorities.WholeAuthorities.{is_unbracketed_host, is_empty_or_port}
 
 -- general fact on booleans, for the tests of an authority

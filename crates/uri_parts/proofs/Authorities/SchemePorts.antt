@@ -1,6 +1,5 @@
 -- The constant of default ports is the table, and its names are in lower case.
-use Rattle.std.proofs.Common.{◌≡◌, ℕ, Bool, true, false, cond, List, [], ◌∷◌, map, find, refl, sym}
-use Rattle.std.proofs.Common.{◌∙◌, Option, Some, None, option_map, Bor, arith}
+use Rattle.std.proofs.Common.{◌≡◌, ℕ, Bool, true, false, cond, List, [], ◌∷◌, map, find, refl, sym, ◌∙◌, Option, Some, None, option_map, Bor, arith}
 use Rattle.std.specs.Str.{str_to_ascii_lowercase, str_eq_ignore_ascii_case}
 use Rattle.std.proofs.lemmas.Bool.Decides.{nat_tests}
 use Rattle.uri_parts.specs.SchemePorts.{scheme_ports, default_port, port_ignoring_case}

@@ -1,6 +1,5 @@
 -- How long the userinfo is that is found, and where the host begins after it.
-use Rattle.std.proofs.Common.{◌≡◌, ℕ, ◌+◌, false, eqb, List, [], ◌∷◌}
-use Rattle.std.proofs.Common.{drop, refl, sym, ap, ◌∙◌, arith, ⊎_elim, zero-add}
+use Rattle.std.proofs.Common.{◌≡◌, ℕ, ◌+◌, false, eqb, List, [], ◌∷◌, drop, refl, sym, ap, ◌∙◌, arith, ⊎_elim, zero-add}
 use Rattle.std.specs.Prelude.{codes}
 use Rattle.std.proofs.lemmas.Bool.{cases_Bool, cond-true, cond-false, eqb-true}
 use Rattle.std.proofs.lemmas.Bool.Decides.{nat_tests}
@@ -11,9 +10,7 @@ use Rattle.uri_pct.proofs.ValidTexts.LongestPrefixes.{empty_text_has_empty_valid
 use Rattle.uri_pct.proofs.ValidTexts.Prefixes.{valid_prefix_of_superset_goes_on_from_subset}
 use Rattle.uri_pct.proofs.ValidTexts.PrefixSteps.{valid_prefix_passes_ascii_char_of_set}
 use Rattle.uri_parts.specs.Components.{starts}
-use Rattle.uri_parts.specs.Models.AuthorityParsing.{port_length, name_and_port_length}
-use Rattle.uri_parts.specs.Models.AuthorityParsing.{further_userinfo_length, userinfo_length}
-use Rattle.uri_parts.specs.Models.AuthorityParsing.{host_offset, text_from_host}
+use Rattle.uri_parts.specs.Models.AuthorityParsing.{port_length, name_and_port_length, further_userinfo_length, userinfo_length, host_offset, text_from_host}
 use Rattle.uri_parts.proofs.Parsing.Acceptance.{passes_user}
 use Rattle.uri_parts.specs.Grammar.{Kind}
 use Rattle.uri_parts.proofs.Authorities.AuthorityCuts.{suffix, drop-after-drop-of-one}

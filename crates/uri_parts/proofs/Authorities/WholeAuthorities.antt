@@ -1,11 +1,8 @@
 -- An authority that is cut out, taken apart from left to right: that is the test of the grammar.
-use Rattle.std.proofs.Common.{◌≡◌, ℕ, Bool, true, false, cond, eqb, List, [], ◌∷◌, ◌++◌, length}
-use Rattle.std.proofs.Common.{drop, refl, sym, ap, ◌∙◌, arith, ◌||◌, ◌&&◌, ⊎_elim, append_assoc}
-use Rattle.std.proofs.Common.{append-nil, length-append}
+use Rattle.std.proofs.Common.{◌≡◌, ℕ, Bool, true, false, cond, eqb, List, [], ◌∷◌, ◌++◌, length, drop, refl, sym, ap, ◌∙◌, arith, ◌||◌, ◌&&◌, ⊎_elim, append_assoc, append-nil, length-append}
 use Rattle.std.specs.Prelude.{codes, Option, is_some, bytes_eq}
 use Rattle.std.specs.Option.{option_map_or}
-use Rattle.std.proofs.lemmas.Bool.{cases_Bool, cond-true, cond-false, and_left, eqb-true, both_ways}
-use Rattle.std.proofs.lemmas.Bool.{false≢true, false_from_ne_true}
+use Rattle.std.proofs.lemmas.Bool.{cases_Bool, cond-true, cond-false, and_left, eqb-true, both_ways, false≢true, false_from_ne_true}
 use Rattle.std.proofs.lemmas.Bool.Decides.{nat_tests}
 use Rattle.std.proofs.lemmas.Slice.Eq.{bytes_eq-Decides}
 use Rattle.uri_pct.specs.Sets.{TableSet, digit_set, is_one_of}
@@ -14,8 +11,7 @@ use Rattle.uri_parts.specs.Components.{marked, starts, before_any, from_any, whe
 use Rattle.uri_parts.specs.Hosts.{is_host, bracketed, ipv4_value}
 use Rattle.uri_parts.specs.Authority.{leading_host, after_host, is_authority_for}
 use Rattle.uri_parts.proofs.Parsing.Acceptance.{is_literal}
-use Rattle.uri_parts.proofs.Splitting.Cuts.{IsEmptyOrMarked, text-is-cut-at-first-mark}
-use Rattle.uri_parts.proofs.Splitting.Cuts.{before_any-past-other, from_any-past-other}
+use Rattle.uri_parts.proofs.Splitting.Cuts.{IsEmptyOrMarked, text-is-cut-at-first-mark, before_any-past-other, from_any-past-other}
 use Rattle.uri_parts.proofs.HostForms.Hosts.{literal_of-bracketed-is-address}
 
 -- a host without brackets

@@ -1,9 +1,5 @@
 -- What is parsed of an address, from how many hexadecimal digits come first.
-use Rattle.std.proofs.Common.{◌≡◌, ◌≢◌, ℕ, zero, suc, ◌^◌, ◌<◌, ◌≤◌, List, [], ◌∷◌, ◌++◌, length}
-use Rattle.std.proofs.Common.{get_or, take, drop, Option, Some, None, decimal, refl, sym, ap, ◌∙◌}
-use Rattle.std.proofs.Common.{arith, inl, inr, lit≤, length-take-le, take-append-drop, get_or-take}
-use Rattle.std.proofs.Common.{get_or-drop, add-zero, le-ltb, lt-ltb, append_assoc, ◌-◌}
-use Rattle.std.proofs.Common.{length-append, length-drop, drop_at}
+use Rattle.std.proofs.Common.{◌≡◌, ◌≢◌, ℕ, zero, suc, ◌^◌, ◌<◌, ◌≤◌, List, [], ◌∷◌, ◌++◌, length, get_or, take, drop, Option, Some, None, decimal, refl, sym, ap, ◌∙◌, arith, inl, inr, lit≤, length-take-le, take-append-drop, get_or-take, get_or-drop, add-zero, le-ltb, lt-ltb, append_assoc, ◌-◌, length-append, length-drop, drop_at}
 use Rattle.std.proofs.lemmas.List.{drop-drop}
 use Rattle.std.proofs.lemmas.Bool.{cases_lt}
 use Rattle.std.proofs.Math.Seq.{get_or-append_seam}
@@ -14,8 +10,7 @@ use Rattle.std.specs.Char.{digit_value}
 use Rattle.std.specs.Str.Parse.{AllDigits, digits_value}
 use Rattle.std.specs.Net.Text.{dotted_text}
 use Rattle.std.specs.Net.Reader.{read_number, read_ipv4, read_segment}
-use Rattle.std.proofs.NetLemmas.Numbers.{NoDigit, read_number_some_at, read_number_sound}
-use Rattle.std.proofs.NetLemmas.Numbers.{read_number_empty}
+use Rattle.std.proofs.NetLemmas.Numbers.{NoDigit, read_number_some_at, read_number_sound, read_number_empty}
 use Rattle.std.proofs.NetLemmas.Ipv4.{read_ipv4_sound, read_ipv4_none}
 use Rattle.std.proofs.lemmas.Bool.Decides.{nat_tests}
 use Rattle.uri_parts.specs.Models.Literals.{AreLeadingHexDigits}

@@ -1,12 +1,9 @@
 -- An IPvFuture address in brackets is what is parsed after its `v`.
-use Rattle.std.proofs.Common.{◌≡◌, ℕ, ◌+◌, ◌<◌, true, false, List, [], ◌∷◌, ◌++◌, length, drop}
-use Rattle.std.proofs.Common.{refl, sym, ap, subst, ◌∙◌, arith, ◌||◌, eqb, ⊎_elim, append_assoc}
-use Rattle.std.proofs.Common.{length-append, lit<}
+use Rattle.std.proofs.Common.{◌≡◌, ℕ, ◌+◌, ◌<◌, true, false, List, [], ◌∷◌, ◌++◌, length, drop, refl, sym, ap, subst, ◌∙◌, arith, ◌||◌, eqb, ⊎_elim, append_assoc, length-append, lit<}
 use Rattle.std.specs.Prelude.{codes, is_some}
 use Rattle.std.specs.Str.{IsUtf8}
 use Rattle.std.proofs.Math.Seq.{drop-append_seam}
-use Rattle.std.proofs.lemmas.Bool.{and_from, and_parts, lt-ltb, ltb-true, eq-eqb, eqb-true}
-use Rattle.std.proofs.lemmas.Bool.{both_ways, false≢true, false_from_ne_true, cases_Bool}
+use Rattle.std.proofs.lemmas.Bool.{and_from, and_parts, lt-ltb, ltb-true, eq-eqb, eqb-true, both_ways, false≢true, false_from_ne_true, cases_Bool}
 use Rattle.std.proofs.lemmas.Bool.Decides.{nat_tests}
 use Rattle.uri_pct.specs.Sets.{TableSet, LacksPercent, is_one_of, hexdig_set, ipv_future_set}
 use Rattle.uri_pct.specs.Tokens.{is_valid_for}
@@ -16,25 +13,16 @@ use Rattle.uri_pct.proofs.ValidTexts.MarksInTexts.{length_before_marks}
 use Rattle.uri_parts.specs.Components.{starts, before_any, from_any, Lacks}
 use Rattle.uri_parts.specs.Hosts.{IsIpvFuture, ipv6_value, is_ipv_future}
 use Rattle.uri_parts.specs.Models.Literals.{literal_length}
-use Rattle.uri_parts.proofs.Parsing.Acceptance.{is_literal, parses_literal, parses_marked}
-use Rattle.uri_parts.proofs.Parsing.Acceptance.{length_to_mark, after_version, parses_future}
-use Rattle.uri_parts.proofs.Parsing.Acceptance.{future_length}
+use Rattle.uri_parts.proofs.Parsing.Acceptance.{is_literal, parses_literal, parses_marked, length_to_mark, after_version, parses_future, future_length}
 use Rattle.uri_parts.proofs.Authorities.AuthorityCuts.{length-of-text-before-marks, suffix}
-use Rattle.uri_parts.proofs.HostForms.Addresses.{is_address_char, ipv6-text-is-address-text}
-use Rattle.uri_parts.proofs.HostForms.Addresses.{address-text-begins-with-address-char}
-use Rattle.uri_parts.proofs.HostForms.Addresses.{ipv6_value-sound}
-use Rattle.uri_parts.proofs.HostForms.Futures.{is_ipv_future-complete, is_ipv_future-sound}
-use Rattle.uri_parts.proofs.HostForms.Futures.{ipvfuture-text-lacks-excluded-marks}
+use Rattle.uri_parts.proofs.HostForms.Addresses.{is_address_char, ipv6-text-is-address-text, address-text-begins-with-address-char, ipv6_value-sound}
+use Rattle.uri_parts.proofs.HostForms.Futures.{is_ipv_future-complete, is_ipv_future-sound, ipvfuture-text-lacks-excluded-marks}
 use Rattle.uri_parts.proofs.HostForms.Hosts.{option-is-none-or-some}
-use Rattle.uri_parts.proofs.HostForms.LiteralTexts.{byte-118-or-86-is-version-letter}
-use Rattle.uri_parts.proofs.HostForms.LiteralTexts.{version-letter-byte-is-ascii}
-use Rattle.uri_parts.proofs.Parsing.ScanStops.{scan-stops-at-first-mark-or-within}
-use Rattle.uri_parts.proofs.Parsing.ScanStops.{utf8_after_ascii_byte}
-use Rattle.uri_parts.proofs.Splitting.Cuts.{text-is-cut-at-first-mark}
-use Rattle.uri_parts.proofs.Splitting.Cuts.{cut-at-end-of-text-without-marks, before_any-past-other}
+use Rattle.uri_parts.proofs.HostForms.LiteralTexts.{byte-118-or-86-is-version-letter, version-letter-byte-is-ascii}
+use Rattle.uri_parts.proofs.Parsing.ScanStops.{scan-stops-at-first-mark-or-within, utf8_after_ascii_byte}
+use Rattle.uri_parts.proofs.Splitting.Cuts.{text-is-cut-at-first-mark, cut-at-end-of-text-without-marks, before_any-past-other}
 use Rattle.uri_parts.proofs.Splitting.Recompose.{text-with-mark-is-mark-and-rest}
-use Rattle.uri_parts.proofs.TextKinds.GrammarTexts.{utf8_around_ascii_byte}
-use Rattle.uri_parts.proofs.TextKinds.GrammarTexts.{valid_text_lacks_excluded_marks}
+use Rattle.uri_parts.proofs.TextKinds.GrammarTexts.{utf8_around_ascii_byte, valid_text_lacks_excluded_marks}
 
 -- parsing IP literals: the text begins with some characters of the set, and then the mark
 record IsMarked (set : TableSet) (mark : ℕ) (rest : List ℕ) : Type 0 where

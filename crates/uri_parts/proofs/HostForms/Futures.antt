@@ -1,7 +1,5 @@
 -- The test of an IPvFuture address is its grammar; and what no address in brackets holds.
-use Rattle.std.proofs.Common.{◌≡◌, ℕ, zero, suc, ◌<◌, ◌^◌, Bool, true, false, not, eqb, ltb, List}
-use Rattle.std.proofs.Common.{[], ◌∷◌, ◌++◌, length, get_or, All, refl, sym, ap, subst, ◌∙◌, arith}
-use Rattle.std.proofs.Common.{◌&&◌, inl, inr}
+use Rattle.std.proofs.Common.{◌≡◌, ℕ, zero, suc, ◌<◌, ◌^◌, Bool, true, false, not, eqb, ltb, List, [], ◌∷◌, ◌++◌, length, get_or, All, refl, sym, ap, subst, ◌∙◌, arith, ◌&&◌, inl, inr}
 use Rattle.std.specs.Prelude.{codes}
 use Rattle.std.specs.Char.{is_ascii_hexdigit}
 use Rattle.std.specs.Str.{IsUtf8}
@@ -10,19 +8,15 @@ use Rattle.std.proofs.lemmas.List.Elements.{All-nil, All-cons, All-append}
 use Rattle.std.proofs.NetLemmas.Alphabet.{IsDigitOrDot, All-ipv4_text}
 use Rattle.std.proofs.lemmas.Bool.{and_from, and_parts, lt-ltb, false≢true}
 use Rattle.std.proofs.lemmas.Bool.Decides.{nat_tests}
-use Rattle.uri_pct.specs.Sets.{TableSet, LacksPercent, is_one_of, hexdig_set, reg_name_set}
-use Rattle.uri_pct.specs.Sets.{ipv_future_set, is_userinfo_char, is_reg_name_char}
+use Rattle.uri_pct.specs.Sets.{TableSet, LacksPercent, is_one_of, hexdig_set, reg_name_set, ipv_future_set, is_userinfo_char, is_reg_name_char}
 use Rattle.uri_pct.specs.Tokens.{is_valid_for}
 use Rattle.uri_pct.proofs.ValidTexts.Cuts.{excludes, excluded_mark_is_not_in_set}
 use Rattle.uri_parts.specs.Components.{Lacks}
 use Rattle.uri_parts.specs.Hosts.{IsIpvFuture, is_ipv_future, is_future_address}
-use Rattle.uri_parts.proofs.Splitting.Cuts.{cut-at-end-of-text-without-marks}
-use Rattle.uri_parts.proofs.Splitting.Cuts.{text-is-cut-at-first-mark}
+use Rattle.uri_parts.proofs.Splitting.Cuts.{cut-at-end-of-text-without-marks, text-is-cut-at-first-mark}
 use Rattle.uri_parts.proofs.Parsing.ScanStops.{utf8_after_ascii_byte}
-use Rattle.uri_parts.proofs.TextKinds.GrammarTexts.{utf8_around_ascii_byte}
-use Rattle.uri_parts.proofs.TextKinds.GrammarTexts.{valid_text_lacks_excluded_marks}
-use Rattle.uri_parts.proofs.HostForms.Addresses.{is_address_char, ipv6-text-is-address-text}
-use Rattle.uri_parts.proofs.HostForms.Addresses.{address-text-lacks-other-marks}
+use Rattle.uri_parts.proofs.TextKinds.GrammarTexts.{utf8_around_ascii_byte, valid_text_lacks_excluded_marks}
+use Rattle.uri_parts.proofs.HostForms.Addresses.{is_address_char, ipv6-text-is-address-text, address-text-lacks-other-marks}
 use Rattle.uri_parts.proofs.Splitting.Recompose.{text-with-mark-is-mark-and-rest}
 
 -- hosts: the `v` of an IPvFuture address is ASCII

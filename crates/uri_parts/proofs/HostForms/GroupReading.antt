@@ -1,28 +1,16 @@
 -- One turn of reading the groups of an IPv6 address into their numbers.
-use Rattle.std.proofs.Common.{◌≡◌, ◌≢◌, ℕ, zero, suc, ◌+◌, ◌-◌, ◌<◌, ◌≤◌, ◌==◌, ◌⊎◌, nat_lt, max}
-use Rattle.std.proofs.Common.{Bool, Option, option_map, true, false, List, [], ◌∷◌, ◌++◌, length}
-use Rattle.std.proofs.Common.{take, drop, get_or, Some, None, replicate, refl, sym, ap, ◌∙◌, arith}
-use Rattle.std.proofs.Common.{inl, inr, ne_eqb, append-nil, append_assoc, length-append}
-use Rattle.std.proofs.Common.{length-take-le, get_or-take, get_or-drop}
+use Rattle.std.proofs.Common.{◌≡◌, ◌≢◌, ℕ, zero, suc, ◌+◌, ◌-◌, ◌<◌, ◌≤◌, ◌==◌, ◌⊎◌, nat_lt, max, Bool, Option, option_map, true, false, List, [], ◌∷◌, ◌++◌, length, take, drop, get_or, Some, None, replicate, refl, sym, ap, ◌∙◌, arith, inl, inr, ne_eqb, append-nil, append_assoc, length-append, length-take-le, get_or-take, get_or-drop}
 use Rattle.std.proofs.lemmas.Bool.{cases_lt}
-use Rattle.std.proofs.lemmas.List.{at_drop_more, at_drop_all, get_or_past, ext_get_or}
-use Rattle.std.proofs.lemmas.List.{get_or_append_left, get_or-append_right, get_or-append-add}
-use Rattle.std.proofs.lemmas.List.{get_or-replicate, length-replicate}
+use Rattle.std.proofs.lemmas.List.{at_drop_more, at_drop_all, get_or_past, ext_get_or, get_or_append_left, get_or-append_right, get_or-append-add, get_or-replicate, length-replicate}
 use Rattle.std.specs.Str.Parse.{digits_value}
-use Rattle.std.specs.Net.Reader.{read_segments, after, read_separator, read_ipv4, read_ipv4_if}
-use Rattle.std.specs.Net.Reader.{read_segment, read_byte, read_octet}
+use Rattle.std.specs.Net.Reader.{read_segments, after, read_separator, read_ipv4, read_ipv4_if, read_segment, read_byte, read_octet}
 use Rattle.std.proofs.NetLemmas.Numbers.{read_number_empty}
 use Rattle.std.proofs.NetLemmas.Ipv4.{read_ipv4_sound}
 use Rattle.std.proofs.NetLemmas.Options.{map_some}
 use Rattle.std.proofs.lemmas.Option.{none-some}
 use Rattle.std.proofs.lemmas.Bool.Decides.{nat_tests}
 use Rattle.uri_parts.specs.Models.Literals.{AreLeadingHexDigits, segments_of_ipv4}
-use Rattle.uri_parts.proofs.HostForms.AddressParsing.{hex_digits_are_read_as_segment}
-use Rattle.uri_parts.proofs.HostForms.AddressParsing.{five_digits_begin_no_ipv4}
-use Rattle.uri_parts.proofs.HostForms.AddressParsing.{no_dot_means_no_ipv4}
-use Rattle.uri_parts.proofs.HostForms.AddressParsing.{no_digits_are_no_segment}
-use Rattle.uri_parts.proofs.HostForms.AddressParsing.{five_digits_are_no_segment, IsSuffix}
-use Rattle.uri_parts.proofs.HostForms.AddressParsing.{text-after-prefix-is-suffix}
+use Rattle.uri_parts.proofs.HostForms.AddressParsing.{hex_digits_are_read_as_segment, five_digits_begin_no_ipv4, no_dot_means_no_ipv4, no_digits_are_no_segment, five_digits_are_no_segment, IsSuffix, text-after-prefix-is-suffix}
 
 -- general fact on options, for an IPv4 address
 option-is-none-if-mapped-is : {A B : Type 0} (f : A → B) (o : Option A) → option_map f o

@@ -1,10 +1,8 @@
 -- The test of a host is its grammar, and a text is a host of one kind.
-use Rattle.std.proofs.Common.{◌≡◌, ℕ, true, false, eqb, List, [], ◌∷◌, ◌++◌, refl, sym, ap, subst}
-use Rattle.std.proofs.Common.{◌∙◌, arith, ◌||◌, ⊎_elim, inl, inr, ◌⊎◌, Option, Some, None}
+use Rattle.std.proofs.Common.{◌≡◌, ℕ, true, false, eqb, List, [], ◌∷◌, ◌++◌, refl, sym, ap, subst, ◌∙◌, arith, ◌||◌, ⊎_elim, inl, inr, ◌⊎◌, Option, Some, None}
 use Rattle.std.specs.Prelude.{codes, is_some}
 use Rattle.std.specs.Str.{IsUtf8}
-use Rattle.std.proofs.lemmas.Bool.{and_parts, or_right, eqb-true, cond-true, cond-false, both_ways}
-use Rattle.std.proofs.lemmas.Bool.{cases_Bool}
+use Rattle.std.proofs.lemmas.Bool.{and_parts, or_right, eqb-true, cond-true, cond-false, both_ways, cases_Bool}
 use Rattle.std.proofs.lemmas.Bool.Decides.{nat_tests}
 use Rattle.std.proofs.lemmas.Slice.Eq.{bytes_eq-Decides}
 use Rattle.std.proofs.lemmas.Option.{none-some}
@@ -12,22 +10,12 @@ use Rattle.uri_pct.specs.Sets.{TableSet, LacksPercent, is_one_of, ipv_future_set
 use Rattle.uri_pct.specs.Tokens.{is_valid_for}
 use Rattle.uri_pct.proofs.ValidTexts.Cuts.{excludes}
 use Rattle.uri_parts.specs.Components.{Lacks, starts}
-use Rattle.uri_parts.specs.Hosts.{HostKind, Ipv4, Ipv6, IpvFuture, RegName, IsHost, IsIpvFuture}
-use Rattle.uri_parts.specs.Hosts.{IsIpv4Text, bracketed, literal_of, literal_kind, name_kind}
-use Rattle.uri_parts.specs.Hosts.{ipv4_value, ipv6_value, is_ipv_future, host_kind, is_host}
+use Rattle.uri_parts.specs.Hosts.{HostKind, Ipv4, Ipv6, IpvFuture, RegName, IsHost, IsIpvFuture, IsIpv4Text, bracketed, literal_of, literal_kind, name_kind, ipv4_value, ipv6_value, is_ipv_future, host_kind, is_host}
 use Rattle.uri_parts.proofs.Splitting.Cuts.{cut-at-end-of-text-without-marks}
-use Rattle.uri_parts.proofs.TextKinds.GrammarTexts.{utf8_around_ascii_byte}
-use Rattle.uri_parts.proofs.TextKinds.GrammarTexts.{valid_text_lacks_excluded_marks}
+use Rattle.uri_parts.proofs.TextKinds.GrammarTexts.{utf8_around_ascii_byte, valid_text_lacks_excluded_marks}
 use Rattle.uri_parts.proofs.Parsing.ScanStops.{utf8_after_ascii_byte}
-use Rattle.uri_parts.proofs.HostForms.Addresses.{is_address_char, is_address_text}
-use Rattle.uri_parts.proofs.HostForms.Addresses.{ipv6-text-is-address-text}
-use Rattle.uri_parts.proofs.HostForms.Addresses.{address-text-begins-with-address-char}
-use Rattle.uri_parts.proofs.HostForms.Addresses.{ipv4_value-complete, ipv4_value-sound}
-use Rattle.uri_parts.proofs.HostForms.Addresses.{ipv6_value-complete, ipv6_value-sound}
-use Rattle.uri_parts.proofs.HostForms.Futures.{is_ipv_future-complete, is_ipv_future-sound}
-use Rattle.uri_parts.proofs.HostForms.Futures.{ipv4-text-lacks-name-marks}
-use Rattle.uri_parts.proofs.HostForms.Futures.{ipv6-text-lacks-excluded-marks}
-use Rattle.uri_parts.proofs.HostForms.Futures.{ipvfuture-text-lacks-excluded-marks}
+use Rattle.uri_parts.proofs.HostForms.Addresses.{is_address_char, is_address_text, ipv6-text-is-address-text, address-text-begins-with-address-char, ipv4_value-complete, ipv4_value-sound, ipv6_value-complete, ipv6_value-sound}
+use Rattle.uri_parts.proofs.HostForms.Futures.{is_ipv_future-complete, is_ipv_future-sound, ipv4-text-lacks-name-marks, ipv6-text-lacks-excluded-marks, ipvfuture-text-lacks-excluded-marks}
 
 -- general fact on options, for the value of an IP address: there is one or none
 pub option-is-none-or-some : (o : Option (List ℕ)) → (o ≡ None) ⊎ ((x : List ℕ) × (o ≡ Some x))

@@ -1,7 +1,5 @@
 -- A text in brackets that begins with no `v` is parsed as an IPv6 address with `]` after it.
-use Rattle.std.proofs.Common.{◌≡◌, ℕ, ◌+◌, ◌-◌, ◌≤◌, Bool, true, false, List, [], ◌∷◌, ◌++◌, length}
-use Rattle.std.proofs.Common.{drop, Option, Some, None, option_map, refl, sym, ap, ◌∙◌, arith, ◌||◌}
-use Rattle.std.proofs.Common.{lit≤, eqb-true, length-append}
+use Rattle.std.proofs.Common.{◌≡◌, ℕ, ◌+◌, ◌-◌, ◌≤◌, Bool, true, false, List, [], ◌∷◌, ◌++◌, length, drop, Option, Some, None, option_map, refl, sym, ap, ◌∙◌, arith, ◌||◌, lit≤, eqb-true, length-append}
 use Rattle.std.specs.Prelude.{codes, is_some}
 use Rattle.std.specs.Net.Reader.{read_ipv6}
 use Rattle.std.proofs.lemmas.Bool.{false≢true, and_parts, false_from_ne_true}
@@ -13,11 +11,9 @@ use Rattle.uri_parts.specs.Components.{starts, before_any, from_any}
 use Rattle.uri_parts.specs.Hosts.{ipv6_value, is_ipv_future}
 use Rattle.uri_parts.specs.Models.Literals.{literal_length}
 use Rattle.uri_parts.proofs.Parsing.Acceptance.{is_literal, parses_literal}
-use Rattle.uri_parts.proofs.Splitting.Cuts.{IsEmptyOrMarked, text-is-cut-at-first-mark}
-use Rattle.uri_parts.proofs.Splitting.Cuts.{cut-at-end-of-text-without-marks}
+use Rattle.uri_parts.proofs.Splitting.Cuts.{IsEmptyOrMarked, text-is-cut-at-first-mark, cut-at-end-of-text-without-marks}
 use Rattle.uri_parts.proofs.HostForms.Addresses.{ipv6_value-complete, ipv6_value-sound}
-use Rattle.uri_parts.proofs.HostForms.AddressParsing.{IsSuffix, text-after-prefix-is-suffix}
-use Rattle.uri_parts.proofs.HostForms.AddressParsing.{suffix-at-position}
+use Rattle.uri_parts.proofs.HostForms.AddressParsing.{IsSuffix, text-after-prefix-is-suffix, suffix-at-position}
 use Rattle.uri_parts.proofs.HostForms.Futures.{ipv6-text-lacks-excluded-marks}
 use Rattle.uri_parts.proofs.HostForms.LiteralTexts.{text-without-version-letter-is-no-ipvfuture}
 

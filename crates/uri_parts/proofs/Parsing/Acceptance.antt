@@ -1,20 +1,15 @@
 -- Which texts are parsed, as tests of the text that is left: RFC 3986, sections 3 and 4.1. The
 -- parser
 -- returns no error for these (`Refusals.Accepted`), and they are those of the grammar.
-use Rattle.std.specs.Prelude.{ℕ, ◌+◌, Bool, true, not, ◌&&◌, ◌||◌, ◌==◌, List, drop, codes, nat_lt}
-use Rattle.std.specs.Prelude.{slice_index, is_some, if◌then◌else◌}
+use Rattle.std.specs.Prelude.{ℕ, ◌+◌, Bool, true, not, ◌&&◌, ◌||◌, ◌==◌, List, drop, codes, nat_lt, slice_index, is_some, if◌then◌else◌}
 use Rattle.std.specs.Char.{is_ascii_alphabetic}
-use Rattle.uri_pct.specs.Delimiters.{at_sign, colon, full_stop, left_bracket, number_sign}
-use Rattle.uri_pct.specs.Delimiters.{percent_sign, question_mark, right_bracket}
+use Rattle.uri_pct.specs.Delimiters.{at_sign, colon, full_stop, left_bracket, number_sign, percent_sign, question_mark, right_bracket}
 use Rattle.uri_pct.specs.Prefixes.{valid_prefix, after}
 use Rattle.uri_pct.specs.Sets.{TableSet, hexdig_set, ipv_future_set, scheme_set}
 use Rattle.uri_parts.specs.Components.{starts, from_any, has_authority, is_end}
 use Rattle.uri_parts.specs.Grammar.{Kind}
 use Rattle.uri_parts.specs.Hosts.{ipv6_value, is_ipv_future}
-use Rattle.uri_parts.specs.Models.AuthorityParsing.{is_empty_or_begins_with_any}
-use Rattle.uri_parts.specs.Models.AuthorityParsing.{name_ends_authority, text_from_host}
-use Rattle.uri_parts.specs.Models.AuthorityParsing.{found_authority_length}
-use Rattle.uri_parts.specs.Models.AuthorityParsing.{host_and_port_length, userinfo_length}
+use Rattle.uri_parts.specs.Models.AuthorityParsing.{is_empty_or_begins_with_any, name_ends_authority, text_from_host, found_authority_length, host_and_port_length, userinfo_length}
 use Rattle.uri_parts.specs.Models.Literals.{text_before_bracket}
 
 -- what may be in brackets

@@ -1,6 +1,5 @@
 -- What the parser accepts is the grammar of its kind.
-use Rattle.std.proofs.Common.{◌≡◌, ℕ, Bool, true, false, eqb, List, [], ◌∷◌, drop, refl, sym, ap}
-use Rattle.std.proofs.Common.{◌∙◌, arith, ◌&&◌, ⊎_elim}
+use Rattle.std.proofs.Common.{◌≡◌, ℕ, Bool, true, false, eqb, List, [], ◌∷◌, drop, refl, sym, ap, ◌∙◌, arith, ◌&&◌, ⊎_elim}
 use Rattle.std.specs.Prelude.{codes}
 use Rattle.std.specs.Str.{IsUtf8}
 use Rattle.std.proofs.lemmas.Bool.{cases_Bool, cond-false, eq-eqb, eqb-true, ne_eqb, both_ways}
@@ -8,14 +7,11 @@ use Rattle.std.proofs.Math.Bool.{and-true, or-false}
 use Rattle.std.proofs.lemmas.Bool.Decides.{nat_tests}
 use Rattle.uri_pct.specs.Sets.{TableSet, is_one_of}
 use Rattle.uri_pct.specs.Tokens.{is_valid_for}
-use Rattle.uri_pct.proofs.ValidTexts.MarksInTexts.{AreAscii-by-test, cut_leaves_mark_or_nothing}
-use Rattle.uri_pct.proofs.ValidTexts.MarksInTexts.{length_before_marks_counts_other_byte}
+use Rattle.uri_pct.proofs.ValidTexts.MarksInTexts.{AreAscii-by-test, cut_leaves_mark_or_nothing, length_before_marks_counts_other_byte}
 use Rattle.uri_parts.specs.Components.{before_any, from_any, starts, when, after_query, is_end}
-use Rattle.uri_parts.proofs.Parsing.Acceptance.{parses_after, parses_fragment, parses_end}
-use Rattle.uri_parts.proofs.Parsing.Acceptance.{parses_path}
+use Rattle.uri_parts.proofs.Parsing.Acceptance.{parses_after, parses_fragment, parses_end, parses_path}
 use Rattle.uri_parts.specs.Grammar.{Kind, absent_or_passes}
-use Rattle.uri_parts.proofs.Parsing.ScanStops.{parses_after-is-valid-before-mark, utf8_from_marks}
-use Rattle.uri_parts.proofs.Parsing.ScanStops.{utf8_after_ascii_byte}
+use Rattle.uri_parts.proofs.Parsing.ScanStops.{parses_after-is-valid-before-mark, utf8_from_marks, utf8_after_ascii_byte}
 use Rattle.uri_parts.proofs.TextKinds.Separations.{SeparatesComponents}
 
 -- general fact on numbers, for comparing bytes in the parser

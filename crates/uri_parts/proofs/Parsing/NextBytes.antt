@@ -1,6 +1,5 @@
 -- What is next at a position in a text.
-use Rattle.std.proofs.Common.{◌≡◌, ℕ, ◌+◌, ◌<◌, ◌≤◌, true, false, eqb, ltb, List, [], ◌∷◌, length}
-use Rattle.std.proofs.Common.{get_or, drop, refl, sym, ap, ◌∙◌, arith, ◌&&◌, ◌||◌, ⊎_elim}
+use Rattle.std.proofs.Common.{◌≡◌, ℕ, ◌+◌, ◌<◌, ◌≤◌, true, false, eqb, ltb, List, [], ◌∷◌, length, get_or, drop, refl, sym, ap, ◌∙◌, arith, ◌&&◌, ◌||◌, ⊎_elim}
 use Rattle.std.proofs.lemmas.Bool.{cases_lt, cond-false, eq-eqb, ne_eqb}
 use Rattle.std.proofs.lemmas.List.{drop_more, drop_all, drop-drop}
 use Rattle.std.specs.Prelude.{codes}
@@ -12,8 +11,7 @@ use Rattle.uri_pct.proofs.ValidTexts.Prefixes.{nothing_is_scanned_after_valid_pr
 use Rattle.uri_pct.proofs.ValidTexts.PrefixSteps.{unscanned_percent_has_no_hex_digits}
 use Rattle.uri_parts.specs.Components.{starts, is_end}
 use Rattle.uri_parts.specs.Grammar.{Kind}
-use Rattle.uri_parts.specs.Models.AuthorityParsing.{is_empty_or_begins_with_any}
-use Rattle.uri_parts.specs.Models.AuthorityParsing.{name_and_port_length, port_length}
+use Rattle.uri_parts.specs.Models.AuthorityParsing.{is_empty_or_begins_with_any, name_and_port_length, port_length}
 
 -- parsing: what is left from index i begins with a byte exactly if this is the byte at i
 pub starts_at_position : (mark i : ℕ) (text : List ℕ)

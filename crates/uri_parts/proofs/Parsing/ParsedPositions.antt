@@ -1,11 +1,9 @@
 -- The positions that are parsed are those of the components.
-use Rattle.std.proofs.Common.{◌≡◌, ℕ, ◌+◌, Bool, true, false, eqb, not, List, ◌∷◌, length, get_or}
-use Rattle.std.proofs.Common.{drop, refl, sym, ap, ◌∙◌, arith, ◌&&◌, ⊎_elim, lit<}
+use Rattle.std.proofs.Common.{◌≡◌, ℕ, ◌+◌, Bool, true, false, eqb, not, List, ◌∷◌, length, get_or, drop, refl, sym, ap, ◌∙◌, arith, ◌&&◌, ⊎_elim, lit<}
 use Rattle.std.specs.Prelude.{codes, Some, None, Option, option_map}
 use Rattle.std.specs.Char.{is_ascii_alphabetic}
 use Rattle.std.specs.Str.{IsUtf8}
-use Rattle.std.proofs.lemmas.Bool.{cases_Bool, cond-true, cond-false, and_left, and_from, and_parts}
-use Rattle.std.proofs.lemmas.Bool.{ne_eqb, both_ways, not_from_false, false_from_ne_true}
+use Rattle.std.proofs.lemmas.Bool.{cases_Bool, cond-true, cond-false, and_left, and_from, and_parts, ne_eqb, both_ways, not_from_false, false_from_ne_true}
 use Rattle.std.proofs.lemmas.Bool.Decides.{nat_tests}
 use Rattle.uri_pct.specs.Sets.{TableSet, LacksPercent, is_one_of, scheme_set}
 use Rattle.uri_pct.specs.Prefixes.{valid_prefix, after}
@@ -14,36 +12,20 @@ use Rattle.uri_pct.proofs.ValidTexts.MarksInTexts.{length_before_marks, AreAscii
 use Rattle.uri_pct.proofs.ValidTexts.Prefixes.{valid_prefix_of_superset_goes_on_from_subset}
 use Rattle.uri_parts.specs.declared.positions.Positions.{Positions}
 use Rattle.uri_parts.specs.declared.positions.AuthorityPositions.{AuthorityPositions}
-use Rattle.uri_parts.specs.Components.{before_any, from_any, starts, has_authority, has_scheme}
-use Rattle.uri_parts.specs.Components.{after_authority, components, when}
+use Rattle.uri_parts.specs.Components.{before_any, from_any, starts, has_authority, has_scheme, after_authority, components, when}
 use Rattle.uri_parts.specs.Positions.{positions_of, delimited_length, authority_at}
 use Rattle.uri_parts.specs.Grammar.{Kind}
 use Rattle.uri_parts.specs.Models.AuthorityParsing.{found_authority_length}
-use Rattle.uri_parts.specs.Models.Parsing.{query_end_at, path_positions, authority_positions}
-use Rattle.uri_parts.specs.Models.Parsing.{hier_part_positions, relative_positions}
-use Rattle.uri_parts.specs.Models.Parsing.{schemeless_positions, parsed_positions}
-use Rattle.uri_parts.proofs.Parsing.Acceptance.{finds_authority, is_stray, parses_fragment}
-use Rattle.uri_parts.proofs.Parsing.Acceptance.{parses_end, parses_path, parses_authority}
-use Rattle.uri_parts.proofs.Parsing.Acceptance.{parses_relative, parses_hier_part}
-use Rattle.uri_parts.proofs.Parsing.Acceptance.{parses_schemeless, parses}
-use Rattle.uri_parts.proofs.Parsing.ScanStops.{scan-stops-at-first-mark-or-within, utf8_from_marks}
-use Rattle.uri_parts.proofs.Parsing.ScanStops.{utf8_after_mark, utf8_after_slashes}
+use Rattle.uri_parts.specs.Models.Parsing.{query_end_at, path_positions, authority_positions, hier_part_positions, relative_positions, schemeless_positions, parsed_positions}
+use Rattle.uri_parts.proofs.Parsing.Acceptance.{finds_authority, is_stray, parses_fragment, parses_end, parses_path, parses_authority, parses_relative, parses_hier_part, parses_schemeless, parses}
+use Rattle.uri_parts.proofs.Parsing.ScanStops.{scan-stops-at-first-mark-or-within, utf8_from_marks, utf8_after_mark, utf8_after_slashes}
 use Rattle.uri_parts.proofs.Authorities.AuthorityCuts.{length-of-text-before-marks}
 use Rattle.uri_parts.proofs.TextKinds.Separations.{SeparatesComponents}
 use Rattle.uri_parts.proofs.Parsing.Accepts.{parses_fragment-not-at-other, parses_end-not-at-other}
 use Rattle.uri_parts.proofs.Authorities.FoundAuthorities.{found-authority-is-the-cut-one}
 use Rattle.uri_parts.proofs.Splitting.Hierarchies.{text_after_found_authority}
-use Rattle.uri_parts.proofs.Splitting.Relative.{scheme_set_lacks_percent}
-use Rattle.uri_parts.proofs.Splitting.Relative.{scheme_set_excludes_delimiters}
-use Rattle.uri_parts.proofs.Splitting.Relative.{scan_stops_at_first_colon}
-use Rattle.uri_parts.proofs.Splitting.Relative.{parses_path-after-segment, after_path-after-segment}
-use Rattle.uri_parts.proofs.Splitting.Relative.{parses_relative-rejects-scheme}
-use Rattle.uri_parts.proofs.Splitting.Relative.{after_segment-after-scheme-chars}
-use Rattle.uri_parts.proofs.Splitting.Relative.{parses_relative-after-scheme-chars}
-use Rattle.uri_parts.proofs.Parsing.WholeTexts.{colon_is_no_letter, slashes-are-first-mark}
-use Rattle.uri_parts.proofs.Parsing.WholeTexts.{slashes-begin-with-no-colon}
-use Rattle.uri_parts.proofs.Parsing.WholeTexts.{slashes-begin-with-no-scheme}
-use Rattle.uri_parts.proofs.Parsing.WholeTexts.{slashes-follow-no-scheme-characters}
+use Rattle.uri_parts.proofs.Splitting.Relative.{scheme_set_lacks_percent, scheme_set_excludes_delimiters, scan_stops_at_first_colon, parses_path-after-segment, after_path-after-segment, parses_relative-rejects-scheme, after_segment-after-scheme-chars, parses_relative-after-scheme-chars}
+use Rattle.uri_parts.proofs.Parsing.WholeTexts.{colon_is_no_letter, slashes-are-first-mark, slashes-begin-with-no-colon, slashes-begin-with-no-scheme, slashes-follow-no-scheme-characters}
 
 -- parser: a byte that is not the delimiter `#` is not 35
 other-byte-is-no-hash : (b : ℕ) → is_one_of (codes "#") b ≡ false → eqb b 35 ≡ false

@@ -1,6 +1,5 @@
 -- Where a scan for a set stops: at the first mark, or at a character that is neither.
-use Rattle.std.proofs.Common.{◌≡◌, ℕ, ◌<◌, Bool, true, false, not, List, [], ◌∷◌, length, get_or}
-use Rattle.std.proofs.Common.{drop, refl, sym, ap, ◌∙◌, arith, ◌&&◌, ⊎_elim, inl, inr, ◌⊎◌}
+use Rattle.std.proofs.Common.{◌≡◌, ℕ, ◌<◌, Bool, true, false, not, List, [], ◌∷◌, length, get_or, drop, refl, sym, ap, ◌∙◌, arith, ◌&&◌, ⊎_elim, inl, inr, ◌⊎◌}
 use Rattle.std.specs.Str.{IsUtf8}
 use Rattle.std.proofs.lemmas.Str.{IsUtf8-drop, IsCharBoundary-after_ascii}
 use Rattle.std.proofs.lemmas.List.{drop_more}
@@ -10,11 +9,8 @@ use Rattle.std.proofs.lemmas.Bool.Decides.{nat_tests}
 use Rattle.uri_pct.specs.Sets.{TableSet, LacksPercent, is_one_of}
 use Rattle.uri_pct.specs.Tokens.{is_valid_for}
 use Rattle.uri_pct.specs.Prefixes.{valid_prefix, after}
-use Rattle.uri_pct.proofs.ValidTexts.Cuts.{excludes, excluded_mark_is_no_percent, cut}
-use Rattle.uri_pct.proofs.ValidTexts.Cuts.{valid_prefix-ends-by-mark}
-use Rattle.uri_pct.proofs.ValidTexts.MarksInTexts.{AreAscii, length_before_marks}
-use Rattle.uri_pct.proofs.ValidTexts.MarksInTexts.{first_mark_is_at_boundary}
-use Rattle.uri_pct.proofs.ValidTexts.MarksInTexts.{cut_leaves_mark_or_nothing}
+use Rattle.uri_pct.proofs.ValidTexts.Cuts.{excludes, excluded_mark_is_no_percent, cut, valid_prefix-ends-by-mark}
+use Rattle.uri_pct.proofs.ValidTexts.MarksInTexts.{AreAscii, length_before_marks, first_mark_is_at_boundary, cut_leaves_mark_or_nothing}
 use Rattle.uri_pct.proofs.ValidTexts.Prefixes.{nothing_is_scanned_after_valid_prefix}
 use Rattle.uri_parts.specs.Components.{before_any, from_any, starts, has_authority}
 use Rattle.uri_parts.proofs.Parsing.Acceptance.{is_stray, parses_after}

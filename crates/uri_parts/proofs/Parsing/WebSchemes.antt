@@ -1,6 +1,5 @@
 -- Where the scheme of a text ends that begins with `http:` or `https:`.
-use Rattle.std.proofs.Common.{◌≡◌, ℕ, ◌+◌, ◌<◌, List, ◌∷◌, length, get_or, drop, refl, sym, ap, ◌∙◌}
-use Rattle.std.proofs.Common.{arith}
+use Rattle.std.proofs.Common.{◌≡◌, ℕ, ◌+◌, ◌<◌, List, ◌∷◌, length, get_or, drop, refl, sym, ap, ◌∙◌, arith}
 use Rattle.std.proofs.lemmas.List.{drop_more, drop-drop}
 use Rattle.uri_pct.specs.Prefixes.{valid_prefix, valid_prefix_from, allows_first}
 use Rattle.uri_pct.specs.Sets.{scheme_set}

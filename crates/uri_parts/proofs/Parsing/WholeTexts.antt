@@ -1,13 +1,9 @@
 -- A whole text is parsed where it is of its kind.
-use Rattle.std.proofs.Common.{◌≡◌, ℕ, Bool, true, false, cond, eqb, not, List, [], ◌∷◌, get_or}
-use Rattle.std.proofs.Common.{drop, refl, sym, ap, ◌∙◌, ◌||◌, ◌&&◌, ⊎_elim, lit<, arith}
+use Rattle.std.proofs.Common.{◌≡◌, ℕ, Bool, true, false, cond, eqb, not, List, [], ◌∷◌, get_or, drop, refl, sym, ap, ◌∙◌, ◌||◌, ◌&&◌, ⊎_elim, lit<, arith}
 use Rattle.std.specs.Prelude.{codes, is_some}
 use Rattle.std.specs.Char.{is_ascii_alphabetic}
 use Rattle.std.specs.Str.{IsUtf8}
-use Rattle.std.proofs.lemmas.Bool.{cases_Bool, cond-true, cond-false, and_left, and_right, and_from}
-use Rattle.std.proofs.lemmas.Bool.{and_parts, eq-eqb, eqb-true, ne_eqb, not_from_true}
-use Rattle.std.proofs.lemmas.Bool.{not_from_false, not-true, both_ways, false≢true}
-use Rattle.std.proofs.lemmas.Bool.{false_from_ne_true, or_left}
+use Rattle.std.proofs.lemmas.Bool.{cases_Bool, cond-true, cond-false, and_left, and_right, and_from, and_parts, eq-eqb, eqb-true, ne_eqb, not_from_true, not_from_false, not-true, both_ways, false≢true, false_from_ne_true, or_left}
 use Rattle.std.proofs.Math.Bool.{and-true, and_assoc}
 use Rattle.std.proofs.lemmas.Bool.Decides.{nat_tests}
 use Rattle.uri_pct.specs.Sets.{TableSet, is_one_of, scheme_set}
@@ -15,25 +11,14 @@ use Rattle.uri_pct.specs.Tokens.{is_valid_for}
 use Rattle.uri_pct.specs.Prefixes.{valid_prefix, after}
 use Rattle.uri_pct.proofs.ValidTexts.Cuts.{cut, valid_prefix_at_mark_is_empty}
 use Rattle.uri_pct.proofs.ValidTexts.MarksInTexts.{AreAscii-by-test, length_before_marks}
-use Rattle.uri_parts.specs.Components.{before_any, from_any, starts, has_authority, has_scheme}
-use Rattle.uri_parts.specs.Components.{after_scheme, after_authority, components, when}
-use Rattle.uri_parts.specs.Grammar.{Kind, absent_or_passes, is_scheme, is_authority}
-use Rattle.uri_parts.specs.Grammar.{has_colon_in_first_segment, is_of_kind}
-use Rattle.uri_parts.proofs.Parsing.Acceptance.{parses_path, parses_authority, parses_relative}
-use Rattle.uri_parts.proofs.Parsing.Acceptance.{parses_hier_part, parses_schemeless, parses}
+use Rattle.uri_parts.specs.Components.{before_any, from_any, starts, has_authority, has_scheme, after_scheme, after_authority, components, when}
+use Rattle.uri_parts.specs.Grammar.{Kind, absent_or_passes, is_scheme, is_authority, has_colon_in_first_segment, is_of_kind}
+use Rattle.uri_parts.proofs.Parsing.Acceptance.{parses_path, parses_authority, parses_relative, parses_hier_part, parses_schemeless, parses}
 use Rattle.uri_parts.proofs.Parsing.ScanStops.{utf8_from_marks, utf8_after_mark, utf8_after_slashes}
 use Rattle.uri_parts.proofs.TextKinds.Separations.{SeparatesComponents}
-use Rattle.uri_parts.proofs.Parsing.Accepts.{fragment_is_valid, query_and_fragment_are_valid}
-use Rattle.uri_parts.proofs.Parsing.Accepts.{parses_path-is-valid-path-and-end}
-use Rattle.uri_parts.proofs.Splitting.Hierarchies.{hierarchy_is_valid, parses_hier_part-is-valid}
-use Rattle.uri_parts.proofs.Splitting.Hierarchies.{parses_authority-is-valid}
-use Rattle.uri_parts.proofs.Splitting.Relative.{scheme_set_lacks_percent}
-use Rattle.uri_parts.proofs.Splitting.Relative.{scheme_set_excludes_delimiters}
-use Rattle.uri_parts.proofs.Splitting.Relative.{scan_stops_at_first_colon}
-use Rattle.uri_parts.proofs.Splitting.Relative.{colon_in_first_segment-is-at-start}
-use Rattle.uri_parts.proofs.Splitting.Relative.{parses_relative-without-scheme}
-use Rattle.uri_parts.proofs.Splitting.Relative.{parses_relative-rejects-scheme}
-use Rattle.uri_parts.proofs.Splitting.Relative.{parses_relative-after-scheme-chars}
+use Rattle.uri_parts.proofs.Parsing.Accepts.{fragment_is_valid, query_and_fragment_are_valid, parses_path-is-valid-path-and-end}
+use Rattle.uri_parts.proofs.Splitting.Hierarchies.{hierarchy_is_valid, parses_hier_part-is-valid, parses_authority-is-valid}
+use Rattle.uri_parts.proofs.Splitting.Relative.{scheme_set_lacks_percent, scheme_set_excludes_delimiters, scan_stops_at_first_colon, colon_in_first_segment-is-at-start, parses_relative-without-scheme, parses_relative-rejects-scheme, parses_relative-after-scheme-chars}
 use Rattle.uri_parts.proofs.Splitting.Cuts.{before_any-past-other, from_any-at-mark}
 
 -- general fact on booleans, for parsing a whole text

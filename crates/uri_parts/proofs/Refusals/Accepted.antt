@@ -1,7 +1,5 @@
 -- A text has no error exactly where it is parsed.
-use Rattle.std.proofs.Common.{◌≡◌, ℕ, ◌+◌, Bool, true, false, not, cond, eqb, List, drop, Some, ap}
-use Rattle.std.proofs.Common.{None, refl, subst, ◌∙◌, arith, lit<, ⊎_elim, ◌&&◌, zero-add, add-zero}
-use Rattle.std.proofs.Common.{add_assoc}
+use Rattle.std.proofs.Common.{◌≡◌, ℕ, ◌+◌, Bool, true, false, not, cond, eqb, List, drop, Some, ap, None, refl, subst, ◌∙◌, arith, lit<, ⊎_elim, ◌&&◌, zero-add, add-zero, add_assoc}
 use Rattle.std.proofs.Math.Bool.{and-false, and-true, and_assoc}
 use Rattle.std.specs.Prelude.{Ok, Err, codes, is_none, is_ok, Result}
 use Rattle.std.specs.Result.{result_err}
@@ -16,22 +14,11 @@ use Rattle.uri_pct.proofs.ValidTexts.LongestPrefixes.{valid_prefix_ends_at_bound
 use Rattle.uri_parts.specs.declared.error.ParseError.{ParseError}
 use Rattle.uri_parts.specs.Components.{starts, has_authority}
 use Rattle.uri_parts.specs.Grammar.{Kind}
-use Rattle.uri_parts.specs.Refusals.{OptionalParseError, ◌>>=◌, error_from_end, error_from_fragment}
-use Rattle.uri_parts.specs.Refusals.{error_from_query, error_from_path, error_from_relative_path}
+use Rattle.uri_parts.specs.Refusals.{OptionalParseError, ◌>>=◌, error_from_end, error_from_fragment, error_from_query, error_from_path, error_from_relative_path}
 use Rattle.uri_parts.specs.Scanning.{is_next, scan_end, scan}
-use Rattle.uri_parts.specs.Models.AuthorityParsing.{is_empty_or_begins_with_any, port_length}
-use Rattle.uri_parts.specs.Models.AuthorityParsing.{name_and_port_length, name_ends_authority}
-use Rattle.uri_parts.specs.Models.AuthorityParsing.{host_end, host_and_port_length, userinfo_length}
-use Rattle.uri_parts.specs.Models.AuthorityParsing.{further_userinfo_length, host_offset}
-use Rattle.uri_parts.specs.Models.AuthorityParsing.{other_authority_length, found_authority_length}
-use Rattle.uri_parts.specs.Models.ParseErrors.{left_over_error, name_error, error_after_port}
-use Rattle.uri_parts.specs.Models.ParseErrors.{port_error, host_error, userinfo_error, parsed_error}
-use Rattle.uri_parts.specs.Models.ParseErrors.{other_authority_error, authority_error}
-use Rattle.uri_parts.specs.Models.ParseErrors.{hier_part_error, schemeless_error}
-use Rattle.uri_parts.proofs.Parsing.Acceptance.{passes_host, finds_host, passes_user, finds_other}
-use Rattle.uri_parts.proofs.Parsing.Acceptance.{finds_authority, parses_fragment, parses_end}
-use Rattle.uri_parts.proofs.Parsing.Acceptance.{parses_path, parses_authority, parses_relative}
-use Rattle.uri_parts.proofs.Parsing.Acceptance.{parses_hier_part, parses_schemeless, parses}
+use Rattle.uri_parts.specs.Models.AuthorityParsing.{is_empty_or_begins_with_any, port_length, name_and_port_length, name_ends_authority, host_end, host_and_port_length, userinfo_length, further_userinfo_length, host_offset, other_authority_length, found_authority_length}
+use Rattle.uri_parts.specs.Models.ParseErrors.{left_over_error, name_error, error_after_port, port_error, host_error, userinfo_error, parsed_error, other_authority_error, authority_error, hier_part_error, schemeless_error}
+use Rattle.uri_parts.proofs.Parsing.Acceptance.{passes_host, finds_host, passes_user, finds_other, finds_authority, parses_fragment, parses_end, parses_path, parses_authority, parses_relative, parses_hier_part, parses_schemeless, parses}
 use Rattle.uri_parts.proofs.Authorities.UserinfoLengths.{userinfo_length-is-valid_prefix}
 use Rattle.uri_parts.proofs.Parsing.ScanStops.{utf8_after_mark, utf8_after_slashes}
 use Rattle.uri_parts.proofs.Refusals.LiteralEnds.{literal-ends-as-parsed}

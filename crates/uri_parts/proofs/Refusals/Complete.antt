@@ -1,35 +1,22 @@
 -- An IPv6 address with a `]` after it is read.
-use Rattle.std.proofs.Common.{◌≡◌, ℕ, zero, suc, ◌+◌, ◌-◌, ◌<◌, ◌≤◌, Bool, true, false, not, cond}
-use Rattle.std.proofs.Common.{eqb, List, [], ◌∷◌, ◌++◌, length, drop, decimal, Option, Some, None}
-use Rattle.std.proofs.Common.{refl, sym, ap, subst, ◌∙◌, arith, ◌&&◌, ◌||◌, ⊎_elim, inl, inr, lit≤}
-use Rattle.std.proofs.Common.{append_assoc, length-append}
+use Rattle.std.proofs.Common.{◌≡◌, ℕ, zero, suc, ◌+◌, ◌-◌, ◌<◌, ◌≤◌, Bool, true, false, not, cond, eqb, List, [], ◌∷◌, ◌++◌, length, drop, decimal, Option, Some, None, refl, sym, ap, subst, ◌∙◌, arith, ◌&&◌, ◌||◌, ⊎_elim, inl, inr, lit≤, append_assoc, length-append}
 use Rattle.std.specs.Prelude.{nat_lt, codes, IsTrue}
 use Rattle.std.specs.Char.{digit_value}
 use Rattle.std.specs.Str.Parse.{AllDigits}
 use Rattle.std.specs.Net.Addr.{segments_of}
 use Rattle.std.specs.Net.Grammar.{IsDotted, IsGroupsAfter, IsColonHex}
 use Rattle.std.specs.Net.Reader.{digit_count}
-use Rattle.std.proofs.lemmas.Bool.{cond-true, cond-false, cases_Bool, and_from, and_right, ne_eqb}
-use Rattle.std.proofs.lemmas.Bool.{not-true, eq-eqb, lt-ltb, eqb-true, both_ways}
-use Rattle.std.proofs.lemmas.Bool.{and_parts}
+use Rattle.std.proofs.lemmas.Bool.{cond-true, cond-false, cases_Bool, and_from, and_right, ne_eqb, not-true, eq-eqb, lt-ltb, eqb-true, both_ways, and_parts}
 use Rattle.std.proofs.lemmas.Fmt.{decimal_is_IsNumeral, length-decimal-le}
 use Rattle.std.proofs.NetLemmas.Numbers.{NoDigit, digit_count_none}
 use Rattle.std.proofs.lemmas.Bool.Decides.{nat_tests}
 use Rattle.uri_pct.proofs.General.{second-holds-if-first-is-false}
 use Rattle.uri_parts.specs.Components.{starts, is_end}
-use Rattle.uri_parts.specs.LiteralErrors.{Groups, Groups_end, Elision, digits_end, ipv4_end}
-use Rattle.uri_parts.specs.LiteralErrors.{after_ipv4, groups_from, ipv6_end, cannot_begin_ipv6}
-use Rattle.uri_parts.specs.LiteralErrors.{after_groups, after_elision}
+use Rattle.uri_parts.specs.LiteralErrors.{Groups, Groups_end, Elision, digits_end, ipv4_end, after_ipv4, groups_from, ipv6_end, cannot_begin_ipv6, after_groups, after_elision}
 use Rattle.uri_parts.proofs.Splitting.Recompose.{text-with-mark-is-mark-and-rest}
 use Rattle.uri_parts.proofs.HostForms.AddressParsing.{dotted as dotted_with}
-use Rattle.uri_parts.proofs.Refusals.GroupTurns.{groups_from-ends-without-room, dotted}
-use Rattle.uri_parts.proofs.Refusals.GroupTurns.{text-with-mark-is-not-ended}
-use Rattle.uri_parts.proofs.Refusals.GroupTurns.{groups_from-ends-without-group}
-use Rattle.uri_parts.proofs.Refusals.GroupTurns.{groups_from-elides-at-two-colons}
-use Rattle.uri_parts.proofs.Refusals.GroupTurns.{groups_from-goes-on-after-group}
-use Rattle.uri_parts.proofs.Refusals.Ipv4Ends.{suffix-after-prefix-at-position}
-use Rattle.uri_parts.proofs.Refusals.Ipv4Ends.{suffix-after-mark-at-position}
-use Rattle.uri_parts.proofs.Refusals.Ipv4Ends.{digits_end-is-after-digits, ipv4_end-finds-ipv4-text}
+use Rattle.uri_parts.proofs.Refusals.GroupTurns.{groups_from-ends-without-room, dotted, text-with-mark-is-not-ended, groups_from-ends-without-group, groups_from-elides-at-two-colons, groups_from-goes-on-after-group}
+use Rattle.uri_parts.proofs.Refusals.Ipv4Ends.{suffix-after-prefix-at-position, suffix-after-mark-at-position, digits_end-is-after-digits, ipv4_end-finds-ipv4-text}
 
 -- parse errors: what is before a group of an IPv6 address
 abbrev lead : Bool → List ℕ

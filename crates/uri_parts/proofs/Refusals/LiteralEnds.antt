@@ -1,6 +1,5 @@
 -- An address in brackets ends where it is cut, and has an error exactly where it is none.
-use Rattle.std.proofs.Common.{◌≡◌, ℕ, ◌+◌, ◌-◌, Bool, true, false, cond, List, drop, refl, sym, ap}
-use Rattle.std.proofs.Common.{◌∙◌, arith, ◌&&◌, ◌||◌, ⊎_elim, length-drop, add_assoc}
+use Rattle.std.proofs.Common.{◌≡◌, ℕ, ◌+◌, ◌-◌, Bool, true, false, cond, List, drop, refl, sym, ap, ◌∙◌, arith, ◌&&◌, ◌||◌, ⊎_elim, length-drop, add_assoc}
 use Rattle.std.specs.Prelude.{Ok, Err, is_ok, codes, nat_lt, length}
 use Rattle.std.specs.Str.{IsUtf8, IsCharBoundary}
 use Rattle.std.proofs.lemmas.Bool.{cond-true, cond-false, cases_Bool, false≢true}
@@ -17,18 +16,11 @@ use Rattle.uri_parts.specs.Errors.{unexpected}
 use Rattle.uri_parts.specs.LiteralErrors.{literal}
 use Rattle.uri_parts.specs.Scanning.{ScanResult, scan_end, scan_to_mark}
 use Rattle.uri_parts.specs.Models.Literals.{literal_length}
-use Rattle.uri_parts.proofs.Parsing.Acceptance.{parses_literal, parses_marked, length_to_mark}
-use Rattle.uri_parts.proofs.Parsing.Acceptance.{parses_future, future_length}
-use Rattle.uri_parts.proofs.HostForms.FutureParsing.{literal-at-position-parses-as-ipvfuture}
-use Rattle.uri_parts.proofs.HostForms.FutureParsing.{length-of-ipvfuture-at-position}
+use Rattle.uri_parts.proofs.Parsing.Acceptance.{parses_literal, parses_marked, length_to_mark, parses_future, future_length}
+use Rattle.uri_parts.proofs.HostForms.FutureParsing.{literal-at-position-parses-as-ipvfuture, length-of-ipvfuture-at-position}
 use Rattle.uri_parts.proofs.HostForms.LiteralFaults.{literal_error_is_in_text}
-use Rattle.uri_parts.proofs.HostForms.Ipv6Literals.{ipv6-and-bracket-are-parsed-literal}
-use Rattle.uri_parts.proofs.HostForms.Ipv6Literals.{literal_is_ipv6_and_bracket}
-use Rattle.uri_parts.proofs.HostForms.Ipv6Literals.{text-after-ipv6-is-suffix}
-use Rattle.uri_parts.proofs.Refusals.Literals.{literal-with-version-letter-scans-ipvfuture}
-use Rattle.uri_parts.proofs.Refusals.Literals.{literal-rejects-unparsed}
-use Rattle.uri_parts.proofs.Refusals.Literals.{literal-ends-after-read-ipv6}
-use Rattle.uri_parts.proofs.Refusals.Literals.{text-with-bracket-is-nonempty}
+use Rattle.uri_parts.proofs.HostForms.Ipv6Literals.{ipv6-and-bracket-are-parsed-literal, literal_is_ipv6_and_bracket, text-after-ipv6-is-suffix}
+use Rattle.uri_parts.proofs.Refusals.Literals.{literal-with-version-letter-scans-ipvfuture, literal-rejects-unparsed, literal-ends-after-read-ipv6, text-with-bracket-is-nonempty}
 
 -- parse errors: an IP literal ends there, or the result is some error
 abbrev pub Ends : Bool → ℕ → ScanResult → Type 0

@@ -1,13 +1,10 @@
 -- The errors of an address in brackets.
-use Rattle.std.proofs.Common.{◌≡◌, ℕ, ◌+◌, ◌-◌, ◌<◌, true, false, eqb, List, [], ◌∷◌, ◌++◌, length}
-use Rattle.std.proofs.Common.{Option, drop, get_or, Some, None, refl, sym, ap, ◌∙◌, arith, ◌||◌}
-use Rattle.std.proofs.Common.{⊎_elim, get_or-drop, add-zero, length-append, length-drop}
+use Rattle.std.proofs.Common.{◌≡◌, ℕ, ◌+◌, ◌-◌, ◌<◌, true, false, eqb, List, [], ◌∷◌, ◌++◌, length, Option, drop, get_or, Some, None, refl, sym, ap, ◌∙◌, arith, ◌||◌, ⊎_elim, get_or-drop, add-zero, length-append, length-drop}
 use Rattle.std.specs.Prelude.{Ok, Err, is_ok, option_map, codes}
 use Rattle.std.specs.Char.{is_digit}
 use Rattle.std.specs.Net.Grammar.{IsColonHex}
 use Rattle.std.specs.Net.Reader.{read_ipv6, digit_count}
-use Rattle.std.proofs.lemmas.Bool.{cond-true, cond-false, cases_Bool, not_from_true, not_from_false}
-use Rattle.std.proofs.lemmas.Bool.{false≢true}
+use Rattle.std.proofs.lemmas.Bool.{cond-true, cond-false, cases_Bool, not_from_true, not_from_false, false≢true}
 use Rattle.std.proofs.lemmas.Bool.Decides.{nat_tests}
 use Rattle.uri_pct.specs.Delimiters.{full_stop, right_bracket}
 use Rattle.uri_pct.specs.Sets.{is_one_of, hexdig_set, ipv_future_set}
@@ -18,14 +15,12 @@ use Rattle.uri_parts.specs.Scanning.{scan_to_mark}
 use Rattle.uri_parts.proofs.Parsing.Acceptance.{parses_literal, is_literal}
 use Rattle.uri_parts.proofs.HostForms.Addresses.{ipv6_value-complete}
 use Rattle.uri_parts.proofs.HostForms.Futures.{ipv6-text-lacks-excluded-marks}
-use Rattle.uri_parts.proofs.HostForms.Ipv6Literals.{text-with-bracket-is-empty-or-marked}
-use Rattle.uri_parts.proofs.HostForms.Ipv6Literals.{text-after-ipv6-at-position}
+use Rattle.uri_parts.proofs.HostForms.Ipv6Literals.{text-with-bracket-is-empty-or-marked, text-after-ipv6-at-position}
 use Rattle.std.proofs.NetLemmas.Options.{map_some}
 use Rattle.std.proofs.NetLemmas.Ipv6.{read_ipv6_sound}
 use Rattle.std.proofs.lemmas.Option.{none-some}
 use Rattle.uri_parts.proofs.Splitting.Cuts.{cut-at-end-of-text-without-marks}
-use Rattle.uri_parts.proofs.Refusals.Complete.{ipv6_end-finds-ipv6-before-bracket}
-use Rattle.uri_parts.proofs.Refusals.Complete.{cannot_begin_ipv6-has-no-end}
+use Rattle.uri_parts.proofs.Refusals.Complete.{ipv6_end-finds-ipv6-before-bracket, cannot_begin_ipv6-has-no-end}
 use Rattle.uri_parts.proofs.Refusals.Sound.{ipv6_end-before-bracket-ends-ipv6}
 
 -- parse errors: a letter that begins an IPvFuture address is neither `:` nor a digit

@@ -1,9 +1,7 @@
 -- The errors of an authority.
-use Rattle.std.proofs.Common.{◌≡◌, ◌≢◌, ℕ, zero, suc, ◌+◌, ◌<◌, ◌≤◌, Bool, true, false, cond, eqb}
-use Rattle.std.proofs.Common.{List, [], ◌∷◌, drop, Some, refl, sym, ap, ◌∙◌, arith, ◌&&◌, ⊎_elim}
+use Rattle.std.proofs.Common.{◌≡◌, ◌≢◌, ℕ, zero, suc, ◌+◌, ◌<◌, ◌≤◌, Bool, true, false, cond, eqb, List, [], ◌∷◌, drop, Some, refl, sym, ap, ◌∙◌, arith, ◌&&◌, ⊎_elim}
 use Rattle.std.specs.Prelude.{codes, nat_lt}
-use Rattle.std.proofs.lemmas.Bool.{cond-true, cond-false, cases_Bool, eq-eqb, eqb-true, and_from}
-use Rattle.std.proofs.lemmas.Bool.{and_left, and_right, false≢true, lt-ltb, le-ltb, both_ways}
+use Rattle.std.proofs.lemmas.Bool.{cond-true, cond-false, cases_Bool, eq-eqb, eqb-true, and_from, and_left, and_right, false≢true, lt-ltb, le-ltb, both_ways}
 use Rattle.std.proofs.lemmas.Bool.Decides.{nat_tests}
 use Rattle.std.proofs.lemmas.List.{drop-drop}
 use Rattle.uri_pct.specs.Sets.{TableSet, is_one_of, digit_set, allows_past_ascii}
@@ -13,26 +11,14 @@ use Rattle.uri_pct.proofs.ValidTexts.MarksInTexts.{ascii_byte_has_no_continuatio
 use Rattle.uri_pct.proofs.ValidTexts.Prefixes.{nothing_is_scanned_after_valid_prefix}
 use Rattle.uri_parts.specs.Components.{starts}
 use Rattle.uri_parts.specs.Errors.{unexpected, stray_percent}
-use Rattle.uri_parts.specs.Refusals.{OptionalParseError, last_colon, error_from_path}
-use Rattle.uri_parts.specs.Refusals.{error_from_host, error_from_name, error_from_authority}
+use Rattle.uri_parts.specs.Refusals.{OptionalParseError, last_colon, error_from_path, error_from_host, error_from_name, error_from_authority}
 use Rattle.uri_parts.specs.Scanning.{is_next, scan_end}
 use Rattle.uri_parts.specs.Grammar.{Kind}
-use Rattle.uri_parts.specs.Models.AuthorityParsing.{is_empty_or_begins_with_any, port_length}
-use Rattle.uri_parts.specs.Models.AuthorityParsing.{name_and_port_length, name_ends_authority}
-use Rattle.uri_parts.specs.Models.AuthorityParsing.{userinfo_length}
-use Rattle.uri_parts.specs.Models.ParseErrors.{left_over_error, name_error, error_after_port}
-use Rattle.uri_parts.specs.Models.ParseErrors.{port_error, host_error, userinfo_error}
-use Rattle.uri_parts.specs.Models.ParseErrors.{other_authority_error, authority_error}
-use Rattle.uri_parts.proofs.Authorities.UserinfoLengths.{userinfo_length-is-valid_prefix}
-use Rattle.uri_parts.proofs.Authorities.UserinfoLengths.{further_userinfo_length-is-valid_prefix}
-use Rattle.uri_parts.proofs.Refusals.Colons.{last_colon_is_below_position, last_colon-same-or-later}
-use Rattle.uri_parts.proofs.Refusals.Colons.{last_colon-after-colon-is-that-colon}
-use Rattle.uri_parts.proofs.Refusals.Colons.{last_colon-without-colons-after}
-use Rattle.uri_parts.proofs.Refusals.Rooted.{Adjoins, scan-stops-at-stray-percent-or-goes-on}
-use Rattle.uri_parts.proofs.Refusals.Rooted.{greater-set-goes-on-with-mark, port-end-by-next-colon}
-use Rattle.uri_parts.proofs.Refusals.Rooted.{nothing-is-scanned-at-mark, valid_prefix-zero-at-mark}
-use Rattle.uri_parts.proofs.Refusals.Rooted.{error_after_port-is-from-path}
-use Rattle.uri_parts.proofs.Refusals.Rooted.{host_error-is-error_from_host}
+use Rattle.uri_parts.specs.Models.AuthorityParsing.{is_empty_or_begins_with_any, port_length, name_and_port_length, name_ends_authority, userinfo_length}
+use Rattle.uri_parts.specs.Models.ParseErrors.{left_over_error, name_error, error_after_port, port_error, host_error, userinfo_error, other_authority_error, authority_error}
+use Rattle.uri_parts.proofs.Authorities.UserinfoLengths.{userinfo_length-is-valid_prefix, further_userinfo_length-is-valid_prefix}
+use Rattle.uri_parts.proofs.Refusals.Colons.{last_colon_is_below_position, last_colon-same-or-later, last_colon-after-colon-is-that-colon, last_colon-without-colons-after}
+use Rattle.uri_parts.proofs.Refusals.Rooted.{Adjoins, scan-stops-at-stray-percent-or-goes-on, greater-set-goes-on-with-mark, port-end-by-next-colon, nothing-is-scanned-at-mark, valid_prefix-zero-at-mark, error_after_port-is-from-path, host_error-is-error_from_host}
 use Rattle.uri_parts.proofs.Splitting.Cuts.{begins-with-further-mark}
 use Rattle.uri_parts.proofs.TextKinds.Separations.{SeparatesComponents}
 

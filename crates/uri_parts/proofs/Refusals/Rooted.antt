@@ -1,9 +1,7 @@
 -- The errors after an authority, and of a host.
-use Rattle.std.proofs.Common.{◌≡◌, ℕ, ◌+◌, Bool, true, false, cond, eqb, List, [], ◌∷◌, drop, Some}
-use Rattle.std.proofs.Common.{refl, sym, ap, ◌∙◌, arith, ◌&&◌, ◌||◌, ⊎_elim, ◌⊎◌, inr}
+use Rattle.std.proofs.Common.{◌≡◌, ℕ, ◌+◌, Bool, true, false, cond, eqb, List, [], ◌∷◌, drop, Some, refl, sym, ap, ◌∙◌, arith, ◌&&◌, ◌||◌, ⊎_elim, ◌⊎◌, inr}
 use Rattle.std.specs.Prelude.{Ok, Err, codes}
-use Rattle.std.proofs.lemmas.Bool.{cond-true, cond-false, cases_Bool, eq-eqb, or_left, or_right}
-use Rattle.std.proofs.lemmas.Bool.{false≢true, and_from}
+use Rattle.std.proofs.lemmas.Bool.{cond-true, cond-false, cases_Bool, eq-eqb, or_left, or_right, false≢true, and_from}
 use Rattle.std.proofs.lemmas.Bool.Decides.{nat_tests}
 use Rattle.std.proofs.lemmas.List.{drop-drop}
 use Rattle.uri_pct.specs.Sets.{TableSet, LacksPercent, digit_set, is_one_of}
@@ -14,14 +12,11 @@ use Rattle.uri_pct.proofs.ValidTexts.Prefixes.{nothing_is_scanned_after_valid_pr
 use Rattle.uri_parts.specs.declared.error.ParseError.{ParseError}
 use Rattle.uri_parts.specs.Components.{starts, is_end}
 use Rattle.uri_parts.specs.Errors.{unexpected, stray_percent}
-use Rattle.uri_parts.specs.Refusals.{OptionalParseError, ◌>>=◌, error_from_end, error_from_fragment}
-use Rattle.uri_parts.specs.Refusals.{error_from_query, error_from_path, error_from_abempty_path}
-use Rattle.uri_parts.specs.Refusals.{error_from_port, error_from_host}
+use Rattle.uri_parts.specs.Refusals.{OptionalParseError, ◌>>=◌, error_from_end, error_from_fragment, error_from_query, error_from_path, error_from_abempty_path, error_from_port, error_from_host}
 use Rattle.uri_parts.specs.Scanning.{ScanResult, is_next, scan_end, scan}
 use Rattle.uri_parts.specs.Grammar.{Kind}
 use Rattle.uri_parts.specs.Models.AuthorityParsing.{is_empty_or_begins_with_any, port_length}
-use Rattle.uri_parts.specs.Models.ParseErrors.{left_over_error, error_after_port, port_error}
-use Rattle.uri_parts.specs.Models.ParseErrors.{host_error}
+use Rattle.uri_parts.specs.Models.ParseErrors.{left_over_error, error_after_port, port_error, host_error}
 use Rattle.uri_parts.proofs.Splitting.Cuts.{IsEmptyOrMarked}
 use Rattle.uri_parts.proofs.TextKinds.Separations.{SeparatesComponents, HasAllBut}
 

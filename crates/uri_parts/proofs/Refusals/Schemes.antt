@@ -1,7 +1,6 @@
 -- The error that the parser comes to, by how a text begins: with a scheme and `//`, with a scheme
 -- alone, or without.
-use Rattle.std.proofs.Common.{◌≡◌, ℕ, ◌+◌, Bool, true, false, List, get_or, drop, refl, sym, ap, ◌∙◌}
-use Rattle.std.proofs.Common.{zero-add, ◌&&◌}
+use Rattle.std.proofs.Common.{◌≡◌, ℕ, ◌+◌, Bool, true, false, List, get_or, drop, refl, sym, ap, ◌∙◌, zero-add, ◌&&◌}
 use Rattle.std.specs.Prelude.{Some, if◌then◌else◌}
 use Rattle.std.specs.Char.{is_ascii_alphabetic}
 use Rattle.std.proofs.lemmas.Bool.{cond-true, cond-false}
@@ -14,8 +13,7 @@ use Rattle.uri_parts.specs.Errors.{unexpected}
 use Rattle.uri_parts.specs.Grammar.{Kind}
 use Rattle.uri_parts.specs.Refusals.{OptionalParseError, error_from_path}
 use Rattle.uri_parts.specs.Scanning.{is_next}
-use Rattle.uri_parts.specs.Models.ParseErrors.{authority_error, hier_part_error, schemeless_error}
-use Rattle.uri_parts.specs.Models.ParseErrors.{parsed_error}
+use Rattle.uri_parts.specs.Models.ParseErrors.{authority_error, hier_part_error, schemeless_error, parsed_error}
 
 -- parsing: the last of three facts that do not all hold, of which the others do
 pub last_of_three_fails : (all first second third : Bool) → all ≡ (first && (second && third))

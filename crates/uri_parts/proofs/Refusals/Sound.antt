@@ -1,9 +1,5 @@
 -- What is read as an IPv6 address with something after it, as `]`, is one.
-use Rattle.std.proofs.Common.{◌≡◌, ◌≢◌, ℕ, zero, suc, ◌+◌, ◌-◌, ◌<◌, ◌≤◌, Bool, true, false, not}
-use Rattle.std.proofs.Common.{cond, eqb, List, [], ◌∷◌, ◌++◌, length, get_or, drop, decimal, Option}
-use Rattle.std.proofs.Common.{Some, None, refl, sym, ap, subst, ◌∙◌, arith, ◌&&◌, ◌||◌, ⊎_elim, inl}
-use Rattle.std.proofs.Common.{inr, append_assoc, length-drop, eqb-true, get_or-drop, add-zero}
-use Rattle.std.proofs.Common.{replicate}
+use Rattle.std.proofs.Common.{◌≡◌, ◌≢◌, ℕ, zero, suc, ◌+◌, ◌-◌, ◌<◌, ◌≤◌, Bool, true, false, not, cond, eqb, List, [], ◌∷◌, ◌++◌, length, get_or, drop, decimal, Option, Some, None, refl, sym, ap, subst, ◌∙◌, arith, ◌&&◌, ◌||◌, ⊎_elim, inl, inr, append_assoc, length-drop, eqb-true, get_or-drop, add-zero, replicate}
 use Rattle.std.specs.Prelude.{slice_range, nat_lt, codes}
 use Rattle.std.specs.Str.Parse.{digits_value}
 use Rattle.std.specs.Net.Addr.{segments_of}
@@ -21,20 +17,9 @@ use Rattle.std.proofs.lemmas.Fmt.{decimal-digits_value, decimal_digit}
 use Rattle.std.proofs.lemmas.Str.Parse.{numerals_by_value, tells_digits}
 use Rattle.std.proofs.lemmas.Bool.Decides.{nat_tests}
 use Rattle.uri_parts.specs.Components.{starts, is_end}
-use Rattle.uri_parts.specs.LiteralErrors.{Groups, Groups_end, Elision, Malformed, digits_end}
-use Rattle.uri_parts.specs.LiteralErrors.{octet_end, octets_end, ipv4_end, after_ipv4, groups_from}
-use Rattle.uri_parts.specs.LiteralErrors.{ipv6_end, after_groups, after_elision}
-use Rattle.uri_parts.proofs.Refusals.Digits.{text-to-digits_end-is-digits}
-use Rattle.uri_parts.proofs.Refusals.Digits.{length-of-text-to-digits_end}
-use Rattle.uri_parts.proofs.Refusals.GroupTurns.{groups_from-ends-without-room, dotted}
-use Rattle.uri_parts.proofs.Refusals.GroupTurns.{text-with-mark-is-not-ended}
-use Rattle.uri_parts.proofs.Refusals.GroupTurns.{groups_from-ends-without-group}
-use Rattle.uri_parts.proofs.Refusals.GroupTurns.{groups_from-elides-at-two-colons}
-use Rattle.uri_parts.proofs.Refusals.GroupTurns.{groups_from-rejects-lone-colon}
-use Rattle.uri_parts.proofs.Refusals.GroupTurns.{groups_from-ends-with-text}
-use Rattle.uri_parts.proofs.Refusals.GroupTurns.{groups_from-rejects-misplaced-colon}
-use Rattle.uri_parts.proofs.Refusals.GroupTurns.{groups_from-rejects-ipv4-without-room}
-use Rattle.uri_parts.proofs.Refusals.GroupTurns.{groups_from-goes-on-after-group}
+use Rattle.uri_parts.specs.LiteralErrors.{Groups, Groups_end, Elision, Malformed, digits_end, octet_end, octets_end, ipv4_end, after_ipv4, groups_from, ipv6_end, after_groups, after_elision}
+use Rattle.uri_parts.proofs.Refusals.Digits.{text-to-digits_end-is-digits, length-of-text-to-digits_end}
+use Rattle.uri_parts.proofs.Refusals.GroupTurns.{groups_from-ends-without-room, dotted, text-with-mark-is-not-ended, groups_from-ends-without-group, groups_from-elides-at-two-colons, groups_from-rejects-lone-colon, groups_from-ends-with-text, groups_from-rejects-misplaced-colon, groups_from-rejects-ipv4-without-room, groups_from-goes-on-after-group}
 use Rattle.uri_parts.proofs.Splitting.Recompose.{text-with-mark-is-mark-and-rest}
 
 module _ (text : List ℕ) where

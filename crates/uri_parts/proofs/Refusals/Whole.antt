@@ -1,35 +1,28 @@
 -- The parser returns the error that `refusal` defines for a whole text.
-use Rattle.std.proofs.Common.{◌≡◌, ℕ, ◌+◌, Bool, true, false, cond, List, get_or, refl, sym, ap}
-use Rattle.std.proofs.Common.{subst, ◌∙◌, arith, ⊎_elim, zero-add, Some}
+use Rattle.std.proofs.Common.{◌≡◌, ℕ, ◌+◌, Bool, true, false, cond, List, get_or, refl, sym, ap, subst, ◌∙◌, arith, ⊎_elim, zero-add, Some}
 use Rattle.std.specs.Prelude.{codes, if◌then◌else◌, Result, is_ok, is_none}
 use Rattle.std.specs.Result.{result_err}
 use Rattle.std.specs.Str.{IsUtf8}
 use Rattle.std.specs.Char.{is_ascii_alphabetic}
 use Rattle.std.proofs.lemmas.Bool.{cases_Bool, cond-true, cond-false}
-use Rattle.uri_pct.specs.Sets.{TableSet, scheme_set, reg_name_set, userinfo_set, is_one_of}
-use Rattle.uri_pct.specs.Sets.{is_reg_name_char, is_userinfo_char, allows_past_ascii, ireg_name_set}
-use Rattle.uri_pct.specs.Sets.{iuserinfo_set}
+use Rattle.uri_pct.specs.Sets.{TableSet, scheme_set, reg_name_set, userinfo_set, is_one_of, is_reg_name_char, is_userinfo_char, allows_past_ascii, ireg_name_set, iuserinfo_set}
 use Rattle.std.proofs.lemmas.Bool.Decides.{nat_tests}
 use Rattle.uri_pct.specs.Prefixes.{valid_prefix}
 use Rattle.uri_pct.proofs.ValidTexts.Prefixes.{valid_prefix_of_superset_goes_on_from_subset}
 use Rattle.uri_parts.specs.Components.{has_authority}
 use Rattle.uri_parts.specs.Errors.{unexpected}
-use Rattle.uri_parts.specs.Refusals.{OptionalParseError, refusal, error_from_authority}
-use Rattle.uri_parts.specs.Refusals.{error_from_relative_path, error_from_hier_part}
+use Rattle.uri_parts.specs.Refusals.{OptionalParseError, refusal, error_from_authority, error_from_relative_path, error_from_hier_part}
 use Rattle.uri_parts.specs.Scanning.{is_next, scan_end}
 use Rattle.uri_parts.specs.Grammar.{Kind, first_segment_set, kind_by_flags}
 use Rattle.uri_parts.specs.Models.ParseErrors.{hier_part_error, schemeless_error, parsed_error}
-use Rattle.uri_parts.proofs.Parsing.WholeTexts.{slashes-begin-with-no-scheme}
-use Rattle.uri_parts.proofs.Parsing.WholeTexts.{slashes-follow-no-scheme-characters}
+use Rattle.uri_parts.proofs.Parsing.WholeTexts.{slashes-begin-with-no-scheme, slashes-follow-no-scheme-characters}
 use Rattle.uri_parts.proofs.Splitting.Relative.{scheme_set_lacks_percent}
 use Rattle.uri_parts.specs.declared.error.ParseError.{ParseError}
 use Rattle.uri_parts.proofs.Parsing.Acceptance.{parses}
-use Rattle.uri_parts.proofs.Refusals.Accepted.{result-is-ok-iff-no-error}
-use Rattle.uri_parts.proofs.Refusals.Accepted.{no-error-iff-text-is-parsed}
+use Rattle.uri_parts.proofs.Refusals.Accepted.{result-is-ok-iff-no-error, no-error-iff-text-is-parsed}
 use Rattle.uri_parts.proofs.Refusals.Names.{authority_error-is-error_from_authority}
 use Rattle.uri_parts.proofs.Refusals.Rooted.{Adjoins}
-use Rattle.uri_parts.proofs.TextKinds.Separations.{SeparatesComponents}
-use Rattle.uri_parts.proofs.TextKinds.Separations.{greater-set-has-all-but-marks}
+use Rattle.uri_parts.proofs.TextKinds.Separations.{SeparatesComponents, greater-set-has-all-but-marks}
 use Rattle.uri_parts.proofs.Theorems.{tables_of_kind_separate}
 
 module _ (segment : TableSet) (kind : Kind) (w : SeparatesComponents segment kind)

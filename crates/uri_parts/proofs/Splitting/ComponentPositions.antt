@@ -1,6 +1,5 @@
 -- The components of a text at their positions, as callers cut them out.
-use Rattle.std.proofs.Common.{◌≡◌, ℕ, ◌+◌, ◌-◌, ◌<◌, ◌≤◌, List, length, take, drop, sym, ap, subst}
-use Rattle.std.proofs.Common.{◌∙◌, arith}
+use Rattle.std.proofs.Common.{◌≡◌, ℕ, ◌+◌, ◌-◌, ◌<◌, ◌≤◌, List, length, take, drop, sym, ap, subst, ◌∙◌, arith}
 use Rattle.std.specs.Prelude.{Some, None, nat_lt, is_some}
 use Rattle.std.specs.Str.{IsUtf8}
 use Rattle.std.proofs.lemmas.Option.{MatchOption-at_some}
@@ -12,12 +11,7 @@ use Rattle.uri_parts.specs.Components.{components}
 use Rattle.uri_parts.specs.Positions.{ArePositionsOf, positions_of, before_fragment}
 use Rattle.uri_parts.proofs.Splitting.Recompose.{components-are-split-of-text}
 use Rattle.uri_pct.proofs.General.{None-from-not-is_some}
-use Rattle.uri_parts.proofs.Splitting.Places.{IsComponentAt, authority-of-split-is-at-positions}
-use Rattle.uri_parts.proofs.Splitting.Places.{path-of-split-is-at-positions, before_hash}
-use Rattle.uri_parts.proofs.Splitting.Places.{query-of-split-is-at-positions, length-before_hash}
-use Rattle.uri_parts.proofs.Splitting.Places.{split-text-is-before-fragment-and-fragment}
-use Rattle.uri_parts.proofs.Splitting.Places.{fragment-is-slice-to-end}
-use Rattle.uri_parts.proofs.Splitting.Places.{longer_than_before_fragment_if_some}
+use Rattle.uri_parts.proofs.Splitting.Places.{IsComponentAt, authority-of-split-is-at-positions, path-of-split-is-at-positions, before_hash, query-of-split-is-at-positions, length-before_hash, split-text-is-before-fragment-and-fragment, fragment-is-slice-to-end, longer_than_before_fragment_if_some}
 
 -- positions: the path of a text is between path_start and path_end
 pub path_is_at_positions : (text : List ℕ) (p : Positions) → IsUtf8 text → ArePositionsOf text p

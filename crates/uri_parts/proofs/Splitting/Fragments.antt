@@ -1,6 +1,5 @@
 -- A text with another fragment in place of its own has the same components but that one.
-use Rattle.std.proofs.Common.{◌≡◌, ℕ, ◌-◌, true, false, not, List, [], ◌∷◌, ◌++◌, length, take, sym}
-use Rattle.std.proofs.Common.{refl, ap, subst, ◌∙◌, arith, ◌&&◌, append_assoc}
+use Rattle.std.proofs.Common.{◌≡◌, ℕ, ◌-◌, true, false, not, List, [], ◌∷◌, ◌++◌, length, take, sym, refl, ap, subst, ◌∙◌, arith, ◌&&◌, append_assoc}
 use Rattle.std.specs.Prelude.{codes, Option, Some, None, IfSome, IfNone, slice_range}
 use Rattle.std.specs.Str.{IsCharBoundary}
 use Rattle.std.proofs.Math.Seq.{take-append_seam}
@@ -11,19 +10,13 @@ use Rattle.std.proofs.lemmas.Bool.Decides.{nat_tests}
 use Rattle.uri_pct.specs.Sets.{TableSet, is_one_of}
 use Rattle.uri_pct.specs.Tokens.{is_valid_for}
 use Rattle.uri_parts.specs.declared.positions.Positions.{Positions}
-use Rattle.uri_parts.specs.Components.{Components, IsSplitOf, Lacks, components, recompose, marked}
-use Rattle.uri_parts.specs.Components.{starts, has_scheme, before_any, from_any}
+use Rattle.uri_parts.specs.Components.{Components, IsSplitOf, Lacks, components, recompose, marked, starts, has_scheme, before_any, from_any}
 use Rattle.uri_parts.specs.Fragments.{IsWithFragment, StaysOfKind}
-use Rattle.uri_parts.specs.Grammar.{Kind, IsOfKind, absent_or_passes, is_scheme, is_authority}
-use Rattle.uri_parts.specs.Grammar.{components_meet_rules}
+use Rattle.uri_parts.specs.Grammar.{Kind, IsOfKind, absent_or_passes, is_scheme, is_authority, components_meet_rules}
 use Rattle.uri_parts.specs.Positions.{ArePositionsOf, positions_of, before_fragment}
-use Rattle.uri_parts.proofs.Splitting.Cuts.{IsEmptyOrMarked, text-is-cut-at-first-mark}
-use Rattle.uri_parts.proofs.Splitting.Cuts.{cut-at-end-of-text-without-marks}
+use Rattle.uri_parts.proofs.Splitting.Cuts.{IsEmptyOrMarked, text-is-cut-at-first-mark, cut-at-end-of-text-without-marks}
 use Rattle.uri_parts.proofs.Splitting.Marks.{fragment_text, IsEmptyOrMarked-fragment_text}
-use Rattle.uri_parts.proofs.Splitting.Places.{before_hash, recompose-before_hash}
-use Rattle.uri_parts.proofs.Splitting.Places.{split-text-is-before-fragment-and-fragment}
-use Rattle.uri_parts.proofs.Splitting.Places.{length-before_hash, boundary_before_mark}
-use Rattle.uri_parts.proofs.Splitting.Places.{fragment-mark-is-component-mark}
+use Rattle.uri_parts.proofs.Splitting.Places.{before_hash, recompose-before_hash, split-text-is-before-fragment-and-fragment, length-before_hash, boundary_before_mark, fragment-mark-is-component-mark}
 use Rattle.uri_parts.proofs.Splitting.Recompose.{components-are-split-of-text}
 use Rattle.uri_parts.proofs.Splitting.Splits.{only-split-is-components}
 use Rattle.uri_pct.proofs.General.{IfSome-weaken}

@@ -1,6 +1,5 @@
 -- An authority and what follows it, as they are cut.
-use Rattle.std.proofs.Common.{◌≡◌, ℕ, Bool, true, cond, List, drop, sym, ap, ◌∙◌, ◌&&◌, ⊎_elim}
-use Rattle.std.proofs.Common.{arith}
+use Rattle.std.proofs.Common.{◌≡◌, ℕ, Bool, true, cond, List, drop, sym, ap, ◌∙◌, ◌&&◌, ⊎_elim, arith}
 use Rattle.std.specs.Prelude.{codes}
 use Rattle.std.specs.Str.{IsUtf8}
 use Rattle.std.proofs.lemmas.Bool.{cases_Bool, and_left}
@@ -9,11 +8,9 @@ use Rattle.uri_pct.specs.Sets.{TableSet}
 use Rattle.uri_parts.specs.Components.{before_any, from_any, has_authority, after_authority, when}
 use Rattle.uri_parts.specs.Grammar.{Kind, absent_or_passes, is_authority}
 use Rattle.uri_parts.specs.Models.AuthorityParsing.{found_authority_length}
-use Rattle.uri_parts.proofs.Parsing.Acceptance.{finds_authority, parses_path, parses_authority}
-use Rattle.uri_parts.proofs.Parsing.Acceptance.{parses_hier_part}
+use Rattle.uri_parts.proofs.Parsing.Acceptance.{finds_authority, parses_path, parses_authority, parses_hier_part}
 use Rattle.uri_parts.proofs.Authorities.AuthorityCuts.{length-of-text-before-marks}
-use Rattle.uri_parts.proofs.Authorities.FoundAuthorities.{finds_authority-is-parses_whole_authority}
-use Rattle.uri_parts.proofs.Authorities.FoundAuthorities.{found-authority-is-the-cut-one}
+use Rattle.uri_parts.proofs.Authorities.FoundAuthorities.{finds_authority-is-parses_whole_authority, found-authority-is-the-cut-one}
 use Rattle.uri_parts.proofs.TextKinds.Separations.{SeparatesComponents}
 use Rattle.uri_parts.proofs.Parsing.ScanStops.{utf8_after_slashes}
 use Rattle.uri_parts.proofs.Authorities.WholeAuthorities.{is_authority_for-is-parsed-whole}

@@ -1,17 +1,12 @@
 -- Where each component of a recomposed text is cut: one lemma a component, over its own text.
-use Rattle.std.proofs.Common.{◌≡◌, ℕ, ◌<◌, true, false, eqb, List, [], ◌∷◌, ◌++◌, length, drop}
-use Rattle.std.proofs.Common.{refl, ap, ◌∙◌, arith, append_assoc}
+use Rattle.std.proofs.Common.{◌≡◌, ℕ, ◌<◌, true, false, eqb, List, [], ◌∷◌, ◌++◌, length, drop, refl, ap, ◌∙◌, arith, append_assoc}
 use Rattle.std.specs.Prelude.{codes, Some, None, Option, IfSome, IfNone}
 use Rattle.std.proofs.lemmas.List.{append-nil}
-use Rattle.std.proofs.lemmas.Bool.{cond-true, cond-false, and_left, and_from, eqb-true}
-use Rattle.std.proofs.lemmas.Bool.{not_from_false}
+use Rattle.std.proofs.lemmas.Bool.{cond-true, cond-false, and_left, and_from, eqb-true, not_from_false}
 use Rattle.std.proofs.lemmas.Bool.Decides.{nat_tests}
 use Rattle.uri_pct.specs.Sets.{is_one_of}
-use Rattle.uri_parts.specs.Components.{marked, starts, has_scheme, has_authority, after_scheme}
-use Rattle.uri_parts.specs.Components.{after_authority, after_query, when, Lacks, IsAbemptyPath}
-use Rattle.uri_parts.specs.Components.{before_any, from_any}
-use Rattle.uri_parts.proofs.Splitting.Cuts.{IsEmptyOrMarked, empty-or-marked-for-more-marks}
-use Rattle.uri_parts.proofs.Splitting.Cuts.{cut-at-end-of-text-without-marks}
+use Rattle.uri_parts.specs.Components.{marked, starts, has_scheme, has_authority, after_scheme, after_authority, after_query, when, Lacks, IsAbemptyPath, before_any, from_any}
+use Rattle.uri_parts.proofs.Splitting.Cuts.{IsEmptyOrMarked, empty-or-marked-for-more-marks, cut-at-end-of-text-without-marks}
 use Rattle.uri_pct.proofs.General.{eq_true_from_IsTrue}
 
 -- recomposing: the text of a fragment with its `#`, or nothing

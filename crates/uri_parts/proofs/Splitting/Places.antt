@@ -1,24 +1,17 @@
 -- At their positions the components of a text can be cut out, and what is cut out is them.
-use Rattle.std.proofs.Common.{◌≡◌, ℕ, ◌+◌, ◌-◌, ◌<◌, ◌≤◌, true, List, [], ◌∷◌, ◌++◌, length, get_or}
-use Rattle.std.proofs.Common.{take, drop, refl, sym, ap, subst, ◌∙◌, arith, append_assoc}
-use Rattle.std.proofs.Common.{length-append}
-use Rattle.std.specs.Prelude.{codes, Some, None, Option, IfSome, slice_range, nat_lt, is_some}
-use Rattle.std.specs.Prelude.{option_map, unwrap_or}
+use Rattle.std.proofs.Common.{◌≡◌, ℕ, ◌+◌, ◌-◌, ◌<◌, ◌≤◌, true, List, [], ◌∷◌, ◌++◌, length, get_or, take, drop, refl, sym, ap, subst, ◌∙◌, arith, append_assoc, length-append}
+use Rattle.std.specs.Prelude.{codes, Some, None, Option, IfSome, slice_range, nat_lt, is_some, option_map, unwrap_or}
 use Rattle.std.specs.Str.{IsUtf8, IsCharBoundary}
 use Rattle.std.proofs.Math.Seq.{drop-append_seam, take-append_seam}
 use Rattle.std.proofs.lemmas.List.{append-nil}
-use Rattle.std.proofs.lemmas.Str.{IsCharBoundary-start, IsCharBoundary-end}
-use Rattle.std.proofs.lemmas.Str.{IsCharBoundary-before_ascii, IsCharBoundary-after_ascii}
+use Rattle.std.proofs.lemmas.Str.{IsCharBoundary-start, IsCharBoundary-end, IsCharBoundary-before_ascii, IsCharBoundary-after_ascii}
 use Rattle.std.proofs.lemmas.Bool.{lt-ltb, le-ltb, or_right}
 use Rattle.std.proofs.lemmas.Bool.Decides.{nat_tests}
 use Rattle.uri_pct.specs.Sets.{is_one_of}
-use Rattle.uri_parts.specs.Components.{Components, IsSplitOf, recompose, marked, IsAbemptyPath}
-use Rattle.uri_parts.specs.Components.{Lacks}
+use Rattle.uri_parts.specs.Components.{Components, IsSplitOf, recompose, marked, IsAbemptyPath, Lacks}
 use Rattle.uri_parts.specs.Positions.{positions_of, delimited_length, before_fragment}
 use Rattle.uri_parts.proofs.Splitting.Cuts.{IsEmptyOrMarked, empty-or-marked-for-more-marks}
-use Rattle.uri_parts.proofs.Splitting.Marks.{query_text, fragment_text, IsEmptyOrMarked-query_text}
-use Rattle.uri_parts.proofs.Splitting.Marks.{IsEmptyOrMarked-fragment_text}
-use Rattle.uri_parts.proofs.Splitting.Marks.{rooted-path-ends-authority}
+use Rattle.uri_parts.proofs.Splitting.Marks.{query_text, fragment_text, IsEmptyOrMarked-query_text, IsEmptyOrMarked-fragment_text, rooted-path-ends-authority}
 use Rattle.uri_parts.proofs.Splitting.Recompose.{components_of_parts}
 
 -- positions: a text may be cut at both positions, and between them is this component

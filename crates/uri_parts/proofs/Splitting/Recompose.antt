@@ -1,15 +1,11 @@
 -- The components of any text are a split of it.
-use Rattle.std.proofs.Common.{◌≡◌, ℕ, ◌<◌, Bool, true, false, eqb, List, [], ◌∷◌, ◌++◌, length}
-use Rattle.std.proofs.Common.{drop, refl, sym, ap, subst, ◌∙◌, arith, ⊎_elim, inl, inr, rules}
-use Rattle.std.proofs.Common.{append_assoc}
+use Rattle.std.proofs.Common.{◌≡◌, ℕ, ◌<◌, Bool, true, false, eqb, List, [], ◌∷◌, ◌++◌, length, drop, refl, sym, ap, subst, ◌∙◌, arith, ⊎_elim, inl, inr, rules, append_assoc}
 use Rattle.std.specs.Prelude.{codes, Option, IsTrue, IfSome, IfNone}
 use Rattle.std.proofs.lemmas.List.{append-nil}
 use Rattle.std.proofs.lemmas.Bool.{cases_Bool, and_parts, eqb-true, both_ways, not-true}
 use Rattle.std.proofs.lemmas.Bool.Decides.{nat_tests}
 use Rattle.uri_pct.specs.Sets.{is_one_of}
-use Rattle.uri_parts.specs.Components.{IsSplitOf, recompose, marked, starts, has_scheme, components}
-use Rattle.uri_parts.specs.Components.{has_authority, after_scheme, after_authority, after_query}
-use Rattle.uri_parts.specs.Components.{Components, when, Lacks, IsAbemptyPath, before_any, from_any}
+use Rattle.uri_parts.specs.Components.{IsSplitOf, recompose, marked, starts, has_scheme, components, has_authority, after_scheme, after_authority, after_query, Components, when, Lacks, IsAbemptyPath, before_any, from_any}
 use Rattle.uri_parts.proofs.Splitting.Cuts.{IsEmptyOrMarked, text-is-cut-at-first-mark}
 use Rattle.uri_parts.proofs.Splitting.Marks.{has_authority-append}
 

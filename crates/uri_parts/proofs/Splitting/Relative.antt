@@ -1,31 +1,24 @@
 -- The first segment of a path without a scheme.
-use Rattle.std.proofs.Common.{◌≡◌, ℕ, Bool, true, false, eqb, not, List, [], ◌∷◌, drop, refl, sym}
-use Rattle.std.proofs.Common.{ap, ◌∙◌, arith, ◌||◌, ◌&&◌, ⊎_elim}
+use Rattle.std.proofs.Common.{◌≡◌, ℕ, Bool, true, false, eqb, not, List, [], ◌∷◌, drop, refl, sym, ap, ◌∙◌, arith, ◌||◌, ◌&&◌, ⊎_elim}
 use Rattle.std.specs.Prelude.{codes}
 use Rattle.std.specs.List.{list_any}
 use Rattle.std.specs.Str.{IsUtf8}
 use Rattle.std.proofs.lemmas.List.{drop-drop}
-use Rattle.std.proofs.lemmas.Bool.{cases_Bool, and_left, and_right, eqb-true, and_parts}
-use Rattle.std.proofs.lemmas.Bool.{not_from_true, not-false, both_ways, false≢true, and_cases}
-use Rattle.std.proofs.lemmas.Bool.{false_from_ne_true, or_left}
+use Rattle.std.proofs.lemmas.Bool.{cases_Bool, and_left, and_right, eqb-true, and_parts, not_from_true, not-false, both_ways, false≢true, and_cases, false_from_ne_true, or_left}
 use Rattle.std.proofs.lemmas.Bool.Decides.{nat_tests}
 use Rattle.uri_pct.specs.Sets.{TableSet, LacksPercent, is_one_of, scheme_set}
 use Rattle.uri_pct.specs.Prefixes.{valid_prefix, after}
-use Rattle.uri_pct.proofs.ValidTexts.Cuts.{excludes, valid_prefix_at_mark_is_empty}
-use Rattle.uri_pct.proofs.ValidTexts.Cuts.{valid_prefix_by_first_byte}
+use Rattle.uri_pct.proofs.ValidTexts.Cuts.{excludes, valid_prefix_at_mark_is_empty, valid_prefix_by_first_byte}
 use Rattle.uri_pct.proofs.ValidTexts.MarksInTexts.{length_before_marks}
-use Rattle.uri_pct.proofs.ValidTexts.Prefixes.{nothing_is_scanned_after_valid_prefix}
-use Rattle.uri_pct.proofs.ValidTexts.Prefixes.{valid_prefix_of_superset_goes_on_from_subset}
+use Rattle.uri_pct.proofs.ValidTexts.Prefixes.{nothing_is_scanned_after_valid_prefix, valid_prefix_of_superset_goes_on_from_subset}
 use Rattle.uri_pct.proofs.ValidTexts.PrefixSteps.{successor_is_not_zero}
 use Rattle.uri_parts.specs.Components.{before_any, from_any, starts, has_scheme}
 use Rattle.uri_parts.specs.Grammar.{Kind, has_colon_in_first_segment}
 use Rattle.uri_parts.proofs.Parsing.Acceptance.{is_stray, parses_end, parses_path, parses_relative}
 use Rattle.uri_parts.proofs.Parsing.ScanStops.{scan-stops-at-first-mark-or-within}
 use Rattle.uri_parts.proofs.TextKinds.Separations.{SeparatesComponents}
-use Rattle.uri_parts.proofs.Parsing.Accepts.{parses_end-not-at-other}
-use Rattle.uri_parts.proofs.Parsing.Accepts.{none-of-four-marks-is-none-of-two-pairs}
-use Rattle.uri_parts.proofs.Splitting.Cuts.{before_any-past-other, from_any-past-other}
-use Rattle.uri_parts.proofs.Splitting.Cuts.{before_any-at-mark, from_any-at-mark}
+use Rattle.uri_parts.proofs.Parsing.Accepts.{parses_end-not-at-other, none-of-four-marks-is-none-of-two-pairs}
+use Rattle.uri_parts.proofs.Splitting.Cuts.{before_any-past-other, from_any-past-other, before_any-at-mark, from_any-at-mark}
 
 -- splitting, relative references: a scan by a set
 -- that excludes some delimiters, and stops at one, stops at the first

@@ -4,8 +4,7 @@ use Rattle.std.specs.Prelude.{Option}
 use Rattle.std.proofs.lemmas.Bool.Decides.{nat_tests}
 use Rattle.uri_parts.specs.Components.{Components, IsSplitOf, recompose, components}
 use Rattle.uri_parts.proofs.Splitting.Cuts.{cut-at-end-of-text-without-marks}
-use Rattle.uri_parts.proofs.Splitting.Marks.{query_text, IsEmptyOrMarked-query_text, fragment-found}
-use Rattle.uri_parts.proofs.Splitting.Marks.{query-found, authority-found, scheme-found}
+use Rattle.uri_parts.proofs.Splitting.Marks.{query_text, IsEmptyOrMarked-query_text, fragment-found, query-found, authority-found, scheme-found}
 
 -- general fact on records, for splitting: components are equal if each is
 pub equal-parts-make-equal-components : {s1 s2 a1 a2 q1 q2 f1 f2 : Option (List ℕ)} {p1 p2 : List ℕ}

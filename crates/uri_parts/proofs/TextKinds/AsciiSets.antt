@@ -5,10 +5,7 @@ use Rattle.std.specs.Str.{IsUtf8}
 use Rattle.std.proofs.lemmas.Bool.Decides.{nat_tests}
 use Rattle.uri_pct.specs.Sets.{characters_only, allows_past_ascii}
 use Rattle.uri_pct.specs.Tokens.{is_valid_for}
-use Rattle.uri_pct.proofs.ValidTexts.Validity.{valid_from, validity_by_first_byte}
-use Rattle.uri_pct.proofs.ValidTexts.Validity.{validity_of_tokens_is_validity_of_bytes}
-use Rattle.uri_pct.proofs.ValidTexts.Validity.{ascii_first_byte_is_allowed_iff_in_set}
-use Rattle.uri_pct.proofs.ValidTexts.Validity.{first_byte_past_ascii_is_allowed_by_its_char}
+use Rattle.uri_pct.proofs.ValidTexts.Validity.{valid_from, validity_by_first_byte, validity_of_tokens_is_validity_of_bytes, ascii_first_byte_is_allowed_iff_in_set, first_byte_past_ascii_is_allowed_by_its_char}
 
 -- sets of a kind, ASCII alone: the byte is an ASCII character that passes the test
 abbrev pub is_ascii_in : (ℕ → Bool) → ℕ → Bool

@@ -6,8 +6,7 @@ use Rattle.uri_pct.specs.Sets.{TableSet}
 use Rattle.uri_pct.specs.Tokens.{is_valid_for, IsValidFor}
 use Rattle.uri_parts.specs.Components.{Components, components}
 use Rattle.uri_parts.specs.Authority.{is_authority_for}
-use Rattle.uri_parts.specs.Grammar.{Kind, absent_or_passes, is_scheme, is_authority, IsOfKind}
-use Rattle.uri_parts.specs.Grammar.{components_meet_rules}
+use Rattle.uri_parts.specs.Grammar.{Kind, absent_or_passes, is_scheme, is_authority, IsOfKind, components_meet_rules}
 
 -- general fact on options, for the rules of a kind: a component that is there passes the test
 present-part-passes-test : (part : Option (List ℕ)) (test : List ℕ → Bool) (x : List ℕ)

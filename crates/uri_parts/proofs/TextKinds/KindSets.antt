@@ -1,21 +1,15 @@
 -- The kinds keep apart what must be apart, and their tables represent their sets.
-use Rattle.std.proofs.Common.{◌≡◌, ℕ, Bool, true, false, refl, sym, ap, subst, arith, ◌||◌, []}
-use Rattle.std.proofs.Common.{◌&&◌, not, List}
+use Rattle.std.proofs.Common.{◌≡◌, ℕ, Bool, true, false, refl, sym, ap, subst, arith, ◌||◌, [], ◌&&◌, not, List}
 use Rattle.std.specs.Prelude.{codes, is_some}
 use Rattle.std.specs.Char.{is_ascii_digit}
 use Rattle.std.specs.Str.{chars}
 use Rattle.std.proofs.lemmas.Bool.{and_parts}
 use Rattle.std.proofs.lemmas.Bool.Decides.{nat_tests}
-use Rattle.uri_pct.specs.Sets.{TableSet, is_one_of, is_scheme_char, is_segment_nz_nc_char, path_set}
-use Rattle.uri_pct.specs.Sets.{is_path_char, is_reg_name_char, is_userinfo_char, segment_nz_nc_set}
-use Rattle.uri_pct.specs.Sets.{userinfo_set, reg_name_set, query_set, fragment_set}
-use Rattle.uri_pct.specs.Sets.{allows_past_ascii}
+use Rattle.uri_pct.specs.Sets.{TableSet, is_one_of, is_scheme_char, is_segment_nz_nc_char, path_set, is_path_char, is_reg_name_char, is_userinfo_char, segment_nz_nc_set, userinfo_set, reg_name_set, query_set, fragment_set, allows_past_ascii}
 use Rattle.uri_pct.specs.Tokens.{is_valid_for, tokens_from_chars}
-use Rattle.uri_parts.specs.Grammar.{Kind, uri, uri_ref, iri, iri_ref, IsOfKind, first_segment_set}
-use Rattle.uri_parts.specs.Grammar.{kind_by_flags}
+use Rattle.uri_parts.specs.Grammar.{Kind, uri, uri_ref, iri, iri_ref, IsOfKind, first_segment_set, kind_by_flags}
 use Rattle.uri_parts.specs.Components.{components}
-use Rattle.uri_parts.proofs.TextKinds.Separations.{SeparatesComponents}
-use Rattle.uri_parts.proofs.TextKinds.Separations.{greater-set-has-all-but-marks}
+use Rattle.uri_parts.proofs.TextKinds.Separations.{SeparatesComponents, greater-set-has-all-but-marks}
 
 -- sets of a kind: a scheme's characters may be in a first segment too
 scheme-char-is-segment-char : (c : ℕ) → is_scheme_char c ≡ true → is_segment_nz_nc_char c ≡ true

@@ -2,8 +2,7 @@
 use Rattle.std.proofs.Common.{◌≡◌, ℕ, true, false, List, arith}
 use Rattle.std.specs.Prelude.{codes}
 use Rattle.std.proofs.lemmas.Bool.Decides.{nat_tests}
-use Rattle.uri_pct.specs.Sets.{TableSet, LacksPercent, IsSubset, is_one_of, scheme_set, digit_set}
-use Rattle.uri_pct.specs.Sets.{reg_name_set, allows_past_ascii}
+use Rattle.uri_pct.specs.Sets.{TableSet, LacksPercent, IsSubset, is_one_of, scheme_set, digit_set, reg_name_set, allows_past_ascii}
 use Rattle.uri_pct.specs.Prefixes.{allows_first}
 use Rattle.uri_pct.proofs.ValidTexts.Cuts.{excludes}
 use Rattle.uri_parts.specs.Grammar.{Kind}

@@ -1,7 +1,6 @@
 -- What the parser takes of an authority, as functions of the text that is left: RFC 3986, section
 -- 3.2.
-use Rattle.std.specs.Prelude.{ℕ, ◌+◌, Bool, true, List, [], ◌∷◌, drop, codes}
-use Rattle.std.specs.Prelude.{if◌then◌else◌}
+use Rattle.std.specs.Prelude.{ℕ, ◌+◌, Bool, true, List, [], ◌∷◌, drop, codes, if◌then◌else◌}
 use Rattle.uri_pct.specs.Sets.{digit_set, is_one_of}
 use Rattle.uri_pct.specs.Prefixes.{valid_prefix, after}
 use Rattle.uri_parts.specs.Components.{starts}

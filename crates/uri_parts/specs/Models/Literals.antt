@@ -1,6 +1,5 @@
 -- What the parser takes of an address in brackets, after the `[`: RFC 3986, section 3.2.2.
-use Rattle.std.specs.Prelude.{◌≡◌, ℕ, ◌+◌, ◌<◌, ◌≤◌, ◌||◌, false, List, length, take, codes}
-use Rattle.std.specs.Prelude.{[], ◌∷◌, Option, option_map, slice_index}
+use Rattle.std.specs.Prelude.{◌≡◌, ℕ, ◌+◌, ◌<◌, ◌≤◌, ◌||◌, false, List, length, take, codes, [], ◌∷◌, Option, option_map, slice_index}
 use Rattle.std.specs.Borrow.{Bor}
 use Rattle.std.specs.Char.{digit_value}
 use Rattle.std.specs.Str.Parse.{AllDigits, digits_value}

@@ -1,19 +1,15 @@
 -- Why the parser rejects a text, on the way that it goes: no RFC has this.
-use Rattle.std.specs.Prelude.{ℕ, ◌+◌, ◌&&◌, ◌==◌, nat_lt, List, drop, codes, slice_index, Some}
-use Rattle.std.specs.Prelude.{if◌then◌else◌}
+use Rattle.std.specs.Prelude.{ℕ, ◌+◌, ◌&&◌, ◌==◌, nat_lt, List, drop, codes, slice_index, Some, if◌then◌else◌}
 use Rattle.std.specs.Char.{is_ascii_alphabetic}
 use Rattle.uri_pct.specs.Sets.{TableSet, scheme_set}
 use Rattle.uri_pct.specs.Delimiters.{at_sign, colon, left_bracket}
 use Rattle.uri_parts.specs.Components.{has_authority}
 use Rattle.uri_parts.specs.Errors.{unexpected}
 use Rattle.uri_parts.specs.LiteralErrors.{literal}
-use Rattle.uri_parts.specs.Refusals.{OptionalParseError, ◌>>=◌, last_colon, error_from_path}
-use Rattle.uri_parts.specs.Refusals.{error_from_relative_path}
+use Rattle.uri_parts.specs.Refusals.{OptionalParseError, ◌>>=◌, last_colon, error_from_path, error_from_relative_path}
 use Rattle.uri_parts.specs.Scanning.{is_next, scan_end, scan}
 use Rattle.uri_parts.specs.Grammar.{Kind}
-use Rattle.uri_parts.specs.Models.AuthorityParsing.{is_empty_or_begins_with_any, port_length}
-use Rattle.uri_parts.specs.Models.AuthorityParsing.{name_and_port_length}
-use Rattle.uri_parts.specs.Models.AuthorityParsing.{name_ends_authority}
+use Rattle.uri_parts.specs.Models.AuthorityParsing.{is_empty_or_begins_with_any, port_length, name_and_port_length, name_ends_authority}
 
 -- the error that the parser comes to at index i, where something is left after an authority: a
 -- stray `%` of a path, or else that it is unexpected

@@ -1,26 +1,17 @@
 -- The parts of a text that is decoded: what is before a `%`, and the octet that it begins.
-use Rattle.std.proofs.Common.{◌≡◌, ℕ, suc, ◌+◌, ◌*◌, ◌<◌, ◌≤◌, ◌≢◌, Bool, true, false, eqb, not}
-use Rattle.std.proofs.Common.{List, [], ◌∷◌, ◌++◌, length, get_or, take, drop, map, refl, sym, ap}
-use Rattle.std.proofs.Common.{◌∙◌, subst, arith, ⊎_elim, append_assoc, lit<, add-zero}
+use Rattle.std.proofs.Common.{◌≡◌, ℕ, suc, ◌+◌, ◌*◌, ◌<◌, ◌≤◌, ◌≢◌, Bool, true, false, eqb, not, List, [], ◌∷◌, ◌++◌, length, get_or, take, drop, map, refl, sym, ap, ◌∙◌, subst, arith, ⊎_elim, append_assoc, lit<, add-zero}
 use Rattle.std.specs.List.{list_all, position_or_len, prefix_len}
 use Rattle.std.specs.Char.{encode_utf8, digit_value, is_ascii_hexdigit}
 use Rattle.std.specs.Str.{chars, encode_utf8_all, all_scalars, IsUtf8, IsCharBoundary}
-use Rattle.std.proofs.lemmas.Bool.{cases_Bool, cases_lt, cond-true, cond-false, and_parts, and_from}
-use Rattle.std.proofs.lemmas.Bool.{eqb-true, eqb-false, ne_eqb, not-true, not-false, not_from_false}
-use Rattle.std.proofs.lemmas.Bool.{false≢true, false_from_ne_true}
+use Rattle.std.proofs.lemmas.Bool.{cases_Bool, cases_lt, cond-true, cond-false, and_parts, and_from, eqb-true, eqb-false, ne_eqb, not-true, not-false, not_from_false, false≢true, false_from_ne_true}
 use Rattle.std.proofs.lemmas.List.{append-nil, take-append-drop, drop_all, length-drop, get_or-drop}
 use Rattle.std.proofs.lemmas.List.Folds.{list_all-append}
 use Rattle.std.proofs.lemmas.List.Sums.{prefix_len-le-length, prefix_len_stops}
-use Rattle.std.proofs.lemmas.Str.{chars-append, chars-encodes, encode_ascii, encodes-chars}
-use Rattle.std.proofs.lemmas.Str.{scalars-chars, IsUtf8-take, IsUtf8-drop}
-use Rattle.std.proofs.lemmas.Str.{IsCharBoundary-before_ascii, IsCharBoundary-after_ascii}
-use Rattle.std.proofs.lemmas.Str.{IsCharBoundary-end}
+use Rattle.std.proofs.lemmas.Str.{chars-append, chars-encodes, encode_ascii, encodes-chars, scalars-chars, IsUtf8-take, IsUtf8-drop, IsCharBoundary-before_ascii, IsCharBoundary-after_ascii, IsCharBoundary-end}
 use Rattle.uri_pct.specs.Sets.{TableSet, LacksPercent, IsSubset}
 use Rattle.uri_pct.specs.Texts.{lacks}
-use Rattle.uri_pct.specs.Tokens.{Token, Char, Octet, is_pct_encoded, tokens_from_chars, tokens}
-use Rattle.uri_pct.specs.Tokens.{allows_token, is_valid_for, IsValidFor}
-use Rattle.uri_pct.specs.Chunks.{Chunk, Text, Byte, prepend_to_chunks, chunks_of_tokens, chunks}
-use Rattle.uri_pct.specs.Chunks.{widest_set}
+use Rattle.uri_pct.specs.Tokens.{Token, Char, Octet, is_pct_encoded, tokens_from_chars, tokens, allows_token, is_valid_for, IsValidFor}
+use Rattle.uri_pct.specs.Chunks.{Chunk, Text, Byte, prepend_to_chunks, chunks_of_tokens, chunks, widest_set}
 use Rattle.uri_pct.proofs.UnreservedDecoding.Printing.{char_but_percent_is_its_own_token}
 use Rattle.uri_pct.proofs.ValidTexts.TokenCuts.{ascii_byte_is_first_of_chars}
 use Rattle.uri_pct.proofs.Unicode.Characters.{hexdigit_is_ascii}

@@ -1,7 +1,6 @@
 -- The tokens of encoded texts and bytes: `tokens` inverts `print` on them, and a set with octets
 -- allows them.
-use Rattle.std.proofs.Common.{◌≡◌, ℕ, suc, ◌+◌, ◌%◌, ◌<◌, Bool, true, ltb, List, [], ◌∷◌}
-use Rattle.std.proofs.Common.{get_or, map, refl, sym, ap, ◌∙◌, arith, ⊎_elim}
+use Rattle.std.proofs.Common.{◌≡◌, ℕ, suc, ◌+◌, ◌%◌, ◌<◌, Bool, true, ltb, List, [], ◌∷◌, get_or, map, refl, sym, ap, ◌∙◌, arith, ⊎_elim}
 use Rattle.std.specs.List.{list_all, flat_map, All}
 use Rattle.std.specs.Char.{IsScalar, encode_utf8}
 use Rattle.std.specs.Str.{chars, IsUtf8, all_scalars}
@@ -12,8 +11,7 @@ use Rattle.std.proofs.lemmas.List.Elements.{All-head, All-tail}
 use Rattle.std.proofs.lemmas.Str.{encode_ascii, scalars-chars}
 use Rattle.uri_pct.specs.Sets.{TableSet, LacksPercent, IsSubset, allows}
 use Rattle.uri_pct.specs.Tokens.{Octet, allows_token}
-use Rattle.uri_pct.specs.Pieces.{Piece, WellFormed, IllFormed, IsOfCharacter, char_of, piece_bytes}
-use Rattle.uri_pct.specs.Pieces.{bytes_of_pieces, utf8_pieces}
+use Rattle.uri_pct.specs.Pieces.{Piece, WellFormed, IllFormed, IsOfCharacter, char_of, piece_bytes, bytes_of_pieces, utf8_pieces}
 use Rattle.uri_pct.specs.Encoding.{encode_char, encode_text, encode_piece, encode_bytes}
 use Rattle.uri_pct.specs.DecodeUnreserved.{is_printable}
 use Rattle.uri_pct.proofs.ValidTexts.Allowed.{allowed_char_is_printable}

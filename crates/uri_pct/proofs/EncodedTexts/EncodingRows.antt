@@ -3,8 +3,7 @@ use Rattle.std.proofs.Common.{◌≡◌, [], ◌∷◌, refl}
 use Rattle.std.specs.Prelude.{codes}
 use Rattle.std.specs.Char.{encode_utf8}
 use Rattle.std.specs.Str.{chars}
-use Rattle.uri_pct.specs.Sets.{allows_past_ascii, is_ucschar, is_iprivate, data_set, idata_set}
-use Rattle.uri_pct.specs.Sets.{path_set}
+use Rattle.uri_pct.specs.Sets.{allows_past_ascii, is_ucschar, is_iprivate, data_set, idata_set, path_set}
 use Rattle.uri_pct.specs.Tokens.{print}
 use Rattle.uri_pct.specs.Pieces.{pieces_from, following_ranges}
 use Rattle.uri_pct.specs.Encoding.{encode_text, encode_bytes}

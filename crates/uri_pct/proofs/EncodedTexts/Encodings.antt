@@ -1,29 +1,23 @@
 -- The tokens that texts and bytes are encoded as.
-use Rattle.std.proofs.Common.{◌≡◌, ℕ, ◌+◌, ◌-◌, ◌≤◌, true, false, List, [], ◌∷◌, ◌++◌, length, take}
-use Rattle.std.proofs.Common.{drop, map, refl, sym, ap, ◌∙◌, arith, append_assoc}
+use Rattle.std.proofs.Common.{◌≡◌, ℕ, ◌+◌, ◌-◌, ◌≤◌, true, false, List, [], ◌∷◌, ◌++◌, length, take, drop, map, refl, sym, ap, ◌∙◌, arith, append_assoc}
 use Rattle.std.specs.List.{flat_map, All}
 use Rattle.std.specs.Char.{encode_utf8, len_utf8}
 use Rattle.std.specs.Str.{chars, encode_utf8_all, all_scalars, IsUtf8}
 use Rattle.std.proofs.Math.Seq.{take-append_seam}
 use Rattle.std.proofs.lemmas.Bool.{cond-true, cond-false, and_parts}
-use Rattle.std.proofs.lemmas.List.{append-nil, drop-drop, length-take, take-append-le, take-take}
-use Rattle.std.proofs.lemmas.List.{nil_from_length}
+use Rattle.std.proofs.lemmas.List.{append-nil, drop-drop, length-take, take-append-le, take-take, nil_from_length}
 use Rattle.std.proofs.lemmas.List.Concat.{flat_map-append}
 use Rattle.std.proofs.lemmas.List.Elements.{All-head, All-tail}
 use Rattle.std.proofs.lemmas.Str.{chars_past_char, encodes-chars, scalars-chars, length-encode}
 use Rattle.uri_pct.specs.Sets.{TableSet, allows}
-use Rattle.uri_pct.specs.Tokens.{Token, Octet, bytes_decoded_from, bytes_of_one_token}
-use Rattle.uri_pct.specs.Tokens.{text_of_token, print}
-use Rattle.uri_pct.specs.Pieces.{Piece, WellFormed, IllFormed, IsOfCharacter, char_of, piece_bytes}
-use Rattle.uri_pct.specs.Pieces.{bytes_of_pieces, utf8_pieces}
+use Rattle.uri_pct.specs.Tokens.{Token, Octet, bytes_decoded_from, bytes_of_one_token, text_of_token, print}
+use Rattle.uri_pct.specs.Pieces.{Piece, WellFormed, IllFormed, IsOfCharacter, char_of, piece_bytes, bytes_of_pieces, utf8_pieces}
 use Rattle.uri_pct.specs.Encoding.{encode_char, encode_text, encode_piece, encode_bytes}
 use Rattle.uri_pct.specs.Parts.{ill_formed_piece_if_any}
-use Rattle.uri_pct.proofs.Unicode.CharacterPieces.{utf8_pieces-are-of-characters}
-use Rattle.uri_pct.proofs.Unicode.CharacterPieces.{char_of_utf8_is_the_char}
+use Rattle.uri_pct.proofs.Unicode.CharacterPieces.{utf8_pieces-are-of-characters, char_of_utf8_is_the_char}
 use Rattle.uri_pct.proofs.Unicode.Lossy.{piece_of_char, pieces_of_chars_come_before_the_rest}
 use Rattle.uri_pct.proofs.Unicode.Runs.{no_bytes_have_no_pieces}
-use Rattle.uri_pct.proofs.Unicode.Pieces.{bytes_of_utf8_pieces_are_the_bytes}
-use Rattle.uri_pct.proofs.Unicode.Pieces.{take_then_take_is_take_of_sum}
+use Rattle.uri_pct.proofs.Unicode.Pieces.{bytes_of_utf8_pieces_are_the_bytes, take_then_take_is_take_of_sum}
 use Rattle.std.proofs.lemmas.Bool.Decides.{nat_tests}
 
 -- encoding: what is written of two lists of tokens is what is written of each

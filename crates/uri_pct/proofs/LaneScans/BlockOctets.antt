@@ -1,23 +1,17 @@
 -- The first byte from a start on that fails a test, by the mask of its block, and octets after it.
-use Rattle.std.proofs.Common.{◌≡◌, ℕ, ◌+◌, ◌-◌, ◌^◌, ◌<◌, ◌≤◌, Bool, true, false, not}
-use Rattle.std.proofs.Common.{eqb, leb, List, length, get_or, refl, sym, ap, subst, ◌∙◌, arith, w64}
-use Rattle.std.proofs.Common.{bit_and, ◌&&◌, ⊎_elim}
+use Rattle.std.proofs.Common.{◌≡◌, ℕ, ◌+◌, ◌-◌, ◌^◌, ◌<◌, ◌≤◌, Bool, true, false, not, eqb, leb, List, length, get_or, refl, sym, ap, subst, ◌∙◌, arith, w64, bit_and, ◌&&◌, ⊎_elim}
 use Rattle.std.specs.Int.{bit_at, trailing_zeros}
 use Rattle.std.specs.Char.{is_ascii_hexdigit}
 use Rattle.std.proofs.Math.Bool.{and-true}
 use Rattle.std.proofs.lemmas.Nat.{and_le_l}
 use Rattle.std.proofs.lemmas.Nat.Bits.{bit_at-zero, bit_at_above, bit_at_ones}
-use Rattle.std.proofs.lemmas.Bool.{cases_lt, cases_Bool, both_ways, eq-eqb, eqb-true, and_parts}
-use Rattle.std.proofs.lemmas.Bool.{and_from, and_right, not-true, leb-true, le-leb}
+use Rattle.std.proofs.lemmas.Bool.{cases_lt, cases_Bool, both_ways, eq-eqb, eqb-true, and_parts, and_from, and_right, not-true, leb-true, le-leb}
 use Rattle.uri_pct.specs.Texts.{has_hex_digits_after}
 use Rattle.uri_pct.specs.Models.ByteRuns.{AreCharactersOrOctets, IsLongestRun}
 use Rattle.uri_pct.specs.Models.LaneMasks.{is_lane_of_octet}
 use Rattle.uri_pct.proofs.TableSets.Masks.{bit_of_bit_and, bit_that_is_not_one_is_zero}
 use Rattle.uri_pct.proofs.LaneScans.LaneBits.{is_set_bit, trailing_zeros_is_first_set_lane}
-use Rattle.uri_pct.proofs.LaneScans.OctetLanes.{first_is_false_if_and_is_false}
-use Rattle.uri_pct.proofs.LaneScans.OctetLanes.{lane_without_origin_is_in_no_octet}
-use Rattle.uri_pct.proofs.LaneScans.OctetLanes.{no_octet_begins_before_lane_outside}
-use Rattle.uri_pct.proofs.LaneScans.OctetLanes.{octets_before_lane_outside_are_whole}
+use Rattle.uri_pct.proofs.LaneScans.OctetLanes.{first_is_false_if_and_is_false, lane_without_origin_is_in_no_octet, no_octet_begins_before_lane_outside, octets_before_lane_outside_are_whole}
 use Rattle.std.proofs.lemmas.Bool.Decides.{nat_tests}
 
 -- bit k of the mask is set where the byte at i + k is one from start on that fails the test, and

@@ -1,6 +1,5 @@
 -- A run of characters of ASCII and of parts of characters from U+00C0 to U+D7FF is scanned.
-use Rattle.std.proofs.Common.{◌≡◌, ℕ, zero, suc, ◌+◌, ◌<◌, ◌≤◌, Bool, true, not, eqb, List}
-use Rattle.std.proofs.Common.{length, get_or, drop, refl, sym, ap, subst, arith, ⊎_elim, ◌&&◌}
+use Rattle.std.proofs.Common.{◌≡◌, ℕ, zero, suc, ◌+◌, ◌<◌, ◌≤◌, Bool, true, not, eqb, List, length, get_or, drop, refl, sym, ap, subst, arith, ⊎_elim, ◌&&◌}
 use Rattle.std.specs.Prelude.{nat_le}
 use Rattle.std.specs.Str.{IsUtf8, IsCharBoundary}
 use Rattle.std.proofs.lemmas.Str.{IsCharBoundary-after_ascii}
@@ -10,10 +9,7 @@ use Rattle.uri_pct.specs.Sets.{TableSet, LacksPercent}
 use Rattle.uri_pct.specs.Prefixes.{valid_prefix}
 use Rattle.uri_pct.specs.Models.ByteRuns.{IsLongestRun, is_char_byte}
 use Rattle.uri_pct.proofs.ValidTexts.PrefixSteps.{valid_prefix_passes_ascii_char_of_set}
-use Rattle.uri_pct.proofs.TableSets.LeadBytes.{scan_passes_two_bytes, scan_passes_three_bytes}
-use Rattle.uri_pct.proofs.TableSets.LeadBytes.{past_ascii_lead_is_at_least_c2}
-use Rattle.uri_pct.proofs.TableSets.LeadBytes.{second_byte_past_ascii_continues}
-use Rattle.uri_pct.proofs.TableSets.LeadBytes.{third_byte_from_e0_continues}
+use Rattle.uri_pct.proofs.TableSets.LeadBytes.{scan_passes_two_bytes, scan_passes_three_bytes, past_ascii_lead_is_at_least_c2, second_byte_past_ascii_continues, third_byte_from_e0_continues}
 
 -- sixteen bytes at a time: the byte may be a part of a character from U+00C0 to U+D7FF
 abbrev is_byte_of_char_part : ℕ → Bool

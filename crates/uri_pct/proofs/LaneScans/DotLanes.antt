@@ -1,15 +1,12 @@
 -- The lanes of each `/` that has a `.` or a `%` after it.
-use Rattle.std.proofs.Common.{◌≡◌, ℕ, ◌+◌, ◌<◌, ◌≤◌, Bool, false, eqb, List, map, length, get_or}
-use Rattle.std.proofs.Common.{sym, ap, ◌∙◌, arith, w64, bit_and, bit_or, ◌&&◌, ◌||◌}
+use Rattle.std.proofs.Common.{◌≡◌, ℕ, ◌+◌, ◌<◌, ◌≤◌, Bool, false, eqb, List, map, length, get_or, sym, ap, ◌∙◌, arith, w64, bit_and, bit_or, ◌&&◌, ◌||◌}
 use Rattle.std.specs.Int.{bit_at, trailing_zeros}
 use Rattle.std.specs.Simd.Lanes.{mask_l, chunk}
 use Rattle.std.proofs.lemmas.Nat.{and_le_l}
 use Rattle.std.proofs.lemmas.Nat.Bits.{bit_at-zero}
 use Rattle.std.proofs.lemmas.Bool.{and_parts, eq-eqb, eqb-true}
 use Rattle.uri_pct.proofs.TableSets.Masks.{bit_of_bit_and, bit_of_bit_or}
-use Rattle.uri_pct.proofs.LaneScans.LaneBits.{is_set_bit, mask_bit_is_equality_of_byte}
-use Rattle.uri_pct.proofs.LaneScans.LaneBits.{equality_mask_is_below_2_16}
-use Rattle.uri_pct.proofs.LaneScans.LaneBits.{trailing_zeros_is_first_set_lane}
+use Rattle.uri_pct.proofs.LaneScans.LaneBits.{is_set_bit, mask_bit_is_equality_of_byte, equality_mask_is_below_2_16, trailing_zeros_is_first_set_lane}
 use Rattle.std.proofs.lemmas.Bool.Decides.{nat_tests}
 
 -- sixteen bytes at a time: the mask of the lanes from i on that equal a byte

@@ -1,26 +1,18 @@
 -- Two words as the sixteen bytes of a vector, and the lanes of a load that have no bit in them.
-use Rattle.std.proofs.Common.{◌≡◌, ℕ, zero, suc, ◌+◌, ◌-◌, ◌*◌, ◌/◌, ◌%◌, ◌^◌, ◌<◌, ◌≤◌, min, true}
-use Rattle.std.proofs.Common.{false, not, cond, eqb, List, [], ◌∷◌, map, length, get_or, replicate}
-use Rattle.std.proofs.Common.{refl, sym, ap, ◌∙◌, arith, ⊎_elim, w8, bit_and, Fits, ◌||◌, subst, T}
-use Rattle.std.proofs.Common.{ltb}
+use Rattle.std.proofs.Common.{◌≡◌, ℕ, zero, suc, ◌+◌, ◌-◌, ◌*◌, ◌/◌, ◌%◌, ◌^◌, ◌<◌, ◌≤◌, min, true, false, not, cond, eqb, List, [], ◌∷◌, map, length, get_or, replicate, refl, sym, ap, ◌∙◌, arith, ⊎_elim, w8, bit_and, Fits, ◌||◌, subst, T, ltb}
 use mir.Val.{zeroes}
 use Rattle.std.specs.Int.{bit_at}
 use Rattle.std.specs.Int.Bits.{and_zero_r}
 use Rattle.std.specs.Simd.Lanes.{zip2, mask_l, top, digits_l, Each1}
 use Rattle.std.proofs.lemmas.Nat.{shr-shr, and_mask, pow_pos}
-use Rattle.std.proofs.lemmas.Nat.Bits.{bit_at-lt, bit_at_and, bit_at_ones, bit_at_cat_low}
-use Rattle.std.proofs.lemmas.Nat.Bits.{bit_at_cat_high, and_pow}
-use Rattle.std.proofs.lemmas.Simd.{swz_l, SwzOk, SwzOk-from_Each1, Each1-from_get_or, Each1-get_or}
-use Rattle.std.proofs.lemmas.Simd.{length-swz_l, get_or-swz_l, zip2_of_maps, bitmask_splat, map-map}
-use Rattle.std.proofs.lemmas.Bool.{cases_lt, cond-true, cond-false, lt-ltb, le-ltb, ne_eqb}
-use Rattle.std.proofs.lemmas.Bool.{agree_below_at, eqb-true, or_right}
+use Rattle.std.proofs.lemmas.Nat.Bits.{bit_at-lt, bit_at_and, bit_at_ones, bit_at_cat_low, bit_at_cat_high, and_pow}
+use Rattle.std.proofs.lemmas.Simd.{swz_l, SwzOk, SwzOk-from_Each1, Each1-from_get_or, Each1-get_or, length-swz_l, get_or-swz_l, zip2_of_maps, bitmask_splat, map-map}
+use Rattle.std.proofs.lemmas.Bool.{cases_lt, cond-true, cond-false, lt-ltb, le-ltb, ne_eqb, agree_below_at, eqb-true, or_right}
 use Rattle.std.proofs.lemmas.List.{ext_get_or, length-map}
 use Rattle.std.proofs.lemmas.Grind.{get_or_default_zero}
 use Rattle.std.proofs.Math.ListN.{get_or-map}
 use Rattle.uri_pct.specs.Masks.{has_bit}
-use Rattle.uri_pct.proofs.TableSets.Masks.{has_bit_below_64_is_bit_of_low}
-use Rattle.uri_pct.proofs.TableSets.Masks.{has_bit_from_64_is_bit_of_high}
-use Rattle.uri_pct.proofs.TableSets.Masks.{has_bit_past_ascii_is_false}
+use Rattle.uri_pct.proofs.TableSets.Masks.{has_bit_below_64_is_bit_of_low, has_bit_from_64_is_bit_of_high, has_bit_past_ascii_is_false}
 use Rattle.uri_pct.specs.Models.LaneMasks.{bytes_of_masks, bit_in_mask_byte}
 
 -- sixteen bytes at a time, bits: byte j of a number has its bits from 8 * j on

@@ -1,7 +1,5 @@
 -- The lanes that are linked to those before them: a mask has those that are not.
-use Rattle.std.proofs.Common.{◌≡◌, ℕ, ◌+◌, ◌-◌, ◌^◌, ◌<◌, ◌≤◌, Bool, true, false, not, eqb, List}
-use Rattle.std.proofs.Common.{get_or, sym, ap, ◌∙◌, arith, w64, bit_and, bit_or, ◌&&◌, ◌||◌}
-use Rattle.std.proofs.Common.{⊎_elim}
+use Rattle.std.proofs.Common.{◌≡◌, ℕ, ◌+◌, ◌-◌, ◌^◌, ◌<◌, ◌≤◌, Bool, true, false, not, eqb, List, get_or, sym, ap, ◌∙◌, arith, w64, bit_and, bit_or, ◌&&◌, ◌||◌, ⊎_elim}
 use Rattle.std.specs.Int.{bit_at, bit_not}
 use Rattle.std.specs.Char.{is_ascii_hexdigit}
 use Rattle.std.proofs.lemmas.Bool.{eq-eqb, or_left, or_right, or_parts, both_ways, cases_lt}
@@ -10,8 +8,7 @@ use Rattle.uri_pct.specs.Masks.{has_bit}
 use Rattle.uri_pct.proofs.TableSets.Masks.{bit_of_bit_and, bit_of_bit_or, bit_of_bit_and_not}
 use Rattle.uri_pct.proofs.LaneScans.LaneRuns.{MarksFailingLanes}
 use Rattle.uri_pct.proofs.LaneScans.LaneBits.{is_set_bit, clear_lane_passes_test}
-use Rattle.uri_pct.proofs.LaneScans.OctetLanes.{char_of_hex_masks_is_hexdigit}
-use Rattle.uri_pct.proofs.LaneScans.OctetLanes.{first_is_false_if_and_is_false}
+use Rattle.uri_pct.proofs.LaneScans.OctetLanes.{char_of_hex_masks_is_hexdigit, first_is_false_if_and_is_false}
 
 module _ (test : ℕ → Bool) (bs : List ℕ) (i misses others percents one two : ℕ) (before : 2 ≤ i)
     (outside : MarksFailingLanes test bs i 16 misses)

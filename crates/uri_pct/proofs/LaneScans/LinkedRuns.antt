@@ -1,6 +1,5 @@
 -- Bytes that are linked from one to the next are bytes of a set and whole octets.
-use Rattle.std.proofs.Common.{◌≡◌, ℕ, ◌+◌, ◌-◌, ◌<◌, ◌≤◌, Bool, true, false, eqb, ltb, List}
-use Rattle.std.proofs.Common.{get_or, refl, sym, ap, ◌∙◌, arith, ◌&&◌}
+use Rattle.std.proofs.Common.{◌≡◌, ℕ, ◌+◌, ◌-◌, ◌<◌, ◌≤◌, Bool, true, false, eqb, ltb, List, get_or, refl, sym, ap, ◌∙◌, arith, ◌&&◌}
 use Rattle.std.specs.Char.{is_ascii_hexdigit}
 use Rattle.std.proofs.lemmas.Bool.{and_parts, and_from, both_ways, lt-ltb, ltb-true, eqb-true}
 use Rattle.uri_pct.specs.Texts.{has_hex_digits_after}

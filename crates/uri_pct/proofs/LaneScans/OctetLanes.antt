@@ -1,13 +1,10 @@
 -- The lanes at which octets begin, and those that are parts of octets.
-use Rattle.std.proofs.Common.{◌≡◌, ℕ, ◌+◌, ◌-◌, ◌*◌, ◌/◌, ◌%◌, ◌^◌, ◌<◌, ◌≤◌, min, Bool, true}
-use Rattle.std.proofs.Common.{false, not, eqb, leb, List, get_or, refl, sym, ap, ◌∙◌, arith, w64}
-use Rattle.std.proofs.Common.{bit_and, bit_or, ◌&&◌, ◌||◌, ⊎_elim}
+use Rattle.std.proofs.Common.{◌≡◌, ℕ, ◌+◌, ◌-◌, ◌*◌, ◌/◌, ◌%◌, ◌^◌, ◌<◌, ◌≤◌, min, Bool, true, false, not, eqb, leb, List, get_or, refl, sym, ap, ◌∙◌, arith, w64, bit_and, bit_or, ◌&&◌, ◌||◌, ⊎_elim}
 use Rattle.std.specs.Int.{bit_at, bit_not}
 use Rattle.std.specs.Char.{is_ascii_hexdigit}
 use Rattle.std.proofs.lemmas.Nat.{or_lt}
 use Rattle.std.proofs.lemmas.Nat.Bits.{bit_at_and, bit_at_above}
-use Rattle.std.proofs.lemmas.Bool.{cases_lt, both_ways, eqb-true, eq-eqb, and_from, or_from}
-use Rattle.std.proofs.lemmas.Bool.{or_parts, and_right, cases_Bool, le-leb, lt-leb}
+use Rattle.std.proofs.lemmas.Bool.{cases_lt, both_ways, eqb-true, eq-eqb, and_from, or_from, or_parts, and_right, cases_Bool, le-leb, lt-leb}
 use Rattle.std.proofs.Math.Bool.{and-true, or-false}
 use Rattle.uri_pct.specs.Texts.{has_hex_digits_after}
 use Rattle.uri_pct.specs.Models.LaneMasks.{is_lane_of_octet}
@@ -15,9 +12,7 @@ use Rattle.uri_pct.specs.Masks.{has_bit}
 use Rattle.uri_pct.proofs.TableSets.Masks.{bit_of_bit_or, bit_of_bit_and, bit_of_bit_and_not}
 use Rattle.uri_pct.proofs.TableSets.Constants.{hexdig_masks_are_hexdig_set}
 use Rattle.uri_pct.proofs.LaneScans.LaneRuns.{MarksFailingLanes}
-use Rattle.uri_pct.proofs.LaneScans.LaneBits.{is_set_bit, bit_of_right_shift, bit_of_left_shift}
-use Rattle.uri_pct.proofs.LaneScans.LaneBits.{low_bit_of_left_shift_is_clear}
-use Rattle.uri_pct.proofs.LaneScans.LaneBits.{clear_lane_passes_test}
+use Rattle.uri_pct.proofs.LaneScans.LaneBits.{is_set_bit, bit_of_right_shift, bit_of_left_shift, low_bit_of_left_shift_is_clear, clear_lane_passes_test}
 use Rattle.std.proofs.lemmas.Bool.Decides.{nat_tests}
 
 -- sixteen bytes at a time: the two words of the table of digits have hexadecimal digits only

@@ -1,18 +1,9 @@
 -- The constants are the sets of their rules.
 use Rattle.std.proofs.Common.{◌≡◌, ℕ, ◌≤◌, Bool, true, false, refl, sym, ap, ◌∙◌, ⊎_elim, arith}
 use Rattle.std.specs.Char.{is_ascii_alphabetic, is_ascii_digit, is_ascii_hexdigit}
-use Rattle.std.proofs.lemmas.Bool.{agree_below, cond-true, cond-false, lt-ltb, le-ltb, cases_lt}
-use Rattle.std.proofs.lemmas.Bool.{false≢true}
+use Rattle.std.proofs.lemmas.Bool.{agree_below, cond-true, cond-false, lt-ltb, le-ltb, cases_lt, false≢true}
 use Rattle.std.proofs.lemmas.Bool.Decides.{nat_tests}
-use Rattle.uri_pct.specs.Sets.{TableSet, characters_only, allows, allows_past_ascii, is_unreserved}
-use Rattle.uri_pct.specs.Sets.{is_gen_delim, is_sub_delim, is_reserved, is_scheme_char}
-use Rattle.uri_pct.specs.Sets.{is_reg_name_char, is_userinfo_char, is_pchar, is_segment_nz_nc_char}
-use Rattle.uri_pct.specs.Sets.{is_path_char, is_query_char, alpha_set, digit_set, hexdig_set}
-use Rattle.uri_pct.specs.Sets.{scheme_set, userinfo_set, ipv_future_set, reg_name_set, path_set}
-use Rattle.uri_pct.specs.Sets.{segment_nz_nc_set, pchar_set, query_set, fragment_set}
-use Rattle.uri_pct.specs.Sets.{unreserved_set, reserved_set, gen_delims_set, sub_delims_set}
-use Rattle.uri_pct.specs.Sets.{iuserinfo_set, ireg_name_set, ipath_set, isegment_nz_nc_set}
-use Rattle.uri_pct.specs.Sets.{iquery_set, ifragment_set}
+use Rattle.uri_pct.specs.Sets.{TableSet, characters_only, allows, allows_past_ascii, is_unreserved, is_gen_delim, is_sub_delim, is_reserved, is_scheme_char, is_reg_name_char, is_userinfo_char, is_pchar, is_segment_nz_nc_char, is_path_char, is_query_char, alpha_set, digit_set, hexdig_set, scheme_set, userinfo_set, ipv_future_set, reg_name_set, path_set, segment_nz_nc_set, pchar_set, query_set, fragment_set, unreserved_set, reserved_set, gen_delims_set, sub_delims_set, iuserinfo_set, ireg_name_set, ipath_set, isegment_nz_nc_set, iquery_set, ifragment_set}
 use Rattle.uri_pct.specs.Masks.{has_bit}
 use Rattle.uri_pct.proofs.TableSets.Masks.{has_bit-by-agreement}
 use Rattle.uri_pct.proofs.TableSets.Tables.{sets_equal_by_agreement, record_set, set_of_masks}

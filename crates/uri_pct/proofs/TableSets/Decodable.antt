@@ -1,13 +1,11 @@
 -- The set of the characters whose octets normalising decodes.
 use Rattle.std.proofs.Common.{◌≡◌, ℕ, ◌<◌, false, sym, ap, ◌∙◌, arith, ◌||◌, ⊎_elim}
 use Rattle.std.proofs.Math.Bool.{or-false}
-use Rattle.std.proofs.lemmas.Bool.{cond-true, cond-false, le-ltb, lt-ltb, false_from_ne_true}
-use Rattle.std.proofs.lemmas.Bool.{cases_lt}
+use Rattle.std.proofs.lemmas.Bool.{cond-true, cond-false, le-ltb, lt-ltb, false_from_ne_true, cases_lt}
 use Rattle.uri_pct.specs.DecodeUnreserved.{is_decodable}
 use Rattle.uri_pct.specs.Sets.{TableSet, allows, allows_past_ascii, is_unreserved}
 use Rattle.uri_pct.proofs.ValidTexts.Allowed.{allowed_past_ascii_is_scalar}
-use Rattle.uri_pct.proofs.TableSets.Constants.{unreserved_masks_are_unreserved_set}
-use Rattle.uri_pct.proofs.TableSets.Constants.{past_ascii_is_not_unreserved}
+use Rattle.uri_pct.proofs.TableSets.Constants.{unreserved_masks_are_unreserved_set, past_ascii_is_not_unreserved}
 use Rattle.uri_pct.proofs.TableSets.Tables.{set_of_masks}
 
 -- sets: an ASCII character is not allowed as one past ASCII

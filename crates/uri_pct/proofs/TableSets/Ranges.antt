@@ -1,7 +1,6 @@
 -- The ranges of `ucschar` and `iprivate`, in the cases that the code has: below plane 1, planes 1
 -- to 13, and above.
-use Rattle.std.proofs.Common.{◌≡◌, ℕ, zero, suc, ◌+◌, ◌*◌, ◌%◌, ◌<◌, ◌≤◌, Bool, false, leb, refl}
-use Rattle.std.proofs.Common.{ap, ◌∙◌, arith, ◌||◌, ⊎_elim}
+use Rattle.std.proofs.Common.{◌≡◌, ℕ, zero, suc, ◌+◌, ◌*◌, ◌%◌, ◌<◌, ◌≤◌, Bool, false, leb, refl, ap, ◌∙◌, arith, ◌||◌, ⊎_elim}
 use Rattle.std.specs.Int.{is_in_range}
 use Rattle.std.proofs.Math.Bool.{or-false}
 use Rattle.std.proofs.lemmas.Bool.{cases_lt, and_left, and_right, or_from, lt-leb}

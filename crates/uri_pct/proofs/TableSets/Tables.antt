@@ -1,6 +1,5 @@
 -- Sets as two masks and three flags.
-use Rattle.std.proofs.Common.{◌≡◌, ℕ, ◌+◌, ◌^◌, ◌<◌, ◌≤◌, Bool, true, false, not, eqb, refl, sym}
-use Rattle.std.proofs.Common.{ap, ◌∙◌, arith, bit_or, ◌&&◌, ◌||◌, All, List, get_or}
+use Rattle.std.proofs.Common.{◌≡◌, ℕ, ◌+◌, ◌^◌, ◌<◌, ◌≤◌, Bool, true, false, not, eqb, refl, sym, ap, ◌∙◌, arith, bit_or, ◌&&◌, ◌||◌, All, List, get_or}
 use Rattle.std.specs.Int.Bits.{bit_and, or_add_and}
 use Rattle.std.proofs.lemmas.Nat.{and_le_l, and_le_r}
 use Rattle.std.proofs.lemmas.Bool.{and_parts, or_parts, not-true, eqb-true, ne_eqb}
@@ -10,8 +9,7 @@ use Rattle.std.specs.List.{list_all}
 use Rattle.uri_pct.specs.Sets.{TableSet, difference, IsSubset, is_one_of}
 use Rattle.uri_pct.specs.Masks.{has_bit, is_unencoded_ascii}
 use Rattle.uri_pct.specs.Tables.{empty_set}
-use Rattle.uri_pct.proofs.TableSets.Masks.{has_bit-zero-masks, low_mask_without_bits_is_zero}
-use Rattle.uri_pct.proofs.TableSets.Masks.{high_mask_without_bits_is_zero}
+use Rattle.uri_pct.proofs.TableSets.Masks.{has_bit-zero-masks, low_mask_without_bits_is_zero, high_mask_without_bits_is_zero}
 use Rattle.std.proofs.lemmas.Bool.Decides.{nat_tests}
 
 -- tables: the set of the characters that pass a test, with three flags

@@ -1,9 +1,6 @@
 -- The bytes of a character are a well-formed piece in any context, and each well-formed piece is
 -- the bytes of a character.
-use Rattle.std.proofs.Common.{◌≡◌, ℕ, zero, suc, ◌+◌, ◌-◌, ◌*◌, ◌/◌, ◌%◌, ◌<◌, ◌≤◌, ◌⊎◌, true}
-use Rattle.std.proofs.Common.{false, eqb, leb, List, [], ◌∷◌, ◌++◌, length, take, refl, sym}
-use Rattle.std.proofs.Common.{ap, ◌∙◌, arith, ⊎_elim, Option, Some, None, option_map, subst, inl}
-use Rattle.std.proofs.Common.{inr, lit≤}
+use Rattle.std.proofs.Common.{◌≡◌, ℕ, zero, suc, ◌+◌, ◌-◌, ◌*◌, ◌/◌, ◌%◌, ◌<◌, ◌≤◌, ◌⊎◌, true, false, eqb, leb, List, [], ◌∷◌, ◌++◌, length, take, refl, sym, ap, ◌∙◌, arith, ⊎_elim, Option, Some, None, option_map, subst, inl, inr, lit≤}
 use Rattle.std.specs.Prelude.{slice_index}
 use Rattle.std.specs.List.{find, All, AllByRecursion}
 use Rattle.std.specs.Char.{encode_utf8, IsScalar}
@@ -12,20 +9,11 @@ use Rattle.std.proofs.Math.Utf8.{scalar_cases, low_scalar}
 use Rattle.std.proofs.lemmas.List.{append-nil}
 use Rattle.std.proofs.lemmas.List.Elements.{All-from_recursion}
 use Rattle.std.proofs.lemmas.Str.{encode_ascii, chars-encodes}
-use Rattle.std.proofs.lemmas.Bool.{cases_Bool, cond-true, cond-false, and_parts, and_left}
-use Rattle.std.proofs.lemmas.Bool.{and_right, leb-true, lt-leb, and_from, cases_lt, eqb-true}
+use Rattle.std.proofs.lemmas.Bool.{cases_Bool, cond-true, cond-false, and_parts, and_left, and_right, leb-true, lt-leb, and_from, cases_lt, eqb-true}
 use Rattle.std.proofs.lemmas.Bool.Decides.{nat_tests}
-use Rattle.uri_pct.specs.Pieces.{Piece, WellFormed, IllFormed, ByteRange, Row, is_in_byte_range}
-use Rattle.uri_pct.specs.Pieces.{continuation, well_formed_rows, begins_with_continuation, char_of}
-use Rattle.uri_pct.specs.Pieces.{IsOfCharacter, following_ranges, len_in_ranges}
-use Rattle.uri_pct.specs.Pieces.{first_piece_tail_len, first_piece, pieces_from, utf8_pieces}
+use Rattle.uri_pct.specs.Pieces.{Piece, WellFormed, IllFormed, ByteRange, Row, is_in_byte_range, continuation, well_formed_rows, begins_with_continuation, char_of, IsOfCharacter, following_ranges, len_in_ranges, first_piece_tail_len, first_piece, pieces_from, utf8_pieces}
 use Rattle.uri_pct.proofs.Unicode.Pieces.{utf8_pieces_are_cut_at_non_continuation}
-use Rattle.uri_pct.proofs.Unicode.FirstBytes.{fitting_bytes_are_well_formed_first_piece}
-use Rattle.uri_pct.proofs.Unicode.FirstBytes.{no_range_follows_ascii_byte}
-use Rattle.uri_pct.proofs.Unicode.FirstBytes.{following_ranges_of_c2_to_df, following_ranges_of_e0}
-use Rattle.uri_pct.proofs.Unicode.FirstBytes.{following_ranges_of_e1_to_ec, following_ranges_of_ed}
-use Rattle.uri_pct.proofs.Unicode.FirstBytes.{following_ranges_of_ee_to_ef, following_ranges_of_f0}
-use Rattle.uri_pct.proofs.Unicode.FirstBytes.{following_ranges_of_f1_to_f3, following_ranges_of_f4}
+use Rattle.uri_pct.proofs.Unicode.FirstBytes.{fitting_bytes_are_well_formed_first_piece, no_range_follows_ascii_byte, following_ranges_of_c2_to_df, following_ranges_of_e0, following_ranges_of_e1_to_ec, following_ranges_of_ed, following_ranges_of_ee_to_ef, following_ranges_of_f0, following_ranges_of_f1_to_f3, following_ranges_of_f4}
 
 -- UTF-8: the bytes of a character from U+0080 to U+07FF
 utf8_of_char_of_two_bytes : (c : ℕ) → 0x80 ≤ c → c < 0x800 → encode_utf8 c

@@ -1,11 +1,9 @@
 -- Which bytes may follow a first byte, row by row: Unicode, table 3-7.
-use Rattle.std.proofs.Common.{◌≡◌, ℕ, suc, ◌<◌, ◌≤◌, true, List, [], ◌∷◌, ◌++◌, length, refl, ap}
-use Rattle.std.proofs.Common.{◌∙◌, arith, Some}
+use Rattle.std.proofs.Common.{◌≡◌, ℕ, suc, ◌<◌, ◌≤◌, true, List, [], ◌∷◌, ◌++◌, length, refl, ap, ◌∙◌, arith, Some}
 use Rattle.std.proofs.lemmas.List.{take_at, drop_at}
 use Rattle.std.proofs.lemmas.Bool.{cond-true, le-leb, and_from}
 use Rattle.std.proofs.lemmas.Bool.Decides.{nat_tests}
-use Rattle.uri_pct.specs.Pieces.{WellFormed, ByteRange, is_in_byte_range, continuation}
-use Rattle.uri_pct.specs.Pieces.{following_ranges, len_in_ranges, pieces_from, utf8_pieces}
+use Rattle.uri_pct.specs.Pieces.{WellFormed, ByteRange, is_in_byte_range, continuation, following_ranges, len_in_ranges, pieces_from, utf8_pieces}
 use Rattle.uri_pct.proofs.Unicode.Pieces.{pieces_from_are_pieces_after_skipped_bytes}
 
 -- UTF-8: the bytes fit a row of the table, whatever follows them

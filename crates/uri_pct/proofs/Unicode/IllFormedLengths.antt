@@ -1,18 +1,11 @@
 -- The length of an ill-formed piece is the number of its bytes that fit a row, as that of std.
-use Rattle.std.proofs.Common.{◌≡◌, ℕ, suc, ◌<◌, ◌≤◌, ◌⊎◌, List, [], ◌∷◌, ◌++◌, length, refl}
-use Rattle.std.proofs.Common.{sym, ap, ◌∙◌, arith, ⊎_elim, Option, Some, None, subst, inl, inr}
+use Rattle.std.proofs.Common.{◌≡◌, ℕ, suc, ◌<◌, ◌≤◌, ◌⊎◌, List, [], ◌∷◌, ◌++◌, length, refl, sym, ap, ◌∙◌, arith, ⊎_elim, Option, Some, None, subst, inl, inr}
 use Rattle.std.specs.Option.{unwrap_or}
-use Rattle.std.specs.Str.Lossy.{utf8_invalid_len, utf8_error_len, error_len_after_one}
-use Rattle.std.specs.Str.Lossy.{second_byte_min, second_byte_max}
+use Rattle.std.specs.Str.Lossy.{utf8_invalid_len, utf8_error_len, error_len_after_one, second_byte_min, second_byte_max}
 use Rattle.std.proofs.lemmas.Bool.{cases_Bool, cond-true, cases_lt}
 use Rattle.std.proofs.lemmas.Bool.Decides.{nat_tests}
-use Rattle.uri_pct.specs.Pieces.{IllFormed, ByteRange, is_in_byte_range, continuation}
-use Rattle.uri_pct.specs.Pieces.{following_ranges, len_in_ranges, first_piece_tail_len, first_piece}
-use Rattle.uri_pct.proofs.Unicode.FirstBytes.{no_range_follows_ascii_byte}
-use Rattle.uri_pct.proofs.Unicode.FirstBytes.{following_ranges_of_c2_to_df, following_ranges_of_e0}
-use Rattle.uri_pct.proofs.Unicode.FirstBytes.{following_ranges_of_e1_to_ec, following_ranges_of_ed}
-use Rattle.uri_pct.proofs.Unicode.FirstBytes.{following_ranges_of_ee_to_ef, following_ranges_of_f0}
-use Rattle.uri_pct.proofs.Unicode.FirstBytes.{following_ranges_of_f1_to_f3, following_ranges_of_f4}
+use Rattle.uri_pct.specs.Pieces.{IllFormed, ByteRange, is_in_byte_range, continuation, following_ranges, len_in_ranges, first_piece_tail_len, first_piece}
+use Rattle.uri_pct.proofs.Unicode.FirstBytes.{no_range_follows_ascii_byte, following_ranges_of_c2_to_df, following_ranges_of_e0, following_ranges_of_e1_to_ec, following_ranges_of_ed, following_ranges_of_ee_to_ef, following_ranges_of_f0, following_ranges_of_f1_to_f3, following_ranges_of_f4}
 
 -- ill-formed UTF-8: std takes one byte for ill-formed, if it begins no character
 invalid_len_without_lead_is_one : (b : ℕ) (rest : List ℕ) → (b < 0xC2) ⊎ (0xF4 < b)

@@ -1,32 +1,17 @@
 -- Bytes are UTF-8 if each piece is well-formed, and the lossy text is that of std.
-use Rattle.std.proofs.Common.{◌≡◌, ℕ, zero, suc, ◌+◌, ◌-◌, ◌<◌, ◌≤◌, ◌↔◌, true, List, [], ◌∷◌}
-use Rattle.std.proofs.Common.{◌++◌, length, take, drop, map, refl, sym, ap, ◌∙◌, arith, ⊎_elim}
-use Rattle.std.proofs.Common.{append_assoc, subst}
+use Rattle.std.proofs.Common.{◌≡◌, ℕ, zero, suc, ◌+◌, ◌-◌, ◌<◌, ◌≤◌, ◌↔◌, true, List, [], ◌∷◌, ◌++◌, length, take, drop, map, refl, sym, ap, ◌∙◌, arith, ⊎_elim, append_assoc, subst}
 use Rattle.std.specs.Char.{encode_utf8}
 use Rattle.std.specs.List.{list_all, flat_map, All}
 use Rattle.std.specs.Str.{IsUtf8, is_utf8, all_scalars, encode_utf8_all}
-use Rattle.std.specs.Str.Lossy.{valid_len_up_to, utf8_valid_len, utf8_lossy, replacement_bytes}
-use Rattle.std.specs.Str.Lossy.{utf8_invalid_len, after_first_chunk}
+use Rattle.std.specs.Str.Lossy.{valid_len_up_to, utf8_valid_len, utf8_lossy, replacement_bytes, utf8_invalid_len, after_first_chunk}
 use Rattle.std.proofs.lemmas.List.{append-nil, take-append-drop, length-drop, take_all, drop-drop}
 use Rattle.std.proofs.lemmas.List.Concat.{flat_map-append}
 use Rattle.std.proofs.lemmas.List.Elements.{All-head, All-tail}
-use Rattle.std.proofs.lemmas.Str.{IsUtf8-append, IsUtf8-nil, IsUtf8-encode, IsUtf8-from_is_utf8}
-use Rattle.std.proofs.lemmas.Str.{is_utf8-from_IsUtf8, utf8_valid_len_le, utf8_lossy_step}
-use Rattle.std.proofs.lemmas.Str.{utf8_lossy-IsUtf8}
-use Rattle.std.proofs.lemmas.Bool.{cases_Bool, cond-true, cond-false, and_parts, cases_eq}
-use Rattle.std.proofs.lemmas.Bool.{both_ways}
-use Rattle.uri_pct.specs.Pieces.{Piece, WellFormed, IllFormed, IsOfCharacter, is_well_formed}
-use Rattle.uri_pct.specs.Pieces.{piece_bytes, bytes_of_pieces, char_of, following_ranges}
-use Rattle.uri_pct.specs.Pieces.{first_piece_tail_len, first_piece, pieces_from, utf8_pieces}
-use Rattle.uri_pct.specs.Pieces.{lossy_piece, lossy_text}
-use Rattle.uri_pct.proofs.Unicode.Pieces.{bytes_of_utf8_pieces_are_the_bytes}
-use Rattle.uri_pct.proofs.Unicode.Pieces.{pieces_from_are_pieces_after_skipped_bytes}
-use Rattle.uri_pct.proofs.Unicode.Pieces.{first_piece_has_first_bytes}
-use Rattle.uri_pct.proofs.Unicode.Pieces.{first_piece_tail_is_within_rest}
-use Rattle.uri_pct.proofs.Unicode.Pieces.{take_then_take_is_take_of_sum}
-use Rattle.uri_pct.proofs.Unicode.CharacterPieces.{utf8_pieces-are-of-characters}
-use Rattle.uri_pct.proofs.Unicode.CharacterPieces.{first_char_is_first_piece}
-use Rattle.uri_pct.proofs.Unicode.CharacterPieces.{first_piece_is_of_character}
+use Rattle.std.proofs.lemmas.Str.{IsUtf8-append, IsUtf8-nil, IsUtf8-encode, IsUtf8-from_is_utf8, is_utf8-from_IsUtf8, utf8_valid_len_le, utf8_lossy_step, utf8_lossy-IsUtf8}
+use Rattle.std.proofs.lemmas.Bool.{cases_Bool, cond-true, cond-false, and_parts, cases_eq, both_ways}
+use Rattle.uri_pct.specs.Pieces.{Piece, WellFormed, IllFormed, IsOfCharacter, is_well_formed, piece_bytes, bytes_of_pieces, char_of, following_ranges, first_piece_tail_len, first_piece, pieces_from, utf8_pieces, lossy_piece, lossy_text}
+use Rattle.uri_pct.proofs.Unicode.Pieces.{bytes_of_utf8_pieces_are_the_bytes, pieces_from_are_pieces_after_skipped_bytes, first_piece_has_first_bytes, first_piece_tail_is_within_rest, take_then_take_is_take_of_sum}
+use Rattle.uri_pct.proofs.Unicode.CharacterPieces.{utf8_pieces-are-of-characters, first_char_is_first_piece, first_piece_is_of_character}
 use Rattle.uri_pct.proofs.Unicode.IllFormedLengths.{ill_formed_len_is_std_len}
 use Rattle.std.proofs.lemmas.Bool.Decides.{nat_tests}
 

@@ -1,6 +1,5 @@
 -- The pieces of a text's parts are those of the bytes that it decodes to.
-use Rattle.std.proofs.Common.{◌≡◌, ℕ, true, List, [], ◌∷◌, ◌++◌, map, refl, sym, ap, ◌∙◌}
-use Rattle.std.proofs.Common.{append_assoc, arith}
+use Rattle.std.proofs.Common.{◌≡◌, ℕ, true, List, [], ◌∷◌, ◌++◌, map, refl, sym, ap, ◌∙◌, append_assoc, arith}
 use Rattle.std.specs.List.{list_all, flat_map}
 use Rattle.std.specs.Char.{encode_utf8, IsScalar}
 use Rattle.std.specs.Str.{chars, encode_utf8_all, IsUtf8}
@@ -8,19 +7,16 @@ use Rattle.std.proofs.lemmas.Bool.{and_parts}
 use Rattle.std.proofs.lemmas.List.{append-nil}
 use Rattle.std.proofs.lemmas.List.Concat.{flat_map-append}
 use Rattle.std.proofs.lemmas.Str.{IsUtf8-encode, encodes-chars}
-use Rattle.uri_pct.specs.Chunks.{Chunk, Text, Byte, prepend_to_chunks, chunks_of_tokens}
-use Rattle.uri_pct.specs.Chunks.{chunk_bytes, widest_set}
+use Rattle.uri_pct.specs.Chunks.{Chunk, Text, Byte, prepend_to_chunks, chunks_of_tokens, chunk_bytes, widest_set}
 use Rattle.uri_pct.specs.Decodes.{undecoded, decoded, bytes_left}
 use Rattle.uri_pct.specs.declared.decode.Decode.{Decode}
 use Rattle.uri_pct.specs.Parts.{Decoded, parts_from, parts, pieces_of_parts}
 use Rattle.uri_pct.specs.Pieces.{Piece, WellFormed, utf8_pieces}
 use Rattle.uri_pct.specs.Texts.{is_unencoded}
-use Rattle.uri_pct.specs.Tokens.{Token, Char, Octet, tokens_from_chars, tokens, bytes_decoded_from}
-use Rattle.uri_pct.specs.Tokens.{IsValidFor}
+use Rattle.uri_pct.specs.Tokens.{Token, Char, Octet, tokens_from_chars, tokens, bytes_decoded_from, IsValidFor}
 use Rattle.uri_pct.specs.DecodeUnreserved.{is_printable}
 use Rattle.uri_pct.proofs.ValidTexts.Allowed.{valid_text_has_printable_tokens}
-use Rattle.uri_pct.proofs.Unicode.CharacterPieces.{char_separates_utf8_pieces}
-use Rattle.uri_pct.proofs.Unicode.CharacterPieces.{first_char_is_first_piece}
+use Rattle.uri_pct.proofs.Unicode.CharacterPieces.{char_separates_utf8_pieces, first_char_is_first_piece}
 use Rattle.uri_pct.proofs.Decodings.Decoding.{tokens_after_unencoded_prefix}
 use Rattle.uri_pct.proofs.Unicode.Runs.{no_bytes_have_no_pieces, utf8_pieces_are_cut_after_text}
 use Rattle.std.proofs.lemmas.Bool.Decides.{nat_tests}

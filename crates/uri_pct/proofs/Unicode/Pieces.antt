@@ -1,15 +1,10 @@
 -- The pieces of bytes. Joined they are the bytes. What follows does not change the first ones. A
 -- byte that continues no character always begins one.
-use Rattle.std.proofs.Common.{◌≡◌, ℕ, zero, suc, ◌+◌, ◌≤◌, Bool, true, false, cond, leb}
-use Rattle.std.proofs.Common.{List, [], ◌∷◌, ◌++◌, length, take, drop, refl, sym, ap, ◌∙◌, arith}
-use Rattle.std.proofs.Common.{◌&&◌, ⊎_elim, Option, Some, None, option_map, subst, zero-add}
+use Rattle.std.proofs.Common.{◌≡◌, ℕ, zero, suc, ◌+◌, ◌≤◌, Bool, true, false, cond, leb, List, [], ◌∷◌, ◌++◌, length, take, drop, refl, sym, ap, ◌∙◌, arith, ◌&&◌, ⊎_elim, Option, Some, None, option_map, subst, zero-add}
 use Rattle.std.specs.List.{list_all, find}
 use Rattle.std.proofs.lemmas.List.{take-take, drop-take, take_at, take-append-drop, take-append-le}
 use Rattle.std.proofs.lemmas.Bool.{cases_Bool, cond-true, cond-false, and_parts}
-use Rattle.uri_pct.specs.Pieces.{Piece, ByteRange, Row, is_in_byte_range, continuation}
-use Rattle.uri_pct.specs.Pieces.{well_formed_rows, begins_with_continuation, piece_bytes}
-use Rattle.uri_pct.specs.Pieces.{bytes_of_pieces, following_ranges, len_in_ranges}
-use Rattle.uri_pct.specs.Pieces.{first_piece_tail_len, first_piece, pieces_from, utf8_pieces}
+use Rattle.uri_pct.specs.Pieces.{Piece, ByteRange, Row, is_in_byte_range, continuation, well_formed_rows, begins_with_continuation, piece_bytes, bytes_of_pieces, following_ranges, len_in_ranges, first_piece_tail_len, first_piece, pieces_from, utf8_pieces}
 use Rattle.std.proofs.lemmas.Bool.Decides.{nat_tests}
 
 -- UTF-8: no more bytes fit ranges than there are

@@ -1,20 +1,14 @@
 -- The pieces of a run of octets, by the parts that std finds in it.
-use Rattle.std.proofs.Common.{◌≡◌, ℕ, suc, ◌<◌, List, [], ◌∷◌, ◌++◌, length, take, drop, map, refl}
-use Rattle.std.proofs.Common.{sym, ap, ◌∙◌, subst, arith, append_assoc, true, ◌==◌}
+use Rattle.std.proofs.Common.{◌≡◌, ℕ, suc, ◌<◌, List, [], ◌∷◌, ◌++◌, length, take, drop, map, refl, sym, ap, ◌∙◌, subst, arith, append_assoc, true, ◌==◌}
 use Rattle.std.specs.Str.{IsUtf8}
 use Rattle.std.specs.Str.Lossy.{utf8_valid_len, utf8_invalid_len}
 use Rattle.std.proofs.lemmas.Bool.{eqb-true}
 use Rattle.std.proofs.lemmas.List.{append-nil, nil_from_length, length-append}
 use Rattle.std.proofs.Math.Seq.{take-append_seam, drop-append_seam}
-use Rattle.uri_pct.specs.Pieces.{IllFormed, following_ranges, first_piece_tail_len, first_piece}
-use Rattle.uri_pct.specs.Pieces.{pieces_from, utf8_pieces, piece_bytes}
+use Rattle.uri_pct.specs.Pieces.{IllFormed, following_ranges, first_piece_tail_len, first_piece, pieces_from, utf8_pieces, piece_bytes}
 use Rattle.uri_pct.specs.Parts.{ill_formed_piece_if_any}
-use Rattle.uri_pct.proofs.Unicode.Pieces.{pieces_from_are_pieces_after_skipped_bytes}
-use Rattle.uri_pct.proofs.Unicode.Pieces.{first_piece_has_first_bytes}
-use Rattle.uri_pct.proofs.Unicode.Lossy.{piece_of_char, pieces_of_chars_come_before_the_rest}
-use Rattle.uri_pct.proofs.Unicode.Lossy.{ill_formed_after_valid_prefix}
-use Rattle.uri_pct.proofs.Unicode.Lossy.{utf8_valid_len_prefix_is_utf8}
-use Rattle.uri_pct.proofs.Unicode.Lossy.{nonempty_bytes_have_first_byte}
+use Rattle.uri_pct.proofs.Unicode.Pieces.{pieces_from_are_pieces_after_skipped_bytes, first_piece_has_first_bytes}
+use Rattle.uri_pct.proofs.Unicode.Lossy.{piece_of_char, pieces_of_chars_come_before_the_rest, ill_formed_after_valid_prefix, utf8_valid_len_prefix_is_utf8, nonempty_bytes_have_first_byte}
 use Rattle.uri_pct.proofs.Unicode.IllFormedLengths.{ill_formed_len_is_std_len}
 use Rattle.std.proofs.lemmas.Bool.Decides.{nat_tests}
 

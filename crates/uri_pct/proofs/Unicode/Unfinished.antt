@@ -1,24 +1,16 @@
 -- If bytes do not end in an unfinished character, their pieces are the same whatever follows. So
 -- are the pieces of the bytes before an unfinished end.
-use Rattle.std.proofs.Common.{◌≡◌, ℕ, zero, suc, ◌-◌, ◌<◌, ◌≤◌, true, false, cond, leb, nat_lt}
-use Rattle.std.proofs.Common.{List, [], ◌∷◌, ◌++◌, length, take, drop, get_or, map, refl, sym, ap}
-use Rattle.std.proofs.Common.{◌∙◌, append_assoc, arith, ⊎_elim, Option, Some, None, option_map}
+use Rattle.std.proofs.Common.{◌≡◌, ℕ, zero, suc, ◌-◌, ◌<◌, ◌≤◌, true, false, cond, leb, nat_lt, List, [], ◌∷◌, ◌++◌, length, take, drop, get_or, map, refl, sym, ap, ◌∙◌, append_assoc, arith, ⊎_elim, Option, Some, None, option_map}
 use Rattle.std.specs.List.{list_all, find}
 use Rattle.std.proofs.lemmas.List.{append-nil, map-append, take_all, drop_all, take-append-drop}
 use Rattle.std.proofs.lemmas.Bool.{cases_Bool, cond-true, cond-false, and_parts, leb-true, cases_lt}
 use Rattle.std.proofs.lemmas.Bool.Decides.{nat_tests}
 use Rattle.uri_pct.specs.Chunks.{Chunk, Text, Byte}
 use Rattle.uri_pct.specs.Parts.{Decoded, parts_from}
-use Rattle.uri_pct.specs.Pieces.{ByteRange, Row, is_in_byte_range, continuation, well_formed_rows}
-use Rattle.uri_pct.specs.Pieces.{begins_with_continuation, following_ranges, len_in_ranges}
-use Rattle.uri_pct.specs.Pieces.{first_piece_tail_len, pieces_from, utf8_pieces}
-use Rattle.uri_pct.specs.Models.Unfinished.{range_count, following_byte_count, unfinished_len}
-use Rattle.uri_pct.specs.Models.Unfinished.{CutsNoPiece}
-use Rattle.uri_pct.proofs.Unicode.Pieces.{first_piece_tail_is_within_rest}
-use Rattle.uri_pct.proofs.Unicode.Pieces.{utf8_pieces_are_cut_after_first_if_rest_is}
-use Rattle.uri_pct.proofs.Unicode.Pieces.{utf8_pieces_are_cut_at_non_continuation}
-use Rattle.uri_pct.proofs.Unicode.FirstBytes.{no_range_follows_ascii_byte}
-use Rattle.uri_pct.proofs.Unicode.FirstBytes.{following_ranges_of_c2_to_df}
+use Rattle.uri_pct.specs.Pieces.{ByteRange, Row, is_in_byte_range, continuation, well_formed_rows, begins_with_continuation, following_ranges, len_in_ranges, first_piece_tail_len, pieces_from, utf8_pieces}
+use Rattle.uri_pct.specs.Models.Unfinished.{range_count, following_byte_count, unfinished_len, CutsNoPiece}
+use Rattle.uri_pct.proofs.Unicode.Pieces.{first_piece_tail_is_within_rest, utf8_pieces_are_cut_after_first_if_rest_is, utf8_pieces_are_cut_at_non_continuation}
+use Rattle.uri_pct.proofs.Unicode.FirstBytes.{no_range_follows_ascii_byte, following_ranges_of_c2_to_df}
 use Rattle.uri_pct.proofs.Unicode.IllFormedLengths.{no_row_from_80_to_c1, no_row_past_f4}
 
 -- UTF-8: one byte follows a first byte from C2 to DF

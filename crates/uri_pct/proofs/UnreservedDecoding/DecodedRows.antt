@@ -5,15 +5,10 @@ use Rattle.std.specs.Char.{encode_utf8}
 use Rattle.std.specs.List.{repeat}
 use Rattle.std.specs.Str.{chars}
 use Rattle.std.specs.Str.Lossy.{replacement_bytes}
-use Rattle.uri_pct.specs.Sets.{TableSet, userinfo_set, reg_name_set, path_set, query_set}
-use Rattle.uri_pct.specs.Sets.{fragment_set, allows_past_ascii, is_ucschar, is_iprivate}
-use Rattle.uri_pct.specs.Tokens.{tokens, tokens_from_chars, is_pct_encoded, bytes_decoded_from}
-use Rattle.uri_pct.specs.Tokens.{print}
-use Rattle.uri_pct.specs.Pieces.{WellFormed, IllFormed, utf8_pieces, pieces_from, following_ranges}
-use Rattle.uri_pct.specs.Pieces.{lossy_text}
-use Rattle.uri_pct.specs.DecodeUnreserved.{decode_unreserved, decode_octet, decode_after_run}
-use Rattle.uri_pct.specs.DecodeUnreserved.{decode_run, is_decodable, is_bidi_formatting}
-use Rattle.uri_pct.specs.DecodeUnreserved.{is_never_literal, lower_token}
+use Rattle.uri_pct.specs.Sets.{TableSet, userinfo_set, reg_name_set, path_set, query_set, fragment_set, allows_past_ascii, is_ucschar, is_iprivate}
+use Rattle.uri_pct.specs.Tokens.{tokens, tokens_from_chars, is_pct_encoded, bytes_decoded_from, print}
+use Rattle.uri_pct.specs.Pieces.{WellFormed, IllFormed, utf8_pieces, pieces_from, following_ranges, lossy_text}
+use Rattle.uri_pct.specs.DecodeUnreserved.{decode_unreserved, decode_octet, decode_after_run, decode_run, is_decodable, is_bidi_formatting, is_never_literal, lower_token}
 use Rattle.uri_pct.proofs.UnreservedDecoding.Printing.{print_decoded}
 
 -- examples of unreserved octets: the set of an IRI's component, from that of a URI's

@@ -1,7 +1,6 @@
 -- What decoding unreserved octets keeps: the bytes, what the set allows, and what is on either side
 -- of a character.
-use Rattle.std.proofs.Common.{◌≡◌, ℕ, Bool, true, false, List, [], ◌∷◌, ◌++◌, map, refl, sym, ap}
-use Rattle.std.proofs.Common.{◌∙◌, ◌&&◌, append_assoc, arith}
+use Rattle.std.proofs.Common.{◌≡◌, ℕ, Bool, true, false, List, [], ◌∷◌, ◌++◌, map, refl, sym, ap, ◌∙◌, ◌&&◌, append_assoc, arith}
 use Rattle.std.specs.Char.{encode_utf8, IsScalar}
 use Rattle.std.specs.List.{list_all, list_any, flat_map, All}
 use Rattle.std.proofs.lemmas.List.{append-nil, map-append}
@@ -10,29 +9,15 @@ use Rattle.std.proofs.lemmas.List.Folds.{list_all-append}
 use Rattle.std.proofs.lemmas.List.Elements.{All-head, All-tail}
 use Rattle.std.proofs.lemmas.Bool.{and_parts, and_from}
 use Rattle.uri_pct.specs.Sets.{TableSet, LacksPercent, IsSubset, unreserved_set}
-use Rattle.uri_pct.specs.Tokens.{Token, Char, Octet, tokens, bytes_decoded_from, bytes_of_one_token}
-use Rattle.uri_pct.specs.Tokens.{print, allows_token, is_valid_for, IsValidFor}
-use Rattle.uri_pct.specs.Pieces.{Piece, WellFormed, IllFormed, piece_bytes}
-use Rattle.uri_pct.specs.Pieces.{bytes_of_pieces, utf8_pieces, IsOfCharacter}
-use Rattle.uri_pct.specs.DecodeUnreserved.{is_printable, is_decodable, decode_piece, decode_run}
-use Rattle.uri_pct.specs.DecodeUnreserved.{decode_after_run, decode_tokens, is_literal_formatting}
-use Rattle.uri_pct.specs.DecodeUnreserved.{encode_formatting, decode_unreserved}
+use Rattle.uri_pct.specs.Tokens.{Token, Char, Octet, tokens, bytes_decoded_from, bytes_of_one_token, print, allows_token, is_valid_for, IsValidFor}
+use Rattle.uri_pct.specs.Pieces.{Piece, WellFormed, IllFormed, piece_bytes, bytes_of_pieces, utf8_pieces, IsOfCharacter}
+use Rattle.uri_pct.specs.DecodeUnreserved.{is_printable, is_decodable, decode_piece, decode_run, decode_after_run, decode_tokens, is_literal_formatting, encode_formatting, decode_unreserved}
 use Rattle.uri_pct.proofs.Unicode.Pieces.{bytes_of_utf8_pieces_are_the_bytes}
-use Rattle.uri_pct.proofs.Unicode.CharacterPieces.{utf8_pieces-are-of-characters}
-use Rattle.uri_pct.proofs.Unicode.CharacterPieces.{char_separates_utf8_pieces}
-use Rattle.uri_pct.proofs.Unicode.CharacterPieces.{char_of_utf8_is_the_char}
-use Rattle.uri_pct.proofs.EncodedTexts.EncodedTokens.{octets_of_bytes_are_printable}
-use Rattle.uri_pct.proofs.EncodedTexts.EncodedTokens.{utf8_bytes_are_eight_bit}
-use Rattle.uri_pct.proofs.UnreservedDecoding.Printing.{printed_tokens_parse_to_themselves}
-use Rattle.uri_pct.proofs.UnreservedDecoding.Printing.{printed_tokens_are_valid_iff_allowed}
-use Rattle.uri_pct.proofs.ValidTexts.Allowed.{decodable_char_is_printable}
-use Rattle.uri_pct.proofs.ValidTexts.Allowed.{decodable_char_is_allowed}
-use Rattle.uri_pct.proofs.ValidTexts.Allowed.{valid_text_has_printable_tokens}
-use Rattle.uri_pct.proofs.UnreservedDecoding.Formatting.{never_literal_char_is_scalar_past_ascii}
-use Rattle.uri_pct.proofs.UnreservedDecoding.Formatting.{never_literal_char_is_decodable}
-use Rattle.uri_pct.proofs.UnreservedDecoding.Formatting.{encode_formatting_keeps_bytes}
-use Rattle.uri_pct.proofs.UnreservedDecoding.Formatting.{encode_formatting_keeps_tokens_printable}
-use Rattle.uri_pct.proofs.UnreservedDecoding.Formatting.{encode_formatting_keeps_tokens_allowed}
+use Rattle.uri_pct.proofs.Unicode.CharacterPieces.{utf8_pieces-are-of-characters, char_separates_utf8_pieces, char_of_utf8_is_the_char}
+use Rattle.uri_pct.proofs.EncodedTexts.EncodedTokens.{octets_of_bytes_are_printable, utf8_bytes_are_eight_bit}
+use Rattle.uri_pct.proofs.UnreservedDecoding.Printing.{printed_tokens_parse_to_themselves, printed_tokens_are_valid_iff_allowed}
+use Rattle.uri_pct.proofs.ValidTexts.Allowed.{decodable_char_is_printable, decodable_char_is_allowed, valid_text_has_printable_tokens}
+use Rattle.uri_pct.proofs.UnreservedDecoding.Formatting.{never_literal_char_is_scalar_past_ascii, never_literal_char_is_decodable, encode_formatting_keeps_bytes, encode_formatting_keeps_tokens_printable, encode_formatting_keeps_tokens_allowed}
 use Rattle.uri_pct.proofs.UnreservedDecoding.Formatting as Formatting
 use Rattle.uri_pct.proofs.EncodedTexts.Encodings.{octets_decode_to_their_bytes}
 use Rattle.std.proofs.lemmas.Bool.Decides.{nat_tests}

@@ -1,22 +1,15 @@
 -- Decoding a decoded text changes nothing, also if letters were lowered in between.
-use Rattle.std.proofs.Common.{◌≡◌, ℕ, Bool, true, false, not, List, [], ◌∷◌, ◌++◌, map, refl, sym}
-use Rattle.std.proofs.Common.{ap, ◌∙◌, ⊎_elim, append_assoc, subst}
+use Rattle.std.proofs.Common.{◌≡◌, ℕ, Bool, true, false, not, List, [], ◌∷◌, ◌++◌, map, refl, sym, ap, ◌∙◌, ⊎_elim, append_assoc, subst}
 use Rattle.std.specs.List.{list_all, flat_map}
 use Rattle.std.proofs.lemmas.List.{append-nil, map-append}
 use Rattle.std.proofs.lemmas.List.Concat.{flat_map-append}
 use Rattle.std.proofs.lemmas.List.Folds.{list_all-append}
-use Rattle.std.proofs.lemmas.Bool.{cases_Bool, cond-true, cond-false, and_parts, and_from, not-true}
-use Rattle.std.proofs.lemmas.Bool.{not-false}
+use Rattle.std.proofs.lemmas.Bool.{cases_Bool, cond-true, cond-false, and_parts, and_from, not-true, not-false}
 use Rattle.uri_pct.specs.Sets.{TableSet}
 use Rattle.uri_pct.specs.Tokens.{Token, Char, Octet, tokens, print}
-use Rattle.uri_pct.specs.Pieces.{Piece, WellFormed, IllFormed, char_of, piece_bytes}
-use Rattle.uri_pct.specs.Pieces.{bytes_of_pieces, utf8_pieces}
-use Rattle.uri_pct.specs.DecodeUnreserved.{is_printable, is_decodable, decode_piece, decode_run}
-use Rattle.uri_pct.specs.DecodeUnreserved.{decode_after_run, decode_tokens, encode_formatting}
-use Rattle.uri_pct.specs.DecodeUnreserved.{decode_unreserved, lower_token}
-use Rattle.uri_pct.proofs.Unicode.Pieces.{ArePiecesOfOwnBytes, utf8_pieces-are-of-own-bytes}
-use Rattle.uri_pct.proofs.Unicode.Pieces.{prefix_of_pieces_is_of_own_bytes}
-use Rattle.uri_pct.proofs.Unicode.Pieces.{tail_of_pieces_is_of_own_bytes}
+use Rattle.uri_pct.specs.Pieces.{Piece, WellFormed, IllFormed, char_of, piece_bytes, bytes_of_pieces, utf8_pieces}
+use Rattle.uri_pct.specs.DecodeUnreserved.{is_printable, is_decodable, decode_piece, decode_run, decode_after_run, decode_tokens, encode_formatting, decode_unreserved, lower_token}
+use Rattle.uri_pct.proofs.Unicode.Pieces.{ArePiecesOfOwnBytes, utf8_pieces-are-of-own-bytes, prefix_of_pieces_is_of_own_bytes, tail_of_pieces_is_of_own_bytes}
 use Rattle.uri_pct.proofs.UnreservedDecoding.Printing.{printed_tokens_parse_to_themselves}
 use Rattle.uri_pct.proofs.ValidTexts.Allowed.{lowered_tokens_are_printable}
 use Rattle.uri_pct.proofs.UnreservedDecoding.Formatting.{encode_formatting_commutes_with_lowering}

@@ -1,6 +1,5 @@
 -- Formatting characters of bidirectional text as octets: what that keeps.
-use Rattle.std.proofs.Common.{◌≡◌, ℕ, ◌<◌, ◌≤◌, Bool, true, false, List, [], ◌∷◌, ◌++◌, map, refl}
-use Rattle.std.proofs.Common.{ap, ◌∙◌, arith, ◌&&◌}
+use Rattle.std.proofs.Common.{◌≡◌, ℕ, ◌<◌, ◌≤◌, Bool, true, false, List, [], ◌∷◌, ◌++◌, map, refl, ap, ◌∙◌, arith, ◌&&◌}
 use Rattle.std.specs.Char.{IsScalar, encode_utf8, to_ascii_lowercase}
 use Rattle.std.specs.Int.{is_in_range}
 use Rattle.std.specs.List.{list_all, list_any}
@@ -11,15 +10,9 @@ use Rattle.std.proofs.lemmas.Bool.{cond-false, and_parts, and_from, or_right}
 use Rattle.std.proofs.lemmas.Bool.Decides.{nat_tests}
 use Rattle.std.proofs.lemmas.Str.Ascii.{lowercase_ascii}
 use Rattle.uri_pct.specs.Sets.{TableSet, is_ucschar, allows_past_ascii}
-use Rattle.uri_pct.specs.Tokens.{Token, Char, Octet, bytes_decoded_from, bytes_of_one_token}
-use Rattle.uri_pct.specs.Tokens.{allows_token}
-use Rattle.uri_pct.specs.DecodeUnreserved.{is_printable, is_decodable, lower_token}
-use Rattle.uri_pct.specs.DecodeUnreserved.{is_bidi_formatting, is_never_literal}
-use Rattle.uri_pct.specs.DecodeUnreserved.{formatting_as_octets, is_literal_formatting}
-use Rattle.uri_pct.specs.DecodeUnreserved.{encode_formatting}
-use Rattle.uri_pct.proofs.EncodedTexts.EncodedTokens.{octets_of_bytes_are_printable}
-use Rattle.uri_pct.proofs.EncodedTexts.EncodedTokens.{octets_are_allowed_if_pct_encoded}
-use Rattle.uri_pct.proofs.EncodedTexts.EncodedTokens.{utf8_bytes_are_eight_bit}
+use Rattle.uri_pct.specs.Tokens.{Token, Char, Octet, bytes_decoded_from, bytes_of_one_token, allows_token}
+use Rattle.uri_pct.specs.DecodeUnreserved.{is_printable, is_decodable, lower_token, is_bidi_formatting, is_never_literal, formatting_as_octets, is_literal_formatting, encode_formatting}
+use Rattle.uri_pct.proofs.EncodedTexts.EncodedTokens.{octets_of_bytes_are_printable, octets_are_allowed_if_pct_encoded, utf8_bytes_are_eight_bit}
 use Rattle.uri_pct.proofs.EncodedTexts.Encodings.{octets_decode_to_their_bytes}
 
 -- unreserved octets: a formatting character is from U+00A0 to U+D7FF

@@ -1,26 +1,17 @@
 -- If a set has no characters past ASCII, each octet is decoded by itself.
-use Rattle.std.proofs.Common.{◌≡◌, ℕ, zero, suc, ◌<◌, ◌≤◌, true, false, cond, leb, List, []}
-use Rattle.std.proofs.Common.{◌∷◌, ◌++◌, take, drop, map, refl, sym, ap, ◌∙◌, arith, ◌&&◌}
-use Rattle.std.proofs.Common.{⊎_elim, append_assoc, Option, Some, None}
+use Rattle.std.proofs.Common.{◌≡◌, ℕ, zero, suc, ◌<◌, ◌≤◌, true, false, cond, leb, List, [], ◌∷◌, ◌++◌, take, drop, map, refl, sym, ap, ◌∙◌, arith, ◌&&◌, ⊎_elim, append_assoc, Option, Some, None}
 use Rattle.std.specs.List.{list_all, flat_map}
 use Rattle.std.proofs.Math.Bool.{or-false}
 use Rattle.std.proofs.Math.Utf8.{low_scalar}
 use Rattle.std.proofs.lemmas.Str.{encode_ascii}
 use Rattle.std.proofs.lemmas.List.{append-nil, map-append, take-append-drop}
-use Rattle.std.proofs.lemmas.Bool.{cases_Bool, cond-false, and_parts, and_from, cases_lt, leb-true}
-use Rattle.std.proofs.lemmas.Bool.{le-leb, false_from_ne_true}
+use Rattle.std.proofs.lemmas.Bool.{cases_Bool, cond-false, and_parts, and_from, cases_lt, leb-true, le-leb, false_from_ne_true}
 use Rattle.uri_pct.specs.Sets.{TableSet, allows_past_ascii, is_unreserved}
 use Rattle.uri_pct.specs.Tokens.{Token, Char, Octet, tokens}
-use Rattle.uri_pct.specs.Pieces.{Piece, WellFormed, IllFormed, ByteRange, is_in_byte_range, char_of}
-use Rattle.uri_pct.specs.Pieces.{piece_bytes, following_ranges, len_in_ranges, first_piece_tail_len}
-use Rattle.uri_pct.specs.Pieces.{first_piece, pieces_from, IsOfCharacter}
-use Rattle.uri_pct.specs.DecodeUnreserved.{LacksPastAscii, is_decodable, decode_octet, decode_piece}
-use Rattle.uri_pct.specs.DecodeUnreserved.{decode_run, decode_after_run, decode_unreserved}
-use Rattle.uri_pct.proofs.Unicode.Pieces.{is_continuation_range, are_continuation_ranges}
-use Rattle.uri_pct.proofs.Unicode.Pieces.{following_ranges_are_continuations}
-use Rattle.uri_pct.proofs.Unicode.Pieces.{first_piece_has_first_bytes}
-use Rattle.uri_pct.proofs.Unicode.CharacterPieces.{first_piece_is_of_character}
-use Rattle.uri_pct.proofs.Unicode.CharacterPieces.{char_of_utf8_is_the_char}
+use Rattle.uri_pct.specs.Pieces.{Piece, WellFormed, IllFormed, ByteRange, is_in_byte_range, char_of, piece_bytes, following_ranges, len_in_ranges, first_piece_tail_len, first_piece, pieces_from, IsOfCharacter}
+use Rattle.uri_pct.specs.DecodeUnreserved.{LacksPastAscii, is_decodable, decode_octet, decode_piece, decode_run, decode_after_run, decode_unreserved}
+use Rattle.uri_pct.proofs.Unicode.Pieces.{is_continuation_range, are_continuation_ranges, following_ranges_are_continuations, first_piece_has_first_bytes}
+use Rattle.uri_pct.proofs.Unicode.CharacterPieces.{first_piece_is_of_character, char_of_utf8_is_the_char}
 use Rattle.uri_pct.proofs.Unicode.FirstBytes.{no_range_follows_ascii_byte}
 use Rattle.uri_pct.proofs.ValidTexts.Allowed.{unreserved_is_ascii}
 use Rattle.uri_pct.proofs.UnreservedDecoding.Formatting as Formatting

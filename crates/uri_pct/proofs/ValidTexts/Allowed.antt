@@ -1,19 +1,14 @@
 -- If a set allows a text, its tokens and its decoded tokens are printable.
-use Rattle.std.proofs.Common.{◌≡◌, ℕ, ◌+◌, ◌*◌, ◌<◌, ◌≤◌, Bool, true, false, eqb, ltb, List}
-use Rattle.std.proofs.Common.{[], ◌∷◌, map, refl, sym, ap, ◌∙◌, arith, ◌&&◌, ⊎_elim, ◌⊎◌}
+use Rattle.std.proofs.Common.{◌≡◌, ℕ, ◌+◌, ◌*◌, ◌<◌, ◌≤◌, Bool, true, false, eqb, ltb, List, [], ◌∷◌, map, refl, sym, ap, ◌∙◌, arith, ◌&&◌, ⊎_elim, ◌⊎◌}
 use Rattle.std.specs.Char.{IsScalar, digit_value, is_ascii_hexdigit, to_ascii_lowercase}
 use Rattle.std.specs.Str.{all_scalars, chars}
 use Rattle.std.specs.List.{list_all}
 use Rattle.std.proofs.Math.Utf8.{low_scalar}
-use Rattle.std.proofs.lemmas.Bool.{cases_Bool, cond-true, cond-false, and_parts, and_from, or_cases}
-use Rattle.std.proofs.lemmas.Bool.{le-ltb, lt-ltb, not_from_false, ne_eqb, eqb-true}
-use Rattle.std.proofs.lemmas.Bool.{false≢true, false_from_ne_true, cases_lt}
+use Rattle.std.proofs.lemmas.Bool.{cases_Bool, cond-true, cond-false, and_parts, and_from, or_cases, le-ltb, lt-ltb, not_from_false, ne_eqb, eqb-true, false≢true, false_from_ne_true, cases_lt}
 use Rattle.std.proofs.lemmas.Str.Ascii.{lowercase-lowercase}
 use Rattle.std.proofs.lemmas.Bool.Decides.{nat_tests}
-use Rattle.uri_pct.specs.Sets.{TableSet, LacksPercent, IsSubset, allows, allows_past_ascii}
-use Rattle.uri_pct.specs.Sets.{is_ucschar, is_iprivate, is_unreserved, unreserved_set}
-use Rattle.uri_pct.specs.Tokens.{Token, Char, Octet, tokens, tokens_from_chars, is_pct_encoded}
-use Rattle.uri_pct.specs.Tokens.{allows_token, is_valid_for, IsValidFor}
+use Rattle.uri_pct.specs.Sets.{TableSet, LacksPercent, IsSubset, allows, allows_past_ascii, is_ucschar, is_iprivate, is_unreserved, unreserved_set}
+use Rattle.uri_pct.specs.Tokens.{Token, Char, Octet, tokens, tokens_from_chars, is_pct_encoded, allows_token, is_valid_for, IsValidFor}
 use Rattle.uri_pct.specs.DecodeUnreserved.{is_printable, is_decodable, lower_token}
 
 -- characters of valid texts: a character of `ucschar` is a Unicode scalar value past ASCII

@@ -1,8 +1,6 @@
 -- What a set allows to its end, and what is cut at a mark: the two agree where the set excludes the
 -- marks.
-use Rattle.std.proofs.Common.{◌≡◌, ℕ, zero, suc, ◌+◌, ◌<◌, ◌≤◌, Bool, true, false, cond}
-use Rattle.std.proofs.Common.{eqb, not, List, [], ◌∷◌, length, get_or, take, refl, sym}
-use Rattle.std.proofs.Common.{ap, ◌∙◌, arith, ◌&&◌, ⊎_elim}
+use Rattle.std.proofs.Common.{◌≡◌, ℕ, zero, suc, ◌+◌, ◌<◌, ◌≤◌, Bool, true, false, cond, eqb, not, List, [], ◌∷◌, length, get_or, take, refl, sym, ap, ◌∙◌, arith, ◌&&◌, ⊎_elim}
 use Rattle.std.specs.Prelude.{nat_lt}
 use Rattle.std.specs.List.{list_all}
 use Rattle.std.specs.Char.{is_ascii_hexdigit}
@@ -10,28 +8,15 @@ use Rattle.std.specs.Str.{IsUtf8, continuation_len}
 use Rattle.std.proofs.lemmas.Str.{IsUtf8-take}
 use Rattle.std.proofs.lemmas.List.Sums.{prefix_len_is}
 use Rattle.std.proofs.lemmas.List.{take_all}
-use Rattle.std.proofs.lemmas.Bool.{cases_Bool, cond-true, cond-false}
-use Rattle.std.proofs.lemmas.Bool.{and_left, and_right, and_from, and_parts, eqb-true}
-use Rattle.std.proofs.lemmas.Bool.{ltb-true, not_from_false, not-true, false≢true}
+use Rattle.std.proofs.lemmas.Bool.{cases_Bool, cond-true, cond-false, and_left, and_right, and_from, and_parts, eqb-true, ltb-true, not_from_false, not-true, false≢true}
 use Rattle.std.proofs.lemmas.Bool.Decides.{nat_tests}
 use Rattle.uri_pct.specs.Sets.{TableSet, LacksPercent, is_one_of}
 use Rattle.uri_pct.specs.Tokens.{is_valid_for}
-use Rattle.uri_pct.specs.Prefixes.{begins_with_hex_digits, allows_first}
-use Rattle.uri_pct.specs.Prefixes.{valid_prefix_from, valid_prefix}
+use Rattle.uri_pct.specs.Prefixes.{begins_with_hex_digits, allows_first, valid_prefix_from, valid_prefix}
 use Rattle.uri_pct.proofs.Unicode.Characters.{hexdigit_is_ascii}
 use Rattle.uri_pct.proofs.TableSets.Percent.{lacks_percent}
-use Rattle.uri_pct.proofs.ValidTexts.Validity.{valid_from, validity_by_first_byte}
-use Rattle.uri_pct.proofs.ValidTexts.Validity.{validity_of_tokens_is_validity_of_bytes}
-use Rattle.uri_pct.proofs.ValidTexts.Validity.{ascii_first_byte_is_allowed_iff_in_set}
-use Rattle.uri_pct.proofs.ValidTexts.MarksInTexts.{length_before_marks, test_holds_of_each}
-use Rattle.uri_pct.proofs.ValidTexts.MarksInTexts.{length_before_mark_at_start_is_zero}
-use Rattle.uri_pct.proofs.ValidTexts.MarksInTexts.{length_before_marks_counts_other_byte}
-use Rattle.uri_pct.proofs.ValidTexts.MarksInTexts.{passes_no_mark_within_chars, AreAscii}
-use Rattle.uri_pct.proofs.ValidTexts.MarksInTexts.{chars_of_text_hold_no_mark_within}
-use Rattle.uri_pct.proofs.ValidTexts.MarksInTexts.{ascii_byte_is_skipped_at_once}
-use Rattle.uri_pct.proofs.ValidTexts.MarksInTexts.{cut_at_mark_keeps_whether_first_is_allowed}
-use Rattle.uri_pct.proofs.ValidTexts.MarksInTexts.{skips_after_percent_begins_anew}
-use Rattle.uri_pct.proofs.ValidTexts.MarksInTexts.{first_mark_is_at_boundary}
+use Rattle.uri_pct.proofs.ValidTexts.Validity.{valid_from, validity_by_first_byte, validity_of_tokens_is_validity_of_bytes, ascii_first_byte_is_allowed_iff_in_set}
+use Rattle.uri_pct.proofs.ValidTexts.MarksInTexts.{length_before_marks, test_holds_of_each, length_before_mark_at_start_is_zero, length_before_marks_counts_other_byte, passes_no_mark_within_chars, AreAscii, chars_of_text_hold_no_mark_within, ascii_byte_is_skipped_at_once, cut_at_mark_keeps_whether_first_is_allowed, skips_after_percent_begins_anew, first_mark_is_at_boundary}
 
 -- cuts of valid texts: an ASCII character that the set lacks,
 -- and that neither begins an octet nor is in one

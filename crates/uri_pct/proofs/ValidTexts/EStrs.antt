@@ -4,11 +4,9 @@ use Rattle.std.specs.List.{list_all}
 use Rattle.std.specs.Str.{chars}
 use Rattle.std.proofs.lemmas.Bool.{and_parts, and_from, lt-ltb, cases_lt}
 use Rattle.uri_pct.specs.Sets.{TableSet, IsSubset, allows, allows_past_ascii}
-use Rattle.uri_pct.specs.Tokens.{Token, Char, Octet, allows_token, is_valid_for, tokens}
-use Rattle.uri_pct.specs.Tokens.{tokens_from_chars, text_of_token}
+use Rattle.uri_pct.specs.Tokens.{Token, Char, Octet, allows_token, is_valid_for, tokens, tokens_from_chars, text_of_token}
 use Rattle.uri_pct.proofs.UnreservedDecoding.Printing.{printed_tokens_are_valid_iff_allowed}
-use Rattle.uri_pct.proofs.ValidTexts.Validity.{ascii_char_is_allowed_iff_in_set}
-use Rattle.uri_pct.proofs.ValidTexts.Validity.{char_past_ascii_is_allowed_by_flags}
+use Rattle.uri_pct.proofs.ValidTexts.Validity.{ascii_char_is_allowed_iff_in_set, char_past_ascii_is_allowed_by_flags}
 use Rattle.std.proofs.lemmas.Bool.Decides.{nat_tests}
 
 -- valid texts: the empty text is valid for every set

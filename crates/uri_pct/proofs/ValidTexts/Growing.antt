@@ -1,6 +1,5 @@
 -- An owned text that is valid for a set grows.
-use Rattle.std.proofs.Common.{◌≡◌, ℕ, true, List, [], ◌∷◌, ◌++◌, cond, refl, sym, ap, ◌∙◌, subst}
-use Rattle.std.proofs.Common.{Result, Ok, Err}
+use Rattle.std.proofs.Common.{◌≡◌, ℕ, true, List, [], ◌∷◌, ◌++◌, cond, refl, sym, ap, ◌∙◌, subst, Result, Ok, Err}
 use Rattle.std.specs.Char.{encode_utf8}
 use Rattle.std.specs.List.{list_all}
 use Rattle.std.specs.Result.{OnOk, OnErr, is_ok}
@@ -12,14 +11,8 @@ use Rattle.uri_pct.specs.Tokens.{Token, Char, tokens, allows_token, IsValidFor, 
 use Rattle.uri_pct.specs.Encoding.{encode_text, encode_bytes}
 use Rattle.uri_pct.specs.DecodeUnreserved.{is_printable}
 use Rattle.uri_pct.proofs.ValidTexts.Allowed.{allowed_char_is_printable}
-use Rattle.uri_pct.proofs.ValidTexts.Appending.{tokens_of_text_after_valid_text}
-use Rattle.uri_pct.proofs.ValidTexts.Appending.{valid_text_after_valid_text_is_valid}
-use Rattle.uri_pct.proofs.ValidTexts.Appending.{tokens_of_print_after_valid_text}
-use Rattle.uri_pct.proofs.ValidTexts.Appending.{printed_tokens_after_valid_text_are_valid}
-use Rattle.uri_pct.proofs.EncodedTexts.EncodedTokens.{is_eight_bit, encoded_text_is_printable}
-use Rattle.uri_pct.proofs.EncodedTexts.EncodedTokens.{encoded_text_is_allowed}
-use Rattle.uri_pct.proofs.EncodedTexts.EncodedTokens.{encoded_bytes_are_printable}
-use Rattle.uri_pct.proofs.EncodedTexts.EncodedTokens.{encoded_bytes_are_allowed}
+use Rattle.uri_pct.proofs.ValidTexts.Appending.{tokens_of_text_after_valid_text, valid_text_after_valid_text_is_valid, tokens_of_print_after_valid_text, printed_tokens_after_valid_text_are_valid}
+use Rattle.uri_pct.proofs.EncodedTexts.EncodedTokens.{is_eight_bit, encoded_text_is_printable, encoded_text_is_allowed, encoded_bytes_are_printable, encoded_bytes_are_allowed}
 
 -- owned valid texts: the new text is valid, and has the tokens of the old one and then these
 pub record Grows (set : TableSet) (old : List ℕ) (ts : List Token) (new : List ℕ) : Type 0 where

@@ -1,7 +1,5 @@
 -- The prefix of a text that a set without octets allows is encoded as it is.
-use Rattle.std.proofs.Common.{◌≡◌, ℕ, ◌+◌, ◌-◌, ◌<◌, ◌≤◌, true, false, cond, List, [], ◌∷◌, ◌++◌}
-use Rattle.std.proofs.Common.{length, take, drop, map, refl, sym, ap, subst, ◌∙◌, arith}
-use Rattle.std.proofs.Common.{⊎_elim, append_assoc}
+use Rattle.std.proofs.Common.{◌≡◌, ℕ, ◌+◌, ◌-◌, ◌<◌, ◌≤◌, true, false, cond, List, [], ◌∷◌, ◌++◌, length, take, drop, map, refl, sym, ap, subst, ◌∙◌, arith, ⊎_elim, append_assoc}
 use Rattle.std.specs.Char.{encode_utf8, len_utf8}
 use Rattle.std.specs.Str.{encode_utf8_all, all_scalars, IsUtf8, IsCharBoundary}
 use Rattle.std.proofs.Math.Seq.{take-append-add, drop-append-add}
@@ -13,11 +11,7 @@ use Rattle.uri_pct.specs.Prefixes.{valid_prefix_from, valid_prefix}
 use Rattle.uri_pct.specs.Tokens.{Octet, print}
 use Rattle.uri_pct.specs.Encoding.{encode_char, encode_text, IsEncodedBy}
 use Rattle.uri_pct.proofs.Unicode.Characters.{char_has_encoding}
-use Rattle.uri_pct.proofs.EncodedTexts.Encodings.{print-append, encode_text-by-first-char}
-use Rattle.uri_pct.proofs.EncodedTexts.Encodings.{allowed_char_is_printed_literally}
-use Rattle.uri_pct.proofs.EncodedTexts.Encodings.{disallowed_char_is_encoded_as_octets}
-use Rattle.uri_pct.proofs.EncodedTexts.Encodings.{slice_with_one_more_char}
-use Rattle.uri_pct.proofs.EncodedTexts.Encodings.{empty_text_is_encoded_as_nothing}
+use Rattle.uri_pct.proofs.EncodedTexts.Encodings.{print-append, encode_text-by-first-char, allowed_char_is_printed_literally, disallowed_char_is_encoded_as_octets, slice_with_one_more_char, empty_text_is_encoded_as_nothing}
 use Rattle.uri_pct.proofs.ValidTexts.Prefixes.{nothing_is_scanned_after_valid_prefix}
 use Rattle.uri_pct.proofs.ValidTexts.PrefixSteps.{valid_prefix_by_first_char}
 use Rattle.std.proofs.lemmas.Bool.Decides.{nat_tests}

@@ -1,6 +1,5 @@
 -- A test of texts that computes at a literal, and what it implies.
-use Rattle.std.proofs.Common.{◌≡◌, ℕ, Bool, true, List, [], ◌∷◌, ◌&&◌, ap, sym, refl, ◌∙◌, ⊎_elim}
-use Rattle.std.proofs.Common.{arith}
+use Rattle.std.proofs.Common.{◌≡◌, ℕ, Bool, true, List, [], ◌∷◌, ◌&&◌, ap, sym, refl, ◌∙◌, ⊎_elim, arith}
 use Rattle.std.specs.Prelude.{◌==◌, not, nat_lt, if◌then◌else◌}
 use Rattle.std.specs.Char.{is_ascii_hexdigit}
 use Rattle.std.specs.Int.{is_in_range}
@@ -8,8 +7,7 @@ use Rattle.std.specs.List.{list_all}
 use Rattle.std.specs.Str.{chars, chars_after, continuation_len, lead_bits}
 use Rattle.std.proofs.lemmas.Bool.{cases_Bool, cond-true, cond-false, and_parts, and_from}
 use Rattle.uri_pct.specs.Sets.{TableSet, allows, allows_past_ascii, is_ucschar}
-use Rattle.uri_pct.specs.Tokens.{tokens_from_chars, allows_token, is_pct_encoded, is_valid_for}
-use Rattle.uri_pct.specs.Tokens.{IsValidFor}
+use Rattle.uri_pct.specs.Tokens.{tokens_from_chars, allows_token, is_pct_encoded, is_valid_for, IsValidFor}
 use Rattle.uri_pct.proofs.UnreservedDecoding.Printing.{char_but_percent_is_its_own_token}
 use Rattle.std.proofs.lemmas.Bool.Decides.{nat_tests}
 

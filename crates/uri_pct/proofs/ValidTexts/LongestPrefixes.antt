@@ -1,28 +1,19 @@
 -- The longest prefix that is valid for a set: it is valid, and none that is longer is.
-use Rattle.std.proofs.Common.{◌≡◌, ℕ, ◌+◌, ◌≤◌, true, false, eqb, cond, List, [], ◌∷◌, ◌++◌, length}
-use Rattle.std.proofs.Common.{take, drop, refl, sym, ap, subst, ◌∙◌, arith, ◌&&◌, ⊎_elim}
-use Rattle.std.proofs.Common.{length-append, length-take-le}
+use Rattle.std.proofs.Common.{◌≡◌, ℕ, ◌+◌, ◌≤◌, true, false, eqb, cond, List, [], ◌∷◌, ◌++◌, length, take, drop, refl, sym, ap, subst, ◌∙◌, arith, ◌&&◌, ⊎_elim, length-append, length-take-le}
 use Rattle.std.proofs.Math.Seq.{take-append_seam}
 use Rattle.std.proofs.lemmas.List.{take-append-drop}
 use Rattle.std.specs.List.{list_all}
 use Rattle.std.specs.Char.{encode_utf8, len_utf8, is_ascii_hexdigit}
 use Rattle.std.specs.Str.{chars, encode_utf8_all, all_scalars, IsUtf8, IsCharBoundary}
-use Rattle.std.proofs.lemmas.Bool.{cases_Bool, cond-true, cond-false, and_parts, and_from}
-use Rattle.std.proofs.lemmas.Bool.{and_right, eqb-true}
-use Rattle.std.proofs.lemmas.Str.{chars-encodes, encodes-append, encode_ascii, length-encode}
-use Rattle.std.proofs.lemmas.Str.{IsUtf8-take, IsUtf8-drop, IsCharBoundary-at_seam, encodes-chars}
-use Rattle.std.proofs.lemmas.Str.{scalars-chars}
+use Rattle.std.proofs.lemmas.Bool.{cases_Bool, cond-true, cond-false, and_parts, and_from, and_right, eqb-true}
+use Rattle.std.proofs.lemmas.Str.{chars-encodes, encodes-append, encode_ascii, length-encode, IsUtf8-take, IsUtf8-drop, IsCharBoundary-at_seam, encodes-chars, scalars-chars}
 use Rattle.uri_pct.specs.Sets.{TableSet, LacksPercent, allows}
-use Rattle.uri_pct.specs.Tokens.{tokens_from_chars, allows_token, is_pct_encoded, is_valid_for}
-use Rattle.uri_pct.specs.Tokens.{IsValidFor}
+use Rattle.uri_pct.specs.Tokens.{tokens_from_chars, allows_token, is_pct_encoded, is_valid_for, IsValidFor}
 use Rattle.uri_pct.specs.Prefixes.{begins_with_hex_digits, valid_prefix_from, valid_prefix}
-use Rattle.uri_pct.proofs.Unicode.Characters.{encoded_chars_begin_with_same_hex_digits}
-use Rattle.uri_pct.proofs.Unicode.Characters.{hexdigit_is_ascii}
-use Rattle.uri_pct.proofs.UnreservedDecoding.Printing.{char_but_percent_is_its_own_token}
-use Rattle.uri_pct.proofs.UnreservedDecoding.Printing.{scalars-append}
+use Rattle.uri_pct.proofs.Unicode.Characters.{encoded_chars_begin_with_same_hex_digits, hexdigit_is_ascii}
+use Rattle.uri_pct.proofs.UnreservedDecoding.Printing.{char_but_percent_is_its_own_token, scalars-append}
 use Rattle.uri_pct.proofs.ValidTexts.Cuts.{valid_prefix_by_first_byte}
-use Rattle.uri_pct.proofs.ValidTexts.Validity.{ascii_first_byte_is_allowed_iff_in_set}
-use Rattle.uri_pct.proofs.ValidTexts.Validity.{tail_of_scalars_is_scalars}
+use Rattle.uri_pct.proofs.ValidTexts.Validity.{ascii_first_byte_is_allowed_iff_in_set, tail_of_scalars_is_scalars}
 use Rattle.uri_pct.proofs.ValidTexts.PrefixSteps.{valid_prefix_by_first_char}
 use Rattle.std.proofs.lemmas.Bool.Decides.{nat_tests}
 

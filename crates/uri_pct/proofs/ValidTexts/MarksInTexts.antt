@@ -1,17 +1,12 @@
 -- How far a text is without a mark, and that no mark is within a character of it.
-use Rattle.std.proofs.Common.{◌≡◌, ℕ, zero, suc, ◌+◌, ◌-◌, ◌*◌, ◌<◌, Bool, true, false}
-use Rattle.std.proofs.Common.{eqb, not, List, [], ◌∷◌, ◌++◌, length, get_or, take, drop, refl, sym}
-use Rattle.std.proofs.Common.{subst, ap, ◌∙◌, arith, ◌&&◌, ⊎_elim}
+use Rattle.std.proofs.Common.{◌≡◌, ℕ, zero, suc, ◌+◌, ◌-◌, ◌*◌, ◌<◌, Bool, true, false, eqb, not, List, [], ◌∷◌, ◌++◌, length, get_or, take, drop, refl, sym, subst, ap, ◌∙◌, arith, ◌&&◌, ⊎_elim}
 use Rattle.std.specs.Prelude.{nat_lt, slice_index}
 use Rattle.std.specs.List.{list_all, prefix_len}
-use Rattle.std.specs.Str.{IsUtf8, IsCharBoundary, encode_utf8_all, continuation_len, lead_bits}
-use Rattle.std.specs.Str.{chars, chars_after}
+use Rattle.std.specs.Str.{IsUtf8, IsCharBoundary, encode_utf8_all, continuation_len, lead_bits, chars, chars_after}
 use Rattle.std.proofs.lemmas.Str.{IsCharBoundary-before_ascii, IsCharBoundary-end}
 use Rattle.std.proofs.lemmas.List.Sums.{prefix_len-le-length, prefix_len_stops}
 use Rattle.std.proofs.lemmas.List.{drop_all, drop_more}
-use Rattle.std.proofs.lemmas.Bool.{not-false, or_cases, cases_lt, cases_Bool, cond-true, cond-false}
-use Rattle.std.proofs.lemmas.Bool.{and_from, and_parts, lt-ltb, eqb-true}
-use Rattle.std.proofs.lemmas.Bool.{ltb-true, not_from_true, not_from_false, not-true, false≢true}
+use Rattle.std.proofs.lemmas.Bool.{not-false, or_cases, cases_lt, cases_Bool, cond-true, cond-false, and_from, and_parts, lt-ltb, eqb-true, ltb-true, not_from_true, not_from_false, not-true, false≢true}
 use Rattle.std.proofs.lemmas.Bool.Decides.{nat_tests}
 use Rattle.uri_pct.specs.Sets.{TableSet, is_one_of}
 use Rattle.uri_pct.specs.Prefixes.{first_char, allows_first}

@@ -1,25 +1,16 @@
 -- One step of the longest prefix that a set allows: an octet, a character, and where it stops.
-use Rattle.std.proofs.Common.{◌≡◌, ℕ, suc, ◌+◌, ◌<◌, ◌≤◌, true, false, cond, eqb, List}
-use Rattle.std.proofs.Common.{[], ◌∷◌, ◌++◌, length, get_or, drop, sym, subst, ap, ◌∙◌, arith}
-use Rattle.std.proofs.Common.{◌&&◌, ◌||◌, ⊎_elim, add-one}
+use Rattle.std.proofs.Common.{◌≡◌, ℕ, suc, ◌+◌, ◌<◌, ◌≤◌, true, false, cond, eqb, List, [], ◌∷◌, ◌++◌, length, get_or, drop, sym, subst, ap, ◌∙◌, arith, ◌&&◌, ◌||◌, ⊎_elim, add-one}
 use Rattle.std.specs.Char.{encode_utf8, len_utf8}
 use Rattle.std.specs.Str.{continuation_len, IsUtf8, IsCharBoundary}
-use Rattle.std.proofs.lemmas.Str.{length-encode, chars_past_char, IsUtf8-drop, encode_ascii}
-use Rattle.std.proofs.lemmas.Str.{len_utf8_ascii}
+use Rattle.std.proofs.lemmas.Str.{length-encode, chars_past_char, IsUtf8-drop, encode_ascii, len_utf8_ascii}
 use Rattle.std.proofs.lemmas.List.{at_drop_more, get_or-drop, drop_all}
-use Rattle.std.proofs.lemmas.Bool.{cases_Bool, cases_lt, cond-true, cond-false, and_from, and_left}
-use Rattle.std.proofs.lemmas.Bool.{and_right, and_parts, eq-eqb, ne_eqb, lt-ltb}
+use Rattle.std.proofs.lemmas.Bool.{cases_Bool, cases_lt, cond-true, cond-false, and_from, and_left, and_right, and_parts, eq-eqb, ne_eqb, lt-ltb}
 use Rattle.uri_pct.specs.Sets.{TableSet, LacksPercent, allows, allows_past_ascii}
-use Rattle.uri_pct.specs.Prefixes.{begins_with_hex_digits, first_char, allows_first}
-use Rattle.uri_pct.specs.Prefixes.{valid_prefix_from, valid_prefix}
+use Rattle.uri_pct.specs.Prefixes.{begins_with_hex_digits, first_char, allows_first, valid_prefix_from, valid_prefix}
 use Rattle.uri_pct.specs.Models.Scans.{may_begin_octet_or_past_ascii}
 use Rattle.uri_pct.specs.Texts.{has_hex_digits_after}
-use Rattle.uri_pct.proofs.Unicode.Characters.{char_has_encoding, hexdigit_is_ascii}
-use Rattle.uri_pct.proofs.Unicode.Characters.{char_past_ascii_begins_past_ascii}
-use Rattle.uri_pct.proofs.ValidTexts.Validity.{ascii_first_byte_is_allowed_iff_in_set}
-use Rattle.uri_pct.proofs.ValidTexts.Validity.{first_byte_past_ascii_is_allowed_by_its_char}
-use Rattle.uri_pct.proofs.ValidTexts.Validity.{ascii_char_is_allowed_iff_in_set}
-use Rattle.uri_pct.proofs.ValidTexts.Validity.{char_past_ascii_is_allowed_by_flags}
+use Rattle.uri_pct.proofs.Unicode.Characters.{char_has_encoding, hexdigit_is_ascii, char_past_ascii_begins_past_ascii}
+use Rattle.uri_pct.proofs.ValidTexts.Validity.{ascii_first_byte_is_allowed_iff_in_set, first_byte_past_ascii_is_allowed_by_its_char, ascii_char_is_allowed_iff_in_set, char_past_ascii_is_allowed_by_flags}
 use Rattle.uri_pct.proofs.ValidTexts.Cuts.{valid_prefix_by_first_byte}
 use Rattle.uri_pct.proofs.ValidTexts.MarksInTexts.{ascii_byte_has_no_continuation}
 use Rattle.uri_pct.proofs.ValidTexts.Prefixes.{percent_is_not_allowed_first}

@@ -1,6 +1,5 @@
 -- The longest prefix that a set allows: its length, and that of a greater set.
-use Rattle.std.proofs.Common.{◌≡◌, ℕ, zero, suc, ◌+◌, ◌≤◌, true, false, eqb, List, [], ◌∷◌, length}
-use Rattle.std.proofs.Common.{drop, refl, sym, ap, ◌∙◌, arith, add-one, zero-add}
+use Rattle.std.proofs.Common.{◌≡◌, ℕ, zero, suc, ◌+◌, ◌≤◌, true, false, eqb, List, [], ◌∷◌, length, drop, refl, sym, ap, ◌∙◌, arith, add-one, zero-add}
 use Rattle.std.specs.Str.{continuation_len}
 use Rattle.std.proofs.lemmas.Bool.{eqb-true}
 use Rattle.uri_pct.specs.Sets.{TableSet, LacksPercent, IsSubset}

@@ -1,6 +1,5 @@
 -- A text that is cut at a character which neither begins an octet nor is in one.
-use Rattle.std.proofs.Common.{◌≡◌, ℕ, suc, ◌+◌, ◌*◌, ◌<◌, true, false, eqb, List, [], ◌∷◌, ◌++◌}
-use Rattle.std.proofs.Common.{length, get_or, take, refl, sym, ap, subst, ◌∙◌, arith, ⊎_elim}
+use Rattle.std.proofs.Common.{◌≡◌, ℕ, suc, ◌+◌, ◌*◌, ◌<◌, true, false, eqb, List, [], ◌∷◌, ◌++◌, length, get_or, take, refl, sym, ap, subst, ◌∙◌, arith, ⊎_elim}
 use Rattle.std.specs.List.{list_all}
 use Rattle.std.specs.Char.{is_ascii_hexdigit, digit_value}
 use Rattle.std.specs.Str.{chars, chars_after, IsUtf8}
@@ -11,8 +10,7 @@ use Rattle.std.proofs.lemmas.List.{length-append}
 use Rattle.std.proofs.Math.Seq.{get_or-append_seam, take-append_seam}
 use Rattle.std.proofs.lemmas.Str.{chars-append, IsUtf8-take, IsCharBoundary-before_ascii}
 use Rattle.uri_pct.specs.Sets.{TableSet, is_reserved}
-use Rattle.uri_pct.specs.Tokens.{Char, Octet, is_pct_encoded, tokens_from_chars, tokens}
-use Rattle.uri_pct.specs.Tokens.{allows_token, is_valid_for}
+use Rattle.uri_pct.specs.Tokens.{Char, Octet, is_pct_encoded, tokens_from_chars, tokens, allows_token, is_valid_for}
 use Rattle.uri_pct.proofs.UnreservedDecoding.Printing.{char_but_percent_is_its_own_token}
 
 -- cuts of valid texts: an ASCII character that is no hexadecimal digit and not `%`

@@ -1,21 +1,14 @@
 -- Validity for a set, byte by byte.
-use Rattle.std.proofs.Common.{◌≡◌, ℕ, zero, suc, ◌<◌, ◌≤◌, Bool, true, false, cond, eqb, List, []}
-use Rattle.std.proofs.Common.{◌∷◌, ◌++◌, length, get_or, drop, refl, sym, ap, ◌∙◌, arith, ◌&&◌}
-use Rattle.std.proofs.Common.{⊎_elim}
+use Rattle.std.proofs.Common.{◌≡◌, ℕ, zero, suc, ◌<◌, ◌≤◌, Bool, true, false, cond, eqb, List, [], ◌∷◌, ◌++◌, length, get_or, drop, refl, sym, ap, ◌∙◌, arith, ◌&&◌, ⊎_elim}
 use Rattle.std.specs.List.{list_all}
 use Rattle.std.specs.Char.{is_ascii_hexdigit, encode_utf8}
 use Rattle.std.specs.Str.{IsUtf8, encode_utf8_all, all_scalars, continuation_len}
 use Rattle.std.proofs.lemmas.Str.{chars-encodes, encode_ascii}
-use Rattle.std.proofs.lemmas.Bool.{cases_lt, cases_Bool, and_parts, eqb-true, cond-true, cond-false}
-use Rattle.std.proofs.lemmas.Bool.{and_left, and_right, and_from, lt-ltb, le-ltb, ne_eqb}
+use Rattle.std.proofs.lemmas.Bool.{cases_lt, cases_Bool, and_parts, eqb-true, cond-true, cond-false, and_left, and_right, and_from, lt-ltb, le-ltb, ne_eqb}
 use Rattle.uri_pct.specs.Sets.{TableSet, LacksPercent, allows, allows_past_ascii}
 use Rattle.uri_pct.specs.Tokens.{tokens_from_chars, allows_token, is_valid_for, is_pct_encoded}
 use Rattle.uri_pct.specs.Prefixes.{begins_with_hex_digits, first_char, allows_first}
-use Rattle.uri_pct.proofs.Unicode.Characters.{HasEncoding, char_has_encoding}
-use Rattle.uri_pct.proofs.Unicode.Characters.{char_past_ascii_begins_past_ascii}
-use Rattle.uri_pct.proofs.Unicode.Characters.{first_of_encoded_chars_is_first_char}
-use Rattle.uri_pct.proofs.Unicode.Characters.{hexdigit_is_ascii}
-use Rattle.uri_pct.proofs.Unicode.Characters.{encoded_chars_begin_with_same_hex_digits}
+use Rattle.uri_pct.proofs.Unicode.Characters.{HasEncoding, char_has_encoding, char_past_ascii_begins_past_ascii, first_of_encoded_chars_is_first_char, hexdigit_is_ascii, encoded_chars_begin_with_same_hex_digits}
 use Rattle.std.proofs.lemmas.Bool.Decides.{nat_tests}
 
 -- the bytes are valid, of which so many are still to pass

@@ -1,6 +1,5 @@
 -- Runs of bytes that pass a test, and of such bytes and octets: RFC 3986, section 2.1.
-use Rattle.std.specs.Prelude.{◌≡◌, ◌≤◌, ◌<◌, ℕ, Bool, true, false, List, ◌+◌, ◌-◌, length}
-use Rattle.std.specs.Prelude.{slice_index, ◌==◌, ◌&&◌, ◌||◌, not, nat_le}
+use Rattle.std.specs.Prelude.{◌≡◌, ◌≤◌, ◌<◌, ℕ, Bool, true, false, List, ◌+◌, ◌-◌, length, slice_index, ◌==◌, ◌&&◌, ◌||◌, not, nat_le}
 use Rattle.std.specs.Char.{is_ascii_hexdigit}
 use Rattle.uri_pct.specs.Texts.{has_hex_digits_after}
 use Rattle.uri_pct.specs.Delimiters.{percent_sign}

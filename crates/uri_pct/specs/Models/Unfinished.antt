@@ -1,7 +1,6 @@
 -- Which bytes at the end may be of a character that goes on after them: Unicode, section 3.9,
 -- table 3-7.
-use Rattle.std.specs.Prelude.{◌≡◌, ℕ, suc, nat_lt, List, [], ◌∷◌, ◌++◌, length}
-use Rattle.std.specs.Prelude.{Option, Some, None, if◌then◌else◌}
+use Rattle.std.specs.Prelude.{◌≡◌, ℕ, suc, nat_lt, List, [], ◌∷◌, ◌++◌, length, Option, Some, None, if◌then◌else◌}
 use Rattle.uri_pct.specs.Pieces.{ByteRange, following_ranges, utf8_pieces}
 
 -- how many ranges of bytes may follow a first byte of UTF-8, or 0 for `None`

@@ -2,9 +2,7 @@ use Rattle.std.proofs.Common.{◌≡◌, ◌∙◌, ℕ, Bool, true, false, List
 use Rattle.std.specs.Prelude.{Option, Some, None, is_some, ◌≢◌}
 use Rattle.std.proofs.lemmas.Option.{same_Some}
 use Rattle.fluent_uri.specs.AuthorityTexts.{authority_text}
-use Rattle.fluent_uri.specs.BuilderParts.{AddsOrFails, BuilderParts, as_components, no_parts}
-use Rattle.fluent_uri.specs.BuilderParts.{parts_text}
-use Rattle.fluent_uri.specs.BuilderParts.{with_authority, with_path, with_query, with_scheme}
+use Rattle.fluent_uri.specs.BuilderParts.{AddsOrFails, BuilderParts, as_components, no_parts, parts_text, with_authority, with_path, with_query, with_scheme}
 use Rattle.fluent_uri.specs.BuilderStates.{contents_of, parts_in_state}
 use Rattle.fluent_uri.specs.Built.{IsTextOfParts, build_error_of_path, refusal}
 use Rattle.fluent_uri.specs.Components.{Components, components}

@@ -1,7 +1,6 @@
 use Rattle.std.proofs.Common.{ap}
 use Rattle.std.specs.Prelude.{option_map}
-use Rattle.fluent_uri_c.proofs.AsciiHosts.{authority-error-is-defined}
-use Rattle.fluent_uri_c.proofs.AsciiHosts.{host-without-authority-is-empty}
+use Rattle.fluent_uri_c.proofs.AsciiHosts.{authority-error-is-defined, host-without-authority-is-empty}
 use Rattle.fluent_uri_c.proofs.ascii_hosts.host_in_ascii.Goals as goal
 
 pub returns-in-None : goal.returns-in-None

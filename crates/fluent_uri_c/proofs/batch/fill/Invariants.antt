@@ -1,7 +1,6 @@
 use Rattle.std.proofs.Common.{◌≡◌, ◌≤◌, ◌<◌, ℕ, length}
 use Rattle.std.specs.Prelude.{IsSome}
-use Rattle.fluent_uri_c.specs.Columns.{IsColumn, buffers, column_of, joined_results, result_in}
-use Rattle.fluent_uri_c.specs.Columns.{text_in}
+use Rattle.fluent_uri_c.specs.Columns.{IsColumn, buffers, column_of, joined_results, result_in, text_in}
 use Rattle.fluent_uri_c.proofs.batch.fill.Given as goal
 
 -- what is written is the results so far

@@ -1,6 +1,5 @@
 use Rattle.std.proofs.Common.{◌%◌, ◌∙◌, arith, w8, ap, sym}
-use Rattle.std.proofs.lemmas.Nat.Bits.{bit_at_set_same, bit_at_set_other}
-use Rattle.std.proofs.lemmas.Nat.Bits.{bit_at_clear_same, bit_at_clear_other}
+use Rattle.std.proofs.lemmas.Nat.Bits.{bit_at_set_same, bit_at_set_other, bit_at_clear_same, bit_at_clear_other}
 use Rattle.fluent_uri_c.proofs.Bits.{bit_of-same, bit_of-other}
 use Rattle.fluent_uri_c.specs.Columns.{number_of_bool}
 use Rattle.fluent_uri_c.proofs.columns.mark.Goals as goal

@@ -6,8 +6,7 @@ use Rattle.uri_pct.specs.Tokens.{Octet, print}
 use Rattle.uri_pct.proofs.TableSets.Percent.{lacks_percent}
 use Rattle.uri_mend.specs.MendedParts.{mended}
 use Rattle.uri_mend.proofs.ComponentProgress.{all-is-mended-at-end}
-use Rattle.fluent_uri_c.proofs.ComponentMending.{mended-rest-by-run-and-char}
-use Rattle.fluent_uri_c.proofs.ComponentMending.{text-grows-by-run-and-octets}
+use Rattle.fluent_uri_c.proofs.ComponentMending.{mended-rest-by-run-and-char, text-grows-by-run-and-octets}
 use Rattle.fluent_uri_c.proofs.component_mending.mended.Goals as goal
 
 pub loop-done-init : goal.loop-done-init

@@ -1,16 +1,12 @@
-use Rattle.std.proofs.Common.{◌≡◌, ◌+◌, ◌<◌, ◌∙◌, ◌++◌, ◌∷◌, [], ap, sym, arith, suc, length, rules}
-use Rattle.std.proofs.Common.{refl, inl, inr, length-append}
+use Rattle.std.proofs.Common.{◌≡◌, ◌+◌, ◌<◌, ◌∙◌, ◌++◌, ◌∷◌, [], ap, sym, arith, suc, length, rules, refl, inl, inr, length-append}
 use Rattle.std.specs.Prelude.{is_some}
 use Rattle.fluent_uri_c.specs.Full.{as_size}
 use Rattle.fluent_uri_c.specs.Outcomes.{outcome_of_batch}
 use Rattle.fluent_uri_c.specs.Columns.{bytes_of, joined_results}
 use Rattle.fluent_uri_c.specs.Lines.{line_buffers, newline, error_number_at, written_at}
-use Rattle.fluent_uri_c.proofs.Batches.{buffer-of-one-more-result, end-of-one-more-result}
-use Rattle.fluent_uri_c.proofs.Batches.{holds-up-to-set-item, later-items-unchanged}
+use Rattle.fluent_uri_c.proofs.Batches.{buffer-of-one-more-result, end-of-one-more-result, holds-up-to-set-item, later-items-unchanged}
 use Rattle.fluent_uri_c.proofs.LinesOf.{IsLine-from-position}
-use Rattle.fluent_uri_c.proofs.WrittenLines.{leaves_lines, error_number_at-of-line}
-use Rattle.fluent_uri_c.proofs.WrittenLines.{consumed-after-last-line, consumed-before-line}
-use Rattle.fluent_uri_c.proofs.WrittenLines.{written_at-of-line}
+use Rattle.fluent_uri_c.proofs.WrittenLines.{leaves_lines, error_number_at-of-line, consumed-after-last-line, consumed-before-line, written_at-of-line}
 use Rattle.fluent_uri_c.proofs.lines.fluent_uri_normalize_lines.Goals as goal
 
 pub returns-in_default-clause-lines : goal.returns-in_default-clause-lines

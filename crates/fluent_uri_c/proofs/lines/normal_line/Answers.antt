@@ -1,8 +1,7 @@
 use Rattle.std.proofs.Common.{Some, ◌∙◌, ap, sym}
 use Rattle.std.specs.Result.{result_ok}
 use Rattle.fluent_uri_c.specs.Results.{normalize_result}
-use Rattle.fluent_uri_c.proofs.OtherErrors.{normalize_result-is-other}
-use Rattle.fluent_uri_c.proofs.OtherErrors.{takes-memory-if-out-of-memory}
+use Rattle.fluent_uri_c.proofs.OtherErrors.{normalize_result-is-other, takes-memory-if-out-of-memory}
 use Rattle.fluent_uri_c.proofs.lines.normal_line.Goals as goal
 
 pub returns-in-Ok-clause-text : goal.returns-in-Ok-clause-text

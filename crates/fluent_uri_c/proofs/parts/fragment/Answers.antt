@@ -1,7 +1,6 @@
 use Rattle.std.proofs.Common.{◌+◌, ◌∙◌, ap}
 use Rattle.uri_parts.specs.Positions.{before_fragment}
-use Rattle.uri_parts.proofs.Splitting.ComponentPositions.{fragment_is_at_positions}
-use Rattle.uri_parts.proofs.Splitting.ComponentPositions.{no_fragment_at_end}
+use Rattle.uri_parts.proofs.Splitting.ComponentPositions.{fragment_is_at_positions, no_fragment_at_end}
 use Rattle.fluent_uri_c.proofs.Places.{IsSpan-of-equal-span, IsSpan-of-positions, IsSpan-of-absent}
 use Rattle.fluent_uri_c.proofs.parts.fragment.Goals as goal
 

@@ -1,5 +1,4 @@
-use Rattle.fluent_uri_c.proofs.Places.{IsSpan-of-equal-span, port-span-if-absent}
-use Rattle.fluent_uri_c.proofs.Places.{port-span-if-present}
+use Rattle.fluent_uri_c.proofs.Places.{IsSpan-of-equal-span, port-span-if-absent, port-span-if-present}
 use Rattle.fluent_uri_c.proofs.parts.port.Goals as goal
 
 pub returns-then-inside : goal.returns-then-inside

@@ -1,5 +1,4 @@
-use Rattle.fluent_uri_c.proofs.Places.{IsSpan-of-equal-span, userinfo-span-if-absent}
-use Rattle.fluent_uri_c.proofs.Places.{userinfo-span-if-present}
+use Rattle.fluent_uri_c.proofs.Places.{IsSpan-of-equal-span, userinfo-span-if-absent, userinfo-span-if-present}
 use Rattle.fluent_uri_c.proofs.parts.userinfo.Goals as goal
 
 pub returns-then-inside : goal.returns-then-inside

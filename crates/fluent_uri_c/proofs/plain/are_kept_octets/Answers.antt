@@ -1,7 +1,6 @@
 use Rattle.std.proofs.Common.{◌≡◌, ◌+◌, arith, get_or, true}
 use Rattle.fluent_uri_c.specs.PlainTexts.{is_kept_octet}
-use Rattle.fluent_uri_c.proofs.OctetLanes.{bits-after-lane-are-left, next-lane-is-first-left}
-use Rattle.fluent_uri_c.proofs.OctetLanes.{octets-before-lane-are-all, octets-up-to-lane}
+use Rattle.fluent_uri_c.proofs.OctetLanes.{bits-after-lane-are-left, next-lane-is-first-left, octets-before-lane-are-all, octets-up-to-lane}
 use Rattle.fluent_uri_c.proofs.plain.are_kept_octets.Goals as goal
 
 pub overflow_sub-bytes-in-loop-left : goal.overflow_sub-bytes-in-loop-left

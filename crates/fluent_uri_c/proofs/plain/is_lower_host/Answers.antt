@@ -1,8 +1,7 @@
 use Rattle.std.proofs.Common.{◌+◌, ◌≡◌, ◌∙◌, ap, arith, drop, sym}
 use Rattle.std.proofs.lemmas.Bool.{ne_eqb}
 use Rattle.fluent_uri_c.specs.PlainTexts.{is_lower_after}
-use Rattle.fluent_uri_c.proofs.LowerHosts.{digit-is-passed, end-is-lower, other-byte-is-lower}
-use Rattle.fluent_uri_c.proofs.LowerHosts.{percent-begins-octet}
+use Rattle.fluent_uri_c.proofs.LowerHosts.{digit-is-passed, end-is-lower, other-byte-is-lower, percent-begins-octet}
 use Rattle.fluent_uri_c.proofs.plain.is_lower_host.Goals as goal
 
 pub loop-byte-preserved : goal.loop-byte-preserved

@@ -1,9 +1,7 @@
 use Rattle.uri_parts.specs.Components.{Components, components}
 use Rattle.fluent_uri_c.specs.Spans.{host_of, host_start, port_of, port_start}
 use Rattle.fluent_uri_c.proofs.KeptNormalForms.{plain-path-is-unchanged}
-use Rattle.fluent_uri_c.proofs.PlainTexts.{authority-without-port-is-plain}
-use Rattle.fluent_uri_c.proofs.PlainTexts.{component-past-text-is-absent}
-use Rattle.fluent_uri_c.proofs.PlainTexts.{scheme-in-lower-case-is-normal}
+use Rattle.fluent_uri_c.proofs.PlainTexts.{authority-without-port-is-plain, component-past-text-is-absent, scheme-in-lower-case-is-normal}
 use Rattle.fluent_uri_c.proofs.plain.is_unchanged.Goals as goal
 
 pub returns-clause-components : goal.returns-clause-components

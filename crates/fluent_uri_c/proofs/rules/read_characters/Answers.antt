@@ -1,14 +1,10 @@
-use Rattle.std.proofs.Common.{◌≡◌, ◌≤◌, ◌&&◌, ◌∙◌, List, Some, ap, arith, false, length, refl}
-use Rattle.std.proofs.Common.{subst}
-use Rattle.std.proofs.Common.{ℕ, sym}
+use Rattle.std.proofs.Common.{◌≡◌, ◌≤◌, ◌&&◌, ◌∙◌, List, Some, ap, arith, false, length, refl, subst, ℕ, sym}
 use Rattle.std.specs.Str.{IsCharBoundary}
 use Rattle.std.proofs.lemmas.Str.{IsCharBoundary-start}
 use Rattle.uri_parts.specs.Scanning.{is_next}
 use Rattle.uri_pct.specs.Delimiters.{percent_sign}
 use Rattle.uri_pct.specs.Tables.{set_of}
-use Rattle.fluent_uri_c.proofs.CharacterErrors.{IsScanned, other-character-is-error, scan-is-within}
-use Rattle.fluent_uri_c.proofs.CharacterErrors.{scanned-bytes, scanned-text-has-no-error}
-use Rattle.fluent_uri_c.proofs.CharacterErrors.{scanned-text-passes}
+use Rattle.fluent_uri_c.proofs.CharacterErrors.{IsScanned, other-character-is-error, scan-is-within, scanned-bytes, scanned-text-has-no-error, scanned-text-passes}
 use Rattle.fluent_uri_c.proofs.rules.read_characters.Goals as goal
 
 pub scan-end-requires : goal.scan-end-requires

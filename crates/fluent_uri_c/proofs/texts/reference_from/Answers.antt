@@ -1,7 +1,6 @@
 use Rattle.std.proofs.Common.{◌∙◌, ap}
 use Rattle.fluent_uri.specs.References.{reference_text}
-use Rattle.fluent_uri_c.proofs.References.{IsRelativized-of-equal-texts}
-use Rattle.fluent_uri_c.proofs.References.{reference_from-of-reference}
+use Rattle.fluent_uri_c.proofs.References.{IsRelativized-of-equal-texts, reference_from-of-reference}
 use Rattle.fluent_uri_c.proofs.texts.reference_from.Goals as goal
 
 pub returns-in_ok-relativize-in-Ok-clause-text : goal.returns-in_ok-relativize-in-Ok-clause-text

@@ -1,5 +1,4 @@
-use Rattle.fluent_uri_c.proofs.Targets.{normal_resolution-of-target, normal_resolution-of-error}
-use Rattle.fluent_uri_c.proofs.Targets.{returned-rejection-is-of-error}
+use Rattle.fluent_uri_c.proofs.Targets.{normal_resolution-of-target, normal_resolution-of-error, returned-rejection-is-of-error}
 use Rattle.fluent_uri_c.proofs.texts.resolve_normalized_text.Goals as goal
 
 pub returns-in-Ok : goal.returns-in-Ok

@@ -1,5 +1,4 @@
-use Rattle.fluent_uri_c.proofs.Targets.{resolution-of-target, returned-rejection-is-of-error}
-use Rattle.fluent_uri_c.proofs.Targets.{resolution-of-error}
+use Rattle.fluent_uri_c.proofs.Targets.{resolution-of-target, returned-rejection-is-of-error, resolution-of-error}
 use Rattle.fluent_uri_c.proofs.texts.resolve_text.Goals as goal
 
 pub returns-in-Ok : goal.returns-in-Ok

@@ -1,8 +1,7 @@
 use Rattle.std.proofs.Common.{◌≡◌, Bool, List, ℕ, false, subst, sym, true}
 use Rattle.fluent_uri.specs.References.{reference_text}
 use Rattle.fluent_uri_c.specs.declared.parts.Parts.{Parts}
-use Rattle.fluent_uri_c.specs.Results.{basic_resolution, resolution, resolution_by}
-use Rattle.fluent_uri_c.specs.Results.{takes_memory_for_target}
+use Rattle.fluent_uri_c.specs.Results.{basic_resolution, resolution, resolution_by, takes_memory_for_target}
 use Rattle.fluent_uri_c.specs.Values.{LeavesValueOrDenied}
 use Rattle.fluent_uri_c.proofs.Targets.{target-is-returned}
 use Rattle.fluent_uri_c.proofs.values.resolve_parsed.Goals as goal

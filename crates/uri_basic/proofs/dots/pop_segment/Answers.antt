@@ -1,12 +1,9 @@
-use Rattle.std.proofs.Common.{◌≡◌, ◌+◌, ◌<◌, ◌-◌, ◌++◌, ℕ, List, ap, arith, get_or, length, rules}
-use Rattle.std.proofs.Common.{string_bytes, subst, sym, take, ◌∙◌}
+use Rattle.std.proofs.Common.{◌≡◌, ◌+◌, ◌<◌, ◌-◌, ◌++◌, ℕ, List, ap, arith, get_or, length, rules, string_bytes, subst, sym, take, ◌∙◌}
 use Rattle.std.specs.Prelude.{codes}
 use Rattle.std.proofs.lemmas.Str.{IsUtf8-string_bytes}
 use Rattle.uri_ops.specs.Dots.{EndsInSlash, before_last_slash, up_to_last_slash}
 use Rattle.uri_ops.proofs.Builders.BuilderGrowth.{string_len-is-length-of-bytes}
-use Rattle.uri_basic.proofs.Places.{nothing-to-pop, pop-of-last-segment, pop-of-only-segment}
-use Rattle.uri_basic.proofs.Places.{position-of-last-segment-is-boundary}
-use Rattle.uri_basic.proofs.Places.{slice-to-end, something-kept-is-directory}
+use Rattle.uri_basic.proofs.Places.{nothing-to-pop, pop-of-last-segment, pop-of-only-segment, position-of-last-segment-is-boundary, slice-to-end, something-kept-is-directory}
 use Rattle.uri_basic.proofs.dots.pop_segment.Goals as goal
 
 pub returns-then-len-start : goal.returns-then-len-start

@@ -1,14 +1,11 @@
-use Rattle.std.proofs.Common.{◌≡◌, ◌+◌, ◌<◌, ◌≤◌, ◌++◌, ap, append_assoc, arith, drop, eqb, false}
-use Rattle.std.proofs.Common.{get_or, inl, inr, length, not, refl, string_bytes, subst, sym, take}
-use Rattle.std.proofs.Common.{◌∙◌}
+use Rattle.std.proofs.Common.{◌≡◌, ◌+◌, ◌<◌, ◌≤◌, ◌++◌, ap, append_assoc, arith, drop, eqb, false, get_or, inl, inr, length, not, refl, string_bytes, subst, sym, take, ◌∙◌}
 use Rattle.std.specs.Prelude.{codes}
 use Rattle.std.proofs.lemmas.List.{take-append-drop}
 use Rattle.std.proofs.lemmas.Str.{IsCharBoundary-after_ascii, IsCharBoundary-start}
 use Rattle.uri_ops.specs.Dots.{has_slash, up_to_last_slash}
 use Rattle.uri_pct.specs.Models.ByteRuns.{IsLongestRun}
 use Rattle.uri_basic.specs.Models.Directories.{IsDirectoryOrNothing, after_segment, path_left}
-use Rattle.uri_basic.proofs.Places.{prefix-is-up-to-last-slash, replaced-suffix}
-use Rattle.uri_basic.proofs.Places.{rest-after-run-lacks-slash, run-is-segment}
+use Rattle.uri_basic.proofs.Places.{prefix-is-up-to-last-slash, replaced-suffix, rest-after-run-lacks-slash, run-is-segment}
 use Rattle.uri_basic.proofs.Segments.{directory-after-segment, path-left-after-segment}
 use Rattle.uri_basic.proofs.dots.push_directories.Goals as goal
 

@@ -1,5 +1,4 @@
-use Rattle.uri_basic.proofs.Relativized.{reference-to-settled-target-leads}
-use Rattle.uri_basic.proofs.Relativized.{reference-to-target-without-dots-leads}
+use Rattle.uri_basic.proofs.Relativized.{reference-to-settled-target-leads, reference-to-target-without-dots-leads}
 use Rattle.uri_basic.proofs.laws.relativized_references_lead_to_targets.Goals as goal
 
 pub returns-clause-target : goal.returns-clause-target

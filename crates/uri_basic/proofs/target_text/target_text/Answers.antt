@@ -1,5 +1,4 @@
-use Rattle.std.proofs.Common.{◌≡◌, ◌-◌, ◌++◌, [], ap, arith, length, refl, rules, string_bytes}
-use Rattle.std.proofs.Common.{sym, ◌∙◌}
+use Rattle.std.proofs.Common.{◌≡◌, ◌-◌, ◌++◌, [], ap, arith, length, refl, rules, string_bytes, sym, ◌∙◌}
 use Rattle.std.specs.Prelude.{codes}
 use Rattle.uri_parts.specs.Components.{components, marked}
 use Rattle.uri_parts.specs.CoreTexts.{core_text}
@@ -9,8 +8,7 @@ use Rattle.uri_ops.specs.Models.Places.{before_path}
 use Rattle.uri_ops.specs.Resolving.{components_of}
 use Rattle.uri_ops.proofs.Builders.BuilderGrowth.{string_len-is-length-of-bytes}
 use Rattle.uri_basic.specs.Target.{target}
-use Rattle.uri_basic.proofs.TargetPlaces.{fragment-fits-in-target, fragment-of-target}
-use Rattle.uri_basic.proofs.TargetPlaces.{written-target-is-at}
+use Rattle.uri_basic.proofs.TargetPlaces.{fragment-fits-in-target, fragment-of-target, written-target-is-at}
 use Rattle.uri_basic.proofs.target_text.target_text.Goals as goal
 
 pub overflow_sub-query_end : goal.overflow_sub-query_end

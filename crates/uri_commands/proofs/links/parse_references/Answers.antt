@@ -4,8 +4,7 @@ use Rattle.fluent_uri.specs.Grammar.{uri_ref}
 use Rattle.fluent_uri.specs.Uris.{uri_ref_text}
 use Rattle.uri_commands.specs.Commands.{Links, texts}
 use Rattle.uri_commands.specs.Refusals.{IsErrorOfCommand}
-use Rattle.uri_commands.proofs.LinkWords.{one-more-reference-is-kept, one-more-reference-is-of-kind}
-use Rattle.uri_commands.proofs.LinkWords.{first-error-is-of-this-word}
+use Rattle.uri_commands.proofs.LinkWords.{one-more-reference-is-kept, one-more-reference-is-of-kind, first-error-is-of-this-word}
 use Rattle.uri_commands.proofs.links.parse_references.Goals as goal
 use Rattle.uri_commands.proofs.links.parse_references.Goals.{then-is_refused, else-is_refused}
 use Rattle.fluent_uri.proofs.Outcomes.{IfErr-of-only-error}

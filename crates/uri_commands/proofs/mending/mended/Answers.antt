@@ -1,8 +1,7 @@
 use Rattle.std.proofs.Common.{ap, string_bytes}
 use Rattle.fluent_uri.specs.Grammar.{uri, uri_ref, iri, iri_ref}
 use Rattle.uri_commands.specs.Kinds.{kind_named}
-use Rattle.uri_commands.proofs.MendedLinks.{error-of-link-is-error-of-mend}
-use Rattle.uri_commands.proofs.MendedLinks.{mended-link-can-be-mended, mended-link-has-mended-text}
+use Rattle.uri_commands.proofs.MendedLinks.{error-of-link-is-error-of-mend, mended-link-can-be-mended, mended-link-has-mended-text}
 use Rattle.uri_commands.proofs.mending.mended.Goals as goal
 
 pub returns-in-Uri-clause-mendable : goal.returns-in-Uri-clause-mendable

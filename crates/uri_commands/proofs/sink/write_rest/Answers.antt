@@ -1,11 +1,9 @@
-use Rattle.std.proofs.Common.{◌≡◌, ◌++◌, ◌-◌, ◌∙◌, ap, ℕ, List, length, subst, take, drop}
-use Rattle.std.proofs.Common.{take-append-drop}
+use Rattle.std.proofs.Common.{◌≡◌, ◌++◌, ◌-◌, ◌∙◌, ap, ℕ, List, length, subst, take, drop, take-append-drop}
 use Rattle.std.proofs.KnownBytes.{Appends-trans}
 use Rattle.std.proofs.lemmas.List.{take_rest}
 use Rattle.std.specs.Io.KnownBytes.{Appends}
 use Rattle.uri_commands.specs.Prefixes.{AppendsPrefix}
-use Rattle.uri_commands.proofs.Appended.{AppendsPrefix-after-Appends, AppendsPrefix-of-kept}
-use Rattle.uri_commands.proofs.Appended.{on-ok}
+use Rattle.uri_commands.proofs.Appended.{AppendsPrefix-after-Appends, AppendsPrefix-of-kept, on-ok}
 use Rattle.uri_commands.proofs.sink.write_rest.Goals as goal
 
 abbrev rest : ℕ → List ℕ → List ℕ

@@ -1,8 +1,6 @@
 use Rattle.std.proofs.Common.{◌++◌, ap, sym, ◌∙◌}
 use Rattle.std.proofs.lemmas.List.{take_rest}
-use Rattle.uri_commands.proofs.Prefixes.{AppendsPrefix-of-appended}
-use Rattle.uri_commands.proofs.Prefixes.{AppendsPrefix-of-appended-then-kept}
-use Rattle.uri_commands.proofs.Prefixes.{Appends-of-one-more-write}
+use Rattle.uri_commands.proofs.Prefixes.{AppendsPrefix-of-appended, AppendsPrefix-of-appended-then-kept, Appends-of-one-more-write}
 use Rattle.uri_commands.proofs.sink.write_whole.Goals as goal
 
 pub returns-then-is_empty-clause-prefix : goal.returns-then-is_empty-clause-prefix

@@ -6,8 +6,7 @@ use Rattle.uri_parts.specs.CoreTexts.{core_text}
 use Rattle.uri_ops.proofs.TextKinds.FourKinds.{one-of-four-kinds-has-sets}
 use Rattle.fluent_uri.specs.References.{reference_text}
 use Rattle.uri_idna.specs.AsciiReferences.{with_authority, with_host}
-use Rattle.uri_idna.proofs.Replaced.{replaced-text-has-ascii-host, replaced-text-is-defined}
-use Rattle.uri_idna.proofs.Replaced.{replaced-text-is-of-kind}
+use Rattle.uri_idna.proofs.Replaced.{replaced-text-has-ascii-host, replaced-text-is-defined, replaced-text-is-of-kind}
 use Rattle.uri_idna.proofs.references.replaced.Goals as goal
 
 pub of_text-requires : goal.of_text-requires

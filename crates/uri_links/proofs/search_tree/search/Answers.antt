@@ -2,9 +2,7 @@ use Rattle.std.proofs.Common.{◌≡◌, ◌+◌, ◌-◌, ◌∙◌, sym, ap, a
 use Rattle.std.proofs.lemmas.Grind.{common_steps}
 use Rattle.fluent_uri.specs.Uris.{uri_text}
 use Rattle.uri_links.specs.SearchTrees.{hash_of, leaf, search_from}
-use Rattle.uri_links.proofs.Searches.{search_from-found-here-at, search_from-ends-here-at}
-use Rattle.uri_links.proofs.Searches.{search_from-descends-at, node-hash-is-text-hash}
-use Rattle.uri_links.proofs.Searches.{as-many-nodes-as-texts, get_or-of-mapped}
+use Rattle.uri_links.proofs.Searches.{search_from-found-here-at, search_from-ends-here-at, search_from-descends-at, node-hash-is-text-hash, as-many-nodes-as-texts, get_or-of-mapped}
 use Rattle.uri_links.proofs.search_tree.search.Goals as goal
 
 pub has_text-requires-clause-own : goal.has_text-requires-clause-own

@@ -2,8 +2,7 @@ use Rattle.std.proofs.Common.{◌-◌, get_or, ap, sym, ◌∙◌, arith}
 use Rattle.uri_pct.specs.Tables.{set_of}
 use Rattle.uri_pct.proofs.TableSets.Masks.{has_bit_past_ascii_is_false}
 use Rattle.uri_pct.proofs.TableSets.Percent.{lacks_percent}
-use Rattle.uri_mend.proofs.EncodedRuns.{empty-run-is-lacked, run-before-percent-is-lacked}
-use Rattle.uri_mend.proofs.EncodedRuns.{run-is-lacked}
+use Rattle.uri_mend.proofs.EncodedRuns.{empty-run-is-lacked, run-before-percent-is-lacked, run-is-lacked}
 use Rattle.uri_mend.proofs.component.lacked_end.Goals as goal
 
 pub returns-then-not-lacks_byte : goal.returns-then-not-lacks_byte

@@ -3,8 +3,7 @@ use Rattle.std.proofs.lemmas.Bool.{and_parts}
 use Rattle.uri_pct.specs.Tables.{set_of}
 use Rattle.uri_pct.proofs.TableSets.Percent.{lacks_percent}
 use Rattle.uri_mend.specs.Progress.{lacks_marks}
-use Rattle.uri_mend.proofs.ComponentProgress.{all-is-mended-at-end, nothing-is-scanned-after-scan}
-use Rattle.uri_mend.proofs.ComponentProgress.{octets-go-on, scan-goes-on}
+use Rattle.uri_mend.proofs.ComponentProgress.{all-is-mended-at-end, nothing-is-scanned-after-scan, octets-go-on, scan-goes-on}
 use Rattle.uri_mend.proofs.component.mend_component.Goals as goal
 
 pub returns-then-is_component_end-clause-text : goal.returns-then-is_component_end-clause-text

@@ -6,12 +6,7 @@ use Rattle.uri_parts.specs.Components.{after_authority, after_scheme, components
 use Rattle.uri_ops.specs.Models.Places.{before_path}
 use Rattle.uri_mend.specs.Mending.{link_components}
 use Rattle.uri_mend.specs.Tails.{mended_tail, mended_path, query_of_tail}
-use Rattle.uri_mend.proofs.LinkPieces.{prefix-with-false-scheme, prefix-without-false-scheme}
-use Rattle.uri_mend.proofs.LinkPieces.{text-with-false-scheme-is-mended, text-is-cut-before-path}
-use Rattle.uri_mend.proofs.LinkPieces.{text-without-false-scheme-is-mended, boundary-before-piece}
-use Rattle.uri_mend.proofs.LinkPieces.{piece-before-cut, piece-after-cut-is-no-longer}
-use Rattle.uri_mend.proofs.LinkPieces.{path-with-false-scheme, path-without-false-scheme}
-use Rattle.uri_mend.proofs.LinkPieces.{query-with-false-scheme, query-without-false-scheme}
+use Rattle.uri_mend.proofs.LinkPieces.{prefix-with-false-scheme, prefix-without-false-scheme, text-with-false-scheme-is-mended, text-is-cut-before-path, text-without-false-scheme-is-mended, boundary-before-piece, piece-before-cut, piece-after-cut-is-no-longer, path-with-false-scheme, path-without-false-scheme, query-with-false-scheme, query-without-false-scheme}
 use Rattle.uri_mend.proofs.link.cut_link.Goals as goal
 
 pub returns-in_default-clause-prefix : goal.returns-in_default-clause-prefix

@@ -1,7 +1,6 @@
 use Rattle.std.proofs.Common.{drop, sym, take}
 use Rattle.std.proofs.lemmas.List.{take-append-drop}
-use Rattle.uri_mend.proofs.LinkPrefixes.{link-of-prefix, prefix-shows-path}
-use Rattle.uri_mend.proofs.LinkPrefixes.{text-with-prefix-can-be-mended}
+use Rattle.uri_mend.proofs.LinkPrefixes.{link-of-prefix, prefix-shows-path, text-with-prefix-can-be-mended}
 use Rattle.uri_mend.proofs.link.link_of_prefix.Goals as goal
 
 pub returns-clause-link : goal.returns-clause-link

@@ -2,8 +2,7 @@ use Rattle.std.proofs.Common.{◌++◌, ◌+◌, drop, length, sym, ap, ◌∙�
 use Rattle.std.specs.Str.{IsUtf8}
 use Rattle.uri_ops.proofs.TextKinds.FourKinds.{one-of-four-kinds-has-sets}
 use Rattle.uri_mend.specs.Tails.{mended_path, mended_tail}
-use Rattle.uri_mend.proofs.MendedResults.{length-of-start, mended-text-of-link-is-utf8}
-use Rattle.uri_mend.proofs.MendedResults.{pieces-are-mended-text, start-of-mended-text}
+use Rattle.uri_mend.proofs.MendedResults.{length-of-start, mended-text-of-link-is-utf8, pieces-are-mended-text, start-of-mended-text}
 use Rattle.uri_mend.proofs.mending.mended_text_of.Goals as goal
 
 pub finished-requires-clause-utf8 : goal.finished-requires-clause-utf8

@@ -1,6 +1,4 @@
-use Rattle.std.proofs.Common.{◌≡◌, ◌∙◌, ◌/◌, ◌%◌, ◌^◌, ◌<◌, ◌||◌, ap, subst, sym, refl, map, length}
-use Rattle.std.proofs.Common.{List, ℕ, []}
-use Rattle.std.proofs.Common.{bit_and, cond, eqb, get_or, ltb, true, w8, ◌∷◌, replicate}
+use Rattle.std.proofs.Common.{◌≡◌, ◌∙◌, ◌/◌, ◌%◌, ◌^◌, ◌<◌, ◌||◌, ap, subst, sym, refl, map, length, List, ℕ, [], bit_and, cond, eqb, get_or, ltb, true, w8, ◌∷◌, replicate}
 use mir.Val.{zeroes}
 use Rattle.std.specs.Fmt.{digit_glyph}
 use Rattle.std.specs.Simd.Lanes.{zip2, chunk}

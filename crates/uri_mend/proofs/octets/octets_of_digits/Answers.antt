@@ -1,5 +1,4 @@
-use Rattle.std.proofs.Common.{◌≡◌, ℕ, zero, suc, ◌/◌, ◌%◌, List, [], ◌∷◌, length, get_or, drop, map}
-use Rattle.std.proofs.Common.{refl, sym, ap, ◌∙◌, arith, true}
+use Rattle.std.proofs.Common.{◌≡◌, ℕ, zero, suc, ◌/◌, ◌%◌, List, [], ◌∷◌, length, get_or, drop, map, refl, sym, ap, ◌∙◌, arith, true}
 use Rattle.std.specs.Fmt.{digit_glyph}
 use Rattle.uri_pct.specs.Tokens.{Octet, print}
 use Rattle.uri_mend.proofs.octets.octets_of_digits.Goals as goal

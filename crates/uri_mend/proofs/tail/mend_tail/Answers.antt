@@ -4,8 +4,7 @@ use Rattle.uri_parts.specs.KindTables.{kind_of}
 use Rattle.uri_mend.specs.Progress.{mended_so_far}
 use Rattle.uri_mend.specs.Tails.{mended_path, mended_query, mended_tail}
 use Rattle.uri_mend.proofs.NeverAllowed.{HasMendedSets, one-of-four-kinds-has-mended-sets}
-use Rattle.uri_mend.proofs.MendedTails.{length-of-mended-so-far, part-ends-where-mended}
-use Rattle.uri_mend.proofs.MendedTails.{parts-are-mended-tail}
+use Rattle.uri_mend.proofs.MendedTails.{length-of-mended-so-far, part-ends-where-mended, parts-are-mended-tail}
 use Rattle.uri_mend.proofs.tail.mend_tail.Goals as goal
 
 pub mend_component-requires-clause-never : goal.mend_component-requires-clause-never

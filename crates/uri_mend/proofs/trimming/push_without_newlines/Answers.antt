@@ -2,8 +2,7 @@ use Rattle.std.proofs.Common.{◌≡◌, ◌++◌, ◌∙◌, [], ap, arith, dro
 use Rattle.std.proofs.lemmas.List.{append-nil, drop_all}
 use Rattle.std.proofs.lemmas.Bool.{eqb-true, eqb-false}
 use Rattle.uri_mend.specs.Trimming.{tab_and_newlines, without_any}
-use Rattle.uri_mend.proofs.TrimmedLinks.{boundary-after-tab-or-newline}
-use Rattle.uri_mend.proofs.TrimmedLinks.{text-without-marks-after-run}
+use Rattle.uri_mend.proofs.TrimmedLinks.{boundary-after-tab-or-newline, text-without-marks-after-run}
 use Rattle.uri_mend.proofs.trimming.push_without_newlines.Goals as goal
 
 pub returns-then-is_empty : goal.returns-then-is_empty

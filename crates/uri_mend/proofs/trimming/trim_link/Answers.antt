@@ -3,8 +3,7 @@ use Rattle.std.specs.List.{list_any}
 use Rattle.std.proofs.lemmas.Bool.{false≢true}
 use Rattle.uri_pct.specs.Sets.{is_one_of}
 use Rattle.uri_mend.specs.Trimming.{tab_and_newlines, trimmed_link, without_any}
-use Rattle.uri_mend.proofs.TrimmedLinks.{text-without-marks-is-unchanged}
-use Rattle.uri_mend.proofs.TrimmedLinks.{trimmed-text-is-without-outer-space}
+use Rattle.uri_mend.proofs.TrimmedLinks.{text-without-marks-is-unchanged, trimmed-text-is-without-outer-space}
 use Rattle.uri_mend.proofs.trimming.trim_link.Goals as goal
 
 pub returns-then-not-has_tab_or_newline-clause-text :

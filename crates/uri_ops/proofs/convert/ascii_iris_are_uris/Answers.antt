@@ -1,5 +1,4 @@
-use Rattle.uri_ops.proofs.TextKinds.Conversions.{ascii_iri_is_uri, ascii_iri_ref_is_uri_ref}
-use Rattle.uri_ops.proofs.TextKinds.Conversions.{ascii_iri_ref_with_scheme_is_uri}
+use Rattle.uri_ops.proofs.TextKinds.Conversions.{ascii_iri_is_uri, ascii_iri_ref_is_uri_ref, ascii_iri_ref_with_scheme_is_uri}
 use Rattle.uri_ops.proofs.convert.ascii_iris_are_uris.Goals as goal
 
 pub returns-clause-uri : goal.returns-clause-uri

@@ -1,5 +1,4 @@
-use Rattle.uri_ops.proofs.TextKinds.Conversions.{uri_ref_with_scheme_is_uri}
-use Rattle.uri_ops.proofs.TextKinds.Conversions.{iri_ref_with_scheme_is_iri}
+use Rattle.uri_ops.proofs.TextKinds.Conversions.{uri_ref_with_scheme_is_uri, iri_ref_with_scheme_is_iri}
 use Rattle.uri_ops.proofs.convert.references_with_a_scheme_are_uris.Goals as goal
 
 pub returns-clause-uri : goal.returns-clause-uri

@@ -3,8 +3,7 @@ use Rattle.std.specs.Prelude.{Ok, is_some}
 use Rattle.std.proofs.lemmas.Option.{IfSome_then}
 use Rattle.uri_parts.specs.Components.{Components}
 use Rattle.uri_ops.specs.Resolving.{components_of}
-use Rattle.uri_ops.proofs.Targeting.ResolvedTexts.{computed-target-is-resolved}
-use Rattle.uri_ops.proofs.Targeting.ResolvedTexts.{target-is-text-of-base-kind}
+use Rattle.uri_ops.proofs.Targeting.ResolvedTexts.{computed-target-is-resolved, target-is-text-of-base-kind}
 use Rattle.uri_ops.proofs.Targeting.Swaps.{text-of-kind-has-needed-scheme}
 use Rattle.uri_ops.proofs.resolve.resolve_to_pieces.Goals as goal
 

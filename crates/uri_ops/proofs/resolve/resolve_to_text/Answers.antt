@@ -1,8 +1,7 @@
 use Rattle.std.proofs.Common.{◌≡◌, true, subst, sym}
 use Rattle.std.specs.Prelude.{is_some, string_bytes}
 use Rattle.std.proofs.lemmas.Result.{IfOk-weaker}
-use Rattle.uri_ops.proofs.Targeting.ResolvedTexts.{computed-target-is-resolved}
-use Rattle.uri_ops.proofs.Targeting.ResolvedTexts.{target-is-text-of-base-kind}
+use Rattle.uri_ops.proofs.Targeting.ResolvedTexts.{computed-target-is-resolved, target-is-text-of-base-kind}
 use Rattle.uri_ops.specs.Resolving.{IsTarget, components_of}
 use Rattle.uri_parts.specs.Grammar.{IsTextOf}
 use Rattle.uri_parts.specs.Components.{Components}

@@ -1,5 +1,4 @@
-use Rattle.std.proofs.Common.{◌≡◌, [], ◌∷◌, false, ◌++◌, take, drop, bytes_eq, refl, arith}
-use Rattle.std.proofs.Common.{ap, ◌∙◌, codes}
+use Rattle.std.proofs.Common.{◌≡◌, [], ◌∷◌, false, ◌++◌, take, drop, bytes_eq, refl, arith, ap, ◌∙◌, codes}
 use Rattle.std.specs.Net.Addr.{octets_of}
 use Rattle.std.proofs.lemmas.Slice.Eq.{bytes_eq-Decides}
 use Rattle.std.specs.Net.Text.{ipv4_text, ipv6_text}

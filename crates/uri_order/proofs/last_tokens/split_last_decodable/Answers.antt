@@ -3,8 +3,7 @@ use Rattle.std.proofs.Common.{drop, refl, sym, arith}
 use Rattle.std.proofs.lemmas.List.{append-nil, length-drop}
 use Rattle.uri_pct.specs.Tables.{set_of}
 use Rattle.uri_pct.specs.Tokens.{tokens}
-use Rattle.uri_order.proofs.LastDecodables.{no_decodable_ends_after_no_octet, none_ends_no_bytes}
-use Rattle.uri_order.proofs.LastDecodables.{no_decodable_ends_with_four_octets}
+use Rattle.uri_order.proofs.LastDecodables.{no_decodable_ends_after_no_octet, none_ends_no_bytes, no_decodable_ends_with_four_octets}
 use Rattle.uri_order.proofs.last_tokens.split_last_decodable.Goals as goal
 
 pub loop-start-init : goal.loop-start-init

@@ -2,9 +2,7 @@
 use Rattle.std.proofs.Common.{◌≡◌, ◌-◌, length, get_or, sym, ap, ◌∙◌, arith, take}
 use Rattle.uri_pct.specs.Chunks.{widest_set}
 use Rattle.uri_pct.specs.Tokens.{IsValidFor, is_valid_for}
-use Rattle.uri_order.proofs.LastTokens.{no_octet_ends_text}
-use Rattle.uri_order.proofs.LastTokens.{percent_third_from_end_begins_last_octet}
-use Rattle.uri_order.proofs.LastTokens.{equal_text_ends_in_same_octet}
+use Rattle.uri_order.proofs.LastTokens.{no_octet_ends_text, percent_third_from_end_begins_last_octet, equal_text_ends_in_same_octet}
 use Rattle.uri_order.proofs.last_tokens.split_last_octet.Goals as goal
 
 pub returns-then-bytes-lt3 : goal.returns-then-bytes-lt3

@@ -13,10 +13,7 @@ use Rattle.uri_ops.specs.Meaning.{host_meaning}
 use Rattle.uri_ops.specs.Normal.{host_text}
 use Rattle.uri_ops.proofs.Meanings.BracketedHosts.{normal-name-is-lowered-decoded}
 use Rattle.uri_ops.proofs.Meanings.Decodable.{unbracketed-host-is-decodable}
-use Rattle.uri_order.proofs.NormalParts.{empty_if_tested, not_empty_if_tested}
-use Rattle.uri_order.proofs.NormalParts.{first_piece_alone, host_with_address_is_its_text}
-use Rattle.uri_order.proofs.NormalParts.{host_without_address_is_lowered, nothing_is_written}
-use Rattle.uri_order.proofs.NormalParts.{second_piece_alone}
+use Rattle.uri_order.proofs.NormalParts.{empty_if_tested, not_empty_if_tested, first_piece_alone, host_with_address_is_its_text, host_without_address_is_lowered, nothing_is_written, second_piece_alone}
 use Rattle.uri_order.proofs.normal_authority.host_back.Goals as goal
 
 pub new-requires : goal.new-requires

@@ -9,8 +9,7 @@ use Rattle.uri_parts.specs.Components.{starts}
 use Rattle.uri_ops.specs.Dots.{remove_dot_segments}
 use Rattle.uri_ops.specs.Target.{guarded}
 use Rattle.uri_ops.proofs.Meanings.Decodable.{valid-text-is-decodable}
-use Rattle.uri_ops.proofs.Normal.NormalPieces.{absolute-is-leading-slash}
-use Rattle.uri_ops.proofs.Normal.NormalPieces.{path-with-dots-is-normal-when-decoded}
+use Rattle.uri_ops.proofs.Normal.NormalPieces.{absolute-is-leading-slash, path-with-dots-is-normal-when-decoded}
 use Rattle.uri_order.specs.PathBack.{path_unread}
 use Rattle.uri_order.proofs.NormalParts.{normal_path_under_scheme, second_piece_alone}
 use Rattle.uri_order.proofs.normal_path.normal_path_back.Goals as goal

@@ -3,9 +3,7 @@ use Rattle.std.proofs.lemmas.Slice.Eq.{bytes_eq-Decides}
 use Rattle.uri_parts.specs.CoreTexts.{core_text}
 use Rattle.uri_ops.proofs.TextKinds.FourKinds.{one-of-four-kinds-has-sets}
 use Rattle.uri_order.specs.NormalForms.{normal_form_under}
-use Rattle.uri_order.proofs.Equivalences.{equal_in_order_if_equal, equal_text_is_of_kind}
-use Rattle.uri_order.proofs.Equivalences.{equal_texts_are_equal_in_order}
-use Rattle.uri_order.proofs.Equivalences.{equivalent_if_forms_are_equal}
+use Rattle.uri_order.proofs.Equivalences.{equal_in_order_if_equal, equal_text_is_of_kind, equal_texts_are_equal_in_order, equivalent_if_forms_are_equal}
 use Rattle.uri_order.proofs.normal_texts.cmp_normal.Goals as goal
 use Rattle.uri_rules.specs.Rules.{meaning_under, rules_of}
 

@@ -2,9 +2,7 @@
 use Rattle.std.proofs.Common.{◌++◌, sym, ap, ◌∙◌}
 use Rattle.uri_pct.specs.Tables.{set_of}
 use Rattle.uri_order.specs.NormalComponents.{normal_component}
-use Rattle.uri_order.proofs.NormalTokens.{last_char_is_written_last, char_has_text}
-use Rattle.uri_order.proofs.NormalTokens.{last_decodable_is_written_last}
-use Rattle.uri_order.proofs.NormalTokens.{last_octet_is_written_last}
+use Rattle.uri_order.proofs.NormalTokens.{last_char_is_written_last, char_has_text, last_decodable_is_written_last, last_octet_is_written_last}
 use Rattle.uri_order.proofs.normal_tokens.split_last_token.Goals as goal
 
 pub returns-in_default-clause-text : goal.returns-in_default-clause-text

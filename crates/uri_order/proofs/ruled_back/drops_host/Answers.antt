@@ -2,8 +2,7 @@ use Rattle.std.proofs.Common.{option_map, sym, ◌∙◌}
 use Rattle.uri_parts.specs.AuthorityTexts.{authority_text}
 use Rattle.uri_parts.specs.Schemes.{scheme_text}
 use Rattle.uri_ops.specs.Normal.{default_port_of}
-use Rattle.uri_order.proofs.RuledParts.{host_is_dropped_by_its_test}
-use Rattle.uri_order.proofs.RuledParts.{no_host_is_dropped_without_default}
+use Rattle.uri_order.proofs.RuledParts.{host_is_dropped_by_its_test, no_host_is_dropped_without_default}
 use Rattle.uri_order.proofs.ruled_back.drops_host.Goals as goal
 
 pub returns-then-not-is_local : goal.returns-then-not-is_local

@@ -1,8 +1,7 @@
 use Rattle.std.proofs.Common.{◌++◌, cond, [], None, Some, inr, ap, sym, ◌∙◌}
 use Rattle.std.specs.Prelude.{codes}
 use Rattle.uri_order.specs.SegmentsLeft.{segments_left}
-use Rattle.uri_order.proofs.SegmentsLeft.{absolute-path-is-not-empty, cut-at-last-slash}
-use Rattle.uri_order.proofs.SegmentsLeft.{removing-dots-leaves-segments_left}
+use Rattle.uri_order.proofs.SegmentsLeft.{absolute-path-is-not-empty, cut-at-last-slash, removing-dots-leaves-segments_left}
 use Rattle.uri_order.proofs.segments_back.ends_in_dot_segment.Goals as goal
 
 pub returns-in-Some : goal.returns-in-Some

@@ -2,10 +2,7 @@ use Rattle.std.proofs.Common.{None, Some, refl, ap, subst, ◌∙◌, arith, lit
 use Rattle.std.specs.Str.{IsUtf8}
 use Rattle.uri_parts.proofs.TextKinds.GrammarTexts.{utf8_around_ascii_byte}
 use Rattle.uri_order.specs.SegmentsLeft.{segments_left, without_last_segments}
-use Rattle.uri_order.proofs.SegmentsLeft.{abempty-path-by-test, abempty-path-passes-test}
-use Rattle.uri_order.proofs.SegmentsLeft.{cut-at-last-slash, other-segment-is-left}
-use Rattle.uri_order.proofs.SegmentsLeft.{segments_left-of-nothing, segments_left-with-segment}
-use Rattle.uri_order.proofs.SegmentsLeft.{without_last_segments-of-nothing}
+use Rattle.uri_order.proofs.SegmentsLeft.{abempty-path-by-test, abempty-path-passes-test, cut-at-last-slash, other-segment-is-left, segments_left-of-nothing, segments_left-with-segment, without_last_segments-of-nothing}
 use Rattle.uri_order.proofs.segments_back.split_last_segment.Goals as goal
 
 pub loop-prefix-init : goal.loop-prefix-init

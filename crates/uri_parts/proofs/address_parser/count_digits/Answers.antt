@@ -1,6 +1,5 @@
 use Rattle.std.proofs.Common.{◌≡◌, arith}
-use Rattle.uri_parts.proofs.HostForms.HexDigits.{next-digit-extends-number}
-use Rattle.uri_parts.proofs.HostForms.HexDigits.{five-digits-are-leading-digits}
+use Rattle.uri_parts.proofs.HostForms.HexDigits.{next-digit-extends-number, five-digits-are-leading-digits}
 use Rattle.uri_parts.proofs.address_parser.count_digits.Goals as goal
 
 pub returns-clause-digits : goal.returns-clause-digits

@@ -1,7 +1,5 @@
 use Rattle.std.proofs.Common.{arith}
-use Rattle.uri_parts.proofs.HostForms.HexDigits.{three-digits-are-below-4096}
-use Rattle.uri_parts.proofs.HostForms.HexDigits.{next-digit-extends-number}
-use Rattle.uri_parts.proofs.HostForms.HexDigits.{number-ends-at-other-byte}
+use Rattle.uri_parts.proofs.HostForms.HexDigits.{three-digits-are-below-4096, next-digit-extends-number, number-ends-at-other-byte}
 use Rattle.uri_parts.proofs.address_parser.with_next_digit.Goals as goal
 
 pub overflow_mul-result : goal.overflow_mul-result

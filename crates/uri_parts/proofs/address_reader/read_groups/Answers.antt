@@ -1,22 +1,11 @@
-use Rattle.std.proofs.Common.{◌≡◌, ◌+◌, ◌-◌, ◌<◌}
-use Rattle.std.proofs.Common.{length, drop, get_or, sym, ap, ◌∙◌}
-use Rattle.std.proofs.Common.{arith, inl, inr, append-nil, length-drop, drop-drop, take, take_all}
-use Rattle.std.proofs.Common.{ℕ, List, [], ◌∷◌, ◌++◌, ◌≤◌, Some, None, nat_lt, le-ltb, refl}
+use Rattle.std.proofs.Common.{◌≡◌, ◌+◌, ◌-◌, ◌<◌, length, drop, get_or, sym, ap, ◌∙◌, arith, inl, inr, append-nil, length-drop, drop-drop, take, take_all, ℕ, List, [], ◌∷◌, ◌++◌, ◌≤◌, Some, None, nat_lt, le-ltb, refl}
 use Rattle.std.proofs.Math.ListN.{set}
 use Rattle.std.proofs.lemmas.List.{places, take_more_set}
 use Rattle.std.proofs.lemmas.Grind.{common_steps}
 use Rattle.std.specs.Net.Reader.{read_segments, read_ipv4_if}
 use Rattle.uri_parts.specs.Models.Literals.{segments_of_ipv4}
 use Rattle.uri_parts.proofs.HostForms.AddressParsing.{IsSuffix, suffix-at-position}
-use Rattle.uri_parts.proofs.HostForms.GroupReading.{reading-appends-value-of-group}
-use Rattle.uri_parts.proofs.HostForms.GroupReading.{reading-ends-without-group}
-use Rattle.uri_parts.proofs.HostForms.GroupReading.{reading-ends-after-group-without-colon}
-use Rattle.uri_parts.proofs.HostForms.GroupReading.{colon-separates-next-group}
-use Rattle.uri_parts.proofs.HostForms.GroupReading.{no-dot-after-digits-is-no-ipv4}
-use Rattle.uri_parts.proofs.HostForms.GroupReading.{ipv4-ends-reading, unparsed-ipv4-is-not-read}
-use Rattle.uri_parts.proofs.HostForms.GroupReading.{text-after-ipv4-is-suffix}
-use Rattle.uri_parts.proofs.HostForms.GroupReading.{byte-after-digits-at-position}
-use Rattle.uri_parts.proofs.HostForms.GroupReading.{colon-at-position-is-inside}
+use Rattle.uri_parts.proofs.HostForms.GroupReading.{reading-appends-value-of-group, reading-ends-without-group, reading-ends-after-group-without-colon, colon-separates-next-group, no-dot-after-digits-is-no-ipv4, ipv4-ends-reading, unparsed-ipv4-is-not-read, text-after-ipv4-is-suffix, byte-after-digits-at-position, colon-at-position-is-inside}
 use Rattle.uri_parts.proofs.address_reader.read_groups.Goals.{else-digits-eq46}
 use Rattle.uri_parts.proofs.address_reader.read_groups.Goals as goal
 

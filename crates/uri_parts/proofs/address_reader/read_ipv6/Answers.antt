@@ -1,12 +1,8 @@
-use Rattle.std.proofs.Common.{◌≡◌, ℕ, ◌+◌, refl, ◌-◌, ◌≤◌, ◌==◌, true, false, length, take}
-use Rattle.std.proofs.Common.{replicate, drop, Some}
-use Rattle.std.proofs.Common.{sym}
-use Rattle.std.proofs.Common.{ap, ◌∙◌, arith, length-take-le, ne_eqb}
+use Rattle.std.proofs.Common.{◌≡◌, ℕ, ◌+◌, refl, ◌-◌, ◌≤◌, ◌==◌, true, false, length, take, replicate, drop, Some, sym, ap, ◌∙◌, arith, length-take-le, ne_eqb}
 use Rattle.std.proofs.lemmas.Slice.{take-put_mid}
 use borrow.Rule.Slice.PartMut.{put_mid}
 use Rattle.std.specs.Net.Reader.{read_ipv6, read_segments}
-use Rattle.uri_parts.proofs.HostForms.GroupReading.{colon-at-position-is-read}
-use Rattle.uri_parts.proofs.HostForms.GroupReading.{tail-groups-are-placed-last}
+use Rattle.uri_parts.proofs.HostForms.GroupReading.{colon-at-position-is-read, tail-groups-are-placed-last}
 use Rattle.uri_parts.proofs.address_reader.read_ipv6.Goals as goal
 
 pub returns-clause-read : goal.returns-clause-read

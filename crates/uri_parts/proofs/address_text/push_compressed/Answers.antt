@@ -1,6 +1,4 @@
-use Rattle.std.proofs.Common.{◌≡◌, ℕ, ◌+◌, slice_set, ◌∷◌, ◌++◌, ◌<◌, [], List, length, take, All}
-use Rattle.std.proofs.Common.{arith, rules, ap, ◌∙◌, sym, subst}
-use Rattle.std.proofs.Common.{inl, inr}
+use Rattle.std.proofs.Common.{◌≡◌, ℕ, ◌+◌, slice_set, ◌∷◌, ◌++◌, ◌<◌, [], List, length, take, All, arith, rules, ap, ◌∙◌, sym, subst, inl, inr}
 use Rattle.std.proofs.lemmas.Bool.{cases_lt}
 use Rattle.std.proofs.lemmas.List.{get_or_past, take_more_set}
 use Rattle.std.proofs.lemmas.List.Elements.{All-get_or}

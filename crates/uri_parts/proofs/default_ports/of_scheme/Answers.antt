@@ -3,10 +3,7 @@ use Rattle.std.specs.Char.{to_ascii_lowercase, is_ascii_lowercase}
 use Rattle.std.proofs.lemmas.Bool.{eqb-true, eqb-false}
 use Rattle.uri_parts.specs.SchemePorts.{port_ignoring_case}
 use Rattle.uri_parts.proofs.Authorities.SchemePorts.{row_of}
-use Rattle.uri_parts.proofs.Authorities.SchemeRows.{before, map-of-slice-is-slice-of-map}
-use Rattle.uri_parts.proofs.Authorities.SchemeRows.{default-port-by-rows-of-first-letter}
-use Rattle.uri_parts.proofs.Authorities.SchemeRows.{no-default-port-without-first-letter}
-use Rattle.uri_parts.proofs.Authorities.SchemeRows.{empty-scheme-has-no-default-port}
+use Rattle.uri_parts.proofs.Authorities.SchemeRows.{before, map-of-slice-is-slice-of-map, default-port-by-rows-of-first-letter, no-default-port-without-first-letter, empty-scheme-has-no-default-port}
 use Rattle.uri_parts.proofs.default_ports.of_scheme.Goals as goal
 
 pub returns-then-is_empty : goal.returns-then-is_empty

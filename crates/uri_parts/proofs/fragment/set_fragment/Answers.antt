@@ -3,12 +3,7 @@ use Rattle.std.specs.Prelude.{option_map, string_bytes}
 use Rattle.std.specs.Str.{IsCharBoundary}
 use Rattle.uri_pct.specs.EncodedTexts.{text_of}
 use Rattle.uri_parts.specs.Fragments.{IsWithFragment}
-use Rattle.uri_parts.proofs.Splitting.Fragments.{boundary-at-fragment-mark}
-use Rattle.uri_parts.proofs.Splitting.Fragments.{stripped_is_without_fragment}
-use Rattle.uri_parts.proofs.Splitting.Fragments.{appended_is_with_fragment}
-use Rattle.uri_parts.proofs.Splitting.Fragments.{stays_of_kind_with_fragment}
-use Rattle.uri_parts.proofs.Splitting.Fragments.{stays_of_kind_without_fragment}
-use Rattle.uri_parts.proofs.Splitting.Fragments.{positions_stay_with_fragment}
+use Rattle.uri_parts.proofs.Splitting.Fragments.{boundary-at-fragment-mark, stripped_is_without_fragment, appended_is_with_fragment, stays_of_kind_with_fragment, stays_of_kind_without_fragment, positions_stay_with_fragment}
 use Rattle.uri_parts.proofs.fragment.set_fragment.Goals as goal
 
 -- the text that is left without a fragment, and the one with another

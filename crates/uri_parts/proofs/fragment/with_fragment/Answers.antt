@@ -2,10 +2,7 @@ use Rattle.std.proofs.Common.{Some, None, ap, sym, subst, ◌∙◌, ◌++◌, �
 use Rattle.std.specs.Prelude.{option_map, string_bytes}
 use Rattle.uri_pct.specs.EncodedTexts.{text_of}
 use Rattle.uri_parts.specs.Fragments.{IsWithFragment}
-use Rattle.uri_parts.proofs.Splitting.Fragments.{appended_is_with_fragment}
-use Rattle.uri_parts.proofs.Splitting.Fragments.{stays_of_kind_with_fragment}
-use Rattle.uri_parts.proofs.Splitting.Fragments.{stays_of_kind_without_fragment}
-use Rattle.uri_parts.proofs.Splitting.Fragments.{positions_stay_with_fragment}
+use Rattle.uri_parts.proofs.Splitting.Fragments.{appended_is_with_fragment, stays_of_kind_with_fragment, stays_of_kind_without_fragment, positions_stay_with_fragment}
 use Rattle.uri_parts.proofs.fragment.with_fragment.Goals as goal
 
 -- the text that is made without a fragment, and with one

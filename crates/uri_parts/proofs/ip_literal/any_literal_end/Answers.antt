@@ -1,7 +1,6 @@
 use Rattle.std.proofs.Common.{sym, ap, ◌∙◌}
 use Rattle.std.specs.Prelude.{Err}
-use Rattle.uri_parts.proofs.Refusals.Literals.{literal-with-version-letter-scans-ipvfuture}
-use Rattle.uri_parts.proofs.Refusals.Literals.{literal-without-address-is-unexpected}
+use Rattle.uri_parts.proofs.Refusals.Literals.{literal-with-version-letter-scans-ipvfuture, literal-without-address-is-unexpected}
 use Rattle.uri_parts.proofs.ip_literal.any_literal_end.Goals as goal
 
 pub returns-then-starts_ipvfuture-clause-exact : goal.returns-then-starts_ipvfuture-clause-exact

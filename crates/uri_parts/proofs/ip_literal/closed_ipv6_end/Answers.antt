@@ -1,11 +1,8 @@
-use Rattle.std.proofs.Common.{◌≡◌, ◌+◌, ◌≤◌, true, length, drop, sym, ap, ◌∙◌}
-use Rattle.std.proofs.Common.{arith, length-drop, option_map}
+use Rattle.std.proofs.Common.{◌≡◌, ◌+◌, ◌≤◌, true, length, drop, sym, ap, ◌∙◌, arith, length-drop, option_map}
 use Rattle.std.specs.Prelude.{Ok}
 use Rattle.uri_parts.specs.Components.{starts}
-use Rattle.uri_parts.proofs.HostForms.Ipv6Literals.{no_ipv6_is_no_literal}
-use Rattle.uri_parts.proofs.HostForms.Ipv6Literals.{unclosed_ipv6_is_no_literal}
-use Rattle.uri_parts.proofs.Refusals.Literals.{literal-ends-after-read-ipv6}
-use Rattle.uri_parts.proofs.Refusals.Literals.{literal-rejects-unparsed}
+use Rattle.uri_parts.proofs.HostForms.Ipv6Literals.{no_ipv6_is_no_literal, unclosed_ipv6_is_no_literal}
+use Rattle.uri_parts.proofs.Refusals.Literals.{literal-ends-after-read-ipv6, literal-rejects-unparsed}
 use Rattle.uri_parts.proofs.ip_literal.closed_ipv6_end.Goals as goal
 
 pub returns-then-next_is-clause-exact : goal.returns-then-next_is-clause-exact

@@ -1,16 +1,8 @@
-use Rattle.std.proofs.Common.{◌≡◌, ◌+◌, ◌-◌, ◌<◌, ℕ, Bool, false, not, sym, ap, ◌∙◌, arith, ◌&&◌}
-use Rattle.std.proofs.Common.{◌||◌}
+use Rattle.std.proofs.Common.{◌≡◌, ◌+◌, ◌-◌, ◌<◌, ℕ, Bool, false, not, sym, ap, ◌∙◌, arith, ◌&&◌, ◌||◌}
 use Rattle.std.specs.Prelude.{◌==◌}
 use Rattle.std.proofs.lemmas.Bool.{ne_eqb}
 use Rattle.uri_parts.specs.LiteralErrors.{Groups_end, after_ipv4, groups_from}
-use Rattle.uri_parts.proofs.Refusals.GroupTurns.{groups_from-ends-without-room}
-use Rattle.uri_parts.proofs.Refusals.GroupTurns.{groups_from-ends-without-group}
-use Rattle.uri_parts.proofs.Refusals.GroupTurns.{groups_from-elides-at-two-colons}
-use Rattle.uri_parts.proofs.Refusals.GroupTurns.{groups_from-rejects-lone-colon}
-use Rattle.uri_parts.proofs.Refusals.GroupTurns.{groups_from-ends-with-text}
-use Rattle.uri_parts.proofs.Refusals.GroupTurns.{groups_from-rejects-misplaced-colon}
-use Rattle.uri_parts.proofs.Refusals.GroupTurns.{groups_from-rejects-ipv4-without-room, dotted}
-use Rattle.uri_parts.proofs.Refusals.GroupTurns.{groups_from-goes-on-after-group}
+use Rattle.uri_parts.proofs.Refusals.GroupTurns.{groups_from-ends-without-room, groups_from-ends-without-group, groups_from-elides-at-two-colons, groups_from-rejects-lone-colon, groups_from-ends-with-text, groups_from-rejects-misplaced-colon, groups_from-rejects-ipv4-without-room, dotted, groups_from-goes-on-after-group}
 use Rattle.uri_parts.proofs.ip_literal.groups_end.Goals as goal
 
 room_left : (room counted : ℕ) → counted < room → room - counted ≡ (room - (counted + 1)) + 1

@@ -1,8 +1,7 @@
 use Rattle.std.proofs.Common.{◌≡◌, ◌+◌, ◌-◌, sym, ap, ◌∙◌, arith, rules}
 use Rattle.std.specs.Prelude.{option_and_then}
 use Rattle.uri_parts.specs.LiteralErrors.{octets_end}
-use Rattle.uri_parts.proofs.Refusals.Digits.{octets_end-goes-on-after-dot}
-use Rattle.uri_parts.proofs.Refusals.Digits.{octets_end-fails-without-dot}
+use Rattle.uri_parts.proofs.Refusals.Digits.{octets_end-goes-on-after-dot, octets_end-fails-without-dot}
 use Rattle.uri_parts.proofs.ip_literal.ipv4_end.Goals as goal
 
 pub returns-then-not-next_is-clause-exact : goal.returns-then-not-next_is-clause-exact

@@ -1,7 +1,6 @@
 use Rattle.std.proofs.Common.{sym, ap, ◌∙◌}
 use Rattle.std.specs.Prelude.{Err}
-use Rattle.uri_parts.proofs.Refusals.Literals.{literal-malformed-ipv6}
-use Rattle.uri_parts.proofs.Refusals.Literals.{literal-unclosed-ipv6}
+use Rattle.uri_parts.proofs.Refusals.Literals.{literal-malformed-ipv6, literal-unclosed-ipv6}
 use Rattle.uri_parts.proofs.ip_literal.refusal.Goals as goal
 
 pub returns-in-Some-clause-exact : goal.returns-in-Some-clause-exact

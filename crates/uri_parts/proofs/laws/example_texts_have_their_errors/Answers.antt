@@ -1,5 +1,4 @@
-use Rattle.uri_parts.proofs.Refusals.Rows.{uri_ref_rows_have_their_errors}
-use Rattle.uri_parts.proofs.Refusals.Rows.{uri_rows_have_their_errors}
+use Rattle.uri_parts.proofs.Refusals.Rows.{uri_ref_rows_have_their_errors, uri_rows_have_their_errors}
 use Rattle.uri_parts.proofs.laws.example_texts_have_their_errors.Goals as goal
 
 pub returns-clause-references : goal.returns-clause-references

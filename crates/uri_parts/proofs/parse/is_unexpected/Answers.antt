@@ -4,8 +4,7 @@ use Rattle.uri_pct.specs.Sets.{TableSet}
 use Rattle.uri_parts.specs.Components.{is_end, starts}
 use Rattle.uri_parts.specs.Errors.{unexpected}
 use Rattle.uri_parts.specs.Grammar.{Kind}
-use Rattle.uri_parts.specs.Refusals.{error_from_end, error_from_fragment, error_from_path}
-use Rattle.uri_parts.specs.Refusals.{error_from_query, error_from_relative_path}
+use Rattle.uri_parts.specs.Refusals.{error_from_end, error_from_fragment, error_from_path, error_from_query, error_from_relative_path}
 use Rattle.uri_parts.specs.Scanning.{scan}
 use Rattle.uri_parts.proofs.parse.is_unexpected.Goals as goal
 

@@ -1,7 +1,6 @@
 use Rattle.std.proofs.Common.{refl, sym, ◌∙◌}
 use Rattle.uri_parts.proofs.Refusals.Whole.{parsed_error-is-refusal, ok_exactly_if_parsed}
-use Rattle.uri_parts.proofs.Theorems.{parse_result_is_right, parsed_positions-are-positions_of}
-use Rattle.uri_parts.proofs.Theorems.{parses-exactly-texts-of-kind}
+use Rattle.uri_parts.proofs.Theorems.{parse_result_is_right, parsed_positions-are-positions_of, parses-exactly-texts-of-kind}
 use Rattle.uri_parts.proofs.parse.parse.Goals as goal
 
 pub returns-clause-accepts : goal.returns-clause-accepts

@@ -9,8 +9,7 @@ use Rattle.uri_parts.specs.Grammar.{first_segment_set}
 use Rattle.uri_parts.specs.Models.Cursors.{cursor_position}
 use Rattle.uri_parts.specs.Models.ParseErrors.{authority_error, schemeless_error}
 use Rattle.uri_parts.specs.Refusals.{error_from_path}
-use Rattle.uri_parts.proofs.Refusals.Schemes.{error_of_scheme_and_slashes, error_without_scheme}
-use Rattle.uri_parts.proofs.Refusals.Schemes.{error_of_scheme_without_slashes, last_of_three_fails}
+use Rattle.uri_parts.proofs.Refusals.Schemes.{error_of_scheme_and_slashes, error_without_scheme, error_of_scheme_without_slashes, last_of_three_fails}
 use Rattle.uri_parts.proofs.parse.pass_before_path.Goals as goal
 
 pub returns-then-scheme-clause-refused : goal.returns-then-scheme-clause-refused

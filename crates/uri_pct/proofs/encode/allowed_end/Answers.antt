@@ -1,9 +1,7 @@
 use Rattle.std.proofs.Common.{◌≡◌, ◌+◌, drop, ap, ◌∙◌}
 use Rattle.uri_pct.specs.Prefixes.{valid_prefix}
 use Rattle.uri_pct.specs.Tables.{set_of}
-use Rattle.uri_pct.proofs.ValidTexts.KeptPrefixes.{set_without_octets}
-use Rattle.uri_pct.proofs.ValidTexts.KeptPrefixes.{allowed_run_is_encoded_as_itself}
-use Rattle.uri_pct.proofs.ValidTexts.KeptPrefixes.{char_after_allowed_run_is_not_allowed}
+use Rattle.uri_pct.proofs.ValidTexts.KeptPrefixes.{set_without_octets, allowed_run_is_encoded_as_itself, char_after_allowed_run_is_not_allowed}
 use Rattle.uri_pct.proofs.encode.allowed_end.Goals as goal
 
 scanned_to : (c : goal.After-scan)

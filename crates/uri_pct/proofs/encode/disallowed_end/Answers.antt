@@ -3,9 +3,7 @@ use Rattle.std.specs.Char.{len_utf8}
 use Rattle.std.specs.Str.{IsCharBoundary}
 use Rattle.std.proofs.lemmas.Str.{IsCharBoundary-past_char, IsUtf8-drop}
 use Rattle.uri_pct.specs.Tables.{set_of}
-use Rattle.uri_pct.proofs.ValidTexts.KeptPrefixes.{empty_run_is_encoded_as_octets}
-use Rattle.uri_pct.proofs.ValidTexts.KeptPrefixes.{longer_run_is_encoded_as_octets}
-use Rattle.uri_pct.proofs.ValidTexts.KeptPrefixes.{disallowed_run_is_not_empty}
+use Rattle.uri_pct.proofs.ValidTexts.KeptPrefixes.{empty_run_is_encoded_as_octets, longer_run_is_encoded_as_octets, disallowed_run_is_not_empty}
 use Rattle.uri_pct.proofs.encode.disallowed_end.Goals as goal
 
 pub loop-end-init : goal.loop-end-init

@@ -1,5 +1,4 @@
-use Rattle.std.proofs.Common.{◌≡◌, ◌-◌, ◌++◌, length, take, drop, ap, ◌∙◌, arith, refl}
-use Rattle.std.proofs.Common.{string_bytes, take_all, map}
+use Rattle.std.proofs.Common.{◌≡◌, ◌-◌, ◌++◌, length, take, drop, ap, ◌∙◌, arith, refl, string_bytes, take_all, map}
 use Rattle.std.proofs.lemmas.Str.{IsCharBoundary-start}
 use Rattle.uri_pct.specs.Tables.{set_of}
 use Rattle.uri_pct.specs.Tokens.{Octet, print}

@@ -1,7 +1,6 @@
 use Rattle.std.proofs.Common.{◌+◌, ◌∙◌, ap, arith, get_or, sym}
 use Rattle.uri_pct.specs.Tables.{set_of}
-use Rattle.uri_pct.proofs.LaneScans.LaneRuns.{run_goes_on_past_unmarked_lanes}
-use Rattle.uri_pct.proofs.LaneScans.LaneRuns.{set_mask_marks_lanes_outside}
+use Rattle.uri_pct.proofs.LaneScans.LaneRuns.{run_goes_on_past_unmarked_lanes, set_mask_marks_lanes_outside}
 use Rattle.uri_pct.proofs.LaneScans.LinkedLanes.{byte_of_plain_block_is_of_encoded_text}
 use Rattle.uri_pct.proofs.TableSets.Percent.{lacks_percent}
 use Rattle.uri_pct.proofs.encoded_runs.outside_encoded_block.Goals as goal

@@ -1,12 +1,9 @@
-use Rattle.std.proofs.Common.{◌≡◌, ◌+◌, ◌-◌, ◌≤◌, ◌<◌, not, List, ℕ, length}
-use Rattle.std.proofs.Common.{get_or, arith, ◌^◌}
+use Rattle.std.proofs.Common.{◌≡◌, ◌+◌, ◌-◌, ◌≤◌, ◌<◌, not, List, ℕ, length, get_or, arith, ◌^◌}
 use Rattle.std.proofs.lemmas.Nat.Bits.{bit_at-lt}
 use Rattle.uri_pct.specs.Masks.{has_bit}
 use Rattle.uri_pct.specs.Models.ByteRuns.{is_char_byte}
 use Rattle.uri_pct.proofs.General.{bit_is_failing_test}
-use Rattle.uri_pct.proofs.LaneScans.LaneRuns.{MarksFailingLanes, last_load_marks_failing_lanes}
-use Rattle.uri_pct.proofs.LaneScans.LaneRuns.{run_goes_on_past_unmarked_lanes}
-use Rattle.uri_pct.proofs.LaneScans.LaneRuns.{run_ends_at_first_marked_lane}
+use Rattle.uri_pct.proofs.LaneScans.LaneRuns.{MarksFailingLanes, last_load_marks_failing_lanes, run_goes_on_past_unmarked_lanes, run_ends_at_first_marked_lane}
 use Rattle.uri_pct.proofs.LaneScans.LaneBits.{is_set_bit}
 use Rattle.uri_pct.proofs.lanes.chars_end.Goals as goal
 

@@ -1,14 +1,10 @@
-use Rattle.std.proofs.Common.{◌≡◌, ◌+◌, ◌-◌, ◌*◌, ◌/◌, ◌%◌, ◌^◌, ◌<◌, ◌≤◌, ℕ, List, not, leb}
-use Rattle.std.proofs.Common.{length, map, get_or, arith, sym, ap, ◌∙◌, ◌&&◌, ⊎_elim}
+use Rattle.std.proofs.Common.{◌≡◌, ◌+◌, ◌-◌, ◌*◌, ◌/◌, ◌%◌, ◌^◌, ◌<◌, ◌≤◌, ℕ, List, not, leb, length, map, get_or, arith, sym, ap, ◌∙◌, ◌&&◌, ⊎_elim}
 use Rattle.std.specs.Simd.Lanes.{mask_l, chunk}
 use Rattle.std.proofs.Math.Nat.{div-mul-le_self}
 use Rattle.std.proofs.lemmas.Bool.{cases_lt, and_right, le-leb, lt-leb}
 use Rattle.uri_pct.specs.Masks.{has_bit}
-use Rattle.uri_pct.proofs.LaneScans.LaneRuns.{set_mask_marks_lanes_outside}
-use Rattle.uri_pct.proofs.LaneScans.LaneRuns.{run_goes_on_past_unmarked_lanes}
-use Rattle.uri_pct.proofs.LaneScans.LaneBits.{is_set_bit, mask_bit_is_test_of_byte}
-use Rattle.uri_pct.proofs.LaneScans.LaneBits.{bit_of_left_shift, bit_of_right_shift}
-use Rattle.uri_pct.proofs.LaneScans.LaneBits.{low_bit_of_left_shift_is_clear}
+use Rattle.uri_pct.proofs.LaneScans.LaneRuns.{set_mask_marks_lanes_outside, run_goes_on_past_unmarked_lanes}
+use Rattle.uri_pct.proofs.LaneScans.LaneBits.{is_set_bit, mask_bit_is_test_of_byte, bit_of_left_shift, bit_of_right_shift, low_bit_of_left_shift_is_clear}
 use Rattle.uri_pct.proofs.lanes.first_block_outside.Goals as goal
 
 lane : (low high : ℕ) (bs : List ℕ) (i mask k : ℕ) → i + 16 ≤ length bs

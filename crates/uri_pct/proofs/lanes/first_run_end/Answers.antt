@@ -3,14 +3,7 @@ use Rattle.std.specs.Simd.Lanes.{chunk}
 use Rattle.uri_pct.specs.Masks.{has_bit}
 use Rattle.uri_pct.proofs.LaneScans.LaneMasks.{index_of_mask_byte_is_small}
 use Rattle.uri_pct.proofs.LaneScans.LaneBits.{trailing_zeros_is_first_set_lane}
-use Rattle.uri_pct.proofs.LaneScans.BlockOctets.{MarksFailingLanesFrom, run_goes_on_to_end}
-use Rattle.uri_pct.proofs.LaneScans.BlockOctets.{run_ends_at_first_marked_byte}
-use Rattle.uri_pct.proofs.LaneScans.BlockOctets.{passing_bytes_are_characters, first_of_lower_lanes}
-use Rattle.uri_pct.proofs.LaneScans.BlockOctets.{first_of_last_lanes, no_lane_of_both_parts}
-use Rattle.uri_pct.proofs.LaneScans.BlockOctets.{digits_of_octet_are_unmarked}
-use Rattle.uri_pct.proofs.LaneScans.BlockOctets.{start_is_within_block, block_without_left_lanes}
-use Rattle.uri_pct.proofs.LaneScans.BlockOctets.{first_left_lane_fails, bytes_before_left_lanes}
-use Rattle.uri_pct.proofs.LaneScans.BlockOctets.{left_percent_is_stray}
+use Rattle.uri_pct.proofs.LaneScans.BlockOctets.{MarksFailingLanesFrom, run_goes_on_to_end, run_ends_at_first_marked_byte, passing_bytes_are_characters, first_of_lower_lanes, first_of_last_lanes, no_lane_of_both_parts, digits_of_octet_are_unmarked, start_is_within_block, block_without_left_lanes, first_left_lane_fails, bytes_before_left_lanes, left_percent_is_stray}
 use Rattle.uri_pct.proofs.lanes.first_run_end.Goals as goal
 use Rattle.uri_pct.proofs.lanes.first_run_end.Goals.{Else-mask-eq0}
 

@@ -1,6 +1,5 @@
 use Rattle.uri_pct.specs.Models.LaneMasks.{bytes_of_masks}
-use Rattle.uri_pct.proofs.LaneScans.LaneMasks.{small_indices_fit_swizzle}
-use Rattle.uri_pct.proofs.LaneScans.LaneMasks.{swizzle_by_small_indices_is_lookup}
+use Rattle.uri_pct.proofs.LaneScans.LaneMasks.{small_indices_fit_swizzle, swizzle_by_small_indices_is_lookup}
 use Rattle.uri_pct.proofs.lanes.mask_bytes.Goals as goal
 
 pub swizzle : goal.swizzle

@@ -1,5 +1,4 @@
-use Rattle.std.proofs.Common.{◌≡◌, ◌+◌, ◌/◌, ◌^◌, ◌<◌, ◌≤◌, ℕ, true, false, not}
-use Rattle.std.proofs.Common.{length, subst, sym, ap, ◌∙◌, arith, bit_and, bit_or, w64, get_or}
+use Rattle.std.proofs.Common.{◌≡◌, ◌+◌, ◌/◌, ◌^◌, ◌<◌, ◌≤◌, ℕ, true, false, not, length, subst, sym, ap, ◌∙◌, arith, bit_and, bit_or, w64, get_or}
 use Rattle.std.specs.Prelude.{slice_index}
 use Rattle.std.specs.Char.{is_ascii_hexdigit}
 use Rattle.std.proofs.lemmas.Nat.{or_lt}
@@ -8,10 +7,7 @@ use Rattle.std.specs.Int.{bit_at, bit_not}
 use Rattle.uri_pct.specs.Texts.{has_hex_digits_after}
 use Rattle.uri_pct.proofs.LaneScans.LaneRuns.{load_mask_marks_failing_lanes, MarksFailingLanes}
 use Rattle.uri_pct.specs.Masks.{has_bit}
-use Rattle.uri_pct.proofs.LaneScans.LaneBits.{mask_bit_is_equality_of_byte}
-use Rattle.uri_pct.proofs.LaneScans.LaneBits.{equality_mask_is_below_2_16, is_set_bit}
-use Rattle.uri_pct.proofs.LaneScans.LaneBits.{bit_of_right_shift, low_bit_of_left_shift_is_clear}
-use Rattle.uri_pct.proofs.LaneScans.LaneBits.{mask_bit_is_test_of_byte}
+use Rattle.uri_pct.proofs.LaneScans.LaneBits.{mask_bit_is_equality_of_byte, equality_mask_is_below_2_16, is_set_bit, bit_of_right_shift, low_bit_of_left_shift_is_clear, mask_bit_is_test_of_byte}
 use Rattle.uri_pct.proofs.LaneScans.OctetLanes.{octet_begins_at_set_lane}
 use Rattle.uri_pct.proofs.TableSets.Constants.{hexdig_masks_are_hexdig_set}
 use Rattle.uri_pct.proofs.TableSets.Masks.{bit_of_bit_or, bit_of_bit_and_not}

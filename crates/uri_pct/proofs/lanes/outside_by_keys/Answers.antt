@@ -1,5 +1,4 @@
-use Rattle.std.proofs.Common.{◌≡◌, ◌∙◌, ◌/◌, ◌^◌, ◌%◌, ap, sym, eqb, cond, bit_and, map, length}
-use Rattle.std.proofs.Common.{get_or, replicate, List, ℕ}
+use Rattle.std.proofs.Common.{◌≡◌, ◌∙◌, ◌/◌, ◌^◌, ◌%◌, ap, sym, eqb, cond, bit_and, map, length, get_or, replicate, List, ℕ}
 use Rattle.std.proofs.lemmas.List.{length-map}
 use Rattle.std.proofs.lemmas.Simd.{map-map}
 use Rattle.std.specs.Simd.Lanes.{zip2, mask_l, top}

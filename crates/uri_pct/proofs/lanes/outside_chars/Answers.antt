@@ -1,13 +1,11 @@
-use Rattle.std.proofs.Common.{◌≡◌, ◌+◌, ◌≤◌, Bool, true, false, not, eqb, length, refl, sym}
-use Rattle.std.proofs.Common.{ap, subst, ◌∙◌, arith, bit_and, w64, ◌&&◌, ◌||◌}
+use Rattle.std.proofs.Common.{◌≡◌, ◌+◌, ◌≤◌, Bool, true, false, not, eqb, length, refl, sym, ap, subst, ◌∙◌, arith, bit_and, w64, ◌&&◌, ◌||◌}
 use Rattle.std.specs.Prelude.{slice_index, nat_le}
 use Rattle.std.specs.Int.{bit_not}
 use Rattle.std.proofs.lemmas.Nat.{and_le_l}
 use Rattle.uri_pct.specs.Masks.{has_bit}
 use Rattle.uri_pct.proofs.TableSets.Masks.{bit_of_bit_and_not}
 use Rattle.uri_pct.proofs.LaneScans.LaneRuns.{MarksFailingLanes, load_mask_marks_failing_lanes}
-use Rattle.uri_pct.proofs.LaneScans.LaneBits.{is_set_bit, mask_bit_is_test_of_byte}
-use Rattle.uri_pct.proofs.LaneScans.LaneBits.{mask_bit_is_equality_of_byte}
+use Rattle.uri_pct.proofs.LaneScans.LaneBits.{is_set_bit, mask_bit_is_test_of_byte, mask_bit_is_equality_of_byte}
 use Rattle.uri_pct.proofs.lanes.outside_chars.Goals as goal
 
 neither : (a b : Bool) → (not a && not b) ≡ not (a || b)

@@ -2,8 +2,7 @@ use Rattle.std.proofs.Common.{◌∙◌, subst, sym}
 use Rattle.std.proofs.lemmas.Bool.{and_parts, ne_eqb, or_parts}
 use Rattle.uri_pct.specs.Models.ByteRuns.{IsLongestRun, is_char_byte}
 use Rattle.uri_pct.specs.Tables.{set_of}
-use Rattle.uri_pct.proofs.LaneScans.CharRuns.{char_run_is_scanned_from_start}
-use Rattle.uri_pct.proofs.LaneScans.CharRuns.{char_run_ends_at_boundary}
+use Rattle.uri_pct.proofs.LaneScans.CharRuns.{char_run_is_scanned_from_start, char_run_ends_at_boundary}
 use Rattle.uri_pct.proofs.TableSets.Masks.{has_bit-only-ascii}
 use Rattle.uri_pct.proofs.TableSets.Percent.{lacks_percent}
 use Rattle.uri_pct.proofs.ValidTexts.PrefixSteps.{valid_prefix_stops_at_ascii_outside_set}

@@ -3,8 +3,7 @@ use Rattle.std.specs.Str.Chunks.{utf8_chunks_rest, utf8_chunk_valid, utf8_chunk_
 use Rattle.std.proofs.lemmas.List.{map-append, nil_from_length}
 use Rattle.uri_pct.specs.Parts.{Decoded, ill_formed_piece_if_any}
 use Rattle.uri_pct.specs.Pieces.{utf8_pieces}
-use Rattle.uri_pct.proofs.Unicode.AsciiOctets.{prefix_of_past_ascii_is_past_ascii}
-use Rattle.uri_pct.proofs.Unicode.AsciiOctets.{suffix_of_past_ascii_is_past_ascii}
+use Rattle.uri_pct.proofs.Unicode.AsciiOctets.{prefix_of_past_ascii_is_past_ascii, suffix_of_past_ascii_is_past_ascii}
 use Rattle.uri_pct.proofs.Unicode.Runs.{utf8_pieces-of-std-chunk, no_bytes_have_no_pieces}
 use Rattle.uri_pct.proofs.utf8_runs.take_chunks.Goals as goal
 

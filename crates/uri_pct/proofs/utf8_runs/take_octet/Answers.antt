@@ -8,8 +8,7 @@ use Rattle.uri_pct.specs.Pieces.{utf8_pieces}
 use Rattle.uri_pct.specs.declared.window.Window.{Window}
 use Rattle.uri_pct.proofs.Unicode.AsciiOctets.{parts_from-ascii-octet}
 use Rattle.uri_pct.proofs.utf8_runs.take_octet.Goals as goal
-use Rattle.uri_pct.proofs.utf8_runs.take_octet.Goals.{then-is_full+in_ok-take_full_window}
-use Rattle.uri_pct.proofs.utf8_runs.take_octet.Goals.{else-is_full}
+use Rattle.uri_pct.proofs.utf8_runs.take_octet.Goals.{then-is_full+in_ok-take_full_window, else-is_full}
 
 pub returns-then-is_ascii : goal.returns-then-is_ascii
 returns-then-is_ascii g c = on_ok_weaker c.take_ascii.result

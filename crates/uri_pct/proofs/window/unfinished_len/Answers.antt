@@ -1,7 +1,6 @@
 use Rattle.std.proofs.Common.{refl, arith}
 use Rattle.std.proofs.lemmas.Bool.Decides.{nat_tests}
-use Rattle.uri_pct.proofs.Unicode.Unfinished.{unfinished_len_by_last_three}
-use Rattle.uri_pct.proofs.Unicode.Unfinished.{unfinished_len_is_by_counts_of_last_three}
+use Rattle.uri_pct.proofs.Unicode.Unfinished.{unfinished_len_by_last_three, unfinished_len_is_by_counts_of_last_three}
 use Rattle.uri_pct.proofs.window.unfinished_len.Goals as goal
 
 pub returns-then-following_byte_count-gt2-clause-value

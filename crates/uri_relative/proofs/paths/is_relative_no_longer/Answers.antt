@@ -1,7 +1,6 @@
 use Rattle.std.proofs.Common.{ap, ◌∙◌}
 use Rattle.uri_ops.specs.Dots.{is_empty}
-use Rattle.uri_relative.proofs.Lengths.{relative-path-fits-by-division}
-use Rattle.uri_relative.proofs.Lengths.{relative-path-is-longer-by-division}
+use Rattle.uri_relative.proofs.Lengths.{relative-path-fits-by-division, relative-path-is-longer-by-division}
 use Rattle.uri_relative.proofs.paths.is_relative_no_longer.Goals as goal
 
 pub returns-then-double_dots-gt0-clause-short : goal.returns-then-double_dots-gt0-clause-short

@@ -1,22 +1,14 @@
 use Rattle.std.proofs.Common.{◌≡◌, ◌+◌, ◌<◌, ◌≤◌, false, length, drop, subst, sym, ap, ◌∙◌, arith}
-use Rattle.std.proofs.lemmas.Bool.{both_ways, not-true}
+use Rattle.std.proofs.lemmas.Bool.{both_ways, not-true, not-false}
 use Rattle.std.specs.Prelude.{None, OnOk}
 use Rattle.uri_pct.specs.Texts.{Pushes}
-use Rattle.std.proofs.lemmas.Bool.{not-false}
 use Rattle.uri_ops.specs.Target.{guarded}
 use Rattle.uri_relative.specs.Relative.{slashes, relative_path}
-use Rattle.uri_relative.proofs.Ways.{path-from-root-leads-to-path, relative-path-leads-to-path}
-use Rattle.uri_relative.proofs.Ways.{pushed-path-leads-to-path, boundary-after-last-slash}
+use Rattle.uri_relative.proofs.Ways.{path-from-root-leads-to-path, relative-path-leads-to-path, pushed-path-leads-to-path, boundary-after-last-slash, shared-prefix-of-equals, pushed-relative-path-leads-to-path, relative-path-is-no-longer-than-from-root}
 use Rattle.uri_ops.proofs.AsciiForms.EncodedRuns.{slice_from-is-drop}
-use Rattle.uri_relative.proofs.Ways.{shared-prefix-of-equals, pushed-relative-path-leads-to-path}
-use Rattle.uri_relative.proofs.Ways.{relative-path-is-no-longer-than-from-root}
 use Rattle.uri_relative.specs.Shortest.{IsShortestPath}
-use Rattle.uri_relative.proofs.ShortestPaths.{path-from-root-is-shorter}
-use Rattle.uri_relative.proofs.ShortestPaths.{last-shared-slash-of-equals}
-use Rattle.uri_relative.proofs.ShortestPaths.{no-longer-than-both-paths-is-shortest}
-use Rattle.uri_relative.proofs.Rules.{relative-path-by-longest-prefix, relative-path-if-no-longer}
-use Rattle.uri_relative.proofs.Rules.{path-from-root-for-base-with-dots}
-use Rattle.uri_relative.proofs.Rules.{path-from-root-if-shorter}
+use Rattle.uri_relative.proofs.ShortestPaths.{path-from-root-is-shorter, last-shared-slash-of-equals, no-longer-than-both-paths-is-shortest}
+use Rattle.uri_relative.proofs.Rules.{relative-path-by-longest-prefix, relative-path-if-no-longer, path-from-root-for-base-with-dots, path-from-root-if-shorter}
 use Rattle.uri_relative.proofs.paths.push_path.Goals as goal
 
 pub returns-then-has_dot_segments-clause-way : goal.returns-then-has_dot_segments-clause-way

@@ -1,9 +1,6 @@
 use Rattle.std.proofs.Common.{sym, ◌∙◌}
 use Rattle.uri_ops.specs.Resolving.{components_of}
-use Rattle.uri_relative.proofs.EndPlaces.{authority-positions-of-components}
-use Rattle.uri_relative.proofs.EndPlaces.{authority-begins-after-scheme}
-use Rattle.uri_relative.proofs.EndPlaces.{authority-positions-without-scheme}
-use Rattle.uri_relative.proofs.EndPlaces.{no-authority-positions-no-authority}
+use Rattle.uri_relative.proofs.EndPlaces.{authority-positions-of-components, authority-begins-after-scheme, authority-positions-without-scheme, no-authority-positions-no-authority}
 use Rattle.uri_relative.proofs.places.authority_after_scheme.Goals as goal
 
 pub shift_authority_back-requires : goal.shift_authority_back-requires

@@ -1,8 +1,6 @@
 use Rattle.std.proofs.Common.{◌+◌, refl}
 use Rattle.uri_ops.specs.Resolving.{components_of}
-use Rattle.uri_relative.proofs.EndPlaces.{positions-without-scheme, scheme-end-is-scheme-length}
-use Rattle.uri_relative.proofs.EndPlaces.{positions-of-text-without-scheme-stay}
-use Rattle.uri_relative.proofs.EndPlaces.{query-ends-after-scheme}
+use Rattle.uri_relative.proofs.EndPlaces.{positions-without-scheme, scheme-end-is-scheme-length, positions-of-text-without-scheme-stay, query-ends-after-scheme}
 use Rattle.uri_relative.proofs.places.positions_after_scheme.Goals as goal
 
 pub returns-in-None : goal.returns-in-None

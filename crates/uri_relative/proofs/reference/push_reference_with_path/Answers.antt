@@ -1,18 +1,15 @@
-use Rattle.std.proofs.Common.{◌≡◌, ap, arith, length, length-append, rules, string_bytes, subst}
-use Rattle.std.proofs.Common.{◌++◌, ◌∙◌, sym}
-use Rattle.std.specs.Prelude.{None}
+use Rattle.std.proofs.Common.{◌≡◌, ap, arith, length, length-append, rules, string_bytes, subst, ◌++◌, ◌∙◌, sym}
+use Rattle.std.specs.Prelude.{None, false}
 use Rattle.uri_parts.specs.Components.{IsAbemptyPath, recompose}
 use Rattle.uri_ops.specs.Resolving.{components_of}
 use Rattle.uri_relative.proofs.Forms.{path-form-is-reference}
 use Rattle.uri_relative.proofs.RootedTargets.{base-that-is-not-opaque-is-rooted}
 use Rattle.uri_relative.proofs.Leading.{pushed-path-and-tail-are-appended}
-use Rattle.std.specs.Prelude.{false}
 use Rattle.uri_parts.proofs.Splitting.Recompose.{components-are-split-of-text}
 use Rattle.uri_relative.specs.Relative.{IsPathTo}
 use Rattle.uri_relative.specs.Rule.{shortest_or_preferred_path}
 use Rattle.uri_relative.specs.Shortest.{IsShortestPath}
-use Rattle.uri_relative.proofs.Rules.{rule-gives-path-for-same-authority}
-use Rattle.uri_relative.proofs.Rules.{unguarded-path-is-without-dots}
+use Rattle.uri_relative.proofs.Rules.{rule-gives-path-for-same-authority, unguarded-path-is-without-dots}
 use Rattle.uri_relative.proofs.reference.push_reference_with_path.Goals as goal
 
 pub push_path-requires : goal.push_path-requires

@@ -5,11 +5,9 @@ use Rattle.uri_parts.specs.Components.{recompose, starts}
 use Rattle.uri_ops.specs.Resolving.{components_of}
 use Rattle.uri_relative.specs.Forms.{from_authority}
 use Rattle.uri_relative.proofs.Forms.{authority-form-is-reference, whole}
-use Rattle.uri_relative.proofs.RootedTargets.{rootless-target-needs-authority}
-use Rattle.uri_relative.proofs.RootedTargets.{base-that-is-not-opaque-is-rooted}
+use Rattle.uri_relative.proofs.RootedTargets.{rootless-target-needs-authority, base-that-is-not-opaque-is-rooted}
 use Rattle.uri_relative.proofs.Rules.{rule-gives-authority, rule-gives-target-for-opaque-base}
-use Rattle.uri_relative.proofs.ShortestForms.{authority-form-is-shortest}
-use Rattle.uri_relative.proofs.ShortestForms.{target-is-shortest-for-opaque-base}
+use Rattle.uri_relative.proofs.ShortestForms.{authority-form-is-shortest, target-is-shortest-for-opaque-base}
 use Rattle.uri_relative.proofs.reference.suffix_from_authority.Goals as goal
 
 pub returns-then-is_opaque-clause-some : goal.returns-then-is_opaque-clause-some

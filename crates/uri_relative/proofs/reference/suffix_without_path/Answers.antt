@@ -5,8 +5,7 @@ use Rattle.uri_pct.proofs.General.{not_some_is_none}
 use Rattle.uri_parts.specs.Components.{recompose}
 use Rattle.uri_ops.specs.Resolving.{components_of}
 use Rattle.uri_relative.proofs.Forms.{fragment-form-is-reference, query-form-is-reference}
-use Rattle.uri_relative.proofs.Rules.{rule-gives-fragment-for-same-query}
-use Rattle.uri_relative.proofs.Rules.{rule-gives-query-for-same-path}
+use Rattle.uri_relative.proofs.Rules.{rule-gives-fragment-for-same-query, rule-gives-query-for-same-path}
 use Rattle.uri_relative.proofs.reference.suffix_without_path.Goals as goal
 
 pub returns-then-not-have_same_authority_and_path-clause-none

@@ -2,9 +2,7 @@ use Rattle.std.proofs.Common.{sym, ap, drop, subst, ◌∙◌}
 use Rattle.uri_ops.specs.Resolving.{components_of}
 use Rattle.uri_parts.proofs.Splitting.Recompose.{equal-to-true-is-IsTrue}
 use Rattle.uri_relative.specs.Forms.{IsUnguarded, is_guarded}
-use Rattle.uri_relative.proofs.Settled.{guard-ends-at-character, path-without-guard-is-unguarded}
-use Rattle.uri_relative.proofs.Settled.{path-after-authority-is-unguarded}
-use Rattle.uri_relative.proofs.Settled.{path-that-needs-no-guard-is-unguarded}
+use Rattle.uri_relative.proofs.Settled.{guard-ends-at-character, path-without-guard-is-unguarded, path-after-authority-is-unguarded, path-that-needs-no-guard-is-unguarded}
 use Rattle.uri_relative.proofs.reference.without_guard.Goals as goal
 
 pub returns-then-has_authority : goal.returns-then-has_authority

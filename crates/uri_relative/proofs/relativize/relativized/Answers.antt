@@ -4,8 +4,7 @@ use Rattle.uri_parts.specs.CoreTexts.{core_text}
 use Rattle.uri_parts.specs.Grammar.{IsOfKind}
 use Rattle.uri_parts.specs.PackedPositions.{packed}
 use Rattle.fluent_uri.specs.References.{reference_text}
-use Rattle.uri_relative.proofs.Leading.{reference-leads-back-to-target, reference-leads-to-target}
-use Rattle.uri_relative.proofs.Leading.{reference-is-no-longer-than-target, reference-is-relative}
+use Rattle.uri_relative.proofs.Leading.{reference-leads-back-to-target, reference-leads-to-target, reference-is-no-longer-than-target, reference-is-relative}
 use Rattle.uri_relative.specs.Forms.{IsReferenceTo}
 use Rattle.uri_relative.specs.Leading.{settled}
 use Rattle.uri_relative.specs.Rule.{reference_components, reference_to}

@@ -1,11 +1,8 @@
-use Rattle.std.proofs.Common.{◌≤◌, ◌-◌, ◌++◌, ap, arith, cond, drop, length, refl, string_bytes}
-use Rattle.std.proofs.Common.{subst, sym, take, ◌∙◌}
+use Rattle.std.proofs.Common.{◌≤◌, ◌-◌, ◌++◌, ap, arith, cond, drop, length, refl, string_bytes, subst, sym, take, ◌∙◌}
 use Rattle.std.proofs.lemmas.Str.{IsUtf8-string_bytes}
 use Rattle.std.specs.Str.{IsCharBoundary}
 use Rattle.uri_ops.proofs.Builders.BuilderGrowth.{string_len-is-length-of-bytes}
-use Rattle.uri_rules.proofs.EditedPlaces.{edit-begins-at-boundary, edited-text-is-recomposed}
-use Rattle.uri_rules.proofs.EditedPlaces.{edit-ends-at-boundary, query-ends-within}
-use Rattle.uri_rules.proofs.EditedPlaces.{edit-is-in-order, edited-positions, path-ends-within}
+use Rattle.uri_rules.proofs.EditedPlaces.{edit-begins-at-boundary, edited-text-is-recomposed, edit-ends-at-boundary, query-ends-within, edit-is-in-order, edited-positions, path-ends-within}
 use Rattle.uri_rules.proofs.edit.edit.Goals as goal
 
 pub overflow_sub-after_path : goal.overflow_sub-after_path

@@ -1,5 +1,4 @@
-use Rattle.uri_rules.proofs.RuledTargets.{resolving-respects-meaning-under}
-use Rattle.uri_rules.proofs.RuledTargets.{normal-texts-under-rules-resolve-alike}
+use Rattle.uri_rules.proofs.RuledTargets.{resolving-respects-meaning-under, normal-texts-under-rules-resolve-alike}
 use Rattle.uri_rules.proofs.laws.resolving_and_normalising_under_rules_swap.Goals as goal
 
 pub returns-clause-alike : goal.returns-clause-alike

@@ -1,14 +1,11 @@
-use Rattle.std.proofs.Common.{◌≢◌, ◌++◌, [], length-append, refl, sym}
-use Rattle.std.proofs.Common.{ap, ◌∙◌, rules, arith, true≢false}
+use Rattle.std.proofs.Common.{◌≢◌, ◌++◌, [], length-append, refl, sym, ap, ◌∙◌, rules, arith, true≢false}
 use Rattle.std.specs.Prelude.{◌&&◌, nat_lt}
 use Rattle.std.proofs.Math.Seq.{take-nil}
-use Rattle.std.proofs.KnownBytes.{Consumes-nil, Consumes-kept, Consumes-trans, Keeps-refl}
-use Rattle.std.proofs.KnownBytes.{Keeps-trans}
+use Rattle.std.proofs.KnownBytes.{Consumes-nil, Consumes-kept, Consumes-trans, Keeps-refl, Keeps-trans}
 use Rattle.std.proofs.BufReadLemmas.{Consumes_through, IsAtEnd-of_take_through}
 use Rattle.std.proofs.lemmas.List.Elements.{All-nil, All-append}
 use Rattle.std.specs.Io.Buffered.{reader_remaining}
-use Rattle.uri_streams.proofs.Parts.{Keeps-at-end, ReadsFirstLine-of-parts, OnErr-of-any}
-use Rattle.uri_streams.proofs.Parts.{take-of-appended-part}
+use Rattle.uri_streams.proofs.Parts.{Keeps-at-end, ReadsFirstLine-of-parts, OnErr-of-any, take-of-appended-part}
 use Rattle.uri_streams.proofs.Returns.{return_after-inner-part, return_after-last-part}
 use Rattle.uri_streams.specs.Lines.{return_after}
 use Rattle.uri_streams.proofs.lines.read_line.Goals as goal

@@ -5,8 +5,7 @@ use Rattle.uri_commands.specs.Kinds.{normal_form_of}
 use Rattle.uri_ops.proofs.TextKinds.FourKinds.{one-of-four-kinds-has-sets}
 use Rattle.uri_ops.specs.Normalizers.{HasNormalText}
 use Rattle.uri_parts.specs.SchemePorts.{default_port}
-use Rattle.uri_streams.proofs.TextResults.{parsed_result-of-error, parsed_result-of-kind}
-use Rattle.uri_streams.proofs.TextResults.{unchanged-is-normal_form}
+use Rattle.uri_streams.proofs.TextResults.{parsed_result-of-error, parsed_result-of-kind, unchanged-is-normal_form}
 use Rattle.uri_streams.specs.Results.{LineResult, Text, normalize_result}
 use Rattle.uri_streams.specs.Returned.{result_in}
 use Rattle.uri_streams.proofs.results.normal_form.Goals as goal

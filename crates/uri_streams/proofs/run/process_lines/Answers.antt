@@ -4,12 +4,8 @@ use Rattle.fluent_uri.proofs.Outcomes.{IfErr-of-only-error}
 use Rattle.std.specs.Io.Buffered.{reader_remaining}
 use Rattle.uri_streams.specs.Causes.{is_input_cause}
 use Rattle.uri_streams.specs.Runs.{StopsAfterPrefix, error_output_of}
-use Rattle.uri_streams.proofs.Failures.{EndsFlushed-after-WritesOutput, KeepsFailures-in-writing}
-use Rattle.uri_streams.proofs.Failures.{HasWrittenSoFar-then-run-fails, KeepsFailures-passed-on}
-use Rattle.uri_streams.proofs.Failures.{HasWrittenSoFar-then-step-fails}
-use Rattle.uri_streams.proofs.Streams.{HasWrittenSoFar-after-step, HasWrittenSoFar-at-start}
-use Rattle.uri_streams.proofs.Streams.{HasWrittenSoFar-then-last-step}
-use Rattle.uri_streams.proofs.Streams.{HasWrittenSoFar-then-rest-is-left}
+use Rattle.uri_streams.proofs.Failures.{EndsFlushed-after-WritesOutput, KeepsFailures-in-writing, HasWrittenSoFar-then-run-fails, KeepsFailures-passed-on, HasWrittenSoFar-then-step-fails}
+use Rattle.uri_streams.proofs.Streams.{HasWrittenSoFar-after-step, HasWrittenSoFar-at-start, HasWrittenSoFar-then-last-step, HasWrittenSoFar-then-rest-is-left}
 use Rattle.uri_streams.proofs.Parts.{OnOk-of-any}
 use Rattle.uri_streams.proofs.run.process_lines.Goals as goal
 

@@ -3,8 +3,7 @@ use Rattle.std.specs.Io.Buffered.{reader_remaining}
 use Rattle.fluent_uri.proofs.Outcomes.{IfErr-of-only-error}
 use Rattle.uri_streams.proofs.Failures.{KeepsFailures-passed-on}
 use Rattle.uri_streams.proofs.Reports.{Reports-nothing}
-use Rattle.uri_streams.proofs.Steps.{HasLine-of-read, IsStepOf-of-written-line}
-use Rattle.uri_streams.proofs.Steps.{StepFails-in-reading}
+use Rattle.uri_streams.proofs.Steps.{HasLine-of-read, IsStepOf-of-written-line, StepFails-in-reading}
 use Rattle.uri_streams.specs.Models.{ReadsPartOfLine}
 use Rattle.uri_streams.proofs.run.process_parts.Goals as goal
 

@@ -1,7 +1,6 @@
 use Rattle.std.proofs.Common.{ap, ◌∙◌}
 use Rattle.fluent_uri.specs.References.{reference_text}
-use Rattle.uri_streams.proofs.BasicTargets.{basic_target_result-of-returned-error}
-use Rattle.uri_streams.proofs.BasicTargets.{basic_target_result-of-target}
+use Rattle.uri_streams.proofs.BasicTargets.{basic_target_result-of-returned-error, basic_target_result-of-target}
 use Rattle.uri_streams.specs.Results.{Text}
 use Rattle.uri_streams.proofs.targets.basic_target.Goals as goal
 

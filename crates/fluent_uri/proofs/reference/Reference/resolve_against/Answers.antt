@@ -1,7 +1,6 @@
 use Rattle.uri_parts.specs.Components.{components}
 use Rattle.fluent_uri.specs.References.{reference_text}
-use Rattle.fluent_uri.proofs.Targets.{error_is_without_underflow, resolution_is_of_equal_text}
-use Rattle.fluent_uri.proofs.Targets.{resolution_is_target, target_is_resolution}
+use Rattle.fluent_uri.proofs.Targets.{error_is_without_underflow, resolution_is_of_equal_text, resolution_is_target, target_is_resolution}
 use Rattle.fluent_uri.proofs.reference.Reference.resolve_against.Goals as goal
 
 pub returns-clause-target : goal.returns-clause-target

@@ -1,8 +1,7 @@
 use Rattle.std.proofs.Common.{◌≡◌, ◌∙◌, ℕ, false, List, [], sym, ap}
 use Rattle.std.specs.Prelude.{codes}
 use Rattle.fluent_uri.specs.AuthorityTexts.{authority_text}
-use Rattle.fluent_uri.specs.BuilderParts.{AddsOrFails, BuilderParts, no_parts, parts_text}
-use Rattle.fluent_uri.specs.BuilderParts.{with_authority, with_path, with_query, with_fragment}
+use Rattle.fluent_uri.specs.BuilderParts.{AddsOrFails, BuilderParts, no_parts, parts_text, with_authority, with_path, with_query, with_fragment}
 use Rattle.fluent_uri.specs.BuilderStates.{contents_of, parts_in_state}
 use Rattle.fluent_uri.specs.EncodedTexts.{text_of}
 use Rattle.fluent_uri.proofs.Outcomes.{false-from-None-is-Some}

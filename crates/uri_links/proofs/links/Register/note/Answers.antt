@@ -1,12 +1,10 @@
 use Rattle.std.proofs.Common.{◌∙◌, ap, sym}
 use Rattle.std.proofs.lemmas.Result.{IfOk-weaker}
 use Rattle.fluent_uri.specs.Grammar.{uri}
-use Rattle.fluent_uri.specs.Uris.{uri_ref_text}
-use Rattle.fluent_uri.specs.Uris.{uri_text}
+use Rattle.fluent_uri.specs.Uris.{uri_ref_text, uri_text}
 use Rattle.uri_links.specs.Registers.{target_rules, texts_of}
 use Rattle.uri_links.proofs.InWords.{outcome_of-is-outcome}
-use Rattle.uri_links.proofs.Noted.{noted, normal-target-is-its-own-normal-text}
-use Rattle.uri_links.proofs.Noted.{outcome_of-without-target}
+use Rattle.uri_links.proofs.Noted.{noted, normal-target-is-its-own-normal-text, outcome_of-without-target}
 use Rattle.uri_links.proofs.links.Register.note.Goals as goal
 
 pub note_target-requires : goal.note_target-requires

@@ -1,6 +1,5 @@
 use Rattle.std.proofs.Common.{◌+◌, ◌∙◌, ap, map, take, refl, sym}
-use Rattle.fluent_uri.specs.Uris.{uri_ref_text}
-use Rattle.fluent_uri.specs.Uris.{uri_text}
+use Rattle.fluent_uri.specs.Uris.{uri_ref_text, uri_text}
 use Rattle.uri_links.specs.Registers.{target_rules, texts_of}
 use Rattle.uri_links.proofs.Ids.{ids-are-in-range}
 use Rattle.uri_links.proofs.Several.{prefix, first-outcomes-of-one-more, first-outcomes-of-none}

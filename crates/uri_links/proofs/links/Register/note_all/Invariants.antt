@@ -1,6 +1,5 @@
 use Rattle.std.proofs.Common.{◌≡◌, take, map}
-use Rattle.fluent_uri.specs.Uris.{uri_ref_text}
-use Rattle.fluent_uri.specs.Uris.{uri_text}
+use Rattle.fluent_uri.specs.Uris.{uri_ref_text, uri_text}
 use Rattle.uri_links.specs.Outcomes.{outcomes_of}
 use Rattle.uri_links.specs.Registers.{target_rules, texts_of}
 use Rattle.uri_links.proofs.links.Register.note_all.Given as goal

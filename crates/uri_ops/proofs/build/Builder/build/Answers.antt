@@ -3,9 +3,7 @@ use Rattle.std.specs.Prelude.{is_some}
 use Rattle.std.proofs.lemmas.Bool.{false≢true}
 use Rattle.uri_parts.specs.PackedPositions.{packed}
 use Rattle.uri_ops.specs.Built.{IsTextOfParts, refusal}
-use Rattle.uri_ops.proofs.Builders.Built.{built-draft-is-text-of-parts}
-use Rattle.uri_ops.proofs.Builders.Built.{built-positions-are-of-parts}
-use Rattle.uri_ops.proofs.Builders.Built.{built-text-is-of-kind, text-of-parts-is-accepted}
+use Rattle.uri_ops.proofs.Builders.Built.{built-draft-is-text-of-parts, built-positions-are-of-parts, built-text-is-of-kind, text-of-parts-is-accepted}
 use Rattle.uri_ops.proofs.build.Builder.build.Goals as goal
 
 pub make_owned-requires-clause-of_kind : goal.make_owned-requires-clause-of_kind

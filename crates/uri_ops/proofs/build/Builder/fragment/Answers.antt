@@ -1,12 +1,9 @@
 use Rattle.std.proofs.Common.{refl, ap, ◌∙◌}
 use Rattle.uri_ops.specs.BuilderParts.{with_fragment}
 use Rattle.uri_ops.specs.Builders.{draft_parts}
-use Rattle.uri_ops.proofs.Builders.BuilderDrafts.{step-adds-to-contents}
-use Rattle.uri_ops.proofs.Builders.BuilderDrafts.{valid-utf8-is-text-for-encoder}
+use Rattle.uri_ops.proofs.Builders.BuilderDrafts.{step-adds-to-contents, valid-utf8-is-text-for-encoder}
 use Rattle.uri_ops.proofs.Builders.DraftHosts.{host-range-stays-with-authority}
-use Rattle.uri_ops.proofs.Builders.PartRules.{parts-with-fragment-meet-rules}
-use Rattle.uri_ops.proofs.Builders.PartRules.{parts-with-fragment-are-in-order}
-use Rattle.uri_ops.proofs.Builders.PartRules.{before-fragment-lacks-fragment}
+use Rattle.uri_ops.proofs.Builders.PartRules.{parts-with-fragment-meet-rules, parts-with-fragment-are-in-order, before-fragment-lacks-fragment}
 use Rattle.uri_ops.proofs.build.Builder.fragment.Goals as goal
 
 pub with_fragment-requires : goal.with_fragment-requires

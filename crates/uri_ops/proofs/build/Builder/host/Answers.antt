@@ -4,11 +4,8 @@ use Rattle.uri_ops.specs.BuilderParts.{lacks_host_and_port, lacks_port, with_hos
 use Rattle.uri_ops.specs.Builders.{draft_parts}
 use Rattle.uri_ops.specs.HostParts.{IsHostText}
 use Rattle.uri_ops.proofs.Builders.BuilderGrowth.{host-extends-open-authority}
-use Rattle.uri_ops.proofs.Builders.DraftHosts.{host-range-after-host}
-use Rattle.uri_ops.proofs.Builders.DraftHosts.{host-range-of-longer-authority}
-use Rattle.uri_ops.proofs.Builders.PartRules.{parts-with-longer-authority-meet-rules}
-use Rattle.uri_ops.proofs.Builders.PartRules.{parts-with-longer-authority-are-in-order}
-use Rattle.uri_ops.proofs.Builders.PartRules.{in-order-parts-end-in-authority}
+use Rattle.uri_ops.proofs.Builders.DraftHosts.{host-range-after-host, host-range-of-longer-authority}
+use Rattle.uri_ops.proofs.Builders.PartRules.{parts-with-longer-authority-meet-rules, parts-with-longer-authority-are-in-order, in-order-parts-end-in-authority}
 use Rattle.uri_ops.proofs.Builders.BuilderDrafts.{step-adds-to-contents}
 use Rattle.uri_ops.proofs.build.Builder.host.Goals as goal
 

@@ -1,12 +1,9 @@
 use Rattle.std.proofs.Common.{refl, ap, ◌∙◌}
 use Rattle.uri_ops.specs.BuilderParts.{with_path}
 use Rattle.uri_ops.specs.Builders.{draft_parts, lacks_path}
-use Rattle.uri_ops.proofs.Builders.BuilderDrafts.{step-adds-to-contents}
-use Rattle.uri_ops.proofs.Builders.BuilderDrafts.{valid-utf8-is-text-for-encoder}
+use Rattle.uri_ops.proofs.Builders.BuilderDrafts.{step-adds-to-contents, valid-utf8-is-text-for-encoder}
 use Rattle.uri_ops.proofs.Builders.DraftHosts.{host-range-stays-with-authority}
-use Rattle.uri_ops.proofs.Builders.PartRules.{parts-with-path-meet-rules}
-use Rattle.uri_ops.proofs.Builders.PartRules.{parts-with-path-are-in-order}
-use Rattle.uri_ops.proofs.Builders.PartRules.{in-order-parts-pass-the-test}
+use Rattle.uri_ops.proofs.Builders.PartRules.{parts-with-path-meet-rules, parts-with-path-are-in-order, in-order-parts-pass-the-test}
 use Rattle.uri_ops.proofs.build.Builder.path.Goals as goal
 
 pub with_path-requires : goal.with_path-requires

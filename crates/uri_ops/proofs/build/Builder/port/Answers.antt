@@ -3,11 +3,8 @@ use Rattle.std.specs.Prelude.{unwrap_or}
 use Rattle.uri_ops.specs.BuilderParts.{lacks_port, with_port}
 use Rattle.uri_ops.specs.Builders.{any_authority, draft_parts}
 use Rattle.uri_ops.proofs.Builders.BuilderGrowth.{port-extends-open-authority}
-use Rattle.uri_ops.proofs.Builders.DraftHosts.{host-range-of-longer-authority}
-use Rattle.uri_ops.proofs.Builders.DraftHosts.{host-range-after-port}
-use Rattle.uri_ops.proofs.Builders.PartRules.{parts-with-longer-authority-meet-rules}
-use Rattle.uri_ops.proofs.Builders.PartRules.{parts-with-longer-authority-are-in-order}
-use Rattle.uri_ops.proofs.Builders.PartRules.{in-order-parts-end-in-authority}
+use Rattle.uri_ops.proofs.Builders.DraftHosts.{host-range-of-longer-authority, host-range-after-port}
+use Rattle.uri_ops.proofs.Builders.PartRules.{parts-with-longer-authority-meet-rules, parts-with-longer-authority-are-in-order, in-order-parts-end-in-authority}
 use Rattle.uri_ops.proofs.Builders.BuilderDrafts.{step-adds-to-contents}
 use Rattle.uri_ops.proofs.build.Builder.port.Goals as goal
 

@@ -1,12 +1,9 @@
 use Rattle.std.proofs.Common.{refl, ap, ◌∙◌}
 use Rattle.uri_ops.specs.BuilderParts.{with_query}
 use Rattle.uri_ops.specs.Builders.{draft_parts}
-use Rattle.uri_ops.proofs.Builders.BuilderDrafts.{step-adds-to-contents}
-use Rattle.uri_ops.proofs.Builders.BuilderDrafts.{valid-utf8-is-text-for-encoder}
+use Rattle.uri_ops.proofs.Builders.BuilderDrafts.{step-adds-to-contents, valid-utf8-is-text-for-encoder}
 use Rattle.uri_ops.proofs.Builders.DraftHosts.{host-range-stays-with-authority}
-use Rattle.uri_ops.proofs.Builders.PartRules.{parts-with-query-meet-rules}
-use Rattle.uri_ops.proofs.Builders.PartRules.{parts-with-query-are-in-order}
-use Rattle.uri_ops.proofs.Builders.PartRules.{path-last-lacks-query-and-fragment}
+use Rattle.uri_ops.proofs.Builders.PartRules.{parts-with-query-meet-rules, parts-with-query-are-in-order, path-last-lacks-query-and-fragment}
 use Rattle.uri_ops.proofs.build.Builder.query.Goals as goal
 
 pub with_query-requires : goal.with_query-requires

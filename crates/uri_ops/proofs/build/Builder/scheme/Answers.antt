@@ -1,12 +1,9 @@
 use Rattle.std.proofs.Common.{refl}
 use Rattle.uri_ops.specs.BuilderParts.{with_scheme}
 use Rattle.uri_ops.specs.Builders.{draft_parts}
-use Rattle.uri_ops.proofs.Builders.BuilderDrafts.{step-adds-to-contents}
-use Rattle.uri_ops.proofs.Builders.BuilderDrafts.{scheme-rule-gives-scheme-text}
+use Rattle.uri_ops.proofs.Builders.BuilderDrafts.{step-adds-to-contents, scheme-rule-gives-scheme-text}
 use Rattle.uri_ops.proofs.Builders.DraftHosts.{host-range-stays-with-authority}
-use Rattle.uri_ops.proofs.Builders.PartRules.{fresh-builder-lacks-all-parts}
-use Rattle.uri_ops.proofs.Builders.PartRules.{parts-with-scheme-meet-rules}
-use Rattle.uri_ops.proofs.Builders.PartRules.{parts-with-scheme-are-in-order}
+use Rattle.uri_ops.proofs.Builders.PartRules.{fresh-builder-lacks-all-parts, parts-with-scheme-meet-rules, parts-with-scheme-are-in-order}
 use Rattle.uri_ops.proofs.build.Builder.scheme.Goals as goal
 
 pub with_scheme-requires : goal.with_scheme-requires

@@ -5,11 +5,8 @@ use Rattle.uri_ops.specs.BuilderParts.{lacks_host_and_port, with_userinfo}
 use Rattle.uri_ops.specs.Builders.{draft_parts}
 use Rattle.uri_ops.specs.Dots.{is_empty}
 use Rattle.uri_ops.proofs.Builders.BuilderGrowth.{userinfo-extends-authority}
-use Rattle.uri_ops.proofs.Builders.DraftHosts.{host-range-of-longer-authority}
-use Rattle.uri_ops.proofs.Builders.DraftHosts.{host-range-after-userinfo}
-use Rattle.uri_ops.proofs.Builders.PartRules.{parts-with-longer-authority-meet-rules}
-use Rattle.uri_ops.proofs.Builders.PartRules.{parts-with-longer-authority-are-in-order}
-use Rattle.uri_ops.proofs.Builders.PartRules.{in-order-parts-end-in-authority}
+use Rattle.uri_ops.proofs.Builders.DraftHosts.{host-range-of-longer-authority, host-range-after-userinfo}
+use Rattle.uri_ops.proofs.Builders.PartRules.{parts-with-longer-authority-meet-rules, parts-with-longer-authority-are-in-order, in-order-parts-end-in-authority}
 use Rattle.uri_ops.proofs.Builders.BuilderDrafts.{step-adds-to-contents}
 use Rattle.uri_ops.proofs.build.Builder.userinfo.Goals as goal
 

@@ -3,11 +3,8 @@ use Rattle.uri_ops.specs.Builders.{draft_parts, lacks_authority}
 use Rattle.uri_ops.specs.BuilderParts.{with_authority}
 use Rattle.uri_ops.proofs.Builders.BuilderDrafts.{step-adds-to-contents}
 use Rattle.uri_ops.proofs.Builders.BuilderAuthorities.{empty-text-is-authority}
-use Rattle.uri_ops.proofs.Builders.DraftHosts.{host-range-of-new-authority}
-use Rattle.uri_ops.proofs.Builders.DraftHosts.{empty-authority-has-host-range}
-use Rattle.uri_ops.proofs.Builders.PartRules.{parts-with-authority-meet-rules}
-use Rattle.uri_ops.proofs.Builders.PartRules.{parts-with-begun-authority-are-in-order}
-use Rattle.uri_ops.proofs.Builders.PartRules.{in-order-parts-pass-the-test}
+use Rattle.uri_ops.proofs.Builders.DraftHosts.{host-range-of-new-authority, empty-authority-has-host-range}
+use Rattle.uri_ops.proofs.Builders.PartRules.{parts-with-authority-meet-rules, parts-with-begun-authority-are-in-order, in-order-parts-pass-the-test}
 use Rattle.uri_ops.proofs.build.Builder.with_authority_begun.Goals as goal
 
 pub with_authority-requires : goal.with_authority-requires

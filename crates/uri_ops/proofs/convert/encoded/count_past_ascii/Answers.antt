@@ -1,7 +1,6 @@
 use Rattle.std.proofs.Common.{arith, ap, length}
 use Rattle.uri_ops.proofs.AsciiForms.EncodedPaths.{encoding-of-nil-is-nil}
-use Rattle.uri_ops.proofs.AsciiForms.EncodedRuns.{ascii-byte-adds-one}
-use Rattle.uri_ops.proofs.AsciiForms.EncodedRuns.{byte-past-ascii-adds-three}
+use Rattle.uri_ops.proofs.AsciiForms.EncodedRuns.{ascii-byte-adds-one, byte-past-ascii-adds-three}
 use Rattle.uri_ops.proofs.convert.encoded.count_past_ascii.Goals as goal
 use Rattle.uri_ops.proofs.convert.encoded.count_past_ascii.Goals.{then-byte-ge128, else-byte-ge128}
 

@@ -8,8 +8,7 @@ use Rattle.uri_parts.specs.PackedPositions.{packed}
 use Rattle.uri_parts.specs.Positions.{ArePositionsOf}
 use Rattle.uri_ops.specs.Encoded.{encode_past_ascii}
 use Rattle.uri_ops.specs.Models.EncodedPlaces.{ArePositionsOrdered, positions_in_encoded}
-use Rattle.uri_ops.proofs.AsciiForms.EncodedPlaces.{encoded-positions-are-right}
-use Rattle.uri_ops.proofs.AsciiForms.EncodedPlaces.{positions-are-ordered}
+use Rattle.uri_ops.proofs.AsciiForms.EncodedPlaces.{encoded-positions-are-right, positions-are-ordered}
 use Rattle.uri_ops.proofs.AsciiForms.EncodedTokens.{encoded-text-is-utf8}
 use Rattle.uri_ops.proofs.convert.encoded.encoded.Goals as goal
 

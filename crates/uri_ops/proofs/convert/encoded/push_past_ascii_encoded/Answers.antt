@@ -1,11 +1,8 @@
-use Rattle.std.proofs.Common.{◌≡◌, ℕ, ◌+◌, ◌-◌, List, ◌++◌, length, take, drop, arith, ap, sym, ◌∙◌}
-use Rattle.std.proofs.Common.{append_assoc}
+use Rattle.std.proofs.Common.{◌≡◌, ℕ, ◌+◌, ◌-◌, List, ◌++◌, length, take, drop, arith, ap, sym, ◌∙◌, append_assoc}
 use Rattle.std.proofs.Math.Seq.{take-add}
 use Rattle.uri_ops.specs.Encoded.{encode_past_ascii}
 use Rattle.uri_ops.proofs.AsciiForms.EncodedPaths.{encoding-of-append-is-append}
-use Rattle.uri_ops.proofs.AsciiForms.EncodedRuns.{pushed-ascii-run-is-encoding}
-use Rattle.uri_ops.proofs.AsciiForms.EncodedRuns.{nothing-pushed-is-encoding}
-use Rattle.uri_ops.proofs.AsciiForms.EncodedRuns.{end-of-run-is-within-bytes, slice_from-is-drop}
+use Rattle.uri_ops.proofs.AsciiForms.EncodedRuns.{pushed-ascii-run-is-encoding, nothing-pushed-is-encoding, end-of-run-is-within-bytes, slice_from-is-drop}
 use Rattle.uri_ops.proofs.convert.encoded.push_past_ascii_encoded.Goals as goal
 
 pub loop-done-init : goal.loop-done-init

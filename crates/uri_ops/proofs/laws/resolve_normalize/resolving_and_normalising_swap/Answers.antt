@@ -1,5 +1,4 @@
-use Rattle.uri_ops.proofs.Theorems.{resolving-respects-meaning}
-use Rattle.uri_ops.proofs.Theorems.{normal-texts-resolve-to-same-meaning}
+use Rattle.uri_ops.proofs.Theorems.{resolving-respects-meaning, normal-texts-resolve-to-same-meaning}
 use Rattle.uri_ops.proofs.laws.resolve_normalize.resolving_and_normalising_swap.Goals as goal
 
 pub returns-clause-alike : goal.returns-clause-alike

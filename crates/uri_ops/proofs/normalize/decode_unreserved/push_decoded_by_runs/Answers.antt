@@ -6,10 +6,7 @@ use Rattle.uri_pct.specs.DecodeUnreserved.{decode_tokens}
 use Rattle.uri_pct.specs.Tables.{set_of}
 use Rattle.uri_pct.specs.Tokens.{tokens, print}
 use Rattle.uri_ops.specs.Models.Decodings.{lowered_if}
-use Rattle.uri_ops.proofs.Meanings.WrittenFormatting.{printed-lowered-decoding-is-utf8}
-use Rattle.uri_ops.proofs.Meanings.WrittenFormatting.{formatting-encoded-after-prefix}
-use Rattle.uri_ops.proofs.Meanings.WrittenFormatting.{encoding-formatting-completes-decoding}
-use Rattle.uri_ops.proofs.Meanings.WrittenFormatting.{decoding-without-formatting-is-complete}
+use Rattle.uri_ops.proofs.Meanings.WrittenFormatting.{printed-lowered-decoding-is-utf8, formatting-encoded-after-prefix, encoding-formatting-completes-decoding, decoding-without-formatting-is-complete}
 use Rattle.uri_ops.proofs.normalize.decode_unreserved.push_decoded_by_runs.Goals as goal
 
 pub encode_formatting-requires : goal.encode_formatting-requires

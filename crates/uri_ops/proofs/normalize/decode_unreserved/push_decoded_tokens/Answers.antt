@@ -2,9 +2,7 @@ use Rattle.std.proofs.Common.{◌≤◌, ◌++◌, refl, arith, length, string_b
 use Rattle.std.proofs.lemmas.Result.{on_ok_weaker}
 use Rattle.uri_pct.specs.Tables.{set_of}
 use Rattle.uri_ops.specs.Models.Decodings.{decoded_text}
-use Rattle.uri_ops.proofs.Meanings.DecodedPrefixes.{text-before-percent-is-literal-prefix}
-use Rattle.uri_ops.proofs.Meanings.DecodedPrefixes.{kept-prefix-is-kept-from-zero}
-use Rattle.uri_ops.proofs.Meanings.DecodedPrefixes.{last-prefix-is-pushed}
+use Rattle.uri_ops.proofs.Meanings.DecodedPrefixes.{text-before-percent-is-literal-prefix, kept-prefix-is-kept-from-zero, last-prefix-is-pushed}
 use Rattle.uri_ops.proofs.normalize.decode_unreserved.push_decoded_tokens.Goals as goal
 
 pub returns-then-first-text : goal.returns-then-first-text

@@ -1,5 +1,4 @@
-use Rattle.std.proofs.Common.{◌≡◌, ℕ, Bool, ◌&&◌, List, ◌++◌, cond, sym, ap, ◌∙◌, string_bytes}
-use Rattle.std.proofs.Common.{⊎_elim}
+use Rattle.std.proofs.Common.{◌≡◌, ℕ, Bool, ◌&&◌, List, ◌++◌, cond, sym, ap, ◌∙◌, string_bytes, ⊎_elim}
 use Rattle.std.specs.Str.{IsAscii}
 use Rattle.std.proofs.lemmas.Bool.{cases_Bool, cond-true, cond-false}
 use Rattle.std.proofs.lemmas.Str.{IsUtf8-from_ascii}
@@ -11,10 +10,7 @@ use Rattle.uri_pct.specs.Tokens.{IsValidFor, print}
 use Rattle.uri_ops.specs.Models.Decodings.{decoded_text, lowered_if}
 use Rattle.uri_ops.proofs.Meanings.AsciiSuffixes.{ascii-lacks-byte-E2}
 use Rattle.uri_ops.proofs.Meanings.DecodedPrefixes.{unset-flags-lack-past-ascii}
-use Rattle.uri_ops.proofs.Meanings.WrittenFormatting.{encoding-formatting-completes-decoding}
-use Rattle.uri_ops.proofs.Meanings.WrittenFormatting.{decoding-without-formatting-is-complete}
-use Rattle.uri_ops.proofs.Meanings.WrittenFormatting.{no-byte-E2-no-formatting}
-use Rattle.uri_ops.proofs.Meanings.WrittenFormatting.{text-without-formatting-stays}
+use Rattle.uri_ops.proofs.Meanings.WrittenFormatting.{encoding-formatting-completes-decoding, decoding-without-formatting-is-complete, no-byte-E2-no-formatting, text-without-formatting-stays}
 use Rattle.uri_ops.proofs.normalize.decode_unreserved.push_decoded_with_case.Goals as goal
 
 -- decoding: the text of a component, with formatting characters as octets if the set allows both

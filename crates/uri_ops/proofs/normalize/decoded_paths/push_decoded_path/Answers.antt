@@ -1,5 +1,4 @@
-use Rattle.std.proofs.Common.{◌≡◌, ◌++◌, true, length, rules, string_bytes, sym, subst, ap, ◌∙◌}
-use Rattle.std.proofs.Common.{lit<}
+use Rattle.std.proofs.Common.{◌≡◌, ◌++◌, true, length, rules, string_bytes, sym, subst, ap, ◌∙◌, lit<}
 use Rattle.std.specs.Prelude.{codes}
 use Rattle.std.proofs.lemmas.Bool.{not-false}
 use Rattle.std.proofs.lemmas.Str.{encode_ascii}
@@ -15,12 +14,8 @@ use Rattle.uri_ops.specs.Models.Directories.{IsDotlessDirectory}
 use Rattle.uri_ops.proofs.Meanings.AllowedParts.{is_set_text, set-text-from-utf8}
 use Rattle.uri_ops.proofs.Paths.DotLaws.{remove-dots-of-dotless, dotless-path-does-not-underflow}
 use Rattle.uri_ops.proofs.Paths.Piecewise.{decoding-keeps-slashes-and-dots}
-use Rattle.uri_ops.proofs.Paths.PushedPaths.{text-after-old-is-pushed-text}
-use Rattle.uri_ops.proofs.Paths.PushedPaths.{position-after-root-is-boundary, whole}
-use Rattle.uri_ops.proofs.Paths.WrittenPieces.{path-after-root-is-set-text}
-use Rattle.uri_ops.proofs.Paths.WrittenPieces.{root-is-dotless-directory}
-use Rattle.uri_ops.proofs.Paths.WrittenPieces.{root-and-decoded-rest-lose-dots-as-path}
-use Rattle.uri_ops.proofs.Paths.WrittenPieces.{root-and-decoded-rest-underflow-as-path}
+use Rattle.uri_ops.proofs.Paths.PushedPaths.{text-after-old-is-pushed-text, position-after-root-is-boundary, whole}
+use Rattle.uri_ops.proofs.Paths.WrittenPieces.{path-after-root-is-set-text, root-is-dotless-directory, root-and-decoded-rest-lose-dots-as-path, root-and-decoded-rest-underflow-as-path}
 use Rattle.uri_ops.proofs.normalize.decoded_paths.push_decoded_path.Goals as goal
 
 pub push_decoded-requires : goal.push_decoded-requires

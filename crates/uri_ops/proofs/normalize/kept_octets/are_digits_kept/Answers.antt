@@ -1,8 +1,6 @@
-use Rattle.std.proofs.Common.{◌≡◌, ℕ, ◌<◌, ◌||◌, Bool, true, false, not, cond, eqb, bit_and}
-use Rattle.std.proofs.Common.{get_or, refl, sym, ap, ◌∙◌, ⊎_elim, arith}
+use Rattle.std.proofs.Common.{◌≡◌, ℕ, ◌<◌, ◌||◌, Bool, true, false, not, cond, eqb, bit_and, get_or, refl, sym, ap, ◌∙◌, ⊎_elim, arith}
 use Rattle.std.specs.Int.Bits.{and_zero_l}
-use Rattle.std.proofs.lemmas.Bool.{agree_below, agree_below_at, cases_Bool, cond-false, cond-true}
-use Rattle.std.proofs.lemmas.Bool.{eqb-true}
+use Rattle.std.proofs.lemmas.Bool.{agree_below, agree_below_at, cases_Bool, cond-false, cond-true, eqb-true}
 use Rattle.uri_ops.specs.declared.normalize.kept_octets.TheConstants.{FIRST_DIGITS, SECOND_DIGITS}
 use Rattle.uri_ops.specs.Models.Unchanged.{is_kept_octet}
 use Rattle.uri_ops.proofs.normalize.kept_octets.are_digits_kept.Goals as goal

@@ -1,11 +1,9 @@
-use Rattle.std.proofs.Common.{◌≡◌, ◌∙◌, ◌<◌, ◌≤◌, Bool, true, ℕ, List, length, ap, sym, arith}
-use Rattle.std.proofs.Common.{⊎_elim}
+use Rattle.std.proofs.Common.{◌≡◌, ◌∙◌, ◌<◌, ◌≤◌, Bool, true, ℕ, List, length, ap, sym, arith, ⊎_elim}
 use Rattle.std.proofs.lemmas.Bool.{cases_lt}
 use Rattle.uri_ops.specs.Models.Unchanged.{stays_at}
 use Rattle.uri_ops.proofs.Normal.UnchangedBytes.{kept-dot-stays, literal-index-stays}
 use Rattle.uri_ops.proofs.normalize.kept_octets.is_kept.Goals as goal
-use Rattle.uri_ops.proofs.normalize.kept_octets.is_kept.Goals.{else-bytes-end-eq46}
-use Rattle.uri_ops.proofs.normalize.kept_octets.is_kept.Goals.{then-bytes-end-eq46+then-is_dot_kept}
+use Rattle.uri_ops.proofs.normalize.kept_octets.is_kept.Goals.{else-bytes-end-eq46, then-bytes-end-eq46+then-is_dot_kept}
 
 -- what normalising leaves from one index up to another
 record IsKeptRun (alone : Bool) (limit : ℕ) (bs : List ℕ) (start end : ℕ) : Type 0 where

@@ -2,10 +2,7 @@ use Rattle.std.proofs.Common.{◌≡◌, ◌+◌, ◌-◌, ◌≤◌, ◌<◌, �
 use Rattle.std.specs.Int.{trailing_zeros}
 use Rattle.uri_pct.proofs.LaneScans.LaneBits.{is_set_bit}
 use Rattle.uri_ops.specs.Models.Unchanged.{IsLiteralRun, is_literal_at}
-use Rattle.uri_ops.proofs.Normal.LiteralBlocks.{MarksIndices, first-bit-is-of-block}
-use Rattle.uri_ops.proofs.Normal.LiteralBlocks.{indices-before-first-bit-pass}
-use Rattle.uri_ops.proofs.Normal.LiteralBlocks.{indices-pass-where-mask-is-zero}
-use Rattle.uri_ops.proofs.Normal.LiteralBlocks.{shifted-mask-marks-later-indices}
+use Rattle.uri_ops.proofs.Normal.LiteralBlocks.{MarksIndices, first-bit-is-of-block, indices-before-first-bit-pass, indices-pass-where-mask-is-zero, shifted-mask-marks-later-indices}
 use Rattle.uri_ops.proofs.normalize.kept_octets.literal_end.Goals as goal
 
 -- what a block's mask says

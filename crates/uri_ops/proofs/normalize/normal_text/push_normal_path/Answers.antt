@@ -1,5 +1,4 @@
-use Rattle.std.proofs.Common.{rules, ◌≡◌, ◌++◌, ◌&&◌, false, true, length, sym, ap, ◌∙◌}
-use Rattle.std.proofs.Common.{string_bytes}
+use Rattle.std.proofs.Common.{rules, ◌≡◌, ◌++◌, ◌&&◌, false, true, length, sym, ap, ◌∙◌, string_bytes}
 use Rattle.std.specs.Prelude.{is_some}
 use Rattle.std.proofs.lemmas.Bool.{and_right}
 use Rattle.std.proofs.lemmas.Str.{IsUtf8-string_bytes}
@@ -8,14 +7,10 @@ use Rattle.uri_pct.specs.EncodedTexts.{text_of}
 use Rattle.uri_pct.specs.Tokens.{print}
 use Rattle.uri_parts.specs.Components.{starts}
 use Rattle.uri_ops.specs.Dots.{remove_dot_segments}
-use Rattle.uri_ops.proofs.Normal.NormalPieces.{path-with-dots-is-normal-when-decoded}
-use Rattle.uri_ops.proofs.Normal.NormalPieces.{pushed-path-without-dots-is-normal}
-use Rattle.uri_ops.proofs.Normal.NormalPieces.{absolute-is-leading-slash}
-use Rattle.uri_ops.proofs.Paths.GuardedPaths.{guard-inserted-before-path}
-use Rattle.uri_ops.proofs.Paths.GuardedPaths.{pushed-path-begins-at-boundary}
+use Rattle.uri_ops.proofs.Normal.NormalPieces.{path-with-dots-is-normal-when-decoded, pushed-path-without-dots-is-normal, absolute-is-leading-slash}
+use Rattle.uri_ops.proofs.Paths.GuardedPaths.{guard-inserted-before-path, pushed-path-begins-at-boundary}
 use Rattle.uri_ops.proofs.normalize.normal_text.push_normal_path.Goals as goal
-use Rattle.uri_ops.proofs.normalize.normal_text.push_normal_path.Goals.{then-not-has_scheme-via-then-not-has_scheme}
-use Rattle.uri_ops.proofs.normalize.normal_text.push_normal_path.Goals.{then-not-has_scheme-via-else-not-has_scheme+then-not-is_absolute}
+use Rattle.uri_ops.proofs.normalize.normal_text.push_normal_path.Goals.{then-not-has_scheme-via-then-not-has_scheme, then-not-has_scheme-via-else-not-has_scheme+then-not-is_absolute}
 
 pub returns-then-not-has_scheme-clause-text : goal.returns-then-not-has_scheme-clause-text
 returns-then-not-has_scheme-clause-text g c = λ scheme authority s a.

@@ -1,5 +1,4 @@
-use Rattle.std.proofs.Common.{◌≡◌, [], ◌+◌, ◌++◌, codes, length, sym, ap, ◌∙◌, option_map, rules}
-use Rattle.std.proofs.Common.{string_bytes, subst}
+use Rattle.std.proofs.Common.{◌≡◌, [], ◌+◌, ◌++◌, codes, length, sym, ap, ◌∙◌, option_map, rules, string_bytes, subst}
 use Rattle.std.specs.Prelude.{is_some}
 use Rattle.std.specs.Str.{IsUtf8}
 use Rattle.uri_parts.specs.AuthorityTexts.{authority_text}
@@ -7,9 +6,7 @@ use Rattle.uri_parts.specs.Schemes.{scheme_text}
 use Rattle.uri_parts.specs.Components.{components, marked}
 use Rattle.uri_parts.specs.PackedPositions.{packed}
 use Rattle.uri_ops.specs.Meaning.{authority_meaning, meaning_of}
-use Rattle.uri_ops.specs.Normal.{default_port_of, normal_authority_with_delimiter, normal_authority}
-use Rattle.uri_ops.specs.Normal.{normal_part, normal_parts, normal_path_text, normal_scheme}
-use Rattle.uri_ops.specs.Normal.{normal_text, path_underflows}
+use Rattle.uri_ops.specs.Normal.{default_port_of, normal_authority_with_delimiter, normal_authority, normal_part, normal_parts, normal_path_text, normal_scheme, normal_text, path_underflows}
 use Rattle.uri_ops.specs.Normalizers.{text_underflows}
 use Rattle.uri_ops.specs.Models.Written.{authority_parts_at}
 use Rattle.uri_ops.proofs.Builders.BuilderGrowth.{string_len-is-length-of-bytes}

@@ -1,5 +1,4 @@
-use Rattle.std.proofs.Common.{◌≡◌, ◌++◌, ◌+◌, ◌*◌, List, ℕ, drop, ap, ◌∙◌, append_assoc, arith}
-use Rattle.std.proofs.Common.{refl, string_bytes}
+use Rattle.std.proofs.Common.{◌≡◌, ◌++◌, ◌+◌, ◌*◌, List, ℕ, drop, ap, ◌∙◌, append_assoc, arith, refl, string_bytes}
 use Rattle.uri_ops.specs.Models.Decodings.{decoded_text}
 use Rattle.std.proofs.lemmas.Str.{IsUtf8-from_ascii}
 use Rattle.uri_ops.proofs.normalize.octet_runs.push_blocks.Goals as goal

@@ -1,9 +1,6 @@
-use Rattle.std.proofs.Common.{◌≡◌, ℕ, ◌<◌, ◌≤◌, Bool, true, false, ◌&&◌, List, cond, eqb, ltb, not}
-use Rattle.std.proofs.Common.{get_or, refl, sym, subst, ◌∙◌, arith, ⊎_elim}
-use Rattle.std.proofs.lemmas.Bool.{agree_below_at, and_parts, cases_Bool, cond-true, cond-false}
-use Rattle.std.proofs.lemmas.Bool.{eqb-true, ltb-true, ltb-false}
-use Rattle.uri_ops.specs.declared.normalize.short_components.TheConstants.{CHARACTERS}
-use Rattle.uri_ops.specs.declared.normalize.short_components.TheConstants.{LOWERED_CHARACTERS}
+use Rattle.std.proofs.Common.{◌≡◌, ℕ, ◌<◌, ◌≤◌, Bool, true, false, ◌&&◌, List, cond, eqb, ltb, not, get_or, refl, sym, subst, ◌∙◌, arith, ⊎_elim}
+use Rattle.std.proofs.lemmas.Bool.{agree_below_at, and_parts, cases_Bool, cond-true, cond-false, eqb-true, ltb-true, ltb-false}
+use Rattle.uri_ops.specs.declared.normalize.short_components.TheConstants.{CHARACTERS, LOWERED_CHARACTERS}
 use Rattle.uri_ops.specs.Models.Decodings.{lowered_code_if}
 use Rattle.uri_ops.proofs.Meanings.UnreservedCodes.{lowered-code-of-ascii-is-ascii}
 use Rattle.uri_ops.proofs.normalize.short_components.character.Goals as goal

@@ -1,5 +1,4 @@
-use Rattle.std.proofs.Common.{◌≡◌, ◌++◌, ◌≤◌, [], take, drop, length, sym, ap, subst, ◌∙◌, arith}
-use Rattle.std.proofs.Common.{append-nil, string_bytes}
+use Rattle.std.proofs.Common.{◌≡◌, ◌++◌, ◌≤◌, [], take, drop, length, sym, ap, subst, ◌∙◌, arith, append-nil, string_bytes}
 use Rattle.std.specs.Str.{IsAscii, IsUtf8}
 use Rattle.uri_ops.specs.Models.Decodings.{decoded_text}
 use Rattle.uri_ops.proofs.Meanings.AsciiSuffixes.{ascii-suffix-keeps-utf8, suffix-and-rest-are-text}

@@ -1,5 +1,4 @@
-use Rattle.std.proofs.Common.{◌≡◌, ℕ, List, ◌+◌, ◌*◌, ◌++◌, ◌∷◌, [], ◌<◌, ◌⊎◌, inl, inr, Bool, true}
-use Rattle.std.proofs.Common.{false, get_or, drop, length, refl, sym, ap, subst, ◌∙◌, arith}
+use Rattle.std.proofs.Common.{◌≡◌, ℕ, List, ◌+◌, ◌*◌, ◌++◌, ◌∷◌, [], ◌<◌, ◌⊎◌, inl, inr, Bool, true, false, get_or, drop, length, refl, sym, ap, subst, ◌∙◌, arith}
 use Rattle.std.specs.Char.{digit_value}
 use Rattle.std.proofs.lemmas.Bool.{and_parts, ltb-true, not-true}
 use Rattle.std.proofs.lemmas.Str.{IsCharBoundary-start}
@@ -8,15 +7,12 @@ use Rattle.uri_pct.specs.DecodeUnreserved.{decode_octet}
 use Rattle.uri_pct.specs.Tokens.{Octet, print}
 use Rattle.uri_pct.specs.Chunks.{widest_set}
 use Rattle.uri_pct.specs.Sets.{TableSet}
-use Rattle.uri_ops.specs.Models.Decodings.{decoded_text, lowered_code_if, lowered_if}
-use Rattle.uri_ops.specs.Models.Decodings.{lowered_text_if}
-use Rattle.uri_ops.proofs.Meanings.AsciiSuffixes.{digits-are-of-byte, longer-suffix-is-ascii}
-use Rattle.uri_ops.proofs.Meanings.AsciiSuffixes.{no-suffix-is-ascii, octet-decoded-alone-is-ascii}
+use Rattle.uri_ops.specs.Models.Decodings.{decoded_text, lowered_code_if, lowered_if, lowered_text_if}
+use Rattle.uri_ops.proofs.Meanings.AsciiSuffixes.{digits-are-of-byte, longer-suffix-is-ascii, no-suffix-is-ascii, octet-decoded-alone-is-ascii}
 use Rattle.uri_ops.proofs.Meanings.DecodedPrefixes.{character_step, decoded-octet-is-pushed}
 use Rattle.uri_ops.proofs.Meanings.UnreservedCodes.{lowered-code-of-ascii-is-ascii}
 use Rattle.uri_ops.proofs.normalize.short_components.push_short_bytes.Goals as goal
-use Rattle.uri_ops.proofs.normalize.short_components.push_short_bytes.Goals.{else-high-ge56-via-then-high-ge56+else-not-alone}
-use Rattle.uri_ops.proofs.normalize.short_components.push_short_bytes.Goals.{else-high-ge56-via-else-high-ge56}
+use Rattle.uri_ops.proofs.normalize.short_components.push_short_bytes.Goals.{else-high-ge56-via-then-high-ge56+else-not-alone, else-high-ge56-via-else-high-ge56}
 
 -- short components: an ASCII character, in lower case if lowers
 character-is-lowered-text : (lowers : Bool) (b : ℕ)

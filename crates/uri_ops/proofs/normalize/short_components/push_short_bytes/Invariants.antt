@@ -1,5 +1,4 @@
-use Rattle.std.proofs.Common.{◌≡◌, ◌+◌, ◌-◌, ◌≤◌, ◌++◌, length, drop, take, true, vec_capacity}
-use Rattle.std.proofs.Common.{vec_len}
+use Rattle.std.proofs.Common.{◌≡◌, ◌+◌, ◌-◌, ◌≤◌, ◌++◌, length, drop, take, true, vec_capacity, vec_len}
 use Rattle.std.specs.Str.{IsAscii, IsCharBoundary}
 use Rattle.uri_pct.specs.Chunks.{widest_set}
 use Rattle.uri_pct.specs.DecodeUnreserved.{LacksPastAscii}

@@ -1,27 +1,20 @@
-use Rattle.std.proofs.Common.{◌≡◌, ℕ, zero, suc, ◌+◌, ◌-◌, ◌*◌, ◌/◌, ◌%◌, ◌<◌, ◌≤◌, Bool, true}
-use Rattle.std.proofs.Common.{false, not, ◌||◌, ◌==◌, List, [], ◌∷◌, ◌++◌, length, take, drop}
-use Rattle.std.proofs.Common.{replicate, flat_map, refl, sym, ap, subst, ◌∙◌, arith, inl, inr}
-use Rattle.std.proofs.Common.{append_assoc, length-append, add-one, le-leb, lt-ltb, ne_eqb}
+use Rattle.std.proofs.Common.{◌≡◌, ℕ, zero, suc, ◌+◌, ◌-◌, ◌*◌, ◌/◌, ◌%◌, ◌<◌, ◌≤◌, Bool, true, false, not, ◌||◌, ◌==◌, List, [], ◌∷◌, ◌++◌, length, take, drop, replicate, flat_map, refl, sym, ap, subst, ◌∙◌, arith, inl, inr, append_assoc, length-append, add-one, le-leb, lt-ltb, ne_eqb}
 use Rattle.std.specs.Prelude.{codes, decimal, bytes_eq, ⊤, Option, Some, None}
 use Rattle.std.specs.Char.{digit_value, digit_char, to_ascii_lowercase}
 use Rattle.std.specs.Str.{str_to_ascii_lowercase}
 use Rattle.std.specs.Net.Grammar.{IsDotted, IsGroup, IsGroupsAfter, IsGroups, IsColonHex, IsElided}
-use Rattle.std.specs.Net.Text.{hex, groups_text, zero_run, longest_zero_run, compressed_text}
-use Rattle.std.specs.Net.Text.{hex_groups_text, ipv6_text}
-use Rattle.std.proofs.lemmas.Bool.{and_parts, and_from, cond-true, cond-false, leb-true, lt-leb}
-use Rattle.std.proofs.lemmas.Bool.{true≢false}
+use Rattle.std.specs.Net.Text.{hex, groups_text, zero_run, longest_zero_run, compressed_text, hex_groups_text, ipv6_text}
+use Rattle.std.proofs.lemmas.Bool.{and_parts, and_from, cond-true, cond-false, leb-true, lt-leb, true≢false}
 use Rattle.std.proofs.lemmas.Bool.Decides.{nat_tests}
 use Rattle.std.proofs.lemmas.List.{drop_all, drop_at, length-replicate, take_at}
 use Rattle.std.proofs.lemmas.Slice.Eq.{bytes_eq-Decides}
 use Rattle.uri_pct.specs.Sets.{TableSet}
 use Rattle.uri_parts.specs.Components.{starts}
-use Rattle.uri_parts.specs.Hosts.{bracketed, host_kind, ipv6_value, is_host, literal_kind}
-use Rattle.uri_parts.specs.Hosts.{literal_of}
+use Rattle.uri_parts.specs.Hosts.{bracketed, host_kind, ipv6_value, is_host, literal_kind, literal_of}
 use Rattle.uri_parts.proofs.HostForms.Addresses.{ipv6_value-sound}
 use Rattle.uri_ops.specs.Meaning.{host_meaning}
 use Rattle.uri_ops.specs.Normal.{host_text}
-use Rattle.uri_ops.proofs.normalize.unchanged.is_address_unchanged.Invariants.{unusual, usual}
-use Rattle.uri_ops.proofs.normalize.unchanged.is_address_unchanged.Invariants.{colons_of}
+use Rattle.uri_ops.proofs.normalize.unchanged.is_address_unchanged.Invariants.{unusual, usual, colons_of}
 use Rattle.uri_ops.proofs.normalize.unchanged.is_address_unchanged.Goals as goal
 
 -- normal addresses: a text of usual bytes has usual bytes in its prefix and in its suffix

@@ -1,7 +1,6 @@
 use Rattle.std.proofs.Common.{arith, refl}
 use Rattle.std.proofs.lemmas.Bool.{leb-true}
-use Rattle.uri_ops.proofs.Normal.SettledPrefixes.{run-of-settled-bytes-is-literal}
-use Rattle.uri_ops.proofs.Normal.SettledPrefixes.{run-of-settled-bytes-is-settled-prefix}
+use Rattle.uri_ops.proofs.Normal.SettledPrefixes.{run-of-settled-bytes-is-literal, run-of-settled-bytes-is-settled-prefix}
 use Rattle.uri_ops.proofs.normalize.unchanged.is_prefix_settled.Goals as goal
 
 pub returns-clause-settled : goal.returns-clause-settled

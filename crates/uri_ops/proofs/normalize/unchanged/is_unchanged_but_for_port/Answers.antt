@@ -7,12 +7,10 @@ use Rattle.uri_parts.specs.CoreTexts.{core_text}
 use Rattle.uri_parts.specs.Positions.{positions_of}
 use Rattle.uri_ops.specs.Models.Unchanged.{AreUnchanged, IsKept, IsUnchangedPrefix, stays_at}
 use Rattle.uri_ops.specs.Normalizers.{text_underflows}
-use Rattle.uri_ops.proofs.Normal.UnchangedPaths.{path-of-text-that-stays-is-unchanged}
-use Rattle.uri_ops.proofs.Normal.UnchangedPaths.{text-that-stays-is-kept}
+use Rattle.uri_ops.proofs.Normal.UnchangedPaths.{path-of-text-that-stays-is-unchanged, text-that-stays-is-kept}
 use Rattle.uri_ops.proofs.Normal.UnchangedTexts.{unchanged-text-is-its-normal-text}
 use Rattle.uri_ops.proofs.normalize.unchanged.is_unchanged_but_for_port.Goals as goal
-use Rattle.uri_ops.proofs.normalize.unchanged.is_unchanged_but_for_port.Goals.{then-has_scheme}
-use Rattle.uri_ops.proofs.normalize.unchanged.is_unchanged_but_for_port.Goals.{else-has_scheme}
+use Rattle.uri_ops.proofs.normalize.unchanged.is_unchanged_but_for_port.Goals.{then-has_scheme, else-has_scheme}
 
 kept : (g : _) (c : goal.After-is_kept g) → c.is_kept.result ≡ true
     → IsKept c.lacks_past_ascii.result (core_text c.args.core)

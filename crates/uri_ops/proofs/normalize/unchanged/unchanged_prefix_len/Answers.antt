@@ -1,5 +1,4 @@
-use Rattle.std.proofs.Common.{◌≡◌, ◌++◌, ◌≤◌, List, ℕ, [], true, length, take, sym, ap, ◌∙◌, subst}
-use Rattle.std.proofs.Common.{arith}
+use Rattle.std.proofs.Common.{◌≡◌, ◌++◌, ◌≤◌, List, ℕ, [], true, length, take, sym, ap, ◌∙◌, subst, arith}
 use Rattle.std.specs.Prelude.{IfSome, Some, codes, slice_index}
 use Rattle.std.specs.List.{list_all}
 use Rattle.std.specs.Str.{IsUtf8}
@@ -14,8 +13,7 @@ use Rattle.uri_parts.proofs.Splitting.Recompose.{recompose-components}
 use Rattle.uri_ops.specs.Models.Unchanged.{is_literal_byte, is_settled_byte}
 use Rattle.uri_ops.proofs.Meanings.TextParts.{ArePartsOfKind}
 use Rattle.uri_ops.proofs.Normal.NormalTexts.{text-has-parts-of-kind}
-use Rattle.uri_ops.proofs.Normal.SettledPrefixes.{host-ends-before-path}
-use Rattle.uri_ops.proofs.Normal.SettledPrefixes.{settled-prefix-keeps-scheme-and-host}
+use Rattle.uri_ops.proofs.Normal.SettledPrefixes.{host-ends-before-path, settled-prefix-keeps-scheme-and-host}
 use Rattle.uri_ops.proofs.normalize.unchanged.unchanged_prefix_len.Goals as goal
 
 pub returns-then-is_prefix_settled : goal.returns-then-is_prefix_settled

@@ -2,10 +2,7 @@ use Rattle.std.proofs.Common.{rules, subst, sym, ap, ◌∙◌, inr}
 use Rattle.std.proofs.Math.Seq.{take-length}
 use Rattle.uri_ops.specs.Dots.{EndsInSlash, remove_dot_segments, underflows}
 use Rattle.uri_ops.proofs.Paths.DotLaws.{directory-underflows-as-path}
-use Rattle.uri_ops.proofs.Paths.LastSlashes.{position-after-slash-is-boundary}
-use Rattle.uri_ops.proofs.Paths.LastSlashes.{trailing-double-dot-ends-in-no-slash}
-use Rattle.uri_ops.proofs.Paths.LastSlashes.{trailing-double-dot-path-is-its-directory}
-use Rattle.uri_ops.proofs.Paths.LastSlashes.{prefix-with-last-slash-is-directory}
+use Rattle.uri_ops.proofs.Paths.LastSlashes.{position-after-slash-is-boundary, trailing-double-dot-ends-in-no-slash, trailing-double-dot-path-is-its-directory, prefix-with-last-slash-is-directory}
 use Rattle.uri_ops.proofs.path.dot_segments.directory_end.Goals as goal
 
 pub range_from-requires : goal.range_from-requires

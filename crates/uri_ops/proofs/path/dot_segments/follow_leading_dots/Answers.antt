@@ -2,13 +2,8 @@ use Rattle.std.proofs.Common.{◌++◌, ◌||◌, sym, ap, ◌∙◌, refl, subs
 use Rattle.uri_ops.specs.Models.Directories.{IsDotlessDirectory, parent_directory}
 use Rattle.uri_ops.specs.Models.LeadingSegments.{begins_with_dot}
 use Rattle.uri_ops.proofs.Paths.DotStarts.{path-without-leading-dot-begins-with-none}
-use Rattle.uri_ops.proofs.Paths.LeftPaths.{removal-state-of-equals, removal-passes-double-dot}
-use Rattle.uri_ops.proofs.Paths.LeftPaths.{removal-passes-single-dot}
-use Rattle.uri_ops.proofs.Paths.ClimbedDirectories.{path-beginning-with-dot-is-not-empty}
-use Rattle.uri_ops.proofs.Paths.ClimbedDirectories.{parent-of-directory-is-directory}
-use Rattle.uri_ops.proofs.Paths.ClimbedDirectories.{prefix-of-prefix-is-prefix}
-use Rattle.uri_ops.proofs.Paths.ClimbedDirectories.{rest-of-suffix-is-suffix}
-use Rattle.uri_ops.proofs.Paths.ClimbedDirectories.{directory-of-one-byte-is-root}
+use Rattle.uri_ops.proofs.Paths.LeftPaths.{removal-state-of-equals, removal-passes-double-dot, removal-passes-single-dot}
+use Rattle.uri_ops.proofs.Paths.ClimbedDirectories.{path-beginning-with-dot-is-not-empty, parent-of-directory-is-directory, prefix-of-prefix-is-prefix, rest-of-suffix-is-suffix, directory-of-one-byte-is-root}
 use Rattle.uri_ops.proofs.path.dot_segments.follow_leading_dots.Goals as goal
 
 pub loop-next-preserved-in-SingleDot : goal.loop-next-preserved-in-SingleDot

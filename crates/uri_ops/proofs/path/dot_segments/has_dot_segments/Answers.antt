@@ -1,5 +1,4 @@
-use Rattle.std.proofs.Common.{not, ◌≡◌, ◌<◌, ◌+◌, ◌++◌, length, take, drop, false, arith, refl, sym}
-use Rattle.std.proofs.Common.{ap, subst, ◌∙◌}
+use Rattle.std.proofs.Common.{not, ◌≡◌, ◌<◌, ◌+◌, ◌++◌, length, take, drop, false, arith, refl, sym, ap, subst, ◌∙◌}
 use Rattle.std.specs.Str.{IsCharBoundary}
 use Rattle.std.proofs.lemmas.List.{drop-drop}
 use Rattle.std.proofs.lemmas.Str.{IsCharBoundary-from_rest}
@@ -8,12 +7,9 @@ use Rattle.uri_ops.specs.Dots.{is_double_dot, is_single_dot}
 use Rattle.uri_ops.specs.Models.Directories.{RemovalState}
 use Rattle.uri_ops.specs.Models.LeadingSegments.{DescribesLeadingDots}
 use Rattle.uri_ops.proofs.Paths.DotStarts.{path-without-leading-dot-begins-with-none}
-use Rattle.uri_ops.proofs.Paths.FoundDotSegments.{dot-segment-before-rest-is-in-path}
-use Rattle.uri_ops.proofs.Paths.FoundDotSegments.{double-dot-is-dot-segment}
-use Rattle.uri_ops.proofs.Paths.FoundDotSegments.{single-dot-is-dot-segment}
+use Rattle.uri_ops.proofs.Paths.FoundDotSegments.{dot-segment-before-rest-is-in-path, double-dot-is-dot-segment, single-dot-is-dot-segment}
 use Rattle.uri_ops.proofs.Paths.LeftPaths.{removal-state-of-equals, removal-passes-dotless-prefix}
-use Rattle.uri_ops.proofs.Paths.PushedPaths.{absolute-path-begins-with-no-dot}
-use Rattle.uri_ops.proofs.Paths.PushedPaths.{removal-begins-after-dotless-prefix}
+use Rattle.uri_ops.proofs.Paths.PushedPaths.{absolute-path-begins-with-no-dot, removal-begins-after-dotless-prefix}
 use Rattle.uri_ops.proofs.path.dot_segments.has_dot_segments.Goals as goal
 
 pub loop-done-init : goal.loop-done-init

@@ -1,10 +1,8 @@
-use Rattle.std.proofs.Common.{◌≡◌, ◌≤◌, ◌<◌, ◌+◌, ◌-◌, ◌^◌, drop, inr, length, ap, subst, sym}
-use Rattle.std.proofs.Common.{◌∙◌, arith}
+use Rattle.std.proofs.Common.{◌≡◌, ◌≤◌, ◌<◌, ◌+◌, ◌-◌, ◌^◌, drop, inr, length, ap, subst, sym, ◌∙◌, arith}
 use Rattle.uri_pct.proofs.LaneScans.LaneBits.{equality_mask_is_below_2_16}
 use Rattle.uri_ops.specs.Dots.{has_slash}
 use Rattle.uri_ops.proofs.Paths.LastSlashes.{prefix-to-last-slash}
-use Rattle.uri_ops.proofs.Paths.SlashBlocks.{last-lane-of-block-is-last-slash}
-use Rattle.uri_ops.proofs.Paths.SlashBlocks.{zero-mask-block-extends-slashless-suffix}
+use Rattle.uri_ops.proofs.Paths.SlashBlocks.{last-lane-of-block-is-last-slash, zero-mask-block-extends-slashless-suffix}
 use Rattle.uri_ops.proofs.path.dot_segments.last_slash.Goals as goal
 
 pub last_lane-requires-clause-below : goal.last_lane-requires-clause-below

@@ -1,7 +1,6 @@
 use Rattle.std.proofs.Common.{◌≡◌, ◌+◌, ◌-◌, drop, ap, ◌∙◌, arith}
 use Rattle.uri_ops.specs.Dots.{has_slash}
-use Rattle.uri_ops.proofs.Paths.LastSlashes.{prefix-to-last-slash, prefix-without-slash-after-start}
-use Rattle.uri_ops.proofs.Paths.LastSlashes.{slashless-suffix-stays-slashless}
+use Rattle.uri_ops.proofs.Paths.LastSlashes.{prefix-to-last-slash, prefix-without-slash-after-start, slashless-suffix-stays-slashless}
 use Rattle.uri_ops.proofs.path.dot_segments.last_slash_before.Goals as goal
 
 pub returns-then-bytes-end-eq47-clause-prefix : goal.returns-then-bytes-end-eq47-clause-prefix

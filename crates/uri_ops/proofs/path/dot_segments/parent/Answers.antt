@@ -1,8 +1,7 @@
 use Rattle.std.proofs.Common.{◌≡◌, ◌+◌, ◌-◌, length, take, ap, ◌∙◌, arith}
 use Rattle.std.proofs.lemmas.Str.{IsCharBoundary-after_ascii}
 use Rattle.uri_ops.proofs.Paths.ClimbedDirectories.{first-bytes-are-prefix}
-use Rattle.uri_ops.proofs.Paths.LastSlashes.{popped-directory-is-parent}
-use Rattle.uri_ops.proofs.Paths.LastSlashes.{slash-before-popped-segment}
+use Rattle.uri_ops.proofs.Paths.LastSlashes.{popped-directory-is-parent, slash-before-popped-segment}
 use Rattle.uri_ops.proofs.Paths.LeftPaths.{slice-from-zero-is-prefix}
 use Rattle.uri_ops.proofs.path.dot_segments.parent.Goals as goal
 

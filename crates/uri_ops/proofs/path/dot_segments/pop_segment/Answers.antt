@@ -1,8 +1,6 @@
 use Rattle.std.proofs.Common.{◌≡◌, ◌-◌, length, take, sym, ap, ◌∙◌, arith, string_bytes}
 use Rattle.std.proofs.lemmas.Str.{IsCharBoundary-after_ascii, IsUtf8-string_bytes}
-use Rattle.uri_ops.proofs.Paths.LastSlashes.{popped-directory-is-parent}
-use Rattle.uri_ops.proofs.Paths.LastSlashes.{slash-before-popped-segment}
-use Rattle.uri_ops.proofs.Paths.LastSlashes.{root-directory-has-no-segment}
+use Rattle.uri_ops.proofs.Paths.LastSlashes.{popped-directory-is-parent, slash-before-popped-segment, root-directory-has-no-segment}
 use Rattle.uri_ops.proofs.path.dot_segments.pop_segment.Goals as goal
 
 pub truncate-requires : goal.truncate-requires

@@ -1,7 +1,5 @@
 use Rattle.std.proofs.Common.{◌≡◌, length, rules, string_bytes}
-use Rattle.uri_ops.proofs.Paths.ClimbedDirectories.{pushed-directory-is-directory}
-use Rattle.uri_ops.proofs.Paths.ClimbedDirectories.{pushed-path-is-without-dots}
-use Rattle.uri_ops.proofs.Paths.ClimbedDirectories.{remaining-path-underflows-as-path}
+use Rattle.uri_ops.proofs.Paths.ClimbedDirectories.{pushed-directory-is-directory, pushed-path-is-without-dots, remaining-path-underflows-as-path}
 use Rattle.uri_ops.proofs.path.dot_segments.push_after_directory.Goals as goal
 
 pub push_after_first_segment-requires-clause-directory

@@ -1,12 +1,6 @@
 use Rattle.std.proofs.Common.{◌<◌, arith, length, refl, string_bytes, sym, ◌∙◌}
-use Rattle.uri_ops.proofs.Paths.LeftPaths.{slice-from-zero-is-prefix}
-use Rattle.uri_ops.proofs.Paths.LeftPaths.{rest-of-nonzero-length-has-bytes}
-use Rattle.uri_ops.proofs.Paths.ClimbedDirectories.{pushed-dotless-prefix-is-directory}
-use Rattle.uri_ops.proofs.Paths.ClimbedDirectories.{dotless-whole-path-ends-removal}
-use Rattle.uri_ops.proofs.Paths.ClimbedDirectories.{empty-path-leaves-directory}
-use Rattle.uri_ops.proofs.Paths.ClimbedDirectories.{removal-of-rest-completes-path}
-use Rattle.uri_ops.proofs.Paths.ClimbedDirectories.{underflow-of-rest-is-of-path}
-use Rattle.uri_ops.proofs.Paths.ClimbedDirectories.{appending-keeps-text-before-start}
+use Rattle.uri_ops.proofs.Paths.LeftPaths.{slice-from-zero-is-prefix, rest-of-nonzero-length-has-bytes}
+use Rattle.uri_ops.proofs.Paths.ClimbedDirectories.{pushed-dotless-prefix-is-directory, dotless-whole-path-ends-removal, empty-path-leaves-directory, removal-of-rest-completes-path, underflow-of-rest-is-of-path, appending-keeps-text-before-start}
 use Rattle.uri_ops.proofs.Paths.Piecewise.{identity-keeps-slashes-and-dots}
 use Rattle.uri_ops.proofs.path.dot_segments.push_after_first_segment.Goals as goal
 

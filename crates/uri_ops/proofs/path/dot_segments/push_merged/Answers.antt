@@ -1,10 +1,6 @@
 use Rattle.std.proofs.Common.{◌≡◌, length, rules, string_bytes}
 use Rattle.uri_ops.proofs.Paths.LeftPaths.{slice-from-zero-is-prefix}
-use Rattle.uri_ops.proofs.Paths.PushedPaths.{pushed-base-directory-is-dotless-directory}
-use Rattle.uri_ops.proofs.Paths.PushedPaths.{prefix-loses-dots-as-directory}
-use Rattle.uri_ops.proofs.Paths.PushedPaths.{prefix-underflows-as-directory}
-use Rattle.uri_ops.proofs.Paths.PushedPaths.{pushed-merged-path-loses-its-dots}
-use Rattle.uri_ops.proofs.Paths.PushedPaths.{base-or-rest-underflows-as-merged-path}
+use Rattle.uri_ops.proofs.Paths.PushedPaths.{pushed-base-directory-is-dotless-directory, prefix-loses-dots-as-directory, prefix-underflows-as-directory, pushed-merged-path-loses-its-dots, base-or-rest-underflows-as-merged-path}
 use Rattle.uri_ops.proofs.Paths.Piecewise.{identity-keeps-slashes-and-dots}
 use Rattle.uri_ops.proofs.path.dot_segments.push_merged.Goals as goal
 

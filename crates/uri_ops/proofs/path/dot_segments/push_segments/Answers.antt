@@ -1,16 +1,7 @@
 use Rattle.std.proofs.Common.{◌++◌, ◌||◌, drop, string_bytes, sym, ap, ◌∙◌, refl}
 use Rattle.uri_ops.specs.Models.Directories.{parent_directory}
-use Rattle.uri_ops.proofs.Paths.LeftPaths.{replacing-keeps-text-to-start}
-use Rattle.uri_ops.proofs.Paths.LeftPaths.{appending-keeps-text-to-start, slice-from-zero-is-prefix}
-use Rattle.uri_ops.proofs.Paths.LeftPaths.{replacement-is-text-from-start}
-use Rattle.uri_ops.proofs.Paths.LeftPaths.{appending-extends-text-from-start}
-use Rattle.uri_ops.proofs.Paths.LeftPaths.{removal-state-of-equals}
-use Rattle.uri_ops.proofs.Paths.LeftPaths.{removal-state-begins-with-directory}
-use Rattle.uri_ops.proofs.Paths.LeftPaths.{rest-of-nonzero-length-has-bytes}
-use Rattle.uri_ops.proofs.Paths.Piecewise.{prefix_among, kept-text-is-directory}
-use Rattle.uri_ops.proofs.Paths.Piecewise.{removal-ends-with-nothing-left}
-use Rattle.uri_ops.proofs.Paths.Piecewise.{removal-step-at-double-dot, removal-keeps-changed-prefix}
-use Rattle.uri_ops.proofs.Paths.Piecewise.{removal-step-at-single-dot}
+use Rattle.uri_ops.proofs.Paths.LeftPaths.{replacing-keeps-text-to-start, appending-keeps-text-to-start, slice-from-zero-is-prefix, replacement-is-text-from-start, appending-extends-text-from-start, removal-state-of-equals, removal-state-begins-with-directory, rest-of-nonzero-length-has-bytes}
+use Rattle.uri_ops.proofs.Paths.Piecewise.{prefix_among, kept-text-is-directory, removal-ends-with-nothing-left, removal-step-at-double-dot, removal-keeps-changed-prefix, removal-step-at-single-dot}
 use Rattle.uri_ops.proofs.path.dot_segments.push_segments.Goals as goal
 
 pub loop-rest-init : goal.loop-rest-init

@@ -1,11 +1,7 @@
 use Rattle.std.proofs.Common.{◌≡◌, ◌++◌, ap, length, rules, string_bytes, ◌∙◌}
 use Rattle.uri_ops.proofs.Paths.DotStarts.{path-without-leading-dot-begins-with-none}
 use Rattle.uri_ops.proofs.Paths.LeftPaths.{slice-from-zero-is-prefix}
-use Rattle.uri_ops.proofs.Paths.PushedPaths.{absolute-path-begins-with-no-dot}
-use Rattle.uri_ops.proofs.Paths.PushedPaths.{pushed-dotless-path-prefix-is-directory}
-use Rattle.uri_ops.proofs.Paths.PushedPaths.{pushed-path-loses-its-dots}
-use Rattle.uri_ops.proofs.Paths.PushedPaths.{pushed-rest-underflows-as-path}
-use Rattle.uri_ops.proofs.Paths.PushedPaths.{dotless-path-is-its-own-removal}
+use Rattle.uri_ops.proofs.Paths.PushedPaths.{absolute-path-begins-with-no-dot, pushed-dotless-path-prefix-is-directory, pushed-path-loses-its-dots, pushed-rest-underflows-as-path, dotless-path-is-its-own-removal}
 use Rattle.uri_ops.proofs.Paths.Piecewise.{identity-keeps-slashes-and-dots}
 use Rattle.uri_ops.proofs.path.dot_segments.push_without_dot_segments.Goals as goal
 

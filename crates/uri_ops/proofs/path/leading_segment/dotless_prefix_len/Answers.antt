@@ -1,8 +1,6 @@
 use Rattle.std.proofs.Common.{◌≡◌, ◌+◌, ◌-◌, ◌∙◌, List, ℕ, ap, arith, get_or, length, subst}
-use Rattle.uri_ops.specs.Models.LeadingSegments.{IsDotlessPrefix, IsPrefixToSlashDot}
-use Rattle.uri_ops.specs.Models.LeadingSegments.{BeginsWithoutDotSegment}
-use Rattle.uri_ops.proofs.Paths.DotStarts.{prefix-to-slash-dot-ends-at-boundary}
-use Rattle.uri_ops.proofs.Paths.DotStarts.{prefix-to-slash-dot-is-dotless}
+use Rattle.uri_ops.specs.Models.LeadingSegments.{IsDotlessPrefix, IsPrefixToSlashDot, BeginsWithoutDotSegment}
+use Rattle.uri_ops.proofs.Paths.DotStarts.{prefix-to-slash-dot-ends-at-boundary, prefix-to-slash-dot-is-dotless}
 use Rattle.uri_ops.proofs.path.leading_segment.dotless_prefix_len.Goals as goal
 
 -- a prefix of the bytes of a path up to a `/` before a dot is one without dot segments

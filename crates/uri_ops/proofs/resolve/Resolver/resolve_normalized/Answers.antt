@@ -6,8 +6,7 @@ use Rattle.uri_ops.specs.NormalTargets.{IsNormalTarget, IsNormalTargetError}
 use Rattle.uri_ops.specs.Resolving.{base_of}
 use Rattle.uri_ops.specs.declared.resolve.error.ResolveError.TheVariants.{OutOfMemory}
 use Rattle.uri_ops.proofs.Normal.NormalForms.{normal-text-is-of-kind, normal-text-is-normal-form}
-use Rattle.uri_ops.proofs.Targeting.NormalTargets.{if-error-from-error-and}
-use Rattle.uri_ops.proofs.Targeting.NormalTargets.{normal-form-of-target-respects-meaning, refusal}
+use Rattle.uri_ops.proofs.Targeting.NormalTargets.{if-error-from-error-and, normal-form-of-target-respects-meaning, refusal}
 use Rattle.uri_ops.proofs.resolve.Resolver.resolve_normalized.Goals as goal
 
 pub returns-in_err-target-clause-refusal : goal.returns-in_err-target-clause-refusal

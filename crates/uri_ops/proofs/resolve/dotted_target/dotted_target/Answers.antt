@@ -1,9 +1,5 @@
 use Rattle.std.proofs.Common.{subst, sym}
-use Rattle.uri_ops.specs.declared.resolve.target_case.TargetCase.TheVariants.{WithScheme}
-use Rattle.uri_ops.specs.declared.resolve.target_case.TargetCase.TheVariants.{WithAuthority}
-use Rattle.uri_ops.specs.declared.resolve.target_case.TargetCase.TheVariants.{EmptyPath}
-use Rattle.uri_ops.specs.declared.resolve.target_case.TargetCase.TheVariants.{AbsolutePath}
-use Rattle.uri_ops.specs.declared.resolve.target_case.TargetCase.TheVariants.{MergedPath}
+use Rattle.uri_ops.specs.declared.resolve.target_case.TargetCase.TheVariants.{WithScheme, WithAuthority, EmptyPath, AbsolutePath, MergedPath}
 use Rattle.uri_ops.specs.Models.TargetCases.{IsCaseOf, IsDottedTarget}
 use Rattle.uri_ops.specs.Resolving.{components_of}
 use Rattle.uri_ops.proofs.Targeting.JoinedPieces.{base-of-merged-path-is-rooted}

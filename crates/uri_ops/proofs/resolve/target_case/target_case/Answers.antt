@@ -1,10 +1,6 @@
 use Rattle.std.proofs.Common.{ap, sym, ◌∙◌}
 use Rattle.uri_parts.specs.Components.{starts}
-use Rattle.uri_ops.specs.declared.resolve.target_case.TargetCase.TheVariants.{WithScheme}
-use Rattle.uri_ops.specs.declared.resolve.target_case.TargetCase.TheVariants.{WithAuthority}
-use Rattle.uri_ops.specs.declared.resolve.target_case.TargetCase.TheVariants.{EmptyPath}
-use Rattle.uri_ops.specs.declared.resolve.target_case.TargetCase.TheVariants.{AbsolutePath}
-use Rattle.uri_ops.specs.declared.resolve.target_case.TargetCase.TheVariants.{MergedPath}
+use Rattle.uri_ops.specs.declared.resolve.target_case.TargetCase.TheVariants.{WithScheme, WithAuthority, EmptyPath, AbsolutePath, MergedPath}
 use Rattle.uri_ops.specs.Dots.{is_empty}
 use Rattle.uri_ops.specs.Resolving.{components_of}
 use Rattle.uri_ops.proofs.Targeting.JoinedPieces.{zero-length-is-empty}

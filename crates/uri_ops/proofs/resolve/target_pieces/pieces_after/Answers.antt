@@ -1,8 +1,7 @@
 use Rattle.std.proofs.Common.{ap, refl, ◌∙◌}
 use Rattle.std.specs.Prelude.{length, ◌+◌}
 use Rattle.uri_ops.specs.Resolving.{components_of}
-use Rattle.uri_ops.proofs.Targeting.TargetPieces.{joined-pieces-are-target-text}
-use Rattle.uri_ops.proofs.Targeting.TargetPieces.{joined-pieces-have-target-positions}
+use Rattle.uri_ops.proofs.Targeting.TargetPieces.{joined-pieces-are-target-text, joined-pieces-have-target-positions}
 use Rattle.uri_ops.proofs.resolve.target_pieces.pieces_after.Goals as goal
 
 pub returns : goal.returns

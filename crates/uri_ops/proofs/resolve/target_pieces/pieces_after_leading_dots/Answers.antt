@@ -2,9 +2,7 @@ use Rattle.std.proofs.Common.{ap, subst, ◌++◌, ◌∙◌}
 use Rattle.uri_ops.specs.Models.Directories.{EndsIn, RemovalState}
 use Rattle.uri_ops.specs.Models.Places.{before_path}
 use Rattle.uri_ops.specs.Resolving.{components_of}
-use Rattle.uri_ops.proofs.Paths.ClimbedDirectories.{directory-at-start-ends-at-slash}
-use Rattle.uri_ops.proofs.Paths.ClimbedDirectories.{path-with-directory-at-start-is-absolute}
-use Rattle.uri_ops.proofs.Paths.ClimbedDirectories.{prefix-of-prefix-is-prefix}
+use Rattle.uri_ops.proofs.Paths.ClimbedDirectories.{directory-at-start-ends-at-slash, path-with-directory-at-start-is-absolute, prefix-of-prefix-is-prefix}
 use Rattle.uri_ops.proofs.Targeting.TargetPieces.{relative-path-after-directory-is-joined}
 use Rattle.uri_ops.proofs.resolve.target_pieces.pieces_after_leading_dots.Goals as goal
 

@@ -4,11 +4,7 @@ use Rattle.uri_parts.proofs.Splitting.Recompose.{recompose-components}
 use Rattle.uri_ops.specs.Dots.{IsAbsolute, lacks_dot_segments}
 use Rattle.uri_ops.specs.Models.TargetPieces.{HasJoinedPath}
 use Rattle.uri_ops.specs.Resolving.{components_of}
-use Rattle.uri_ops.proofs.Targeting.TargetPieces.{base-rejects-no-reference}
-use Rattle.uri_ops.proofs.Targeting.TargetPieces.{dotless-base-path-does-not-underflow}
-use Rattle.uri_ops.proofs.Targeting.TargetPieces.{fragment-after-base-is-target-text}
-use Rattle.uri_ops.proofs.Targeting.TargetPieces.{fragment-after-base-keeps-positions}
-use Rattle.uri_ops.proofs.Targeting.TargetPieces.{query-after-base-path-is-joined}
+use Rattle.uri_ops.proofs.Targeting.TargetPieces.{base-rejects-no-reference, dotless-base-path-does-not-underflow, fragment-after-base-is-target-text, fragment-after-base-keeps-positions, query-after-base-path-is-joined}
 use Rattle.uri_ops.proofs.resolve.target_pieces.pieces_with_empty_path.Goals as goal
 
 pub pieces_after-requires-clause-rest : goal.pieces_after-requires-clause-rest

@@ -3,8 +3,7 @@ use Rattle.uri_ops.specs.Dots.{lacks_dot_segments}
 use Rattle.uri_ops.specs.Models.Places.{before_path}
 use Rattle.uri_ops.specs.Models.TargetPieces.{HasJoinedPath}
 use Rattle.uri_ops.specs.Resolving.{components_of}
-use Rattle.uri_ops.proofs.Paths.ClimbedDirectories.{directory-at-start-ends-at-slash}
-use Rattle.uri_ops.proofs.Paths.ClimbedDirectories.{path-with-directory-at-start-is-absolute}
+use Rattle.uri_ops.proofs.Paths.ClimbedDirectories.{directory-at-start-ends-at-slash, path-with-directory-at-start-is-absolute}
 use Rattle.uri_ops.proofs.Paths.LeftPaths.{removal-state-begins-with-directory}
 use Rattle.uri_ops.proofs.Targeting.TargetPieces.{relative-path-after-directory-is-joined}
 use Rattle.uri_ops.proofs.resolve.target_pieces.pieces_with_merged_path.Goals as goal

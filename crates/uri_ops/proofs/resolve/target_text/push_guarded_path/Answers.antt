@@ -1,7 +1,6 @@
 use Rattle.std.proofs.Common.{◌≡◌, length, rules, string_bytes}
 use Rattle.std.proofs.lemmas.Str.{IsUtf8-string_bytes}
-use Rattle.uri_ops.proofs.Paths.GuardedPaths.{guard-inserted-before-path}
-use Rattle.uri_ops.proofs.Paths.GuardedPaths.{pushed-path-begins-at-boundary}
+use Rattle.uri_ops.proofs.Paths.GuardedPaths.{guard-inserted-before-path, pushed-path-begins-at-boundary}
 use Rattle.uri_ops.proofs.resolve.target_text.push_guarded_path.Goals as goal
 
 pub guard_path-requires : goal.guard_path-requires

@@ -3,8 +3,7 @@ use Rattle.std.specs.Prelude.{IfOk, IfSome, OnOk, unwrap_or}
 use Rattle.uri_pct.specs.Texts.{Pushes}
 use Rattle.uri_parts.specs.Components.{IsAbemptyPath}
 use Rattle.uri_ops.specs.Target.{dotless_if_absolute, merged, underflows_if_absolute}
-use Rattle.uri_ops.proofs.Targeting.JoinedPieces.{merged-path-loses-dots-as-target-path}
-use Rattle.uri_ops.proofs.Targeting.JoinedPieces.{merged-path-underflows-as-target-path}
+use Rattle.uri_ops.proofs.Targeting.JoinedPieces.{merged-path-loses-dots-as-target-path, merged-path-underflows-as-target-path}
 use Rattle.uri_ops.proofs.resolve.target_text.push_path.Goals as goal
 
 pub push_merged-requires : goal.push_merged-requires

@@ -1,7 +1,6 @@
 use Rattle.std.proofs.Common.{ap, sym, ◌++◌, ◌∙◌, string_bytes}
 use Rattle.uri_ops.proofs.Builders.BuilderGrowth.{string_len-is-length-of-bytes}
-use Rattle.uri_ops.proofs.Targeting.JoinedPieces.{empty-query-is-absent, query-with-bytes-is-there}
-use Rattle.uri_ops.proofs.Targeting.JoinedPieces.{pushed-query-ends-at-length}
+use Rattle.uri_ops.proofs.Targeting.JoinedPieces.{empty-query-is-absent, query-with-bytes-is-there, pushed-query-ends-at-length}
 use Rattle.uri_ops.proofs.resolve.target_text.push_query.Goals as goal
 
 pub returns-then-is_empty-clause-end : goal.returns-then-is_empty-clause-end

@@ -1,5 +1,4 @@
-use Rattle.std.proofs.Common.{◌≡◌, [], ◌++◌, ◌+◌, ap, append_assoc, ◌∙◌}
-use Rattle.std.proofs.Common.{string_bytes}
+use Rattle.std.proofs.Common.{◌≡◌, [], ◌++◌, ◌+◌, ap, append_assoc, ◌∙◌, string_bytes}
 use Rattle.std.specs.Prelude.{codes, is_some}
 use Rattle.uri_parts.specs.Components.{Components, marked}
 use Rattle.uri_parts.specs.PackedPositions.{packed}

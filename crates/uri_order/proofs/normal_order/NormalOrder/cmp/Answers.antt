@@ -2,8 +2,7 @@ use Rattle.std.proofs.Common.{◌∙◌}
 use Rattle.std.specs.Cmp.Lexicographic.{slice_cmp}
 use Rattle.std.specs.Ordering.{nat_cmp}
 use Rattle.uri_order.specs.Ports.{ports_of}
-use Rattle.uri_order.proofs.Equivalences.{forms_under_ports_alone, holds_if_equals_are_equal}
-use Rattle.uri_order.proofs.Equivalences.{meanings_under_ports_alone}
+use Rattle.uri_order.proofs.Equivalences.{forms_under_ports_alone, holds_if_equals_are_equal, meanings_under_ports_alone}
 use Rattle.uri_order.proofs.normal_order.NormalOrder.cmp.Goals as goal
 
 pub returns-clause-order : goal.returns-clause-order

@@ -1,6 +1,5 @@
 use Rattle.uri_order.specs.Ports.{ports_of}
-use Rattle.uri_order.proofs.Equivalences.{forms_under_ports_alone, holds_if_equals_are_equal}
-use Rattle.uri_order.proofs.Equivalences.{meanings_under_ports_alone}
+use Rattle.uri_order.proofs.Equivalences.{forms_under_ports_alone, holds_if_equals_are_equal, meanings_under_ports_alone}
 use Rattle.uri_order.proofs.normal_order.NormalOrder.is_equivalent.Goals as goal
 
 pub returns-clause-text : goal.returns-clause-text

@@ -3,8 +3,7 @@ use Rattle.std.proofs.lemmas.Str.{IsUtf8-from_is_utf8, is_utf8-from_IsUtf8}
 use Rattle.uri_pct.specs.Tables.{set_of}
 use Rattle.uri_order.specs.OctetsBack.{octets_unread}
 use Rattle.uri_order.specs.SegmentsLeft.{segments_left}
-use Rattle.uri_order.proofs.PathBack.{IsDecodableText, decodable-text-splits}
-use Rattle.uri_order.proofs.PathBack.{unread-of-begun-segment, unread-of-read-path}
+use Rattle.uri_order.proofs.PathBack.{IsDecodableText, decodable-text-splits, unread-of-begun-segment, unread-of-read-path}
 use Rattle.uri_order.proofs.path_back.PathBack.begin_segment.Goals as goal
 
 pub new-requires : goal.new-requires

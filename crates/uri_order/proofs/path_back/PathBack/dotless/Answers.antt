@@ -4,8 +4,7 @@ use Rattle.uri_pct.specs.Tables.{set_of}
 use Rattle.uri_ops.specs.Dots.{remove_dot_segments}
 use Rattle.uri_order.specs.OctetsBack.{octets_unread}
 use Rattle.uri_order.specs.SegmentsLeft.{segments_left}
-use Rattle.uri_order.proofs.PathBack.{empty-text-is-decodable}
-use Rattle.uri_order.proofs.PathBack.{segments_left-are-decodable, unread-of-dotless-path}
+use Rattle.uri_order.proofs.PathBack.{empty-text-is-decodable, segments_left-are-decodable, unread-of-dotless-path}
 use Rattle.uri_order.proofs.SegmentsLeft.{abempty-path-passes-test}
 use Rattle.uri_order.proofs.path_back.PathBack.dotless.Goals as goal
 

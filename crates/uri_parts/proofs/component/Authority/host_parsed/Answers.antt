@@ -3,9 +3,7 @@ use Rattle.std.specs.Prelude.{codes}
 use Rattle.uri_parts.specs.Addresses.{ipv4_octets, ipv6_segments}
 use Rattle.uri_parts.specs.Components.{starts, before_any}
 use Rattle.uri_parts.specs.Hosts.{host_kind, ipv4_value}
-use Rattle.uri_parts.proofs.Authorities.AuthorityPlaces.{holds, reg_name_host_is_valid}
-use Rattle.uri_parts.proofs.Authorities.AuthorityPlaces.{kind_of_unbracketed_host}
-use Rattle.uri_parts.proofs.Authorities.AuthorityPlaces.{kind_of_bracketed_host}
+use Rattle.uri_parts.proofs.Authorities.AuthorityPlaces.{holds, reg_name_host_is_valid, kind_of_unbracketed_host, kind_of_bracketed_host}
 use Rattle.uri_parts.proofs.component.Authority.host_parsed.Goals as goal
 
 pub new_or_panic-requires : goal.new_or_panic-requires

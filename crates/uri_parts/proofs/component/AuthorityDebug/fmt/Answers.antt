@@ -7,8 +7,7 @@ use Rattle.uri_parts.specs.Authority.{authority_parts}
 use Rattle.uri_parts.specs.AuthorityTexts.{authority_text}
 use Rattle.uri_parts.specs.Hosts.{host_kind}
 use Rattle.uri_parts.specs.Printing.{debug_authority}
-use Rattle.uri_parts.proofs.PrintedComponents.{debug_option-of-map, debug_host-of-kind}
-use Rattle.uri_parts.proofs.PrintedComponents.{debug_authority_of-equal}
+use Rattle.uri_parts.proofs.PrintedComponents.{debug_option-of-map, debug_host-of-kind, debug_authority_of-equal}
 use Rattle.uri_parts.proofs.component.AuthorityDebug.fmt.Goals as goal
 
 pub returns-then-is_plain : goal.returns-then-is_plain

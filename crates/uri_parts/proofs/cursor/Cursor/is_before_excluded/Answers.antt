@@ -1,17 +1,14 @@
-use Rattle.std.proofs.Common.{◌≡◌, ◌≢◌, ◌<◌, ◌≤◌, ◌∙◌, ◌||◌, ◌⊎◌, Bool, ℕ, List, false, true, length}
-use Rattle.std.proofs.Common.{ap, arith, drop, get_or, refl, subst, sym, inl, inr, ⊎_elim}
+use Rattle.std.proofs.Common.{◌≡◌, ◌≢◌, ◌<◌, ◌≤◌, ◌∙◌, ◌||◌, ◌⊎◌, Bool, ℕ, List, false, true, length, ap, arith, drop, get_or, refl, subst, sym, inl, inr, ⊎_elim}
 use Rattle.std.specs.Prelude.{Ok}
 use Rattle.std.proofs.lemmas.Bool.{and_right, cond-false, lt-ltb, ne_eqb, not-true, or_parts}
 use Rattle.std.proofs.lemmas.Bool.Decides.{nat_tests}
 use Rattle.uri_pct.specs.Models.Scans.{may_begin_octet_or_past_ascii}
-use Rattle.uri_pct.specs.Sets.{LacksPercent, TableSet}
-use Rattle.uri_pct.specs.Sets.{is_path_char, is_segment_nz_nc_char, is_userinfo_char}
+use Rattle.uri_pct.specs.Sets.{LacksPercent, TableSet, is_path_char, is_segment_nz_nc_char, is_userinfo_char}
 use Rattle.uri_pct.proofs.ValidTexts.PrefixSteps.{valid_prefix_stops_where_none_may_begin}
 use Rattle.uri_parts.specs.Grammar.{Kind, first_segment_set, kind_by_flags}
 use Rattle.uri_parts.specs.Scanning.{scan, scan_end}
 use Rattle.uri_parts.specs.Components.{is_end}
-use Rattle.uri_parts.proofs.Parsing.NextBytes.{starts_at_position}
-use Rattle.uri_parts.proofs.Parsing.NextBytes.{text_ends_where_position_is_length}
+use Rattle.uri_parts.proofs.Parsing.NextBytes.{starts_at_position, text_ends_where_position_is_length}
 use Rattle.uri_parts.proofs.cursor.Cursor.is_before_excluded.Goals as goal
 
 -- a byte that is excluded: a control character, a space, or one past ASCII

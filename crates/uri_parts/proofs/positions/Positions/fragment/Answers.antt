@@ -1,7 +1,5 @@
 use Rattle.std.proofs.Common.{ap, sym, ◌∙◌, Some}
-use Rattle.uri_parts.proofs.Splitting.ComponentPositions.{fragment_is_rest_of_text}
-use Rattle.uri_parts.proofs.Splitting.ComponentPositions.{fragment_is_at_positions}
-use Rattle.uri_parts.proofs.Splitting.ComponentPositions.{no_fragment_at_end}
+use Rattle.uri_parts.proofs.Splitting.ComponentPositions.{fragment_is_rest_of_text, fragment_is_at_positions, no_fragment_at_end}
 use Rattle.uri_parts.proofs.positions.Positions.fragment.Goals as goal
 
 pub range_from-requires : goal.range_from-requires

@@ -1,9 +1,6 @@
 use Rattle.std.proofs.Common.{None, ◌∙◌}
 use Rattle.uri_parts.specs.Fragments.{IsWithFragment}
-use Rattle.uri_parts.proofs.Splitting.Fragments.{boundary-at-fragment-mark, slice_range-from-start}
-use Rattle.uri_parts.proofs.Splitting.Fragments.{stripped_is_without_fragment}
-use Rattle.uri_parts.proofs.Splitting.Fragments.{text-without-fragment-stays-of-kind}
-use Rattle.uri_parts.proofs.Splitting.Fragments.{positions_stay_with_fragment}
+use Rattle.uri_parts.proofs.Splitting.Fragments.{boundary-at-fragment-mark, slice_range-from-start, stripped_is_without_fragment, text-without-fragment-stays-of-kind, positions_stay_with_fragment}
 use Rattle.uri_parts.proofs.positions.Positions.without_fragment.Goals as goal
 
 pub range-requires-clause-end_boundary : goal.range-requires-clause-end_boundary

@@ -1,7 +1,6 @@
 use Rattle.std.proofs.Common.{sym, ◌∙◌, subst}
 use Rattle.std.specs.Str.{IsUtf8}
-use Rattle.uri_pct.proofs.Unicode.PartPieces.{bytes_left-is-decoded}
-use Rattle.uri_pct.proofs.Unicode.PartPieces.{unencoded_text_decodes_to_itself}
+use Rattle.uri_pct.proofs.Unicode.PartPieces.{bytes_left-is-decoded, unencoded_text_decodes_to_itself}
 use Rattle.uri_pct.proofs.decode.Decode.to_bytes.Goals as goal
 
 pub returns-then-is_unencoded-clause-bytes : goal.returns-then-is_unencoded-clause-bytes

@@ -1,8 +1,7 @@
 use Rattle.std.proofs.Common.{rules, ℕ, Vec, Global, sym, ap, ◌∙◌, subst}
 use Rattle.std.specs.Str.{IsUtf8}
 use Rattle.std.proofs.lemmas.Str.{IsUtf8-string_bytes}
-use Rattle.uri_pct.proofs.Unicode.PartPieces.{unencoded_text_decodes_to_itself}
-use Rattle.uri_pct.proofs.Unicode.PartPieces.{bytes_left-is-decoded}
+use Rattle.uri_pct.proofs.Unicode.PartPieces.{unencoded_text_decodes_to_itself, bytes_left-is-decoded}
 use Rattle.uri_pct.proofs.decode.Decode.to_string.Goals as goal
 
 pub returns-then-is_unencoded-clause-text : goal.returns-then-is_unencoded-clause-text

@@ -2,8 +2,7 @@ use Rattle.std.proofs.Common.{sym, ap, ◌∙◌, subst}
 use Rattle.std.specs.Str.{IsUtf8}
 use Rattle.uri_pct.specs.Pieces.{lossy_text}
 use Rattle.uri_pct.proofs.Unicode.Lossy.{lossy_text_of_utf8_is_itself}
-use Rattle.uri_pct.proofs.Unicode.PartPieces.{unencoded_text_decodes_to_itself}
-use Rattle.uri_pct.proofs.Unicode.PartPieces.{bytes_left-is-decoded}
+use Rattle.uri_pct.proofs.Unicode.PartPieces.{unencoded_text_decodes_to_itself, bytes_left-is-decoded}
 use Rattle.uri_pct.proofs.Decodings.Taking.{parts_taken_give_lossy_text}
 use Rattle.uri_pct.proofs.decode.Decode.to_string_lossy.Goals as goal
 

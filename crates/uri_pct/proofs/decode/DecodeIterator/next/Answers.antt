@@ -1,15 +1,10 @@
-use Rattle.std.proofs.Common.{◌≡◌, ◌∷◌, [], ◌+◌, ◌*◌, ℕ, List, eqb, length, get_or, drop, sym, ap}
-use Rattle.std.proofs.Common.{◌∙◌, subst, arith, rules}
+use Rattle.std.proofs.Common.{◌≡◌, ◌∷◌, [], ◌+◌, ◌*◌, ℕ, List, eqb, length, get_or, drop, sym, ap, ◌∙◌, subst, arith, rules}
 use Rattle.std.specs.Char.{digit_value, is_ascii_hexdigit}
 use Rattle.std.specs.List.{position_or_len}
 use Rattle.std.specs.Str.{IsUtf8}
 use Rattle.uri_pct.specs.Chunks.{Byte, Text, chunks, widest_set}
 use Rattle.uri_pct.specs.Tokens.{IsValidFor}
-use Rattle.uri_pct.proofs.Decodings.Decoding.{BeginsWithOctet, boundary_after_octet}
-use Rattle.uri_pct.proofs.Decodings.Decoding.{bytes_from_percent_begin_with_octet}
-use Rattle.uri_pct.proofs.Decodings.Decoding.{bytes_begin_with_text_up_to_percent}
-use Rattle.uri_pct.proofs.Decodings.Decoding.{first_chunk_is_value_of_octet}
-use Rattle.uri_pct.proofs.Decodings.Decoding.{empty_text_has_no_chunks}
+use Rattle.uri_pct.proofs.Decodings.Decoding.{BeginsWithOctet, boundary_after_octet, bytes_from_percent_begin_with_octet, bytes_begin_with_text_up_to_percent, first_chunk_is_value_of_octet, empty_text_has_no_chunks}
 use Rattle.std.proofs.lemmas.List.{nil_from_length}
 use Rattle.std.proofs.lemmas.Bool.{eqb-true}
 use Rattle.uri_pct.proofs.decode.DecodeIterator.next.Goals as goal

@@ -4,8 +4,7 @@ use Rattle.std.proofs.lemmas.Str.{encode_ascii}
 use Rattle.std.specs.Char.{encode_utf8}
 use Rattle.std.specs.Prelude.{string_bytes}
 use Rattle.uri_pct.specs.Pieces.{utf8_pieces}
-use Rattle.uri_pct.proofs.Decodings.Taking.{OnOk-from-is_ok}
-use Rattle.uri_pct.proofs.Decodings.Taking.{appended_text_takes_lossy_text_of_parts}
+use Rattle.uri_pct.proofs.Decodings.Taking.{OnOk-from-is_ok, appended_text_takes_lossy_text_of_parts}
 use Rattle.uri_pct.proofs.Unicode.AsciiOctets.{ascii_byte_is_utf8}
 use Rattle.uri_pct.proofs.Unicode.PartPieces.{decoded_parts_have_their_pieces}
 use Rattle.uri_pct.proofs.decode_text.LossyTextTakeParts.take_ascii.Goals as goal

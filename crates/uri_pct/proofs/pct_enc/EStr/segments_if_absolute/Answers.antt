@@ -3,8 +3,7 @@ use Rattle.std.proofs.lemmas.Bool.{not-false}
 use Rattle.std.proofs.lemmas.Str.{IsCharBoundary-after_ascii}
 use Rattle.uri_pct.specs.Texts.{is_absolute}
 use Rattle.uri_pct.proofs.ValidTexts.Delimiters.{absolute_path_begins_with_slash}
-use Rattle.uri_pct.proofs.ValidTexts.TokenCuts.{reserved_is_never_in_octet, slash_is_reserved}
-use Rattle.uri_pct.proofs.ValidTexts.TokenCuts.{valid_after_mark}
+use Rattle.uri_pct.proofs.ValidTexts.TokenCuts.{reserved_is_never_in_octet, slash_is_reserved, valid_after_mark}
 use Rattle.uri_pct.proofs.pct_enc.EStr.segments_if_absolute.Goals as goal
 
 pub range_from-requires : goal.range_from-requires

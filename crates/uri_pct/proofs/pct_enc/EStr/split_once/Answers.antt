@@ -1,7 +1,6 @@
 use Rattle.std.proofs.Common.{Some, None}
 use Rattle.uri_pct.proofs.ValidTexts.Delimiters.{split_once_cuts_at_first}
-use Rattle.uri_pct.proofs.ValidTexts.TokenCuts.{reserved_is_never_in_octet, valid_before_mark}
-use Rattle.uri_pct.proofs.ValidTexts.TokenCuts.{valid_after_mark}
+use Rattle.uri_pct.proofs.ValidTexts.TokenCuts.{reserved_is_never_in_octet, valid_before_mark, valid_after_mark}
 use Rattle.uri_pct.proofs.pct_enc.EStr.split_once.Goals as goal
 
 pub returns-in_err-before : goal.returns-in_err-before

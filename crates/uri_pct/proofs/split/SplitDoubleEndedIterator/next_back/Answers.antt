@@ -2,8 +2,7 @@ use Rattle.std.proofs.Common.{◌≡◌, ◌∷◌, ◌++◌, [], eqb, length, r
 use Rattle.std.specs.List.{slice_split}
 use Rattle.std.proofs.lemmas.List.{length-append}
 use Rattle.uri_pct.specs.EncodedTexts.{text_of, substrings_left}
-use Rattle.uri_pct.proofs.ValidTexts.Delimiters.{split_piece_after_last_delimiter_is_last}
-use Rattle.uri_pct.proofs.ValidTexts.Delimiters.{text_without_delimiter_is_one_piece}
+use Rattle.uri_pct.proofs.ValidTexts.Delimiters.{split_piece_after_last_delimiter_is_last, text_without_delimiter_is_one_piece}
 use Rattle.uri_pct.proofs.Decodings.Splits.{substrings_left_are_split_of_rest}
 use Rattle.uri_pct.proofs.split.SplitDoubleEndedIterator.next_back.Goals as goal
 

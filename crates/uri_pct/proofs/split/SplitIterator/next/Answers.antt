@@ -1,8 +1,7 @@
 use Rattle.std.proofs.Common.{◌≡◌, ◌∷◌, [], eqb, length, rules, ap, ◌∙◌}
 use Rattle.std.specs.List.{slice_split}
 use Rattle.uri_pct.specs.EncodedTexts.{text_of, substrings_left}
-use Rattle.uri_pct.proofs.ValidTexts.Delimiters.{split_piece_before_first_delimiter_is_first}
-use Rattle.uri_pct.proofs.ValidTexts.Delimiters.{text_without_delimiter_is_one_piece}
+use Rattle.uri_pct.proofs.ValidTexts.Delimiters.{split_piece_before_first_delimiter_is_first, text_without_delimiter_is_one_piece}
 use Rattle.uri_pct.proofs.Decodings.Splits.{substrings_left_are_split_of_rest}
 use Rattle.uri_pct.proofs.split.SplitIterator.next.Goals as goal
 

@@ -3,11 +3,8 @@ use Rattle.std.proofs.lemmas.List.{take_all}
 use Rattle.std.proofs.lemmas.List.Folds.{list_any_more}
 use Rattle.uri_pct.specs.Sets.{is_one_of}
 use Rattle.uri_pct.specs.Masks.{has_bit}
-use Rattle.uri_pct.proofs.TableSets.Masks.{has_bit_of_percent_is_bit_of_low, has_bit-zero-masks}
-use Rattle.uri_pct.proofs.TableSets.Masks.{has_bit_after_low_bit_is_set}
-use Rattle.uri_pct.proofs.TableSets.Masks.{has_bit_after_high_bit_is_set}
-use Rattle.uri_pct.proofs.TableSets.Tables.{byte_unlike_all_is_not_one_of_them}
-use Rattle.uri_pct.proofs.TableSets.Tables.{unencoded_ascii_is_below_128_and_no_percent}
+use Rattle.uri_pct.proofs.TableSets.Masks.{has_bit_of_percent_is_bit_of_low, has_bit-zero-masks, has_bit_after_low_bit_is_set, has_bit_after_high_bit_is_set}
+use Rattle.uri_pct.proofs.TableSets.Tables.{byte_unlike_all_is_not_one_of_them, unencoded_ascii_is_below_128_and_no_percent}
 use Rattle.uri_pct.proofs.table.Table.new.Goals as goal
 use Rattle.uri_pct.proofs.table.Table.new.Goals.{then-byte-lt64, else-byte-lt64}
 

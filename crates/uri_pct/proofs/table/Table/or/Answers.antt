@@ -1,8 +1,7 @@
 use Rattle.std.proofs.Common.{◌∙◌, sym, ◌||◌}
 use Rattle.std.proofs.lemmas.Bool.{or_from}
 use Rattle.uri_pct.specs.Masks.{has_bit}
-use Rattle.uri_pct.proofs.TableSets.Masks.{has_bit_of_joined_masks_is_or}
-use Rattle.uri_pct.proofs.TableSets.Masks.{has_bit_of_percent_is_bit_of_low}
+use Rattle.uri_pct.proofs.TableSets.Masks.{has_bit_of_joined_masks_is_or, has_bit_of_percent_is_bit_of_low}
 use Rattle.uri_pct.proofs.TableSets.Percent.{lacks_percent}
 use Rattle.uri_pct.proofs.TableSets.Tables.{sets_equal_by_agreement}
 use Rattle.uri_pct.proofs.table.Table.or.Goals as goal

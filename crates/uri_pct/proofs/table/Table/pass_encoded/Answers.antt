@@ -1,5 +1,4 @@
-use Rattle.std.proofs.Common.{◌≡◌, ◌+◌, ◌-◌, ◌<◌, ◌≤◌, ◌∙◌, ℕ, Bool, List, true, false, length}
-use Rattle.std.proofs.Common.{drop, eqb, get_or, arith, sym, ap, subst, ⊎_elim}
+use Rattle.std.proofs.Common.{◌≡◌, ◌+◌, ◌-◌, ◌<◌, ◌≤◌, ◌∙◌, ℕ, Bool, List, true, false, length, drop, eqb, get_or, arith, sym, ap, subst, ⊎_elim}
 use Rattle.std.proofs.lemmas.Bool.{and_left, and_right, both_ways, cases_Bool, eqb-true}
 use Rattle.std.specs.Str.{IsUtf8, IsCharBoundary}
 use Rattle.uri_pct.specs.Models.ByteRuns.{AreCharactersOrOctets, IsLongestRun}
@@ -11,8 +10,7 @@ use Rattle.uri_pct.specs.declared.table.Table.{Table}
 use Rattle.uri_pct.proofs.TableSets.Masks.{has_bit-only-ascii}
 use Rattle.uri_pct.proofs.TableSets.Percent.{lacks_percent}
 use Rattle.uri_pct.proofs.LaneScans.AsciiRuns.{ascii_run_is_scanned}
-use Rattle.uri_pct.proofs.ValidTexts.PrefixSteps.{valid_prefix_stops_at_ascii_outside_set}
-use Rattle.uri_pct.proofs.ValidTexts.PrefixSteps.{valid_prefix_stops_at_stray_percent}
+use Rattle.uri_pct.proofs.ValidTexts.PrefixSteps.{valid_prefix_stops_at_ascii_outside_set, valid_prefix_stops_at_stray_percent}
 use Rattle.uri_pct.proofs.ValidTexts.ScannedRuns.{characters_and_octets_are_scanned}
 use Rattle.uri_pct.proofs.table.Table.pass_encoded.Goals as goal
 use Rattle.uri_pct.proofs.table.Table.pass_encoded.Goals.{then-i-bytes-via-then-i-bytes}

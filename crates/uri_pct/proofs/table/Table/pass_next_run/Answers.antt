@@ -1,5 +1,4 @@
-use Rattle.std.proofs.Common.{◌≡◌, ◌+◌, ◌<◌, ◌≤◌, true, false, length, drop, get_or, arith, ◌&&◌}
-use Rattle.std.proofs.Common.{sym, ◌∙◌, ap, subst, ℕ, List}
+use Rattle.std.proofs.Common.{◌≡◌, ◌+◌, ◌<◌, ◌≤◌, true, false, length, drop, get_or, arith, ◌&&◌, sym, ◌∙◌, ap, subst, ℕ, List}
 use Rattle.std.specs.Prelude.{slice_index}
 use Rattle.std.specs.Int.{is_in_range}
 use Rattle.std.specs.Str.{IsUtf8, IsCharBoundary}
@@ -11,15 +10,11 @@ use Rattle.uri_pct.specs.Tables.{set_of}
 use Rattle.uri_pct.specs.declared.table.Table.{Table}
 use Rattle.uri_pct.specs.Masks.{has_bit}
 use Rattle.uri_pct.specs.Models.ByteRuns.{IsLongestRun, is_char_byte}
-use Rattle.uri_pct.proofs.ValidTexts.PrefixSteps.{valid_prefix_passes_ascii_char_of_set}
-use Rattle.uri_pct.proofs.ValidTexts.PrefixSteps.{valid_prefix_stops_at_ascii_outside_set}
-use Rattle.uri_pct.proofs.ValidTexts.PrefixSteps.{valid_prefix_stops_at_stray_percent}
+use Rattle.uri_pct.proofs.ValidTexts.PrefixSteps.{valid_prefix_passes_ascii_char_of_set, valid_prefix_stops_at_ascii_outside_set, valid_prefix_stops_at_stray_percent}
 use Rattle.uri_pct.proofs.TableSets.Percent.{lacks_percent}
 use Rattle.uri_pct.proofs.TableSets.Masks.{has_bit-only-ascii}
 use Rattle.uri_pct.proofs.TableSets.LeadBytes.{byte_in_lead_range_is_c3_to_ed}
-use Rattle.uri_pct.proofs.LaneScans.CharRuns.{char_run_is_scanned_from_start}
-use Rattle.uri_pct.proofs.LaneScans.CharRuns.{char_run_ends_at_boundary}
-use Rattle.uri_pct.proofs.LaneScans.CharRuns.{char_part_begins_nonempty_run}
+use Rattle.uri_pct.proofs.LaneScans.CharRuns.{char_run_is_scanned_from_start, char_run_ends_at_boundary, char_part_begins_nonempty_run}
 use Rattle.uri_pct.proofs.table.Table.pass_next_run.Goals as goal
 
 -- no octets are allowed

@@ -1,15 +1,12 @@
-use Rattle.std.proofs.Common.{◌≡◌, ◌<◌, ◌≤◌, ◌∙◌, ◌||◌, ℕ, List, false, length, drop}
-use Rattle.std.proofs.Common.{get_or, arith, not, sym, ap, subst, ⊎_elim}
+use Rattle.std.proofs.Common.{◌≡◌, ◌<◌, ◌≤◌, ◌∙◌, ◌||◌, ℕ, List, false, length, drop, get_or, arith, not, sym, ap, subst, ⊎_elim}
 use Rattle.std.specs.Prelude.{slice_index}
-use Rattle.std.proofs.lemmas.Bool.{and_right, cond-false, eq-eqb, false≢true, ne_eqb, cases_lt}
-use Rattle.std.proofs.lemmas.Bool.{le-ltb}
+use Rattle.std.proofs.lemmas.Bool.{and_right, cond-false, eq-eqb, false≢true, ne_eqb, cases_lt, le-ltb}
 use Rattle.uri_pct.specs.declared.table.Table.{Table}
 use Rattle.uri_pct.specs.Models.Scans.{may_begin_octet_or_past_ascii}
 use Rattle.uri_pct.proofs.TableSets.Masks.{has_bit_past_ascii_is_false}
 use Rattle.uri_pct.specs.Prefixes.{valid_prefix}
 use Rattle.uri_pct.specs.Tables.{set_of}
-use Rattle.uri_pct.proofs.ValidTexts.PrefixSteps.{valid_prefix_at_end_is_empty}
-use Rattle.uri_pct.proofs.ValidTexts.PrefixSteps.{valid_prefix_stops_where_none_may_begin}
+use Rattle.uri_pct.proofs.ValidTexts.PrefixSteps.{valid_prefix_at_end_is_empty, valid_prefix_stops_where_none_may_begin}
 use Rattle.uri_pct.proofs.TableSets.Percent.{lacks_percent}
 use Rattle.uri_pct.proofs.table.Table.scan.Goals as goal
 use Rattle.uri_pct.proofs.table.Table.scan.Goals.{then-run_end-bytes-via-then-run_end-bytes}

@@ -1,8 +1,7 @@
 use Rattle.std.proofs.Common.{◌∙◌, sym, ◌&&◌, not, arith}
 use Rattle.std.proofs.lemmas.Bool.{and_left}
 use Rattle.uri_pct.specs.Masks.{has_bit}
-use Rattle.uri_pct.proofs.TableSets.Masks.{has_bit_of_mask_difference_is_and_not}
-use Rattle.uri_pct.proofs.TableSets.Masks.{has_bit_of_percent_is_bit_of_low}
+use Rattle.uri_pct.proofs.TableSets.Masks.{has_bit_of_mask_difference_is_and_not, has_bit_of_percent_is_bit_of_low}
 use Rattle.uri_pct.proofs.TableSets.Percent.{lacks_percent}
 use Rattle.uri_pct.proofs.TableSets.Tables.{sets_equal_by_agreement}
 use Rattle.uri_pct.proofs.table.Table.sub.Goals as goal

@@ -1,6 +1,5 @@
 -- The table of members has each byte right for each of its sets, which is computed.
-use Rattle.std.proofs.Common.{◌≡◌, ◌<◌, ◌==◌, ℕ, Bool, true, not}
-use Rattle.std.proofs.Common.{bit_and, refl, slice_index, sym, ◌∙◌, ap}
+use Rattle.std.proofs.Common.{◌≡◌, ◌<◌, ◌==◌, ℕ, Bool, true, not, bit_and, refl, slice_index, sym, ◌∙◌, ap}
 use Rattle.std.proofs.lemmas.Bool.{agree_below, agree_below_at}
 use Rattle.uri_pct.specs.Masks.{has_bit}
 use Rattle.uri_pct.specs.declared.table.members.TheConstants.{MEMBERS}

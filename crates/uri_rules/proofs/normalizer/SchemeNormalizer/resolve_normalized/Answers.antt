@@ -8,8 +8,7 @@ use Rattle.uri_rules.specs.Normalizers.{default_ports_of, scheme_rules_of}
 use Rattle.uri_rules.specs.Rules.{rules_of}
 use Rattle.uri_rules.specs.Targets.{IsNormalTargetErrorUnder}
 use Rattle.uri_rules.proofs.NormalForms.{normal-form-of-normal-form}
-use Rattle.uri_rules.proofs.NormalTargets.{normal-form-of-target-is-normal-target}
-use Rattle.uri_rules.proofs.NormalTargets.{resolve-error-is-normal-target-error}
+use Rattle.uri_rules.proofs.NormalTargets.{normal-form-of-target-is-normal-target, resolve-error-is-normal-target-error}
 use Rattle.uri_rules.proofs.normalizer.SchemeNormalizer.resolve_normalized.Goals as goal
 
 pub returns-in_err-target-clause-refusal : goal.returns-in_err-target-clause-refusal

@@ -1,8 +1,7 @@
 use Rattle.std.proofs.Common.{◌≡◌, IfOk, ap, subst, ◌∙◌}
 use Rattle.std.specs.Prelude.{IsUtf8}
 use Rattle.std.proofs.lemmas.Str.{IsUtf8-from_ascii}
-use Rattle.uri_streams.proofs.LineResults.{bytes_result-of-mended, bytes_result-of-non-utf8}
-use Rattle.uri_streams.proofs.LineResults.{bytes_result-of-text}
+use Rattle.uri_streams.proofs.LineResults.{bytes_result-of-mended, bytes_result-of-non-utf8, bytes_result-of-text}
 use Rattle.uri_streams.proofs.Tasks.{IsResult-that-remembers-the-same}
 use Rattle.uri_streams.specs.Results.{LineResult}
 use Rattle.uri_streams.specs.Returned.{IsResult}

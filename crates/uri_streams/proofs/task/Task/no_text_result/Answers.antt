@@ -1,7 +1,6 @@
 use Rattle.std.proofs.Common.{◌∙◌, ap, subst}
 use Rattle.uri_streams.specs.Tasks.{Remembers, no_text_result}
-use Rattle.uri_streams.proofs.Tasks.{command-of-each, no_text_result-of-links}
-use Rattle.uri_streams.proofs.Tasks.{no_text_result-of-unique}
+use Rattle.uri_streams.proofs.Tasks.{command-of-each, no_text_result-of-links, no_text_result-of-unique}
 use Rattle.uri_streams.proofs.task.Task.no_text_result.Goals as goal
 
 pub returns-in-Each : goal.returns-in-Each

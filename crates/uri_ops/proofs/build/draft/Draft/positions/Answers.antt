@@ -1,9 +1,6 @@
 use Rattle.std.proofs.Common.{◌+◌, ◌≤◌, length, sym, subst, ◌∙◌}
 use Rattle.uri_ops.specs.Models.DraftPlaces.{delimited_len}
-use Rattle.uri_ops.proofs.Builders.DraftPositions.{host-end-is-in-authority}
-use Rattle.uri_ops.proofs.Builders.DraftPositions.{host-start-is-in-authority}
-use Rattle.uri_ops.proofs.Builders.DraftPositions.{draft-positions-are-of-its-parts}
-use Rattle.uri_ops.proofs.Builders.DraftPositions.{part-lengths-fit-in-text}
+use Rattle.uri_ops.proofs.Builders.DraftPositions.{host-end-is-in-authority, host-start-is-in-authority, draft-positions-are-of-its-parts, part-lengths-fit-in-text}
 use Rattle.uri_ops.proofs.build.draft.Draft.positions.Goals as goal
 
 pub positions_from_lengths-requires-clause-inside

@@ -1,8 +1,7 @@
 use Rattle.std.proofs.Common.{◌++◌, length, codes}
 use Rattle.std.specs.Prelude.{Some}
 use Rattle.uri_ops.specs.BuilderParts.{with_authority}
-use Rattle.uri_ops.proofs.Builders.BuilderDrafts.{change-of-draft-by-appending}
-use Rattle.uri_ops.proofs.Builders.BuilderDrafts.{draft-with-authority}
+use Rattle.uri_ops.proofs.Builders.BuilderDrafts.{change-of-draft-by-appending, draft-with-authority}
 use Rattle.uri_ops.proofs.build.draft.Draft.with_authority.Goals as goal
 
 pub appended-requires : goal.appended-requires

@@ -1,8 +1,7 @@
 use Rattle.std.proofs.Common.{◌≡◌, ◌∙◌, false, string_bytes}
 use Rattle.uri_ops.specs.BuilderParts.{with_host}
 use Rattle.uri_ops.proofs.Builders.BuilderDrafts.{change-of-parts-unless-failed}
-use Rattle.uri_ops.proofs.Builders.BuilderGrowth.{draft-with-longer-authority}
-use Rattle.uri_ops.proofs.Builders.BuilderGrowth.{string_len-is-length-of-bytes}
+use Rattle.uri_ops.proofs.Builders.BuilderGrowth.{draft-with-longer-authority, string_len-is-length-of-bytes}
 use Rattle.uri_ops.proofs.build.draft.Draft.with_host.Goals as goal
 
 pub invariant_of-result : goal.invariant_of-result

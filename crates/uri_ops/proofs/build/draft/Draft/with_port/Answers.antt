@@ -1,9 +1,7 @@
 use Rattle.std.proofs.Common.{◌≡◌, ◌∙◌, ◌++◌, false, codes, string_bytes}
 use Rattle.uri_ops.specs.BuilderParts.{with_port}
-use Rattle.uri_ops.proofs.Builders.BuilderDrafts.{change-of-parts-unless-failed}
-use Rattle.uri_ops.proofs.Builders.BuilderDrafts.{appended-twice-is-appended}
-use Rattle.uri_ops.proofs.Builders.BuilderGrowth.{draft-with-longer-authority}
-use Rattle.uri_ops.proofs.Builders.BuilderGrowth.{string_len-is-length-of-bytes}
+use Rattle.uri_ops.proofs.Builders.BuilderDrafts.{change-of-parts-unless-failed, appended-twice-is-appended}
+use Rattle.uri_ops.proofs.Builders.BuilderGrowth.{draft-with-longer-authority, string_len-is-length-of-bytes}
 use Rattle.uri_ops.proofs.build.draft.Draft.with_port.Goals as goal
 
 pub invariant_of-result : goal.invariant_of-result

@@ -2,8 +2,7 @@ use Rattle.std.proofs.Common.{map, refl}
 use Rattle.std.proofs.lemmas.Result.{on_ok_weaker}
 use Rattle.uri_pct.specs.Tables.{set_of}
 use Rattle.uri_pct.specs.Tokens.{Octet, print}
-use Rattle.uri_ops.proofs.Meanings.TakenDecodings.{appended-text-is-decoded-parts}
-use Rattle.uri_ops.proofs.Meanings.TakenDecodings.{ill-formed-octets-stay-octets}
+use Rattle.uri_ops.proofs.Meanings.TakenDecodings.{appended-text-is-decoded-parts, ill-formed-octets-stay-octets}
 use Rattle.uri_ops.proofs.normalize.decode_unreserved.DecodingTakeParts.take_ill_formed.Goals as
     goal
 

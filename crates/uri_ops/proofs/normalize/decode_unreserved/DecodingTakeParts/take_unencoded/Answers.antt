@@ -2,8 +2,7 @@ use Rattle.std.proofs.Common.{refl}
 use Rattle.std.proofs.lemmas.Result.{on_ok_weaker}
 use Rattle.uri_pct.specs.Tables.{set_of}
 use Rattle.uri_ops.specs.Models.Decodings.{lowered_text_if}
-use Rattle.uri_ops.proofs.Meanings.TakenDecodings.{appended-text-is-decoded-parts}
-use Rattle.uri_ops.proofs.Meanings.TakenDecodings.{literal-part-is-lowered}
+use Rattle.uri_ops.proofs.Meanings.TakenDecodings.{appended-text-is-decoded-parts, literal-part-is-lowered}
 use Rattle.uri_ops.proofs.normalize.decode_unreserved.DecodingTakeParts.take_unencoded.Goals as goal
 
 pub returns : goal.returns

@@ -3,8 +3,7 @@ use Rattle.std.proofs.lemmas.Result.{on_ok_weaker}
 use Rattle.uri_pct.specs.Encoding.{encode_text}
 use Rattle.uri_pct.specs.Tables.{set_of}
 use Rattle.uri_pct.specs.Tokens.{print}
-use Rattle.uri_ops.proofs.Meanings.TakenDecodings.{appended-text-is-decoded-parts}
-use Rattle.uri_ops.proofs.Meanings.TakenDecodings.{decoded-octets-past-ascii-are-encoded-text}
+use Rattle.uri_ops.proofs.Meanings.TakenDecodings.{appended-text-is-decoded-parts, decoded-octets-past-ascii-are-encoded-text}
 use Rattle.uri_ops.proofs.normalize.decode_unreserved.DecodingTakeParts.take_well_formed.Goals as
     goal
 

@@ -6,8 +6,7 @@ use Rattle.uri_pct.specs.DecodeUnreserved.{decode_unreserved}
 use Rattle.uri_pct.specs.Tables.{set_of}
 use Rattle.uri_pct.specs.Tokens.{print}
 use Rattle.uri_ops.proofs.Meanings.Decodable.{valid-text-is-decodable}
-use Rattle.uri_ops.proofs.Paths.WrittenPieces.{text-of-one-byte-slash-is-slash}
-use Rattle.uri_ops.proofs.Paths.WrittenPieces.{slash-decodes-to-slash}
+use Rattle.uri_ops.proofs.Paths.WrittenPieces.{text-of-one-byte-slash-is-slash, slash-decodes-to-slash}
 use Rattle.uri_ops.proofs.normalize.decoded_paths.DecodedSegmentMode.push.Goals as goal
 
 pub returns-then-is_slash : goal.returns-then-is_slash

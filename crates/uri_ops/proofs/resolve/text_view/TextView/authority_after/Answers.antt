@@ -1,6 +1,5 @@
 use Rattle.std.proofs.Common.{ap, length, sym, ◌∙◌}
-use Rattle.uri_ops.proofs.Targeting.TextViews.{authority-positions-after-scheme}
-use Rattle.uri_ops.proofs.Targeting.TextViews.{authority-positions-are-in-prefix}
+use Rattle.uri_ops.proofs.Targeting.TextViews.{authority-positions-after-scheme, authority-positions-are-in-prefix}
 use Rattle.uri_ops.proofs.resolve.text_view.TextView.authority_after.Goals as goal
 
 pub shift_authority-requires-clause-start : goal.shift_authority-requires-clause-start

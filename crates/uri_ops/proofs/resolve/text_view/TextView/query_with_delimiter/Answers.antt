@@ -2,8 +2,7 @@ use Rattle.std.proofs.Common.{ap, sym, subst, [], ◌∙◌}
 use Rattle.std.specs.Prelude.{codes, slice_range}
 use Rattle.std.specs.Str.{IsCharBoundary}
 use Rattle.uri_parts.specs.Components.{components, marked}
-use Rattle.uri_ops.proofs.Targeting.TextViews.{path_end-is-boundary, query-end-is-boundary}
-use Rattle.uri_ops.proofs.Targeting.TextViews.{slice-of-query}
+use Rattle.uri_ops.proofs.Targeting.TextViews.{path_end-is-boundary, query-end-is-boundary, slice-of-query}
 use Rattle.uri_ops.proofs.resolve.text_view.TextView.query_with_delimiter.Goals as goal
 
 pub range-requires-clause-start_boundary : goal.range-requires-clause-start_boundary
