@@ -1,9 +1,14 @@
 """The items of sources in Rattle, with their contracts and doc comments."""
+import functools
 import pathlib
 import re
 from typing import NamedTuple
 
 ROOT = pathlib.Path(__file__).resolve().parent.parent
+# The crates that examples of doc comments come from: all are proved.
+EXAMPLES = (
+    "cookbook", "obligations", "uri_commands", "uri_query", "uri_idna", "fluent_uri_c",
+)
 ITEM = re.compile(
     r"(?P<vis>pub )?(?P<final>final )?(?:const )?(?P<what>fn|struct|enum|trait|type|const|static) "
     r"(?P<name>\w+)"
@@ -125,3 +130,29 @@ def is_in_trait(lines, at):
 
 def file_of(path):
     return str(path.relative_to(ROOT))
+
+
+class Head(NamedTuple):
+    file: str
+    name: str
+    signature: str
+
+
+@functools.cache
+def examples():
+    """The sources that examples come from: each with its lines, and these without their margins."""
+    paths = [it for name in EXAMPLES for it in (ROOT / "crates" / name / "src").rglob("*.rt")]
+    return [(file_of(it), it.read_text(encoding="utf-8").splitlines()) for it in sorted(paths)]
+
+
+def head_of_example(program):
+    """The head of the function whose body has the lines of an example, if it is one."""
+    wanted = [it.strip() for it in program]
+    for file, lines in examples():
+        bare = [it.strip() for it in lines]
+        for at in range(len(lines) - len(wanted) + 1):
+            if bare[at : at + len(wanted)] == wanted and lines[at].startswith("    "):
+                while at >= 0 and not (found := re.match(r" *(?:pub )?fn (\w+)", lines[at])):
+                    at -= 1
+                return Head(file, found[1], signature_of(lines, at)) if at >= 0 else None
+    return None
