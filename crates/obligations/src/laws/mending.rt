@@ -13,8 +13,7 @@ ghost use Rattle.uri_mend.specs.Mending.{link_components, mended_text};
 
 use fluent_uri::UriRef;
 use std::alloc::Global;
-use uri_mend::laws as mend_laws;
-use uri_mend::{Mend, MendError};
+use uri_mend::{Mend, MendError, laws as mend_laws};
 
 /// A caller that drops the links that cannot be mended proves that no URI reference has the scheme
 /// and the authority of one.

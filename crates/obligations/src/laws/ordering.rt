@@ -11,8 +11,7 @@ ghost use Rattle.uri_rules.specs.Standard.{standard_rules};
 
 use fluent_uri::{Uri, laws};
 use std::cmp::Ordering;
-use uri_order::laws as order_laws;
-use uri_order::{NormalOrder, SchemeOrder};
+use uri_order::{NormalOrder, SchemeOrder, laws as order_laws};
 
 /// A caller that finds three links in order, each beside the next, proves that the first and the
 /// last are in order.
