@@ -19,6 +19,7 @@ pub mod normalising;
 pub mod octets;
 pub mod ordering;
 pub mod parsing;
+pub mod printed_rules;
 pub mod removing;
 pub mod splits;
 pub mod swapping;

@@ -1,10 +1,11 @@
 //! The lines of JSON that `urilines` writes (RFC 8259), and the pairs of a query (RFC 3986, section
 //! 3.4).
 ghost use Rattle.std.specs.Prelude.{◌≡◌, Some, bytes_eq, map};
-ghost use Rattle.std.specs.List.{IsDistinct};
+ghost use Rattle.std.specs.List.{IsDistinct, concat};
 ghost use Rattle.fluent_uri.specs.Components.{components};
 ghost use Rattle.fluent_uri.specs.Uris.{uri_text};
 ghost use Rattle.uri_query.specs.Pairs.{decode_pairs, pair_texts, query_text};
+ghost use Rattle.uri_streams.specs.Checks.{lines_for};
 ghost use Rattle.uri_streams.specs.Json.{json_of};
 ghost use Rattle.uri_streams.specs.JsonTexts.{IsJsonTextOf, JsonValue};
 ghost use Rattle.uri_streams.specs.JsonValues.{components_value, named_components, present};
@@ -14,6 +15,8 @@ ghost use Rattle.uri_streams.specs.Queries.{pairs_of_query, query_json};
 use fluent_uri::Uri;
 use uri_query::Pair;
 use uri_query::pairs::pairs_of_their_query_are_the_same;
+use uri_streams::checks::check_and_its_inverse_make_up_the_input;
+use uri_streams::job::Job;
 use uri_streams::laws as line_laws;
 
 /// A caller that writes a query of pairs proves that a reader of it gets these pairs.
@@ -64,4 +67,11 @@ pub fn same_pairs_of_a_value(one: &str, other: &str)
         → pairs_of_query (Some one.now) ≡ pairs_of_query (Some other.now) }
 {
     line_laws::query_lines_determine_their_pairs();
+}
+
+/// A caller that joins the lines of a job proves that it has the input again.
+pub fn lines_joined(job: &Job, input: &[u8])
+    ensures { concat (lines_for job.now input.now) ≡ input.now }
+{
+    check_and_its_inverse_make_up_the_input();
 }
