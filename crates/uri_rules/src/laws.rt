@@ -138,8 +138,8 @@ pub fn normal_forms_have_equivalent_targets<K: RefKind, B: AsStr, T: AsStr>(
         ↔ IsErrorWithUnderflowAllowed (components (reference_text base.now))
         (components (reference_text reference.now)) error) }
 {
-    let _base = base.core();
-    let _reference = reference.core();
+    let _base = base.core().as_str();
+    let _reference = reference.core().as_str();
 }
 
 /// It makes no difference under any rules either: the targets of a base and a reference, and of
@@ -198,6 +198,6 @@ pub fn normal_forms_under_rules_have_equivalent_targets<
         ↔ IsErrorWithUnderflowAllowed (components (reference_text base.now))
         (components (reference_text reference.now)) error) }
 {
-    let _base = base.core();
-    let _reference = reference.core();
+    let _base = base.core().as_str();
+    let _reference = reference.core().as_str();
 }
