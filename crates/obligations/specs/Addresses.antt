@@ -1,6 +1,8 @@
 -- The order of IP addresses, in the words of a caller.
 use Rattle.std.specs.Cmp.Lexicographic.{slice_cmp}
-use Rattle.std.specs.Ordering.{Ordering, Greater, Less, nat_cmp}
+use Rattle.std.specs.Ordering.{nat_cmp}
+use Rattle.std.specs.declared.cmp.Ordering.{Ordering}
+use Rattle.std.specs.declared.cmp.Ordering.TheVariants.{Greater, Less}
 use Rattle.fluent_uri.specs.Addresses.{ipv4_octets, ipv6_segments}
 use Rattle.uri_parts.specs.declared.net.IpAddr.{IpAddr}
 use Rattle.uri_parts.specs.declared.net.IpAddr.TheVariants.{V4, V6}

@@ -1,7 +1,9 @@
 -- Total orders of texts by their normal forms.
 use Rattle.std.specs.Prelude.{◌≡◌, ◌⊎◌, ℕ, List, true}
 use Rattle.std.specs.Cmp.Lexicographic.{slice_cmp}
-use Rattle.std.specs.Ordering.{Ordering, Equal, is_le, nat_cmp, ordering_reverse}
+use Rattle.std.specs.Ordering.{is_le, nat_cmp, ordering_reverse}
+use Rattle.std.specs.declared.cmp.Ordering.{Ordering}
+use Rattle.std.specs.declared.cmp.Ordering.TheVariants.{Equal}
 
 -- the order of the forms that two texts have, byte by byte
 abbrev pub order_by : (List ℕ → List ℕ) → List ℕ → List ℕ → Ordering

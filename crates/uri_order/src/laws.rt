@@ -1,5 +1,6 @@
 //! Laws of the order of normal forms, each the contract of a function that does nothing.
 ghost use Rattle.std.specs.Prelude.{◌≡◌, ◌↔◌, ℕ, List};
+ghost use Rattle.std.specs.declared.cmp.Ordering.TheVariants.{Equal};
 ghost use Rattle.uri_parts.specs.Grammar.{IsTextOf, Kind};
 ghost use Rattle.uri_parts.specs.Ports.{PortFunction};
 ghost use Rattle.uri_ops.specs.ComponentSets.{HasComponentSets};
@@ -19,7 +20,7 @@ pub fn normal_forms_are_in_a_total_order()
         → IsTotalOrderBy (normal_form kind ports) }
     ensures equal { (kind : Kind) (ports : PortFunction) (one other : List ℕ)
         → HasComponentSets kind → IsTextOf kind one → IsTextOf kind other
-        → (order_by (normal_form kind ports) one other ≡ Ordering.Equal
+        → (order_by (normal_form kind ports) one other ≡ Equal
         ↔ AreEquivalent kind ports one other) }
 {}
 
@@ -33,6 +34,6 @@ pub fn normal_forms_under_rules_are_in_a_total_order()
         → IsTotalOrderBy (normal_form_under kind rules) }
     ensures equal { (kind : Kind) (rules : Rules) (one other : List ℕ)
         → HasComponentSets kind → IsTextOf kind one → IsTextOf kind other
-        → (order_by (normal_form_under kind rules) one other ≡ Ordering.Equal
+        → (order_by (normal_form_under kind rules) one other ≡ Equal
         ↔ AreEquivalentUnder kind rules one other) }
 {}
