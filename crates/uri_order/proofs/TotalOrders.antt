@@ -7,11 +7,9 @@ use Rattle.std.specs.Ordering.{is_gt, is_le, ordering_reverse}
 use Rattle.uri_parts.specs.Grammar.{IsTextOf, Kind}
 use Rattle.uri_parts.specs.Ports.{PortFunction}
 use Rattle.uri_ops.specs.ComponentSets.{HasComponentSets}
-use Rattle.uri_ops.specs.Meaning.{meaning_of}
-use Rattle.uri_ops.specs.Normal.{normal_text}
 use Rattle.uri_order.specs.NormalForms.{AreEquivalent, AreEquivalentUnder, normal_form, normal_form_under}
 use Rattle.uri_order.specs.TotalOrders.{IsTotalOrderBy, order_by}
-use Rattle.uri_order.proofs.Equivalences.{equal_in_order_if_equal, equivalent_if_forms_are_equal, forms_under_ports_alone, holds_if_equals_are_equal, meanings_under_ports_alone}
+use Rattle.uri_order.proofs.Equivalences.{equal_in_order_if_equal, equivalent_if_forms_are_equal, forms_under_ports_alone, meanings_under_ports_alone}
 use Rattle.uri_rules.specs.Rules.{Rules, only_ports}
 
 -- total orders: what is at most another is not greater

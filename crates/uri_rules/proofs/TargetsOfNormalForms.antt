@@ -11,7 +11,7 @@ use Rattle.uri_ops.specs.Normal.{normal_text}
 use Rattle.uri_ops.specs.NormalTargets.{reference_kind, resolved_meaning}
 use Rattle.uri_ops.specs.Normalizers.{IsNormalForm}
 use Rattle.uri_ops.specs.Resolving.{IsErrorWithUnderflowAllowed}
-use Rattle.uri_ops.specs.Target.{TargetError, resolution_of_texts}
+use Rattle.uri_ops.specs.Target.{resolution_of_texts}
 use Rattle.uri_ops.specs.declared.resolve.error.ResolveError.{ResolveError}
 use Rattle.uri_ops.proofs.Targeting.NormalTargets.{equal-mapped-results-are-ok-alike, equal-mapped-results-have-equal-errors, equal-mapped-results-have-equal-targets, mapped, resolution-is-unique, same-resolution-error-with-underflow-allowed}
 use Rattle.uri_ops.proofs.Targeting.Swaps.{resolving-respects-meaning}
