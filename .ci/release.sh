@@ -157,6 +157,7 @@ address=$(sed -n 's/^Maintainer: .*<\(.*\.example\)>$/\1/p' debian/control)
 must 'that an address takes no reports' "${address:+release: $address of debian/control takes no \
 reports (SECURITY.md)}" "$(grep 'takes no reports' "$work/err")"
 must 'the files of a release' "SHA256SUMS
+fluent-uri-$version-api.html
 fluent-uri-$version-arm64.proved.txt
 fluent-uri-$version-arm64.spdx.json
 fluent-uri-$version-source.tar.gz
@@ -285,7 +286,7 @@ must 'what is proved from nothing' "$(echo "$of_release" | tr ' ' '\n')" "$(cat 
 kept=$work/another/out/release.work/kept
 must 'where the checks of a release keep their work' "$kept $kept/work" "$(sort -u "$work/stores")"
 must 'the line of a second build' \
-    "release: $tree/out/release is $version, byte for byte: 18 files" "$(tail -n 1 "$work/out")"
+    "release: $tree/out/release is $version, byte for byte: 19 files" "$(tail -n 1 "$work/out")"
 cp "$tree/LICENSE" "$tree/out/release/fluent-uri-$version.spdx.json"
 tools/release --verify "$tree/out/release" > "$work/out" 2> "$work/err"
 must 'the status of a release with another file' 1 $?

@@ -49,7 +49,7 @@ extern "C" {
 #define FLUENT_URI_VERSION_MINOR 1
 
 /** The version of normal forms, as fluent_uri_normal_version returns it. */
-#define FLUENT_URI_NORMAL_VERSION 1
+#define FLUENT_URI_NORMAL_VERSION 2
 
 /** The kinds of texts. */
 enum fluent_uri_kind {
@@ -263,8 +263,8 @@ uint32_t fluent_uri_ascii_host(uint32_t kind, const uint8_t *text, size_t text_l
                                size_t out_len, fluent_uri_outcome *outcome);
 
 /** Writes the normal form (RFC 3986, section 6.2.2; default ports are left out, which is of section
- * 6.2.3). OPTIONS is 0 or FLUENT_URI_SCHEME_RULES: with it the form is that of the whole of section
- * 6.2.3. Forms with it and without it are no keys of one table. */
+ * 6.2.3). OPTIONS is 0 or FLUENT_URI_SCHEME_RULES: with it the form is by the other rules of schemes
+ * too. Forms with it and without it are no keys of one table. */
 uint32_t fluent_uri_normalize(uint32_t kind, uint32_t options, const uint8_t *text, size_t text_len,
                               uint8_t *out, size_t out_len, fluent_uri_parts *parts,
                               size_t parts_len, fluent_uri_outcome *outcome);

@@ -9,3 +9,4 @@ pub mod Octets
 pub mod PathBack
 pub mod RuledParts
 pub mod SegmentsLeft
+pub mod TotalOrders

@@ -11,3 +11,4 @@ pub mod PathBack
 pub mod Ports
 pub mod RuledParts
 pub mod SegmentsLeft
+pub mod TotalOrders

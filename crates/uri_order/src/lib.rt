@@ -5,6 +5,7 @@ mod address_text;
 mod held;
 mod in_step;
 mod last_tokens;
+pub mod laws;
 mod literal_back;
 mod no_rules;
 mod normal_authority;

@@ -190,7 +190,7 @@ class Reference:
 
     def normalize(self: Self, *, scheme_rules: bool = False) -> Self:
         """Returns the normal form (RFC 3986, section 6.2.2), without a default or empty port
-        (section 6.2.3). With `scheme_rules` it is that of the whole of section 6.2.3: `http://a` is
+        (section 6.2.3). With `scheme_rules` it is by the other rules of schemes too: `http://a` is
         `http://a/`."""
         if not scheme_rules and self.__is_plainly_normal():
             return self
