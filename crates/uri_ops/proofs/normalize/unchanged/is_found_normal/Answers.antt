@@ -13,9 +13,9 @@ use Rattle.uri_ops.proofs.Normal.UnchangedPaths.{path-of-text-that-stays-is-unch
 use Rattle.uri_ops.proofs.Normal.UnchangedTexts.{unchanged-text-is-its-normal-text}
 use Rattle.uri_ops.proofs.TextKinds.FourKinds.{one-of-four-kinds-has-sets}
 use Rattle.uri_ops.proofs.normalize.unchanged.is_found_normal.Goals as goal
-use Rattle.uri_ops.proofs.normalize.unchanged.is_found_normal.Goals.{then-has_scheme, else-has_scheme}
+use Rattle.uri_ops.proofs.normalize.unchanged.is_found_normal.Goals.{After-is_kept, then-has_scheme, else-has_scheme}
 
-kept : (g : _) (c : goal.After-is_kept g) → c.is_kept.result ≡ true
+kept : (g : _) (c : After-is_kept g) → c.is_kept.result ≡ true
     → IsKept c.lacks_past_ascii.result (core_text c.args.core)
     × AreUnchanged (components (core_text c.args.core))
 kept g c e =
