@@ -1,8 +1,9 @@
-use Rattle.std.proofs.Common.{◌≡◌, ◌<◌, ◌≤◌, List, ℕ, true, length, arith, ap, sym, subst, ◌∙◌}
+use Rattle.std.proofs.Common.{◌≡◌, ◌<◌, ◌≤◌, List, ℕ, true, length, arith, ap, option_map, sym, subst, ◌∙◌}
 use Rattle.std.specs.Prelude.{IfSome, is_some}
 use Rattle.std.specs.Str.{IsUtf8}
 use Rattle.std.proofs.lemmas.Bool.{both_ways}
 use Rattle.uri_parts.specs.Authority.{authority_parts}
+use Rattle.uri_parts.specs.AuthorityTexts.{authority_text}
 use Rattle.uri_parts.specs.Components.{Components, components}
 use Rattle.uri_parts.specs.CoreTexts.{core_text}
 use Rattle.uri_parts.specs.Positions.{positions_of}
@@ -13,9 +14,9 @@ use Rattle.uri_ops.proofs.Normal.UnchangedPaths.{path-of-text-that-stays-is-unch
 use Rattle.uri_ops.proofs.Normal.UnchangedTexts.{unchanged-text-is-its-normal-text}
 use Rattle.uri_ops.proofs.TextKinds.FourKinds.{one-of-four-kinds-has-sets}
 use Rattle.uri_ops.proofs.normalize.unchanged.is_found_normal.Goals as goal
-use Rattle.uri_ops.proofs.normalize.unchanged.is_found_normal.Goals.{After-is_kept, then-has_scheme, else-has_scheme}
+use Rattle.uri_ops.proofs.normalize.unchanged.is_found_normal.Goals.{then-has_scheme, else-has_scheme}
 
-kept : (g : _) (c : After-is_kept g) → c.is_kept.result ≡ true
+kept : (g : _) (c : goal.After-is_port_unchanged g) → c.is_kept.result ≡ true
     → IsKept c.lacks_past_ascii.result (core_text c.args.core)
     × AreUnchanged (components (core_text c.args.core))
 kept g c e =
@@ -52,9 +53,12 @@ returns-then-is_kept-clause-text g c = λ e.
     let both = kept g c c.if-is_kept.true in
     let port : IfSome (components text).authority (λ a. IsUnchangedPort
         (default_port_of ports (components text).scheme) (authority_parts a).port) =
-    transport (λ i. IfSome (c.authority.ensures i) (λ a. IsUnchangedPort
-        (default_port_of ports (c.scheme.ensures i)) (authority_parts a).port))
-    (c.is_port_unchanged.ensures e) in
+    subst (λ o. IfSome o (λ a. IsUnchangedPort
+        (default_port_of ports (components text).scheme) (authority_parts a).port))
+    c.authority.ensures
+    (subst (λ s. IfSome (option_map authority_text c.authority.result)
+        (λ a. IsUnchangedPort (default_port_of ports s) (authority_parts a).port))
+    c.scheme.ensures (c.is_port_unchanged.ensures e)) in
     record {
       text = unchanged-text-is-its-normal-text kind
           (one-of-four-kinds-has-sets kind g.met.K.Kind.known) c.lacks_past_ascii.result

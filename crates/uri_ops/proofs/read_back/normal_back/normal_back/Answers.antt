@@ -1,5 +1,4 @@
-use Rattle.std.proofs.Common.{◌≡◌, [], codes, sym, ap, ◌∙◌, option_map}
-use Rattle.std.specs.Prelude.{is_some}
+use Rattle.std.proofs.Common.{[], codes, sym, ap, ◌∙◌, option_map}
 use Rattle.std.specs.Option.{option_and_then}
 use Rattle.std.specs.Str.{str_to_ascii_lowercase}
 use Rattle.uri_pct.specs.DecodeUnreserved.{decode_unreserved}
