@@ -58,8 +58,8 @@ impl<'a> NormalForm<'a> {
     }
 }
 
-/// Returns `true` only if a value is found to be its own normal form under the setting's rules. With
-/// the rules of schemes it returns `false`.
+/// Returns `true` only if a value is found to be its own normal form under the setting's rules.
+/// With the rules of schemes it returns `false`.
 #[inline(always)]
 pub fn is_own_normal_form<K: Kind>(setting: RuleSetting, value: &Reference<K, &str>) -> bool
     ensures { let text = reference_text value.now in

@@ -18,8 +18,7 @@ pub(crate) mod decoded_paths;
 pub mod formatting;
 pub(crate) mod kept_octets;
 pub(crate) mod literal_runs;
-#[doc(hidden)]
-pub mod normal_authority;
+pub(crate) mod normal_authority;
 #[doc(hidden)]
 pub mod normal_text;
 pub(crate) mod normalized;

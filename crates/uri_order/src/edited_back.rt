@@ -1,5 +1,5 @@
-//! The normal text of a value with what the rules of its scheme change in it, read from its end (RFC
-//! 3986, section 6.2.3).
+//! The normal text of a value with what the rules of its scheme change in it, read from its end
+//! (RFC 3986, section 6.2.3).
 ghost use Rattle.std.specs.Prelude.{◌≡◌, [], Some, codes, if◌then◌else◌, option_map};
 ghost use Rattle.uri_pct.specs.EncodedTexts.{text_of};
 ghost use Rattle.uri_pct.specs.Tokens.{IsValidFor};

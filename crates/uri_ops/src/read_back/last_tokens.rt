@@ -4,8 +4,8 @@ ghost use Rattle.std.specs.Prelude.{◌≡◌, ◌<◌, ◌∷◌, [], IfSome, M
 ghost use Rattle.uri_pct.specs.Chunks.{widest_set};
 ghost use Rattle.uri_pct.specs.Tables.{set_of};
 ghost use Rattle.uri_pct.specs.Tokens.{Char, Octet, tokens, IsValidFor};
-ghost use Rattle.uri_ops.specs.FromEnd.LastTokens.{AreDecodable, AreNoDecodable, EndInNoOctet, EndsIn};
-ghost use Rattle.uri_ops.specs.FromEnd.LastTokens.{EndsInDecodable, LacksPercentThird};
+ghost use Rattle.uri_ops.specs.FromEnd.LastTokens.{AreDecodable, AreNoDecodable, EndInNoOctet};
+ghost use Rattle.uri_ops.specs.FromEnd.LastTokens.{EndsIn, EndsInDecodable, LacksPercentThird};
 ghost use Rattle.uri_ops.specs.FromEnd.LastTokens.{TokensEndInNoDecodable};
 
 use std::str;

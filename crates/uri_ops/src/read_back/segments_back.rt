@@ -4,29 +4,17 @@ ghost use Rattle.std.specs.Prelude.{◌≡◌, ◌≤◌, ◌<◌, ◌+◌, ◌^
 ghost use Rattle.std.specs.Prelude.{MatchOption, codes, false, true, if◌then◌else◌};
 ghost use Rattle.uri_ops.specs.Dots.{IsAbsolute, has_slash, is_dot_segment, is_double_dot};
 ghost use Rattle.uri_ops.specs.Dots.{is_single_dot, remove_dot_segments};
-ghost use Rattle.uri_ops.specs.FromEnd.SegmentsLeft.{IsLastSegmentLeft, is_abempty_path, segments_left};
-ghost use Rattle.uri_ops.specs.FromEnd.SegmentsLeft.{with_segment, without_last_segments};
+ghost use Rattle.uri_ops.specs.FromEnd.SegmentsLeft.{IsLastSegmentLeft, is_abempty_path};
+ghost use Rattle.uri_ops.specs.FromEnd.SegmentsLeft.{segments_left, with_segment};
+ghost use Rattle.uri_ops.specs.FromEnd.SegmentsLeft.{without_last_segments};
+
+use crate::path::leading_segment::is_double_dot;
 
 /// Returns whether a segment is `.`, also percent-encoded.
 fn is_single_dot(segment: &str) -> bool
     ensures { result ≡ is_single_dot segment.now }
 {
     segment == "." || segment == "%2E" || segment == "%2e"
-}
-
-/// Returns whether a segment is `..`. Each dot may be percent-encoded.
-fn is_double_dot(segment: &str) -> bool
-    ensures { result ≡ is_double_dot segment.now }
-{
-    segment == ".."
-        || segment == ".%2E"
-        || segment == ".%2e"
-        || segment == "%2E."
-        || segment == "%2E%2E"
-        || segment == "%2E%2e"
-        || segment == "%2e."
-        || segment == "%2e%2E"
-        || segment == "%2e%2e"
 }
 
 /// Returns whether a segment is `.` or `..`, also percent-encoded.

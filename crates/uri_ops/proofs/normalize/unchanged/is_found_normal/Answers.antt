@@ -52,12 +52,12 @@ returns-then-is_kept-clause-text g c = λ e.
     let ports = g.P.DefaultPort.port_of c.args.ports.now in
     let both = kept g c c.if-is_kept.true in
     let port : IfSome (components text).authority (λ a. IsUnchangedPort
-        (default_port_of ports (components text).scheme) (authority_parts a).port) =
+    (default_port_of ports (components text).scheme) (authority_parts a).port) =
     subst (λ o. IfSome o (λ a. IsUnchangedPort
-        (default_port_of ports (components text).scheme) (authority_parts a).port))
+    (default_port_of ports (components text).scheme) (authority_parts a).port))
     c.authority.ensures
     (subst (λ s. IfSome (option_map authority_text c.authority.result)
-        (λ a. IsUnchangedPort (default_port_of ports s) (authority_parts a).port))
+    (λ a. IsUnchangedPort (default_port_of ports s) (authority_parts a).port))
     c.scheme.ensures (c.is_port_unchanged.ensures e)) in
     record {
       text = unchanged-text-is-its-normal-text kind
