@@ -193,13 +193,6 @@ uint32_t fluent_uri_error_message(uint32_t error, uint8_t *out, size_t out_len,
 uint32_t fluent_uri_parse(uint32_t kind, const uint8_t *text, size_t text_len,
                           fluent_uri_parts *parts);
 
-/** Returns 1 only if a text is its own normal form, and else 0: a cheap test before
- * fluent_uri_normalize, which parses the text again and takes memory. PARTS are what
- * fluent_uri_parse wrote of the text as one of the kind, without an error. Of a few normal texts it
- * returns 0, as of those with a port, or a `/` before a `.`. Takes no memory. */
-uint32_t fluent_uri_is_plainly_normal(uint32_t kind, const uint8_t *text, size_t text_len,
-                                      const fluent_uri_parts *parts);
-
 /** Returns 1 exactly if a text is of the kind and its own normal form by the options of
  * fluent_uri_normalize, and else 0. Unknown options have no normal forms. Takes no memory. */
 uint32_t fluent_uri_is_normal(uint32_t kind, uint32_t options, const uint8_t *text,

@@ -6,7 +6,7 @@ use Rattle.uri_parts.specs.CoreTexts.{core_text}
 use Rattle.uri_ops.specs.Dots.{is_empty}
 use Rattle.uri_ops.specs.Normal.{default_port_of}
 use Rattle.uri_ops.proofs.TextKinds.FourKinds.{one-of-four-kinds-has-sets}
-use Rattle.uri_order.specs.Addresses.{ipv6_host_of}
+use Rattle.uri_ops.specs.FromEnd.Addresses.{ipv6_host_of}
 use Rattle.uri_order.specs.RuledParts.{drops_host}
 use Rattle.uri_order.proofs.Equivalences.{equal_text_is_of_kind}
 use Rattle.uri_order.proofs.RuledParts.{edited_address, edited_components_have_ruled_form}
