@@ -1,7 +1,5 @@
 -- A run of characters of ASCII and of parts of characters from U+00C0 to U+D7FF is scanned.
-use Rattle.std.proofs.Common.{◌≡◌, ℕ, zero, suc, ◌+◌, ◌<◌, ◌≤◌, Bool, true, not, eqb, List, length, get_or, drop, refl, sym, ap, subst, arith, ⊎_elim, ◌&&◌}
-use Rattle.std.specs.Prelude.{nat_le}
-use Rattle.std.specs.Str.{IsUtf8, IsCharBoundary}
+use Rattle.std.proofs.Common.{◌≡◌, ℕ, zero, suc, ◌+◌, ◌<◌, ◌≤◌, Bool, true, not, eqb, List, length, get_or, drop, refl, sym, ap, subst, arith, ⊎_elim, ◌&&◌, nat_le, IsUtf8, IsCharBoundary}
 use Rattle.std.proofs.lemmas.Str.{IsCharBoundary-after_ascii}
 use Rattle.std.proofs.lemmas.Bool.{cases_lt, or_cases, or_right, both_ways}
 use Rattle.std.proofs.lemmas.Bool.Decides.{nat_tests}

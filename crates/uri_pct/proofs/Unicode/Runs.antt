@@ -1,8 +1,6 @@
 -- The pieces of a run of octets, by the parts that std finds in it.
-use Rattle.std.proofs.Common.{◌≡◌, ℕ, suc, ◌<◌, List, [], ◌∷◌, ◌++◌, length, take, drop, map, refl, sym, ap, ◌∙◌, subst, arith, append_assoc, true, ◌==◌}
-use Rattle.std.specs.Str.{IsUtf8}
+use Rattle.std.proofs.Common.{◌≡◌, ℕ, suc, ◌<◌, List, [], ◌∷◌, ◌++◌, length, take, drop, map, refl, sym, ap, ◌∙◌, subst, arith, append_assoc, true, ◌==◌, IsUtf8, eqb-true}
 use Rattle.std.specs.Str.Lossy.{utf8_valid_len, utf8_invalid_len}
-use Rattle.std.proofs.lemmas.Bool.{eqb-true}
 use Rattle.std.proofs.lemmas.List.{append-nil, nil_from_length, length-append}
 use Rattle.std.proofs.Math.Seq.{take-append_seam, drop-append_seam}
 use Rattle.uri_pct.specs.Pieces.{IllFormed, following_ranges, first_piece_tail_len, first_piece, pieces_from, utf8_pieces, piece_bytes}

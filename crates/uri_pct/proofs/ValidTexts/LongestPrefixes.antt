@@ -1,7 +1,6 @@
 -- The longest prefix that is valid for a set: it is valid, and none that is longer is.
-use Rattle.std.proofs.Common.{◌≡◌, ℕ, ◌+◌, ◌≤◌, true, false, eqb, cond, List, [], ◌∷◌, ◌++◌, length, take, drop, refl, sym, ap, subst, ◌∙◌, arith, ◌&&◌, ⊎_elim, length-append, length-take-le}
+use Rattle.std.proofs.Common.{◌≡◌, ℕ, ◌+◌, ◌≤◌, true, false, eqb, cond, List, [], ◌∷◌, ◌++◌, length, take, drop, refl, sym, ap, subst, ◌∙◌, arith, ◌&&◌, ⊎_elim, length-append, length-take-le, take-append-drop}
 use Rattle.std.proofs.Math.Seq.{take-append_seam}
-use Rattle.std.proofs.lemmas.List.{take-append-drop}
 use Rattle.std.specs.List.{list_all}
 use Rattle.std.specs.Char.{encode_utf8, len_utf8, is_ascii_hexdigit}
 use Rattle.std.specs.Str.{chars, encode_utf8_all, all_scalars, IsUtf8, IsCharBoundary}

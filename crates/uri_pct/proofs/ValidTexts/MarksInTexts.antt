@@ -1,6 +1,5 @@
 -- How far a text is without a mark, and that no mark is within a character of it.
-use Rattle.std.proofs.Common.{◌≡◌, ℕ, zero, suc, ◌+◌, ◌-◌, ◌*◌, ◌<◌, Bool, true, false, eqb, not, List, [], ◌∷◌, ◌++◌, length, get_or, take, drop, refl, sym, subst, ap, ◌∙◌, arith, ◌&&◌, ⊎_elim}
-use Rattle.std.specs.Prelude.{nat_lt, slice_index}
+use Rattle.std.proofs.Common.{◌≡◌, ℕ, zero, suc, ◌+◌, ◌-◌, ◌*◌, ◌<◌, Bool, true, false, eqb, not, List, [], ◌∷◌, ◌++◌, length, get_or, take, drop, refl, sym, subst, ap, ◌∙◌, arith, ◌&&◌, ⊎_elim, nat_lt, slice_index}
 use Rattle.std.specs.List.{list_all, prefix_len}
 use Rattle.std.specs.Str.{IsUtf8, IsCharBoundary, encode_utf8_all, continuation_len, lead_bits, chars, chars_after}
 use Rattle.std.proofs.lemmas.Str.{IsCharBoundary-before_ascii, IsCharBoundary-end}

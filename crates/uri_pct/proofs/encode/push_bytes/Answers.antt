@@ -1,5 +1,4 @@
-use Rattle.std.proofs.Common.{◌≡◌, ◌++◌, ap, ◌∙◌, map, string_bytes, subst}
-use Rattle.std.specs.Str.{IsUtf8}
+use Rattle.std.proofs.Common.{◌≡◌, ◌++◌, ap, ◌∙◌, map, string_bytes, subst, IsUtf8}
 use Rattle.std.specs.Str.Chunks.{utf8_chunks_rest, utf8_chunk_valid, utf8_chunk_invalid}
 use Rattle.uri_pct.specs.Encoding.{encode_text}
 use Rattle.uri_pct.specs.Tables.{set_of}

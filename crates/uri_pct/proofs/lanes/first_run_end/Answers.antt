@@ -1,5 +1,6 @@
 use Rattle.std.proofs.Common.{arith, refl, rules}
 use Rattle.std.specs.Simd.Lanes.{chunk}
+use Rattle.std.proofs.lemmas.Bool.Decides.{nat_tests}
 use Rattle.uri_pct.specs.Masks.{has_bit}
 use Rattle.uri_pct.proofs.LaneScans.LaneMasks.{index_of_mask_byte_is_small}
 use Rattle.uri_pct.proofs.LaneScans.LaneBits.{trailing_zeros_is_first_set_lane}
@@ -34,10 +35,7 @@ returns-then-mask-eq0 c =
 
 -- the first byte outside the set
 pub bounds-bytes-first : goal.bounds-bytes-first
-bounds-bytes-first c =
-    let b = c.first_block_outside-block.ensures in
-    let f = trailing_zeros_is_first_set_lane _ b.below c.if-mask-eq0.false in
-    omega (arith, b.room, f.0)
+bounds-bytes-first c = grind (arith, nat_tests, trailing_zeros_is_first_set_lane)
 
 pub returns-then-bytes-first-ne37 : goal.returns-then-bytes-first-ne37
 returns-then-bytes-first-ne37 c =
@@ -110,11 +108,7 @@ returns-then-last-eq0 c =
 
 -- it is one of the last two lanes
 pub bounds-bytes-end : goal.bounds-bytes-end
-bounds-bytes-end c =
-    let o = c.lanes_outside_octets-open in
-    let first = first_of_last_lanes o.result o.ensures.below c.if-certain-ne0.false
-    c.if-last-eq0.false in
-    omega (arith, c.first_block_outside-block.ensures.room, first.within)
+bounds-bytes-end c = grind (arith, nat_tests, first_of_last_lanes)
 
 pub returns : goal.returns
 returns c =

@@ -1,5 +1,4 @@
-use Rattle.std.proofs.Common.{◌≡◌, ◌+◌, ◌≤◌, Bool, true, false, not, eqb, length, refl, sym, ap, subst, ◌∙◌, arith, bit_and, w64, ◌&&◌, ◌||◌}
-use Rattle.std.specs.Prelude.{slice_index, nat_le}
+use Rattle.std.proofs.Common.{◌≡◌, ◌+◌, ◌≤◌, Bool, true, false, not, eqb, length, refl, sym, ap, subst, ◌∙◌, arith, bit_and, w64, ◌&&◌, ◌||◌, slice_index, nat_le}
 use Rattle.std.specs.Int.{bit_not}
 use Rattle.std.proofs.lemmas.Nat.{and_le_l}
 use Rattle.uri_pct.specs.Masks.{has_bit}

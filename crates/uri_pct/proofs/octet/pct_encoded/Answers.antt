@@ -1,5 +1,6 @@
 use Rattle.std.proofs.Common.{◌≡◌, ◌+◌, ◌-◌, ◌*◌, arith}
 use Rattle.std.proofs.lemmas.Str.{IsCharBoundary-from_ascii}
+use Rattle.std.proofs.lemmas.Bool.Decides.{nat_tests}
 use Rattle.uri_pct.specs.declared.octet.TheConstants.{OCTETS}
 use Rattle.uri_pct.proofs.Decodings.OctetTexts.{octet_entry_is_printed_octet, octet_table_is_ascii}
 use Rattle.uri_pct.proofs.octet.pct_encoded.Goals as goal
@@ -13,7 +14,4 @@ range-requires-clause-end_boundary c =
     IsCharBoundary-from_ascii OCTETS.now _ octet_table_is_ascii (omega arith)
 
 pub returns : goal.returns
-returns c =
-    let three : c.from-start.result * 3 + 3 - c.from-start.result * 3 ≡ 3 = omega arith in
-    rw (c.range.ensures.value, three, c.from-start.ensures)
-    (octet_entry_is_printed_octet c.args.byte (omega arith))
+returns c = grind (arith, nat_tests, octet_entry_is_printed_octet)

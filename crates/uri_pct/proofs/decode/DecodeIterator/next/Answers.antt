@@ -1,23 +1,17 @@
-use Rattle.std.proofs.Common.{◌≡◌, ◌∷◌, [], ◌+◌, ◌*◌, ℕ, List, eqb, length, get_or, drop, sym, ap, ◌∙◌, subst, arith, rules}
+use Rattle.std.proofs.Common.{◌≡◌, ◌∷◌, [], ◌+◌, ◌*◌, ℕ, List, eqb, length, get_or, drop, sym, ap, ◌∙◌, subst, arith, rules, IsUtf8, eqb-true}
 use Rattle.std.specs.Char.{digit_value, is_ascii_hexdigit}
 use Rattle.std.specs.List.{position_or_len}
-use Rattle.std.specs.Str.{IsUtf8}
+use Rattle.std.proofs.lemmas.Bool.Decides.{nat_tests}
 use Rattle.uri_pct.specs.Chunks.{Byte, Text, chunks, widest_set}
 use Rattle.uri_pct.specs.Tokens.{IsValidFor}
 use Rattle.uri_pct.proofs.Decodings.Decoding.{BeginsWithOctet, boundary_after_octet, bytes_from_percent_begin_with_octet, bytes_begin_with_text_up_to_percent, first_chunk_is_value_of_octet, empty_text_has_no_chunks}
 use Rattle.std.proofs.lemmas.List.{nil_from_length}
-use Rattle.std.proofs.lemmas.Bool.{eqb-true}
 use Rattle.uri_pct.proofs.decode.DecodeIterator.next.Goals as goal
 use Rattle.uri_pct.proofs.decode.DecodeIterator.next.Goals.{Then-bytes-eq37}
 
 pub returns-then-is_empty-clause-steps : goal.returns-then-is_empty-clause-steps
 returns-then-is_empty-clause-steps c =
-    let none : chunks c.args.self.now.rest.now ≡ [] =
-    ap chunks (sym c.as_bytes-bytes.ensures.value
-    ∙ nil_from_length c.as_bytes-bytes.result.now
-    (eqb-true _ 0 (sym c.is_empty.ensures ∙ c.if-is_empty.true)))
-    ∙ empty_text_has_no_chunks in
-    (none, none)
+    grind (arith, nat_tests, nil_from_length, empty_text_has_no_chunks)
 
 -- the text begins with the octet of its first `%`
 octet : (c : Then-bytes-eq37) → BeginsWithOctet c.args.self.now.rest.now
@@ -107,16 +101,7 @@ invariant_of-self-2 c =
 text_steps : (c : goal.After-text-2-1)
     → chunks c.args.self.now.rest.now
     ≡ Text c.split_at.result.0.now ∷ chunks c.split_at.result.1.now
-text_steps c =
-    let t = bytes_begin_with_text_up_to_percent c.as_bytes-bytes.result.now c.args.self.now.rest.now
-    c.unencoded_len.result c.as_bytes-bytes.ensures.value c.as_bytes-bytes.ensures.utf8
-    c.args.self.now.whole (sym c.is_empty.ensures ∙ c.if-is_empty.false)
-    c.if-bytes-eq37.false (c.unencoded_len.ensures
-    ∙ ap (position_or_len (λ b. eqb b 37)) (sym c.as_bytes-bytes.ensures.value)) in
-    t.0.first
-    ∙ ap (λ x. Text x ∷ chunks (drop c.unencoded_len.result c.args.self.now.rest.now))
-    (sym c.split_at.ensures.front)
-    ∙ ap (λ x. Text c.split_at.result.0.now ∷ chunks x) (sym c.split_at.ensures.back)
+text_steps c = grind (arith, nat_tests, bytes_begin_with_text_up_to_percent)
 
 pub returns-clause-steps : goal.returns-clause-steps
 returns-clause-steps c = text_steps c

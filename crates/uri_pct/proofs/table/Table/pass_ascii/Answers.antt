@@ -1,5 +1,4 @@
-use Rattle.std.proofs.Common.{◌≡◌, ◌+◌, ℕ, List, drop, subst}
-use Rattle.std.specs.Str.{IsCharBoundary, IsUtf8}
+use Rattle.std.proofs.Common.{◌≡◌, ◌+◌, ℕ, List, drop, subst, IsCharBoundary, IsUtf8}
 use Rattle.uri_pct.specs.declared.table.Table.{Table}
 use Rattle.uri_pct.specs.Models.ByteRuns.{IsLongestRun}
 use Rattle.uri_pct.specs.Masks.{has_bit}

@@ -1,7 +1,7 @@
 use Rattle.std.proofs.Common.{◌≡◌, ◌+◌, ◌<◌, true, false, length, drop, get_or, arith, rules, ◌&&◌, sym, ◌∙◌, ap, subst}
-use Rattle.std.specs.Prelude.{slice_index}
-use Rattle.std.proofs.lemmas.Bool.{and_right, ne_eqb}
+use Rattle.std.proofs.lemmas.Bool.{and_right}
 use Rattle.std.proofs.lemmas.Str.{IsCharBoundary-after_ascii}
+use Rattle.std.proofs.lemmas.Bool.Decides.{nat_tests}
 use Rattle.uri_pct.specs.Prefixes.{valid_prefix}
 use Rattle.uri_pct.specs.Texts.{has_hex_digits_after}
 use Rattle.uri_pct.specs.Tables.{set_of}
@@ -59,18 +59,10 @@ returns-then-not-has_octet_digits-clause-stop c = λ _ _.
     c.if-byte-eq37.true stray)
 
 pub returns-then-byte-ge128-clause-stop : goal.returns-then-byte-ge128-clause-stop
-returns-then-byte-ge128-clause-stop c = λ _ below.
-    let set = set_of c.args.table.now in
-    let bs = c.as_bytes-bytes.result.now in
-    let i = c.loop-i.i in
-    let same = c.as_bytes-bytes.ensures.value in
-    let low : get_or bs i 0 < 128 = subst (λ t. slice_index t i < 128) (sym same) below in
-    let outside : set.ascii (get_or bs i 0) ≡ false = elim c.then-byte-ge128.branch [
-      | then-byte-ge128-via-then-byte-ge128 w ↦ absurd (omega (arith, low, w.if-byte-ge128.true))
-      | goal.then-byte-ge128-via-else-byte-ge128+then-not-has w ↦
-          sym (ap (λ f. f (get_or bs i 0)) c.masks-low.ensures)
-          ∙ sym w.has.ensures ∙ w.if-not-has.true
-    ] in
-    subst (λ t. valid_prefix set (drop i t) ≡ 0) same
-    (valid_prefix_stops_at_ascii_outside_set set bs i c.loop-i-test.true low
-    (ne_eqb _ _ c.if-byte-eq37.false) outside)
+returns-then-byte-ge128-clause-stop c =
+    grind (
+      arith,
+      nat_tests,
+      then-byte-ge128-via-then-byte-ge128,
+      valid_prefix_stops_at_ascii_outside_set,
+    )
