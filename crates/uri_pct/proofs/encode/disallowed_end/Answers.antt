@@ -1,13 +1,12 @@
 use Rattle.std.proofs.Common.{◌≡◌, ◌+◌, drop, sym, ap, ◌∙◌, subst, arith, IsCharBoundary}
 use Rattle.std.specs.Char.{len_utf8}
 use Rattle.std.proofs.lemmas.Str.{IsCharBoundary-past_char, IsUtf8-drop}
-use Rattle.std.proofs.lemmas.Bool.Decides.{nat_tests}
 use Rattle.uri_pct.specs.Tables.{set_of}
 use Rattle.uri_pct.proofs.ValidTexts.KeptPrefixes.{empty_run_is_encoded_as_octets, longer_run_is_encoded_as_octets, disallowed_run_is_not_empty}
 use Rattle.uri_pct.proofs.encode.disallowed_end.Goals as goal
 
 pub loop-end-init : goal.loop-end-init
-loop-end-init c = grind (arith, nat_tests, empty_run_is_encoded_as_octets)
+loop-end-init c = grind (arith, empty_run_is_encoded_as_octets)
 
 pub loop-end-preserved : goal.loop-end-preserved
 loop-end-preserved c =
@@ -29,4 +28,4 @@ loop-end-preserved c =
     }
 
 pub returns-then-allows-clause-goes : goal.returns-then-allows-clause-goes
-returns-then-allows-clause-goes c = grind (arith, nat_tests, disallowed_run_is_not_empty)
+returns-then-allows-clause-goes c = grind (arith, disallowed_run_is_not_empty)

@@ -1,7 +1,6 @@
 use Rattle.std.proofs.Common.{arith}
-use Rattle.std.proofs.lemmas.Bool.Decides.{nat_tests}
 use Rattle.uri_pct.proofs.TableSets.Masks.{has_bit-full-masks}
 use Rattle.uri_pct.proofs.lanes.ascii_end.Goals as goal
 
 pub returns : goal.returns
-returns c = grind (arith, nat_tests, has_bit-full-masks)
+returns c = grind (arith, has_bit-full-masks)

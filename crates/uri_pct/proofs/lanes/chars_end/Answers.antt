@@ -1,6 +1,5 @@
 use Rattle.std.proofs.Common.{◌≡◌, ◌+◌, ◌-◌, ◌≤◌, ◌<◌, not, List, ℕ, length, get_or, arith, ◌^◌}
 use Rattle.std.proofs.lemmas.Nat.Bits.{bit_at-lt}
-use Rattle.std.proofs.lemmas.Bool.Decides.{nat_tests}
 use Rattle.uri_pct.specs.Masks.{has_bit}
 use Rattle.uri_pct.specs.Models.ByteRuns.{is_char_byte}
 use Rattle.uri_pct.proofs.General.{bit_is_failing_test}
@@ -13,7 +12,7 @@ block : (low high : ℕ) (bs : List ℕ) (i mask : ℕ) → mask < 2 ^ 16
     → ((k : ℕ) → k < 16 → is_set_bit mask k
     ≡ not (is_char_byte (has_bit low high) (get_or bs (i + k) 0)))
     → MarksFailingLanes (is_char_byte (has_bit low high)) bs i 16 mask
-block low high bs i mask below lane = grind (arith, nat_tests, bit_is_failing_test, bit_at-lt)
+block low high bs i mask below lane = grind (arith, bit_is_failing_test, bit_at-lt)
 
 pub returns-then-mask-ne0 : goal.returns-then-mask-ne0
 returns-then-mask-ne0 c =

@@ -1,6 +1,5 @@
 use Rattle.std.proofs.Common.{◌≡◌, ◌+◌, ◌-◌, ◌*◌, arith}
 use Rattle.std.proofs.lemmas.Str.{IsCharBoundary-from_ascii}
-use Rattle.std.proofs.lemmas.Bool.Decides.{nat_tests}
 use Rattle.uri_pct.specs.declared.octet.TheConstants.{OCTETS}
 use Rattle.uri_pct.proofs.Decodings.OctetTexts.{octet_entry_is_printed_octet, octet_table_is_ascii}
 use Rattle.uri_pct.proofs.octet.pct_encoded.Goals as goal
@@ -14,4 +13,4 @@ range-requires-clause-end_boundary c =
     IsCharBoundary-from_ascii OCTETS.now _ octet_table_is_ascii (omega arith)
 
 pub returns : goal.returns
-returns c = grind (arith, nat_tests, octet_entry_is_printed_octet)
+returns c = grind (arith, octet_entry_is_printed_octet)

@@ -1,6 +1,4 @@
-use Rattle.std.proofs.Common.{subst, arith}
-use Rattle.std.proofs.lemmas.Bool.{ne_eqb, or_parts}
-use Rattle.std.proofs.lemmas.Bool.Decides.{nat_tests}
+use Rattle.std.proofs.Common.{arith}
 use Rattle.uri_pct.specs.Models.ByteRuns.{IsLongestRun, is_char_byte}
 use Rattle.uri_pct.specs.Tables.{set_of}
 use Rattle.uri_pct.proofs.LaneScans.CharRuns.{char_run_is_scanned_from_start, char_run_ends_at_boundary}
@@ -12,19 +10,15 @@ use Rattle.uri_pct.proofs.scan.pass_chars.Goals as goal
 run : (c : goal.After-char_run_end)
     → IsLongestRun (is_char_byte (set_of c.args.table.now).ascii) c.args.text.now c.args.start
     c.char_run_end.result
-run c = subst
-    (λ f. IsLongestRun (is_char_byte f) c.args.text.now c.args.start c.char_run_end.result)
-    c.masks-low.ensures c.char_run_end.ensures
+run c = grind arith
 
 pub returns-clause-total : goal.returns-clause-total
 returns-clause-total c =
-    grind (arith, nat_tests, char_run_is_scanned_from_start, lacks_percent, has_bit-only-ascii)
+    grind (arith, char_run_is_scanned_from_start, lacks_percent, has_bit-only-ascii)
 
 pub returns-clause-boundary : goal.returns-clause-boundary
 returns-clause-boundary c =
-    grind (arith, nat_tests, char_run_ends_at_boundary, lacks_percent, has_bit-only-ascii)
+    grind (arith, char_run_ends_at_boundary, lacks_percent, has_bit-only-ascii)
 
 pub returns-clause-stop : goal.returns-clause-stop
-returns-clause-stop c = λ inside low other.
-    valid_prefix_stops_at_ascii_outside_set (set_of c.args.table.now) c.args.text.now
-    c.char_run_end.result inside low (ne_eqb _ _ other) (or_parts _ _ ((run c).stop inside)).0
+returns-clause-stop c = grind (arith, valid_prefix_stops_at_ascii_outside_set)

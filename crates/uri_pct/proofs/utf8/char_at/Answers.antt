@@ -1,7 +1,6 @@
 use Rattle.std.proofs.Common.{arith}
 use Rattle.std.proofs.lemmas.Str.{drop_past_char}
-use Rattle.std.proofs.lemmas.Bool.Decides.{nat_tests}
 use Rattle.uri_pct.proofs.utf8.char_at.Goals as goal
 
 pub returns : goal.returns
-returns c = grind (arith, nat_tests, drop_past_char)
+returns c = grind (arith, drop_past_char)

@@ -3,7 +3,7 @@ use Rattle.std.specs.Char.{encode_utf8}
 use Rattle.std.proofs.Math.Utf8.{low_scalar}
 use Rattle.std.proofs.lemmas.Bool.Decides.{nat_tests}
 use Rattle.std.proofs.lemmas.List.{drop_more, drop_all}
-use Rattle.std.proofs.lemmas.Str.{IsUtf8-append, IsUtf8-encode, IsUtf8-nil}
+use Rattle.std.proofs.lemmas.Str.{IsUtf8-append, IsUtf8-encode}
 use Rattle.uri_pct.proofs.utf8_runs.are_chars_of_two_bytes.Goals as goal
 
 -- UTF-8: a byte of C2 to DF and one of 80 to BF are a character
@@ -41,6 +41,4 @@ pub loop-end-preserved : goal.loop-end-preserved
 loop-end-preserved c = grind (arith, nat_tests, suffix-is-utf8)
 
 pub returns : goal.returns
-returns c = λ whole. c.loop-end.invariant.utf8
-    (subst IsUtf8
-    (sym (drop_all c.loop-end.end c.args.run.now (omega (arith, eqb-true _ _ whole)))) IsUtf8-nil)
+returns c = grind (arith, drop_all)

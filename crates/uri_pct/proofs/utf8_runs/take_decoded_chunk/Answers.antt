@@ -1,6 +1,5 @@
 use Rattle.std.proofs.Common.{◌∷◌, [], map, sym, subst, arith}
 use Rattle.std.proofs.lemmas.Result.{on_ok_weaker}
-use Rattle.std.proofs.lemmas.Bool.Decides.{nat_tests}
 use Rattle.uri_pct.specs.Decodes.{chunk_of}
 use Rattle.uri_pct.specs.Models.Windows.{window_bytes}
 use Rattle.uri_pct.specs.Parts.{Literal, Decoded, parts_from}
@@ -27,4 +26,4 @@ returns-in_ok-take_window-in-Unencoded g c = on_ok_weaker c.take_unencoded.resul
     window_bytes.taken rest)) c.take_unencoded.ensures
 
 pub returns-in-PctDecoded : goal.returns-in-PctDecoded
-returns-in-PctDecoded g c = grind (arith, nat_tests, on_ok_weaker)
+returns-in-PctDecoded g c = grind (arith, on_ok_weaker)

@@ -32,9 +32,7 @@ first-byte-is-ill-formed (b ∷ d ∷ rest) past long high =
 
 -- general fact on lists, for a run: a slice from the second byte on is what is dropped to
 slice-after-first-is-drop : (bytes : List ℕ) → take (length bytes - 1) (drop 1 bytes) ≡ drop 1 bytes
-slice-after-first-is-drop bytes =
-    let long : length (drop 1 bytes) ≡ length bytes - 1 = length-drop 1 bytes in
-    take_all (length bytes - 1) (drop 1 bytes) (omega arith)
+slice-after-first-is-drop bytes = grind (arith, length-drop, take_all)
 
 -- decoding: the parts of a run whose first byte is ill-formed by itself are that byte and the rest
 parts-after-ill-formed-byte : (bytes : List ℕ) → ArePastAscii bytes → 1 < length bytes

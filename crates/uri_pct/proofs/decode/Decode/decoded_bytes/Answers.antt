@@ -1,7 +1,6 @@
 use Rattle.std.proofs.Common.{arith}
-use Rattle.std.proofs.lemmas.Bool.Decides.{nat_tests}
 use Rattle.uri_pct.proofs.Unicode.PartPieces.{chunks_have_bytes_of_their_tokens}
 use Rattle.uri_pct.proofs.decode.Decode.decoded_bytes.Goals as goal
 
 pub loop-chunk-init : goal.loop-chunk-init
-loop-chunk-init c = grind (arith, nat_tests, chunks_have_bytes_of_their_tokens)
+loop-chunk-init c = grind (arith, chunks_have_bytes_of_their_tokens)

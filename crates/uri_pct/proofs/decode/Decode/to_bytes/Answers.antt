@@ -1,11 +1,9 @@
 use Rattle.std.proofs.Common.{sym, ◌∙◌, arith}
-use Rattle.std.proofs.lemmas.Bool.Decides.{nat_tests}
 use Rattle.uri_pct.proofs.Unicode.PartPieces.{bytes_left-is-decoded, unencoded_text_decodes_to_itself}
 use Rattle.uri_pct.proofs.decode.Decode.to_bytes.Goals as goal
 
 pub returns-then-is_unencoded-clause-bytes : goal.returns-then-is_unencoded-clause-bytes
-returns-then-is_unencoded-clause-bytes c =
-    grind (arith, nat_tests, unencoded_text_decodes_to_itself)
+returns-then-is_unencoded-clause-bytes c = grind (arith, unencoded_text_decodes_to_itself)
 
 pub returns-then-is_unencoded-clause-left : goal.returns-then-is_unencoded-clause-left
 returns-then-is_unencoded-clause-left c = returns-then-is_unencoded-clause-bytes c

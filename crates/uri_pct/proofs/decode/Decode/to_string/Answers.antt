@@ -1,14 +1,13 @@
 use Rattle.std.proofs.Common.{rules, ℕ, Vec, Global, sym, ap, ◌∙◌, subst, arith, IsUtf8}
 use Rattle.std.proofs.lemmas.Str.{IsUtf8-string_bytes}
-use Rattle.std.proofs.lemmas.Bool.Decides.{nat_tests}
 use Rattle.uri_pct.proofs.Unicode.PartPieces.{unencoded_text_decodes_to_itself, bytes_left-is-decoded}
 use Rattle.uri_pct.proofs.decode.Decode.to_string.Goals as goal
 
 pub returns-then-is_unencoded-clause-text : goal.returns-then-is_unencoded-clause-text
-returns-then-is_unencoded-clause-text c = grind (arith, nat_tests, unencoded_text_decodes_to_itself)
+returns-then-is_unencoded-clause-text c = grind (arith, unencoded_text_decodes_to_itself)
 
 pub returns-then-is_unencoded-clause-utf8 : goal.returns-then-is_unencoded-clause-utf8
-returns-then-is_unencoded-clause-utf8 c = grind (arith, nat_tests, unencoded_text_decodes_to_itself)
+returns-then-is_unencoded-clause-utf8 c = grind (arith, unencoded_text_decodes_to_itself)
 
 pub returns-then-is_unencoded-clause-left : goal.returns-then-is_unencoded-clause-left
 returns-then-is_unencoded-clause-left c = returns-then-is_unencoded-clause-text c

@@ -1,6 +1,5 @@
 use Rattle.uri_pct.proofs.estring.EString.of_text.Goals as goal
 use Rattle.std.proofs.Common.{arith}
-use Rattle.std.proofs.lemmas.Bool.Decides.{nat_tests}
 
 pub invariant_of-result : goal.invariant_of-result
-invariant_of-result g c = grind (arith, nat_tests)
+invariant_of-result g c = grind arith

@@ -1,7 +1,6 @@
 use Rattle.std.proofs.Common.{arith}
 use Rattle.std.proofs.lemmas.List.Splits.{join_with_byte-slice_split}
 use Rattle.std.proofs.lemmas.List.Sums.{AllPass-from_list_all}
-use Rattle.std.proofs.lemmas.Bool.Decides.{nat_tests}
 use Rattle.uri_pct.specs.Texts.{lacks}
 use Rattle.uri_pct.proofs.Decodings.Counts.{split_pieces_are_at_most_length_plus_one}
 use Rattle.uri_pct.proofs.ValidTexts.Delimiters.{substrings_lack_delimiter}
@@ -15,4 +14,4 @@ returns-clause-apart g c = AllPass-from_list_all (lacks c.args.delimiter) _
     (substrings_lack_delimiter c.args.delimiter _)
 
 pub returns-clause-fits : goal.returns-clause-fits
-returns-clause-fits g c = grind (arith, nat_tests, split_pieces_are_at_most_length_plus_one)
+returns-clause-fits g c = grind (arith, split_pieces_are_at_most_length_plus_one)

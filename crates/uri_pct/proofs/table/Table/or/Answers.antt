@@ -1,6 +1,5 @@
 use Rattle.std.proofs.Common.{◌∙◌, sym, arith}
 use Rattle.std.proofs.lemmas.Bool.{or_from}
-use Rattle.std.proofs.lemmas.Bool.Decides.{nat_tests}
 use Rattle.uri_pct.specs.Masks.{has_bit}
 use Rattle.uri_pct.proofs.TableSets.Masks.{has_bit_of_joined_masks_is_or, has_bit_of_percent_is_bit_of_low}
 use Rattle.uri_pct.proofs.TableSets.Percent.{lacks_percent}
@@ -20,4 +19,4 @@ invariant_of-result c =
     }
 
 pub returns : goal.returns
-returns c = grind (arith, nat_tests, sets_equal_by_agreement, has_bit_of_joined_masks_is_or)
+returns c = grind (arith, sets_equal_by_agreement, has_bit_of_joined_masks_is_or)

@@ -1,5 +1,4 @@
 use Rattle.std.proofs.Common.{◌≡◌, ◌≤◌, ◌+◌, ◌-◌, ℕ, List, true, length, drop, subst, sym, arith, IsUtf8, IsCharBoundary}
-use Rattle.std.proofs.lemmas.Bool.Decides.{nat_tests}
 use Rattle.uri_pct.specs.Models.ByteRuns.{AreCharactersOrOctets}
 use Rattle.uri_pct.specs.Prefixes.{valid_prefix}
 use Rattle.uri_pct.specs.Tables.{set_of}
@@ -24,7 +23,7 @@ passed t bs start end pct u here from within allowed =
     (has_bit-only-ascii t.low t.high) bs start (end - start) (omega arith) u here allowed)
 
 pub returns-clause-total : goal.returns-clause-total
-returns-clause-total c = grind (arith, nat_tests, passed)
+returns-clause-total c = grind (arith, passed)
 
 pub returns-clause-boundary : goal.returns-clause-boundary
 returns-clause-boundary c =

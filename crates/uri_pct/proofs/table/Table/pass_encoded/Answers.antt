@@ -1,6 +1,5 @@
 use Rattle.std.proofs.Common.{◌≡◌, ◌+◌, ◌-◌, ◌<◌, ◌≤◌, ◌∙◌, ℕ, Bool, List, true, false, length, drop, get_or, arith, sym, subst, ⊎_elim, IsUtf8, IsCharBoundary}
 use Rattle.std.proofs.lemmas.Bool.{cases_Bool}
-use Rattle.std.proofs.lemmas.Bool.Decides.{nat_tests}
 use Rattle.uri_pct.specs.Models.ByteRuns.{AreCharactersOrOctets, IsLongestRun}
 use Rattle.uri_pct.specs.Prefixes.{valid_prefix}
 use Rattle.uri_pct.specs.Texts.{has_hex_digits_after}
@@ -22,14 +21,13 @@ stops : (t : Table) (text : List ℕ) (i : ℕ) → i < length text → get_or t
 stops t text i inside ascii outside stray =
     grind (
       arith,
-      nat_tests,
       valid_prefix_stops_at_stray_percent,
       lacks_percent,
       valid_prefix_stops_at_ascii_outside_set,
     )
 
 pub returns-then-i-bytes-clause-stop : goal.returns-then-i-bytes-clause-stop
-returns-then-i-bytes-clause-stop c = grind (arith, nat_tests, stops, then-i-bytes-via-then-i-bytes)
+returns-then-i-bytes-clause-stop c = grind (arith, stops, then-i-bytes-via-then-i-bytes)
 
 -- what the first block shows is scanned
 scanned : (t : Table) (ascii : ℕ → Bool) (octets : Bool) (text bs : List ℕ) (start end : ℕ)
@@ -71,7 +69,7 @@ returns-then-is_end-clause-boundary c =
     c.requires run.from run.within run.allowed run.plain).1
 
 pub returns-then-is_end-clause-stop : goal.returns-then-is_end-clause-stop
-returns-then-is_end-clause-stop c = grind (arith, nat_tests, stops)
+returns-then-is_end-clause-stop c = grind (arith, stops)
 
 pub scan_octets-requires-2-clause-here : goal.scan_octets-requires-2-clause-here
 scan_octets-requires-2-clause-here c =
@@ -83,7 +81,4 @@ scan_octets-requires-2-clause-here c =
 pub returns-clause-total : goal.returns-clause-total
 returns-clause-total c =
     let run = c.first_run_end-end.ensures in
-    c.scan_octets-2.ensures.total
-    ∙ (scanned c.args.self.now _ _ c.args.text.now _ c.args.start c.first_run_end-end.result.0
-    c.masks-low.ensures c.allows_pct_encoded-2.ensures c.as_bytes-bytes.ensures.value c.utf8.text
-    c.requires run.from run.within run.allowed run.plain).0
+    grind (arith, scanned)

@@ -1,7 +1,6 @@
-use Rattle.std.proofs.Common.{◌≡◌, ◌+◌, ◌<◌, ◌≤◌, true, false, length, drop, get_or, arith, ◌&&◌, sym, ◌∙◌, ap, subst, ℕ, List, slice_index, IsUtf8, IsCharBoundary}
+use Rattle.std.proofs.Common.{◌≡◌, ◌+◌, ◌<◌, true, false, length, drop, get_or, arith, ◌&&◌, sym, ◌∙◌, ap, subst, ℕ, List, slice_index, IsUtf8, IsCharBoundary}
 use Rattle.std.proofs.lemmas.Bool.{and_left}
 use Rattle.std.proofs.lemmas.Str.{IsCharBoundary-after_ascii}
-use Rattle.std.proofs.lemmas.Bool.Decides.{nat_tests}
 use Rattle.uri_pct.specs.Prefixes.{valid_prefix}
 use Rattle.uri_pct.specs.Texts.{has_hex_digits_after}
 use Rattle.uri_pct.specs.Tables.{set_of}
@@ -33,12 +32,11 @@ scan_octets-requires-clause-octets c =
     sym c.allows_pct_encoded.ensures ∙ c.if-not-allows_pct_encoded.false
 
 pub returns-then-byte-eq37-clause-stop : goal.returns-then-byte-eq37-clause-stop
-returns-then-byte-eq37-clause-stop c = grind (arith, nat_tests)
+returns-then-byte-eq37-clause-stop c = grind arith
 
 -- a character of ASCII
 pub returns-then-not-has-clause-stop : goal.returns-then-not-has-clause-stop
-returns-then-not-has-clause-stop c =
-    grind (arith, nat_tests, valid_prefix_stops_at_ascii_outside_set)
+returns-then-not-has-clause-stop c = grind (arith, valid_prefix_stops_at_ascii_outside_set)
 
 no_octet : (t : Table) (text bs : List ℕ) (i : ℕ) → bs ≡ text → IsUtf8 text → i < length text
     → get_or bs i 0 < 128 → (set_of t).ascii (get_or bs i 0) ≡ true
@@ -60,33 +58,31 @@ pass_ascii_run-requires c =
     ∙ sym c.has.ensures ∙ c.if-not-has.false)).1
 
 pub returns-then-byte-lt128-clause-total : goal.returns-then-byte-lt128-clause-total
-returns-then-byte-lt128-clause-total c = grind (arith, nat_tests, no_octet)
+returns-then-byte-lt128-clause-total c = grind (arith, no_octet)
 
 -- characters past ASCII
 run : (c : goal.After-chars_end)
     → IsLongestRun (is_char_byte (set_of c.args.self.now).ascii) c.args.text.now c.args.start
     c.chars_end.result
-run c = grind (arith, nat_tests)
+run c = grind arith
 
 pub returns-then-allows_lead-clause-total : goal.returns-then-allows_lead-clause-total
 returns-then-allows_lead-clause-total c =
-    grind (arith, nat_tests, char_run_is_scanned_from_start, lacks_percent, has_bit-only-ascii)
+    grind (arith, char_run_is_scanned_from_start, lacks_percent, has_bit-only-ascii)
 
 pub returns-then-allows_lead-clause-from : goal.returns-then-allows_lead-clause-from
 returns-then-allows_lead-clause-from c = (run c).from
 
 pub returns-then-allows_lead-clause-boundary : goal.returns-then-allows_lead-clause-boundary
 returns-then-allows_lead-clause-boundary c =
-    grind (arith, nat_tests, char_run_ends_at_boundary, lacks_percent, has_bit-only-ascii)
+    grind (arith, char_run_ends_at_boundary, lacks_percent, has_bit-only-ascii)
 
 pub returns-then-allows_lead-clause-stop : goal.returns-then-allows_lead-clause-stop
 returns-then-allows_lead-clause-stop c =
-    grind (arith, nat_tests, byte_in_lead_range_is_c3_to_ed, char_part_begins_nonempty_run)
+    grind (arith, byte_in_lead_range_is_c3_to_ed, char_part_begins_nonempty_run)
 
 pub past_ascii_len-requires-clause-past : goal.past_ascii_len-requires-clause-past
-past_ascii_len-requires-clause-past c =
-    subst (λ t. 128 ≤ slice_index t c.args.start) c.as_bytes-bytes.ensures.value
-    c.if-byte-lt128.false
+past_ascii_len-requires-clause-past c = grind arith
 
 pub returns-clause-stop : goal.returns-clause-stop
 returns-clause-stop c = λ e. c.past_ascii_len.ensures.refused (omega (arith, e))

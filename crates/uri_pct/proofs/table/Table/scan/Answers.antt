@@ -1,6 +1,5 @@
 use Rattle.std.proofs.Common.{◌≡◌, ◌<◌, ◌≤◌, ◌∙◌, ◌||◌, ℕ, List, false, length, drop, get_or, arith, sym, ap, subst, ⊎_elim, slice_index}
 use Rattle.std.proofs.lemmas.Bool.{and_right, cond-false, ne_eqb, cases_lt}
-use Rattle.std.proofs.lemmas.Bool.Decides.{nat_tests}
 use Rattle.uri_pct.specs.declared.table.Table.{Table}
 use Rattle.uri_pct.specs.Models.Scans.{may_begin_octet_or_past_ascii}
 use Rattle.uri_pct.proofs.TableSets.Masks.{has_bit_past_ascii_is_false}
@@ -21,7 +20,7 @@ past_done t bs i inside past none =
     (cond-false _ _ _ (ne_eqb (get_or bs i 0) 37 (λ e. omega arith)) ∙ and_right _ _ none)
 
 pub returns-then-start-bytes-clause-end : goal.returns-then-start-bytes-clause-end
-returns-then-start-bytes-clause-end c = grind (arith, nat_tests, valid_prefix_at_end_is_empty)
+returns-then-start-bytes-clause-end c = grind (arith, valid_prefix_at_end_is_empty)
 
 pub returns-then-not-allows_some_past_ascii-clause-end
     : goal.returns-then-not-allows_some_past_ascii-clause-end
@@ -53,12 +52,7 @@ returns-then-not-allows_some_past_ascii-clause-end c =
 
 pub returns-then-run_end-bytes-clause-end : goal.returns-then-run_end-bytes-clause-end
 returns-then-run_end-bytes-clause-end c =
-    grind (
-      arith,
-      nat_tests,
-      then-run_end-bytes-via-then-run_end-bytes,
-      valid_prefix_at_end_is_empty,
-    )
+    grind (arith, then-run_end-bytes-via-then-run_end-bytes, valid_prefix_at_end_is_empty)
 
 pub scan_mixed_runs-requires-clause-percent : goal.scan_mixed_runs-requires-clause-percent
 scan_mixed_runs-requires-clause-percent c =

@@ -1,13 +1,12 @@
 use Rattle.std.proofs.Common.{arith}
-use Rattle.std.proofs.lemmas.Bool.Decides.{nat_tests}
 use Rattle.uri_pct.proofs.ValidTexts.PrefixSteps.{valid_prefix_at_end_is_empty}
 use Rattle.uri_pct.proofs.table.Table.scan_mixed_runs.Goals as goal
 
 pub loop-i-preserved : goal.loop-i-preserved
-loop-i-preserved c = grind (arith, nat_tests)
+loop-i-preserved c = grind arith
 
 pub returns-after-loop-i-clause-end : goal.returns-after-loop-i-clause-end
-returns-after-loop-i-clause-end c = grind (arith, nat_tests, valid_prefix_at_end_is_empty)
+returns-after-loop-i-clause-end c = grind (arith, valid_prefix_at_end_is_empty)
 
 pub returns-then-end-i-clause-end : goal.returns-then-end-i-clause-end
-returns-then-end-i-clause-end c = grind (arith, nat_tests)
+returns-then-end-i-clause-end c = grind arith

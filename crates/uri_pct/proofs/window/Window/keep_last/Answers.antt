@@ -2,7 +2,6 @@ use Rattle.std.proofs.Common.{◌≡◌, ◌-◌, ◌≤◌, ℕ, List, length, 
 use Rattle.std.specs.List.{copy_within}
 use Rattle.std.proofs.lemmas.List.Elements.{All-same, All-drop}
 use Rattle.std.proofs.lemmas.Slice.{between_is}
-use Rattle.std.proofs.lemmas.Bool.Decides.{nat_tests}
 use Rattle.uri_pct.proofs.window.Window.keep_last.Goals as goal
 
 -- the end comes first
@@ -10,7 +9,7 @@ moved : (bytes after : List ℕ) (len kept : ℕ) → kept ≤ length (take len 
     → after ≡ copy_within bytes (len - kept) len 0
     → take kept after ≡ drop (length (take len bytes) - kept) (take len bytes)
 moved bytes after len kept fits within put =
-    grind (arith, nat_tests, length-take, length-drop, take_at, between_is)
+    grind (arith, length-take, length-drop, take_at, between_is)
 
 pub invariant_of-self-clause-past_ascii : goal.invariant_of-self-clause-past_ascii
 invariant_of-self-clause-past_ascii c =
@@ -20,6 +19,4 @@ invariant_of-self-clause-past_ascii c =
     c.copy_within.ensures.after) (All-drop (λ b. 128 ≤ b) _ (take w.len w.bytes) w.past_ascii)
 
 pub returns : goal.returns
-returns c =
-    let w = c.args.self.now in
-    moved w.bytes _ w.len c.args.kept c.requires (omega (arith, w.fits)) c.copy_within.ensures.after
+returns c = grind (arith, moved)
