@@ -1,4 +1,4 @@
-use Rattle.std.proofs.Common.{◌≡◌, ◌+◌, ◌-◌, ◌<◌, length, drop, get_or, sym, ap, ◌∙◌, arith, inl, inr, append-nil, length-drop, drop-drop, take, take_all, ℕ, List, [], ◌∷◌, ◌++◌, ◌≤◌, Some, None, nat_lt, le-ltb, refl}
+use Rattle.std.proofs.Common.{◌≡◌, ◌+◌, ◌-◌, ◌<◌, length, drop, get_or, sym, ap, ◌∙◌, arith, append-nil, length-drop, drop-drop, take, take_all, ℕ, List, [], ◌∷◌, ◌++◌, ◌≤◌, Some, None, nat_lt, le-ltb, refl}
 use Rattle.std.proofs.Math.ListN.{set}
 use Rattle.std.proofs.lemmas.List.{places, take_more_set}
 use Rattle.std.proofs.lemmas.Grind.{common_steps}
@@ -35,11 +35,7 @@ ipv4-leaves-suffix text two rest i within e = suffix-at-position text rest i wit
     (text-after-ipv4-is-suffix _ two rest (e ∙ same-for-suffix segments_of_ipv4 text i))
 
 pub returns-then-digits-eq0-clause-value : goal.returns-then-digits-eq0-clause-value
-returns-then-digits-eq0-clause-value c =
-    reading-ends-without-group _ _ _ _ _ _ c.loop-i-test.true c.loop-i.invariant.found
-    c.loop-i.invariant.next _
-    c.leading_digits-digits.ensures.digits
-    (elim c.then-digits-eq0.either [ inl none ↦ inl none | inr five ↦ inr five.1 ])
+returns-then-digits-eq0-clause-value c = grind (arith, reading-ends-without-group)
 
 pub overflow_sub-result : goal.overflow_sub-result
 overflow_sub-result c =
@@ -57,9 +53,7 @@ returns-in-Some-clause-value c =
     (c.in-Some.ensures ∙ same-for-suffix segments_of_ipv4 text group))
 
 pub returns-in-Some-clause-others : goal.returns-in-Some-clause-others
-returns-in-Some-clause-others c =
-    other-segments-are-kept c.loop-i.segments c.args.segments.now c.loop-i.i _ _ _ (omega arith)
-    c.loop-i.invariant.others
+returns-in-Some-clause-others c = grind (arith, other-segments-are-kept)
 
 pub returns-then-digits-ne58-clause-value : goal.returns-then-digits-ne58-clause-value
 returns-then-digits-ne58-clause-value c =
@@ -134,7 +128,4 @@ loop-i-preserved c =
 
 pub returns-clause-value : goal.returns-clause-value
 unfolding read_segments
-returns-clause-value c =
-    let none : length c.args.segments.now - c.loop-i.i ≡ 0 = omega arith in
-    let all : length c.args.segments.now ≡ c.loop-i.i = omega arith in
-    c.loop-i.invariant.found ∙ rw (none, append-nil, ← all)
+returns-clause-value c = grind (arith, append-nil)

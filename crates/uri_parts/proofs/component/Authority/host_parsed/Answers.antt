@@ -1,18 +1,12 @@
-use Rattle.std.proofs.Common.{◌≡◌, ◌∙◌, ap, sym, true, false, Some, None, drop}
-use Rattle.std.specs.Prelude.{codes}
+use Rattle.std.proofs.Common.{◌≡◌, ◌∙◌, ap, sym, true, false, Some, None, drop, arith, codes}
 use Rattle.uri_parts.specs.Addresses.{ipv4_octets, ipv6_segments}
 use Rattle.uri_parts.specs.Components.{starts, before_any}
-use Rattle.uri_parts.specs.Hosts.{host_kind, ipv4_value}
+use Rattle.uri_parts.specs.Hosts.{host_kind}
 use Rattle.uri_parts.proofs.Authorities.AuthorityPlaces.{holds, reg_name_host_is_valid, kind_of_unbracketed_host, kind_of_bracketed_host}
 use Rattle.uri_parts.proofs.component.Authority.host_parsed.Goals as goal
 
 pub new_or_panic-requires : goal.new_or_panic-requires
-new_or_panic-requires g c =
-    let host = c.host-host.result.now in
-    let s : starts 91 host ≡ false = sym c.in-None.ensures.begins in
-    let v : ipv4_value host ≡ None = sym c.in-None-parse-2.ensures in
-    let w = (holds g.U.Encoder.set g.R.Encoder.set c.args.self.text.now c.args.self.valid).host in
-    reg_name_host_is_valid g.R.Encoder.set host (rw c.host-host.ensures w) s v
+new_or_panic-requires g c = grind (arith, holds, reg_name_host_is_valid)
 
 pub returns-in-Some-parse-clause-kind : goal.returns-in-Some-parse-clause-kind
 returns-in-Some-parse-clause-kind g c =
