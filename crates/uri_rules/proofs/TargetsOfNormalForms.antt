@@ -28,30 +28,31 @@ result-of-its-value (Err z) x e = cc
 
 -- targets: two pairs of a base and a reference, of whose targets the function makes the same, or
 -- which both have none
-module _ {A : Type 0} (f : List ℕ → A) (b r base reference : List ℕ)
-    (alike : mapped f (resolution_of_texts b r) ≡ mapped f (resolution_of_texts base reference))
-  where
-    pub targets-of-pairs-map-alike : (target other : List ℕ)
-        → target_of_texts base reference ≡ Some target → target_of_texts b r ≡ Some other
-        → f other ≡ f target
-    unfolding target_of_texts
-    targets-of-pairs-map-alike target other e d =
-        let found = equal-mapped-results-have-equal-targets f (resolution_of_texts b r)
-        (resolution_of_texts base reference) target alike
-        (result-of-its-value (resolution_of_texts base reference) target e) in
-        ap f (resolution-is-unique (resolution_of_texts b r) other found.0
-        (result-of-its-value (resolution_of_texts b r) other d) found.1.0) ∙ found.1.1
+module _ {A : Type 0} (f : List ℕ → A) (b r base reference : List ℕ) where
+  pub targets-of-pairs-map-alike :
+      mapped f (resolution_of_texts b r) ≡ mapped f (resolution_of_texts base reference)
+      → (target other : List ℕ) → target_of_texts base reference ≡ Some target
+      → target_of_texts b r ≡ Some other → f other ≡ f target
+  unfolding target_of_texts
+  targets-of-pairs-map-alike alike target other e d =
+      let found = equal-mapped-results-have-equal-targets f (resolution_of_texts b r)
+      (resolution_of_texts base reference) target alike
+      (result-of-its-value (resolution_of_texts base reference) target e) in
+      ap f (resolution-is-unique (resolution_of_texts b r) other found.0
+      (result-of-its-value (resolution_of_texts b r) other d) found.1.0) ∙ found.1.1
 
-    error-of-pair-is-that-of-other : (error : ResolveError)
-        → IsErrorWithUnderflowAllowed (components base) (components reference) error
-        → IsErrorWithUnderflowAllowed (components b) (components r) error
-    error-of-pair-is-that-of-other error h =
-        same-resolution-error-with-underflow-allowed (components b) (components r) (components base)
-        (components reference) error
-        (λ z. equal-mapped-results-have-equal-errors f (resolution_of_texts b r)
-        (resolution_of_texts base reference) z alike)
-        (equal-mapped-results-are-ok-alike f (resolution_of_texts b r)
-        (resolution_of_texts base reference) alike) h
+  error-of-pair-is-that-of-other :
+      mapped f (resolution_of_texts b r) ≡ mapped f (resolution_of_texts base reference)
+      → (error : ResolveError)
+      → IsErrorWithUnderflowAllowed (components base) (components reference) error
+      → IsErrorWithUnderflowAllowed (components b) (components r) error
+  error-of-pair-is-that-of-other alike error h =
+      same-resolution-error-with-underflow-allowed (components b) (components r) (components base)
+      (components reference) error
+      (λ z. equal-mapped-results-have-equal-errors f (resolution_of_texts b r)
+      (resolution_of_texts base reference) z alike)
+      (equal-mapped-results-are-ok-alike f (resolution_of_texts b r)
+      (resolution_of_texts base reference) alike) h
 
 -- targets: both pairs are refused alike
 pub pairs-are-refused-alike : {A : Type 0} (f : List ℕ → A) (b r base reference : List ℕ)
