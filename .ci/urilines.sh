@@ -89,6 +89,12 @@ holds help "$? $(grep -c -e normalize -e --errors "$work/out")" '0 2'
 holds closed-output "$(cat "$work/status") $(cat "$work/out") $(cat "$work/err")" '0 http://h '
 echo x: | "$URILINES" normalize uri > /dev/full 2> "$work/err"
 holds full-device "$? $(cat "$work/err")" '3 error: output failed'
+# An error output that is full fails a run that writes to it.
+printf 'a b\nX:\n' > "$work/in"
+"$URILINES" normalize uri --errors stderr < "$work/in" > "$work/out" 2> /dev/full
+holds full-error-output "$? $(cat "$work/out")" '3 x:'
+"$URILINES" normalize uri < "$work/in" > "$work/out" 2> /dev/full
+holds unused-error-output "$?" 1
 "$URILINES" normalize uri < / > "$work/out" 2> "$work/err"
 holds folder "$? $(cat "$work/err")" '3 error: input failed'
 "$URILINES" normalize uri <&- > "$work/out" 2> "$work/err"
@@ -141,6 +147,10 @@ mkfifo "$work/fifo"
 "$URILINES" normalize uri < "$work/fifo" > "$work/out"
 wait $!
 holds not-waiting "$(cat "$work/early")" http://h
+
+# No number of lines is too many.
+yes 'X:' | head -n 1000000 | "$URILINES" normalize uri > "$work/out" 2> "$work/err"
+holds million-lines "$? $(sort "$work/out" | uniq -c | sed 's/^ *//') $(cat "$work/err")" '0 1000000 x: '
 
 python3 -B "$root/.ci/urilines.py"
 holds 'lines that Python knows' "$?" 0

@@ -7,8 +7,10 @@ use test_support::equal;
 use uri_commands::sink::Sink;
 use uri_streams::command::{KindName, LineCommand};
 use uri_streams::failure::Failure;
+use uri_streams::job::OnError;
 use uri_streams::run::{Tally, Unwatched, run};
 use uri_streams::source::Source;
+use uri_streams::status::status;
 
 /// Runs `normalize uri` over a reader and a writer. Returns how that ended, and the writer.
 fn ended<R: Read + Drop, W: Write>(
@@ -154,5 +156,31 @@ fn a_flush_is_made_again_or_fails(rt: HostRuntime) {
         if fails.is_none() {
             equal((out.held, out.passed), (0, 13)).expect(&rt, "output");
         }
+    }
+}
+
+/// How a run ends, why its error output failed, and its status.
+const STATUSES: [(Option<ErrorKind>, Option<ErrorKind>, u8); 5] = [
+    (None, None, 1),
+    (None, Some(ErrorKind::BrokenPipe), 1),
+    (None, Some(ErrorKind::StorageFull), 3),
+    (Some(ErrorKind::BrokenPipe), None, 0),
+    (Some(ErrorKind::BrokenPipe), Some(ErrorKind::StorageFull), 3),
+];
+
+/// Tests that a run whose error output is full has status 3.
+#[test]
+fn a_full_error_output_has_a_status(rt: HostRuntime) {
+    for (output, report, wanted) in STATUSES {
+        let ended = match output {
+            None => Ok(Tally {
+                lines: 1,
+                errors: 1,
+            }),
+            Some(kind) => Err(Failure::Output(io::Error::from(kind))),
+        };
+        let report = report.map(io::Error::from);
+        let got = status(OnError::Stderr, &ended, report.as_ref());
+        equal(got, wanted).expect(&rt, "status");
     }
 }

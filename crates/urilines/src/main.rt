@@ -79,7 +79,7 @@ fn process(rt: &HostRuntime, alloc: Global, job: &Job<'_>, shows_progress: bool)
         &mut err,
         &mut progress,
     );
-    let status = status(job.errors, &ended);
+    let status = status(job.errors, &ended, err.error());
     match ended {
         Ok(tally) => progress.end(tally),
         Err(failure) if status != 0 => show_error(rt, failure_message(&failure)),
@@ -93,6 +93,9 @@ fn process(rt: &HostRuntime, alloc: Global, job: &Job<'_>, shows_progress: bool)
 fn failure_message(failure: &Failure) -> &'static str {
     match failure {
         Failure::Output(_) => "output failed",
+        Failure::Input(error) if error.kind() == ErrorKind::WouldBlock => {
+            "input failed: it is in non-blocking mode, and the next bytes are not there yet"
+        }
         Failure::Input(_) => "input failed",
         Failure::OutOfMemory => "out of memory",
     }
