@@ -123,7 +123,7 @@ printed_tokens_parse_to_themselves ts e = ap tokens_from_chars (chars_of_printed
 pub printed_tokens_are_utf8 : (ts : List Token) → list_all is_printable ts ≡ true
     → IsUtf8 (print ts)
 printed_tokens_are_utf8 ts e =
-    (grind (arith, nat_tests, chars_of_tokens_are_scalars, print_is_utf8_of_chars_of_tokens))
+    grind (arith, nat_tests, chars_of_tokens_are_scalars, print_is_utf8_of_chars_of_tokens)
 
 -- printing tokens: a set allows the text that is written of them if it allows them
 pub printed_tokens_are_valid_iff_allowed : (set : TableSet) (ts : List Token)
