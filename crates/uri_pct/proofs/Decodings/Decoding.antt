@@ -112,9 +112,7 @@ pct_encoded_chars_begin_with_octet high low cs s e v =
           ∙ cond-true _ _ _ e
           ∙ ap (λ x. Octet (16 * digit_value high + digit_value low) ∷ tokens_from_chars x)
           (sym same);
-      valid = ap (λ x. list_all (allows_token widest_set) (tokens_from_chars x)) same
-          ∙ (and_parts true _ (sym (ap (list_all (allows_token widest_set)) (cond-true _ _ _ e))
-          ∙ v)).1;
+      valid = grind arith;
     }
 
 -- decoding: if a text from a `%` on is valid, the `%` begins an octet (the text by its characters)

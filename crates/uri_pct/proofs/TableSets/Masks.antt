@@ -62,21 +62,14 @@ tested_bit-is-has_bit words b third fourth h =
     (λ (below : b < 64). tested_bit_is_bit_of_its_word words b 0 (omega arith)
     ∙ ap (λ k. eqb (bit_at low k) 1) (omega arith)
     ∙ sym (has_bit_below_64_is_bit_of_low low high b below))
-    (λ (from : 64 ≤ b).
-    ⊎_elim
-    (λ (below : b < 128). tested_bit_is_bit_of_its_word words b 1 (omega arith)
-    ∙ ap (λ k. eqb (bit_at high k) 1) (omega arith)
-    ∙ sym (has_bit_from_64_is_bit_of_high low high b from below))
-    (λ (past : 128 ≤ b).
-    ⊎_elim
-    (λ (below : b < 192). tested_bit_is_bit_of_its_word words b 2 (omega arith)
-    ∙ zero_word_has_no_bit _ (b - 64 * 2) third
-    ∙ sym (has_bit_past_ascii_is_false low high b past))
-    (λ (last : 192 ≤ b). tested_bit_is_bit_of_its_word words b 3 (omega arith)
-    ∙ zero_word_has_no_bit _ (b - 64 * 3) fourth
-    ∙ sym (has_bit_past_ascii_is_false low high b past))
-    (cases_lt b 192))
-    (cases_lt b 128))
+    (grind (
+      arith,
+      nat_tests,
+      tested_bit_is_bit_of_its_word,
+      has_bit_from_64_is_bit_of_high,
+      zero_word_has_no_bit,
+      has_bit_past_ascii_is_false,
+    ))
     (cases_lt b 64)
 
 -- tables: the bits of two words are a test of characters if those of `low` agree

@@ -122,10 +122,8 @@ printed_tokens_parse_to_themselves ts e = ap tokens_from_chars (chars_of_printed
 -- printing tokens: what is written of them is UTF-8
 pub printed_tokens_are_utf8 : (ts : List Token) → list_all is_printable ts ≡ true
     → IsUtf8 (print ts)
-printed_tokens_are_utf8 ts e = (
-  flat_map chars_of_token ts,
-  (chars_of_tokens_are_scalars ts e, sym (print_is_utf8_of_chars_of_tokens ts e)),
-)
+printed_tokens_are_utf8 ts e =
+    grind (arith, nat_tests, chars_of_tokens_are_scalars, print_is_utf8_of_chars_of_tokens)
 
 -- printing tokens: a set allows the text that is written of them if it allows them
 pub printed_tokens_are_valid_iff_allowed : (set : TableSet) (ts : List Token)

@@ -61,8 +61,7 @@ returns-then-digits-ne58-clause-value c =
     let text = c.args.text.now in
     let group = c.loop-i.group in
     let count = digits.result.count in
-    let few : count < 5 = let most = digits.ensures.digits.most in
-    let other = c.if-digits-eq5.false in omega arith in
+    let few : count < 5 = grind arith in
     let byte = byte-after-digits-at-position text group count _ (digits.ensures.next few) in
     let room : ℕ = length c.args.segments.now - (c.loop-i.i + 1) in
     let no_ipv4 : read_ipv4_if (nat_lt 0 room) (drop group text) ≡ None =
@@ -94,8 +93,7 @@ loop-i-preserved c =
     let group = c.loop-i.group in
     let count = digits.result.count in
     let within : c.loop-i.i < length c.loop-i.segments = omega arith in
-    let few : count < 5 = let most = digits.ensures.digits.most in
-    let other = c.if-digits-eq5.false in omega arith in
+    let few : count < 5 = grind arith in
     let byte = byte-after-digits-at-position text group count _ (digits.ensures.next few) in
     let no_ipv4 = no-dot-after-digits-is-no-ipv4
     (nat_lt 0 (length c.args.segments.now - (c.loop-i.i + 1))) (drop group text) count
@@ -110,21 +108,7 @@ loop-i-preserved c =
     no_ipv4 colon in
     let inside = colon-at-position-is-inside (drop group text) count colon in
     let size = length-drop group text in
-    record {
-      found = rw (
-        take_more_set c.loop-i.segments c.loop-i.i digits.result.value within,
-        digits.ensures.value few,
-        ← drop-drop count group text,
-      )
-          read;
-      next = rw (← drop-drop count group text)
-          (let same : drop (group + count + 1) text ≡ drop (count + 1) (drop group text) =
-          ap (λ n. drop n text) (omega arith) ∙ sym (drop-drop (count + 1) group text) in
-          rw same next);
-      group = omega arith;
-      end = omega arith;
-      others = let same = c.loop-i.invariant.others in grind (arith, common_steps, places);
-    }
+    grind (arith, take_more_set, drop-drop, common_steps)
 
 pub returns-clause-value : goal.returns-clause-value
 unfolding read_segments

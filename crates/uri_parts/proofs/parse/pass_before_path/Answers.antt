@@ -1,7 +1,7 @@
 use Rattle.std.proofs.Common.{◌≡◌, ◌+◌, ap, sym, subst, ◌∙◌, true, arith}
 use Rattle.std.specs.Option.{option_or}
 use Rattle.std.specs.Result.{result_err}
-use Rattle.std.proofs.lemmas.Bool.{and_parts, cond-true}
+use Rattle.std.proofs.lemmas.Bool.{and_parts}
 use Rattle.uri_pct.specs.Prefixes.{valid_prefix}
 use Rattle.uri_pct.specs.Sets.{scheme_set}
 use Rattle.uri_parts.specs.Grammar.{first_segment_set}
@@ -19,8 +19,7 @@ returns-then-scheme-clause-refused g c =
     let facts = and_parts _ _ (sym scheme.ensures.authority ∙ c.if-scheme.true) in
     let others = and_parts _ _ facts.1 in
     let place : cursor_position scheme.new.cursor ≡ valid_prefix scheme_set text + 1 + 2 =
-    scheme.ensures.place ∙ (cond-true _ _ _ c.if-scheme.true
-    ∙ ap (λ n. n + 1 + 2) scheme.ensures.end) in
+    grind arith in
     let returned = subst (λ t. authority_error kind t (cursor_position scheme.new.cursor)
     ≡ option_or (result_err c.pass_authority.result)
     (error_from_path kind t (cursor_position c.pass_authority.new.cursor)))

@@ -1,7 +1,6 @@
-use Rattle.std.proofs.Common.{◌≡◌, ◌+◌, drop, sym, ap, ◌∙◌, subst, arith, IsCharBoundary}
+use Rattle.std.proofs.Common.{◌≡◌, ◌+◌, drop, sym, ap, subst, arith, IsCharBoundary}
 use Rattle.std.specs.Char.{len_utf8}
 use Rattle.std.proofs.lemmas.Str.{IsCharBoundary-past_char, IsUtf8-drop}
-use Rattle.uri_pct.specs.Tables.{set_of}
 use Rattle.uri_pct.proofs.ValidTexts.KeptPrefixes.{empty_run_is_encoded_as_octets, longer_run_is_encoded_as_octets, disallowed_run_is_not_empty}
 use Rattle.uri_pct.proofs.encode.disallowed_end.Goals as goal
 
@@ -22,9 +21,7 @@ loop-end-preserved c =
       boundary = subst (IsCharBoundary text) (sym place)
           (IsCharBoundary-past_char text (drop (end + len_utf8 ch) text) end ch (omega arith) u
           c.char_at-ch.ensures);
-      octets = longer_run_is_encoded_as_octets (set_of c.args.table.now) text c.args.start end _ ch
-          u before.from
-          c.char_at-ch.ensures place (sym c.allows.ensures ∙ c.if-allows.false) before.octets;
+      octets = grind (arith, longer_run_is_encoded_as_octets);
     }
 
 pub returns-then-allows-clause-goes : goal.returns-then-allows-clause-goes

@@ -26,9 +26,7 @@ loop-chunk-preserved c =
       total = encoded_bytes_after_chunk set out mid new _ text fault rest _
           (subst IsUtf8 c.valid.ensures c.valid.utf8) pieces first
           then c.loop-chunk.invariant.total;
-      keeps = kept_prefix-transitive old mid new
-          (kept_prefix-transitive old out mid c.loop-chunk.invariant.keeps
-          c.in_ok-push_text.ensures.keeps) c.in_ok-push_octets.ensures.keeps;
+      keeps = grind (arith, kept_prefix-transitive);
     }
 
 pub returns-clause-ok : goal.returns-clause-ok

@@ -43,9 +43,7 @@ loop-done-preserved c =
       total = encoded_text_after_two_runs (set_of c.args.table.now) out mid new text _ done end next
           c.allowed_end-end.ensures.kept c.disallowed_end-next.ensures.octets copied octets
           c.loop-done.invariant.total;
-      keeps = kept_prefix-transitive old mid new (ap (take (length old)) pushed
-          ∙ append_keeps_prefix old out c.range.result.now c.loop-done.invariant.keeps)
-          c.in_ok-push_octets.ensures.keeps;
+      keeps = grind (arith, kept_prefix-transitive, append_keeps_prefix);
     }
 
 pub returns-clause-ok : goal.returns-clause-ok

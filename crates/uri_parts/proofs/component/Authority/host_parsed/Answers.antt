@@ -13,8 +13,7 @@ returns-in-Some-parse-clause-kind g c =
     let host = c.host-host.result.now in
     let s : starts 91 host ≡ true = sym c.in-Some.ensures.begins in
     let a : c.cut_before.result.0.now ≡ before_any (codes "]") (drop 1 host) =
-    c.cut_before.ensures.before
-    ∙ ap (before_any (codes "]")) c.in-Some.ensures.rest in
+    grind arith in
     kind_of_bracketed_host host c.cut_before.result.0.now
     (Some (ipv6_segments c.in-Some-parse.address)) s
     a c.in-Some-parse.ensures
@@ -25,8 +24,7 @@ returns-in-None-parse-clause-kind g c =
     let host = c.host-host.result.now in
     let s : starts 91 host ≡ true = sym c.in-Some.ensures.begins in
     let a : c.cut_before.result.0.now ≡ before_any (codes "]") (drop 1 host) =
-    c.cut_before.ensures.before
-    ∙ ap (before_any (codes "]")) c.in-Some.ensures.rest in
+    grind arith in
     kind_of_bracketed_host host c.cut_before.result.0.now None s a c.in-None-parse.ensures
     ∙ ap host_kind c.host-host.ensures
 

@@ -1,4 +1,4 @@
-use Rattle.std.proofs.Common.{◌≡◌, ◌+◌, ◌-◌, ◌<◌, ◌≤◌, ◌∙◌, ℕ, Bool, List, true, false, length, drop, get_or, arith, sym, subst, ⊎_elim, IsUtf8, IsCharBoundary}
+use Rattle.std.proofs.Common.{◌≡◌, ◌+◌, ◌-◌, ◌<◌, ◌≤◌, ◌∙◌, ℕ, Bool, List, true, false, length, drop, eqb, get_or, arith, sym, subst, ⊎_elim, IsUtf8, IsCharBoundary}
 use Rattle.std.proofs.lemmas.Bool.{cases_Bool}
 use Rattle.uri_pct.specs.Models.ByteRuns.{AreCharactersOrOctets, IsLongestRun}
 use Rattle.uri_pct.specs.Prefixes.{valid_prefix}
@@ -18,13 +18,11 @@ stops : (t : Table) (text : List ℕ) (i : ℕ) → i < length text → get_or t
     → (set_of t).ascii (get_or text i 0) ≡ false
     → (get_or text i 0 ≡ 37 → (set_of t).pct_encoded ≡ true → has_hex_digits_after text i ≡ false)
     → valid_prefix (set_of t) (drop i text) ≡ 0
-stops t text i inside ascii outside stray =
-    grind (
-      arith,
-      valid_prefix_stops_at_stray_percent,
-      lacks_percent,
-      valid_prefix_stops_at_ascii_outside_set,
-    )
+stops t text i inside ascii outside stray = ⊎_elim
+    (grind (arith, valid_prefix_stops_at_stray_percent, lacks_percent))
+    (λ (e : eqb (get_or text i 0) 37 ≡ false).
+    valid_prefix_stops_at_ascii_outside_set (set_of t) text i inside ascii e outside)
+    (cases_Bool (eqb (get_or text i 0) 37))
 
 pub returns-then-i-bytes-clause-stop : goal.returns-then-i-bytes-clause-stop
 returns-then-i-bytes-clause-stop c = grind (arith, stops, then-i-bytes-via-then-i-bytes)
