@@ -1,12 +1,11 @@
-//! Each line of standard input as a URI, an IRI or a reference: `urilines normalize KIND`,
-//! `urilines resolve uri|iri BASE`, `urilines check KIND`, `urilines parse KIND`, `urilines query
-//! KIND`, `urilines unique KIND` and `urilines links BASE`.
+//! Each line of standard input as a URI, an IRI or a reference: `options` has the commands.
 #![tactic(auto)]
 
 mod options;
 mod progress;
 
-use options::{command, job, shows_progress};
+use clap::Error;
+use options::{job, parsed, shows_progress};
 use progress::Progress;
 use std::alloc::Global;
 use std::env;
@@ -35,17 +34,9 @@ fn main(rt: HostRuntime) -> ExitCode {
             return ExitCode::from(2);
         }
     };
-    let Ok(command) = command(alloc) else {
-        return failed(&rt, "out of memory");
-    };
-    let matches = match command.try_get_matches_from(words.as_slice()) {
+    let matches = match parsed(alloc, words.as_slice()) {
         Ok(matches) => matches,
-        Err(error) => {
-            return match error.print(&rt) {
-                Ok(()) => ExitCode::from(error.exit_code() as u8),
-                Err(_) => ExitCode::from(3),
-            };
-        }
+        Err(error) => return rejected(&rt, &error),
     };
     let Ok(hasher) = RandomState::new(&rt) else {
         return failed(&rt, "no random numbers");
@@ -56,6 +47,18 @@ fn main(rt: HostRuntime) -> ExitCode {
             let _ = eprintln!(rt; "error: {error}");
             ExitCode::from(2)
         }
+    }
+}
+
+/// Prints what `clap` says of the words of the command line, and returns the exit status of
+/// `urilines`.
+fn rejected(rt: &HostRuntime, error: &Error) -> ExitCode {
+    if error.kind() == clap::error::ErrorKind::OutOfMemory {
+        return failed(rt, "out of memory");
+    }
+    match error.print(rt) {
+        Ok(()) => ExitCode::from(error.exit_code() as u8),
+        Err(_) => ExitCode::from(3),
     }
 }
 

@@ -1,9 +1,11 @@
 //! The command line.
-ghost use Rattle.std.specs.Prelude.{◌≡◌, None, Some, codes, false, option_map, true};
-ghost use Rattle.clap.specs.Matches.{first_value, found_of, one_text};
+ghost use Rattle.std.specs.Prelude.{◌≡◌, IfOk, None, Some, codes, false, is_some, option_map};
+ghost use Rattle.std.specs.Prelude.{true};
+ghost use Rattle.clap.specs.Matches.{first_value, found_of, matched_of, one_text};
 ghost use Rattle.urilines.specs.Words.{IsKindNamed, IsModeNamed};
 
-use clap::{Arg, ArgAction, ArgMatches, Command as Words, value_parser};
+use clap::error::ErrorKind;
+use clap::{Arg, ArgAction, ArgMatches, Command as Words, Error, value_parser};
 use std::alloc::{AllocError, Global};
 use std::hash::RandomState;
 use uri_streams::command::KindName;
@@ -22,7 +24,7 @@ static BASES: [&str; 2] = ["uri", "iri"];
 static ERRORS: [&str; 4] = ["line", "drop", "stderr", "stop"];
 
 /// Returns the commands and options that a command line of `urilines` may have.
-pub fn command<'a>(alloc: Global) -> Result<Words<'a>, AllocError> {
+fn command<'a>(alloc: Global) -> Result<Words<'a>, AllocError> {
     let words = Words::new(alloc, "urilines")
         .version("0.1.0")
         .about("Reads URIs, IRIs or references, one a line, and writes a line for each")
@@ -34,7 +36,7 @@ pub fn command<'a>(alloc: Global) -> Result<Words<'a>, AllocError> {
 fn with_options<'a>(alloc: Global, words: Words<'a>) -> Result<Words<'a>, AllocError> {
     words
         .arg(field(alloc))?
-        .arg(delimiter(alloc)?)?
+        .arg(delimiter(alloc))?
         .arg(null(alloc))?
         .arg(mended(alloc))?
         .arg(errors(alloc))?
@@ -141,13 +143,12 @@ fn field<'a>(alloc: Global) -> Arg<'a> {
 
 /// Returns the option `--delimiter` for the parser of the command line: what is between two fields
 /// of a line.
-fn delimiter<'a>(alloc: Global) -> Result<Arg<'a>, AllocError> {
+fn delimiter<'a>(alloc: Global) -> Arg<'a> {
     Arg::new(alloc, "delimiter")
         .long("delimiter")
         .value_name("C")
         .global(true)
         .help("What is between two fields, an ASCII character; a tab where none is given")
-        .requires_arg("field")
 }
 
 /// Returns the option `--null` for the parser of the command line: NUL ends lines in place of a
@@ -262,6 +263,26 @@ fn kind<'a>(alloc: Global) -> Arg<'a> {
         .required(true)
         .value_parser(KINDS.as_slice())
         .help("What a line is")
+}
+
+/// Parses the words of a command line of `urilines`.
+///
+/// # Errors
+///
+/// Those of `clap`, and one for `--delimiter` without `--field`. These may be on both sides of the
+/// command, and `Arg::requires_arg` looks at one.
+pub fn parsed<'a>(alloc: Global, words: &'a [String]) -> Result<ArgMatches<'a>, Error>
+    ensures { IfOk result (λ matches.
+        is_some (matched_of (found_of matches) (codes "delimiter")) ≡ true
+        → is_some (matched_of (found_of matches) (codes "field")) ≡ true) }
+{
+    let mut command = command(alloc)?;
+    let matches = command.try_get_matches_from_mut(words)?;
+    if matches.contains_id("delimiter") && !matches.contains_id("field") {
+        let message = "the following required arguments were not provided:\n  --field <N>";
+        return Err(command.error(ErrorKind::MissingRequiredArgument, message)?);
+    }
+    Ok(matches)
 }
 
 /// Returns whether the command line of `urilines` has the option `--progress`.
