@@ -1,8 +1,9 @@
-//! Each line of standard input as a URI, an IRI or a reference: `options` has the commands.
+//! Each line of standard input as a URI, an IRI or a reference: `table` has the commands.
 #![tactic(auto)]
 
 mod options;
 mod progress;
+mod table;
 
 use clap::Error;
 use options::{job, parsed, shows_progress};
@@ -115,9 +116,5 @@ fn failed(rt: &HostRuntime, why: &str) -> ExitCode {
 
 /// Returns the words of the command line of `urilines`.
 fn words(rt: &HostRuntime, alloc: Global) -> io::Result<Vec<String>> {
-    let mut words = Vec::new(alloc);
-    for word in env::args(rt)? {
-        words.push(word)?;
-    }
-    Ok(words)
+    Ok(env::args(rt)?.collect(alloc)?)
 }
