@@ -1,7 +1,5 @@
 -- The rules dec-octet and IPv4address.
-use Rattle.std.proofs.Common.{◌≡◌, ℕ, zero, suc, List, [], ◌∷◌, ◌++◌, refl, sym, ap, subst, ◌∙◌, inl, inr, ⊎_elim, arith, ◌≤◌, ◌<◌, ◌+◌, ◌*◌, ◌-◌, ◌/◌, ◌%◌, append_assoc}
-use Rattle.std.specs.Prelude.{codes}
-use Rattle.std.specs.Fmt.{decimal}
+use Rattle.std.proofs.Common.{◌≡◌, ℕ, zero, suc, List, [], ◌∷◌, ◌++◌, refl, sym, ap, subst, ◌∙◌, inl, inr, ⊎_elim, arith, ◌≤◌, ◌<◌, ◌+◌, ◌*◌, ◌-◌, ◌/◌, ◌%◌, append_assoc, rules, codes, decimal}
 use Rattle.std.specs.Net.Grammar.{IsDotted}
 use Rattle.std.proofs.lemmas.Fmt.{decimal_digit, decimal_step}
 use Rattle.std.proofs.lemmas.Bool.{cases_lt}
@@ -29,8 +27,7 @@ one-gives : (a : ℕ) → 48 ≤ a → a ≤ 57 → IsOctetText (a ∷ [])
 one-gives a p q = record {
   n = a - 48;
   below = omega arith;
-  whole = sym (decimal_digit (a - 48) (omega arith)
-      ∙ ap (λ c. c ∷ []) (let e : 48 + (a - 48) ≡ a = omega arith in e));
+  whole = grind (arith, decimal_digit);
 }
 
 two-gives : (a b : ℕ) → 49 ≤ a → a ≤ 57 → 48 ≤ b → b ≤ 57 → IsOctetText (a ∷ b ∷ [])
@@ -41,8 +38,7 @@ two-gives a b p q r s =
     record {
       n = n;
       below = omega arith;
-      whole = sym (two-digits n (omega arith) (omega arith) ∙ ap (λ c. c ∷ (48 + n % 10) ∷ []) e
-          ∙ ap (λ c. a ∷ c ∷ []) f);
+      whole = grind (arith, two-digits);
     }
 
 three-gives : (a b c : ℕ) → 49 ≤ a → a ≤ 50 → 48 ≤ b → b ≤ 57 → 48 ≤ c → c ≤ 57
@@ -55,9 +51,7 @@ three-gives a b c p q r s u v h =
     record {
       n = n;
       below = h;
-      whole = sym (three-digits n (omega arith) (omega arith)
-          ∙ ap (λ i. i ∷ (48 + (n / 10) % 10) ∷ (48 + n % 10) ∷ []) e
-          ∙ ap (λ i. a ∷ i ∷ (48 + n % 10) ∷ []) f ∙ ap (λ i. a ∷ b ∷ i ∷ []) g);
+      whole = grind (arith, three-digits);
     }
 
 record IsTwoDigits (t : List ℕ) : Type 0 where
@@ -73,15 +67,7 @@ twice : (t : List ℕ) → Has (times 2 DIGIT) t → IsTwoDigits t
 unfolding DIGIT
 twice t (zero, lo, hi, k) = absurd (omega arith)
 twice t (suc zero, lo, hi, k) = absurd (omega arith)
-twice t (suc (suc zero), lo, hi, (x, y, e, (a, f, p, q), (z, w, g, (b, h, r, s), i))) = record {
-  a = a;
-  b = b;
-  whole = cc;
-  la = p;
-  ha = q;
-  lb = r;
-  hb = s;
-}
+twice t (suc (suc zero), lo, hi, (x, y, e, (a, f, p, q), (z, w, g, (b, h, r, s), i))) = grind arith
 twice t (suc (suc (suc n)), lo, hi, k) = absurd (omega arith)
 
 twice-is-had : (a b : ℕ) → 48 ≤ a → a ≤ 57 → 48 ≤ b → b ≤ 57 → Has (times 2 DIGIT) (a ∷ b ∷ [])
@@ -101,18 +87,13 @@ octet-gives t (inl (inl (inl (inr (x, y, e, (a, f, p, q), (b, g, r, s)))))) =
 octet-gives t (inl (inl (inr (x, y, e, h, k)))) =
     let l = letterless-has (codes "1") x (inl (omega arith), tt) h in
     let m = twice y k in
-    subst IsOctetText (sym (let w = m.whole in cc))
-    (three-gives 49 m.a m.b (omega arith) (omega arith) m.la m.ha m.lb m.hb
-    (let i = m.ha in let j = m.hb in omega arith))
+    grind (arith, three-gives)
 octet-gives t (inl (inr (x, y, e, h, (z, w, i, (b, g, r, s), (c, k, u, v))))) =
     let l = letterless-has (codes "2") x (inl (omega arith), tt) h in
-    subst IsOctetText (sym (let g1 = g in let k1 = k in cc))
-    (three-gives 50 b c (omega arith) (omega arith) r (omega arith) u v (omega arith))
+    grind (arith, three-gives)
 octet-gives t (inr (x, y, e, h, (c, k, u, v))) =
     let l = letterless-has (codes "25") x (inl (omega arith), (inl (omega arith), tt)) h in
-    subst IsOctetText (sym (let k1 = k in cc))
-    (three-gives 50 53 c (omega arith) (omega arith) (omega arith) (omega arith) u (omega arith)
-    (omega arith))
+    grind (arith, three-gives)
 
 low : (n : ℕ) → n < 10 → Has dec-octet (decimal n)
 unfolding dec-octet DIGIT

@@ -1,6 +1,5 @@
 -- The rule IPv6address.
-use Rattle.std.proofs.Common.{◌≡◌, ℕ, zero, suc, Bool, true, false, List, [], ◌∷◌, ◌++◌, refl, sym, ap, subst, ◌∙◌, inl, inr, ⊎_elim, arith, ◌≤◌, ◌<◌, ◌+◌, append_assoc, append-nil, length}
-use Rattle.std.specs.Prelude.{codes}
+use Rattle.std.proofs.Common.{◌≡◌, ℕ, zero, suc, Bool, true, false, List, [], ◌∷◌, ◌++◌, refl, sym, ap, subst, ◌∙◌, inl, inr, ⊎_elim, arith, ◌≤◌, ◌<◌, ◌+◌, append_assoc, append-nil, length, codes}
 use Rattle.std.specs.Char.{digit_value, is_ascii_hexdigit}
 use Rattle.std.specs.Str.Parse.{AllDigits, digits_value}
 use Rattle.std.specs.Net.Addr.{segments_of}
@@ -78,14 +77,7 @@ shape-step : (last : Abnf) (n : ℕ) (t : List ℕ) (x y : List ℕ) → t ≡ x
     → IsPower (Has (h16 ⋅ lit ":")) (suc n) x → Has last y → IsStep last n t
 shape-step last n t x y e (p, z, f, (g, c, i, h, k), q) d =
     let colon = letterless-has (codes ":") c (inl (omega arith), tt) k in
-    record {
-      g = g;
-      rest = z ++ y;
-      whole = e ∙ ap (λ r. r ++ y) (f ∙ ap (λ r. r ++ z) (i ∙ ap (λ r. g ++ r) colon))
-          ∙ simp append_assoc;
-      group = h;
-      shape = record { x = z; y = y; whole = refl; groups = q; ending = d };
-    }
+    grind (arith, nat_tests, append_assoc)
 
 step-is-shape : (last : Abnf) (n : ℕ) (g rest : List ℕ) → Has h16 g → IsShape last n rest
     → IsShape last (suc n) (g ++ (58 ∷ rest))
@@ -137,8 +129,7 @@ ls32-gives : (lead t : List ℕ) → Has ls32 t → AreGroups true lead 2 t
 unfolding ls32
 ls32-gives lead t (inl (g, r, e, h, (c, l, f, k, i))) =
     let colon = letterless-has (codes ":") c (inl (omega arith), tt) k in
-    subst (AreGroups true lead 2) (sym (e ∙ ap (λ r. g ++ r) (f ∙ ap (λ r. r ++ l) colon)))
-    (group-then true lead 1 g l h (last-group true (codes ":") l i))
+    grind (arith, nat_tests, group-then, last-group)
 ls32-gives lead t (inr h) = let d = ipv4-gives t h in ipv4-groups lead t d.0 d.1
 
 tails-give : (n : ℕ) (lead t : List ℕ) → IsShape ls32 n t → AreGroups true lead (suc (suc n)) t
@@ -167,11 +158,7 @@ after-group last lead t g rest s n e i k = record {
 after-last-group : (lead t g rest : List ℕ) (s : ℕ) → t ≡ (lead ++ g) ++ rest → rest ≡ []
     → IsGroup g s
     → IsAfter lead (Has h16) t
-after-last-group lead t g rest s e n i = record {
-  r = g;
-  whole = e ∙ ap (λ z. (lead ++ g) ++ z) n ∙ append-nil (lead ++ g);
-  holds = group-is-had g s i;
-}
+after-last-group lead t g rest s e n i = grind (arith, nat_tests, append-nil, group-is-had)
 
 head-shape : (lead t : List ℕ) (s : ℕ) (segments : List ℕ) → IsGroupsAfter false lead t
     (s ∷ segments)
@@ -221,21 +208,12 @@ shape-is-times : (last : Abnf) (n : ℕ) (t : List ℕ) → IsShape last n t →
 shape-is-times last n t s = (s.x, s.y, s.whole, (n, omega arith, omega arith, s.groups), s.ending)
 
 times-is-shape : (last : Abnf) (k : ℕ) (t : List ℕ) → Has (times k g16 ⋅ last) t → IsShape last k t
-times-is-shape last k t (x, y, e, (n, lo, hi, p), h) =
-    let same : n ≡ k = omega arith in
-    record {
-      x = x;
-      y = y;
-      whole = e;
-      groups = subst (λ m. IsPower (Has g16) m x) same p;
-      ending = h;
-    }
+times-is-shape last k t (x, y, e, (n, lo, hi, p), h) = grind (arith, nat_tests)
 
 once : (t : List ℕ) → Has (h16 ⋅ lit ":" ⋅ ls32) t → IsShape ls32 1 t
 once t (g, r, e, h, (c, y, f, k, i)) =
     let colon = letterless-has (codes ":") c (inl (omega arith), tt) k in
-    subst (IsShape ls32 1) (sym (e ∙ ap (λ z. g ++ z) (f ∙ ap (λ z. z ++ y) colon)))
-    (step-is-shape ls32 0 g y h (last-is-shape ls32 y i))
+    grind (arith, nat_tests, step-is-shape, last-is-shape)
 
 -- groups before `::`, at most so many
 record IsHead (m : ℕ) (t : List ℕ) : Type 0 where

@@ -1,10 +1,9 @@
 -- Expressions of ASCII characters only: their texts are their own characters.
-use Rattle.std.proofs.Common.{◌≡◌, ℕ, zero, suc, Bool, true, List, [], ◌∷◌, ◌++◌, refl, sym, ap, subst, ◌∙◌, inl, inr, arith, ◌<◌, ◌&&◌}
-use Rattle.std.specs.Prelude.{nat_lt, map, get_or, drop}
+use Rattle.std.proofs.Common.{◌≡◌, ℕ, zero, suc, Bool, true, List, [], ◌∷◌, ◌++◌, refl, sym, ap, subst, ◌∙◌, inl, inr, arith, ◌<◌, ◌&&◌, nat_lt, map, get_or, drop}
 use Rattle.std.specs.List.{list_all}
 use Rattle.std.specs.Char.{to_ascii_lowercase}
 use Rattle.std.specs.Str.{chars, encode_utf8_all, all_scalars}
-use Rattle.std.proofs.lemmas.Bool.{and_parts, and_from, ltb-true}
+use Rattle.std.proofs.lemmas.Bool.{and_parts, ltb-true}
 use Rattle.std.proofs.lemmas.Bool.Decides.{nat_tests}
 use Rattle.std.proofs.lemmas.Str.{encodes-append, chars-encodes, encodes-chars, encode_ascii}
 use Rattle.std.proofs.Math.Utf8.{low_scalar}
@@ -28,17 +27,10 @@ own-nil : IsOwn []
 own-nil = record { scalars = refl; encodes = refl }
 
 own-cons : (c : ℕ) (t : List ℕ) → c < 128 → IsOwn t → IsOwn (c ∷ t)
-own-cons c t h o = record {
-  scalars = and_from _ _ (low_scalar c (omega arith)) o.scalars;
-  encodes = ap (λ e. e ++ encode_utf8_all t) (encode_ascii c h) ∙ ap (λ r. c ∷ r) o.encodes;
-}
+own-cons c t h o = grind (arith, nat_tests, low_scalar, encode_ascii)
 
 own-append : (x y : List ℕ) → IsOwn x → IsOwn y → IsOwn (x ++ y)
-own-append x y o p = record {
-  scalars = scalars-append x y o.scalars p.scalars;
-  encodes = encodes-append x y ∙ ap
-      (λ r. r ++ encode_utf8_all y) o.encodes ∙ ap (λ r. x ++ r) p.encodes;
-}
+own-append x y o p = grind (arith, nat_tests, scalars-append, encodes-append)
 
 lower-ascii : (a c : ℕ) → to_ascii_lowercase c ≡ to_ascii_lowercase a → a < 128 → c < 128
 lower-ascii a c e h = grind (arith, nat_tests)
@@ -81,9 +73,4 @@ module _ (g : Abnf) (w : ascii_only g ≡ true) where
       subst (Has g) (sym (ascii-own g w (chars t) l.has).encodes ∙ encodes-chars t l.utf8) l.has
 
   pub ascii-text-is-had : (t : List ℕ) → Has g t → IsOf g t
-  ascii-text-is-had t h =
-      let o = ascii-own g w t h in
-      record {
-        utf8 = (t, (o.scalars, o.encodes));
-        has = subst (Has g) (sym (ap chars (sym o.encodes) ∙ chars-encodes t o.scalars)) h;
-      }
+  ascii-text-is-had t h = grind (arith, nat_tests, ascii-own, chars-encodes)

@@ -1,10 +1,7 @@
 -- The rules on authorities: RFC 3986, section 3.2.
-use Rattle.std.proofs.Common.{ℕ, List, [], ◌++◌, refl, sym, ap, subst, ◌∙◌}
-use Rattle.std.specs.Prelude.{codes}
-use Rattle.std.specs.Str.{IsUtf8}
+use Rattle.std.proofs.Common.{ℕ, List, [], ◌++◌, refl, sym, ap, subst, ◌∙◌, arith, codes, IsUtf8}
 use Rattle.uri_pct.specs.Sets.{digit_set}
-use Rattle.uri_pct.specs.Tokens.{IsValidFor}
-use Rattle.uri_pct.proofs.General.{IfSome-weaken, IfSome-combine}
+use Rattle.uri_pct.proofs.General.{IfSome-weaken}
 use Rattle.uri_parts.specs.Authority.{AuthorityParts, IsAuthorityFor}
 use Rattle.uri_parts.specs.Components.{Lacks, marked}
 use Rattle.uri_parts.specs.Grammar.{Kind}
@@ -65,26 +62,14 @@ module _ (r : Rules) (kind : Kind) (w : Fit r kind) where
 
   pub derived-authority-follows : (t : List ℕ) (p : AuthorityParts) → IsAuthorityDerived r t p
       → IsAuthorityFor kind.userinfo kind.reg_name t p
-  derived-authority-follows t p d = record {
-    whole = d.whole;
-    userinfo = IfSome-weaken p.userinfo _ _ (λ x l. ((w.userinfo x).0 l).1) d.userinfo;
-    host = host-gives r kind w p.host d.host;
-    port = IfSome-weaken p.port _ _ (λ x l. ((port-rule x).0 l).1) d.port;
-  }
+  derived-authority-follows t p d = grind (arith, host-gives, port-rule)
 
   pub following-authority-derives : (t : List ℕ) (p : AuthorityParts) → IsUtf8 t
       → IsAuthorityFor kind.userinfo kind.reg_name t p → IsAuthorityDerived r t p
   following-authority-derives t p u a =
       let parts = authority-parts-are-utf8 p.userinfo p.port p.host
       (subst IsUtf8 (sym a.whole) u) in
-      record {
-        whole = a.whole;
-        userinfo = IfSome-combine p.userinfo IsUtf8 (IsValidFor kind.userinfo) _
-            (λ x v h. (w.userinfo x).1 (v, h)) parts.userinfo a.userinfo;
-        host = host-is-had r kind w p.host a.host.0 parts.host a.host.1;
-        port = IfSome-combine p.port IsUtf8 (IsValidFor digit_set) _
-            (λ x v h. (port-rule x).1 (v, h)) parts.port a.port;
-      }
+      grind (arith, host-is-had, port-rule)
 
   userinfo-lacks : (x : List ℕ) → IsOf r.userinfo x → Lacks (codes "/?#") x
   userinfo-lacks x l = valid_text_lacks_excluded_marks kind.userinfo (codes "/?#")

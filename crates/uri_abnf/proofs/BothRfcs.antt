@@ -44,13 +44,7 @@ uri-paths = record {
 uri-rules-are-made : AreMade uri_rules
 unfolding R.URI R.hier-part R.absolute-URI R.URI-reference R.relative-ref R.relative-part
     R.authority R.host
-uri-rules-are-made = record {
-  with_scheme = λ cs. (λ h. h, λ h. h);
-  absolute = λ cs. (λ h. h, λ h. h);
-  reference = λ cs. (λ h. h, λ h. h);
-  authority = λ cs. (λ h. h, λ h. h);
-  host = λ cs. (λ h. h, λ h. h);
-}
+uri-rules-are-made = grind (arith, nat_tests)
 
 -- the kind of URIs, or of references to them
 abbrev pub uri-kind : Bool → Kind
@@ -73,12 +67,7 @@ uri-rules-fit needs = record {
   abempty = λ t. same-rule t (λ cs. (λ h. h, λ h. h)) (abempty-rule path_set uri-paths t);
   rootless = λ t. same-rule t (λ cs. (λ h. h, λ h. h)) (rootless-rule path_set uri-paths t);
   noscheme = λ t. same-rule t (λ cs. (λ h. h, λ h. h)) (noscheme-rule path_set uri-paths t);
-  apart = record {
-    users_percent = refl;
-    names_percent = refl;
-    users_marks = refl;
-    names_marks = refl;
-  };
+  apart = grind (arith, nat_tests);
   path_percent = refl;
   query_percent = refl;
   userinfo_marks = refl;
@@ -116,13 +105,7 @@ iri-paths = record {
 iri-rules-are-made : AreMade iri_rules
 unfolding I.IRI I.ihier-part I.absolute-IRI I.IRI-reference I.irelative-ref I.irelative-part
     I.iauthority I.ihost
-iri-rules-are-made = record {
-  with_scheme = λ cs. (λ h. h, λ h. h);
-  absolute = λ cs. (λ h. h, λ h. h);
-  reference = λ cs. (λ h. h, λ h. h);
-  authority = λ cs. (λ h. h, λ h. h);
-  host = λ cs. (λ h. h, λ h. h);
-}
+iri-rules-are-made = grind (arith, nat_tests)
 
 -- the kind of IRIs, or of references to them
 abbrev pub iri-kind : Bool → Kind
@@ -146,12 +129,7 @@ iri-rules-fit needs = record {
   abempty = λ t. same-rule t (λ cs. (λ h. h, λ h. h)) (abempty-rule ipath_set iri-paths t);
   rootless = λ t. same-rule t (λ cs. (λ h. h, λ h. h)) (rootless-rule ipath_set iri-paths t);
   noscheme = λ t. same-rule t (λ cs. (λ h. h, λ h. h)) (noscheme-rule ipath_set iri-paths t);
-  apart = record {
-    users_percent = refl;
-    names_percent = refl;
-    users_marks = refl;
-    names_marks = refl;
-  };
+  apart = grind (arith, nat_tests);
   path_percent = refl;
   query_percent = refl;
   userinfo_marks = refl;

@@ -1,6 +1,5 @@
 -- A component that may be absent, with its delimiter.
-use Rattle.std.proofs.Common.{◌≡◌, ℕ, List, [], ◌++◌, sym, ap, subst, ◌∙◌, ⊎_elim, append-nil}
-use Rattle.std.specs.Prelude.{Option, None, Some, IfSome}
+use Rattle.std.proofs.Common.{◌≡◌, ℕ, List, [], ◌++◌, sym, ap, subst, ◌∙◌, ⊎_elim, append-nil, Option, None, Some, IfSome}
 use Rattle.uri_parts.specs.Components.{marked}
 use Rattle.uri_abnf.specs.Abnf.{Abnf, Literal, IsOf, opt, ◌⋅◌}
 use Rattle.uri_abnf.proofs.Texts.{IsMark, cut-gives, cut-is-had, opt-gives, opt-is-had, opt-has-nothing, mark-gives, mark-is-had}

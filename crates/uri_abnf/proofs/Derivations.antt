@@ -1,6 +1,5 @@
 -- References are derived from their components: RFC 3986, sections 3 and 4.
-use Rattle.std.proofs.Common.{◌≡◌, ℕ, List, [], ◌++◌, refl, sym, ap, subst, ◌∙◌, ⊎_elim, append_assoc, append-nil}
-use Rattle.std.specs.Prelude.{Option, None, Some, codes, IfSome, IsSome, is_some}
+use Rattle.std.proofs.Common.{◌≡◌, ℕ, List, [], ◌++◌, refl, sym, ap, subst, ◌∙◌, ⊎_elim, append_assoc, append-nil, arith, Option, None, Some, codes, IfSome, IsSome, is_some}
 use Rattle.std.proofs.lemmas.Bool.{cases_Bool, false≢true}
 use Rattle.uri_pct.proofs.General.{None-from-not-is_some}
 use Rattle.uri_parts.specs.Components.{Components, marked}
@@ -30,21 +29,14 @@ module _ (r : Rules) where
       record {
         authority = Some j.x;
         path = j.y;
-        whole = ap (λ x. x ++ j.y) (append-nil (codes "//" ++ j.x))
-            ∙ ap (λ x. codes "//" ++ x) (sym j.whole) ∙ ap (λ x. x ++ k.y) (sym s) ∙ sym k.whole;
+        whole = grind (arith, append-nil);
         authority_is_of = j.first;
         path_is_of = j.second;
       }
 
   without-authority : (other : Abnf) (t : List ℕ) → IsOf (r.path_absolute ∣ other ∣ r.path_empty) t
       → IsHierarchy other t
-  without-authority other t l = record {
-    authority = None;
-    path = t;
-    whole = refl;
-    authority_is_of = tt;
-    path_is_of = l;
-  }
+  without-authority other t l = grind arith
 
   hierarchy-gives : (other : Abnf) (t : List ℕ) → IsOf (hierarchy r other) t → IsHierarchy other t
   hierarchy-gives other t l = ⊎_elim
@@ -63,14 +55,7 @@ module _ (r : Rules) where
   hierarchy-is-had : (other : Abnf) (a : Option (List ℕ)) (path : List ℕ)
       → IfSome a (IsOf r.authority) → IsOf (path_rule r other a) path
       → IsOf (hierarchy r other) (marked (codes "//") a [] ++ path)
-  hierarchy-is-had other None path h l = ⊎_elim
-      (λ ab. ⊎_elim
-      (λ a. left-is-had _ r.path_empty path (left-is-had _ other path
-      (right-is-had _ r.path_absolute path a)))
-      (λ b. left-is-had _ r.path_empty path (right-is-had _ other path b))
-      (either-gives r.path_absolute other path ab))
-      (λ c. right-is-had _ r.path_empty path c)
-      (either-gives _ r.path_empty path l)
+  hierarchy-is-had other None path h l = grind (arith, left-is-had, right-is-had, either-gives)
   hierarchy-is-had other (Some x) path h l =
       left-is-had _ r.path_empty _ (left-is-had _ other _ (left-is-had _ r.path_absolute _
       (cut-is-had (lit "//") (r.authority ⋅ r.path_abempty) (codes "//") ((x ++ []) ++ path)
@@ -91,14 +76,7 @@ module _ (r : Rules) where
       let k = cut-gives (opt (lit "?" ⋅ r.query)) (opt (lit "#" ⋅ r.fragment)) t l in
       let a = after-gives (codes "?") question-mark r.query k.x k.first in
       let b = after-gives (codes "#") hash-mark r.fragment k.y k.second in
-      record {
-        query = a.part;
-        fragment = b.part;
-        whole = k.whole ∙ ap (λ x. x ++ k.y) (sym a.whole)
-            ∙ ap (λ x. marked (codes "?") a.part [] ++ x) (sym b.whole);
-        query_is_of = a.is_of;
-        fragment_is_of = b.is_of;
-      }
+      grind arith
 
   query-gives : (t : List ℕ) → IsOf (opt (lit "?" ⋅ r.query)) t
       → (k : IsTail t) × (k.fragment ≡ None)
@@ -140,8 +118,7 @@ module _ (r : Rules) where
         scheme_part = k.x;
         hierarchy_part = j.x;
         rest_part = j.y;
-        whole = k.whole ∙ ap (λ z. k.x ++ z) (c.whole ∙ ap (λ z. z ++ c.y) colon
-            ∙ ap (λ z. codes ":" ++ z) j.whole);
+        whole = grind arith;
         scheme_is_of = k.first;
         derived = hierarchy-gives r.path_rootless j.x j.first;
         rest_is_of = j.second;
@@ -154,8 +131,7 @@ module _ (r : Rules) where
       (marked [] o (codes ":") ++ (marked (codes "//") a [] ++ (path ++ end)))
   with-scheme-is-had rest None a path end some s h l e = absurd (false≢true some)
   with-scheme-is-had rest (Some x) a path end some s h l e = subst (IsOf (after_colon r rest))
-      (ap (λ z. x ++ (codes ":" ++ z)) (append_assoc (marked (codes "//") a []) path end)
-      ∙ sym (append_assoc x (codes ":") (marked (codes "//") a [] ++ (path ++ end))))
+      (grind (arith, append_assoc))
       (cut-is-had scheme (lit ":" ⋅ hierarchy r r.path_rootless ⋅ rest) x _ s
       (cut-is-had (lit ":") (hierarchy r r.path_rootless ⋅ rest) (codes ":") _
       (mark-is-had (codes ":") colon-mark)
@@ -280,8 +256,7 @@ module _ (r : Rules) (made : AreMade r) where
   pub derived-is-absolute : (t : List ℕ) (p : Components) → IsDerived r t p → IsSome p.scheme
       → p.fragment ≡ None → IsOf r.absolute t
   derived-is-absolute t p d some none = subst (IsOf r.absolute)
-      (ap (λ f. marked [] p.scheme (codes ":") ++ (marked (codes "//") p.authority []
-      ++ (p.path ++ query_text p.query f))) (sym none) ∙ d.whole)
+      (grind arith)
       (same-text {g = after_colon r (opt (lit "?" ⋅ r.query))} (λ cs. (made.absolute cs).1)
       (with-scheme-is-had r (opt (lit "?" ⋅ r.query)) p.scheme p.authority p.path _ some d.scheme
       d.authority d.path

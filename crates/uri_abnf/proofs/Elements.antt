@@ -1,9 +1,8 @@
 -- Expressions of one character or one percent-encoded octet.
-use Rattle.std.proofs.Common.{◌≡◌, ℕ, Bool, true, false, List, [], ◌∷◌, refl, sym, ap, subst, ◌∙◌, eq-eqb, rules, ◌||◌, inl, inr, ⊎_elim, arith, ◌≤◌}
-use Rattle.std.specs.Prelude.{◌⊎◌, ◌==◌, map}
+use Rattle.std.proofs.Common.{◌≡◌, ℕ, Bool, true, false, List, [], ◌∷◌, refl, sym, ap, subst, ◌∙◌, rules, ◌||◌, inl, inr, ⊎_elim, arith, ◌≤◌, ◌⊎◌, ◌==◌, map}
 use Rattle.std.specs.Char.{to_ascii_lowercase, is_ascii_hexdigit}
 use Rattle.std.specs.Int.{is_in_range}
-use Rattle.std.proofs.lemmas.Bool.{or_cases, or_left, or_right, eqb-true, false≢true}
+use Rattle.std.proofs.lemmas.Bool.{or_cases, eqb-true, false≢true}
 use Rattle.std.proofs.lemmas.Bool.Decides.{nat_tests}
 use Rattle.uri_abnf.specs.Abnf.{Abnf, Rule, Literal, Range, Sequence, Either, Repeat, Optional, Has}
 use Rattle.uri_abnf.specs.Rfc3986.{pct-encoded}
@@ -64,11 +63,7 @@ only a b e = cc
 pub literal-gives-char : (a : ℕ) (t : List ℕ) → map to_ascii_lowercase t ≡ to_ascii_lowercase a ∷ []
     → IsOneChar (has_char (Literal (a ∷ []))) t
 literal-gives-char a [] e = absurd (cc e)
-literal-gives-char a (c ∷ []) e = record {
-  c = c;
-  whole = refl;
-  passes = eq-eqb _ _ (only _ _ e);
-}
+literal-gives-char a (c ∷ []) e = grind (arith, nat_tests, only)
 literal-gives-char a (c ∷ d ∷ t) e = absurd (cc e)
 
 range-test : (first last c : ℕ) → first ≤ c → c ≤ last → is_in_range first last c ≡ true
@@ -90,20 +85,10 @@ module _ (IsTriple : List ℕ → Type 0) (triple : (t : List ℕ) → Has pct-e
   element-has (Literal []) w t h = absurd w
   element-has (Literal (a ∷ [])) w t h = inl (literal-gives-char a t h)
   element-has (Literal (a ∷ b ∷ more)) w t h = absurd w
-  element-has (Range first last) w t (c, e, p, q) = inl (record {
-    c = c;
-    whole = e;
-    passes = range-test first last c p q;
-  })
+  element-has (Range first last) w t (c, e, p, q) = grind (arith, nat_tests, range-test)
   element-has (Sequence a b) w t h = inr (refl, triple t (subst (λ g. Has g t) w h))
-  element-has (Either a b) w t (inl h) = ⊎_elim
-      (λ k. inl (record { c = k.c; whole = k.whole; passes = or_left _ _ k.passes }))
-      (λ k. inr (or_left _ _ k.0, k.1))
-      (element-has a w.0 t h)
-  element-has (Either a b) w t (inr h) = ⊎_elim
-      (λ k. inl (record { c = k.c; whole = k.whole; passes = or_right _ _ k.passes }))
-      (λ k. inr (or_right _ _ k.0, k.1))
-      (element-has b w.1 t h)
+  element-has (Either a b) w t (inl h) = grind (arith, nat_tests, element-has a w.0 t h)
+  element-has (Either a b) w t (inr h) = grind (arith, nat_tests, element-has b w.1 t h)
   element-has (Repeat least most a) w t h = absurd w
   element-has (Optional a) w t h = absurd w
 
@@ -137,8 +122,7 @@ hexdig-has-no-octets = refl
 
 pub hexdig-has : (t : List ℕ) → Has HEXDIG t → IsOneChar is_ascii_hexdigit t
 hexdig-has t h =
-    let k = class-has HEXDIG is-element-hexdig hexdig-has-no-octets t h in
-    record { c = k.c; whole = k.whole; passes = sym (hexdig-test k.c) ∙ k.passes }
+    grind (arith, nat_tests, class-has, is-element-hexdig, hexdig-has-no-octets, hexdig-test)
 
 pub hexdig-is-had : (c : ℕ) → is_ascii_hexdigit c ≡ true → Has HEXDIG (c ∷ [])
 hexdig-is-had c e = char-is-had HEXDIG c (hexdig-test c ∙ e)
@@ -157,13 +141,7 @@ octet-has t (x, y, e, px, (u, v, f, hu, hv)) =
     let p : x ≡ 37 ∷ [] = percent-has x px in
     let a = hexdig-has u hu in
     let b = hexdig-has v hv in
-    record {
-      high = a.c;
-      low = b.c;
-      whole = let pa = a.whole in let pb = b.whole in cc;
-      high_digit = a.passes;
-      low_digit = b.passes;
-    }
+    grind (arith, nat_tests)
 
 pub octet-is-had : (h l : ℕ) → is_ascii_hexdigit h ≡ true → is_ascii_hexdigit l ≡ true
     → Has pct-encoded (37 ∷ h ∷ l ∷ [])

@@ -1,8 +1,6 @@
 -- The rules on hosts: RFC 3986, section 3.2.2.
-use Rattle.std.proofs.Common.{◌≡◌, ℕ, true, List, [], ◌∷◌, ◌++◌, refl, sym, ap, subst, ◌∙◌, ⊎_elim, arith, ◌<◌}
-use Rattle.std.specs.Prelude.{codes}
+use Rattle.std.proofs.Common.{◌≡◌, ℕ, true, List, [], ◌∷◌, ◌++◌, refl, sym, ap, subst, ◌∙◌, ⊎_elim, arith, ◌<◌, codes, IsUtf8, chars}
 use Rattle.std.specs.Net.Grammar.{IsColonHex, IsDotted}
-use Rattle.std.specs.Str.{IsUtf8, chars}
 use Rattle.std.proofs.lemmas.Bool.{or_right, cond-false}
 use Rattle.std.proofs.lemmas.Bool.Decides.{nat_tests}
 use Rattle.uri_pct.specs.Sets.{is_one_of, hexdig_set, ipv_future_set}
@@ -53,8 +51,7 @@ future-gives t l =
       letter = v.c;
       version = j.x;
       address = i.y;
-      whole = k.whole ∙ ap (λ r. r ++ k.y) x
-          ∙ ap (λ r. v.c ∷ r) (j.whole ∙ ap (λ r. j.x ++ r) (i.whole ∙ ap (λ r. r ++ i.y) dot));
+      whole = grind (arith, nat_tests);
       is_v = p.0;
       version_digits = (version.1, any-is-valid HEXDIG hexdig_set hexdig-set j.x version.0);
       address_chars = (
@@ -144,8 +141,7 @@ literal-is-had : (t : List ℕ) (h : HostKind) → IsUtf8 t → IsLiteral t h �
 literal-is-had t (Ipv6 segments) u (address, e, a) = bracketed-is-had t address e
     (left-is-had IPv6address IPvFuture address (ipv6-text-is-had address segments a))
 literal-is-had t IpvFuture u (address, e, a) = bracketed-is-had t address e
-    (right-is-had IPv6address IPvFuture address
-    (future-is-had address (address-in-brackets-is-utf8 address (subst IsUtf8 e u)) a))
+    (grind (arith, nat_tests, right-is-had, future-is-had, address-in-brackets-is-utf8))
 literal-is-had t (Ipv4 octets) u h = absurd h
 literal-is-had t RegName u h = absurd h
 

@@ -1,7 +1,6 @@
 -- The sets of the expressions of one character or octet in RFC 3987, section 2.2: those of
 -- RFC 3986, with more characters past ASCII.
-use Rattle.std.proofs.Common.{◌≡◌, ℕ, Bool, true, false, refl, rules, arith, ap, ◌∙◌, ◌||◌, ◌&&◌, sym}
-use Rattle.std.specs.Prelude.{if◌then◌else◌, nat_lt}
+use Rattle.std.proofs.Common.{◌≡◌, ℕ, Bool, true, false, refl, rules, arith, ap, ◌∙◌, ◌||◌, if◌then◌else◌, nat_lt}
 use Rattle.std.proofs.lemmas.Bool.Decides.{nat_tests}
 use Rattle.uri_pct.specs.Sets.{TableSet, allows_past_ascii, is_ucschar, is_iprivate, international, pchar_set, iuserinfo_set, ireg_name_set, ipath_set, iquery_set, ifragment_set, isegment_nz_nc_set}
 use Rattle.uri_abnf.specs.Abnf.{Abnf, lit, ◌∣◌}
@@ -30,10 +29,7 @@ record Widens (more : ℕ → Bool) (g wide : Abnf) : Type 0 where
 -- the same alternative may follow both
 either-widens : (more : ℕ → Bool) (g wide a : Abnf) → Widens more g wide
     → Widens more (g ∣ a) (wide ∣ a)
-either-widens more g wide a w = record {
-  chars = λ c. ap (λ b. b || has_char a c) (w.chars c)
-      ∙ or_swap (has_char g c) (more c) (has_char a c);
-}
+either-widens more g wide a w = grind (arith, nat_tests, or_swap)
 
 ucschar_is_past_ascii : (c : ℕ) → is_ucschar c ≡ true → nat_lt c 128 ≡ false
 unfolding is_ucschar
@@ -53,15 +49,12 @@ widened-chars : (set : TableSet) (g wide : Abnf) → Widens (allows_past_ascii s
     → ((c : ℕ) → has_char g c ≡ (if nat_lt c 128 then set.ascii c else false))
     → (c : ℕ) → has_char wide c ≡ (if nat_lt c 128 then set.ascii c else allows_past_ascii set c)
 widened-chars set g wide w ascii c =
-    w.chars c ∙ ap (λ b. b || allows_past_ascii set c) (ascii c)
-    ∙ or_past _ _ _ (allowed_past_ascii_is_past_ascii set c)
+    grind (arith, nat_tests, or_past, allowed_past_ascii_is_past_ascii)
 
 module _ (set : TableSet) (ucs : set.ucschar ≡ true) (private : set.iprivate ≡ false) where
   only-ucschar : (c : ℕ) → is_ucschar c ≡ allows_past_ascii set c
   unfolding allows_past_ascii
-  only-ucschar c = or_false (is_ucschar c)
-      ∙ sym (ap (λ b. b && is_ucschar c || set.iprivate && is_iprivate c) ucs
-      ∙ ap (λ b. is_ucschar c || b && is_iprivate c) private)
+  only-ucschar c = grind (arith, nat_tests, or_false)
 
   iunreserved-widens : Widens (allows_past_ascii set) unreserved iunreserved
   unfolding iunreserved unreserved ucschar is_ucschar

@@ -1,16 +1,12 @@
 -- What is derived by the rules is what the kinds ask of a text and its components.
-use Rattle.std.proofs.Common.{◌≡◌, ℕ, true, false, List, [], ◌++◌, refl, sym, subst, inl, inr, ⊎_elim, ◌<◌, length}
-use Rattle.std.specs.Prelude.{◌⊎◌, ◌↔◌, Option, None, Some, codes, IfSome, IfNone, IsSome}
-use Rattle.std.specs.Str.{IsUtf8}
-use Rattle.std.proofs.lemmas.Bool.{and_parts, false≢true}
+use Rattle.std.proofs.Common.{◌≡◌, ℕ, false, List, [], ◌++◌, refl, sym, subst, inl, inr, ⊎_elim, ◌<◌, length, arith, ◌⊎◌, ◌↔◌, Option, None, Some, codes, IfSome, IfNone, IsSome, IsUtf8}
+use Rattle.std.proofs.lemmas.Bool.{and_parts}
 use Rattle.uri_pct.specs.Sets.{scheme_set}
-use Rattle.uri_pct.specs.Tokens.{IsValidFor}
-use Rattle.uri_pct.proofs.General.{IfSome-weaken, IfSome-combine}
+use Rattle.uri_pct.proofs.General.{IfSome-weaken}
 use Rattle.uri_parts.specs.Components.{Components, IsSplitOf, Lacks, marked, IsAbemptyPath, components, has_authority, has_scheme}
-use Rattle.uri_parts.specs.Grammar.{Kind, is_scheme, has_colon_in_first_segment}
+use Rattle.uri_parts.specs.Grammar.{Kind, has_colon_in_first_segment}
 use Rattle.uri_parts.specs.GrammarInWords.{HasAuthorityParts, FollowsRules}
 use Rattle.uri_parts.proofs.Splitting.Cuts.{IsEmptyOrMarked}
-use Rattle.uri_parts.proofs.Splitting.Marks.{query_text, IsEmptyOrMarked-query_text}
 use Rattle.uri_parts.proofs.Splitting.Splits.{only-split-is-components}
 use Rattle.uri_parts.proofs.TextKinds.GrammarTexts.{valid_text_lacks_excluded_marks}
 use Rattle.uri_ops.proofs.Meanings.ComponentEnds.{no_scheme}
@@ -33,26 +29,15 @@ module _ (r : Rules) (kind : Kind) (w : Fit r kind) where
 
   path-rule-gives : (s a : Option (List ℕ)) (path : List ℕ)
       → IsOf (path_rule r (unrooted_path_rule r s) a) path → IsPathOf s a path
-  path-rule-gives s (Some x) path l =
-      let p = (w.abempty path).0 l in
-      record { text = p.0; abempty = p.1; no_authority = tt; no_colon = inr (inl refl) }
-  path-rule-gives (Some y) None path l =
-      let p = (w.rootless path).0 l in
-      record { text = p.0; abempty = tt; no_authority = p.1; no_colon = inl refl }
-  path-rule-gives None None path l =
-      let p = (w.noscheme path).0 l in
-      record { text = p.0; abempty = tt; no_authority = p.1; no_colon = inr (inr p.2) }
+  path-rule-gives s (Some x) path l = grind arith
+  path-rule-gives (Some y) None path l = grind arith
+  path-rule-gives None None path l = grind arith
 
   path-rule-has : (s a : Option (List ℕ)) (path : List ℕ) → IsPathOf s a path
       → IsOf (path_rule r (unrooted_path_rule r s) a) path
   path-rule-has s (Some x) path p = (w.abempty path).1 (p.text, p.abempty)
   path-rule-has (Some y) None path p = (w.rootless path).1 (p.text, p.no_authority)
-  path-rule-has None None path p = (w.noscheme path).1 (
-    p.text,
-    p.no_authority,
-    ⊎_elim (λ e. absurd (false≢true e)) (λ c. ⊎_elim (λ e. absurd (false≢true e)) (λ e. e) c)
-        p.no_colon,
-  )
+  path-rule-has None None path p = grind arith
 
   scheme-lacks : (s : List ℕ) → IsOf scheme s → (0 < length s) × Lacks (codes ":/?#") s
   scheme-lacks s l =
@@ -77,9 +62,7 @@ module _ (r : Rules) (kind : Kind) (w : Fit r kind) where
       ≡ false)
   no-scheme (Some y) a path tail p e = tt
   no-scheme None (Some x) path tail p e = refl
-  no-scheme None None path tail p e = no_scheme path tail
-      (⊎_elim (λ i. absurd (false≢true i)) (λ c. ⊎_elim (λ i. absurd (false≢true i)) (λ i. i) c)
-      p.no_colon) e
+  no-scheme None None path tail p e = grind (arith, no_scheme)
 
   -- the components of a derivation are a split of the text
   derived-is-split : (t : List ℕ) (p : Components) → IsDerived r t p → IsSplitOf t p
@@ -88,13 +71,10 @@ module _ (r : Rules) (kind : Kind) (w : Fit r kind) where
       record {
         whole = d.whole;
         scheme = IfSome-weaken p.scheme _ _ scheme-lacks d.scheme;
-        authority = IfSome-combine p.authority (IsOf r.authority) (λ x. IsAbemptyPath p.path) _
-            (λ x l e. (authority-lacks r kind w x l, e)) d.authority path.abempty;
+        authority = grind (arith, authority-lacks);
         path = path-lacks p.path path.text;
         query = IfSome-weaken p.query _ _ query-lacks d.query;
-        no_scheme = subst (λ z. IfNone p.scheme (has_scheme z ≡ false)) d.whole
-            (no-scheme p.scheme p.authority p.path (query_text p.query p.fragment) path
-            (IsEmptyOrMarked-query_text p.query p.fragment));
+        no_scheme = grind (arith, no-scheme);
         no_authority = path.no_authority;
       }
 
@@ -130,12 +110,7 @@ module _ (r : Rules) (kind : Kind) (w : Fit r kind) where
 
   path-of-follows : (t : List ℕ) (p : Components) → IsUtf8 p.path → FollowsRules kind t p
       → IsPathOf p.scheme p.authority p.path
-  path-of-follows t p u f = record {
-    text = (u, f.path);
-    abempty = IfSome-weaken p.authority _ _ (λ x h. h.1) f.split.authority;
-    no_authority = f.split.no_authority;
-    no_colon = ⊎_elim (λ e. inl e) (λ e. inr e.1) f.reference;
-  }
+  path-of-follows t p u f = grind arith
 
   authority-of-follows : (a : List ℕ) → IsUtf8 a → HasAuthorityParts kind a → IsOf r.authority a
   authority-of-follows a u h = derived-is-authority r kind w a h.0
@@ -146,18 +121,7 @@ module _ (r : Rules) (kind : Kind) (w : Fit r kind) where
   follows-is-derived t p ut f =
       let u = subst AreUtf8 (only-split-is-components t p f.split)
       (components-of-utf8-are-utf8 t ut) in
-      record {
-        whole = f.split.whole;
-        scheme = IfSome-combine p.scheme IsUtf8 (λ s. is_scheme s ≡ true) _
-            (λ s v e. scheme-is-had s v e) u.scheme f.scheme;
-        authority = IfSome-combine p.authority IsUtf8 (HasAuthorityParts kind) _
-            authority-of-follows u.authority f.authority;
-        path = path-rule-has p.scheme p.authority p.path (path-of-follows t p u.path f);
-        query = IfSome-combine p.query IsUtf8 (IsValidFor kind.query) _
-            (λ q v e. (w.query q).1 (v, e)) u.query f.query;
-        fragment = IfSome-combine p.fragment IsUtf8 (IsValidFor kind.fragment) _
-            (λ q v e. (w.fragment q).1 (v, e)) u.fragment f.fragment;
-      }
+      grind (arith, scheme-is-had, authority-of-follows, path-rule-has, path-of-follows)
 
   pub follows-has-scheme : (t : List ℕ) (p : Components) → FollowsRules kind t p
       → IsSome p.scheme ⊎ (kind.needs_scheme ≡ false)

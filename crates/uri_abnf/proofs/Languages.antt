@@ -1,7 +1,5 @@
 -- The texts of the kinds are the languages of the start rules, and their components are derived.
-use Rattle.std.proofs.Common.{◌≡◌, ℕ, Bool, true, false, List, refl, sym, subst, ◌∙◌, inl, inr, ⊎_elim}
-use Rattle.std.specs.Prelude.{◌↔◌, ◌⊎◌, IsSome, None}
-use Rattle.std.specs.Str.{IsUtf8}
+use Rattle.std.proofs.Common.{◌≡◌, ℕ, Bool, true, false, List, refl, sym, subst, ◌∙◌, inl, inr, ⊎_elim, arith, ◌↔◌, ◌⊎◌, IsSome, None, IsUtf8}
 use Rattle.std.proofs.lemmas.Bool.{and_parts, false≢true}
 use Rattle.uri_parts.specs.Components.{Components, components}
 use Rattle.uri_parts.specs.Grammar.{Kind, IsOfKind, IsTextOf, kind_by_flags, uri, uri_ref, iri, iri_ref}
@@ -104,10 +102,8 @@ uris-are-ascii = (and_parts (ascii_only R.URI) _ references-are-ascii).0
 
 -- the bytes of a URI reference are its characters
 pub uri-characters-are-language : (t : List ℕ) → (IsTextOf uri t ↔ Has R.URI t)
-uri-characters-are-language t = (
-  λ l. ascii-text-gives R.URI uris-are-ascii t ((uris-are-language t).0 l),
-  λ h. (uris-are-language t).1 (ascii-text-is-had R.URI uris-are-ascii t h),
-)
+uri-characters-are-language t =
+    grind (arith, ascii-text-gives, uris-are-ascii, uris-are-language, ascii-text-is-had)
 
 pub uri-reference-characters-are-language : (t : List ℕ)
     → (IsTextOf uri_ref t ↔ Has R.URI-reference t)
@@ -130,7 +126,4 @@ kind-is-language true true = iris-are-language
 pub texts-of-kind-are-of-rule : (international needs : Bool) (t : List ℕ) → IsUtf8 t
     → (IsOfKind (kind_by_flags international needs) t
     ↔ IsOf (start_rule (kind_by_flags international needs)) t)
-texts-of-kind-are-of-rule international needs t u = (
-  λ k. (kind-is-language international needs t).0 (record { utf8 = u; grammar = k }),
-  λ l. ((kind-is-language international needs t).1 l).grammar,
-)
+texts-of-kind-are-of-rule international needs t u = grind (arith, kind-is-language)

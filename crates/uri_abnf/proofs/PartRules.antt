@@ -1,7 +1,5 @@
 -- The rules that parts of references are of: authorities, hosts, and the texts of a set.
-use Rattle.std.proofs.Common.{◌≡◌, ℕ, true, false, List, [], ◌∷◌, refl, sym, subst, ◌∙◌, arith, rules}
-use Rattle.std.specs.Prelude.{◌↔◌}
-use Rattle.std.specs.Str.{IsUtf8}
+use Rattle.std.proofs.Common.{◌≡◌, ℕ, true, false, List, [], ◌∷◌, refl, sym, subst, ◌∙◌, arith, rules, ◌↔◌, IsUtf8}
 use Rattle.std.proofs.lemmas.Bool.Decides.{nat_tests}
 use Rattle.uri_pct.specs.Sets.{TableSet, is_unreserved, is_reserved}
 use Rattle.uri_pct.specs.DecodeUnreserved.{is_decodable}
@@ -116,17 +114,11 @@ reserved-element = (search rules, refl)
 
 only-char : (g : Abnf) → IsElement g → has_octets g ≡ false → (c : ℕ) → Has g (c ∷ [])
     → has_char g c ≡ true
-only-char g w none c h =
-    let k = class-has g w none (c ∷ []) h in
-    let same : c ≡ k.c = let e = k.whole in cc in
-    subst (λ d. has_char g d ≡ true) (sym same) k.passes
+only-char g w none c h = grind (arith, nat_tests, class-has)
 
 pub unreserved-is-rule : (c : ℕ) → (Has unreserved (c ∷ []) ↔ (is_unreserved c ≡ true))
-unreserved-is-rule c = (
-  λ h. sym (unreserved-chars c)
-      ∙ only-char unreserved unreserved-element.0 unreserved-element.1 c h,
-  λ e. char-is-had unreserved c (unreserved-chars c ∙ e),
-)
+unreserved-is-rule c =
+    grind (arith, nat_tests, unreserved-chars, only-char, unreserved-element, char-is-had)
 
 reserved-is-not-decodable : (set : TableSet) (c : ℕ) → is_reserved c ≡ true
     → is_decodable set c ≡ false

@@ -1,10 +1,8 @@
 -- The rules on paths are what the kinds ask of a path: RFC 3986, section 3.3.
-use Rattle.std.proofs.Common.{◌≡◌, ℕ, zero, suc, true, false, List, [], ◌∷◌, ◌++◌, refl, sym, ap, subst, ◌∙◌, inl, inr, ⊎_elim, arith, ◌<◌, length}
-use Rattle.std.specs.Prelude.{◌⊎◌, ◌↔◌, ◌==◌, codes, IsTrue}
+use Rattle.std.proofs.Common.{◌≡◌, ℕ, zero, suc, true, false, List, [], ◌∷◌, ◌++◌, refl, sym, ap, subst, ◌∙◌, inl, inr, ⊎_elim, arith, ◌<◌, length, ◌⊎◌, ◌↔◌, ◌==◌, codes, IsTrue}
 use Rattle.std.specs.List.{list_any}
-use Rattle.std.specs.Char.{encode_utf8}
 use Rattle.std.specs.Str.{IsUtf8, chars, encode_utf8_all}
-use Rattle.std.proofs.lemmas.Bool.{or_parts, or_right, false≢true, eqb-true}
+use Rattle.std.proofs.lemmas.Bool.{false≢true, eqb-true}
 use Rattle.std.proofs.lemmas.Bool.Decides.{nat_tests}
 use Rattle.std.proofs.lemmas.Str.{encodes-chars, IsUtf8-nil}
 use Rattle.std.proofs.lemmas.List.Folds.{list_any-append}
@@ -15,7 +13,6 @@ use Rattle.uri_parts.specs.Components.{Lacks, IsAbemptyPath, has_authority, star
 use Rattle.uri_parts.specs.Grammar.{has_colon_in_first_segment}
 use Rattle.uri_parts.proofs.Splitting.Cuts.{IsEmptyOrMarked, cut-at-end-of-text-without-marks}
 use Rattle.uri_parts.proofs.TextKinds.GrammarTexts.{valid_text_lacks_excluded_marks}
-use Rattle.uri_parts.proofs.Authorities.Authority.{Lacks-of-fewer-marks}
 use Rattle.uri_abnf.specs.Abnf.{Abnf, Has, IsOf, any, some, opt, times, lit, ◌⋅◌, ◌∣◌}
 use Rattle.uri_abnf.proofs.Elements.{has_char, has_octets}
 use Rattle.uri_abnf.proofs.Paths.{segments, path-is-segments, segment-is-path, segments-are-path}
@@ -88,10 +85,7 @@ rooted-has-no-segment t (b ∷ s) m r e h =
 no-char-is-colon : (c : ℕ) (t : List ℕ) → list_any (λ b. b == 58) (encode_utf8_all (c ∷ t)) ≡ false
     → (c ≡ 58 → ⊥) × (list_any (λ b. b == 58) (encode_utf8_all t) ≡ false)
 unfolding lib.Utf8.encode
-no-char-is-colon c t e = (
-  λ h. false≢true (sym e ∙ ap (λ n. list_any (λ b. b == 58) (encode_utf8_all (n ∷ t))) h),
-  (or_parts _ _ (sym (list_any-append (λ b. b == 58) (encode_utf8 c) (encode_utf8_all t)) ∙ e)).1,
-)
+no-char-is-colon c t e = grind (arith, nat_tests, list_any-append)
 
 module _ (path : TableSet) (w : PathSets path) where
   abbrev pub more : Abnf
@@ -127,14 +121,7 @@ module _ (path : TableSet) (w : PathSets path) where
       }) in
       let j = cut-gives (lit "/") (any w.pc) k.x k.first in
       let s = mark-gives (codes "/") slash-mark j.x j.first in
-      inr (
-        j.y,
-        k.y,
-        k.whole ∙ ap
-            (λ r. r ++ k.y) (j.whole ∙ ap (λ r. r ++ j.y) s),
-        j.second,
-        k.second,
-      )
+      grind (arith, nat_tests)
 
   segment-lacks : (s : List ℕ) → IsOf (any w.pc) s → Lacks (codes "/?#") s
   segment-lacks s l = valid_text_lacks_excluded_marks w.segment (codes "/?#") w.of_pc.lacks
@@ -173,19 +160,13 @@ module _ (path : TableSet) (w : PathSets path) where
   rootless-gives : (t : List ℕ) → IsOf rootless t → IsPath t × (has_authority t ≡ false)
   rootless-gives t l =
       let k = cut-gives (some w.pc) more t l in
-      let s = some-is-any w.pc w.segment w.of_pc k.x k.first in (
-        path-from-tokens t l.utf8 (rootless-tokens _ l.has),
-        no-authority t k.x k.y k.whole s.1 (segment-lacks k.x s.0),
-      )
+      let s = some-is-any w.pc w.segment w.of_pc k.x k.first in
+      grind (arith, nat_tests, path-from-tokens, rootless-tokens, no-authority, segment-lacks)
 
   absolute-tokens : (cs : List ℕ) → Has absolute cs → Tokens (w.pc ∣ lit "/") cs
   absolute-tokens cs (x, y, e, h, o) =
       let slash = letterless-has (codes "/") x (inl (omega arith), tt) h in
-      subst (Tokens (w.pc ∣ lit "/")) (sym (e ∙ ap (λ r. r ++ y) slash))
-      (char (or_right _ _ refl) (⊎_elim
-      (λ n. subst (Tokens (w.pc ∣ lit "/")) (sym n) none)
-      (λ k. rootless-tokens y k)
-      o))
+      grind (arith, nat_tests, char, none, rootless-tokens)
 
   absolute-has-no-authority : (t y : List ℕ) → t ≡ 47 ∷ y → IsOf (opt rootless) y
       → has_authority t ≡ false
@@ -286,10 +267,7 @@ module _ (path : TableSet) (w : PathSets path) where
   colon-is-in-first : (t s m : List ℕ) → t ≡ s ++ m → Lacks (codes "/?#") s → IsOf more m
       → has_colon_in_first_segment t ≡ list_any (λ c. c == 58) s
   colon-is-in-first t s m e h l =
-      let cut = cut-at-end-of-text-without-marks (codes "/") s m
-      (Lacks-of-fewer-marks (codes "/") (codes "/?#") (λ c i. grind (arith, nat_tests)) s h)
-      (more-is-marked m l) in
-      ap has_colon_in_first_segment e ∙ ap (list_any (λ c. c == 58)) cut.0
+      grind (arith, nat_tests, cut-at-end-of-text-without-marks, more-is-marked)
 
   noscheme-is-rootless : (t : List ℕ) → IsOf noscheme t → IsOf rootless t
   noscheme-is-rootless t l =
@@ -302,8 +280,7 @@ module _ (path : TableSet) (w : PathSets path) where
       let k = cut-gives (some w.nc) more t l in
       let lacks = first-lacks k.x k.first in
       colon-is-in-first t k.x k.y k.whole
-      (Lacks-of-fewer-marks (codes "/?#") (codes ":/?#")
-      (λ c i. grind (arith, nat_tests)) k.x lacks)
+      (grind (arith, nat_tests))
       k.second
       ∙ lacking-has-no-colon k.x lacks
 

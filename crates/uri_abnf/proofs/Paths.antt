@@ -1,6 +1,5 @@
 -- Paths as characters: segments, each after a slash.
-use Rattle.std.proofs.Common.{◌≡◌, ℕ, zero, suc, Bool, true, false, List, [], ◌∷◌, ◌++◌, refl, sym, ap, subst, ◌∙◌, inl, ⊎_elim, arith, ◌||◌}
-use Rattle.std.specs.Prelude.{◌==◌, codes}
+use Rattle.std.proofs.Common.{◌≡◌, ℕ, zero, suc, Bool, true, false, List, [], ◌∷◌, ◌++◌, refl, sym, ap, subst, ◌∙◌, inl, ⊎_elim, arith, ◌||◌, ◌==◌, codes}
 use Rattle.std.specs.Char.{to_ascii_lowercase}
 use Rattle.std.proofs.lemmas.Bool.{or_cases, or_left, or_right, eqb-true, false≢true}
 use Rattle.uri_pct.specs.Sets.{TableSet}
@@ -84,14 +83,7 @@ module _ (pc : Abnf) (set : TableSet) (w : IsSetOf pc set) where
       }
 
   pub path-is-segments : (cs : List ℕ) → Tokens (pc ∣ lit "/") cs → Has (any pc ⋅ segments pc) cs
-  path-is-segments cs t =
-      let k = path-is-cut-at-slashes cs t in (
-        k.first,
-        k.rest,
-        k.whole,
-        tokens-are-any pc set w k.first k.tokens,
-        (k.n, omega arith, tt, k.power),
-      )
+  path-is-segments cs t = grind (arith, path-is-cut-at-slashes, tokens-are-any)
 
   pub segment-is-path : (cs : List ℕ) → Tokens pc cs → Tokens (pc ∣ lit "/") cs
   segment-is-path cs t = tokens-widen _ _ (λ c e. or_left _ _ e) (λ e. or_left _ _ e) cs t

@@ -1,6 +1,5 @@
 -- The rules print as the RFCs do.
-use Rattle.std.proofs.Common.{◌≡◌, refl}
-use Rattle.std.specs.Prelude.{map}
+use Rattle.std.proofs.Common.{◌≡◌, refl, map}
 use Rattle.uri_abnf.specs.Printed.{rfc5234, rfc3986, rfc3987}
 use Rattle.uri_abnf.specs.Printing.{line}
 use Rattle.uri_abnf.specs.Rfc3986 as R

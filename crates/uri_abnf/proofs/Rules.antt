@@ -1,7 +1,5 @@
 -- How the rules of both RFCs are made of one another, and what their components are.
-use Rattle.std.proofs.Common.{◌≡◌, ℕ, true, false, List}
-use Rattle.std.specs.Prelude.{◌↔◌, codes}
-use Rattle.std.specs.Str.{IsUtf8}
+use Rattle.std.proofs.Common.{◌≡◌, ℕ, true, false, List, arith, ◌↔◌, codes, IsUtf8}
 use Rattle.uri_pct.specs.Sets.{TableSet, LacksPercent}
 use Rattle.uri_pct.specs.Tokens.{IsValidFor}
 use Rattle.uri_pct.proofs.ValidTexts.Cuts.{excludes}
@@ -45,10 +43,7 @@ pub record AreMade (r : Rules) : Type 0 where
 
 -- a rule has what an expression with the same texts has
 pub same-rule : {g h : Abnf} {P : Type 0} (t : List ℕ) → Same g h → (IsOf h t ↔ P) → (IsOf g t ↔ P)
-same-rule t same e = (
-  λ l. e.0 (same-text (λ cs. (same cs).0) l),
-  λ p. same-text (λ cs. (same cs).1) (e.1 p),
-)
+same-rule t same e = grind (arith, same-text)
 
 -- the bytes are UTF-8, and their text is valid for the set
 abbrev pub IsText : TableSet → List ℕ → Type 0
@@ -81,7 +76,4 @@ pub record Fit (r : Rules) (kind : Kind) : Type 0 where
 
 pub set-rule : (g rule : Abnf) (set : TableSet) → IsSetOf g set → Same rule (any g)
     → IsRuleOf set rule
-set-rule g rule set w same t = same-rule {h = any g} t same (
-  λ l. (l.utf8, any-is-valid g set w t l),
-  λ v. valid-is-any g set w t v.0 v.1,
-)
+set-rule g rule set w same t = grind (arith, same-rule, any-is-valid, valid-is-any)

@@ -1,6 +1,5 @@
 -- The rule on schemes: RFC 3986, section 3.1.
-use Rattle.std.proofs.Common.{◌≡◌, ℕ, true, false, List, [], ◌∷◌, ◌++◌, refl, sym, ap, subst, ◌∙◌, arith, ◌<◌, append-nil, length}
-use Rattle.std.specs.Prelude.{slice_index}
+use Rattle.std.proofs.Common.{◌≡◌, ℕ, true, false, List, [], ◌∷◌, ◌++◌, refl, sym, ap, subst, ◌∙◌, arith, ◌<◌, append-nil, length, slice_index}
 use Rattle.std.specs.Char.{is_ascii_alphabetic, encode_utf8}
 use Rattle.std.specs.Str.{IsUtf8, chars, encode_utf8_all}
 use Rattle.std.proofs.lemmas.Bool.{and_parts, and_from, or_left, false≢true}

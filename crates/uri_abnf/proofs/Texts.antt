@@ -1,6 +1,5 @@
 -- The languages of expressions over texts in UTF-8.
-use Rattle.std.proofs.Common.{◌≡◌, ℕ, zero, suc, true, List, [], ◌∷◌, ◌++◌, refl, sym, ap, subst, ◌∙◌, inl, inr, ⊎_elim, arith, ◌<◌}
-use Rattle.std.specs.Prelude.{◌⊎◌, map, codes, get_or, drop}
+use Rattle.std.proofs.Common.{◌≡◌, ℕ, zero, suc, true, List, [], ◌∷◌, ◌++◌, refl, sym, ap, ◌∙◌, inl, inr, ⊎_elim, arith, ◌<◌, ◌⊎◌, map, codes, get_or, drop}
 use Rattle.std.specs.Char.{to_ascii_lowercase}
 use Rattle.std.specs.Str.{IsUtf8, chars, encode_utf8_all, all_scalars}
 use Rattle.std.proofs.lemmas.Bool.{and_parts, and_from}
@@ -39,10 +38,7 @@ scalars-append (c ∷ x) y e =
 
 encoded-lang : (g : Abnf) (cs : List ℕ) → all_scalars cs ≡ true → Has g cs
     → IsOf g (encode_utf8_all cs)
-encoded-lang g cs s h = record {
-  utf8 = (cs, (s, refl));
-  has = subst (Has g) (sym (chars-encodes cs s)) h;
-}
+encoded-lang g cs s h = grind (arith, nat_tests, chars-encodes)
 
 pub cut-gives : (a b : Abnf) (text : List ℕ) → IsOf (a ⋅ b) text → IsCut a b text
 cut-gives a b text l =
@@ -66,10 +62,7 @@ cut-is-had a b x y l m = record {
 }
 
 pub either-gives : (a b : Abnf) (text : List ℕ) → IsOf (a ∣ b) text → IsOf a text ⊎ IsOf b text
-either-gives a b text l =
-    let h : Has a (chars text) ⊎ Has b (chars text) = l.has in
-    ⊎_elim (λ k. inl (record { utf8 = l.utf8; has = k }))
-    (λ k. inr (record { utf8 = l.utf8; has = k })) h
+either-gives a b text l = grind (arith, nat_tests)
 
 pub left-is-had : (a b : Abnf) (text : List ℕ) → IsOf a text → IsOf (a ∣ b) text
 left-is-had a b text l = record { utf8 = l.utf8; has = inl l.has }
@@ -136,10 +129,7 @@ mark-gives s m text l = sym (encodes-chars text l.utf8)
     ∙ ap encode_utf8_all (literal-gives s text m.letterless l) ∙ m.encodes
 
 pub mark-is-had : (s : List ℕ) → IsMark s → IsOf (Literal s) s
-mark-is-had s m = record {
-  utf8 = (s, (m.scalars, m.encodes));
-  has = ap (map to_ascii_lowercase) (ap chars (sym m.encodes) ∙ chars-encodes s m.scalars);
-}
+mark-is-had s m = grind (arith, nat_tests, chars-encodes)
 
 pub slash-mark : IsMark (codes "/")
 unfolding lib.Utf8.encode
@@ -147,14 +137,7 @@ slash-mark = record { letterless = (inl (omega arith), tt); scalars = refl; enco
 
 pub slashes-mark : IsMark (codes "//")
 unfolding lib.Utf8.encode
-slashes-mark = record {
-  letterless = (
-    inl (omega arith),
-    (inl (omega arith), tt),
-  );
-  scalars = refl;
-  encodes = refl;
-}
+slashes-mark = grind (arith, nat_tests)
 
 pub colon-mark : IsMark (codes ":")
 unfolding lib.Utf8.encode
@@ -183,12 +166,7 @@ open-mark = record {
 
 pub close-mark : IsMark (codes "]")
 unfolding lib.Utf8.encode
-close-mark = record {
-  letterless = (inr (omega arith, omega arith), tt);
-  scalars = refl;
-  encodes =
-      refl;
-}
+close-mark = grind (arith, nat_tests)
 
 pub dot-mark : IsMark (codes ".")
 unfolding lib.Utf8.encode

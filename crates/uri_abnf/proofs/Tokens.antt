@@ -1,6 +1,5 @@
 -- Texts of the characters and percent-encoded octets that an expression has.
-use Rattle.std.proofs.Common.{◌≡◌, ℕ, zero, suc, true, false, List, [], ◌∷◌, ◌++◌, refl, sym, ap, subst, ◌∙◌, eq-eqb, ⊎_elim, arith, ◌≤◌, ◌<◌, length}
-use Rattle.std.specs.Prelude.{◌==◌}
+use Rattle.std.proofs.Common.{◌≡◌, ℕ, zero, suc, true, false, List, [], ◌∷◌, ◌++◌, refl, sym, ap, subst, ◌∙◌, eq-eqb, ⊎_elim, arith, ◌≤◌, ◌<◌, length, ◌==◌}
 use Rattle.std.specs.List.{list_all}
 use Rattle.std.specs.Char.{is_ascii_hexdigit}
 use Rattle.std.specs.Str.{IsUtf8, chars}
@@ -60,10 +59,7 @@ module _ (g : Abnf) (element : IsElement g) where
       (suc k.0, (p ∷ h ∷ l ∷ [], t, refl, has, k.1))
 
   power-is-not-nil : (n : ℕ) (cs : List ℕ) → IsPower (Has g) (suc n) cs → cs ≡ [] → ⊥
-  power-is-not-nil n cs (x, y, e, h, q) f = ⊎_elim
-      (λ k. let a = k.whole in cc)
-      (λ k. let a = k.1.whole in cc)
-      (element-gives g element x h)
+  power-is-not-nil n cs (x, y, e, h, q) f = grind (arith, element-gives)
 
   power-of-text : (n : ℕ) (cs : List ℕ) → IsPower (Has g) n cs → (cs ≡ [] → ⊥) → 1 ≤ n
   power-of-text zero cs e h = absurd (h e)
@@ -131,9 +127,7 @@ module _ (g : Abnf) (set : TableSet) (w : IsSetOf g set) where
       (power-has-tokens g w.element (suc n) cs p, power-is-not-nil g w.element n cs p)
 
   pub tokens-are-some : (cs : List ℕ) → Tokens g cs → (cs ≡ [] → ⊥) → Has (some g) cs
-  tokens-are-some cs t h =
-      let k = tokens-are-power g w.element cs t in
-      (k.0, power-of-text g w.element k.0 cs k.1 h, tt, k.1)
+  tokens-are-some cs t h = grind (arith, tokens-are-power, power-of-text)
 
   -- the texts of any number of them are those that are valid for the set
   pub any-is-valid : (text : List ℕ) → IsOf (any g) text → IsValidFor set text
@@ -146,14 +140,7 @@ module _ (g : Abnf) (set : TableSet) (w : IsSetOf g set) where
   pub some-is-any : (text : List ℕ) → IsOf (some g) text → IsOf (any g) text × (0 < length text)
   unfolding chars
   some-is-any [] l = absurd ((some-gives-tokens _ l.has).1 refl)
-  some-is-any (b ∷ text) l = (
-    record { utf8 = l.utf8; has = tokens-are-any _ (some-gives-tokens _ l.has).0 },
-    omega arith,
-  )
+  some-is-any (b ∷ text) l = grind (arith, tokens-are-any, some-gives-tokens)
 
   pub any-is-some : (text : List ℕ) → IsOf (any g) text → 0 < length text → IsOf (some g) text
-  any-is-some text l n = record {
-    utf8 = l.utf8;
-    has = tokens-are-some _ (any-gives-tokens _ l.has)
-        (λ e. let long = ap length (text-of-no-chars text l.utf8 e) in absurd (omega arith));
-  }
+  any-is-some text l n = grind (arith, tokens-are-some, any-gives-tokens, text-of-no-chars)

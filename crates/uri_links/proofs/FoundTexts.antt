@@ -1,8 +1,6 @@
 -- Which texts a search tree finds after one more was added.
-use Rattle.std.proofs.Common.{◌≡◌, ◌+◌, ◌<◌, ◌≤◌, ◌++◌, ◌∷◌, ℕ, zero, suc, Bool, true, false, List, [], length, get_or, nat_eq, ap, arith, refl, sym, ◌∙◌, length-append, add-one, subst, Option, Some, None, true≢false}
-use Rattle.std.specs.List.{position}
+use Rattle.std.proofs.Common.{◌≡◌, ◌+◌, ◌<◌, ◌≤◌, ◌++◌, ◌∷◌, ℕ, zero, suc, Bool, true, false, List, [], length, get_or, nat_eq, ap, arith, refl, sym, ◌∙◌, length-append, add-one, subst, Option, Some, None, true≢false, position, bytes_eq}
 use Rattle.std.proofs.Math.Seq.{get_or-append_seam}
-use Rattle.std.specs.Prelude.{bytes_eq}
 use Rattle.std.proofs.lemmas.Bool.Decides.{nat_tests}
 use Rattle.std.proofs.lemmas.List.{get_or_append_left}
 use Rattle.std.proofs.lemmas.Slice.Eq.{bytes_eq-Decides}
@@ -27,32 +25,16 @@ module _ (nodes : List Node) (texts : List (List ℕ)) (text : List ℕ)
   unfolding search_from
   search-ends-at-free-side zero id depth parent right l m e = absurd (omega arith)
   search-ends-at-free-side (suc steps) id depth parent right l m e =
-      let Goal : Type 0 = (parent < length nodes) × (child (node_at nodes parent) right ≡ 0) in
-      let Here : Bool → Type 0 = λ b. bytes_eq text (get_or texts id []) ≡ b → Goal in
-      let Ends : Bool → Type 0 = λ b. nat_eq (next_node nodes text id depth) 0 ≡ b → Goal in
-      let rest = search-ends-at-free-side steps (next_node nodes text id depth)
-      (depth + 1) parent right in
-      (elim (bytes_eq text (get_or texts id [])) as Here [
-        | true ↦ λ h. let wrong = sym (search_from-found-here nodes texts text steps id depth h)
-            ∙ e in absurd (cc)
-        | false ↦ λ h.
-            (elim (nat_eq (next_node nodes text id depth) 0) as Ends [
-              | true ↦ λ f.
-                  let place = sym (search_from-ends-here nodes texts text steps id depth h f) ∙ e in
-                  let at : id ≡ parent = cc in
-                  let side : descends_right text depth ≡ right = cc in
-                  let position-None-no-element-passes : next_node nodes text id depth
-                  ≡ 0 = grind (arith, nat_tests, f) in (
-                    subst (λ n. n < length nodes) at l,
-                    (λ i. child (node_at nodes (sym at i)) (sym side i))
-                        ∙ position-None-no-element-passes,
-                  )
-              | false ↦ λ f.
-                  let within = next-node-in-range nodes follow text id depth l f in
-                  rest within.1 (omega (arith, within.0, m))
-                  (sym (search_from-descends nodes texts text steps id depth h f) ∙ e)
-            ]) refl
-      ]) refl
+      grind (
+        arith,
+        nat_tests,
+        search_from-found-here,
+        search_from-ends-here,
+        position-None-no-element-passes,
+        next-node-in-range,
+        search_from-descends,
+        search-ends-at-free-side steps (next_node nodes text id depth) (depth + 1) parent right,
+      )
 
 module _ (nodes : List Node) (hash parent : ℕ) (right : Bool) (texts : List (List ℕ))
     (text : List ℕ) (many : length nodes ≡ length texts) (follow : ChildrenFollow nodes)
@@ -76,33 +58,17 @@ module _ (nodes : List Node) (hash parent : ℕ) (right : Bool) (texts : List (L
   unfolding search_from
   found-texts-stay-found other zero id depth at l e = absurd (cc)
   found-texts-stay-found other (suc steps) id depth at l e =
-      let Goal : Type 0 = search_from (suc (suc steps)) after texts_after other id depth
-      ≡ Found at in
-      let Here : Bool → Type 0 = λ b. bytes_eq other (get_or texts id []) ≡ b → Goal in
-      let Ends : Bool → Type 0 = λ b. nat_eq (next_node nodes other id depth) 0 ≡ b → Goal in
-      let rest = found-texts-stay-found other steps (next_node nodes other id depth)
-      (depth + 1) at in
-      (elim (bytes_eq other (get_or texts id [])) as Here [
-        | true ↦ λ h.
-            search_from-found-here after texts_after other (suc steps) id depth
-            (ap (bytes_eq other) (old-text-at-index id l) ∙ h)
-            ∙ sym (search_from-found-here nodes texts other steps id depth h) ∙ e
-        | false ↦ λ h.
-            (elim (nat_eq (next_node nodes other id depth) 0) as Ends [
-              | true ↦ λ f. let wrong = sym
-                  (search_from-ends-here nodes texts other steps id depth h f) ∙ e in absurd (cc)
-              | false ↦ λ f.
-                  let same : next_node after other id depth ≡ next_node nodes other id depth =
-                  other-children-unchanged nodes hash parent right in_range id
-                  (descends_right other depth) l free
-                  (λ z. grind (arith, nat_tests, z)) in
-                  search_from-descends after texts_after other (suc steps) id depth
-                  (ap (bytes_eq other) (old-text-at-index id l) ∙ h) (ap (λ n. nat_eq n 0) same ∙ f)
-                  ∙ ap (λ n. search_from (suc steps) after texts_after other n (depth + 1)) same
-                  ∙ rest (next-node-in-range nodes follow other id depth l f).1
-                  (sym (search_from-descends nodes texts other steps id depth h f) ∙ e)
-            ]) refl
-      ]) refl
+      grind (
+        arith,
+        nat_tests,
+        search_from-found-here,
+        old-text-at-index,
+        search_from-ends-here,
+        other-children-unchanged,
+        search_from-descends,
+        next-node-in-range,
+        found-texts-stay-found other steps (next_node nodes other id depth) (depth + 1) at,
+      )
 
   -- a search that missed the text at the new node's side finds the new node
   new-text-is-found : (steps id depth : ℕ) → id < length nodes → length nodes ≤ id + steps
@@ -153,29 +119,17 @@ module _ (nodes : List Node) (hash parent : ℕ) (right : Bool) (texts : List (L
       ≡ Missing parent right
       → FindsEach after texts_after
   grown-tree-finds-each-text finds e id l =
-      let more : length after ≡ suc (length nodes) = length_grown nodes hash parent right
-      ∙ add-one (length nodes) in
-      let within : id < length nodes + 1 =
-      subst (λ n. id < n) (length-append texts (text ∷ []) ∙ ap (λ n. n + 1) (sym many)) l in
-      let first : 0 < length nodes = omega (arith, in_range) in
-      let Last : Bool → Type 0 = λ b. nat_eq id (length nodes) ≡ b
-      → search_from (suc (length nodes)) after texts_after (get_or texts_after id []) 0 0
-      ≡ Found id in
-      ap (λ steps. search_from steps after texts_after (get_or texts_after id []) 0 0) more
-      ∙ ((elim (nat_eq id (length nodes)) as Last [
-        | true ↦ λ h. let last : id ≡ length nodes = grind (arith, nat_tests, h) in
-            ap (λ at. search_from (suc (length nodes)) after texts_after
-            (get_or texts_after at []) 0 0)
-            last
-            ∙ ap (λ it. search_from (suc (length nodes)) after texts_after it 0 0) new-text-is-last
-            ∙ new-text-is-found (length nodes) 0 0 first (omega arith) e ∙ ap Found (sym last)
-        | false ↦ λ h.
-            let before : id < length nodes = grind (arith, nat_tests, h, within) in
-            ap (λ it. search_from (suc (length nodes)) after texts_after it 0 0)
-            (old-text-at-index id before)
-            ∙ found-texts-stay-found (get_or texts id []) (length nodes) 0 0 id first
-            (finds id (subst (λ n. id < n) many before))
-      ]) refl)
+      grind (
+        arith,
+        nat_tests,
+        length_grown,
+        add-one,
+        length-append,
+        new-text-is-last,
+        new-text-is-found,
+        old-text-at-index,
+        found-texts-stay-found,
+      )
 
 -- register of links: a list of length 0 is empty
 no_texts : (texts : List (List ℕ)) → 0 ≡ length texts → texts ≡ []
@@ -186,21 +140,13 @@ no_texts (text ∷ texts) e = absurd (omega arith)
 single-text-is-found : (hash : ℕ) (text : List ℕ) (id : ℕ) → id ≡ 0
     → search_from 1 (leaf hash ∷ []) (text ∷ []) (get_or (text ∷ []) id []) 0 0 ≡ Found id
 single-text-is-found hash text id e =
-    ap (λ at. search_from 1 (leaf hash ∷ []) (text ∷ []) (get_or (text ∷ []) at []) 0 0) e
-    ∙ search_from-found-here (leaf hash ∷ []) (text ∷ []) text 0 0 0
-    ((bytes_eq-Decides text text).1 refl)
-    ∙ ap Found (sym e)
+    grind (arith, nat_tests, search_from-found-here, bytes_eq-Decides)
 
 -- register of links: a node alone is a search tree of its text
 single-node-is-search-tree : (hash : ℕ) (text : List ℕ) → hash ≡ hash_of text
     → IsSearchTree (leaf hash ∷ []) (text ∷ [])
-single-node-is-search-tree hash text h = record {
-  hashes = λ i. h i ∷ [];
-  children = λ id side l some. absurd (some
-      (ap (λ at. child (node_at (leaf hash ∷ []) at) side) {y = 0} (omega arith)
-      ∙ leaf-has-no-child hash side));
-  finds = λ id l. single-text-is-found hash text id (omega arith);
-}
+single-node-is-search-tree hash text h =
+    grind (arith, nat_tests, leaf-has-no-child, single-text-is-found)
 
 -- register of links: a search tree to which a text is added is one of all the texts
 grown-tree-is-search-tree : (nodes : List Node) (hash parent : ℕ) (right : Bool)
@@ -214,11 +160,7 @@ grown-tree-is-search-tree [] hash parent right texts text is e h =
     (as-many-nodes-as-texts [] texts is.hashes) in
     let at : 0 ≡ parent = cc in
     let side : false ≡ right = cc in
-    subst (λ it. IsSearchTree (with_node_added [] hash parent right) (it ++ text ∷ []))
-    (sym position-None-no-element-passes)
-    (subst (λ it. IsSearchTree (with_node_added [] hash it right) (text ∷ [])) at
-    (subst (λ it. IsSearchTree (with_node_added [] hash 0 it) (text ∷ [])) side
-    (single-node-is-search-tree hash text h)))
+    grind (arith, nat_tests, position-None-no-element-passes, single-node-is-search-tree)
 grown-tree-is-search-tree (node ∷ nodes) hash parent right texts text is e h =
     let first : 0 < length (node ∷ nodes) = omega arith in
     let ends = search-ends-at-free-side (node ∷ nodes) texts text is.children

@@ -42,11 +42,7 @@ IsChild n id at = at ≢ 0 → (id < at) × (at < n)
 
 -- register of links: a child is one too where a node more follows; n: the number of nodes
 is_child-of-longer-list : (n id old new : ℕ) → new ≡ old → IsChild n id old → IsChild (n + 1) id new
-is_child-of-longer-list n id old new e h some =
-    let fits = h (λ none. some (e ∙ none)) in
-    let after = fits.0 in
-    let before = fits.1 in
-    (omega (arith, e, after), omega (arith, e, before))
+is_child-of-longer-list n id old new e h some = grind (arith, nat_tests)
 
 module _ (nodes : List Node) (hash parent : ℕ) (right : Bool) where
   pub length_grown : length (with_node_added nodes hash parent right) ≡ length nodes + 1
@@ -56,10 +52,7 @@ module _ (nodes : List Node) (hash parent : ℕ) (right : Bool) where
   module _ (in_range : parent < length nodes) where
     node_at-of-parent : node_at (with_node_added nodes hash parent right) parent
         ≡ with_child (node_at nodes parent) right (length nodes)
-    node_at-of-parent = get_or-set_same (nodes ++ leaf hash ∷ []) parent _ (leaf 0)
-        (grind (arith, length-append nodes (leaf hash ∷ [])))
-        ∙ ap (λ node. with_child node right (length nodes))
-        (get_or_append_left nodes (leaf hash ∷ []) (leaf 0) parent in_range)
+    node_at-of-parent = grind (arith, nat_tests, get_or-set_same, length-append, get_or_append_left)
 
     node_at-of-other : (id : ℕ) → id < length nodes → id ≢ parent
         → node_at (with_node_added nodes hash parent right) id ≡ node_at nodes id
@@ -68,9 +61,7 @@ module _ (nodes : List Node) (hash parent : ℕ) (right : Bool) where
 
     node_at-of-new-node : node_at (with_node_added nodes hash parent right) (length nodes)
         ≡ leaf hash
-    node_at-of-new-node = get_or-set_other (nodes ++ leaf hash ∷ []) parent (length nodes) _
-        (leaf 0) (λ e. absurd (omega (arith, e)))
-        ∙ get_or-append_seam nodes (leaf hash) [] (leaf 0)
+    node_at-of-new-node = grind (arith, nat_tests, get_or-set_other, get_or-append_seam)
 
     -- the new node is the child of its parent
     pub new-node-is-child-of-parent : child
@@ -84,20 +75,7 @@ module _ (nodes : List Node) (hash parent : ℕ) (right : Bool) where
         → child (node_at (with_node_added nodes hash parent right) id) side
         ≡ child (node_at nodes id) side
     other-children-unchanged id side l free some =
-        let Kept : Bool → Type 0 = λ b. nat_eq id parent ≡ b
-        → child (node_at (with_node_added nodes hash parent right) id) side
-        ≡ child (node_at nodes id) side in
-        (elim (nat_eq id parent) as Kept [
-          | true ↦ λ e.
-              let same : id ≡ parent = grind (arith, nat_tests) in
-              ap (λ at. child (node_at (with_node_added nodes hash parent right) at) side) same
-              ∙ ap (λ node. child node side) node_at-of-parent
-              ∙ with_child-keeps-other-side (node_at nodes parent) side right (length nodes) free
-              (λ none. some (ap (λ at. child (node_at nodes at) side) same ∙ none))
-              ∙ ap (λ at. child (node_at nodes at) side) (sym same)
-          | false ↦ λ e. ap (λ node. child node side)
-              (node_at-of-other id l (grind (arith, nat_tests)))
-        ]) refl
+        grind (arith, nat_tests, node_at-of-parent, with_child-keeps-other-side, node_at-of-other)
 
     -- a child of the new node's parent comes after it
     child-of-parent-follows : ChildrenFollow nodes → (id : ℕ) (side : Bool) → id ≡ parent
@@ -107,19 +85,9 @@ module _ (nodes : List Node) (hash parent : ℕ) (right : Bool) where
         → IsChild (length nodes + 1) id
         (child (node_at (with_node_added nodes hash parent right) id) side)
     child-of-parent-follows follow id side same (inl e) some =
-        let at_is : child (node_at (with_node_added nodes hash parent right) id) side
-        ≡ length nodes =
-        ap (λ it. child (node_at (with_node_added nodes hash parent right) it) side) same
-        ∙ ap (λ node. child node side) node_at-of-parent ∙ e in
-        (omega (arith, at_is, same), omega (arith, at_is))
+        grind (arith, nat_tests, node_at-of-parent)
     child-of-parent-follows follow id side same (inr e) some =
-        is_child-of-longer-list (length nodes) id (child (node_at nodes parent) side)
-        (child (node_at (with_node_added nodes hash parent right) id) side)
-        (ap (λ it. child (node_at (with_node_added nodes hash parent right) it) side) same
-        ∙ ap (λ node. child node side) node_at-of-parent ∙ e)
-        (subst (λ it. IsChild (length nodes) it (child (node_at nodes parent) side)) (sym same)
-        (follow parent side in_range))
-        some
+        grind (arith, nat_tests, is_child-of-longer-list, node_at-of-parent)
 
     pub children_follow : ChildrenFollow nodes
         → ChildrenFollow (with_node_added nodes hash parent right)
@@ -150,8 +118,4 @@ module _ (nodes : List Node) (hash parent : ℕ) (right : Bool) where
   pub hashes_grown : (texts : List (List ℕ)) (text : List ℕ) → HaveHashes nodes texts → hash
       ≡ hash_of text
       → HaveHashes (with_node_added nodes hash parent right) (texts ++ text ∷ [])
-  hashes_grown texts text h e =
-      map-set_same (λ (node : Node). node.hash) (nodes ++ leaf hash ∷ []) parent _ (leaf 0) refl
-      ∙ map-append (λ (node : Node). node.hash) nodes (leaf hash ∷ [])
-      ∙ (λ i. h i ++ e i ∷ [])
-      ∙ sym (map-append hash_of texts (text ∷ []))
+  hashes_grown texts text h e = grind (arith, nat_tests, map-set_same, map-append)

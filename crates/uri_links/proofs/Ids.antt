@@ -1,7 +1,6 @@
 -- The id of an outcome is an index into the texts of the register, also after further references.
-use Rattle.std.proofs.Common.{◌≡◌, ℕ, ◌≤◌, List, [], ◌∷◌, length, Option, Some, None, Ok, Err, refl, subst, arith, length-append}
+use Rattle.std.proofs.Common.{◌≡◌, ℕ, ◌≤◌, List, [], ◌∷◌, length, Option, Some, None, Ok, Err, refl, subst, arith, length-append, rules, Result}
 use Rattle.std.specs.List.{All, AllByRecursion}
-use Rattle.std.specs.Prelude.{Result}
 use Rattle.std.proofs.lemmas.List.Elements.{All-from_recursion}
 use Rattle.std.proofs.lemmas.List.Quantifiers.{position-Some}
 use Rattle.fluent_uri.specs.Components.{components}
@@ -9,7 +8,6 @@ use Rattle.fluent_uri.specs.Grammar.{uri}
 use Rattle.fluent_uri.specs.Normal.{normal_text}
 use Rattle.uri_rules.specs.Rules.{Rules, meaning_under}
 use Rattle.fluent_uri.specs.Target.{TargetError, resolution_of}
-use Rattle.fluent_uri.specs.SameMeanings.{same_meaning}
 use Rattle.uri_links.specs.Outcomes.{outcome_of, outcomes_of, index_of_meaning, outcome_of_lookup, outcome_of_resolution}
 use Rattle.uri_links.specs.OutcomesInWords.{IdIsInRange}
 use Rattle.uri_links.specs.declared.links.Outcome.{Outcome}
@@ -34,15 +32,8 @@ outcome_of_lookup-fits : (rules : Rules) (texts : List (List ℕ)) (target : Lis
     → index_of_meaning rules texts (meaning_under uri rules target) ≡ place
     → IsInRangeAfter texts (outcome_of_lookup place texts
     (normal_text (meaning_under uri rules target)))
-outcome_of_lookup-fits rules texts target (Some place) e = (
-  (position-Some
-      (λ text. same_meaning (meaning_under uri rules text) (meaning_under uri rules target))
-      texts place [] e).0,
-  omega arith,
-)
-outcome_of_lookup-fits rules texts target None e =
-    let l = length-append texts (normal_text (meaning_under uri rules target) ∷ []) in
-    (omega arith, omega arith)
+outcome_of_lookup-fits rules texts target (Some place) e = grind (arith, position-Some)
+outcome_of_lookup-fits rules texts target None e = grind (arith, length-append)
 
 -- register of links: the outcome of a resolved reference has an id in range
 outcome_of_resolution-fits : (rules : Rules) (texts : List (List ℕ))

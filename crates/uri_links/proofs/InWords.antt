@@ -1,6 +1,5 @@
 -- `outcome_of` agrees with `IsOutcome`.
-use Rattle.std.proofs.Common.{◌≡◌, ℕ, List, [], Option, Some, None, Ok, Err, refl, ap, subst}
-use Rattle.std.specs.Prelude.{Result}
+use Rattle.std.proofs.Common.{◌≡◌, ℕ, List, [], Option, Some, None, Ok, Err, refl, arith, rules, Result}
 use Rattle.std.proofs.lemmas.List.Quantifiers.{position-Some}
 use Rattle.std.proofs.lemmas.Map.Keys.{any_passes_from_place}
 use Rattle.std.proofs.lemmas.Option.{slice_get-get_or}
@@ -60,7 +59,4 @@ module _ (same : ComparesMeanings) (rules : Rules) (base : List ℕ)
       → outcome_of rules base texts reference ≡ (outcome, after)
       → IsOutcome rules base texts reference outcome
   unfolding outcome_of
-  outcome_of-is-outcome outcome after e =
-      subst (IsOutcome rules base texts reference) (ap (λ (o : Outcome × List (List ℕ)). o.0) e)
-      (outcome_of_resolution-is-outcome (resolution_of (components base) (components reference))
-      refl)
+  outcome_of-is-outcome outcome after e = grind (arith, outcome_of_resolution-is-outcome)

@@ -1,9 +1,7 @@
 -- The outcome of a reference, from the text of its normal target.
-use Rattle.std.proofs.Common.{◌≡◌, ℕ, true, List, [], ◌∷◌, refl, sym, ap, ◌∙◌}
-use Rattle.std.specs.Bool.{Decides}
+use Rattle.std.proofs.Common.{◌≡◌, ℕ, true, List, [], ◌∷◌, refl, sym, ap, ◌∙◌, arith, rules, Decides, bytes_eq}
 use Rattle.std.specs.List.{AllByRecursion, list_all, position}
 use Rattle.std.specs.Str.{is_utf8}
-use Rattle.std.specs.Prelude.{bytes_eq}
 use Rattle.std.proofs.lemmas.Bool.Decides.{same_from_decides, Decides-like}
 use Rattle.std.proofs.lemmas.Bool.{and_parts}
 use Rattle.std.proofs.lemmas.Slice.Eq.{bytes_eq-Decides}
@@ -35,9 +33,7 @@ pub normal-target-is-its-own-normal-text : (kind : Kind) (rules : Rules)
     (base reference normal : List ℕ)
     → IsNormalFormOfTargetUnder kind rules base reference normal
     → normal_text (meaning_under kind rules normal) ≡ normal
-normal-target-is-its-own-normal-text kind rules base reference normal h =
-    ap normal_text h.1.1.meaning
-    ∙ sym h.1.1.text
+normal-target-is-its-own-normal-text kind rules base reference normal h = grind arith
 
 -- register of links: a text that passes the test of a URI is one
 is_text : (text : List ℕ) → is_uri_text text ≡ true → IsTextOf uri text
@@ -90,13 +86,7 @@ pub noted : ComparesMeanings → (rules : Rules) (base reference normal : List �
     → outcome_of rules base texts reference ≡ outcome
 unfolding outcome_of
 noted same rules base reference normal texts outcome h uris own e =
-    let target = h.0 in
-    ap (outcome_of_resolution rules texts) h.1.0
-    ∙ (λ i. outcome_of_lookup
-    (sym (index-by-text-is-index-by-meaning same rules target normal texts h.1.1 uris own) i)
-    texts
-    (sym h.1.1.text i))
-    ∙ e
+    grind (arith, index-by-text-is-index-by-meaning)
 
 -- register of links: the outcome of a reference that has no target is `Refused`
 pub outcome_of-without-target : (rules : Rules) (base reference : List ℕ)

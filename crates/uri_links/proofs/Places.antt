@@ -1,5 +1,5 @@
 -- The first index at which a test passes.
-use Rattle.std.proofs.Common.{◌≡◌, ◌+◌, ◌≤◌, Bool, true, false, List, [], ◌∷◌, length, Some, None, cond, not, ◌||◌, ltb, suc, refl, ap, arith}
+use Rattle.std.proofs.Common.{◌≡◌, ◌+◌, ◌≤◌, Bool, false, List, [], ◌∷◌, length, Some, None, cond, not, ltb, refl, ap, arith}
 use Rattle.std.specs.List.{AllByRecursion, list_any, position, position_or_len}
 use Rattle.std.proofs.lemmas.Bool.Decides.{nat_tests}
 
@@ -8,10 +8,8 @@ use Rattle.std.proofs.lemmas.Bool.Decides.{nat_tests}
 position_or_len-at-most-length : {X : Type 0} (p : X → Bool) (xs : List X)
     → position_or_len p xs ≤ length xs
 position_or_len-at-most-length p [] = omega arith
-position_or_len-at-most-length p (x ∷ xs) = let rest : position_or_len p xs ≤ length xs =
-    position_or_len-at-most-length p xs in
-    elim (p x) as (λ b. cond (not b) (1 + position_or_len p xs) 0 ≤ length (x ∷ xs))
-    [ true ↦ omega arith | false ↦ omega arith ]
+position_or_len-at-most-length p (x ∷ xs) =
+    grind (arith, nat_tests, position_or_len-at-most-length p xs)
 
 -- general fact on lists: two tests that agree on each element
 -- first pass at the same index; for texts of links
@@ -36,11 +34,7 @@ position_or_len-at-end-none-passes : {X : Type 0} (p : X → Bool) (xs : List X)
     → list_any p xs ≡ false
 position_or_len-at-end-none-passes p [] e = refl
 position_or_len-at-end-none-passes p (x ∷ xs) e =
-    let rest : position_or_len p xs ≡ length xs → list_any p xs
-    ≡ false = position_or_len-at-end-none-passes p xs in
-    (elim (p x) as (λ b. cond (not b) (1 + position_or_len p xs) 0 ≡ suc (length xs)
-    → (b || list_any p xs) ≡ false)
-    [ true ↦ λ h. absurd (omega arith) | false ↦ λ h. rest (omega arith) ]) e
+    grind (arith, nat_tests, position_or_len-at-end-none-passes p xs)
 
 -- general fact on lists: if no index is found, no element passes the test; for texts of links
 pub position-None-no-element-passes : {X : Type 0} (p : X → Bool) (xs : List X) → position p xs

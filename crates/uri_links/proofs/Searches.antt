@@ -1,8 +1,7 @@
 -- A search, a step at a time.
-use Rattle.std.proofs.Common.{◌≡◌, ◌+◌, ◌<◌, ℕ, zero, suc, Bool, true, false, cond, List, [], ◌∷◌, length, get_or, nat_eq, ap, arith, sym, ◌∙◌, map, subst}
+use Rattle.std.proofs.Common.{◌≡◌, ◌+◌, ◌<◌, ℕ, zero, suc, Bool, true, false, cond, List, [], ◌∷◌, length, get_or, nat_eq, ap, arith, sym, ◌∙◌, map, subst, bytes_eq}
 use Rattle.std.proofs.lemmas.Bool.Decides.{nat_tests}
 use Rattle.std.proofs.lemmas.List.{get_or-map, length-map}
-use Rattle.std.specs.Prelude.{bytes_eq}
 use Rattle.uri_links.specs.SearchTrees.{descends_right, next_node, search_from, ChildrenFollow, HaveHashes, hash_of, search}
 use Rattle.uri_links.specs.declared.search_tree.Node.{Node}
 use Rattle.uri_links.specs.declared.search_tree.SearchEnd.{SearchEnd}
@@ -17,9 +16,7 @@ module _ (nodes : List Node) (texts : List (List ℕ)) (text : List ℕ) where
   pub search_from-found-here : (steps id depth : ℕ) → bytes_eq text (get_or texts id []) ≡ true
       → search_from (suc steps) nodes texts text id depth ≡ Found id
   unfolding search_from
-  search_from-found-here steps id depth e = ap
-      (λ b. choice b (nat_eq (next_node nodes text id depth) 0) id depth
-      (search_from steps nodes texts text (next_node nodes text id depth) (depth + 1))) e
+  search_from-found-here steps id depth e = grind (arith, nat_tests)
 
   pub search_from-ends-here : (steps id depth : ℕ) → bytes_eq text (get_or texts id []) ≡ false
       → nat_eq (next_node nodes text id depth) 0 ≡ true
@@ -43,12 +40,11 @@ module _ (nodes : List Node) (texts : List (List ℕ)) (text : List ℕ) where
   unfolding search_from
   found-text-is-equal zero id depth at e = cc
   found-text-is-equal (suc steps) id depth at e =
-      let e' : choice (bytes_eq text (get_or texts id []))
-      (nat_eq (next_node nodes text id depth) 0) id
-      depth (search_from steps nodes texts text (next_node nodes text id depth) (depth + 1))
-      ≡ Found at = e in
-      let rest = found-text-is-equal steps (next_node nodes text id depth) (depth + 1) at in
-      grind (arith, rest)
+      grind (
+        arith,
+        nat_tests,
+        found-text-is-equal steps (next_node nodes text id depth) (depth + 1) at,
+      )
 
   -- the same for a number of steps that is not 0
   pub search_from-found-here-at : (steps fewer id depth : ℕ) → steps ≡ suc fewer
@@ -108,9 +104,7 @@ found-index-in-range (node ∷ nodes) texts text tree at e =
 -- register of links: its search tree has as many nodes as there are texts
 pub as-many-nodes-as-texts : (nodes : List Node) (texts : List (List ℕ)) → HaveHashes nodes texts
     → length nodes ≡ length texts
-as-many-nodes-as-texts nodes texts h = sym (length-map nodes (λ (node : Node). node.hash))
-    ∙ ap length h
-    ∙ length-map texts hash_of
+as-many-nodes-as-texts nodes texts h = grind (arith, nat_tests, length-map)
 
 -- general fact on lists, for texts of links:
 -- the element at an index of a mapped list is the mapped element

@@ -1,8 +1,7 @@
 -- The outcomes of several references, a reference at a time.
-use Rattle.std.proofs.Common.{◌≡◌, ℕ, ◌+◌, ◌<◌, List, [], ◌∷◌, ◌++◌, length, get_or, take, map, Ok, Err, refl, sym, ap, ◌∙◌}
-use Rattle.std.specs.Prelude.{OnErr, Result}
+use Rattle.std.proofs.Common.{◌≡◌, ℕ, ◌+◌, ◌<◌, List, [], ◌∷◌, ◌++◌, length, get_or, take, map, Ok, Err, refl, sym, ap, ◌∙◌, arith, rules, OnErr, Result}
 use Rattle.std.proofs.lemmas.List.{map-append, take_more}
-use Rattle.uri_rules.specs.Rules.{Rules, meaning_under}
+use Rattle.uri_rules.specs.Rules.{Rules}
 use Rattle.uri_links.specs.Outcomes.{outcome_of, outcomes_of}
 use Rattle.uri_links.specs.declared.links.Outcome.{Outcome}
 
@@ -21,8 +20,7 @@ unfolding outcomes_of
 outcomes_of-one-more rules base texts [] reference = refl
 outcomes_of-one-more rules base texts (first ∷ references) reference =
     let one = outcome_of rules base texts first in
-    ap (λ (others : List Outcome × List (List ℕ)). (one.0 ∷ others.0, others.1))
-    (outcomes_of-one-more rules base one.1 references reference)
+    grind (arith, outcomes_of-one-more rules base one.1 references reference)
 
 module _ {A : Type 0} (text_of : A → List ℕ) (base : List ℕ) (texts : List (List ℕ))
     (references : List A) where

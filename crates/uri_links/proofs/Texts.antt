@@ -1,9 +1,7 @@
 -- One more text of a register.
-use Rattle.std.proofs.Common.{◌≡◌, ℕ, true, List, [], ◌∷◌, ◌++◌, None, refl, sym, subst, ◌∙◌}
+use Rattle.std.proofs.Common.{◌≡◌, ℕ, List, [], ◌∷◌, ◌++◌, None, sym, subst, ◌∙◌, arith, rules, bytes_eq}
 use Rattle.std.specs.List.{IsDistinct, position}
-use Rattle.std.specs.Prelude.{bytes_eq}
 use Rattle.std.proofs.lemmas.Cmp.{nat_list_eq_equiv}
-use Rattle.std.proofs.lemmas.Bool.{and_from}
 use Rattle.std.proofs.lemmas.List.{map-append}
 use Rattle.std.proofs.lemmas.List.Folds.{list_all-append}
 use Rattle.std.proofs.lemmas.Map.Keys.{IsDistinct-push}
@@ -11,7 +9,7 @@ use Rattle.std.proofs.lemmas.Str.{is_utf8-from_IsUtf8}
 use Rattle.fluent_uri.specs.Grammar.{IsTextOf, uri}
 use Rattle.fluent_uri.specs.Normal.{normal_text}
 use Rattle.uri_rules.specs.Rules.{Rules, meaning_under}
-use Rattle.uri_links.specs.Registered.{AreNormal, AreUris, is_uri_text}
+use Rattle.uri_links.specs.Registered.{AreNormal, AreUris}
 use Rattle.uri_links.proofs.Places.{position-None-no-element-passes}
 
 -- register of links: if it has no texts, none is there twice
@@ -28,9 +26,7 @@ normal-append rules texts text h e = map-append _ texts (text ∷ []) ∙ (λ i.
 -- register of links: URIs and one more are URIs
 uris-append : (texts : List (List ℕ)) (text : List ℕ) → AreUris texts → IsTextOf uri text
     → AreUris (texts ++ text ∷ [])
-uris-append texts text h is = list_all-append is_uri_text texts (text ∷ [])
-    ∙ and_from _ _ h (and_from _ true (and_from _ _ (is_utf8-from_IsUtf8 text is.utf8) is.grammar)
-    refl)
+uris-append texts text h is = grind (arith, list_all-append, is_utf8-from_IsUtf8)
 
 -- register of links: with one more URI, all its texts are URIs
 pub uris-after-adding : (texts after : List (List ℕ)) (text : List ℕ) → after ≡ texts ++ text ∷ []

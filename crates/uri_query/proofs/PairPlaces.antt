@@ -1,8 +1,7 @@
 -- Where the pairs of a query are, by where its `&` and `=` are.
-use Rattle.std.proofs.Common.{◌≡◌, ℕ, ◌+◌, ◌-◌, ◌<◌, ◌≤◌, true, false, not, eqb, List, [], ◌∷◌, ◌++◌, length, take, drop, get_or, cond, refl, sym, ap, ◌∙◌, arith, ⊎_elim, append-nil, ltb, suc}
-use Rattle.std.specs.Prelude.{Some, None, slice_range}
-use Rattle.std.specs.List.{onto_first, slice_split}
-use Rattle.std.proofs.lemmas.Bool.{and_parts, and_right, cases_lt, cond-false, cond-true, eqb-true, le-ltb, not-true, lt-ltb, false≢true, not-false}
+use Rattle.std.proofs.Common.{◌≡◌, ℕ, ◌+◌, ◌-◌, ◌<◌, ◌≤◌, true, false, not, eqb, List, [], ◌∷◌, ◌++◌, length, take, drop, get_or, cond, refl, sym, ap, ◌∙◌, arith, ⊎_elim, append-nil, ltb, Some, None, slice_range}
+use Rattle.std.specs.List.{slice_split}
+use Rattle.std.proofs.lemmas.Bool.{and_parts, and_right, cases_lt, eqb-true, not-true, not-false}
 use Rattle.std.proofs.Math.Seq.{drop-cons}
 use Rattle.std.proofs.lemmas.List.{drop_all, length-take-le, take-take}
 use Rattle.std.proofs.lemmas.List.Edits.{get_or-between, length-between}
@@ -33,21 +32,12 @@ run-lacks-byte byte text start end run =
 pub run-passes-other-byte : (byte : ℕ) (text : List ℕ) (start end : ℕ)
     → IsLongestRun (λ b. not (eqb b byte)) text start end → start < length text
     → eqb (get_or text start 0) byte ≡ false → start < end
-run-passes-other-byte byte text start end run inside other = ⊎_elim
-    (λ h. h)
-    (λ (h : end ≤ start).
-    let same : start ≡ end = omega (arith, h, run.from) in
-    absurd (false≢true (sym other ∙ not-false _
-    (ap (λ n. not (eqb (get_or text n 0) byte)) same
-    ∙ run.stop (omega (arith, inside, same))))))
-    (cases_lt start end)
+run-passes-other-byte byte text start end run inside other = grind (arith, not-false)
 
 -- places of pairs: a text from a byte of it on begins with that
 text-from-place-begins-with-byte : (text : List ℕ) (at : ℕ) → at < length text
     → drop at text ≡ get_or text at 0 ∷ drop (at + 1) text
-text-from-place-begins-with-byte text at inside =
-    let next : suc at ≡ at + 1 = omega arith in
-    drop-cons text at 0 inside ∙ ap (λ n. get_or text at 0 ∷ drop n text) next
+text-from-place-begins-with-byte text at inside = grind (arith, drop-cons)
 
 -- places of pairs: a text with a `=` (61) does not lack it
 text-with-equals-does-not-lack-it : (before after : List ℕ)
@@ -63,8 +53,7 @@ text-before-ampersand-is-first-piece : (piece rest : List ℕ) → lacks 38 piec
 text-before-ampersand-is-first-piece [] rest e = refl
 text-before-ampersand-is-first-piece (c ∷ cs) rest e =
     let p = and_parts (not (eqb c 38)) (lacks 38 cs) e in
-    cond-false _ _ _ (not-true _ p.0)
-    ∙ ap (onto_first c) (text-before-ampersand-is-first-piece cs rest p.1)
+    grind (arith, not-true, text-before-ampersand-is-first-piece cs rest p.1)
 
 -- places of pairs: a first substring that has bytes is kept
 first-with-bytes-is-kept : (piece : List ℕ) (pieces : List (List ℕ)) → 0 < length piece
@@ -119,9 +108,7 @@ module _ (query : List ℕ) (start name_end end : ℕ) (inside : end ≤ length 
 
   part-of-text-before-end : (i j : ℕ) → j ≤ end
       → slice_range before_end i j ≡ slice_range query i j
-  part-of-text-before-end i j order =
-      between_is before_end i j ∙ ap (drop i) (take-take j end query order)
-      ∙ sym (between_is query i j)
+  part-of-text-before-end i j order = grind (arith, between_is, take-take)
 
   name-lacks-equals : lacks 61 (slice_range query start name_end) ≡ true
   name-lacks-equals = ap (lacks 61) (sym (part-of-text-before-end start name_end name-ends-within))
@@ -167,13 +154,12 @@ module _ (query : List ℕ) (start name_end end : ℕ) (inside : end ≤ length 
   pub value-is-that-of-pair : cond (ltb name_end end)
       (Some (slice_range query (name_end + 1) end)) None
       ≡ value_of_pair (slice_range query start end)
-  value-is-that-of-pair = ⊎_elim
-      (λ (more : name_end < end). cond-true _ _ _ (lt-ltb name_end end more)
-      ∙ ap Some (value-is-after-equals more)
-      ∙ sym (cond-false _ _ _ (ap (lacks 61) (substring-is-cut-at-equals more)
-      ∙ text-with-equals-does-not-lack-it (slice_range query start name_end) _)))
-      (λ (last : end ≤ name_end).
-      let e : name_end ≡ end = omega (arith, last, name-ends-within) in
-      cond-false _ _ _ (le-ltb name_end end last)
-      ∙ sym (cond-true _ _ _ (substring-without-equals-lacks-it e)))
-      (cases_lt name_end end)
+  value-is-that-of-pair =
+      grind (
+        arith,
+        value-is-after-equals,
+        substring-is-cut-at-equals,
+        text-with-equals-does-not-lack-it,
+        name-ends-within,
+        substring-without-equals-lacks-it,
+      )

@@ -1,10 +1,8 @@
 -- The query that is made of pairs decodes to the pairs again.
-use Rattle.std.proofs.Common.{◌≡◌, ℕ, ◌/◌, ◌%◌, ◌<◌, true, false, not, cond, List, [], ◌∷◌, ◌++◌, length, map, string_bytes, refl, ap, sym, ◌∙◌, arith, ⊎_elim, append_assoc, append-nil}
+use Rattle.std.proofs.Common.{◌≡◌, ℕ, ◌/◌, ◌%◌, ◌<◌, true, false, not, List, [], ◌∷◌, ◌++◌, length, map, string_bytes, refl, ap, sym, ◌∙◌, arith, ⊎_elim, append_assoc, append-nil, codes, filter, encode_utf8, IsUtf8, chars}
 use Rattle.std.proofs.Math.Dec.{eqb}
-use Rattle.std.specs.Prelude.{nat_lt, codes, filter, encode_utf8}
 use Rattle.std.specs.Fmt.{digit_glyph}
 use Rattle.std.specs.List.{flat_map, onto_first, slice_split}
-use Rattle.std.specs.Str.{IsUtf8, chars}
 use Rattle.std.proofs.lemmas.Bool.{and_from, and_parts, cases_Bool, cases_lt, cond-true, cond-false, eqb-true, false≢true, le-ltb, not-true}
 use Rattle.std.proofs.lemmas.List.{map-append}
 use Rattle.std.proofs.lemmas.List.Concat.{flat_map-append}
@@ -25,17 +23,11 @@ use Rattle.uri_query.proofs.Cuts.{text_after_equals-append, text_before_equals-a
 
 -- pairs of a query: a digit of a percent-encoded octet is not `&` (38)
 digit_is_no_ampersand : (n : ℕ) → eqb (digit_glyph true n) 38 ≡ false
-digit_is_no_ampersand n = ⊎_elim
-    (λ e. grind (arith, e))
-    (λ e. grind (arith, e))
-    (cases_Bool (nat_lt n 10))
+digit_is_no_ampersand n = grind arith
 
 -- pairs of a query: a digit of a percent-encoded octet is not `=` (61)
 digit_is_no_equals_sign : (n : ℕ) → eqb (digit_glyph true n) 61 ≡ false
-digit_is_no_equals_sign n = ⊎_elim
-    (λ e. grind (arith, e))
-    (λ e. grind (arith, e))
-    (cases_Bool (nat_lt n 10))
+digit_is_no_equals_sign n = grind arith
 
 -- pairs of a query: a character that data may have literally is of ASCII
 allowed_char_is_ascii : (c : ℕ) → allows data_set c ≡ true → c < 128
@@ -132,8 +124,7 @@ pub text_without_ampersand_is_one_piece : (text : List ℕ) → lacks 38 text �
 text_without_ampersand_is_one_piece [] e = refl
 text_without_ampersand_is_one_piece (c ∷ cs) e =
     let p = and_parts (not (eqb c 38)) (lacks 38 cs) e in
-    cond-false _ _ _ (not-true _ p.0)
-    ∙ ap (onto_first c) (text_without_ampersand_is_one_piece cs p.1)
+    grind (arith, not-true, text_without_ampersand_is_one_piece cs p.1)
 
 -- pairs of a query: with one more byte in the first substring, the last is the same
 first_byte_and_last_piece : (c : ℕ) (pieces : List (List ℕ)) (last : List ℕ) → 0 < length pieces
@@ -149,22 +140,12 @@ text_after_ampersand_is_last_piece [] piece e =
     ap (λ pieces. [] ∷ pieces) (text_without_ampersand_is_one_piece piece e)
 text_after_ampersand_is_last_piece (c ∷ cs) piece e =
     let rest = text_after_ampersand_is_last_piece cs piece e in
-    ⊎_elim
-    (λ h. cond-true _ _ _ h ∙ ap (λ pieces. [] ∷ pieces) rest
-    ∙ sym (ap (λ pieces. pieces ++ piece ∷ []) (cond-true _ _ _ h)))
-    (λ h. cond-false _ _ _ h ∙ ap (onto_first c) rest
-    ∙ first_byte_and_last_piece c (slice_split (λ b. eqb b 38) cs) piece
-    (omega (arith, length-slice_split (λ b. eqb b 38) cs))
-    ∙ sym (ap (λ pieces. pieces ++ piece ∷ []) (cond-false _ _ _ h)))
-    (cases_Bool (eqb c 38))
+    grind (arith, first_byte_and_last_piece, eqb, length-slice_split)
 
 -- pairs of a query: the substring of a pair is decoded to that pair alone
 piece_of_pair_is_decoded : (name value : List ℕ) → IsUtf8 name → IsUtf8 value
     → decode_nonempty_substrings (pair_text (name, value) ∷ []) ≡ (name, value) ∷ []
-piece_of_pair_is_decoded name value u v =
-    ap (λ b. map decode_pair (cond (not b) (pair_text (name, value) ∷ []) []))
-    (joined_text_is_not_empty (data_text name) 61 (data_text value))
-    ∙ ap (λ pair. pair ∷ []) (pair_is_decoded name value u v)
+piece_of_pair_is_decoded name value u v = grind (arith, joined_text_is_not_empty, pair_is_decoded)
 
 -- pairs of a query: a query with one more pair has one more decoded pair
 one_more_pair_is_decoded : (text name value : List ℕ) → IsUtf8 name → IsUtf8 value

@@ -1,10 +1,8 @@
 -- Where a path of `../` leads to.
-use Rattle.std.proofs.Common.{◌≡◌, ℕ, zero, suc, ◌+◌, ◌-◌, Bool, true, false, cond, eqb, List, [], ◌∷◌, ◌++◌, length, take, drop, refl, sym, ap, subst, ◌∙◌, arith, append_assoc, inl, inr, ◌||◌}
-use Rattle.std.specs.Prelude.{codes}
-use Rattle.std.proofs.lemmas.List.{append-nil, take-append-drop}
+use Rattle.std.proofs.Common.{◌≡◌, ℕ, zero, suc, ◌+◌, ◌-◌, Bool, true, false, cond, eqb, List, [], ◌∷◌, ◌++◌, length, take, drop, refl, sym, ap, subst, ◌∙◌, arith, append_assoc, inl, inr, ◌||◌, codes, append-nil, take-append-drop}
 use Rattle.std.proofs.lemmas.List.Splits.{length-slice_split}
 use Rattle.std.proofs.lemmas.List.Folds.{list_all-append}
-use Rattle.std.proofs.lemmas.Bool.{and_parts, false≢true, cond-false}
+use Rattle.std.proofs.lemmas.Bool.{and_parts, false≢true}
 use Rattle.std.proofs.lemmas.Bool.Decides.{nat_tests}
 use Rattle.uri_parts.specs.Components.{IsAbemptyPath}
 use Rattle.uri_ops.specs.Dots.{is_empty, IsAbsolute, EndsInSlash, lacks_dot_segments, segments, remove_dot_segments, underflows, directory}
@@ -14,7 +12,7 @@ use Rattle.uri_ops.proofs.Paths.Underflows.{underflows_at}
 use Rattle.uri_ops.proofs.Paths.DotLaws.{path-after-slash-appends-its-segments, appended-segments-lack-slashes, property-of-path-to-slash-by-segments, property-of-absolute-path-by-segments, segments-of-dotless-path-are-dotless, remove-dots-of-dotless, dotless-path-does-not-underflow}
 use Rattle.uri_ops.proofs.Paths.DotRuns.{empty-text-is-nil}
 use Rattle.uri_ops.proofs.Paths.TakenSegments.{removing-dots-after-directory, underflow-after-directory}
-use Rattle.uri_relative.specs.Relative.{double_dots, slashes, relative_path, relative_from, needs_leading_dot, IsSharedPrefix}
+use Rattle.uri_relative.specs.Relative.{double_dots, slashes, relative_path, relative_from, IsSharedPrefix}
 
 -- relativized paths: one `../` more, before or after the others
 double-dot-moves-past-others : (n : ℕ) (q : List ℕ) → double_dots n ++ (codes "../" ++ q)
@@ -31,10 +29,7 @@ successor-is-not-zero n = grind (arith, nat_tests)
 -- relativized paths: one that goes n + 1 directories up ends in `..`, or in `../` and the rest
 pub relative_path-of-some-climbs : (n : ℕ) (rest : List ℕ) → relative_path (suc n) rest
     ≡ cond (is_empty rest) (double_dots n ++ codes "..") (double_dots (suc n) ++ rest)
-relative_path-of-some-climbs n rest =
-    cond-false _ _ _ (successor-is-not-zero n)
-    ∙ ap (λ m. cond (is_empty rest) (double_dots m ++ codes "..") (double_dots (suc n) ++ rest))
-    (let e : suc n - 1 ≡ n = omega arith in e)
+relative_path-of-some-climbs n rest = grind (arith, nat_tests, successor-is-not-zero)
 
 -- general fact on lists of segments, for relativized paths: what all pass, the first of them pass
 pub prefix-all-pass : (p : List ℕ → Bool) (xs ys : List (List ℕ)) → AllPass p (xs ++ ys)
@@ -223,11 +218,7 @@ module _ {X : Type 0} (f : List ℕ → X) (by : FollowsDotsFromDirectory f) whe
       let e = pushed-segment-joins-the-rest xs ys y in
       let dotless' = subst (AllPass is_dotless) (sym e) dotless in
       let lack' = subst NoSlashes (sym e) lack in
-      ap (λ s. f (dir s ++ (double_dots (length ys) ++ codes ".."))) (sym e)
-      ∙ double-dots-lead-up ys (xs ++ y ∷ []) (codes "..") dotless' lack'
-      ∙ by.up xs y [] (prefix-all-pass is_dotless (xs ++ y ∷ []) ys dotless')
-      (prefix-all-pass lacks_slash (xs ++ y ∷ []) ys lack') (inl refl)
-      ∙ ap (λ t. f (dir xs ++ t)) (sym (h refl))
+      grind (arith, nat_tests, double-dots-lead-up, prefix-all-pass)
 
   relative-path-leads-from-directory : (ys xs : List (List ℕ)) (rest : List ℕ)
       → AllPass is_dotless (xs ++ ys)
@@ -235,10 +226,7 @@ module _ {X : Type 0} (f : List ℕ → X) (by : FollowsDotsFromDirectory f) whe
       → f (dir (xs ++ ys) ++ relative_path (length ys) rest) ≡ f (dir xs ++ rest)
   relative-path-leads-from-directory [] xs rest dotless lack =
       let e = append-nil xs in
-      ap (λ s. f (dir s ++ relative_path 0 rest)) e
-      ∙ path-without-double-dots-leads-to-rest xs rest (is_empty rest) (needs_leading_dot rest)
-      (empty-text-is-nil rest)
-      (subst (AllPass is_dotless) e dotless) (subst NoSlashes e lack)
+      grind (arith, nat_tests, path-without-double-dots-leads-to-rest, empty-text-is-nil)
   relative-path-leads-from-directory (y ∷ ys) xs rest dotless lack =
       ap (λ t. f (dir (xs ++ y ∷ ys) ++ t)) (relative_path-of-some-climbs (length ys) rest)
       ∙ path-with-double-dots-leads-up ys xs y rest (is_empty rest)

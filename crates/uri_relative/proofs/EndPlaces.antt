@@ -1,12 +1,12 @@
 -- The positions of the components after a scheme, and of a query and a fragment.
-use Rattle.std.proofs.Common.{◌≡◌, ℕ, ◌+◌, ◌-◌, ◌≤◌, List, [], length, refl, sym, ap, ◌∙◌, arith, length-append, option_map, subst}
-use Rattle.std.specs.Prelude.{codes, true, false, is_some, IfSome, Option, Some, None}
+use Rattle.std.proofs.Common.{◌≡◌, ℕ, ◌+◌, ◌-◌, ◌≤◌, List, [], length, refl, sym, ap, ◌∙◌, arith, length-append, option_map, subst, codes, true, false, is_some, IfSome, Option, Some, None}
 use Rattle.std.proofs.lemmas.Bool.{false≢true}
 use Rattle.std.proofs.lemmas.Option.{none-some, same_Some}
+use Rattle.std.proofs.lemmas.Bool.Decides.{nat_tests}
 use Rattle.uri_parts.specs.declared.positions.AuthorityPositions.{AuthorityPositions}
 use Rattle.uri_parts.specs.declared.positions.Positions.{Positions}
 use Rattle.uri_parts.specs.Components.{Components, marked}
-use Rattle.uri_parts.specs.Positions.{authority_at, host_end_of, host_start_of, delimited_length, positions_of}
+use Rattle.uri_parts.specs.Positions.{authority_at, delimited_length, positions_of}
 
 -- relativized references: an authority's positions are all from n on
 pub record AuthorityBeginsAfter (n : ℕ) (places : AuthorityPositions) : Type 0 where
@@ -20,14 +20,7 @@ pub authority-begins-after-scheme : (n : ℕ) (authority : Option (List ℕ))
     (places : AuthorityPositions)
     → Some places ≡ option_map (authority_at (n + 2)) authority → AuthorityBeginsAfter n places
 authority-begins-after-scheme n None places e = absurd (none-some places (sym e))
-authority-begins-after-scheme n (Some a) places e =
-    subst (AuthorityBeginsAfter n) (sym (same_Some _ _ e))
-    (record {
-      start = omega arith;
-      host_start = omega arith;
-      host_end = omega arith;
-      end = omega arith;
-    })
+authority-begins-after-scheme n (Some a) places e = grind (arith, nat_tests, same_Some)
 
 -- relativized references: the positions of an authority, moved back by n, are those in a text
 -- without the bytes before its `//`
@@ -40,16 +33,7 @@ pub authority-positions-without-scheme : (n : ℕ) (authority : Option (List ℕ
 authority-positions-without-scheme n None places moved e start host_start host_end end = absurd
     (none-some places (sym e))
 authority-positions-without-scheme n (Some a) places moved e start host_start host_end end =
-    let f = same_Some _ _ e in
-    let a0 : moved.start ≡ 2 = omega
-    (arith, start, ap (λ (q : AuthorityPositions). q.start) f) in
-    let a1 : moved.host_start ≡ 2 + host_start_of a = omega
-    (arith, host_start, ap (λ (q : AuthorityPositions). q.host_start) f) in
-    let a2 : moved.host_end ≡ 2 + host_end_of a = omega
-    (arith, host_end, ap (λ (q : AuthorityPositions). q.host_end) f) in
-    let a3 : moved.end ≡ 2 + length a = omega
-    (arith, end, ap (λ (q : AuthorityPositions). q.end) f) in
-    λ i. Some (record { start = a0 i; host_start = a1 i; host_end = a2 i; end = a3 i })
+    grind (arith, nat_tests, same_Some)
 
 -- relativized references: an authority begins n + 2 bytes into a text with a scheme of n bytes
 -- (with its `:`)
@@ -105,9 +89,7 @@ absent-scheme-end-means-no-scheme (Some s) e = absurd (none-some (length s) e)
 -- relativized references: without a scheme, the positions are as they are
 pub positions-of-text-without-scheme-stay : (t : Components) (p : Positions) → p ≡ positions_of t
     → p.scheme_end ≡ None → p ≡ positions_of (record t { scheme = None })
-positions-of-text-without-scheme-stay t p at e =
-    at ∙ sym (ap (λ s. let c : Components = record t { scheme = s } in positions_of c)
-    (absent-scheme-end-means-no-scheme t.scheme (sym e ∙ ap (λ (q : Positions). q.scheme_end) at)))
+positions-of-text-without-scheme-stay t p at e = grind (arith, absent-scheme-end-means-no-scheme)
 
 -- relativized references: leaving out a scheme of n bytes moves the positions n bytes back; start,
 -- end: of the path

@@ -1,7 +1,7 @@
 -- The targets that no reference without a scheme and an authority leads to: RFC 3986, section 5.2.
-use Rattle.std.proofs.Common.{◌≡◌, ℕ, Bool, true, false, not, ◌&&◌, ◌||◌, List, [], ◌∷◌, refl, sym, ap, ◌∙◌, ⊎_elim, inl, inr}
-use Rattle.std.specs.Prelude.{Option, None, Some, is_none, is_some}
-use Rattle.std.proofs.lemmas.Bool.{and_parts, both_ways, cases_Bool, cond-true, not-true, or_cases}
+use Rattle.std.proofs.Common.{◌≡◌, ℕ, Bool, true, false, not, ◌&&◌, ◌||◌, List, [], ◌∷◌, refl, sym, ap, ◌∙◌, ⊎_elim, inl, inr, arith, Option, None, Some, is_none, is_some}
+use Rattle.std.proofs.lemmas.Bool.{and_parts, both_ways, not-true, or_cases}
+use Rattle.std.proofs.lemmas.Bool.Decides.{nat_tests}
 use Rattle.uri_pct.specs.Delimiters.{slash}
 use Rattle.uri_parts.specs.Components.{Components, IsAbemptyPath, components, recompose, starts}
 use Rattle.uri_parts.proofs.Splitting.Recompose.{equal-to-true-is-IsTrue}
@@ -51,9 +51,7 @@ base-without-authority-has-absolute-path b t opaque a none =
 module _ (b t o : Components) (rooted : IsAbemptyPath b.path) (w : IsPathForm b t o) where
   absolute-joined-path-gives-absolute-target : IsAbsolute (joined_path b.path o.path)
       → starts slash t.path ≡ true
-  absolute-joined-path-gives-absolute-target h =
-      ap (starts slash) (sym w.path) ∙ target-path-stays-absolute b.authority
-      (joined_path b.path o.path) h
+  absolute-joined-path-gives-absolute-target h = grind (arith, target-path-stays-absolute)
 
   path-reference-reaches-no-rootless-target : is_opaque b ≡ false → is_rootless t ≡ true → ⊥
   path-reference-reaches-no-rootless-target opaque e =
@@ -74,16 +72,14 @@ module _ (b t o : Components) (rooted : IsAbemptyPath b.path) (w : IsPathForm b 
 
   path-reference-would-not-inherit-query : would_inherit_query b t ≡ true → ⊥
   path-reference-would-not-inherit-query e =
-      let all = and_parts (is_empty t.path && is_empty b.path && is_none t.query) _ e in
-      let most = and_parts (is_empty t.path && is_empty b.path) _ all.0 in
-      let paths = and_parts (is_empty t.path) _ most.0 in
-      ⊎_elim
-      (λ empty. inherited-query-is-present b.query o.query all.1
-      (ap is_none (sym (cond-true (is_empty o.path) _ _ empty) ∙ w.query) ∙ most.1))
-      (λ some. path-with-slash-is-not-empty t.path
-      (absolute-joined-path-gives-absolute-target
-      (nonempty-joined-path-is-absolute b.path o.path rooted some)) paths.0)
-      (cases_Bool (is_empty o.path))
+      grind (
+        arith,
+        nat_tests,
+        inherited-query-is-present,
+        path-with-slash-is-not-empty,
+        absolute-joined-path-gives-absolute-target,
+        nonempty-joined-path-is-absolute,
+      )
 
   path-reference-misses-exception : is_opaque b ≡ false → needs_authority b t ≡ true → ⊥
   path-reference-misses-exception opaque e =

@@ -1,10 +1,9 @@
 -- The forms of references that lead to a target: RFC 3986, sections 4.2 and 5.2.2.
-use Rattle.std.proofs.Common.{◌≡◌, ℕ, ◌+◌, ◌≤◌, ◌<◌, Bool, true, false, not, List, [], ◌++◌, ◌&&◌, ◌||◌, ◌∷◌, drop, length, refl, sym, ap, ◌∙◌, subst, arith, rules}
-use Rattle.std.specs.Prelude.{codes, Option, None, Some, IfSome, IfNone, is_some, is_none}
+use Rattle.std.proofs.Common.{◌≡◌, ℕ, ◌+◌, ◌≤◌, ◌<◌, Bool, true, false, not, List, [], ◌++◌, ◌&&◌, ◌||◌, ◌∷◌, length, refl, sym, ap, ◌∙◌, subst, arith, rules, codes, Option, None, Some, IfSome, IfNone, is_some, length-append}
 use Rattle.std.proofs.Math.Bool.{and-false}
-use Rattle.std.proofs.lemmas.List.{length-append}
-use Rattle.std.proofs.lemmas.Bool.{and_from, and_parts, both_ways, cond_both, or_left, cond-false, cond-true, false≢true, not_from_false}
+use Rattle.std.proofs.lemmas.Bool.{and_from, and_parts, both_ways, cond_both, or_left, cond-false, cond-true, false≢true}
 use Rattle.std.proofs.lemmas.Str.{IsUtf8-nil}
+use Rattle.std.proofs.lemmas.Bool.Decides.{nat_tests}
 use Rattle.uri_pct.specs.Delimiters.{slash}
 use Rattle.uri_parts.specs.Components.{Components, IsAbemptyPath, IsSplitOf, Lacks, marked, has_authority, has_scheme, recompose, starts}
 use Rattle.uri_parts.specs.Grammar.{Kind, components_meet_rules, has_colon_in_first_segment, absent_or_passes, is_authority, is_scheme}
@@ -52,9 +51,7 @@ components-of-kind-meet-rules kind t e =
 reference-components-meet-rules : (kind : Kind) (r : Components) → MeetsRules kind r
     → (is_some r.scheme || (is_some r.authority || not (has_colon_in_first_segment r.path))) ≡ true
     → components_meet_rules (reference_kind kind) r ≡ true
-reference-components-meet-rules kind r m needs =
-    and_from _ _ (and_from _ _ (and_from _ _ (and_from _ _
-    (and_from _ _ m.scheme m.authority) m.path) m.query) m.fragment) needs
+reference-components-meet-rules kind r m needs = grind arith
 
 -- relativized references: one that has neither scheme nor authority is relative
 reference-without-authority-is-relative : (base t r : Components) → r.scheme ≡ None → r.authority
@@ -67,19 +64,12 @@ scheme-adds-two-bytes-at-least : (o : Option (List ℕ)) (rest : List ℕ) → i
     → IfSome o (λ s. (0 < length s) × Lacks (codes ":/?#") s)
     → 2 + length rest ≤ length (marked [] o (codes ":") ++ rest)
 scheme-adds-two-bytes-at-least None rest e h = absurd (false≢true e)
-scheme-adds-two-bytes-at-least (Some s) rest e h = omega (
-  arith,
-  h.0,
-  length-append (s ++ codes ":") rest,
-  length-append s (codes ":"),
-)
+scheme-adds-two-bytes-at-least (Some s) rest e h = grind (arith, nat_tests, length-append)
 
 -- targets to relativize: what holds of a path with a guard that does not matter holds without
 property-holds-without-guard : (P : List ℕ → Type 0) (a : Option (List ℕ)) (path whole : List ℕ)
     → guarded a path ≡ whole → (P (codes "/." ++ path) → P path) → P whole → P path
-property-holds-without-guard P a path whole e back h =
-    cond_both (is_none a && has_authority path) (codes "/." ++ path) path (λ t. P t → P path)
-    (λ _. back) (λ _. λ k. k) (subst P (sym e) h)
+property-holds-without-guard P a path whole e back h = grind arith
 
 -- targets to relativize: a path before a guard is added has neither `?` nor `#`, as the target's
 path-without-guard-lacks-marks : (t : Components) (path : List ℕ) → guarded t.authority path
@@ -107,24 +97,14 @@ path-without-guard-is-valid : (set : TableSet) (t : Components) (path : List ℕ
     → is_valid_for set path ≡ true
 path-without-guard-is-valid set t path absolute e h =
     property-holds-without-guard (λ p. is_valid_for set p ≡ true) t.authority path t.path e
-    (subst (λ p. is_valid_for set (codes "/." ++ p) ≡ true → is_valid_for set p ≡ true)
-    (sym (absolute-path-is-slash-and-rest path absolute))
-    (path-after-guard-is-valid set (drop 1 path))) h
+    (grind (arith, absolute-path-is-slash-and-rest, path-after-guard-is-valid)) h
 
 -- lengths of relativized references: a path (way) that is no longer than the one from the root is
 -- two bytes longer than the target's at most
 path-is-at-most-two-longer-than-target : (t : Components) (path way : List ℕ)
     → guarded t.authority path ≡ t.path
     → length way ≤ length (guarded None path) → length way ≤ length t.path + 2
-path-is-at-most-two-longer-than-target t path way e h =
-    let least : length path ≤ length t.path =
-    cond_both (is_none t.authority && has_authority path) (codes "/." ++ path) path
-    (λ p. p ≡ t.path → length path ≤ length t.path)
-    (λ _. λ k. omega (arith, ap length k)) (λ _. λ k. omega (arith, ap length k)) e in
-    let most : length (guarded None path) ≤ length path + 2 =
-    cond_both (has_authority path) (codes "/." ++ path) path (λ p. length p ≤ length path + 2)
-    (λ _. omega arith) (λ _. omega arith) in
-    omega (arith, h, least, most)
+path-is-at-most-two-longer-than-target t path way e h = grind (arith, nat_tests)
 
 -- relativized references: one of a path, a query and the target's fragment is parsed as these
 pub path-and-query-are-split : (t : Components) (path : List ℕ) (query : Option (List ℕ))
@@ -214,26 +194,12 @@ module _ (kind : Kind) (prefers : Bool) (base t : Components) (w : IsDotlessTarg
       → components_meet_rules (reference_kind kind)
       (record t { scheme = None; authority = None; path = path; query = query }) ≡ true
   path-and-query-meet-rules path query v q e =
-      reference-components-meet-rules kind
-      (record t { scheme = None; authority = None; path = path; query = query })
-      (record {
-        scheme = refl;
-        authority = refl;
-        path = v;
-        query = q;
-        fragment = (components-of-kind-meet-rules kind t w.meets).fragment;
-      }) (not_from_false _ e)
+      grind (arith, nat_tests, reference-components-meet-rules, components-of-kind-meet-rules)
 
   path-and-tail-are-no-longer-than-target : (path : List ℕ) → length path ≤ length t.path + 2
       → length (path ++ after_path t) ≤ length (recompose t)
-  path-and-tail-are-no-longer-than-target path h = omega (
-    arith,
-    h,
-    length-append path (after_path t),
-    length-append t.path (after_path t),
-    length-append (marked (codes "//") t.authority []) (t.path ++ after_path t),
-    scheme-adds-two-bytes-at-least t.scheme (after_scheme t) w.scheme w.split.scheme,
-  )
+  path-and-tail-are-no-longer-than-target path h =
+      grind (arith, nat_tests, length-append, scheme-adds-two-bytes-at-least)
 
   -- a path, and the text after the target's
   pub path-form-is-reference : (path way : List ℕ) → base.scheme ≡ t.scheme

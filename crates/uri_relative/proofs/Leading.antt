@@ -1,17 +1,16 @@
 -- References that lead to a target: RFC 3986, section 5.2.
-use Rattle.std.proofs.Common.{◌≡◌, ℕ, Bool, true, false, not, List, ◌++◌, ◌&&◌, ◌||◌, sym, ap, ◌∙◌, ◌≤◌, append_assoc, length, subst}
-use Rattle.std.specs.Prelude.{Ok, is_some}
-use Rattle.std.specs.Str.{IsUtf8}
+use Rattle.std.proofs.Common.{◌≡◌, ℕ, Bool, true, false, not, List, ◌++◌, ◌&&◌, ◌||◌, sym, ap, ◌∙◌, append_assoc, subst, arith, Ok, is_some, IsUtf8}
 use Rattle.std.proofs.Math.Bool.{and-false}
-use Rattle.std.proofs.lemmas.Bool.{and_from, cond-false, cond-true}
+use Rattle.std.proofs.lemmas.Bool.{cond-false}
+use Rattle.std.proofs.lemmas.Bool.Decides.{nat_tests}
 use Rattle.uri_parts.specs.Components.{Components, IsSplitOf, components, recompose}
-use Rattle.uri_parts.specs.Grammar.{Kind, IsOfKind, components_meet_rules, has_colon_in_first_segment}
+use Rattle.uri_parts.specs.Grammar.{Kind, IsOfKind}
 use Rattle.uri_parts.proofs.Splitting.Recompose.{components-are-split-of-text, recompose-components}
 use Rattle.uri_parts.proofs.Splitting.Splits.{only-split-is-components}
 use Rattle.uri_parts.proofs.TextKinds.KindSets.{kind-that-needs-scheme-has-one}
 use Rattle.uri_ops.specs.ComponentSets.{HasComponentSets}
 use Rattle.uri_ops.specs.Resolving.{with_final_path}
-use Rattle.uri_ops.specs.Target.{dotless_if_absolute, is_fragment_only, is_opaque, dotted_target, resolution_of, target_of}
+use Rattle.uri_ops.specs.Target.{dotless_if_absolute, is_fragment_only, is_opaque, resolution_of, target_of}
 use Rattle.uri_ops.proofs.Meanings.AllowedParts.{set-text-from-utf8, set-text-is-valid}
 use Rattle.uri_ops.proofs.Meanings.TextParts.{components-of-utf8-are-utf8}
 use Rattle.uri_ops.proofs.Paths.PathMeanings.{path-without-dots-is-set-text, guarded-set-text-is-set-text}
@@ -53,11 +52,7 @@ resolves base r t e f = cond-false _ _ _ f ∙ ap (λ c. Ok (recompose c)) e
 -- relativized references: a target with a scheme resolves to itself, without dot segments
 itself : (base t : Components) → is_some t.scheme ≡ true
     → resolution_of (without_fragment base) t ≡ Ok (recompose (with_final_path t))
-itself base t e =
-    resolves base t (with_final_path t)
-    (let j : dotted_target base t ≡ t = cond-true _ _ _ e in ap with_final_path j)
-    (ap (λ b. is_opaque base && not (b || is_fragment_only t)) e
-    ∙ and-false (is_opaque base))
+itself base t e = grind (arith, nat_tests, resolves, and-false)
 
 -- relativized references: the text of one leads to the target that its components lead to
 reference-text-leads-to-target : (kind : Kind) (prefers : Bool) (base target reference : List ℕ)
@@ -103,12 +98,7 @@ settled-text-is-of-kind kind text sets e utf8 h =
     (dotless_if_absolute c.path)
     (path-without-dots-is-set-text kind.path sets.path sets.slash c.path
     (set-text-from-utf8 kind.path c.path (components-of-utf8-are-utf8 text utf8).path m.path)) in
-    subst (λ x. components_meet_rules kind x ≡ true)
-    (sym (settled-text-has-settled-components text some))
-    (and_from _ _ (and_from _ _ (and_from _ _ (and_from _ _
-    (and_from _ _ m.scheme m.authority) (set-text-is-valid kind.path _ path)) m.query) m.fragment)
-    (ap (λ b. b || (not kind.needs_scheme && (is_some c.authority
-    || not (has_colon_in_first_segment (settled text).path)))) some))
+    grind (arith, settled-text-has-settled-components, set-text-is-valid)
 
 -- relativized references: the text that is made is one, if it is the text of one's components
 pub reference-text-is-reference : (kind : Kind) (prefers : Bool) (base target r : Components)
@@ -156,12 +146,7 @@ pub reference-is-no-longer-than-target : (kind : Kind) (prefers : Bool) (base : 
     → IsReferenceTo kind prefers base (settled target) (components made)
     → IsNoLonger target' made'
 reference-is-no-longer-than-target kind prefers base target made target' made' e f h w =
-    subst (λ x. IsNoLonger x made') f (subst (IsNoLonger target) (sym h)
-    (record {
-      than_settled = subst (λ x. length x ≤ length (recompose (settled target)))
-          (recompose-components made) (w.short e);
-      than_given = settled-text-is-no-longer target;
-    }))
+    grind (arith, nat_tests, recompose-components, settled-text-is-no-longer)
 
 -- relativized references: the reference made is relative where the contract says so; primed texts
 -- are those of the call's clause
@@ -171,7 +156,4 @@ pub reference-is-relative : (kind : Kind) (prefers : Bool)
     → IsReferenceTo kind prefers (components base) (settled target) (components made)
     → IsRelativeTo (components base') (settled target') (components made')
 reference-is-relative kind prefers base target made base' target' made' e f h w =
-    subst (λ x. IsRelativeTo (components x) (settled target') (components made')) e
-    (subst (λ x. IsRelativeTo (components base) (settled x) (components made')) f
-    (subst (λ x. IsRelativeTo (components base) (settled target) (components x)) (sym h)
-    w.relative))
+    grind (arith, nat_tests)

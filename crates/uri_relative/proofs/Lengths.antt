@@ -1,9 +1,8 @@
 -- How long the two paths are that lead to a path.
-use Rattle.std.proofs.Common.{◌≡◌, ℕ, zero, suc, ◌+◌, ◌*◌, ◌<◌, ◌≤◌, ◌/◌, Bool, true, false, List, [], ◌∷◌, ◌++◌, length, refl, sym, ap, ◌∙◌, arith}
-use Rattle.std.specs.Prelude.{codes}
-use Rattle.std.proofs.lemmas.List.{length-append}
-use Rattle.std.proofs.lemmas.Bool.{cond-true, cond-false, false≢true, leb-false, leb-true}
+use Rattle.std.proofs.Common.{◌≡◌, ℕ, zero, suc, ◌+◌, ◌*◌, ◌<◌, ◌≤◌, ◌/◌, Bool, true, false, List, [], ◌∷◌, ◌++◌, length, refl, sym, ap, ◌∙◌, arith, codes, length-append}
+use Rattle.std.proofs.lemmas.Bool.{false≢true, leb-true}
 use Rattle.std.proofs.lemmas.Nat.{div-add-mod', mod_below}
+use Rattle.std.proofs.lemmas.Bool.Decides.{nat_tests}
 use mir.Val.{bool_byte}
 use lib.Dec.{leb}
 use Rattle.uri_ops.specs.Dots.{is_empty}
@@ -26,15 +25,13 @@ length-of-double-dots-and-rest n rest = omega
 pub length-of-path-up-to-some : (n : ℕ) (rest : List ℕ) → is_empty rest ≡ false
     → length (relative_path (suc n) rest) ≡ 3 * suc n + length rest
 length-of-path-up-to-some n rest e =
-    ap length (relative_path-of-some-climbs n rest ∙ cond-false _ _ _ e)
-    ∙ length-of-double-dots-and-rest (suc n) rest
+    grind (arith, relative_path-of-some-climbs, length-of-double-dots-and-rest)
 
 -- relativized paths: one that goes n + 1 directories up, and adds nothing, has 3 * n + 2 bytes
 pub length-of-path-up-to-nothing : (n : ℕ) (rest : List ℕ) → is_empty rest ≡ true
     → length (relative_path (suc n) rest) ≡ 3 * n + 2
 length-of-path-up-to-nothing n rest e =
-    ap length (relative_path-of-some-climbs n rest ∙ cond-true _ _ _ e)
-    ∙ length-of-double-dots-and-rest n (codes "..")
+    grind (arith, relative_path-of-some-climbs, length-of-double-dots-and-rest)
 
 -- lengths of relativized paths: an empty text has length 0
 empty-text-has-length-zero : (rest : List ℕ) → is_empty rest ≡ true → length rest ≡ 0
@@ -49,23 +46,9 @@ pub relative-path-fits-by-division : (n prefix : ℕ) (rest : List ℕ) (none : 
     → length (relative_path n rest) ≤ prefix + length rest
 relative-path-fits-by-division zero prefix rest none some e h = absurd (omega (arith, some))
 relative-path-fits-by-division (suc m) prefix rest true some e h =
-    let one : bool_byte true ≡ 1 = refl in
-    omega (
-      arith,
-      one,
-      leb-true _ _ h,
-      div-add-mod' (prefix + bool_byte true) 3,
-      length-of-path-up-to-nothing m rest (sym e),
-    )
+    grind (arith, nat_tests, leb-true, div-add-mod', length-of-path-up-to-nothing)
 relative-path-fits-by-division (suc m) prefix rest false some e h =
-    let nothing : bool_byte false ≡ 0 = refl in
-    omega (
-      arith,
-      nothing,
-      leb-true _ _ h,
-      div-add-mod' (prefix + bool_byte false) 3,
-      length-of-path-up-to-some m rest (sym e),
-    )
+    grind (arith, nat_tests, leb-true, div-add-mod', length-of-path-up-to-some)
 
 -- relativized paths: one that goes up n times is longer than a path from the root, if n exceeds a
 -- third of the shared prefix; none: whether the rest is empty
@@ -75,23 +58,13 @@ pub relative-path-is-longer-by-division : (n prefix : ℕ) (rest : List ℕ) (no
     → prefix + length rest < length (relative_path n rest)
 relative-path-is-longer-by-division zero prefix rest none some e h = absurd (omega (arith, some))
 relative-path-is-longer-by-division (suc m) prefix rest true some e h =
-    let one : bool_byte true ≡ 1 = refl in
-    omega (
+    grind (
       arith,
-      one,
-      leb-false _ _ h,
-      div-add-mod' (prefix + bool_byte true) 3,
-      mod_below (prefix + bool_byte true) 3 (omega arith),
-      length-of-path-up-to-nothing m rest (sym e),
-      empty-text-has-length-zero rest (sym e),
+      nat_tests,
+      div-add-mod',
+      mod_below,
+      length-of-path-up-to-nothing,
+      empty-text-has-length-zero,
     )
 relative-path-is-longer-by-division (suc m) prefix rest false some e h =
-    let nothing : bool_byte false ≡ 0 = refl in
-    omega (
-      arith,
-      nothing,
-      leb-false _ _ h,
-      div-add-mod' (prefix + bool_byte false) 3,
-      mod_below (prefix + bool_byte false) 3 (omega arith),
-      length-of-path-up-to-some m rest (sym e),
-    )
+    grind (arith, nat_tests, div-add-mod', mod_below, length-of-path-up-to-some)

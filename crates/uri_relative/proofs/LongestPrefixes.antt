@@ -1,11 +1,9 @@
 -- Of the prefixes that two paths share, the longest one makes the shortest relative path.
-use Rattle.std.proofs.Common.{◌≡◌, ℕ, zero, suc, ◌+◌, ◌*◌, ◌<◌, ◌≤◌, Bool, true, false, cond, eqb, List, [], ◌∷◌, ◌++◌, length, take, drop, get_or, refl, sym, ap, ◌∙◌, arith, ⊎_elim, length-append, ◌⊎◌}
-use Rattle.std.specs.Prelude.{codes}
+use Rattle.std.proofs.Common.{◌≡◌, ℕ, zero, suc, ◌+◌, ◌*◌, ◌<◌, ◌≤◌, Bool, true, false, cond, eqb, List, [], ◌∷◌, ◌++◌, length, take, drop, get_or, refl, sym, ap, ◌∙◌, arith, ⊎_elim, length-append, ◌⊎◌, codes}
 use Rattle.std.proofs.lemmas.List.Recursion.{is_count_by}
 use Rattle.std.proofs.lemmas.List.{drop-append-le, drop_more, length-take-le, take-append-drop}
-use Rattle.std.proofs.lemmas.Bool.{cases_Bool}
 use Rattle.uri_ops.specs.Dots.{is_empty}
-use Rattle.uri_relative.specs.Relative.{needs_leading_dot, relative_from, relative_path, slashes}
+use Rattle.uri_relative.specs.Relative.{relative_from, relative_path, slashes}
 use Rattle.uri_relative.proofs.Lengths.{length-of-path-up-to-some, length-of-path-up-to-nothing}
 
 -- lengths of relativized paths: one without `../` is two bytes longer than its rest at most; none,
@@ -20,13 +18,9 @@ path-without-double-dots-is-at-most-two-longer rest false false = omega arith
 length-of-relative-path-is-bounded : (n : ℕ) (rest : List ℕ)
     → length (relative_path n rest) ≤ 3 * n + length rest + 2
 length-of-relative-path-is-bounded zero rest =
-    let h : length (relative_path 0 rest) ≤ length rest + 2 =
-    path-without-double-dots-is-at-most-two-longer rest (is_empty rest) (needs_leading_dot rest) in
-    omega (arith, h)
-length-of-relative-path-is-bounded (suc n) rest = ⊎_elim
-    (λ e. omega (arith, length-of-path-up-to-nothing n rest e))
-    (λ e. omega (arith, length-of-path-up-to-some n rest e))
-    (cases_Bool (is_empty rest))
+    grind (arith, path-without-double-dots-is-at-most-two-longer)
+length-of-relative-path-is-bounded (suc n) rest =
+    grind (arith, length-of-path-up-to-nothing, length-of-path-up-to-some)
 
 -- relativized paths: how many `/` a text has, counted byte by byte
 counted : List ℕ → ℕ

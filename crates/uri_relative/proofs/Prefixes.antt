@@ -1,10 +1,10 @@
 -- The prefix that two paths share.
-use Rattle.std.proofs.Common.{◌≡◌, ℕ, zero, suc, ◌+◌, ◌<◌, ◌≤◌, List, [], ◌∷◌, ◌++◌, length, take, get_or, refl, sym, ap, ◌∙◌, arith, append_assoc, length-append, ◌-◌, ◌⊎◌, ⊎_elim, drop, false, subst}
+use Rattle.std.proofs.Common.{◌≡◌, ℕ, zero, suc, ◌+◌, ◌<◌, ◌≤◌, List, [], ◌∷◌, ◌++◌, length, take, get_or, refl, sym, ap, ◌∙◌, arith, append_assoc, length-append, ◌-◌, ◌⊎◌, ⊎_elim, drop, false, subst, codes, ◌==◌}
 use Rattle.std.proofs.lemmas.Bool.{false≢true}
 use Rattle.std.proofs.lemmas.List.{append-nil, get_or-drop, get_or-take, length-drop, length-take-le, take-take, take_more}
 use Rattle.std.proofs.lemmas.List.Folds.{list_any_at}
 use Rattle.std.proofs.Math.Seq.{get_or-append_seam}
-use Rattle.std.specs.Prelude.{codes, ◌==◌}
+use Rattle.std.proofs.lemmas.Bool.Decides.{nat_tests}
 use Rattle.uri_ops.specs.Dots.{EndsInSlash, IsAbsolute, has_slash}
 use Rattle.uri_ops.specs.Models.Places.{IsSlashOrStart}
 use Rattle.uri_ops.proofs.Paths.LastSlashes.{slash-position-is-of-slash}
@@ -46,18 +46,13 @@ shared-prefix-has-same-slash base path last n h e same = sym
 absolute-path-begins-with-slash-byte : (path : List ℕ) → IsAbsolute path → (get_or path 0 0 ≡ 47)
     × (0 < length path)
 absolute-path-begins-with-slash-byte path h =
-    let e = absolute-path-is-slash-and-rest path h in (
-      ap (λ t. get_or t 0 0) e,
-      omega (arith, ap length e),
-    )
+    grind (arith, nat_tests, absolute-path-is-slash-and-rest)
 
 -- relativized paths: two absolute paths share their first `/`; n: where they first differ
 pub absolute-paths-share-a-byte : (base path : List ℕ) (n : ℕ) → IsAbsolute base → IsAbsolute path
     → (n < length base → n < length path → get_or base n 0 ≡ get_or path n 0 → ⊥) → 0 < n
 absolute-paths-share-a-byte base path zero h k most =
-    let p = absolute-path-begins-with-slash-byte base h in
-    let q = absolute-path-begins-with-slash-byte path k in
-    absurd (most p.1 q.1 (p.0 ∙ sym q.0))
+    grind (arith, absolute-path-begins-with-slash-byte)
 absolute-paths-share-a-byte base path (suc n) h k most = omega arith
 
 -- relativized paths: the last byte of a shared prefix is `/` (47)
@@ -72,12 +67,8 @@ prefix-to-slash-has-slash-last text m h closed =
       ap length closed.1,
       length-append prefix (codes "/"),
     ) in
-    let at : m - 1 ≡ length prefix = omega (arith, n) in (
-      omega (arith, n),
-      ap (get_or text (m - 1)) refl ∙ sym (get_or-take m text (m - 1) 0 (omega (arith, n)))
-          ∙ ap (λ t. get_or t (m - 1) 0) closed.1
-          ∙ ap (λ k. get_or (prefix ++ codes "/") k 0) at ∙ get_or-append_seam prefix 47 [] 0,
-    )
+    let at : m - 1 ≡ length prefix = omega (arith, n) in
+    grind (arith, get_or-take, get_or-append_seam)
 
 -- general fact on numbers, for positions in relativized paths: one is at most another, or after it
 at-most-or-greater : (m n : ℕ) → (m ≤ n) ⊎ (n < m)
@@ -147,9 +138,7 @@ pub one-more-double-dot-is-pushed : (old before new : List ℕ) (n : ℕ) → be
     → new ≡ before ++ codes "../" → new ≡ old ++ double_dots (n + 1)
 unfolding double_dots
 one-more-double-dot-is-pushed old before new n e f =
-    f ∙ ap (λ t. t ++ codes "../") e ∙ append_assoc old (double_dots n) (codes "../")
-    ∙ ap (λ t. old ++ t) (double-dot-before-or-after-others n)
-    ∙ ap (λ m. old ++ double_dots m) (let s : suc n ≡ n + 1 = omega arith in s)
+    grind (arith, append_assoc, double-dot-before-or-after-others)
 
 -- relativized paths: at first no `../` is appended
 pub no-double-dots-are-pushed : (old : List ℕ) → old ≡ old ++ double_dots 0

@@ -1,16 +1,15 @@
 -- Each path that is joined to a base's and leads to a path: where it leads, and how short one is
 -- that leads there, where the base's path has no dot segment.
-use Rattle.std.proofs.Common.{◌≡◌, ◌⊎◌, ℕ, suc, ◌+◌, ◌*◌, ◌<◌, ◌≤◌, Bool, true, false, not, cond, eqb, List, [], ◌∷◌, ◌++◌, ◌||◌, length, take, drop, refl, sym, ap, subst, ◌∙◌, arith, append_assoc, inl, inr, ⊎_elim}
-use Rattle.std.specs.Prelude.{codes}
+use Rattle.std.proofs.Common.{◌≡◌, ◌⊎◌, ℕ, suc, ◌+◌, ◌*◌, ◌<◌, ◌≤◌, Bool, true, false, not, cond, eqb, List, [], ◌∷◌, ◌++◌, ◌||◌, length, take, drop, refl, sym, ap, subst, ◌∙◌, arith, append_assoc, inl, inr, ⊎_elim, codes}
 use Rattle.std.specs.List.{list_any, prefix_len}
-use Rattle.std.proofs.lemmas.Bool.{cases_Bool, cond-true, false≢true, not_from_false, or_parts}
+use Rattle.std.proofs.lemmas.Bool.{cond-true, false≢true, not_from_false, or_parts}
 use Rattle.uri_pct.specs.Sets.{is_one_of}
 use Rattle.uri_parts.specs.Components.{starts}
 use Rattle.uri_parts.specs.Grammar.{has_colon_in_first_segment}
 use Rattle.uri_ops.specs.Dots.{has_slash, is_empty, remove_dot_segments, segments}
 use Rattle.uri_ops.proofs.Paths.DotLaws.{path-after-slash-appends-its-segments}
 use Rattle.uri_ops.proofs.Paths.DotRuns.{not-empty-has-length}
-use Rattle.uri_ops.proofs.Paths.Segments.{AllPass, appended-segments-pass-test, dotless_of-append, closing, is_none, is_dotless, steps, steps-of-dotless-append-all}
+use Rattle.uri_ops.proofs.Paths.Segments.{AllPass, appended-segments-pass-test, dotless_of-append, is_none, is_dotless, steps-of-dotless-append-all}
 use Rattle.uri_ops.proofs.Paths.SlashedSegments.{NoSlashes, first-segment-and-rest-lack-slashes, is_one_of-slash-is-equality, lacks_slash, remove-dots-by-segments, segments-of-text-lack-slashes, segments-of-text-are-not-none, slashed, slashed-of-append, slashed-of-push, slashed-of-segments-is-text-after-slash}
 use Rattle.uri_relative.specs.Relative.{needs_leading_dot, relative_path}
 use Rattle.uri_relative.proofs.Climbs.{dir}
@@ -65,10 +64,8 @@ path-without-double-dots-is-no-longer rest x false false some h room = h refl
 path-with-double-dots-is-no-longer : (k : ℕ) (rest x : List ℕ) (spare : ℕ) → spare ≤ 1
     → (is_empty rest ≡ false → spare ≡ 0) → 3 * suc k + length rest ≤ length x + spare
     → length (relative_path (suc k) rest) ≤ length x
-path-with-double-dots-is-no-longer k rest x spare few exact h = ⊎_elim
-    (λ e. omega (arith, length-of-path-up-to-nothing k rest e, few, h))
-    (λ e. omega (arith, length-of-path-up-to-some k rest e, exact e, h))
-    (cases_Bool (is_empty rest))
+path-with-double-dots-is-no-longer k rest x spare few exact h =
+    grind (arith, length-of-path-up-to-nothing, length-of-path-up-to-some)
 
 -- relativized paths: segments, each after a `/` (47), are `/`, the first, and the others
 joined-segments-begin-with-slash : (d : List ℕ) (ds : List (List ℕ)) → slashed (d ∷ ds)
@@ -97,8 +94,7 @@ no-byte-is-spare-for-some-rest : (spare : ℕ) (d : List ℕ) (ds up : List (Lis
 unfolding slashed
 no-byte-is-spare-for-some-rest spare d ds up (inl e) some = e
 no-byte-is-spare-for-some-rest spare d ds up (inr h) some =
-    absurd (false≢true (sym some
-    ∙ ap is_empty (equal-segments-have-equal-rest (d ∷ ds) ([] ∷ []) h.0)))
+    grind (arith, equal-segments-have-equal-rest)
 
 -- lengths of relativized paths: there is room for a `./` if the rest below a directory needs one
 room-for-leading-dot-or-not-needed : (s d : List ℕ) (segs ds : List (List ℕ)) (enough : Type 0)
@@ -114,9 +110,7 @@ room-for-leading-dot-or-not-needed s d segs ds enough free some rootless colon (
     absurd (false≢true (sym e ∙ ap is_empty (equal-segments-have-equal-rest (d ∷ ds) ([] ∷ []) h)))
 room-for-leading-dot-or-not-needed s d segs ds enough free some rootless colon
     (inr (inr (inl h))) e f =
-    absurd (false≢true (sym (same-first-segment-needs-no-leading-dot s segs h.0 free some
-    rootless colon)
-    ∙ ap needs_leading_dot (sym (equal-segments-have-equal-rest (d ∷ ds) (s ∷ h.0) h.1)) ∙ f))
+    grind (arith, same-first-segment-needs-no-leading-dot, equal-segments-have-equal-rest)
 room-for-leading-dot-or-not-needed s d segs ds enough free some rootless colon
     (inr (inr (inr h))) e f = h
 
@@ -215,9 +209,7 @@ unfolding segments_left
 removal-after-directory-leaves-segments output segs s dotless lack lacks =
     remove-dots-by-segments (output ++ s ∷ segs)
     (appended-segments-pass-test lacks_slash output (s ∷ segs) lack lacks)
-    ∙ ap slashed (dotless_of-append output s segs
-    ∙ ap (λ o. steps o (s ∷ segs) ++ closing (s ∷ segs))
-    (steps-of-dotless-append-all [] output dotless))
+    ∙ ap slashed (grind (arith, dotless_of-append, steps-of-dotless-append-all))
 
 -- relativized paths: one that is no longer leads from a directory (output) to where a path x leads
 text-by-segments-is-reached-by-short-path : (output segs : List (List ℕ)) (s x : List ℕ)
@@ -230,15 +222,13 @@ text-by-segments-is-reached-by-short-path output segs s x dotless lack e some ro
     let lacks = subst NoSlashes e (segments-of-text-lack-slashes x) in
     let same : x ≡ s ++ slashed segs =
     ap (λ t. drop 1 t) (sym (slashed-of-segments-is-text-after-slash x) ∙ ap slashed e) in
-    subst (λ t. IsReachedByShortPath output x t)
-    (sym (ap remove_dot_segments (path-after-slash-appends-its-segments output x
-    ∙ ap (λ t. slashed (output ++ t)) e)
-    ∙ removal-after-directory-leaves-segments output segs s dotless lack lacks))
-    (subst (λ t. IsReachedByShortPath output t (slashed (segments_left output (s ∷ segs))))
-    (sym same)
-    (segments-are-reached-by-short-path output segs s
-    (first-segment-and-rest-lack-slashes s segs lacks).0 (sym (ap is_empty same) ∙ some)
-    (sym (ap (starts 47) same) ∙ rootless) (sym (ap has_colon_in_first_segment same) ∙ colon)))
+    grind (
+      arith,
+      path-after-slash-appends-its-segments,
+      removal-after-directory-leaves-segments,
+      segments-are-reached-by-short-path,
+      first-segment-and-rest-lack-slashes,
+    )
 
 -- general fact on lists of segments, for relativized paths: some segments have a first
 pub nonempty-segments-have-first : (segs : List (List ℕ)) → is_none segs ≡ false

@@ -1,14 +1,12 @@
 -- The forms of a reference by what it leads to: with a scheme, with an authority, or a path. RFC
 -- 3986, sections 4.2 and 5.2.2.
-use Rattle.std.proofs.Common.{◌≡◌, ℕ, ◌+◌, ◌≤◌, Bool, true, false, cond, List, [], ◌++◌, length, refl, sym, ap, ◌∙◌, arith, ⊎_elim, length-append}
-use Rattle.std.specs.Prelude.{codes, Option, is_some}
-use Rattle.std.proofs.lemmas.Bool.{cases_Bool, cond-false, cond-true}
-use Rattle.uri_pct.specs.Delimiters.{slash}
-use Rattle.uri_parts.specs.Components.{Components, marked, recompose, starts}
+use Rattle.std.proofs.Common.{◌≡◌, ℕ, ◌+◌, ◌≤◌, Bool, true, false, cond, List, [], length, refl, arith, ⊎_elim, length-append, codes, Option, is_some}
+use Rattle.std.proofs.lemmas.Bool.{cases_Bool}
+use Rattle.std.proofs.lemmas.Bool.Decides.{nat_tests}
+use Rattle.uri_parts.specs.Components.{Components, marked, recompose}
 use Rattle.uri_parts.specs.Grammar.{Kind}
 use Rattle.uri_ops.specs.Dots.{is_empty}
-use Rattle.uri_ops.specs.Resolving.{with_final_path}
-use Rattle.uri_ops.specs.Target.{dotless_if_absolute, guarded, dotted_target, merged, query_or, target_of}
+use Rattle.uri_ops.specs.Target.{dotless_if_absolute, guarded, query_or, target_of}
 use Rattle.uri_relative.specs.Forms.{after_path}
 use Rattle.uri_relative.specs.Relative.{joined_path}
 use Rattle.uri_relative.specs.Shortest.{IsReferenceFrom}
@@ -20,12 +18,7 @@ pub reference-with-scheme-is-no-shorter : (kind : Kind) (b t o : Components)
     → is_some o.scheme ≡ true
     → length (recompose t) ≤ length (recompose o)
 reference-with-scheme-is-no-shorter kind b t o l e =
-    let j : dotted_target b o ≡ o = cond-true _ _ _ e in
-    omega (
-      arith,
-      target-is-no-longer-with-final-path o l.split.no_authority,
-      ap (λ c. length (recompose c)) (sym l.leads ∙ ap with_final_path j),
-    )
+    grind (arith, nat_tests, target-is-no-longer-with-final-path)
 
 -- forms of references, for relativizing: what holds of one (o) with an authority and no scheme that
 -- leads to t
@@ -40,21 +33,7 @@ reference-with-authority-lacks-only-scheme : (kind : Kind) (b t o : Components)
     → IsReferenceFrom kind b t o
     → is_some o.scheme ≡ false → is_some o.authority ≡ true → ByAuthority b t o
 reference-with-authority-lacks-only-scheme kind b t o l none some =
-    let c : Components = record o { scheme = b.scheme } in
-    let j : dotted_target b o ≡ c = cond-false _ _ _ none ∙ cond-true _ _ _ some in
-    let same : with_final_path c ≡ t = sym (ap with_final_path j) ∙ l.leads in
-    record {
-      scheme = ap (λ (d : Components). d.scheme) same;
-      authority = ap (λ (d : Components). d.authority) same;
-      short = omega (
-        arith,
-        target-is-no-longer-with-final-path c l.split.no_authority,
-        length-of-recompose c,
-        length-of-recompose o,
-        ap (λ d. length (recompose d)) same,
-        ap (λ (d : Components). length (marked [] d.scheme (codes ":"))) same,
-      );
-    }
+    grind (arith, nat_tests, target-is-no-longer-with-final-path, length-of-recompose)
 
 -- forms of references, for relativizing: what holds of one (o) without scheme and authority that
 -- leads to t
@@ -87,24 +66,7 @@ pub reference-without-authority-is-path-form : (b t o : Components) → target_o
     → is_some o.scheme ≡ false
     → is_some o.authority ≡ false → IsPathForm b t o
 reference-without-authority-is-path-form b t o leads none none' =
-    let c : Components = record b {
-      path = joined_path b.path o.path;
-      query = cond (is_empty o.path) (query_or b.query o.query) o.query;
-      fragment = o.fragment;
-    } in
-    let j : dotted_target b o ≡ c =
-    cond-false _ _ _ none ∙ cond-false _ _ _ none'
-    ∙ components-joined-field-by-field b (is_empty o.path) (starts slash o.path) o.path
-    (merged b.path o.path)
-    (query_or b.query o.query) o.query o.fragment in
-    let same : with_final_path c ≡ t = sym (ap with_final_path j) ∙ leads in
-    record {
-      scheme = ap (λ (d : Components). d.scheme) same;
-      authority = ap (λ (d : Components). d.authority) same;
-      path = ap (λ (d : Components). d.path) same;
-      query = ap (λ (d : Components). d.query) same;
-      fragment = ap (λ (d : Components). d.fragment) same;
-    }
+    grind (arith, nat_tests, components-joined-field-by-field)
 
 -- forms of references, for relativizing: one (o) has a scheme, or an authority alone, or neither
 pub reference-is-of-one-form : (kind : Kind) (b t o : Components) (P : Type 0)
@@ -136,9 +98,7 @@ pub record HasEnd (t o : Components) : Type 0 where
 -- as long a text after the path
 pub equal-ends-have-equal-length : (t o : Components) → HasEnd t o → length (after_path t)
     ≡ length (after_path o)
-equal-ends-have-equal-length t o h =
-    ap (λ q. length (marked (codes "?") q [] ++ marked (codes "#") t.fragment [])) (sym h.query)
-    ∙ ap (λ f. length (marked (codes "?") o.query [] ++ marked (codes "#") f [])) (sym h.fragment)
+equal-ends-have-equal-length t o h = grind arith
 
 -- forms of references, for relativizing: one (o) without a scheme and an authority has the target's
 -- query and fragment, or takes the base's query
@@ -146,16 +106,4 @@ pub path-form-has-end-or-inherits-query : (b t o : Components) → IsPathForm b 
     → (is_empty o.path ≡ true → is_some o.query ≡ false → b.query ≡ t.query → P)
     → (is_empty o.path ≡ true → is_some o.query ≡ true → HasEnd t o → P)
     → (is_empty o.path ≡ false → HasEnd t o → P) → P
-path-form-has-end-or-inherits-query b t o w P alone query path = ⊎_elim
-    (λ e. ⊎_elim
-    (λ f. query e f (record {
-      query = sym (cond-true _ _ _ e ∙ cond-true _ _ _ f) ∙ w.query;
-      fragment = w.fragment;
-    }))
-    (λ f. alone e f (sym (cond-true _ _ _ e ∙ cond-false _ _ _ f) ∙ w.query))
-    (cases_Bool (is_some o.query)))
-    (λ e. path e (record {
-      query = sym (cond-false _ _ _ e) ∙ w.query;
-      fragment = w.fragment;
-    }))
-    (cases_Bool (is_empty o.path))
+path-form-has-end-or-inherits-query b t o w P alone query path = grind (arith, nat_tests)

@@ -1,7 +1,7 @@
 -- What the references of each form resolve to: RFC 3986, section 5.2.2.
-use Rattle.std.proofs.Common.{◌≡◌, ℕ, Bool, true, false, List, [], ◌&&◌, refl, sym, ap, ◌∙◌, ⊎_elim}
-use Rattle.std.specs.Prelude.{Option, None, is_some}
+use Rattle.std.proofs.Common.{◌≡◌, ℕ, Bool, true, false, List, [], ◌&&◌, refl, sym, ap, ◌∙◌, ⊎_elim, arith, Option, None, is_some}
 use Rattle.std.proofs.lemmas.Bool.{cases_Bool, cond-true, cond-false}
+use Rattle.std.proofs.lemmas.Bool.Decides.{nat_tests}
 use Rattle.uri_pct.proofs.General.{eq_true_from_IsTrue}
 use Rattle.uri_pct.specs.Delimiters.{slash}
 use Rattle.uri_parts.specs.Components.{Components, IsAbemptyPath, starts}
@@ -15,14 +15,7 @@ use Rattle.uri_relative.specs.Relative.{IsPathTo, joined_path}
 equal-parts-make-equal-components : (c d : Components) → c.scheme ≡ d.scheme → c.authority
     ≡ d.authority
     → c.path ≡ d.path → c.query ≡ d.query → c.fragment ≡ d.fragment → c ≡ d
-equal-parts-make-equal-components c d s a p q f =
-    let by_s : Option (List ℕ) → Components = λ x. record c { scheme = x } in
-    let by_a : Option (List ℕ) → Components = λ x. record c { scheme = d.scheme; authority = x } in
-    let by_p : List ℕ → Components =
-    λ x. record d { path = x; query = c.query; fragment = c.fragment } in
-    let by_q : Option (List ℕ) → Components = λ x. record d { query = x; fragment = c.fragment } in
-    let by_f : Option (List ℕ) → Components = λ x. record d { fragment = x } in
-    ap by_s s ∙ ap by_a a ∙ ap by_p p ∙ ap by_q q ∙ ap by_f f
+equal-parts-make-equal-components c d s a p q f = grind (arith, nat_tests)
 
 -- relativized references: the path of the target is that of base and reference joined, without dot
 -- segments and guarded; a: the authority
@@ -59,21 +52,14 @@ target_of-path-form b t path way s a rooted g w =
 -- relativized references: one that begins with `//` leads to a target with an authority
 pub target_of-authority-form : (b t : Components) → b.scheme ≡ t.scheme → is_some t.authority ≡ true
     → with_final_path t ≡ t → target_of b (record t { scheme = None }) ≡ t
-target_of-authority-form b t s some done =
-    let r : Components = record t { scheme = None } in
-    let c : Components = record t { scheme = b.scheme } in
-    let j : dotted_target b r ≡ c = cond-true _ _ _ some in
-    let by_s : Option (List ℕ) → Components = λ x. record t { scheme = x } in
-    ap with_final_path j ∙ ap with_final_path (ap by_s s) ∙ done
+target_of-authority-form b t s some done = grind (arith, nat_tests)
 
 -- relativized references: one of a fragment alone, or empty, leads to a target that differs from
 -- the base in the fragment only
 pub target_of-fragment-form : (b t : Components) → b.scheme ≡ t.scheme → b.authority ≡ t.authority
     → b.path ≡ t.path → b.query ≡ t.query → with_final_path t ≡ t
     → target_of b (record t { scheme = None; authority = None; path = []; query = None }) ≡ t
-target_of-fragment-form b t s a p q done =
-    let c : Components = record b { fragment = t.fragment } in
-    ap with_final_path (equal-parts-make-equal-components c t s a p q refl) ∙ done
+target_of-fragment-form b t s a p q done = grind (arith, equal-parts-make-equal-components)
 
 -- relativized references: one that begins with `?` leads to a target with a query and the base's
 -- path
@@ -81,10 +67,7 @@ pub target_of-query-form : (b t : Components) → b.scheme ≡ t.scheme → b.au
     → b.path ≡ t.path → is_some t.query ≡ true → with_final_path t ≡ t
     → target_of b (record t { scheme = None; authority = None; path = [] }) ≡ t
 target_of-query-form b t s a p some done =
-    let r : Components = record t { scheme = None; authority = None; path = [] } in
-    ap with_final_path (equal-parts-make-equal-components (dotted_target b r) t s a p
-    (cond-true _ _ _ some) refl)
-    ∙ done
+    grind (arith, nat_tests, equal-parts-make-equal-components)
 
 -- relativized references: the whole target leads to itself
 pub target_of-whole-target : (b t : Components) → is_some t.scheme ≡ true → with_final_path t ≡ t

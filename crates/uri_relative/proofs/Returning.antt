@@ -1,10 +1,9 @@
 -- A target leads back to the reference that it was resolved from, or to another that leads there.
-use Rattle.std.proofs.Common.{◌≡◌, ℕ, Bool, true, false, List, refl, sym, ap, ◌∙◌}
-use Rattle.std.specs.Prelude.{None, Ok, is_some}
+use Rattle.std.proofs.Common.{◌≡◌, ℕ, Bool, true, false, List, refl, sym, ap, ◌∙◌, arith, None, Ok, is_some}
 use Rattle.uri_pct.proofs.General.{None-from-not-is_some}
 use Rattle.uri_parts.specs.Components.{Components, components, recompose}
 use Rattle.uri_ops.specs.Resolving.{with_final_path}
-use Rattle.uri_ops.specs.Target.{is_opaque_rejection, dotted_target, resolution_of, resolution_of_texts, target_of}
+use Rattle.uri_ops.specs.Target.{is_opaque_rejection, dotted_target, resolution_of_texts, target_of}
 use Rattle.uri_ops.proofs.Targeting.RefusalOrder.{ok-result-has-no-opaque-rejection, result_or_target_error}
 use Rattle.uri_ops.proofs.Targeting.Targets.{target-text-has-target-components}
 use Rattle.uri_relative.specs.Leading.{LeadsTo, without_fragment, settled}
@@ -62,8 +61,6 @@ pub reference-leads-back-to-resolved-target : (base reference target short : Lis
 reference-leads-back-to-resolved-target base reference target short some e w =
     let none = None-from-not-is_some _
     (outcome-is-target-of-base-without-fragment base reference target e).0 in
-    sym (ap (λ c. resolution_of c (components short))
-    (components-without-fragment-stay (components base) none))
-    ∙ w.leads ∙ ap Ok (resolved-target-is-settled base reference target some e)
+    grind (arith, components-without-fragment-stay, resolved-target-is-settled)
 
 pub ruleset coming_back = (resolved-target-is-settled, reference-leads-back-to-resolved-target)

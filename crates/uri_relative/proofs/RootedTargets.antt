@@ -1,18 +1,17 @@
 -- Which targets need an authority in their reference, and which bases have a rooted path: RFC 3986,
 -- section 5.2.2.
-use Rattle.std.proofs.Common.{◌≡◌, ◌≢◌, ℕ, Bool, true, false, List, [], ◌&&◌, refl, sym, ap, ◌∙◌, inl, inr, ⊎_elim}
-use Rattle.std.specs.Prelude.{codes, Option, None, Some, IfSome, is_some, is_none}
-use Rattle.std.proofs.lemmas.Bool.{and_from, both_ways, cases_Bool, or_left, or_right, false≢true, not-false, not_from_false}
+use Rattle.std.proofs.Common.{◌≡◌, ◌≢◌, ℕ, Bool, true, false, List, [], ◌&&◌, refl, sym, ap, ◌∙◌, inl, inr, ⊎_elim, arith, codes, Option, None, Some, IfSome, is_some, is_none}
+use Rattle.std.proofs.lemmas.Bool.{both_ways, cases_Bool, false≢true, not-false}
+use Rattle.std.proofs.lemmas.Bool.Decides.{nat_tests}
 use Rattle.uri_pct.specs.Delimiters.{slash}
 use Rattle.uri_parts.specs.Components.{Components, IsAbemptyPath, Lacks, components, starts}
 use Rattle.uri_parts.specs.Grammar.{Kind}
 use Rattle.uri_pct.proofs.General.{not_some_is_none, eq_true_from_IsTrue}
 use Rattle.uri_parts.proofs.Splitting.Recompose.{components-are-split-of-text, equal-to-true-is-IsTrue}
-use Rattle.uri_ops.specs.Dots.{is_empty}
 use Rattle.uri_ops.specs.Target.{is_opaque}
 use Rattle.uri_ops.proofs.Paths.DotRuns.{empty-text-is-nil}
 use Rattle.uri_relative.specs.Forms.{IsDotlessTargetOf, NeedsPath}
-use Rattle.uri_relative.specs.Leading.{is_rootless, has_emptied_path, needs_authority}
+use Rattle.uri_relative.specs.Leading.{needs_authority}
 
 -- targets to relativize: a path after an authority that does not begin with `/` is empty
 abempty-path-without-slash-is-empty : (path : List ℕ) → IsAbemptyPath path → starts slash path
@@ -32,9 +31,7 @@ base-has-query-that-target-lacks (Some p) t e other = refl
 -- an authority
 rootless-path-without-authority-needs-one : (base t : Components) → is_some t.authority ≡ false
     → starts slash t.path ≡ false → needs_authority base t ≡ true
-rootless-path-without-authority-needs-one base t none e =
-    or_left (is_rootless t) _ (and_from _ _ (not_some_is_none t.authority none)
-    (not_from_false _ e))
+rootless-path-without-authority-needs-one base t none e = grind (arith, not_some_is_none)
 
 -- targets to relativize: one with an empty path, if the base has another, needs a reference with a
 -- scheme or an authority
@@ -43,17 +40,7 @@ empty-path-after-authority-needs-authority : (base t : Components) → NeedsPath
     → is_opaque base ≡ false → is_some t.authority ≡ true → t.path ≡ []
     → needs_authority base t ≡ true
 empty-path-after-authority-needs-authority base t n a opaque some e =
-    let none : is_empty t.path ≡ true = ap is_empty e in
-    or_right (is_rootless t) _
-    (⊎_elim
-    (λ h. let same : base.path ≡ t.path = empty-text-is-nil base.path h ∙ sym e in
-    let no = n.no_query a same opaque in
-    or_right (has_emptied_path base t) _
-    (and_from _ _ (and_from _ _ (and_from _ _ none h) no)
-    (base-has-query-that-target-lacks base.query t.query no (n.other_query a same))))
-    (λ h. or_left (has_emptied_path base t) _
-    (and_from _ _ (and_from _ _ some none) (not_from_false _ h)))
-    (cases_Bool (is_empty base.path)))
+    grind (arith, nat_tests, empty-text-is-nil, base-has-query-that-target-lacks)
 
 -- targets to relativize: the path after an authority (a) is empty or begins with `/`
 path-after-authority-is-abempty : (a : Option (List ℕ)) (path : List ℕ) → is_some a ≡ true

@@ -1,13 +1,11 @@
 -- Which reference is chosen.
-use Rattle.std.proofs.Common.{◌≡◌, ℕ, ◌<◌, ◌≤◌, Bool, true, false, not, ◌&&◌, List, [], length, ◌+◌, ◌++◌, drop, refl, sym, ap, ◌∙◌, ⊎_elim, arith}
-use Rattle.std.specs.Prelude.{Option, None, Some, bytes_eq, codes, is_none, is_some}
-use Rattle.std.specs.Bool.{Decides}
+use Rattle.std.proofs.Common.{◌≡◌, ℕ, ◌<◌, ◌≤◌, Bool, true, false, not, ◌&&◌, List, [], length, ◌+◌, drop, refl, sym, ap, ◌∙◌, arith, Option, None, Some, bytes_eq, is_none, is_some, Decides}
 use Rattle.std.specs.Option.{option_eq}
-use Rattle.std.proofs.lemmas.Bool.{and_from, and_left, and_parts, and_right, both_ways, cases_Bool, cond-false, cond-true, cond_both, false_from_ne_true, le-leb, lt-leb, not_from_false, not_from_true, or_from, or_left, or_right}
+use Rattle.std.proofs.lemmas.Bool.{and_from, and_left, and_parts, and_right, both_ways, cond-false, cond-true, false_from_ne_true, lt-leb, not_from_true, or_from}
 use Rattle.std.proofs.lemmas.Bool.Decides.{Decides-like}
 use Rattle.std.proofs.lemmas.Slice.Eq.{bytes_eq-Decides}
 use Rattle.uri_pct.specs.Delimiters.{slash}
-use Rattle.uri_parts.specs.Components.{Components, has_authority, starts}
+use Rattle.uri_parts.specs.Components.{Components, starts}
 use Rattle.uri_ops.specs.Dots.{lacks_dot_segments, or_slash, remove_dot_segments}
 use Rattle.uri_ops.specs.Target.{guarded, is_opaque}
 use Rattle.uri_ops.proofs.Paths.DotLaws.{remove-dots-of-dotless}
@@ -40,9 +38,7 @@ pub relative-path-if-no-longer : (prefers : Bool) (base path : List ℕ) → lac
     → (prefers ≡ false → length (path_from_base base path) ≤ length (guarded None path))
     → path_from_base base path ≡ shortest_or_preferred_path prefers base path
 unfolding shortest_or_preferred_path
-relative-path-if-no-longer prefers base path dotless h =
-    sym (cond-true _ _ _ (and_from _ _ dotless (⊎_elim (λ e. or_left prefers _ e)
-    (λ e. or_right prefers _ (le-leb _ _ (h e))) (cases_Bool prefers))))
+relative-path-if-no-longer prefers base path dotless h = grind arith
 
 -- relativized references: the path that is relative to the base's, by the shared prefix that the
 -- code finds
@@ -57,9 +53,7 @@ relative-path-by-longest-prefix given base path bytes others rest last double_do
     ap (λ m. relative_path m rest) g
     ∙ ap (λ t. relative_path (slashes (drop (last + 1) base)) t) k
     ∙ ap (λ n. relative_from n base path)
-    (longest-shared-prefix-has-shared_directory_len bytes others (last + 1)
-    (omega (arith, h)) shared longest
-    ∙ ap (λ t. shared_directory_len t others) e ∙ ap (shared_directory_len base) f)
+    (grind (arith, longest-shared-prefix-has-shared_directory_len))
     ∙ ap (λ b. relative_from (shared_directory_len b path) b path) root
 
 -- targets to relativize: a path without its guard is the target's path without dot segments
@@ -68,10 +62,7 @@ pub unguarded-path-is-without-dots : (t : Components) (path : List ℕ) → IsUn
 unguarded-path-is-without-dots t path u =
     let dotless = remove-dots-of-dotless path u.absolute u.dotless in
     let clean : remove_dot_segments (guarded t.authority path) ≡ path =
-    cond_both (is_none t.authority && has_authority path) (codes "/." ++ path) path
-    (λ p. remove_dot_segments p ≡ path)
-    (λ _. guard-counts-as-no-segment remove_dot_segments remove_dot_segments-follows-dots path
-    u.absolute ∙ dotless) (λ _. dotless) in
+    grind (arith, guard-counts-as-no-segment, remove_dot_segments-follows-dots) in
     sym clean ∙ ap remove_dot_segments u.guards
 
 -- relativized references: comparing two components decides whether they are equal
@@ -95,15 +86,12 @@ module _ (prefers : Bool) (base t : Components) where
   equal-authority-and-path-pass-test : base.authority ≡ t.authority → base.path ≡ t.path
       → has_same_authority_and_path base t
       ≡ true
-  equal-authority-and-path-pass-test a p = and_from _ _
-      ((option-test-decides-equality base.authority t.authority).1 a)
-      ((bytes_eq-Decides base.path t.path).1 p)
+  equal-authority-and-path-pass-test a p =
+      grind (arith, option-test-decides-equality, bytes_eq-Decides)
 
   other_query : (base.query ≡ t.query → ⊥)
       → (has_same_authority_and_path base t && has_same_query base t) ≡ false
-  other_query other = and_right (has_same_authority_and_path base t) _
-      (refuted-test-is-false _ (base.query ≡ t.query)
-      (option-test-decides-equality base.query t.query) other)
+  other_query other = grind (arith, refuted-test-is-false, option-test-decides-equality)
 
   target-that-needs-path-differs : NeedsPath base t
       → (has_same_authority_and_path base t && has_same_query base t)
@@ -132,8 +120,7 @@ module _ (prefers : Bool) (base t : Components) where
       ≡ reference_components prefers base t
   unfolding reference_components
   rule-gives-target-for-other-scheme other =
-      sym (cond-true _ _ _ (not_from_false _ (refuted-test-is-false _ (base.scheme ≡ t.scheme)
-      (option-test-decides-equality base.scheme t.scheme) other)))
+      grind (arith, refuted-test-is-false, option-test-decides-equality)
 
   pub rule-gives-fragment-for-same-query : base.scheme ≡ t.scheme → base.authority ≡ t.authority
       → base.path ≡ t.path → base.query ≡ t.query
@@ -150,9 +137,7 @@ module _ (prefers : Bool) (base t : Components) where
       → t ≡ reference_components prefers base t
   unfolding reference_components
   rule-gives-target-for-opaque-base s n opaque =
-      sym (cond-false _ _ _ (equal-schemes-pass-test s)
-      ∙ cond-false _ _ _ (target-that-needs-path-differs n)
-      ∙ cond-true _ _ _ opaque)
+      grind (arith, equal-schemes-pass-test, target-that-needs-path-differs)
 
   pub rule-gives-query-for-same-path : base.scheme ≡ t.scheme → base.authority ≡ t.authority
       → base.path ≡ t.path
@@ -161,9 +146,7 @@ module _ (prefers : Bool) (base t : Components) where
       ≡ reference_components prefers base t
   unfolding reference_components
   rule-gives-query-for-same-path s a p other opaque some =
-      sym (cond-false _ _ _ (equal-schemes-pass-test s) ∙ cond-false _ _ _ (other_query other)
-      ∙ cond-false _ _ _ opaque
-      ∙ cond-true _ _ _ (and_from _ _ (equal-authority-and-path-pass-test a p) some))
+      grind (arith, equal-schemes-pass-test, other_query, equal-authority-and-path-pass-test)
 
   pub rule-gives-authority : base.scheme ≡ t.scheme → NeedsPath base t → is_opaque base ≡ false
       → (base.authority ≡ t.authority → starts slash t.path ≡ false)

@@ -1,10 +1,8 @@
 -- Targets of which no dot segment is left to remove: RFC 3986, section 5.2.2.
-use Rattle.std.proofs.Common.{◌≡◌, ℕ, Bool, true, false, cond, List, [], ◌∷◌, ◌++◌, ◌&&◌, arith, drop, eqb, get_or, refl, sym, ap, ◌∙◌, subst, ⊎_elim}
-use Rattle.std.specs.Prelude.{codes, Option, None, Some, IfNone, is_some, is_none}
+use Rattle.std.proofs.Common.{◌≡◌, ℕ, Bool, true, false, cond, List, [], ◌∷◌, ◌++◌, ◌&&◌, arith, drop, eqb, refl, sym, ap, ◌∙◌, ⊎_elim, codes, Option, None, Some, IfNone, is_some, is_none, IsCharBoundary, IsUtf8}
 use Rattle.std.proofs.Math.Bool.{and-false}
-use Rattle.std.proofs.lemmas.Bool.{and_from, and_parts, both_ways, cases_Bool, cond-true, cond-false, eqb-true, false_from_ne_true, false≢true}
-use Rattle.std.proofs.lemmas.Str.{IsCharBoundary-after_ascii}
-use Rattle.std.specs.Str.{IsCharBoundary, IsUtf8}
+use Rattle.std.proofs.lemmas.Bool.{and_parts, both_ways, cases_Bool, cond-true, cond-false, false_from_ne_true, false≢true}
+use Rattle.std.proofs.lemmas.Bool.Decides.{nat_tests}
 use Rattle.uri_pct.proofs.General.{eq_true_from_IsTrue}
 use Rattle.uri_pct.specs.Delimiters.{slash}
 use Rattle.uri_parts.specs.Components.{Components, starts, has_authority}
@@ -28,25 +26,19 @@ finish a p = guarded a (dotless_if_absolute p)
 finish-is-idempotent : (a : Option (List ℕ)) (path : List ℕ) → finish a (finish a path)
     ≡ finish a path
 finish-is-idempotent a path =
-    ap (guarded a) (guard-is-removed-as-dot-segment a (dotless_if_absolute path)
-    ∙ dotless_if_absolute-is-idempotent path)
+    grind (arith, guard-is-removed-as-dot-segment, dotless_if_absolute-is-idempotent)
 
 -- targets to relativize: removing dot segments from a target's path, and guarding it, twice is
 -- doing so once
 pub final-path-is-idempotent : (t : Components) → with_final_path (with_final_path t)
     ≡ with_final_path t
-final-path-is-idempotent t =
-    let g : List ℕ → Components = λ p. record t { path = p } in
-    ap g (finish-is-idempotent t.authority t.path)
+final-path-is-idempotent t = grind (arith, finish-is-idempotent)
 
 -- targets to relativize: a path that doesn't begin with `/` keeps its dot segments and gets no
 -- guard; a: the authority
 pub finish-keeps-rootless-path : (a : Option (List ℕ)) (path : List ℕ) → starts slash path ≡ false
     → finish a path ≡ path
-finish-keeps-rootless-path a path e =
-    ap (guarded a) (cond-false _ _ _ e)
-    ∙ cond-false _ _ _ (ap (λ b. is_none a && b) (rootless-path-has-no-authority path e)
-    ∙ and-false (is_none a))
+finish-keeps-rootless-path a path e = grind (arith, rootless-path-has-no-authority, and-false)
 
 -- targets to relativize: nothing is left to remove of a path without dot segments that is guarded
 guarded-path-does-not-underflow : (path : List ℕ) (guard : Bool) → IsAbsolute path
@@ -80,9 +72,7 @@ finished-path-does-not-underflow a path = ⊎_elim
 -- targets to relativize: one without removable dot segments has no underflow
 pub settled-target-does-not-underflow : (t : Components) → with_final_path t ≡ t
     → underflows_if_absolute t.path ≡ false
-settled-target-does-not-underflow t done =
-    ap (λ (c : Components). underflows_if_absolute c.path) (sym done)
-    ∙ finished-path-does-not-underflow t.authority t.path
+settled-target-does-not-underflow t done = grind (arith, finished-path-does-not-underflow)
 
 -- targets to relativize: a path after an authority, or without `//` at its start, needs no guard;
 -- a: the authority
@@ -122,20 +112,14 @@ rootless-target-is-settled t e = target-with-finished-path-is-settled t
 -- targets to relativize: a path with its guard put back is the target's path
 guarded-dotless-path-is-the-path : (t : Components) → IsAbsolute t.path → with_final_path t ≡ t
     → guarded t.authority (remove_dot_segments t.path) ≡ t.path
-guarded-dotless-path-is-the-path t h done =
-    ap (guarded t.authority) (sym (cond-true _ _ _ (eq_true_from_IsTrue _ h)))
-    ∙ ap (λ (c : Components). c.path) done
+guarded-dotless-path-is-the-path t h done = grind (arith, eq_true_from_IsTrue)
 
 -- targets to relativize: a path without dot segments that needs no guard has none to leave out
 path-without-dots-is-unguarded : (t : Components) → IsAbsolute t.path → remove_dot_segments t.path
     ≡ t.path
     → guarded t.authority t.path ≡ t.path → IsUnguarded t t.path
-path-without-dots-is-unguarded t h e guards = record {
-  absolute = h;
-  dotless = subst (λ p. lacks_dot_segments p ≡ true) e
-      (removing-dots-leaves-no-dot-segment t.path h);
-  guards = guards;
-}
+path-without-dots-is-unguarded t h e guards =
+    grind (arith, nat_tests, removing-dots-leaves-no-dot-segment)
 
 -- targets to relativize: a path after an authority gets no guard `/.`; a: the authority
 path-after-authority-gets-no-guard : (a : Option (List ℕ)) (path : List ℕ) → is_some a ≡ true
@@ -183,17 +167,8 @@ path-after-guard-is-unguarded t rest none h done whole double =
     sym (guard-is-that-without-authority t.authority q none)
     ∙ guarded-dotless-path-is-the-path t h done in
     let lacks = removing-dots-leaves-no-dot-segment t.path h in
-    let same : q ≡ rest = ⊎_elim
-    (λ e. ap (drop 2) (sym (cond-true _ _ _ e) ∙ guards ∙ whole))
-    (λ e. let p : q ≡ codes "/." ++ rest = sym (cond-false _ _ _ e) ∙ guards ∙ whole in
-    absurd (both_ways _ (guarded-path-has-dot-segment rest double)
-    (ap lacks_dot_segments (sym p) ∙ lacks)))
-    (cases_Bool (has_authority q)) in
-    record {
-      absolute = subst IsAbsolute same (removing-dots-keeps-absolute t.path h);
-      dotless = subst (λ p. lacks_dot_segments p ≡ true) same lacks;
-      guards = ap (guarded t.authority) (sym same) ∙ guarded-dotless-path-is-the-path t h done;
-    }
+    let same : q ≡ rest = grind (arith, guarded-path-has-dot-segment) in
+    grind (arith, removing-dots-keeps-absolute, guarded-dotless-path-is-the-path)
 
 -- targets to relativize: without an authority, a path that does not begin with the guard `/.` has
 -- none to leave out
@@ -203,16 +178,13 @@ path-without-guard-is-itself-unguarded : (t : Components) → is_some t.authorit
     → ((rest : List ℕ) → t.path ≡ codes "/." ++ rest → has_authority rest ≡ false)
     → IsUnguarded t t.path
 path-without-guard-is-itself-unguarded t none h done other =
-    let q = remove_dot_segments t.path in
-    let guards : guarded None q ≡ t.path =
-    sym (guard-is-that-without-authority t.authority q none)
-    ∙ guarded-dotless-path-is-the-path t h done in
-    let same : q ≡ t.path = ⊎_elim
-    (λ e. absurd (both_ways _ (other q (sym guards ∙ cond-true _ _ _ e)) e))
-    (λ e. sym (cond-false _ _ _ e) ∙ guards)
-    (cases_Bool (has_authority q)) in
-    path-without-dots-is-unguarded t h same (ap (guarded t.authority) (sym same)
-    ∙ guarded-dotless-path-is-the-path t h done)
+    grind (
+      arith,
+      nat_tests,
+      guard-is-that-without-authority,
+      guarded-dotless-path-is-the-path,
+      path-without-dots-is-unguarded,
+    )
 
 -- targets to relativize: a path that begins with `/.//` is a guard and a path that begins with `//`
 guarded-path-is-guard-and-path : (path : List ℕ) → is_guarded path ≡ true
@@ -220,21 +192,12 @@ guarded-path-is-guard-and-path : (path : List ℕ) → is_guarded path ≡ true
 guarded-path-is-guard-and-path [] e = absurd (false≢true e)
 guarded-path-is-guard-and-path (a ∷ []) e =
     absurd (false≢true (and_parts (eqb a 47 && false) false (and_parts _ false e).0).1)
-guarded-path-is-guard-and-path (a ∷ b ∷ rest) e =
-    let p = and_parts ((eqb a 47 && eqb b 46) && eqb (get_or rest 0 0) 47)
-    (eqb (get_or rest 1 0) 47) e in
-    let q = and_parts (eqb a 47 && eqb b 46) (eqb (get_or rest 0 0) 47) p.0 in
-    let r = and_parts (eqb a 47) (eqb b 46) q.0 in (
-      ap (λ x. x ∷ b ∷ rest) (eqb-true a 47 r.0) ∙ ap (λ x. 47 ∷ x ∷ rest) (eqb-true b 46 r.1),
-      and_from _ _ q.1 p.1,
-    )
+guarded-path-is-guard-and-path (a ∷ b ∷ rest) e = grind (arith, nat_tests)
 
 -- targets to relativize: `/.` before `//` is a guard
 guard-before-slashes-is-guarded : (rest : List ℕ) → has_authority rest ≡ true
     → is_guarded (codes "/." ++ rest) ≡ true
-guard-before-slashes-is-guarded rest e =
-    let p = and_parts (eqb (get_or rest 0 0) 47) (eqb (get_or rest 1 0) 47) e in
-    and_from _ _ (and_from true _ refl p.0) p.1
+guard-before-slashes-is-guarded rest e = grind arith
 
 -- targets to relativize: without an authority, a path with the guard `/.` is the rest without it
 pub path-without-guard-is-unguarded : (t : Components) → is_some t.authority ≡ false
@@ -259,6 +222,4 @@ pub guard-ends-at-character : (path : List ℕ) → IsUtf8 path → is_guarded p
     → IsCharBoundary path 2
 guard-ends-at-character path utf8 e =
     let whole = (guarded-path-is-guard-and-path path e).0 in
-    subst (λ t. IsCharBoundary t 2) (sym whole)
-    (IsCharBoundary-after_ascii (codes "/." ++ drop 2 path) 1 (subst IsUtf8 whole utf8)
-    (omega arith) (omega arith))
+    grind arith

@@ -1,8 +1,7 @@
 -- The length of the longest prefix that two paths share and that ends in `/`.
-use Rattle.std.proofs.Common.{◌≡◌, ℕ, zero, suc, ◌<◌, ◌≤◌, true, ◌&&◌, ◌||◌, eqb, List, [], ◌∷◌, ◌++◌, length, take, refl, ap, ◌∙◌, arith, ◌⊎◌, ⊎_elim, inl, inr, length-append}
-use Rattle.std.specs.Prelude.{codes, nat_lt}
-use Rattle.std.proofs.lemmas.Bool.{and_from, and_parts, cond-true, cond_both, eq-eqb, eqb-true, lt-ltb, ltb-true, or_cases, or_left, or_right}
-use Rattle.std.proofs.lemmas.List.{length-take-le}
+use Rattle.std.proofs.Common.{◌≡◌, ℕ, zero, suc, ◌<◌, ◌≤◌, true, ◌&&◌, ◌||◌, eqb, List, [], ◌∷◌, ◌++◌, length, take, refl, ap, ◌∙◌, arith, ◌⊎◌, ⊎_elim, inl, inr, length-append, codes, nat_lt, length-take-le}
+use Rattle.std.proofs.lemmas.Bool.{and_from, and_parts, cond-true, cond_both, eq-eqb, eqb-true, lt-ltb, or_left, or_right}
+use Rattle.std.proofs.lemmas.Bool.Decides.{nat_tests}
 use Rattle.uri_ops.specs.Dots.{EndsInSlash}
 use Rattle.uri_relative.specs.Relative.{IsLongestPrefix, IsSharedPrefix}
 use Rattle.uri_relative.specs.Rule.{shared_directory_len}
@@ -18,18 +17,7 @@ record IsShared (n : ℕ) (base path : List ℕ) : Type 0 where
 same-first-byte-extends-shared-prefix : (a b : ℕ) (base path : List ℕ) (n : ℕ) → a ≡ b
     → (eqb a 47 || nat_lt 0 n) ≡ true
     → (0 < n → IsShared n base path) → IsShared (suc n) (a ∷ base) (b ∷ path)
-same-first-byte-extends-shared-prefix a b base path zero e k shared = record {
-  prefix = record {
-    same = ap (λ c. c ∷ []) e;
-    closed = (
-      [],
-      ap (λ c. c ∷ []) (⊎_elim (eqb-true a 47) (λ h. absurd (omega (arith, ltb-true 0 0 h)))
-          (or_cases (eqb a 47) (nat_lt 0 0) k)),
-    );
-  };
-  in_base = omega arith;
-  in_path = omega arith;
-}
+same-first-byte-extends-shared-prefix a b base path zero e k shared = grind (arith, nat_tests)
 same-first-byte-extends-shared-prefix a b base path (suc n) e k shared =
     let s = shared (omega arith) in
     record {
@@ -60,9 +48,7 @@ shared (a ∷ base) (b ∷ path) h =
 prefix-to-slash-without-first-byte : (a : ℕ) (rest prefix : List ℕ) → a ∷ rest ≡ prefix ++ codes "/"
     → ((a ≡ 47) × (rest ≡ [])) ⊎ ((0 < length rest) × EndsInSlash rest)
 prefix-to-slash-without-first-byte a rest [] e = inl (cc, cc)
-prefix-to-slash-without-first-byte a rest (c ∷ prefix) e =
-    let same : rest ≡ prefix ++ codes "/" = cc in
-    inr (omega (arith, ap length same, length-append prefix (codes "/")), (prefix, same))
+prefix-to-slash-without-first-byte a rest (c ∷ prefix) e = grind (arith, length-append)
 
 -- relativized paths: a shared prefix that ends in `/` is no longer than `shared_directory_len`
 shared-prefix-is-within-shared_directory_len : (base path : List ℕ) (m : ℕ) → m ≤ length base

@@ -1,9 +1,9 @@
 -- What the segments of a path make of a directory, against the segments that they share: RFC 3986,
 -- section 5.2.4.
-use Rattle.std.proofs.Common.{◌≡◌, ◌⊎◌, ℕ, ◌+◌, ◌*◌, ◌<◌, ◌≤◌, Bool, true, false, List, [], ◌∷◌, ◌++◌, ◌||◌, length, refl, sym, ap, ◌∙◌, arith, append_assoc, inl, inr, length-append}
+use Rattle.std.proofs.Common.{◌≡◌, ◌⊎◌, ℕ, ◌+◌, ◌*◌, ◌<◌, ◌≤◌, Bool, true, false, List, [], ◌∷◌, ◌++◌, ◌||◌, length, refl, sym, ap, ◌∙◌, arith, append_assoc, inl, inr, length-append, append-nil}
 use Rattle.std.proofs.Math.Bool.{and-false}
-use Rattle.std.proofs.lemmas.List.{append-nil}
 use Rattle.std.proofs.lemmas.Bool.{false≢true}
+use Rattle.std.proofs.lemmas.Bool.Decides.{nat_tests}
 use Rattle.uri_ops.specs.Dots.{is_double_dot, is_single_dot}
 use Rattle.uri_ops.proofs.Paths.DotRuns.{single-dot-is-not-empty}
 use Rattle.uri_ops.proofs.Paths.Segments.{closing, end_of, pop, pop-undoes-push, step_of, steps, next_output}
@@ -202,56 +202,19 @@ next-segment-shares-directory-prefix : (single double : Bool) (s : List ℕ)
     → SharesDirectoryPrefix (next_output single double output s) left segs
     → SharesDirectoryPrefix output left (s ∷ segs)
 unfolding next_output pop
-next-segment-shares-directory-prefix true double s output left segs one two w = record {
-  prefix = w.prefix;
-  up = w.up;
-  down = w.down;
-  output_is = w.output_is;
-  left_is = w.left_is;
-  spare = w.spare;
-  few = w.few;
-  some = w.some;
-  why = w.why;
-  cost = omega (arith, one refl, w.cost, length-of-first-segment-and-rest s segs);
-  first = inr (inr (inr (omega
-      (arith, one refl, w.cost, length-of-first-segment-and-rest s segs))));
-}
-next-segment-shares-directory-prefix false true s [] left segs one two w = record {
-  prefix = w.prefix;
-  up = w.up;
-  down = w.down;
-  output_is = w.output_is;
-  left_is = w.left_is;
-  spare = w.spare;
-  few = w.few;
-  some = w.some;
-  why = w.why;
-  cost = omega (arith, two refl, w.cost, length-of-first-segment-and-rest s segs);
-  first = inr (inr (inr (omega
-      (arith, two refl, w.cost, length-of-first-segment-and-rest s segs))));
-}
+next-segment-shares-directory-prefix true double s output left segs one two w =
+    grind (arith, nat_tests, length-of-first-segment-and-rest)
+next-segment-shares-directory-prefix false true s [] left segs one two w =
+    grind (arith, nat_tests, length-of-first-segment-and-rest)
 next-segment-shares-directory-prefix false true s (o ∷ output) left segs one two w =
     let l = segments-are-all-but-last-and-last o output in
-    record {
-      prefix = w.prefix;
-      up = w.up ++ l.0 ∷ [];
-      down = w.down;
-      output_is = l.1 ∙ ap (λ t. t ++ l.0 ∷ []) w.output_is
-          ∙ append_assoc w.prefix w.up (l.0 ∷ []);
-      left_is = w.left_is;
-      spare = w.spare;
-      few = w.few;
-      some = w.some;
-      why = spare-byte-stays-with-one-more-climb w.spare w.up w.down l.0 w.why;
-      cost = omega (
-        arith,
-        two refl,
-        w.cost,
-        length-of-first-segment-and-rest s segs,
-        length-append w.up (l.0 ∷ []),
-      );
-      first = inl (omega (arith, length-append w.up (l.0 ∷ [])));
-    }
+    grind (
+      arith,
+      append_assoc,
+      spare-byte-stays-with-one-more-climb,
+      length-of-first-segment-and-rest,
+      length-append,
+    )
 next-segment-shares-directory-prefix false false s output left segs one two w =
     pushed-segment-shares-directory-prefix s output left segs w.prefix w.up w.down w.spare
     w.output_is w.left_is w.few

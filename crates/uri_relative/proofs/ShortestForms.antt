@@ -1,8 +1,8 @@
 -- No reference that leads to a target is shorter than the one that is written, where the base's
 -- path has no dot segment: RFC 3986, sections 4.2 and 5.2.2.
-use Rattle.std.proofs.Common.{◌≡◌, ℕ, ◌+◌, ◌≤◌, Bool, true, false, not, List, [], ◌++◌, ◌&&◌, ◌||◌, length, refl, sym, ap, ◌∙◌, arith, ⊎_elim, length-append}
-use Rattle.std.specs.Prelude.{codes, Option, None, Some, IfNone, is_none, is_some}
+use Rattle.std.proofs.Common.{◌≡◌, ℕ, ◌+◌, ◌≤◌, Bool, true, false, not, List, [], ◌&&◌, ◌||◌, length, refl, sym, ap, ◌∙◌, arith, ⊎_elim, length-append, codes, Option, None, Some, IfNone, is_none, is_some}
 use Rattle.std.proofs.lemmas.Bool.{and_parts, both_ways, cases_Bool, cond-false, cond-true, false≢true, not-true}
+use Rattle.std.proofs.lemmas.Bool.Decides.{nat_tests}
 use Rattle.uri_pct.proofs.General.{eq_true_from_IsTrue, none-is-not-some}
 use Rattle.uri_pct.specs.Delimiters.{slash}
 use Rattle.uri_parts.specs.Components.{Components, IsAbemptyPath, has_authority, marked, recompose, starts}
@@ -33,34 +33,21 @@ module _ (kind : Kind) (b t : Components) where
       → Shortest kind b t n
   fragment-form-is-shortest n h o l =
       reference-is-of-one-form kind b t o _ l
-      (λ e. omega (
+      (grind (
         arith,
-        h,
-        reference-with-scheme-is-no-shorter kind b t o l e,
-        length-of-recompose
-            t,
-        length-of-query-and-fragment t,
+        reference-with-scheme-is-no-shorter,
+        length-of-recompose,
+        length-of-query-and-fragment,
       ))
       (λ _ _ w. omega (arith, h, w.short, length-of-recompose t, length-of-query-and-fragment t))
-      (λ _ _ w. omega (
-        arith,
-        h,
-        length-of-recompose o,
-        length-of-query-and-fragment o,
-        ap (λ f. length (marked (codes "#") f [])) w.fragment,
-      ))
+      (grind (arith, length-of-recompose, length-of-query-and-fragment))
 
   -- `?` and on
   pub query-form-is-shortest : (n : ℕ) → n ≤ length (after_path t) → (b.query ≡ t.query → ⊥)
       → Shortest kind b t n
   query-form-is-shortest n h other o l =
       reference-is-of-one-form kind b t o _ l
-      (λ e. omega (
-        arith,
-        h,
-        reference-with-scheme-is-no-shorter kind b t o l e,
-        length-of-recompose t,
-      ))
+      (grind (arith, reference-with-scheme-is-no-shorter, length-of-recompose))
       (λ _ _ w. omega (arith, h, w.short, length-of-recompose t))
       (λ _ _ w. path-form-has-end-or-inherits-query b t o w _ (λ _ _ same. absurd (other same))
       (λ _ _ end. omega (arith, h, length-of-recompose o, equal-ends-have-equal-length t o end))
@@ -76,10 +63,7 @@ module _ (kind : Kind) (b t : Components) where
 
   fragment-only-reference-lacks-other-parts : (o : Components) → is_fragment_only o ≡ true
       → (is_none o.authority ≡ true) × (is_empty o.path ≡ true) × (is_none o.query ≡ true)
-  fragment-only-reference-lacks-other-parts o e =
-      let p = and_parts _ _ e in
-      let q = and_parts _ _ p.0 in
-      ((and_parts _ _ q.0).1, q.1, p.1)
+  fragment-only-reference-lacks-other-parts o e = grind arith
 
   part-is-not-both-present-and-absent : (a : Option (List ℕ)) → is_some a ≡ true
       → is_none a ≡ true → ⊥
@@ -94,28 +78,21 @@ module _ (kind : Kind) (b t : Components) where
       (accepted-reference-passes-second-test (is_opaque b) (is_some o.scheme) (is_fragment_only o)
       opaque e l.taken) in
       absurd (part-is-not-both-present-and-absent o.authority f p.0))
-      (λ e f w. let p = fragment-only-reference-lacks-other-parts o
-      (accepted-reference-passes-second-test (is_opaque b) (is_some o.scheme) (is_fragment_only o)
-      opaque e l.taken) in
-      let q : b.query ≡ t.query =
-      sym (cond-true _ _ _ p.1 ∙ cond-false _ _ _ (none-is-not-some o.query p.2))
-      ∙ w.query in
-      let rootless = not-true _
-      (and_parts (is_none b.authority) (not (starts slash b.path)) opaque).1 in
-      let same : b.path ≡ t.path =
-      sym (ap (λ x. guarded b.authority (dotless_if_absolute x)) (cond-true _ _ _ p.1)
-      ∙ finish-keeps-rootless-path b.authority b.path rootless) ∙ w.path in
-      absurd (n.other_query w.authority same q))
+      (grind (
+        arith,
+        fragment-only-reference-lacks-other-parts,
+        accepted-reference-passes-second-test,
+        none-is-not-some,
+        not-true,
+        finish-keeps-rootless-path,
+      ))
 
   -- no reference without a path leads to a target that needs a path, if the paths are equal
   empty-path-form-misses-target : (o : Components) → IsPathForm b t o → NeedsPath b t
       → is_opaque b ≡ false
       → is_empty o.path ≡ true → b.path ≡ t.path → ⊥
   empty-path-form-misses-target o w n opaque empty same =
-      path-form-has-end-or-inherits-query b t o w ⊥ (λ _ _ q. n.other_query w.authority same q)
-      (λ _ f end. part-is-not-both-present-and-absent t.query (sym (ap is_some end.query) ∙ f)
-      (n.no_query w.authority same opaque))
-      (λ e _. both_ways _ e empty)
+      grind (arith, path-form-has-end-or-inherits-query, part-is-not-both-present-and-absent)
 
   -- a target whose path doesn't begin with `/` takes an authority, or all
   path-form-misses-rootless-target : (o : Components) → IsPathForm b t o → IsAbemptyPath b.path
@@ -200,11 +177,7 @@ module _ (kind : Kind) (b t : Components) where
   authority-adds-two-bytes-at-least : (a : Option (List ℕ)) → is_some a ≡ true
       → 2 ≤ length (marked (codes "//") a [])
   authority-adds-two-bytes-at-least None e = absurd (false≢true e)
-  authority-adds-two-bytes-at-least (Some x) e = omega (
-    arith,
-    length-append (codes "//" ++ x) [],
-    length-append (codes "//") x,
-  )
+  authority-adds-two-bytes-at-least (Some x) e = grind (arith, nat_tests, length-append)
 
   pub path-form-is-shortest : (path : List ℕ) (n : ℕ) → IsAbemptyPath b.path → is_opaque b ≡ false
       → lacks_dot_segments b.path ≡ true → IfNone b.authority (has_authority b.path ≡ false)

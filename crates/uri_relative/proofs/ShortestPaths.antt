@@ -1,14 +1,13 @@
 -- No path that is joined to a base's and leads to a path is shorter than the relative one, where
 -- the base's path has no dot segment.
-use Rattle.std.proofs.Common.{◌≡◌, ℕ, ◌+◌, ◌<◌, ◌≤◌, true, false, List, [], ◌∷◌, ◌++◌, length, take, drop, get_or, sym, ap, subst, ◌∙◌, arith, append_assoc, ⊎_elim, length-append}
-use Rattle.std.specs.Prelude.{None}
+use Rattle.std.proofs.Common.{◌≡◌, ℕ, ◌+◌, ◌<◌, ◌≤◌, true, false, List, [], ◌∷◌, ◌++◌, length, take, drop, get_or, sym, ap, subst, ◌∙◌, arith, append_assoc, length-append, None, length-drop}
 use Rattle.std.proofs.Math.Seq.{drop-append_seam, take-append_seam}
-use Rattle.std.proofs.lemmas.List.{length-drop}
-use Rattle.std.proofs.lemmas.Bool.{cases_Bool, cond-false, cond-true}
+use Rattle.std.proofs.lemmas.Bool.{cond-false, cond-true}
+use Rattle.std.proofs.lemmas.Bool.Decides.{nat_tests}
 use Rattle.uri_pct.specs.Delimiters.{slash}
 use Rattle.uri_parts.specs.Components.{has_authority, starts}
 use Rattle.uri_parts.specs.Grammar.{has_colon_in_first_segment}
-use Rattle.uri_ops.specs.Dots.{IsAbsolute, EndsInSlash, directory, is_empty, lacks_dot_segments, remove_dot_segments, segments}
+use Rattle.uri_ops.specs.Dots.{IsAbsolute, directory, is_empty, lacks_dot_segments, remove_dot_segments, segments}
 use Rattle.uri_ops.specs.Target.{dotless_if_absolute, guarded}
 use Rattle.uri_ops.proofs.Paths.DotLaws.{property-of-absolute-path-by-segments, segments-of-dotless-path-are-dotless}
 use Rattle.uri_ops.proofs.Paths.Segments.{AllPass, is_dotless, pushed-segments-are-not-none, pop}
@@ -40,21 +39,7 @@ joined-directory-is-shared-prefix prefix base path below rest x n e f m short =
     let in_p : take (length d) path ≡ d = ap (take (length d)) f ∙ take-append_seam d rest in
     let left_b : drop (length d) base ≡ below = ap (drop (length d)) e ∙ drop-append_seam d below in
     let left_p : drop (length d) path ≡ rest = ap (drop (length d)) f ∙ drop-append_seam d rest in
-    record {
-      len = length d;
-      shared = record {
-        same = in_b ∙ sym in_p;
-        closed = subst EndsInSlash (sym in_b) (slashed prefix, slashed-of-push prefix []);
-      };
-      in_base = omega (arith, ap length e, length-append d below);
-      in_path = omega (arith, ap length f, length-append d rest);
-      short = omega (
-        arith,
-        short,
-        ap (λ k. length (relative_path k (drop (length d) path))) (ap slashes left_b ∙ m),
-        ap (λ t. length (relative_path n t)) left_p,
-      );
-    }
+    grind (arith, slashed-of-push, length-append)
 
 -- relativized paths: below a directory, a base's text has as many slashes as there are segments to
 -- go up
@@ -102,12 +87,7 @@ target-shares-prefix-with-segments s segs x lack dotless some rootless colon =
     let b = text-below-directory-counts-climbs w.prefix w.up l.0
     (subst NoSlashes w.output_is lack_xs)
     (subst (λ t. NoSlashes (t ++ l.0 ∷ [])) w.output_is lack') in
-    joined-directory-is-shared-prefix w.prefix (slashed (s ∷ segs))
-    (remove_dot_segments (directory (slashed (s ∷ segs)) ++ x)) b.0 w.rest x (length w.up)
-    (ap slashed (l.1 ∙ ap (λ t. t ++ l.0 ∷ []) w.output_is) ∙ b.1)
-    (ap (λ t. remove_dot_segments (t ++ x)) (directory-of-dotless-segments s segs lack dotless)
-    ∙ w.path_is) b.2
-    w.short
+    grind (arith, joined-directory-is-shared-prefix, directory-of-dotless-segments)
 
 -- relativized paths: a base and where x leads from it share a prefix, from which a relative path is
 -- no longer than x
@@ -180,31 +160,18 @@ pub no-longer-than-both-paths-is-shortest : (given base path way : List ℕ) (la
     → length way ≤ length (relative_from (last + 1) base path) → IsShortestPath given path way
 no-longer-than-both-paths-is-shortest given base path way last same absolute dotless w
     root relative =
-    λ _ x some none colon leads. ⊎_elim
-    (λ h. omega (
+    λ _ x some none colon leads.
+    grind (
       arith,
-      root,
-      path-from-root-is-shortest-absolute-path given path x some h
-          none leads,
-    ))
-    (λ h. omega (
-      arith,
-      relative,
-      relative-path-is-shortest-rootless-path given base path x last same absolute dotless w some h
-          colon leads,
-    ))
-    (cases_Bool (starts slash x))
+      path-from-root-is-shortest-absolute-path,
+      leads,
+      relative-path-is-shortest-rootless-path,
+    )
 
 -- lengths of paths to relativize: the one from the root is shorter than a longer relative one;
 -- guard: the length of its guard
 pub path-from-root-is-shorter : (n guard : ℕ) (path rest way : List ℕ) → rest ≡ drop n path
     → n ≤ length path → length (guarded None path) ≡ guard + length path
     → n + guard + length rest < length way → length (guarded None path) < length way
-path-from-root-is-shorter n guard path rest way e within whole h = omega (
-  arith,
-  h,
-  whole,
-  within,
-  ap length e,
-  length-drop n path,
-)
+path-from-root-is-shorter n guard path rest way e within whole h =
+    grind (arith, nat_tests, length-drop)

@@ -1,6 +1,5 @@
 -- No text of a reference that leads to a target is shorter than the one that is written.
-use Rattle.std.proofs.Common.{◌≡◌, ℕ, Bool, true, false, List, length, sym, ap, ◌∙◌, subst, arith}
-use Rattle.std.specs.Prelude.{is_some}
+use Rattle.std.proofs.Common.{◌≡◌, ℕ, Bool, true, false, List, length, sym, ap, ◌∙◌, subst, arith, is_some}
 use Rattle.uri_parts.specs.Components.{IsSplitOf, components, recompose}
 use Rattle.uri_parts.specs.Grammar.{IsOfKind, Kind}
 use Rattle.uri_parts.proofs.Splitting.Recompose.{components-are-split-of-text, recompose-components}

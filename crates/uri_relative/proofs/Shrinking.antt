@@ -1,7 +1,7 @@
 -- Removing dot segments makes room for the guard `/.` that is then put before a path.
-use Rattle.std.proofs.Common.{◌≡◌, ◌⊎◌, ℕ, ◌+◌, ◌<◌, ◌≤◌, Bool, true, false, eqb, List, [], ◌∷◌, ◌++◌, ◌&&◌, ◌||◌, length, refl, sym, ap, ◌∙◌, subst, arith, inl, inr, ⊎_elim, length-append}
-use Rattle.std.specs.Prelude.{codes, Option, None, Some, IfNone, is_none, is_some}
-use Rattle.std.proofs.lemmas.Bool.{and_parts, both_ways, cases_Bool, cond_both, cond-true, false≢true, or_parts}
+use Rattle.std.proofs.Common.{◌≡◌, ◌⊎◌, ℕ, ◌+◌, ◌<◌, ◌≤◌, Bool, true, false, eqb, List, [], ◌∷◌, ◌++◌, ◌||◌, length, refl, sym, ap, ◌∙◌, arith, inl, inr, ⊎_elim, length-append, codes, Option, None, Some, IfNone, is_some}
+use Rattle.std.proofs.lemmas.Bool.{both_ways, cases_Bool, false≢true, or_parts}
+use Rattle.std.proofs.lemmas.Bool.Decides.{nat_tests}
 use Rattle.uri_parts.specs.Components.{Components, components, has_authority, marked, recompose, starts}
 use Rattle.uri_parts.proofs.Splitting.Recompose.{components-are-split-of-text, recompose-components, equal-to-true-is-IsTrue}
 use Rattle.uri_ops.specs.Dots.{IsAbsolute, has_slash, is_double_dot, is_single_dot, remove_dot_segments}
@@ -64,14 +64,8 @@ last-segment-keeps-first-or-leaves-room : (single double : Bool) (s t : List ℕ
     ≤ length (slashed (s ∷ output)) + length (slashed (t ∷ [])))
 unfolding next_output pop
 last-segment-keeps-first-or-leaves-room true double s t output some = inl (output ++ [] ∷ [], refl)
-last-segment-keeps-first-or-leaves-room false true s t [] some = inr (omega (
-  arith,
-  some,
-  length-of-first-segment-and-rest [] [],
-  length-of-first-segment-and-rest s [],
-  length-of-first-segment-and-rest t [],
-  no-segments-have-length-zero,
-))
+last-segment-keeps-first-or-leaves-room false true s t [] some =
+    grind (arith, nat_tests, length-of-first-segment-and-rest, no-segments-have-length-zero)
 last-segment-keeps-first-or-leaves-room false true s t (u ∷ output) some = inl
     (pop (u ∷ output) ++ [] ∷ [], refl)
 last-segment-keeps-first-or-leaves-room false false s t output some = inl
@@ -101,13 +95,8 @@ unfolding next_output pop
 next-segment-keeps-first-or-leaves-room true double s t output segs some ih lack =
     kept-first-or-room-within-greater-length s (s ∷ output) segs _ (ih output)
     (omega (arith, length-of-first-segment-and-rest t segs))
-next-segment-keeps-first-or-leaves-room false true s t [] segs some ih lack = inr (omega (
-  arith,
-  some,
-  cleaned-segments-are-no-longer segs lack,
-  length-of-first-segment-and-rest s [],
-  length-of-first-segment-and-rest t segs,
-))
+next-segment-keeps-first-or-leaves-room false true s t [] segs some ih lack =
+    grind (arith, nat_tests, cleaned-segments-are-no-longer, length-of-first-segment-and-rest)
 next-segment-keeps-first-or-leaves-room false true s t (u ∷ output) segs some ih lack =
     kept-first-or-room-within-greater-length s (s ∷ pop (u ∷ output)) segs _
     (ih (pop (u ∷ output))) (omega (
@@ -165,16 +154,10 @@ double-slash-after-first-segment-leaves-room : (single double : Bool) (c : ℕ) 
     → length (slashed (segments_left (next_output single double [] (c ∷ s)) segs)) + 2
     ≤ length (slashed ((c ∷ s) ∷ segs))
 unfolding next_output pop
-double-slash-after-first-segment-leaves-room true double c s segs free lack e = omega (
-  arith,
-  cleaned-segments-are-no-longer segs lack,
-  length-of-first-segment-and-rest (c ∷ s) segs,
-)
-double-slash-after-first-segment-leaves-room false true c s segs free lack e = omega (
-  arith,
-  cleaned-segments-are-no-longer segs lack,
-  length-of-first-segment-and-rest (c ∷ s) segs,
-)
+double-slash-after-first-segment-leaves-room true double c s segs free lack e =
+    grind (arith, nat_tests, cleaned-segments-are-no-longer, length-of-first-segment-and-rest)
+double-slash-after-first-segment-leaves-room false true c s segs free lack e =
+    grind (arith, nat_tests, cleaned-segments-are-no-longer, length-of-first-segment-and-rest)
 double-slash-after-first-segment-leaves-room false false c s segs free lack e =
     kept_or (kept-first-or-room-within-greater-length (c ∷ s) ((c ∷ s) ∷ []) segs _
     (removal-keeps-first-segment-or-leaves-room segs (c ∷ s) [] (omega arith) lack)
@@ -218,9 +201,7 @@ removing-dots-of-segments-leaves-room [] [] lack single double = absurd (false�
 removing-dots-of-segments-leaves-room [] (t ∷ rest) lack single double = absurd
     (false≢true (sym single))
 removing-dots-of-segments-leaves-room (c ∷ s) [] lack single double =
-    absurd (both_ways _ (one-segment-has-no-double-slash (is_single_dot (c ∷ s))
-    (is_double_dot (c ∷ s)) c s
-    (first-segment-and-rest-lack-slashes (c ∷ s) [] lack).0) double)
+    grind (arith, one-segment-has-no-double-slash, first-segment-and-rest-lack-slashes)
 removing-dots-of-segments-leaves-room (c ∷ s) (t ∷ rest) lack single double =
     double-slash-after-first-segment-leaves-room (is_single_dot (c ∷ s)) (is_double_dot (c ∷ s)) c
     s (t ∷ rest)
@@ -232,20 +213,13 @@ removing-dots-of-segments-leaves-room (c ∷ s) (t ∷ rest) lack single double 
 removing-dots-leaves-room-for-guard : (path : List ℕ) → IsAbsolute path → LeavesRoomForGuard path
 unfolding LeavesRoomForGuard
 removing-dots-leaves-room-for-guard = property-of-absolute-path-by-segments LeavesRoomForGuard
-    (λ s rest lack single double.
-    let same = remove-dots-by-segments (s ∷ rest) lack in
-    let h = removing-dots-of-segments-leaves-room s rest lack single (ap has_authority (sym same)
-    ∙ double) in
-    omega (arith, h, ap length same))
+    (grind (arith, remove-dots-by-segments, removing-dots-of-segments-leaves-room))
 
 -- lengths of paths to relativize: a guarded path q is no longer than p, if p has two bytes more
 -- where q needs the guard
 guarded-path-is-no-longer-with-room : (a : Option (List ℕ)) (p q : List ℕ) → length q ≤ length p
     → (has_authority q ≡ true → length q + 2 ≤ length p) → length (guarded a q) ≤ length p
-guarded-path-is-no-longer-with-room a p q h room =
-    cond_both (is_none a && has_authority q) (codes "/." ++ q) q (λ t. length t ≤ length p)
-    (λ e. omega (arith, room (and_parts (is_none a) (has_authority q) e).1))
-    (λ _. h)
+guarded-path-is-no-longer-with-room a p q h room = grind arith
 
 -- lengths of paths to relativize: a path q after an authority a needs no guard, and is no longer
 path-after-authority-is-no-longer : (a : Option (List ℕ)) (p q : List ℕ) → is_some a ≡ true
@@ -268,16 +242,15 @@ pub target-path-is-no-longer : (a : Option (List ℕ)) (p : List ℕ)
     → length (guarded a (dotless_if_absolute p)) ≤ length p
 unfolding LeavesRoomForGuard
 target-path-is-no-longer a p none = ⊎_elim
-    (λ h.
-    let absolute = equal-to-true-is-IsTrue _ h in
-    let q = remove_dot_segments p in
-    let clean : dotless_if_absolute p ≡ q = cond-true _ _ _ h in
-    subst (λ t. length (guarded a t) ≤ length p) (sym clean)
-    (⊎_elim (λ e. path-after-authority-is-no-longer a p q e
-    (removing-dots-lengthens-no-path p absolute))
-    (λ e. guarded-path-is-no-longer-with-room a p q (removing-dots-lengthens-no-path p absolute)
-    (removing-dots-leaves-room-for-guard p absolute (no-slashes-without-authority a p none e)))
-    (cases_Bool (is_some a))))
+    (grind (
+      arith,
+      equal-to-true-is-IsTrue,
+      path-after-authority-is-no-longer,
+      removing-dots-lengthens-no-path,
+      guarded-path-is-no-longer-with-room,
+      removing-dots-leaves-room-for-guard,
+      no-slashes-without-authority,
+    ))
     (λ h. omega (arith, ap length (finish-keeps-rootless-path a p h)))
     (cases_Bool (starts 47 p))
 
@@ -285,14 +258,7 @@ target-path-is-no-longer a p none = ⊎_elim
 pub length-of-recompose : (c : Components) → length (recompose c)
     ≡ length (marked [] c.scheme (codes ":")) + (length (marked (codes "//") c.authority [])
     + (length c.path + length (marked (codes "?") c.query [] ++ marked (codes "#") c.fragment [])))
-length-of-recompose c = omega (
-  arith,
-  length-append (marked [] c.scheme (codes ":")) (marked (codes "//") c.authority []
-      ++ (c.path ++ (marked (codes "?") c.query [] ++ marked (codes "#") c.fragment []))),
-  length-append (marked (codes "//") c.authority [])
-      (c.path ++ (marked (codes "?") c.query [] ++ marked (codes "#") c.fragment [])),
-  length-append c.path (marked (codes "?") c.query [] ++ marked (codes "#") c.fragment []),
-)
+length-of-recompose c = grind (arith, nat_tests, length-append)
 
 -- lengths of targets to relativize: one with its dot segments removed is no longer
 pub target-is-no-longer-with-final-path : (c : Components)

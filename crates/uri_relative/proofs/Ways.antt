@@ -1,12 +1,11 @@
 -- The two paths that lead to a path.
-use Rattle.std.proofs.Common.{◌≡◌, ℕ, zero, suc, ◌+◌, ◌-◌, ◌<◌, ◌≤◌, Bool, true, false, not, cond, eqb, List, [], ◌∷◌, ◌++◌, ◌&&◌, length, take, drop, get_or, refl, sym, ap, ◌∙◌, subst, inr, arith, lit<, append_assoc}
-use Rattle.std.specs.Prelude.{codes, None, OnOk, Result, Ok, Err}
+use Rattle.std.proofs.Common.{◌≡◌, ℕ, zero, suc, ◌+◌, ◌-◌, ◌<◌, ◌≤◌, Bool, true, false, not, cond, eqb, List, [], ◌∷◌, ◌++◌, ◌&&◌, length, take, drop, get_or, refl, sym, ap, ◌∙◌, subst, inr, arith, lit<, append_assoc, codes, None, OnOk, Result, Ok, Err, length-drop, take-append-drop}
 use Rattle.std.specs.List.{list_all}
 use Rattle.std.specs.Str.{IsUtf8, IsCharBoundary, chars}
 use Rattle.std.proofs.lemmas.Str.{IsCharBoundary-after_ascii}
-use Rattle.std.proofs.lemmas.List.{length-drop, take-append-drop}
 use Rattle.std.proofs.lemmas.List.Folds.{list_all-append}
-use Rattle.std.proofs.lemmas.Bool.{and_from, and_parts, cond_both, cond-false, or_parts}
+use Rattle.std.proofs.lemmas.Bool.{and_parts, cond-false}
+use Rattle.std.proofs.lemmas.Bool.Decides.{nat_tests}
 use Rattle.uri_pct.specs.Delimiters.{slash}
 use Rattle.uri_pct.specs.Sets.{TableSet, allows, is_one_of}
 use Rattle.uri_pct.specs.Tokens.{is_valid_for, tokens_from_chars}
@@ -37,9 +36,7 @@ record IsRelative (way : List ℕ) : Type 0 where
 rest-without-leading-dot-is-relative : (rest : List ℕ) → is_empty rest ≡ false
     → needs_leading_dot rest ≡ false
     → IsRelative rest
-rest-without-leading-dot-is-relative rest some read =
-    let p = or_parts (starts slash rest) (has_colon_in_first_segment rest) read in
-    record { some = some; rootless = p.0; no_scheme = p.1 }
+rest-without-leading-dot-is-relative rest some read = grind arith
 
 -- relativized paths: one without `../` is `.`, or the rest, after `./` if it would be misread;
 -- none: whether the rest is empty
@@ -92,10 +89,7 @@ property-of-each-case-holds-of-relative-path : (P : List ℕ → Type 0) (rest :
     → (n : ℕ)
     → P (relative_path n rest)
 property-of-each-case-holds-of-relative-path P rest dot guard here up down n =
-    cond_both (eqb n 0) _ _ P
-    (λ _. cond_both (is_empty rest) _ _ P (λ _. dot)
-    (λ _. cond_both (needs_leading_dot rest) _ _ P (λ _. guard) (λ _. here)))
-    (λ _. cond_both (is_empty rest) _ _ P (λ _. up (n - 1)) (λ _. down n))
+    grind (arith, nat_tests)
 
 -- relativized paths: the text has neither `?` nor `#`
 abbrev lacking : List ℕ → Bool
@@ -121,16 +115,12 @@ rest-of-path-lacks-marks n path e =
 relative-path-lacks-marks : (n : ℕ) (rest : List ℕ) → lacking rest ≡ true
     → lacking (relative_path n rest) ≡ true
 relative-path-lacks-marks n rest e =
-    property-of-each-case-holds-of-relative-path (λ t. lacking t ≡ true) rest refl e e
-    (λ m. double-dots-lack-marks m (codes "..") refl)
-    (λ m. double-dots-lack-marks m rest e) n
+    grind (arith, property-of-each-case-holds-of-relative-path, double-dots-lack-marks)
 
 -- relativized references: the guard `/.` adds neither `?` nor `#`
 guarded-path-lacks-marks : (path : List ℕ) → lacking path ≡ true → lacking (guarded None path)
     ≡ true
-guarded-path-lacks-marks path e =
-    cond_both (has_authority path) (codes "/." ++ path) path (λ t. lacking t ≡ true)
-    (λ _. e) (λ _. e)
+guarded-path-lacks-marks path e = grind arith
 
 -- characters that a set allows
 module _ (set : TableSet) (w : IsComponentSet (codes "?#[]") set)
@@ -141,9 +131,8 @@ module _ (set : TableSet) (w : IsComponentSet (codes "?#[]") set)
 
   double-dot-is-text-of-set : is_set_text set (codes "..") ≡ true
   unfolding is_valid_for chars tokens_from_chars
-  double-dot-is-text-of-set = set-text-from-utf8 set (codes "..")
-      (ascii-bytes-are-utf8 (codes "..") refl)
-      (and_from _ _ path-set-allows-dot (and_from _ _ path-set-allows-dot refl))
+  double-dot-is-text-of-set =
+      grind (arith, set-text-from-utf8, ascii-bytes-are-utf8, path-set-allows-dot)
 
   double-dots-are-text-of-set : (n : ℕ) (rest : List ℕ) → is_set_text set rest ≡ true
       → is_set_text set (double_dots n ++ rest) ≡ true
@@ -247,13 +236,8 @@ path-from-root-is-rooted-way given rest true e dotless = record {
   no_authority = refl;
   no_scheme = refl;
 }
-path-from-root-is-rooted-way given rest false e dotless = record {
-  some = refl;
-  leads = remove-dots-of-dotless (47 ∷ rest) refl dotless;
-  below = dotless-path-does-not-underflow (47 ∷ rest) refl dotless;
-  no_authority = e;
-  no_scheme = refl;
-}
+path-from-root-is-rooted-way given rest false e dotless =
+    grind (arith, nat_tests, remove-dots-of-dotless, dotless-path-does-not-underflow)
 
 -- relativized references: the path from the root, guarded, leads from each base (given) to the path
 pub path-from-root-leads-to-path : (given path : List ℕ) → IsAbsolute path → lacks_dot_segments path
@@ -264,16 +248,13 @@ path-from-root-leads-to-path given path h dotless utf8 =
     let r = subst (λ p. lacks_dot_segments p ≡ true → IsRootedWay given p (guarded None p)) (sym e)
     (λ k. path-from-root-is-rooted-way given (drop 1 path) (has_authority (47 ∷ drop 1 path)) refl
     k) dotless in
-    record {
-      some = r.some;
-      leads = r.leads;
-      below = r.below;
-      no_authority = r.no_authority;
-      no_scheme = r.no_scheme;
-      lacks = λ l. test-of-delimiters-gives-lacks (codes "?#") (guarded None path)
-          (guarded-path-lacks-marks path (lacked-delimiters-fail-test (codes "?#") path l));
-      valid = λ set w slash e. path-from-root-is-valid-for-set set w slash path utf8 e;
-    }
+    grind (
+      arith,
+      test-of-delimiters-gives-lacks,
+      guarded-path-lacks-marks,
+      lacked-delimiters-fail-test,
+      path-from-root-is-valid-for-set,
+    )
 
 -- relativized references: the path that was appended leads to the path, is as short as short says,
 -- and the least as least says
@@ -311,11 +292,7 @@ pub pushed-relative-path-leads-to-path : {A E : Type 0} (result : Result A E)
     → OnOk result ((way : List ℕ) × pushes way × IsPathTo given path way × short way × least way)
 pushed-relative-path-leads-to-path result pushes short least n base given path double_dots rest e f
     h way s l =
-    let same : relative_path double_dots rest ≡ relative_from n base path =
-    ap (λ m. relative_path m rest) e
-    ∙ ap (λ t. relative_path (slashes (drop n base)) t) f in
-    pushed-path-leads-to-path result pushes short least (relative_from n base path) given path
-    (subst (λ t. OnOk result (pushes t)) same h) way (subst short same s) (subst least same l)
+    grind (arith, nat_tests, pushed-path-leads-to-path)
 
 -- relativized paths: one that goes up n times is no longer than the path from the root, by its
 -- length; guard: that of the guard
@@ -323,11 +300,5 @@ pub relative-path-is-no-longer-than-from-root : (n : ℕ) (path rest way : List 
     ≡ drop n path
     → n ≤ length path → length (guarded None path) ≡ guard + length path
     → length way ≤ n + guard + length rest → length way ≤ length (guarded None path)
-relative-path-is-no-longer-than-from-root n path rest way guard e within whole h = omega (
-  arith,
-  h,
-  whole,
-  within,
-  ap length e,
-  length-drop n path,
-)
+relative-path-is-no-longer-than-from-root n path rest way guard e within whole h =
+    grind (arith, nat_tests, length-drop)

@@ -1,6 +1,4 @@
-use Rattle.std.proofs.Common.{List, ℕ, sym, subst}
-use Rattle.std.specs.Prelude.{◌↔◌}
-use Rattle.std.specs.Str.{IsUtf8}
+use Rattle.std.proofs.Common.{List, ℕ, sym, subst, ◌↔◌, IsUtf8}
 use Rattle.uri_parts.specs.Grammar.{Kind, IsOfKind}
 use Rattle.uri_abnf.specs.Abnf.{IsOf}
 use Rattle.uri_abnf.specs.Derivations.{start_rule}

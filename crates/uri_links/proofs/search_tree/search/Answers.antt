@@ -1,4 +1,4 @@
-use Rattle.std.proofs.Common.{◌≡◌, ◌+◌, ◌-◌, ◌∙◌, sym, ap, arith, length, map, []}
+use Rattle.std.proofs.Common.{◌+◌, ◌-◌, ◌∙◌, sym, ap, arith, length, map, []}
 use Rattle.std.proofs.lemmas.Grind.{common_steps}
 use Rattle.fluent_uri.specs.Uris.{uri_text}
 use Rattle.uri_links.specs.SearchTrees.{hash_of, leaf, search_from}
@@ -60,8 +60,4 @@ loop-depth-preserved c =
 
 pub returns : goal.returns
 unfolding search_from
-returns c =
-    let none : 0 ≡ length c.args.nodes.now - c.loop-depth.depth = omega arith in
-    ap (λ steps. search_from steps c.args.nodes.now (map uri_text c.args.targets.now)
-    c.args.text.now c.loop-depth.id c.loop-depth.depth) none
-    ∙ c.loop-depth.invariant.goes_on
+returns c = grind arith

@@ -1,4 +1,4 @@
-use Rattle.std.proofs.Common.{◌≡◌, ◌∙◌, ◌<◌, arith, eqb, length, not, take}
+use Rattle.std.proofs.Common.{◌∙◌, ◌<◌, arith, eqb, length, not, take}
 use Rattle.uri_pct.specs.Models.ByteRuns.{IsLongestRun}
 use Rattle.uri_query.proofs.PairPlaces.{name-is-before-equals, name-ends-within, next-substring-is-first, run-passes-other-byte, value-is-that-of-pair}
 use Rattle.uri_query.proofs.places.next_pair.Goals as goal

@@ -1,6 +1,5 @@
-use Rattle.std.proofs.Common.{◌≡◌, ◌+◌, ◌<◌, ◌≤◌, false, length, drop, subst, sym, ap, ◌∙◌, arith}
-use Rattle.std.proofs.lemmas.Bool.{both_ways, not-true, not-false}
-use Rattle.std.specs.Prelude.{None, OnOk}
+use Rattle.std.proofs.Common.{◌≡◌, ◌+◌, ◌≤◌, false, length, drop, subst, sym, ap, ◌∙◌, arith, None, OnOk}
+use Rattle.std.proofs.lemmas.Bool.{not-true, not-false}
 use Rattle.uri_pct.specs.Texts.{Pushes}
 use Rattle.uri_ops.specs.Target.{guarded}
 use Rattle.uri_relative.specs.Relative.{slashes, relative_path}
@@ -20,25 +19,17 @@ returns-then-has_dot_segments-clause-way c =
     (path-from-root-leads-to-path c.args.base.now c.args.path.now c.requires.path c.requires.dotless
     c.utf8.path)
     (λ _. omega arith)
-    (λ _ dotless. absurd (both_ways _
-    (not-true _ (sym c.has_dot_segments.ensures ∙ c.if-has_dot_segments.true))
-    (c.path_or_slash-base.ensures.dotless ∙ dotless)))
+    (grind (arith, not-true))
 
 pub returns-then-has_dot_segments-clause-text : goal.returns-then-has_dot_segments-clause-text
 returns-then-has_dot_segments-clause-text c =
     subst (λ way. OnOk c.push_guarded_path.result
     (Pushes c.args.out.now c.push_guarded_path.new.out way))
-    (path-from-root-for-base-with-dots c.args.prefers_relative c.args.base.now c.args.path.now
-    (sym c.path_or_slash-base.ensures.dotless
-    ∙ not-true _ (sym c.has_dot_segments.ensures ∙ c.if-has_dot_segments.true)))
+    (grind (arith, path-from-root-for-base-with-dots, not-true))
     c.push_guarded_path.ensures
 
 pub range_from-rest-requires : goal.range_from-rest-requires
-range_from-rest-requires c = λ _.
-    boundary-after-last-slash c.args.path.now c.as_bytes-2.result.now
-    c.last_shared_slash-last.result
-    c.as_bytes-2.ensures.value c.utf8.path c.last_shared_slash-last.ensures.in_path
-    c.last_shared_slash-last.ensures.path_at
+range_from-rest-requires c = λ _. grind (arith, boundary-after-last-slash)
 
 pub returns-then-uses_relative_path-clause-way : goal.returns-then-uses_relative_path-clause-way
 returns-then-uses_relative_path-clause-way c =
@@ -55,9 +46,7 @@ returns-then-uses_relative_path-clause-way c =
     c.guard_len-guard.ensures.length
     (c.uses_relative_path.ensures.short c.if-uses_relative_path.true e) in
     let double_dots : c.count_slashes-double_dots.result ≡ slashes (drop n base) =
-    c.count_slashes-double_dots.ensures
-    ∙ ap (λ t. slashes t) (slice_from-is-drop c.as_bytes-3.result.now n)
-    ∙ ap (λ t. slashes (drop n t)) c.as_bytes-3.ensures.value in
+    grind (arith, slice_from-is-drop) in
     pushed-relative-path-leads-to-path _ _
     (λ way. c.args.prefers_relative ≡ false → length way ≤ length (guarded None path))
     (λ way. c.args.prefers_relative ≡ false → IsShortestPath c.args.base.now path way)
@@ -98,9 +87,7 @@ returns-then-uses_relative_path-clause-text c =
     let path = c.args.path.now in
     let rest = c.range_from-rest.result.now in
     let double_dots : c.count_slashes-double_dots.result ≡ slashes (drop n base) =
-    c.count_slashes-double_dots.ensures
-    ∙ ap (λ t. slashes t) (slice_from-is-drop c.as_bytes-3.result.now n)
-    ∙ ap (λ t. slashes (drop n t)) c.as_bytes-3.ensures.value in
+    grind (arith, slice_from-is-drop) in
     let found = relative-path-by-longest-prefix c.args.base.now base path c.as_bytes.result.now
     c.as_bytes-2.result.now rest c.last_shared_slash-last.result c.count_slashes-double_dots.result
     c.path_or_slash-base.ensures.root c.as_bytes.ensures.value c.as_bytes-2.ensures.value
@@ -109,17 +96,7 @@ returns-then-uses_relative_path-clause-text c =
     let within : n ≤ length path =
     subst (λ t. n ≤ length t) c.as_bytes-2.ensures.value
     (omega (arith, c.last_shared_slash-last.ensures.in_path)) in
-    subst (λ way. OnOk c.push_relative_path.result
-    (Pushes c.args.out.now c.push_relative_path.new.out way))
-    (found ∙ relative-path-if-no-longer c.args.prefers_relative c.args.base.now path
-    (sym c.path_or_slash-base.ensures.dotless
-    ∙ not-false _ (sym c.has_dot_segments.ensures ∙ c.if-has_dot_segments.false))
-    (λ e. subst (λ way. length way ≤ length (guarded None path)) found
-    (relative-path-is-no-longer-than-from-root n path rest _ c.guard_len-guard.result
-    c.range_from-rest.ensures.value within
-    c.guard_len-guard.ensures.length
-    (c.uses_relative_path.ensures.short c.if-uses_relative_path.true e))))
-    c.push_relative_path.ensures
+    grind (arith, relative-path-if-no-longer, not-false, relative-path-is-no-longer-than-from-root)
 
 pub returns-clause-way : goal.returns-clause-way
 returns-clause-way c =
@@ -128,9 +105,7 @@ returns-clause-way c =
     let path = c.args.path.now in
     let rest = c.range_from-rest.result.now in
     let double_dots : c.count_slashes-double_dots.result ≡ slashes (drop n base) =
-    c.count_slashes-double_dots.ensures
-    ∙ ap (λ t. slashes t) (slice_from-is-drop c.as_bytes-3.result.now n)
-    ∙ ap (λ t. slashes (drop n t)) c.as_bytes-3.ensures.value in
+    grind (arith, slice_from-is-drop) in
     let within : n ≤ length path =
     subst (λ t. n ≤ length t) c.as_bytes-2.ensures.value
     (omega (arith, c.last_shared_slash-last.ensures.in_path)) in
@@ -173,9 +148,7 @@ returns-clause-text c =
     let path = c.args.path.now in
     let rest = c.range_from-rest.result.now in
     let double_dots : c.count_slashes-double_dots.result ≡ slashes (drop n base) =
-    c.count_slashes-double_dots.ensures
-    ∙ ap (λ t. slashes t) (slice_from-is-drop c.as_bytes-3.result.now n)
-    ∙ ap (λ t. slashes (drop n t)) c.as_bytes-3.ensures.value in
+    grind (arith, slice_from-is-drop) in
     let found = relative-path-by-longest-prefix c.args.base.now base path c.as_bytes.result.now
     c.as_bytes-2.result.now rest c.last_shared_slash-last.result c.count_slashes-double_dots.result
     c.path_or_slash-base.ensures.root c.as_bytes.ensures.value c.as_bytes-2.ensures.value
@@ -184,13 +157,4 @@ returns-clause-text c =
     let within : n ≤ length path =
     subst (λ t. n ≤ length t) c.as_bytes-2.ensures.value
     (omega (arith, c.last_shared_slash-last.ensures.in_path)) in
-    subst (λ way. OnOk c.push_guarded_path-2.result
-    (Pushes c.args.out.now c.push_guarded_path-2.new.out way))
-    (path-from-root-if-shorter c.args.prefers_relative c.args.base.now path
-    (c.uses_relative_path.ensures.preferred c.if-uses_relative_path.false)
-    (subst (λ way. length (guarded None path) < length way) found
-    (path-from-root-is-shorter n c.guard_len-guard.result path rest _
-    c.range_from-rest.ensures.value within
-    c.guard_len-guard.ensures.length
-    (c.uses_relative_path.ensures.longer c.if-uses_relative_path.false))))
-    c.push_guarded_path-2.ensures
+    grind (arith, path-from-root-if-shorter, path-from-root-is-shorter)

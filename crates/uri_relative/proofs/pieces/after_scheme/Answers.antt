@@ -1,6 +1,4 @@
-use Rattle.std.proofs.Common.{◌≡◌, ℕ, List, ◌++◌, ap, arith, drop, length, length-append, refl, subst, sym, take, ◌∙◌}
-use Rattle.std.specs.Str.{IsCharBoundary, IsUtf8}
-use Rattle.std.proofs.lemmas.List.{drop_at, take_at}
+use Rattle.std.proofs.Common.{◌≡◌, ℕ, List, ◌++◌, ap, arith, drop, length, length-append, refl, subst, sym, take, ◌∙◌, IsCharBoundary, IsUtf8, drop_at, take_at}
 use Rattle.std.proofs.lemmas.Str.{IsCharBoundary-from_take}
 use Rattle.uri_parts.proofs.Splitting.Recompose.{recompose-components}
 use Rattle.uri_ops.specs.Resolving.{components_of}

@@ -1,4 +1,4 @@
-use Rattle.std.proofs.Common.{sym, ◌∙◌}
+use Rattle.std.proofs.Common.{sym, ◌∙◌, arith}
 use Rattle.uri_ops.specs.Resolving.{components_of}
 use Rattle.uri_relative.proofs.EndPlaces.{authority-positions-of-components, authority-begins-after-scheme, authority-positions-without-scheme, no-authority-positions-no-authority}
 use Rattle.uri_relative.proofs.places.authority_after_scheme.Goals as goal
@@ -22,6 +22,4 @@ returns-in-Some c =
     c.shift_authority_back.ensures.host_end c.shift_authority_back.ensures.end
 
 pub returns-in-None : goal.returns-in-None
-returns-in-None c =
-    no-authority-positions-no-authority (components_of c.args.target.now)
-    (sym c.authority.ensures ∙ c.in-None.is)
+returns-in-None c = grind (arith, no-authority-positions-no-authority)

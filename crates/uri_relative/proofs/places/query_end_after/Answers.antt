@@ -1,5 +1,4 @@
-use Rattle.std.proofs.Common.{◌+◌, ap, length, sym, ◌∙◌}
-use Rattle.std.specs.Prelude.{Some}
+use Rattle.std.proofs.Common.{◌+◌, ap, length, sym, ◌∙◌, Some}
 use Rattle.uri_ops.specs.Resolving.{components_of}
 use Rattle.uri_relative.proofs.EndPlaces.{no-query-no-query-end, query-end-by-length}
 use Rattle.uri_relative.proofs.places.query_end_after.Goals as goal

@@ -1,4 +1,4 @@
-use Rattle.std.proofs.Common.{◌++◌, ap, string_bytes, ◌∙◌}
+use Rattle.std.proofs.Common.{◌++◌, ap, string_bytes, ◌∙◌, arith}
 use Rattle.uri_relative.proofs.reference.push_reference.Goals as goal
 
 pub returns-in_ok-push_str-in-Some-clause-leads : goal.returns-in_ok-push_str-in-Some-clause-leads
@@ -11,6 +11,4 @@ returns-in_ok-push_str-in-Some-clause-leads c =
     )
 
 pub returns-in_ok-push_str-in-Some-clause-text : goal.returns-in_ok-push_str-in-Some-clause-text
-returns-in_ok-push_str-in-Some-clause-text c =
-    c.in_ok-push_str-in-Some.ensures.bytes
-    ∙ ap (λ t. string_bytes c.args.out.now ++ t) (c.in-Some.ensures.text c.args.prefers_relative)
+returns-in_ok-push_str-in-Some-clause-text c = grind arith

@@ -1,5 +1,4 @@
-use Rattle.std.proofs.Common.{◌≡◌, ap, arith, length, length-append, rules, string_bytes, subst, ◌++◌, ◌∙◌, sym}
-use Rattle.std.specs.Prelude.{None, false}
+use Rattle.std.proofs.Common.{◌≡◌, ap, arith, length, length-append, rules, string_bytes, subst, ◌++◌, ◌∙◌, sym, None, false}
 use Rattle.uri_parts.specs.Components.{IsAbemptyPath, recompose}
 use Rattle.uri_ops.specs.Resolving.{components_of}
 use Rattle.uri_relative.proofs.Forms.{path-form-is-reference}

@@ -1,4 +1,4 @@
-use Rattle.std.proofs.Common.{sym, ap, ◌∙◌}
+use Rattle.std.proofs.Common.{sym, ap, ◌∙◌, arith}
 use Rattle.std.proofs.lemmas.Bool.{both_ways}
 use Rattle.uri_pct.specs.Delimiters.{slash}
 use Rattle.uri_parts.specs.Components.{recompose, starts}
@@ -45,15 +45,7 @@ returns-then-not-have_same_authority-clause-some c =
     )
 
 pub returns-then-begins_with_slash-clause-none : goal.returns-then-begins_with_slash-clause-none
-returns-then-begins_with_slash-clause-none c = λ _. record {
-  scheme = c.requires.scheme;
-  authority = c.have_same_authority.ensures.0 c.if-not-have_same_authority.false;
-  opaque = sym c.is_opaque.ensures ∙ c.if-is_opaque.false;
-  absolute = sym (c.begins_with_slash.ensures
-      ∙ ap (starts slash) (c.as_bytes.ensures.value ∙ c.path.ensures))
-      ∙ c.if-begins_with_slash.true;
-  needs = c.requires.path;
-}
+returns-then-begins_with_slash-clause-none c = λ _. grind arith
 
 pub returns-clause-some : goal.returns-clause-some
 returns-clause-some c =
@@ -96,11 +88,4 @@ returns-then-not-have_same_authority-clause-text c = λ prefers.
     (c.have_same_authority.ensures.1 a))))
 
 pub returns-clause-text : goal.returns-clause-text
-returns-clause-text c = λ prefers.
-    c.from_authority-2.ensures.text
-    ∙ ap recompose (rule-gives-authority prefers (components_of c.args.base.now)
-    (components_of c.args.target.now) c.requires.scheme c.requires.path
-    (sym c.is_opaque.ensures ∙ c.if-is_opaque.false)
-    (λ _. sym (c.begins_with_slash.ensures
-    ∙ ap (starts slash) (c.as_bytes.ensures.value ∙ c.path.ensures))
-    ∙ c.if-begins_with_slash.false))
+returns-clause-text c = λ prefers. grind (arith, rule-gives-authority)

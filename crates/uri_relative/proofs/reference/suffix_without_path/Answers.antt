@@ -1,5 +1,4 @@
-use Rattle.std.proofs.Common.{sym, ap, ◌∙◌, []}
-use Rattle.std.specs.Prelude.{None}
+use Rattle.std.proofs.Common.{sym, ap, ◌∙◌, [], arith, None}
 use Rattle.std.proofs.lemmas.Bool.{both_ways}
 use Rattle.uri_pct.proofs.General.{not_some_is_none}
 use Rattle.uri_parts.specs.Components.{recompose}
@@ -31,17 +30,10 @@ returns-then-have_same_query-clause-some c =
     )
 
 pub returns-then-not-has_query-clause-none : goal.returns-then-not-has_query-clause-none
-returns-then-not-has_query-clause-none c = λ _. record {
-  other_query = λ a p e. both_ways _ c.if-have_same_query.false (c.have_same_query.ensures.1 e);
-  no_query = λ a p _. not_some_is_none _ (sym c.has_query.ensures ∙ c.if-not-has_query.true);
-}
+returns-then-not-has_query-clause-none c = grind (arith, not_some_is_none)
 
 pub returns-then-is_opaque-clause-none : goal.returns-then-is_opaque-clause-none
-returns-then-is_opaque-clause-none c = λ _. record {
-  other_query = λ a p e. both_ways _ c.if-have_same_query.false (c.have_same_query.ensures.1 e);
-  no_query = λ a p opaque. absurd
-      (both_ways _ opaque (sym c.is_opaque.ensures ∙ c.if-is_opaque.true));
-}
+returns-then-is_opaque-clause-none c = λ _. grind arith
 
 pub returns-clause-some : goal.returns-clause-some
 returns-clause-some c =
@@ -60,12 +52,7 @@ returns-clause-some c =
 
 pub returns-then-have_same_query-clause-text : goal.returns-then-have_same_query-clause-text
 returns-then-have_same_query-clause-text c = λ prefers.
-    let same = c.have_same_authority_and_path.ensures.same
-    c.if-not-have_same_authority_and_path.false in
-    c.from_fragment.ensures.text
-    ∙ ap recompose (rule-gives-fragment-for-same-query prefers (components_of c.args.base.now)
-    (components_of c.args.target.now) c.requires.scheme same.0 same.1
-    (c.have_same_query.ensures.0 c.if-have_same_query.true))
+    grind (arith, rule-gives-fragment-for-same-query)
 
 pub returns-clause-text : goal.returns-clause-text
 returns-clause-text c = λ prefers.

@@ -1,4 +1,4 @@
-use Rattle.std.proofs.Common.{sym, ap, drop, subst, ◌∙◌}
+use Rattle.std.proofs.Common.{sym, ap, drop, subst, ◌∙◌, arith}
 use Rattle.uri_ops.specs.Resolving.{components_of}
 use Rattle.uri_parts.proofs.Splitting.Recompose.{equal-to-true-is-IsTrue}
 use Rattle.uri_relative.specs.Forms.{IsUnguarded, is_guarded}
@@ -13,9 +13,7 @@ returns-then-has_authority c =
     (equal-to-true-is-IsTrue _ c.requires.absolute) c.requires.settled)
 
 pub range_from-requires : goal.range_from-requires
-range_from-requires c = λ _.
-    guard-ends-at-character c.path-path.result.now c.path-path.utf8
-    (sym (c.is_guarded.ensures ∙ ap is_guarded c.as_bytes.ensures.value) ∙ c.if-is_guarded.true)
+range_from-requires c = grind (arith, guard-ends-at-character)
 
 pub returns-then-is_guarded : goal.returns-then-is_guarded
 returns-then-is_guarded c =

@@ -1,4 +1,4 @@
-use Rattle.std.proofs.Common.{sym, ap, ◌∙◌}
+use Rattle.std.proofs.Common.{sym, ap, ◌∙◌, arith}
 use Rattle.std.proofs.lemmas.Bool.{not-false, not-true}
 use Rattle.uri_pct.specs.Delimiters.{slash}
 use Rattle.uri_parts.specs.Components.{starts}
@@ -17,10 +17,7 @@ returns-then-not-begins_with_slash-clause-settled c = λ _.
     ∙ c.if-not-begins_with_slash.true)
 
 pub has_dot_segments-requires : goal.has_dot_segments-requires
-has_dot_segments-requires c =
-    equal-to-true-is-IsTrue _ (sym (c.begins_with_slash.ensures
-    ∙ ap (starts slash) c.as_bytes.ensures.value)
-    ∙ c.if-not-begins_with_slash.false)
+has_dot_segments-requires c = grind (arith, equal-to-true-is-IsTrue)
 
 pub returns-clause-settled : goal.returns-clause-settled
 returns-clause-settled c = λ e.
@@ -33,7 +30,4 @@ returns-clause-settled c = λ e.
     ∙ not-false _ (sym c.has_dot_segments.ensures ∙ not-true _ e))
 
 pub returns-clause-absolute : goal.returns-clause-absolute
-returns-clause-absolute c = λ _.
-    equal-to-true-is-IsTrue _ (sym (c.begins_with_slash.ensures
-    ∙ ap (starts slash) (c.as_bytes.ensures.value ∙ c.path-path.ensures))
-    ∙ c.if-not-begins_with_slash.false)
+returns-clause-absolute c = grind (arith, equal-to-true-is-IsTrue)

@@ -1,9 +1,8 @@
-use Rattle.std.proofs.Common.{◌++◌, ap, refl, string_bytes, sym, ◌∙◌}
+use Rattle.std.proofs.Common.{◌++◌, ap, refl, string_bytes, sym, ◌∙◌, arith}
 use Rattle.uri_parts.specs.Components.{components, recompose}
 use Rattle.uri_parts.specs.Positions.{positions_of}
 use Rattle.uri_ops.specs.Resolving.{components_of}
 use Rattle.uri_relative.proofs.Leading.{reference-text-is-reference, components-of-reference-text}
-use Rattle.uri_relative.specs.Rule.{reference_components}
 use Rattle.uri_relative.proofs.relative.reference.Goals as goal
 
 pub returns-clause-leads : goal.returns-clause-leads
@@ -24,7 +23,4 @@ returns-clause-at c = λ kind w.
     (components_of c.args.target.now) found.0 (found.3 kind w)))
 
 pub returns-clause-text : goal.returns-clause-text
-returns-clause-text c =
-    c.in_ok-positions.ensures.text
-    ∙ ap (λ t. t ++ recompose (reference_components c.args.prefers_relative
-    (components_of c.args.base.now) (components_of c.args.target.now))) c.in_ok-text.ensures.bytes
+returns-clause-text c = grind arith

@@ -1,5 +1,4 @@
-use Rattle.std.proofs.Common.{◌≡◌, ap, string_bytes, subst, sym, ◌∙◌}
-use Rattle.std.specs.Prelude.{IfOk}
+use Rattle.std.proofs.Common.{◌≡◌, ap, string_bytes, subst, sym, ◌∙◌, IfOk}
 use Rattle.uri_parts.specs.Components.{components, recompose}
 use Rattle.uri_parts.specs.CoreTexts.{core_text}
 use Rattle.uri_ops.specs.Resolving.{components_of, with_final_path}

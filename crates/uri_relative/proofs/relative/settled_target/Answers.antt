@@ -1,5 +1,4 @@
-use Rattle.std.proofs.Common.{◌≡◌, ap, subst, sym, true, ◌∙◌}
-use Rattle.std.specs.Prelude.{is_some}
+use Rattle.std.proofs.Common.{◌≡◌, ap, subst, sym, true, ◌∙◌, is_some}
 use Rattle.uri_parts.specs.Components.{Components, recompose}
 use Rattle.uri_parts.specs.CoreTexts.{core_text}
 use Rattle.uri_parts.specs.Grammar.{IsOfKind}

@@ -1,5 +1,5 @@
 use Rattle.uri_links.proofs.links.Register.add.Goals as goal
-use Rattle.std.proofs.Common.{◌∙◌, ap, map, [], ◌∷◌}
+use Rattle.std.proofs.Common.{◌∙◌, ap, map, [], ◌∷◌, arith}
 use Rattle.std.proofs.lemmas.List.{map-append}
 use Rattle.fluent_uri.specs.Uris.{uri_text}
 use Rattle.uri_links.proofs.FoundTexts.{search-tree-after-adding, missing-parent-in-range}
@@ -11,22 +11,13 @@ add_node-requires g c =
     c.args.self.now.tree (uri_text c.args.target) c.args.parent c.args.right c.requires.missing
 
 pub invariant_of-self-in-Ok-clause-uris : goal.invariant_of-self-in-Ok-clause-uris
-invariant_of-self-in-Ok-clause-uris g c =
-    let e = ap (map uri_text) c.in_ok-push.ensures.items
-    ∙ map-append uri_text c.args.self.now.targets.items (c.args.target ∷ []) in
-    uris-after-adding _ _ _ e c.args.self.now.uris c.requires.uri
+invariant_of-self-in-Ok-clause-uris g c = grind (arith, map-append, uris-after-adding)
 
 pub invariant_of-self-in-Ok-clause-normal : goal.invariant_of-self-in-Ok-clause-normal
-invariant_of-self-in-Ok-clause-normal g c =
-    let e = ap (map uri_text) c.in_ok-push.ensures.items
-    ∙ map-append uri_text c.args.self.now.targets.items (c.args.target ∷ []) in
-    normal-after-adding _ _ _ _ e c.args.self.now.normal c.requires.normal
+invariant_of-self-in-Ok-clause-normal g c = grind (arith, map-append, normal-after-adding)
 
 pub invariant_of-self-in-Ok-clause-distinct : goal.invariant_of-self-in-Ok-clause-distinct
-invariant_of-self-in-Ok-clause-distinct g c =
-    let e = ap (map uri_text) c.in_ok-push.ensures.items
-    ∙ map-append uri_text c.args.self.now.targets.items (c.args.target ∷ []) in
-    distinct-after-adding _ _ _ e c.args.self.now.distinct c.requires.new
+invariant_of-self-in-Ok-clause-distinct g c = grind (arith, map-append, distinct-after-adding)
 
 pub invariant_of-self-in-Ok-clause-tree : goal.invariant_of-self-in-Ok-clause-tree
 invariant_of-self-in-Ok-clause-tree g c =

@@ -1,4 +1,4 @@
-use Rattle.std.proofs.Common.{◌∙◌, ap, sym}
+use Rattle.std.proofs.Common.{arith}
 use Rattle.std.proofs.lemmas.Result.{IfOk-weaker}
 use Rattle.fluent_uri.specs.Grammar.{uri}
 use Rattle.fluent_uri.specs.Uris.{uri_ref_text, uri_text}
@@ -24,14 +24,7 @@ returns-in-Ok-clause-noted g c =
     c.note_target.ensures.noted
 
 pub returns-in-Err-clause-noted : goal.returns-in-Err-clause-noted
-returns-in-Err-clause-noted g c =
-    IfOk-weaker c.refused.result _ _
-    (λ outcome h. outcome_of-without-target (target_rules c.args.self.now)
-    (uri_text c.args.base.now)
-    (uri_ref_text c.args.reference.now) (texts_of c.args.self.now) c.in-Err.error
-    c.in-Err.ensures.refusal h.1
-    ∙ ap (λ o. (o, texts_of c.args.self.now)) (sym h.0))
-    c.refused.ensures.outcome
+returns-in-Err-clause-noted g c = grind (arith, outcome_of-without-target)
 
 pub returns-in-Ok-clause-meant : goal.returns-in-Ok-clause-meant
 returns-in-Ok-clause-meant g c =
@@ -43,10 +36,4 @@ returns-in-Ok-clause-meant g c =
     (returns-in-Ok-clause-noted g c)
 
 pub returns-in-Err-clause-meant : goal.returns-in-Err-clause-meant
-returns-in-Err-clause-meant g c =
-    IfOk-weaker c.refused.result _ _
-    (λ outcome. outcome_of-is-outcome c.meanings_are_equal_if_their_parts_are.ensures
-    (target_rules c.args.self.now) (uri_text c.args.base.now)
-    (texts_of c.args.self.now) (uri_ref_text c.args.reference.now) outcome
-    (texts_of c.args.self.now))
-    (returns-in-Err-clause-noted g c)
+returns-in-Err-clause-meant g c = grind (arith, outcome_of-is-outcome, returns-in-Err-clause-noted)

@@ -1,7 +1,6 @@
-use Rattle.std.proofs.Common.{sym, ap, ◌∙◌}
-use Rattle.std.specs.Prelude.{None, is_some}
-use Rattle.std.proofs.lemmas.Bool.{cond-false, cond-true}
-use Rattle.uri_parts.specs.Components.{Components, recompose}
+use Rattle.std.proofs.Common.{sym, ap, ◌∙◌, arith, None, is_some}
+use Rattle.std.proofs.lemmas.Bool.{cond-true}
+use Rattle.uri_parts.specs.Components.{Components}
 use Rattle.uri_parts.specs.Positions.{positions_of}
 use Rattle.uri_ops.specs.Resolving.{components_of}
 use Rattle.uri_relative.proofs.ends.TargetSuffix.from_authority.Goals as goal
@@ -18,14 +17,10 @@ pub returns-clause-text : goal.returns-clause-text
 returns-clause-text c =
     let t = components_of c.args.target.now in
     let other : Components = record t { scheme = None } in
-    c.whole.ensures.text
-    ∙ ap recompose (sym (cond-false (is_some t.authority) other t
-    (sym c.has_authority.ensures ∙ c.if-has_authority.false)))
+    grind arith
 
 pub returns-clause-at : goal.returns-clause-at
 returns-clause-at c =
     let t = components_of c.args.target.now in
     let other : Components = record t { scheme = None } in
-    c.whole.ensures.at
-    ∙ ap positions_of (sym (cond-false (is_some t.authority) other t
-    (sym c.has_authority.ensures ∙ c.if-has_authority.false)))
+    grind arith
