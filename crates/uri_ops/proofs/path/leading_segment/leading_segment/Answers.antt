@@ -2,7 +2,7 @@ use Rattle.std.proofs.Common.{◌≡◌, ◌+◌, ◌<◌, drop, false, ap, ◌�
 use Rattle.uri_ops.specs.Models.LeadingSegments.{dot_len, ends_segment}
 use Rattle.uri_ops.proofs.Paths.DotLengths.{dot_len-of-slice-is-of-drop, two-dot-lengths-are-double-dot, ends_segment-of-slice-is-of-drop, path-that-ends-segment-is-abempty, no-dot-lengths-no-dot-segment, one-dot-length-is-single-dot}
 use Rattle.uri_ops.proofs.path.leading_segment.leading_segment.Goals as goal
-use Rattle.uri_ops.proofs.path.leading_segment.leading_segment.Goals.{then-end-eq0-via-then-end-eq0, , then-end-eq0-via-else-end-eq0+then-not-ends_segment}
+use Rattle.uri_ops.proofs.path.leading_segment.leading_segment.Goals.{then-end-eq0-via-then-end-eq0, then-end-eq0-via-else-end-eq0+then-not-ends_segment}
 
 pub returns-then-end-eq0-clause-leading : goal.returns-then-end-eq0-clause-leading
 returns-then-end-eq0-clause-leading c =
