@@ -18,7 +18,7 @@ def write_crate(crate):
     """Writes the crate as its package has it."""
     shutil.copytree(HERE / "facade", crate, ignore=shutil.ignore_patterns("target", "Cargo.lock"))
     shutil.copy(REPOSITORY / "LICENSE", crate / "LICENSE")
-    shutil.copy(REPOSITORY / "docs" / "RUST.md", crate / "README.md")
+    shutil.copy(REPOSITORY / "rust" / "README.md", crate / "README.md")
     erase(REPOSITORY, crate / "src" / "proved")
 
 
