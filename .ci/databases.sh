@@ -37,7 +37,8 @@ export LIBRARY
         "$root/postgres/tests/fuzz_rows.c" "$LIBRARY" -o "$work/fuzz_rows"
     "$work/fuzz_rows" 100000 1 | cut -f 4,6 > "$work/forms"
     grep '^    ("' "$root/crates/uri_parts/src/default_ports.rt" >> "$work/forms"
-    rules=$(grep 'is_one_of(scheme' "$root/crates/uri_rules/src/scheme_rules.rt" | sha256sum)
+    rules=$(sed -n '/^rooted_schemes =/,/^$/p; /^local_schemes =/,/^$/p' \
+        "$root/crates/uri_rules/specs/Standard.antt" | sha256sum)
     version=$(sed -n 's/^#define FLUENT_URI_NORMAL_VERSION //p' "$root/c/include/fluent_uri.h")
     now="$version $(sha256sum < "$work/forms" | cut -d ' ' -f 1) ${rules%% *}"
     [ "$now" = "$(cat "$root/databases/forms")" ] ||

@@ -1,4 +1,4 @@
-"""Runs `urilines` (URILINES) on lines whose output Python knows, and on lines of 10 MB.
+"""Runs `urilines` (URILINES) on lines whose output Python knows, on lines of 10 MB, and on pipes.
 
 A line of JSON, read by Python's `json`, has what Python finds in the text: each component that is
 present, in order, and each pair of the query, decoded by `urllib.parse`.
@@ -102,6 +102,22 @@ def wrong_json():
                 yield f"{command}: {line!r}: {output!r}, not {expected(line)!r}"
 
 
+def wrong_of_pipes():
+    """Runs that don't name the mode of their input, or fail for an error output that is closed."""
+    end, given = os.pipe()
+    os.set_blocking(end, False)
+    os.write(given, b"X:\ny:")
+    words = [os.environ["URILINES"], "--errors=stderr", "normalize", "uri"]
+    ran = subprocess.run(words, stdin=end, capture_output=True)
+    if (ran.returncode, ran.stdout) != (3, b"x:\n") or b"non-blocking" not in ran.stderr:
+        yield f"non-blocking input: {ran}"
+    os.close(end)
+    ran = subprocess.run(words, input=b"a b\nX:\n", stdout=subprocess.PIPE, stderr=given)
+    if (ran.returncode, ran.stdout) != (1, b"x:\n"):
+        yield f"closed error output: {ran}"
+    os.close(given)
+
+
 def repeated(prefix, unit):
     return prefix + unit * (LENGTH // len(unit.encode()))
 
@@ -134,6 +150,6 @@ def wrong_of_long_lines():
             yield f"{words}: 10 MB of {of}: {got[0][:80]!r}, status {status}"
 
 
-found = [*wrong_json(), *wrong_of_long_lines()]
+found = [*wrong_json(), *wrong_of_long_lines(), *wrong_of_pipes()]
 print(*(f"urilines: {it}" for it in found[:10]), f"urilines: {len(found)} lines wrong", sep="\n")
 sys.exit(len(found) > 0)

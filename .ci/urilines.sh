@@ -64,6 +64,13 @@ is delimiter-comma-query 2 '' '' query uri-ref --field 1 --delimiter ,
 is delimiter-bar-parse 2 '' '' parse uri --field 1 --delimiter '|'
 is delimiter-comma-resolve 2 '' '' resolve uri http://a --field 1 --delimiter ,
 is delimiter-alone 2 '' '' normalize uri --delimiter ,
+is delimiter-alone-before 2 '' '' --delimiter , normalize uri
+tells delimiter-alone-before "$(printf '%s\n' 'error: the following required arguments were not provided:' \
+    '  --field <N>' '' 'Usage: urilines [OPTIONS] <COMMAND>' '' "For more information, try '--help'.")"
+# The options of all commands may be on both sides of the command.
+is delimiter-before 0 'a,HTTP://h\n' 'a,http://h\n' --delimiter , normalize --field 2 uri
+is field-before 0 'a,HTTP://h\n' 'a,http://h\n' --field 2 normalize uri --delimiter ,
+is options-around 0 'a b\0 HTTP://h/a b\0' 'http://h/a%%20b\0' --errors drop -0 normalize --mend uri --max-line 14
 is unique 0 'HTTP://h\nx:\nhttp://h:80\na b\nX:\n' 'http://h\nx:\n' unique uri
 tells unique ''
 is links 1 'c\nd\n./%%63\na b\n' 'new 0 http://a/c\nnew 1 http://a/d\nknown 0 http://a/c\nerror: reference: unexpected character at index 1\n' links http://a/b
@@ -89,6 +96,12 @@ holds help "$? $(grep -c -e normalize -e --errors "$work/out")" '0 2'
 holds closed-output "$(cat "$work/status") $(cat "$work/out") $(cat "$work/err")" '0 http://h '
 echo x: | "$URILINES" normalize uri > /dev/full 2> "$work/err"
 holds full-device "$? $(cat "$work/err")" '3 error: output failed'
+# An error output that is full fails a run that writes to it.
+printf 'a b\nX:\n' > "$work/in"
+"$URILINES" normalize uri --errors stderr < "$work/in" > "$work/out" 2> /dev/full
+holds full-error-output "$? $(cat "$work/out")" '3 x:'
+"$URILINES" normalize uri < "$work/in" > "$work/out" 2> /dev/full
+holds unused-error-output "$?" 1
 "$URILINES" normalize uri < / > "$work/out" 2> "$work/err"
 holds folder "$? $(cat "$work/err")" '3 error: input failed'
 "$URILINES" normalize uri <&- > "$work/out" 2> "$work/err"
@@ -141,6 +154,10 @@ mkfifo "$work/fifo"
 "$URILINES" normalize uri < "$work/fifo" > "$work/out"
 wait $!
 holds not-waiting "$(cat "$work/early")" http://h
+
+# No number of lines is too many.
+yes 'X:' | head -n 1000000 | "$URILINES" normalize uri > "$work/out" 2> "$work/err"
+holds million-lines "$? $(sort "$work/out" | uniq -c | sed 's/^ *//') $(cat "$work/err")" '0 1000000 x: '
 
 python3 -B "$root/.ci/urilines.py"
 holds 'lines that Python knows' "$?" 0

@@ -14,6 +14,12 @@ ITEM = re.compile(
     r"(?P<name>\w+)"
 )
 IMPL = re.compile(r"impl(?:<.*?>)? (?:(?P<trait>[\w:]+(?:<.*>)?) for )?(?P<type>\w+)")
+# What an implementation of a trait of std says in the place of clauses.
+SAID = {
+    "Clone": "is_clone", "Debug": "debug_output", "Default": "is_default",
+    "Display": "output|styled_output", "From": "from_gives", "Hash": "hash_input", "Ord": "cmp",
+    "PartialEq": "eq", "PartialOrd": "partial_cmp", "TryFrom": "try_from_gives",
+}
 
 
 class Item(NamedTuple):
@@ -73,6 +79,31 @@ def doc_above(lines, at):
     return doc, is_hidden
 
 
+def said_of(lines, at, trait):
+    """The members by which an implementation of a trait of std says what its calls return."""
+    names = SAID.get(re.match(r"(?:\w+::)*(\w+)", trait)[1], "$")
+    end = lines.index("}", at) if not lines[at].endswith("}") else at
+    return re.findall(rf"^    (ghost (?:{names}) = .*?;)$", "\n".join(lines[at:end]), re.M | re.S)
+
+
+def derived_above(path, lines, at, owner):
+    """The traits of std that a type derives, of those that say what their calls return."""
+    held = held_by(lines, at)
+    while at > 0 and lines[at - 1].startswith(("///", "#[")):
+        at -= 1
+        if found := re.match(r"#\[derive(?:_where)?\((.*)\)\]", lines[at]):
+            for it in found[1].split(", "):
+                if it in (*SAID, "Eq"):
+                    yield Item(file_of(path), owner, "", "derive", it, held, [], [], False)
+
+
+def held_by(lines, at):
+    """The type of the one field that a struct has, or nothing."""
+    text = " ".join(lines[at : lines.index("}", at)]) if lines[at].endswith("{") else ""
+    fields = re.findall(r"(?:^|\s)(?:pub(?:\(crate\))? )?\w+: (\w+)", text.partition("{")[2])
+    return fields[0] if len(fields) == 1 else ""
+
+
 def items_of(path):
     """Each item of a source file."""
     lines = path.read_text(encoding="utf-8").splitlines()
@@ -84,8 +115,11 @@ def items_of(path):
             found = IMPL.match(line)
             if found:
                 owner, trait, block = found["type"], found["trait"], line.rstrip(" {")
+                if owner == "String" and (own := re.match(r"From<(\w+)", trait or "")):
+                    owner = own[1]
                 if trait:
-                    yield Item(file_of(path), owner, block, "impl", trait, line, [], [], False)
+                    said = said_of(lines, at, trait)
+                    yield Item(file_of(path), owner, block, "impl", trait, block, said, [], False)
         found = ITEM.match(line.strip())
         if not found or indent not in (0, 4) or (indent == 4 and trait):
             continue
@@ -98,6 +132,7 @@ def items_of(path):
                 yield Item(file_of(path), "", "", what, name, head, clauses, doc, is_hidden)
                 if what in ("trait", "enum", "struct"):
                     owner = name
+                    yield from derived_above(path, lines, at, name)
         elif owner and (found["vis"] or is_in_trait(lines, at)):
             yield Item(file_of(path), owner, block, what, name, head, clauses, doc, is_hidden)
     yield from variants_of(path, lines)

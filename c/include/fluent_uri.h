@@ -49,7 +49,7 @@ extern "C" {
 #define FLUENT_URI_VERSION_MINOR 1
 
 /** The version of normal forms, as fluent_uri_normal_version returns it. */
-#define FLUENT_URI_NORMAL_VERSION 1
+#define FLUENT_URI_NORMAL_VERSION 2
 
 /** The kinds of texts. */
 enum fluent_uri_kind {
@@ -193,13 +193,6 @@ uint32_t fluent_uri_error_message(uint32_t error, uint8_t *out, size_t out_len,
 uint32_t fluent_uri_parse(uint32_t kind, const uint8_t *text, size_t text_len,
                           fluent_uri_parts *parts);
 
-/** Returns 1 only if a text is its own normal form, and else 0: a cheap test before
- * fluent_uri_normalize, which parses the text again and takes memory. PARTS are what
- * fluent_uri_parse wrote of the text as one of the kind, without an error. Of a few normal texts it
- * returns 0, as of those with a port, or a `/` before a `.`. Takes no memory. */
-uint32_t fluent_uri_is_plainly_normal(uint32_t kind, const uint8_t *text, size_t text_len,
-                                      const fluent_uri_parts *parts);
-
 /** Returns 1 exactly if a text is of the kind and its own normal form by the options of
  * fluent_uri_normalize, and else 0. Unknown options have no normal forms. Takes no memory. */
 uint32_t fluent_uri_is_normal(uint32_t kind, uint32_t options, const uint8_t *text,
@@ -263,8 +256,8 @@ uint32_t fluent_uri_ascii_host(uint32_t kind, const uint8_t *text, size_t text_l
                                size_t out_len, fluent_uri_outcome *outcome);
 
 /** Writes the normal form (RFC 3986, section 6.2.2; default ports are left out, which is of section
- * 6.2.3). OPTIONS is 0 or FLUENT_URI_SCHEME_RULES: with it the form is that of the whole of section
- * 6.2.3. Forms with it and without it are no keys of one table. */
+ * 6.2.3). OPTIONS is 0 or FLUENT_URI_SCHEME_RULES: with it the form is by the other rules of schemes
+ * too. Forms with it and without it are no keys of one table. */
 uint32_t fluent_uri_normalize(uint32_t kind, uint32_t options, const uint8_t *text, size_t text_len,
                               uint8_t *out, size_t out_len, fluent_uri_parts *parts,
                               size_t parts_len, fluent_uri_outcome *outcome);

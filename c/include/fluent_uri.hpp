@@ -118,8 +118,6 @@ class parts {
     component fragment() const noexcept { return at(parts_.fragment); }
 
   private:
-    friend bool is_plainly_normal(std::uint32_t kind, const parts &text) noexcept;
-
     component at(fluent_uri_span span) const noexcept {
         if (span.start == SIZE_MAX) return std::nullopt;
         return std::string_view(text_.data() + span.start, span.end - span.start);
@@ -130,13 +128,6 @@ class parts {
 };
 
 inline parts parse(std::uint32_t kind, std::string_view text) noexcept { return {kind, text}; }
-
-/** True only if the text of these parts, which are those of the kind, is its own normal form. It is
- * false for a few such texts. */
-inline bool is_plainly_normal(std::uint32_t kind, const parts &text) noexcept {
-    return text && fluent_uri_is_plainly_normal(kind, detail::bytes(text.text_), text.text_.size(),
-                                                &text.parts_) == 1;
-}
 
 /** True exactly if a text is of the kind and its own normal form; the options are 0 or
  * FLUENT_URI_SCHEME_RULES. */

@@ -355,59 +355,6 @@ static void mends_components(void) {
     CHECK(rejects(fluent_uri_mend_component(FLUENT_URI_PORT, TEXT("a"), BYTES), 9, 0, 0));
 }
 
-/* The text of a kind is plainly normal, by its parts, exactly where it is wanted to be. */
-static int is_plain(uint32_t kind, const char *text) {
-    fluent_uri_parts parts;
-    CHECK(fluent_uri_parse(kind, TEXT(text), &parts) == 0);
-    return fluent_uri_is_plainly_normal(kind, TEXT(text), &parts) == 1;
-}
-
-static void finds_what_is_plainly_normal(void) {
-    static const char *const normal[] = {
-        "http://example.com/a/b/~foo?x=1#y", "a:", "a:b", "http://u@h", "urn:example:Animal:Ferret",
-        "http://127.0.0.1/", "http://Us@h/A?B#C", "x:/a/b.c/d..e/f.", "http://h/a?b=..",
-        "file:///0123456789/0123456789/0123456789/0123456789",
-        /* Octets that stay, also after a `/` and over the borders of sixteen bytes. */
-        "http://h/%2F", "http://h/%2F..", "x:/%2F./a%20b", "http://u%3A@h%5Bost/a%7C?b%26#c%23",
-        "http://h/%00%0A%1F%20%21%25%2A%2C%2F%3A%3F%40%5B%5E%60%7B%7D%7F", "a:?%22", "a:%2F#",
-        "http://h/01234%2F", "http://h/012345%2F", "http://h/0123456%2F", "http://h/01234567%2F",
-        "http://h/0123456789abcdef/%2F..%2F%2F/0123456789abcdef",
-    };
-    for (size_t i = 0; i < sizeof normal / sizeof *normal; i++) {
-        CHECK(is_plain(FLUENT_URI_URI, normal[i]) && is_plain(FLUENT_URI_IRI_REF, normal[i]));
-        CHECK(gives(fluent_uri_normalize(FLUENT_URI_URI, 0, TEXT(normal[i]), VALUE), normal[i]));
-    }
-    CHECK(is_plain(FLUENT_URI_URI_REF, "") && is_plain(FLUENT_URI_URI_REF, "../a//b"));
-    CHECK(is_plain(FLUENT_URI_IRI, "http://\xc3\xa9/\xe6\xbc\xa2"));
-    /* Octets past ASCII stay in a URI, and may be characters of an IRI. */
-    CHECK(is_plain(FLUENT_URI_URI, "http://%C3%A9/%E6%BC%A2?%FF#%80"));
-    CHECK(is_plain(FLUENT_URI_URI_REF, "%E2%80%8E/0123456789%C3%A9"));
-    CHECK(!is_plain(FLUENT_URI_IRI, "http://h/%C3%A9") && !is_plain(FLUENT_URI_IRI_REF, "%C3%A9"));
-    /* What is not normal. */
-    static const char *const others[] = {
-        "HTTP://h/", "hTtp://h/", "http://H/", "http://h/%7e", "http://h/%2f", "http://h:80/",
-        "http://h:/", "http://[::A]/", "http://[0:0::1]/", "x:/.", "x:/..", "x:/a/./b", "x:/a/../b",
-        "http://h/0123456789/012345/./b", "http://h/0123456789/0123456/./b",
-        "http://h/0123456789/01234567/../b", "http://h/0123456789abcdef/..",
-        "x:/a/%2e/b", "http://h/0123456789/0123456789/0123456789/%41", "x:%7e", "x:%2E", "x:%2D",
-        "x:%5F", "x:%30", "x:%39", "x:%5A", "x:%61", "x:%7A", "x:%2a", "x:%2F%2f", "http://%2cA/",
-        "http://A%2C/", "x:/%2F/.", "http://h/0123456789%2F/.", "http://h/012345678%2F%2f",
-    };
-    for (size_t i = 0; i < sizeof others / sizeof *others; i++)
-        CHECK(!is_plain(FLUENT_URI_URI, others[i]) && !is_plain(FLUENT_URI_IRI_REF, others[i]));
-    CHECK(!is_plain(FLUENT_URI_IRI, "a:\xe2\x80\x8e"));
-    /* Of parts of another text, or of none, the answer means nothing; nothing else is read. */
-    fluent_uri_parts parts;
-    memset(&parts, 0xff, sizeof parts);
-    CHECK(fluent_uri_is_plainly_normal(FLUENT_URI_URI, TEXT("a:b"), &parts) <= 1);
-    for (size_t end = 0; end < 64; end++) {
-        fluent_uri_span span = {end / 8, SIZE_MAX / 2 * (end % 3)};
-        parts.scheme = parts.host = parts.port = span;
-        CHECK(fluent_uri_is_plainly_normal(FLUENT_URI_URI, TEXT("a:b"), &parts) <= 1);
-    }
-    CHECK(fluent_uri_is_plainly_normal(4, TEXT("a:b"), &parts) == 0);
-}
-
 /* The pairs of a query, as `name=value` with a `;` after each; `name` alone where it has no `=`. */
 static int has_pairs(const char *query, const char *wanted) {
     char found[256], *to = found;
@@ -488,7 +435,6 @@ int main(void) {
     replaces();
     converts();
     mends_components();
-    finds_what_is_plainly_normal();
     reads_pairs();
     return ended("calls");
 }

@@ -87,10 +87,7 @@ static bool by_strings() {
            *decode(FLUENT_URI_PATH, "a%20b") == "a b" &&
            *encode(FLUENT_URI_DATA, "a b") == "a%20b" &&
            *mend_component(FLUENT_URI_PATH, "a%20b c") == "a%20b%20c" &&
-           is_plainly_normal(FLUENT_URI_URI, parse(FLUENT_URI_URI, "http://a/b")) &&
-           !is_plainly_normal(FLUENT_URI_URI, parse(FLUENT_URI_URI, "http://A/b")) &&
-           !is_plainly_normal(FLUENT_URI_URI, no) && by_pairs() && by_hosts() &&
-           by_ascii_hosts() &&
+           by_pairs() && by_hosts() && by_ascii_hosts() &&
            is_normal(FLUENT_URI_URI, 0, "http://a:8080/") &&
            !is_normal(FLUENT_URI_URI, 0, "http://A/") &&
            !is_normal(FLUENT_URI_URI, FLUENT_URI_SCHEME_RULES, "http://a") &&

@@ -194,7 +194,6 @@ static void parse_returns_spans(const input *in) {
                                      it->port,   it->path,      it->query,    it->fragment};
     for (size_t i = 0; i < sizeof spans / sizeof *spans; i++) is_span(call, spans[i], in->size);
     HOLDS(has_pairs_in_order(in->text, in->size));
-    HOLDS(is_normal_if_plain(in->kind, in->text, in->size, (int)in->component));
     HOLDS(has_host_of_its_kind(in->kind, in->text, in->size));
     HOLDS(has_ascii_host(in->kind, in->text, in->size));
     HOLDS(is_order_of_normal_forms(in->kind, in->options, in->one, in->one_size, in->other,

@@ -28,21 +28,6 @@ static inline int has_pairs_in_order(const uint8_t *text, size_t size) {
     return 1;
 }
 
-/* A text is its own normal form where the test by its parts says so. Of parts that are none, bytes
- * of this value, the test has an answer. */
-static inline int is_normal_if_plain(uint32_t kind, const uint8_t *text, size_t size, int value) {
-    static uint8_t out[1 << 16];
-    fluent_uri_parts parts;
-    fluent_uri_outcome outcome;
-    if (fluent_uri_parse(kind, text, size, &parts) == 0 &&
-        fluent_uri_is_plainly_normal(kind, text, size, &parts) && size <= sizeof out &&
-        fluent_uri_normalize(kind, 0, text, size, out, sizeof out, NULL, 0, &outcome) == 0 &&
-        (outcome.length != size || memcmp(out, text, size)))
-        return 0;
-    memset(&parts, value, sizeof parts);
-    return fluent_uri_is_plainly_normal(kind, text, size, &parts) <= 1;
-}
-
 /* The key of a text: its normal form, or the text itself if it is not of the kind, which is told. */
 static inline int normal_key(uint32_t kind, uint32_t options, const uint8_t *text, size_t size,
                              uint8_t *out, size_t room, const uint8_t **key, size_t *key_size) {

@@ -80,7 +80,7 @@ static uint32_t work(int which, size_t room) {
     }
 }
 
-/* A text that is plainly its own normal form is written without a request. */
+/* A text that is its own normal form is written without a request. */
 static void test_unchanged(void) {
     static const char *const text = "http://h/%2F/b?q#f";
     static const uint32_t offsets[] = {0, 18};

@@ -73,14 +73,47 @@ static void orders_texts_by_scheme(void) {
     }
 }
 
+static int is_normal(uint32_t kind, const char *text) {
+    return fluent_uri_is_normal(kind, 0, TEXT(text)) == 1;
+}
+
 static void finds_what_is_normal(void) {
-    static const char *const normal[] = {"http://a:8080/~", "http://[::1]/", "a:/b/%2F", "x:a/./b"};
-    static const char *const others[] = {"http://a:80", "http://A/", "http://a/%7e", "http://a:/",
-        "http://[::0:1]/", "a:/b/./", "A:", "a:%2f", "//a", "a b", ""};
+    static const char *const normal[] = {
+        "http://example.com/a/b/~foo?x=1#y", "a:", "a:b", "http://u@h", "urn:example:Animal:Ferret",
+        "http://127.0.0.1/", "http://Us@h/A?B#C", "x:/a/b.c/d..e/f.", "http://h/a?b=..",
+        "file:///0123456789/0123456789/0123456789/0123456789", "http://a:8080/~", "http://[::1]/",
+        "x:a/./b", "x:/..a", "x:/.//a", "x:/a/.b", "x:/a/...", "http://[2001:db8::7]:8080/",
+        /* Octets that stay, also after a `/` and over the borders of sixteen bytes. */
+        "http://h/%2F", "http://h/%2F..", "x:/%2F./a%20b", "http://u%3A@h%5Bost/a%7C?b%26#c%23",
+        "http://h/%00%0A%1F%20%21%25%2A%2C%2F%3A%3F%40%5B%5E%60%7B%7D%7F", "a:?%22", "a:%2F#",
+        "http://h/01234%2F", "http://h/012345%2F", "http://h/0123456%2F", "http://h/01234567%2F",
+        "http://h/0123456789abcdef/%2F..%2F%2F/0123456789abcdef",
+    };
     for (size_t i = 0; i < sizeof normal / sizeof *normal; i++)
-        CHECK(fluent_uri_is_normal(FLUENT_URI_URI, 0, TEXT(normal[i])) == 1);
+        CHECK(is_normal(FLUENT_URI_URI, normal[i]) && is_normal(FLUENT_URI_IRI_REF, normal[i]));
+    CHECK(is_normal(FLUENT_URI_URI_REF, "") && is_normal(FLUENT_URI_URI_REF, "../a//b"));
+    CHECK(is_normal(FLUENT_URI_IRI, "http://\xc3\xa9/\xe6\xbc\xa2\xe2\x82\xac"));
+    /* Octets past ASCII stay in a URI, and in an IRI those of no character that is decoded. */
+    CHECK(is_normal(FLUENT_URI_URI, "http://%C3%A9/%E6%BC%A2?%FF#%80"));
+    CHECK(is_normal(FLUENT_URI_URI_REF, "%E2%80%8E/0123456789%C3%A9"));
+    CHECK(is_normal(FLUENT_URI_IRI, "x:%FF") && is_normal(FLUENT_URI_IRI, "x:%E2%80%8E%C3"));
+    CHECK(!is_normal(FLUENT_URI_IRI, "http://h/%C3%A9"));
+    CHECK(!is_normal(FLUENT_URI_IRI_REF, "%C3%A9"));
+    /* What is not normal. */
+    static const char *const others[] = {
+        "HTTP://h/", "hTtp://h/", "http://H/", "http://h/%7e", "http://h/%2f", "http://h:80/",
+        "http://h:/", "http://[::A]/", "http://[0:0::1]/", "x:/.", "x:/..", "x:/a/./b", "x:/a/../b",
+        "http://h/0123456789/012345/./b", "http://h/0123456789/0123456/./b",
+        "http://h/0123456789/01234567/../b", "http://h/0123456789abcdef/..", "x:/.%41", "x:/./a",
+        "x:/a/%2e/b", "http://h/0123456789/0123456789/0123456789/%41", "x:%7e", "x:%2E", "x:%2D",
+        "x:%5F", "x:%30", "x:%39", "x:%5A", "x:%61", "x:%7A", "x:%2a", "x:%2F%2f", "http://%2cA/",
+        "http://A%2C/", "x:/%2F/.", "http://h/0123456789%2F/.", "http://h/012345678%2F%2f",
+        "http://[::0:1]/", "A:", "a b",
+    };
     for (size_t i = 0; i < sizeof others / sizeof *others; i++)
-        CHECK(fluent_uri_is_normal(FLUENT_URI_URI, 0, TEXT(others[i])) == 0);
+        CHECK(!is_normal(FLUENT_URI_URI, others[i]) && !is_normal(FLUENT_URI_IRI_REF, others[i]));
+    CHECK(!is_normal(FLUENT_URI_IRI, "a:\xe2\x80\x8e"));
+    CHECK(!is_normal(FLUENT_URI_URI, "//a") && !is_normal(FLUENT_URI_URI, ""));
     CHECK(fluent_uri_is_normal(4, 0, TEXT("a:")) == 0);
 }
 

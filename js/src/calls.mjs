@@ -84,7 +84,6 @@ function callsOf(kind) {
 const membersOf = (kind) => ({
   normalize(options) {
     const text = textOf(this), rules = options === undefined ? 0 : rulesOf(options);
-    if (rules === 0 && core.isPlainlyNormal(kind, text)) return this;
     core.callOne('normalize', kind, rules, text);
     return resultOf(kind, core, text) ?? this;
   },

@@ -21,7 +21,6 @@ export class Module {
   #messages = new Map();
   #text = null;
   #length = 0;
-  #partsKind = -1;
   #read = null;
   #room = 0;
   // What the encoder writes into: the first room and the second.
@@ -119,7 +118,6 @@ export class Module {
     if (text === this.#text) return this.#length;
     if (text.length > this.#capacity) this.reserve(text.length);
     this.#text = null;
-    this.#partsKind = -1;
     const length = this.#write(text, this.#firstView);
     if (length !== text.length && loneSurrogate(text) >= 0) return -1;
     this.#text = text;
@@ -194,18 +192,7 @@ export class Module {
     } catch (why) {
       this.trapped(why);
     }
-    this.#partsKind = error === 0 ? kind : -1;
     return error;
-  }
-
-  /** Whether the parts in memory are those of a text as one of a kind, and say it is normal. */
-  isPlainlyNormal(kind, text) {
-    if (text !== this.#text || this.#partsKind !== kind) return false;
-    try {
-      return this.calls.is_plainly_normal(kind, this.#room, this.#length, this.records) === 1;
-    } catch (why) {
-      return this.trapped(why);
-    }
   }
 
   /** Makes a call that returns a number, of the text in the first room. */
@@ -240,7 +227,6 @@ export class Module {
 
   /** Makes a call of a kind and options with one text: the result is in memory. */
   callOne(name, kind, options, text) {
-    this.#partsKind = -1;
     for (;;) {
       const length = this.putWhole(text);
       let error;
@@ -256,7 +242,6 @@ export class Module {
 
   /** The same with two texts. */
   callTwo(name, kind, options, one, other) {
-    this.#partsKind = -1;
     for (;;) {
       const [first, second] = this.putBoth(one, other);
       let error;
@@ -272,7 +257,6 @@ export class Module {
 
   /** The same of a call that takes no options. The index of an error is in `input(text)`. */
   callPlain(name, kind, text, input = (it) => it) {
-    this.#partsKind = -1;
     for (;;) {
       const length = this.putWhole(text);
       let error;

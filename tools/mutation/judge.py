@@ -160,8 +160,7 @@ class Judge:
         is_rejected = re.match(r"not proved|no proof", said)
         goals = self.goals(mutant, lines)
         wanted = {it.name for it in mutant.clauses}
-        if is_rejected and (goals & wanted or mutant.is_of_definition and is_alone):
-            mutant.others = goals ^ wanted if goals & wanted else set()
+        if is_rejected and (goals == wanted or mutant.is_of_definition and is_alone):
             mutant.end(True, ", ".join(sorted(goals)))
         elif not is_alone and not (is_rejected and goals):
             # (another mutant, or a full machine, may be the reason)

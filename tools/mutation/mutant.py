@@ -44,8 +44,6 @@ class Mutant:
         # Whether it has to be tried alone, how often it was tried, and what that came to.
         self.is_alone, self.tries = self.is_of_definition, 0
         self.is_rejected, self.why = None, ""
-        # The goals at which it falls and that it does not name, and those that it names for nothing.
-        self.others = set()
 
     def values(self, key):
         head = f"{key}: "

@@ -1,14 +1,17 @@
 //! The messages of errors. The expected texts are those of `docs/PARSE_ERRORS.md`.
-use fluent_uri::ConvertError;
 use fluent_uri::build::BuildError;
 use fluent_uri::component::SocketError;
 use fluent_uri::normalize::NormalizeError;
 use fluent_uri::pct_enc::DecodeError;
 use fluent_uri::resolve::ResolveError;
+use fluent_uri::{ConvertError, UriRef};
 use std::alloc::Global;
 use std::fmt::Display;
 use std::process::Abort;
 use test_support::prints;
+use uri_basic::BasicResolveError;
+use uri_idna::AsciiHostError;
+use uri_mend::MendError;
 
 /// Checks in a test that each error prints its message.
 fn print<R: Abort, E: Display>(rt: &R, alloc: Global, messages: &[(E, &str)]) {
@@ -78,6 +81,23 @@ const RESOLVE: &[(ResolveError, &str)] = &[
     (ResolveError::OutOfMemory, "out of memory"),
 ];
 
+const ASCII_HOST: &[(AsciiHostError, &str)] = &[
+    (
+        AsciiHostError::NameNotUtf8,
+        "registered name does not decode to valid UTF-8",
+    ),
+    (AsciiHostError::InvalidName, "invalid domain name"),
+    (AsciiHostError::OutOfMemory, "out of memory"),
+];
+
+const BASIC_RESOLVE: &[(BasicResolveError, &str)] = &[
+    (
+        BasicResolveError::PathStartsWithDoubleSlash,
+        "target has no authority, and its path would start with '//'",
+    ),
+    (BasicResolveError::OutOfMemory, "out of memory"),
+];
+
 #[test]
 fn errors_print_their_messages(rt: HostRuntime) {
     let (rt, alloc) = (&rt, rt.alloc());
@@ -90,4 +110,10 @@ fn errors_print_their_messages(rt: HostRuntime) {
     let not_utf8 = DecodeError::NotUtf8(bytes);
     prints(alloc, &not_utf8, "decoded bytes are not valid UTF-8").expect(rt, "NotUtf8");
     prints(alloc, &DecodeError::OutOfMemory, "out of memory").expect(rt, "OutOfMemory");
+    print(rt, alloc, ASCII_HOST);
+    print(rt, alloc, BASIC_RESOLVE);
+    let rejected = UriRef::<&str>::parse("a b").err().expect(rt, "a b");
+    let unmendable = MendError::Unmendable(rejected);
+    prints(alloc, &unmendable, "unexpected character at index 1").expect(rt, "Unmendable");
+    prints(alloc, &MendError::OutOfMemory, "out of memory").expect(rt, "OutOfMemory");
 }

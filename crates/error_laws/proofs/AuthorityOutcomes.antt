@@ -1,10 +1,7 @@
 -- The outcomes of errors in an authority.
-use Rattle.std.proofs.Common.{[], ◌≡◌, ℕ, suc, ◌+◌, ◌-◌, ◌<◌, ◌≤◌, Bool, true, false, cond, eqb, ap, List, ◌∷◌, ◌++◌, take, drop, Some, refl, sym, subst, ◌∙◌, arith, ◌&&◌, ⊎_elim, length-drop}
-use Rattle.std.specs.Prelude.{codes, nat_lt}
-use Rattle.std.specs.Str.{IsUtf8}
-use Rattle.std.proofs.lemmas.Bool.{cases_Bool, cases_lt, cond-true, cond-false, and_left, and_right, and_from, eqb-true, eq-eqb, ltb-true, ltb-false, lt-ltb, le-ltb, not_from_true, both_ways, and_parts}
+use Rattle.std.proofs.Common.{[], ◌≡◌, ℕ, suc, ◌+◌, ◌-◌, ◌<◌, ◌≤◌, Bool, true, false, cond, eqb, ap, List, ◌∷◌, ◌++◌, take, drop, Some, refl, sym, subst, ◌∙◌, arith, ◌&&◌, ⊎_elim, length-drop, rules, codes, nat_lt, IsUtf8, drop-drop}
+use Rattle.std.proofs.lemmas.Bool.{cases_Bool, cases_lt, cond-true, cond-false, and_left, and_right, and_from, eq-eqb, ltb-true, ltb-false, lt-ltb, le-ltb, both_ways}
 use Rattle.std.proofs.lemmas.Bool.Decides.{nat_tests}
-use Rattle.std.proofs.lemmas.List.{drop-drop}
 use Rattle.std.proofs.lemmas.Option.{same_Some}
 use Rattle.uri_pct.specs.Prefixes.{valid_prefix}
 use Rattle.uri_pct.specs.Sets.{digit_set, is_one_of}
@@ -56,9 +53,8 @@ module _ (kind : Kind) (f : Facts kind) (text : List ℕ) (u : IsUtf8 text) (i :
   at-sign-is-passed : (other : List ℕ) (n : ℕ) → scan_end other kind.userinfo i ≡ n
       → is_next other 64 n ≡ true → error other ≡ error_from_host kind other (n + 1)
   unfolding error_from_authority
-  at-sign-is-passed other n scanned s = ap (λ r. r >>= next other)
-      (scan-goes-on other kind.userinfo i n scanned
-      (text-begins-with-one-byte-alone 64 37 (drop n other) refl s)) ∙ cond-true _ _ _ s
+  at-sign-is-passed other n scanned s =
+      grind (arith, nat_tests, scan-goes-on, text-begins-with-one-byte-alone)
 
   userinfo-ends-at-sign : (n : ℕ) (other : List ℕ) → Alike n text other → end ≤ n
       → is_next other 64 end ≡ true → scan_end other kind.userinfo i ≡ end
@@ -102,8 +98,7 @@ module _ (kind : Kind) (f : Facts kind) (text : List ℕ) (u : IsUtf8 text) (i :
       userinfo-can-stop c le (position-at-mark text 58 c u (omega arith) s) (λ other w d.
       valid-part-is-scanned c text other w u kind.userinfo (codes "@/?#[") f.apart.userinfo_lacks
       f.userinfo_marks i k (omega (arith, at_c)) a v valid
-      (subst (λ j. At (codes "@/?#[") j other) (sym at_c)
-      (begins-with-mark 64 (codes "@/?#[") (drop c other) refl d)) ∙ at_c)
+      (grind (arith, nat_tests, begins-with-mark)) ∙ at_c)
 
   -- a name and its port
   module _ (more : name < end) where
@@ -123,9 +118,7 @@ module _ (kind : Kind) (f : Facts kind) (text : List ℕ) (u : IsUtf8 text) (i :
 
     port-is-within-userinfo : port ≤ end
     port-is-within-userinfo =
-        let w = userinfo-goes-on-after-name kind f text i in
-        let p = userinfo-goes-on-after-port kind f text name colon-follows-name in
-        omega (arith, w, p)
+        search (rules, userinfo-goes-on-after-name, userinfo-goes-on-after-port, colon-follows-name)
 
     userinfo-can-stop-after-port : Outcome text port false Any i error
     userinfo-can-stop-after-port =
@@ -147,13 +140,8 @@ module _ (kind : Kind) (f : Facts kind) (text : List ℕ) (u : IsUtf8 text) (i :
 
   -- where userinfo ends without an `@`, the third exception doesn't apply
   path-is-rooted-after-userinfo : is_next text 64 end ≡ false → is_unrooted kind text end ≡ false
-  path-is-rooted-after-userinfo at = ⊎_elim
-      (λ s. and_left _ _ (and_right _ _ (not_from_true _ s)))
-      (λ s.
-      let z = path-stops-with-userinfo kind f (drop end text)
-      (scan-stops-at-its-end text kind.userinfo i) at s in
-      and_left _ _ (and_left _ _ (le-ltb end (scan_end text kind.path end) (omega (arith, z)))))
-      (cases_Bool (is_next text 47 end))
+  path-is-rooted-after-userinfo at =
+      grind (arith, nat_tests, path-stops-with-userinfo, scan-stops-at-its-end)
 
   -- a name and a port that are all of the userinfo
   name-and-port-are-passed : eqb end i ≡ false → nat_lt name (last_colon text end) ≡ false
@@ -223,10 +211,7 @@ module _ (kind : Kind) (f : Facts kind) (text : List ℕ) (u : IsUtf8 text) (i :
       (userinfo-can-stop-at-colon c (omega (arith, k)) below within))
       (λ l.
       let e' = sym (cond-false _ _ _ l) ∙ e in ⊎_elim
-      (λ p.
-      let m = ltb-true name end (and_parts _ _ p).0 in
-      subst named (same_Some (unexpected port) r (sym (cond-true _ _ _ p) ∙ e'))
-      (userinfo-can-stop-after-port m))
+      (grind (arith, nat_tests, same_Some, userinfo-can-stop-after-port))
       (λ p.
       let o = abempty-path-outcome kind f text u end at_end false r
       (path-is-rooted-after-userinfo at) (sym (cond-false _ _ _ p) ∙ e') in
@@ -240,11 +225,8 @@ module _ (kind : Kind) (f : Facts kind) (text : List ℕ) (u : IsUtf8 text) (i :
       → is_next text 91 i ≡ false → error text ≡ Some r → Outcome text r.index false Any i error
   empty-outcome r z percent at bracket e =
       let none : valid_prefix kind.userinfo (drop i text) ≡ 0 = omega (arith, z) in
-      let colon : is_next text 58 i ≡ false = ⊎_elim
-      (λ c.
-      let n = ap (valid_prefix kind.userinfo) (text-at-mark-is-mark-and-rest text 58 i c)
-      ∙ colon-adds-to-userinfo kind f text (drop (i + 1) text) in absurd (omega (arith, n, none)))
-      (λ c. c) (cases_Bool (is_next text 58 i)) in
+      let colon : is_next text 58 i ≡ false =
+      grind (arith, nat_tests, text-at-mark-is-mark-and-rest, colon-adds-to-userinfo) in
       let rooted = subst (λ k. is_unrooted kind text k ≡ false) z
       (path-is-rooted-after-userinfo (ap (is_next text 64) z ∙ at)) in
       let o = abempty-path-outcome kind f text u i a false r rooted
@@ -270,13 +252,8 @@ module _ (kind : Kind) (f : Facts kind) (text : List ℕ) (u : IsUtf8 text) (i :
       let b = q ∙ s in
       let none = nothing-is-scanned-at-mark kind.userinfo (codes "@/?#[") f.apart.userinfo_lacks
       f.userinfo_marks (drop i other)
-      (begins-with-mark 91 (codes "@/?#[") (drop i other) refl b) in (
-        tt,
-        ap (λ r. r >>= next other) (scan-goes-on other kind.userinfo i i (omega (arith, none))
-            (text-begins-with-one-byte-alone 91 37 (drop i other) refl b))
-            ∙ cond-false _ _ _ (text-begins-with-one-byte-alone 91 64 (drop i other) refl b)
-            ∙ cond-true _ _ _ (eq-eqb i i refl),
-      ))
+      (begins-with-mark 91 (codes "@/?#[") (drop i other) refl b) in
+      (grind (arith, nat_tests, scan-goes-on, text-begins-with-one-byte-alone)))
 
   -- userinfo and its `@`
   host-outcome-after-userinfo : (late : Bool) (r : ParseError) → is_next text 64 end ≡ true
@@ -286,12 +263,7 @@ module _ (kind : Kind) (f : Facts kind) (text : List ℕ) (u : IsUtf8 text) (i :
       let o = host-outcome kind f text u (end + 1)
       (position-after-mark text 64 end (omega arith) s at_end) late r l e in
       let from = o.from in
-      carry text r.index late _ _ (end + 1) i _ _ (omega arith) o (λ other w q.
-      let at = next-is-shared r.index text other w 64 end (omega (arith, from)) ∙ s in (
-        tt,
-        at-sign-is-passed other end
-            (userinfo-ends-at-sign r.index other w (omega (arith, from)) at) at,
-      ))
+      search (rules, carry, next-is-shared, at-sign-is-passed, userinfo-ends-at-sign)
 
   pub authority-outcome : (late : Bool) (r : ParseError)
       → is_late_from_authority kind text i ≡ late → error text ≡ Some r
@@ -309,14 +281,12 @@ module _ (kind : Kind) (f : Facts kind) (text : List ℕ) (u : IsUtf8 text) (i :
       f.userinfo_marks (drop i text)
       (begins-with-mark 91 (codes "@/?#[") (drop i text) refl b) in omega (arith, z) in ⊎_elim
       (λ s. ⊎_elim
-      (λ b. absurd (both_ways _ (text-begins-with-one-byte-alone 91 37 (drop i text) refl b)
-      (ap (is_next text 37) (sym (here b)) ∙ (and_parts _ _ s).1)))
+      (grind (arith, nat_tests, text-begins-with-one-byte-alone))
       (λ b. subst (λ x. Outcome text x.index late Any i error)
       (same_Some _ _ (sym (cond-true _ _ _ s) ∙ t)) (on_time end
       (userinfo-can-stop end (omega arith) at_end
       (λ other w d. userinfo-ends-at-sign end other w (omega arith) d))
-      (no_bracket (text-begins-with-one-byte-alone 37 64 (drop end text) refl (and_parts _ _ s).1)
-      b)))
+      (grind (arith, nat_tests, text-begins-with-one-byte-alone))))
       (cases_Bool (is_next text 91 i)))
       (λ s.
       let t' = sym (cond-false _ _ _ s) ∙ t in ⊎_elim
@@ -327,14 +297,7 @@ module _ (kind : Kind) (f : Facts kind) (text : List ℕ) (u : IsUtf8 text) (i :
       (λ b. bracket-outcome late r b (here b)
       (sym (cond-false _ _ _ at ∙ ap (λ x. x && is_late_from_host kind text i) b) ∙ l)
       (sym (cond-true _ _ _ (eq-eqb end i (here b))) ∙ e'))
-      (λ b. on_time r.index (⊎_elim
-      (λ z.
-      let same = eqb-true end i z in
-      let percent = sym (ap (λ x. x && is_next text 37 end) f.adjoins.userinfo_octets) ∙ s in
-      empty-outcome r same (ap (is_next text 37) (sym same) ∙ percent)
-      (ap (is_next text 64) (sym same) ∙ at) b e)
-      (λ z. name-outcome r z at (sym (cond-false _ _ _ z) ∙ e'))
-      (cases_Bool (eqb end i))) (no_bracket at b))
+      (grind (arith, nat_tests, empty-outcome, name-outcome))
       (cases_Bool (is_next text 91 i)))
       (cases_Bool (is_next text 64 end)))
       (cases_Bool (kind.userinfo.pct_encoded && is_next text 37 end))

@@ -1,9 +1,9 @@
 -- The outcomes of errors in a host and what follows it.
-use Rattle.std.proofs.Common.{◌≡◌, ℕ, ◌+◌, ◌<◌, ◌≤◌, Bool, true, false, eqb, List, [], ◌++◌, length, take, drop, Option, Some, None, refl, sym, ap, subst, ◌∙◌, arith, ◌⊎◌, ◌&&◌, ◌||◌, ⊎_elim, inl, inr, length-append, take_all, length-take-le, drop_at, take-append-drop}
+use Rattle.std.proofs.Common.{◌≡◌, ℕ, ◌+◌, ◌≤◌, Bool, true, false, eqb, List, [], ◌++◌, length, take, drop, Option, Some, None, refl, sym, ap, subst, ◌∙◌, arith, ◌⊎◌, ◌&&◌, ◌||◌, ⊎_elim, inl, length-append, take_all, length-take-le, drop_at, take-append-drop, rules}
 use Rattle.std.specs.Prelude.{codes, Ok, Err, is_ok}
 use Rattle.std.specs.Option.{option_map_or}
 use Rattle.std.specs.Str.{IsUtf8}
-use Rattle.std.proofs.lemmas.Bool.{cases_Bool, cond-true, cond-false, and_parts, and_left, or_left, both_ways, false≢true, ltb-true, le-ltb, eq-eqb, not-true, not_from_false}
+use Rattle.std.proofs.lemmas.Bool.{cases_Bool, cond-true, cond-false, and_parts, or_left, both_ways, false≢true, ltb-true, eq-eqb, not-true, not_from_false}
 use Rattle.std.proofs.lemmas.Bool.Decides.{nat_tests}
 use Rattle.std.proofs.lemmas.List.{drop-drop, drop_all}
 use Rattle.std.proofs.lemmas.Option.{none-some, same_Some}
@@ -14,16 +14,16 @@ use Rattle.uri_pct.proofs.ValidTexts.Prefixes.{nothing_is_scanned_after_valid_pr
 use Rattle.uri_parts.specs.declared.error.ParseError.{ParseError}
 use Rattle.uri_parts.specs.Components.{starts}
 use Rattle.uri_parts.specs.Errors.{unexpected}
-use Rattle.uri_parts.specs.Grammar.{Kind, first_segment_set}
+use Rattle.uri_parts.specs.Grammar.{Kind}
 use Rattle.uri_parts.specs.LiteralErrors.{literal, ipv6_end, cannot_begin_ipv6, closed}
 use Rattle.uri_parts.specs.Refusals.{OptionalParseError, ◌>>=◌, error_from_port, error_from_host}
 use Rattle.uri_parts.specs.Scanning.{ScanResult, is_next, is_at_end, scan_end}
 use Rattle.uri_parts.proofs.Refusals.Complete.{cannot_begin_ipv6-has-no-end}
 use Rattle.uri_parts.proofs.Refusals.Names.{text-begins-with-one-byte-alone, userinfo-stops-with-name-without-colon}
 use Rattle.uri_parts.proofs.Refusals.Rooted.{stray-percent-stops-every-set, scan-stops-at-stray-percent-or-goes-on}
-use Rattle.uri_parts.proofs.Splitting.Cuts.{IsEmptyOrMarked, empty-or-marked-for-more-marks}
+use Rattle.uri_parts.proofs.Splitting.Cuts.{empty-or-marked-for-more-marks}
 use Rattle.error_laws.proofs.Marks.{literal-is-utf8, At}
-use Rattle.error_laws.specs.ViablePrefixes.{holds_at_end, is_ipv6_end_uncounted, is_unrooted, is_late_from_port, is_late_from_host}
+use Rattle.error_laws.specs.ViablePrefixes.{holds_at_end, is_ipv6_end_uncounted, is_late_from_port, is_late_from_host}
 use Rattle.error_laws.proofs.LongerTexts.{longer-text-begins-no-version, end-is-past-text}
 use Rattle.uri_parts.proofs.Refusals.Literals.{literal-without-address-is-unexpected}
 use Rattle.error_laws.proofs.KindFacts.{Facts, path-stops-with-userinfo}
@@ -62,9 +62,7 @@ module _ (kind : Kind) (f : Facts kind) (text : List ℕ) (u : IsUtf8 text) (h :
         let z = stray-percent-stops-every-set kind.reg_name kind.path (drop k text)
         f.adjoins.reg_name_octets f.adjoins.path_octets
         (scan-stops-at-its-end text kind.reg_name h) s in
-        ap (is_unrooted kind text)
-        (cond-false _ _ _ (text-begins-with-one-byte-alone 37 58 (drop k text) refl s))
-        ∙ and_left _ _ (and_left _ _ (le-ltb k (scan_end text kind.path k) (omega (arith, z))))
+        grind (arith, nat_tests, text-begins-with-one-byte-alone)
 
     -- where a late error follows, a name ends only at `@` or `:`
     late-name-ends-at-mark : is_late_from_port kind text k ≡ true
@@ -72,19 +70,16 @@ module _ (kind : Kind) (f : Facts kind) (text : List ℕ) (u : IsUtf8 text) (h :
     unfolding is_late_from_port
     late-name-ends-at-mark late = ⊎_elim
         (λ c. inl c)
-        (λ c.
-        let unrooted : is_unrooted kind text k ≡ true =
-        ap (is_unrooted kind text) (sym (cond-false _ _ _ c)) ∙ late in
-        let p = and_parts _ _ (and_parts _ _ unrooted).0 in
-        let some : k < scan_end text kind.path k = ltb-true _ _ p.0 in
-        let slash : is_next text 47 k ≡ false = not-true _ p.1 in ⊎_elim
-        (λ m. inr m)
-        (λ m.
-        let none = userinfo-stops-with-name-without-colon (first_segment_set kind) kind f.apart
-        f.adjoins [] (drop k text) (scan-stops-at-its-end text kind.reg_name h) c in
-        let z = path-stops-with-userinfo kind f (drop k text) none m slash in
-        absurd (omega (arith, some, z)))
-        (cases_Bool (is_next text 64 k)))
+        (search (
+          rules,
+          cond-false,
+          and_parts,
+          ltb-true,
+          not-true,
+          userinfo-stops-with-name-without-colon,
+          scan-stops-at-its-end,
+          path-stops-with-userinfo,
+        ))
         (cases_Bool (is_next text 58 k))
 
     name-ends-alike : (late : Bool) → is_late_from_port kind text k ≡ late → (n : ℕ)
@@ -122,10 +117,8 @@ module _ (kind : Kind) (f : Facts kind) (text : List ℕ) (u : IsUtf8 text) (h :
         subst (λ x. Outcome text x.index late SameBracket h error)
         (same_Some _ _ (sym (cond-true _ _ _ s) ∙ t))
         (subst (λ y. Outcome text k y SameBracket h error) (sym counted ∙ l')
-        (stop text k SameBracket h error [] u (omega arith) at_end IsUtf8-nil (λ other w d.
-        let p = name-is-passed false counted k other w (omega arith)
-        (subst (IsEmptyOrMarked (codes ":/?#")) (sym d) tt) in
-        (p.0, p.1 ∙ end-has-no-port-error kind other k d)))))
+        (stop text k SameBracket h error [] u (omega arith) at_end IsUtf8-nil
+        (grind (arith, nat_tests, name-is-passed, end-has-no-port-error)))))
         (λ s.
         let o = port-outcome kind f text u k at_end late r l' (sym (cond-false _ _ _ s) ∙ t) in
         carry text r.index late _ _ k h _ _ (omega arith) o
@@ -154,8 +147,7 @@ module _ (kind : Kind) (f : Facts kind) (text : List ℕ) (u : IsUtf8 text) (h :
         (IsUtf8-append c.address (codes "]") c.is.utf8 (literal-is-utf8 (codes "]") refl)) in
         let w = prefix-is-alike text c.more n c.within (subst IsUtf8 (sym c.joined) v) in
         let bracket = bracket-is-shared n other w c.from in
-        let split : drop (h + 1) other ≡ rest = ap (drop (h + 1)) c.joined
-        ∙ drop_at (take (h + 1) text) rest (h + 1) size in
+        let split : drop (h + 1) other ≡ rest = grind (arith, nat_tests, drop_at) in
         let long = ap length c.joined ∙ length-append (take (h + 1) text) rest in
         let at_address = subst IsUtf8 (sym split) (IsUtf8-append c.address (codes "]") c.is.utf8
         (literal-is-utf8 (codes "]") refl)) in
@@ -178,8 +170,7 @@ module _ (kind : Kind) (f : Facts kind) (text : List ℕ) (u : IsUtf8 text) (h :
                       is = c.is.is;
                       end = omega (arith, long, size, length-append c.address (codes "]"));
                     })
-                    ∙ end-has-no-port-error kind other (length other) (drop_all (length other) other
-                    (omega arith)),
+                    ∙ end-has-no-port-error kind other (length other) (search (rules, drop_all)),
               ),
             ),
           );
@@ -195,12 +186,8 @@ module _ (kind : Kind) (f : Facts kind) (text : List ℕ) (u : IsUtf8 text) (h :
         (literal-ends-at-position text (h + 1) k after_bracket e) late r l t in
         let later = (parsed-literal-is-there text (h + 1) k after_bracket.utf8 e).end in
         let from = o.from in
-        carry text r.index late _ _ k h _ _ (omega (arith, later)) o (λ other w q.
-        let c = bracket-is-shared r.index other w (omega (arith, later, from)) in (
-          c ∙ sym s,
-          cond-true _ _ _ c ∙ ap (λ r. r >>= error_from_port kind other)
-              (literal-is-shared r.index text other w u (h + 1) k after_bracket e from),
-        ))
+        carry text r.index late _ _ k h _ _ (omega (arith, later)) o
+        (search (rules, bracket-is-shared, cond-true, literal-is-shared, after_bracket))
     counted-outcome late r (Err x) e counted l t =
         subst (λ y. Outcome text y.index late SameBracket h error) (same_Some x r t)
         (subst (λ y. Outcome text x.index y SameBracket h error) l (closed-outcome x.index
@@ -218,10 +205,7 @@ module _ (kind : Kind) (f : Facts kind) (text : List ℕ) (u : IsUtf8 text) (h :
       past = end-is-past-text text e over
 
       begins : cannot_begin_ipv6 text (h + 1) ≡ false
-      begins = ⊎_elim
-          (λ c. absurd (none-some e (sym (cannot_begin_ipv6-has-no-end text (h + 1) c) ∙ ends)))
-          (λ c. c)
-          (cases_Bool (cannot_begin_ipv6 text (h + 1)))
+      begins = grind (arith, nat_tests, none-some, cannot_begin_ipv6-has-no-end)
 
       literal-ends-with-text : literal text (h + 1) ≡ Err (unexpected e)
       unfolding literal
@@ -246,8 +230,7 @@ module _ (kind : Kind) (f : Facts kind) (text : List ℕ) (u : IsUtf8 text) (h :
       longer-literal-is-not-ok more k o = ⊎_elim
           (λ c. false≢true (ap is_ok (sym (literal-without-address-is-unexpected (text ++ more)
           (h + 1) (longer-text-begins-no-version text more (h + 1) begins) c) ∙ o)))
-          (λ c. closed-option-is-not-ok more k (ipv6_end (text ++ more) (h + 1)) refl
-          (sym (cond-true _ _ _ (not_from_false _ c)) ∙ o))
+          (search (rules, closed-option-is-not-ok, cond-true, not_from_false))
           (cases_Bool (cannot_begin_ipv6 (text ++ more) (h + 1)))
 
       longer-host-has-error : (other more : List ℕ) → other ≡ text ++ more
@@ -294,10 +277,7 @@ module _ (kind : Kind) (f : Facts kind) (text : List ℕ) (u : IsUtf8 text) (h :
         let rest : Bool = holds_at_end (is_late_from_port kind text) (literal text (h + 1)) in
         let l' : (is_ipv6_end_uncounted text (h + 1) || rest) ≡ late = sym (cond-true _ _ _ s)
         ∙ l in ⊎_elim
-        (λ x.
-        let q = and_parts _ _ x in
-        subst (λ y. Outcome text r.index y SameBracket h error) (sym (or_left _ _ x) ∙ l')
-        (uncounted-outcome r (ipv6_end text (h + 1)) refl q.0 (not-true _ q.1) e))
+        (search (rules, and_parts, or_left, uncounted-outcome, not-true))
         (λ x. counted-outcome late r (literal text (h + 1)) refl x
         (sym (ap (λ b. b || rest) x) ∙ l') (sym (cond-true _ _ _ s) ∙ e))
         (cases_Bool (is_ipv6_end_uncounted text (h + 1)))

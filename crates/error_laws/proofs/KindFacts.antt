@@ -1,9 +1,8 @@
 -- What the sets of the four kinds have in common, and what goes on where another stops.
-use Rattle.std.proofs.Common.{arith, ◌≡◌, ℕ, Bool, true, false, List, [], refl, sym, ◌∙◌, ⊎_elim}
-use Rattle.std.specs.Prelude.{codes}
+use Rattle.std.proofs.Common.{arith, ◌≡◌, ℕ, Bool, true, false, List, [], refl, ⊎_elim, rules, codes}
 use Rattle.std.proofs.lemmas.Bool.Decides.{nat_tests}
 use Rattle.uri_pct.specs.Prefixes.{valid_prefix}
-use Rattle.uri_pct.specs.Sets.{allows_past_ascii, is_one_of, is_userinfo_char, is_path_char, userinfo_set, path_set, iuserinfo_set, ipath_set}
+use Rattle.uri_pct.specs.Sets.{allows_past_ascii, is_one_of, is_userinfo_char, is_path_char}
 use Rattle.uri_pct.proofs.ValidTexts.Cuts.{excludes}
 use Rattle.uri_parts.specs.Components.{starts}
 use Rattle.uri_parts.specs.Grammar.{Kind, first_segment_set, kind_by_flags}
@@ -34,24 +33,22 @@ path-char-but-at-or-slash-is-userinfo-char c m e = grind (arith, nat_tests)
 -- IRI's, and with a scheme needed
 pub facts-of-four-kinds : (past needs : Bool) → Facts (kind_by_flags past needs)
 unfolding allows_past_ascii
-facts-of-four-kinds false needs = record {
-  known = refl;
-  apart = each_kind_separates_components (kind_by_flags false needs) refl;
-  adjoins = known-kind-adjoins (kind_by_flags false needs) refl;
-  name_marks = refl;
-  userinfo_marks = refl;
-  only_slash = greater-set-has-all-but-marks (codes "@/") userinfo_set path_set
-      path-char-but-at-or-slash-is-userinfo-char (λ c. refl);
-}
-facts-of-four-kinds true needs = record {
-  known = refl;
-  apart = each_kind_separates_components (kind_by_flags true needs) refl;
-  adjoins = known-kind-adjoins (kind_by_flags true needs) refl;
-  name_marks = refl;
-  userinfo_marks = refl;
-  only_slash = greater-set-has-all-but-marks (codes "@/") iuserinfo_set ipath_set
-      path-char-but-at-or-slash-is-userinfo-char (λ c. refl);
-}
+facts-of-four-kinds false needs =
+    search (
+      rules,
+      each_kind_separates_components,
+      known-kind-adjoins,
+      greater-set-has-all-but-marks,
+      path-char-but-at-or-slash-is-userinfo-char,
+    )
+facts-of-four-kinds true needs =
+    search (
+      rules,
+      each_kind_separates_components,
+      known-kind-adjoins,
+      greater-set-has-all-but-marks,
+      path-char-but-at-or-slash-is-userinfo-char,
+    )
 
 module _ (kind : Kind) (f : Facts kind) (bs : List ℕ) where
   -- a path goes on where userinfo ends with `@` or `/` alone
@@ -60,8 +57,7 @@ module _ (kind : Kind) (f : Facts kind) (bs : List ℕ) where
   path-stops-with-userinfo z at s = ⊎_elim (λ n. n)
       (λ m. nothing-is-scanned-at-mark kind.path [] f.apart.path_lacks refl bs
       (begins-with-further-mark 47 [] bs (begins-with-further-mark 64 (codes "/") bs m at) s))
-      (greater-set-goes-on-with-mark (codes "@/") kind.userinfo kind.path f.adjoins.userinfo_octets
-      f.adjoins.path_octets f.only_slash bs z)
+      (grind (arith, nat_tests, greater-set-goes-on-with-mark))
 
   -- a path goes on after a first segment with `:` or `/` alone
   pub path-stops-with-segment : valid_prefix (first_segment_set kind) bs ≡ 0
@@ -69,5 +65,4 @@ module _ (kind : Kind) (f : Facts kind) (bs : List ℕ) where
   path-stops-with-segment z c s = ⊎_elim (λ n. n)
       (λ m. nothing-is-scanned-at-mark kind.path [] f.apart.path_lacks refl bs
       (begins-with-further-mark 47 [] bs (begins-with-further-mark 58 (codes "/") bs m c) s))
-      (greater-set-goes-on-with-mark (codes ":/") (first_segment_set kind) kind.path
-      (sym f.apart.octets ∙ f.adjoins.path_octets) f.adjoins.path_octets f.apart.rest bs z)
+      (grind (arith, nat_tests, greater-set-goes-on-with-mark))

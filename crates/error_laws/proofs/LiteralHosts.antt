@@ -1,10 +1,9 @@
 -- Hosts in brackets: how what is before an error in one becomes one.
-use Rattle.std.proofs.Common.{◌≡◌, ℕ, ◌+◌, ◌<◌, ◌≤◌, true, false, eqb, List, [], ◌∷◌, ◌++◌, length, get_or, take, drop, Option, Some, None, refl, sym, ap, subst, ◌∙◌, arith, ◌&&◌, ⊎_elim, append_assoc, append-nil, length-append, take_at, length-drop, length-take-le, drop_at, inr}
-use Rattle.std.specs.Prelude.{codes, Ok, Err, nat_lt, slice_index, is_some}
+use Rattle.std.proofs.Common.{◌≡◌, ℕ, ◌+◌, ◌<◌, ◌≤◌, true, false, eqb, List, [], ◌∷◌, ◌++◌, length, take, drop, Option, Some, None, refl, sym, ap, subst, ◌∙◌, arith, ◌&&◌, ⊎_elim, append_assoc, append-nil, length-append, take_at, length-drop, length-take-le, drop_at, inr, rules, codes, Ok, Err, nat_lt, slice_index, is_some}
 use Rattle.std.specs.Net.Grammar.{IsColonHex}
 use Rattle.std.specs.Option.{option_map_or}
 use Rattle.std.specs.Str.{IsUtf8, chars}
-use Rattle.std.proofs.lemmas.Bool.{cases_Bool, cases_lt, cond-true, cond-false, and_parts, and_from, eq-eqb, eqb-true, both_ways, false≢true, ltb-true, lt-ltb, and_cases, not-false, not_from_true, not_from_false, or_left, or_right}
+use Rattle.std.proofs.lemmas.Bool.{cases_Bool, cond-true, cond-false, and_parts, and_from, eqb-true, both_ways, false≢true, ltb-true, lt-ltb, and_cases, not-false, not_from_true, not_from_false, or_left, or_right}
 use Rattle.std.proofs.lemmas.Bool.Decides.{nat_tests}
 use Rattle.std.proofs.lemmas.List.{append_cancel_right, drop-append-le, drop_more, get_or_past}
 use Rattle.std.proofs.lemmas.Str.{IsUtf8-append}
@@ -41,8 +40,7 @@ address-char-is-ascii c e = grind (arith, nat_tests)
 ipv6-is-address : (address segments : List ℕ) → IsColonHex address segments → IsAddress address
 unfolding is_literal is_address_text
 ipv6-is-address address segments h = record {
-  utf8 = tested-ascii-is-utf8 is_address_char address-char-is-ascii address
-      (ipv6-text-is-address-text address segments h);
+  utf8 = search (rules, tested-ascii-is-utf8, address-char-is-ascii, ipv6-text-is-address-text);
   lacks = ipv6-text-lacks-excluded-marks (codes "]") refl address segments h;
   is = or_left _ _ (ap is_some (ipv6_value-complete address segments h));
 }
@@ -84,11 +82,7 @@ ipvfuture-is-address letter version address v some h any k =
       version_digits = (some, h.1);
       address_chars = (any, k.1);
     } in
-    record {
-      utf8 = utf8;
-      lacks = ipvfuture-text-lacks-excluded-marks (codes "]") refl text utf8 is;
-      is = or_right _ _ (is_ipv_future-complete text utf8 is);
-    }
+    search (rules, ipvfuture-text-lacks-excluded-marks, or_right, is_ipv_future-complete)
 
 -- error law: `1` is a hexadecimal digit, which may complete an IPvFuture address
 digit-is-hexdig-text : IsValidFor hexdig_set (codes "1")
@@ -299,12 +293,7 @@ module _ (text : List ℕ) where
 
     version-letter-is-next : is_one_of (codes "vV") (slice_index text i) ≡ true
         → is_next text (slice_index text i) i ≡ true
-    version-letter-is-next e = ⊎_elim
-        (λ (l : i < length text). ap (starts (get_or text i 0)) (drop_more text i 0 l)
-        ∙ eq-eqb (get_or text i 0) (get_or text i 0) refl)
-        (λ (l : length text ≤ i). absurd (both_ways _ (refl {a = is_one_of (codes "vV") 0})
-        (ap (is_one_of (codes "vV")) (sym (get_or_past text i 0 l)) ∙ e)))
-        (cases_lt i (length text))
+    version-letter-is-next e = grind (arith, nat_tests, drop_more, get_or_past)
 
     pub literal-closes : is_ipv6_end_uncounted text i ≡ false → Closes (literal text i)
     unfolding literal

@@ -1,10 +1,10 @@
 -- Where the groups of an IPv6 address end in a text that goes on, and with a `]` after it.
-use Rattle.std.proofs.Common.{◌≡◌, ◌≢◌, ℕ, zero, suc, ◌+◌, ◌-◌, ◌<◌, ◌≤◌, Bool, true, false, not, cond, eqb, List, [], ◌++◌, length, drop, ◌⊎◌, inl, inr, Option, Some, None, refl, sym, ap, subst, ◌∙◌, arith, ◌&&◌, ◌||◌, ⊎_elim, drop_at}
-use Rattle.std.specs.Prelude.{codes, nat_lt}
+use Rattle.std.proofs.Common.{◌≡◌, ◌≢◌, ℕ, zero, suc, ◌+◌, ◌-◌, ◌<◌, ◌≤◌, Bool, true, false, not, cond, eqb, List, [], ◌++◌, length, drop, ◌⊎◌, inl, inr, Option, Some, None, refl, sym, ap, subst, ◌∙◌, arith, ◌&&◌, ◌||◌, ⊎_elim, drop_at, codes, nat_lt}
 use Rattle.std.specs.Net.Reader.{digit_count}
-use Rattle.std.proofs.lemmas.Bool.{cases_Bool, cases_lt, cond-true, cond-false, both_ways, eqb-true, eq-eqb, and_parts, and_right, and_left, and_from, lt-ltb, le-ltb, false≢true, cases_eq}
+use Rattle.std.proofs.lemmas.Bool.{cases_Bool, cases_lt, cond-false, both_ways, eqb-true, eq-eqb, and_parts, and_right, and_left, le-ltb, false≢true, cases_eq}
 use Rattle.std.proofs.lemmas.List.{drop-append-le, drop_more, drop_all}
 use Rattle.std.proofs.lemmas.Option.{none-some, cond_some}
+use Rattle.std.proofs.lemmas.Bool.Decides.{nat_tests}
 use Rattle.uri_parts.specs.Components.{starts, is_end}
 use Rattle.uri_parts.specs.LiteralErrors.{Groups, Groups_end, Elision, Malformed, digits_end, ipv4_end, after_ipv4, groups_from, after_elision, after_groups, ipv6_end}
 use Rattle.uri_parts.specs.Scanning.{is_next, is_at_end}
@@ -33,9 +33,7 @@ module _ (text more : List ℕ) where
   Kept Malformed longer closed = Unit {0}
 
   kept-by : (g g' h h' u u' : Groups) → g ≡ g' → h ≡ h' → u ≡ u' → Kept g' h' u' → Kept g h u
-  kept-by g g' h h' u u' e f c k =
-      subst (λ x. Kept x h u) (sym e) (subst (λ x. Kept g' x u) (sym f)
-      (subst (λ x. Kept g' h' x) (sym c) k))
+  kept-by g g' h h' u u' e f c k = grind (arith, nat_tests)
 
   kept-where-malformed : (g h u : Groups) → g ≡ Malformed → Kept g h u
   kept-where-malformed g h u e = subst (λ x. Kept x h u) (sym e) tt
@@ -84,10 +82,7 @@ module _ (text more : List ℕ) where
           (groups_from (closing text) n is_first i)
 
       group-is-within-text : group ≤ length text
-      group-is-within-text = ⊎_elim
-          (λ c. let e = cond-true colon (i + 1) i c in omega (arith, e))
-          (λ c. let e = cond-false colon (i + 1) i c in omega (arith, e))
-          (cases_Bool colon)
+      group-is-within-text = grind (arith, nat_tests)
 
       end-is-within-text : end ≤ length text
       end-is-within-text = digits_end-is-within-text text 16 4 group group-is-within-text
@@ -221,14 +216,7 @@ module _ (text more : List ℕ) where
             (kept : Kept (groups_from text room false end) (groups_from long room false end)
             (groups_from (closing text) room false end)) where
           end-is-within-or-four-on : (end < length text) ⊎ (group + 4 ≤ end)
-          end-is-within-or-four-on = ⊎_elim
-              (λ (k : end < group + 4). ⊎_elim
-              (λ (a : end < length text). inl a)
-              (λ (a : length text ≤ end). absurd (both_ways _ within
-              (and_from _ _ (lt-ltb _ _ k) (ap is_end (drop_all end text a) ∙ empty-text-is-end))))
-              (cases_lt end (length text)))
-              (λ (k : group + 4 ≤ end). inr k)
-              (cases_lt end (group + 4))
+          end-is-within-or-four-on = grind (arith, nat_tests, drop_all, empty-text-is-end)
 
           end-is-kept : (m : List ℕ) → end ≡ digits_end (text ++ m) 16 4 group
           end-is-kept m = sym (digits_end-is-kept-in-longer-text text 16 4 group
@@ -244,12 +232,8 @@ module _ (text more : List ℕ) where
 
           dot-is-kept : (m : List ℕ) → (short && is_next (text ++ m) 46 end)
               ≡ (short && is_next text 46 end)
-          dot-is-kept m = ⊎_elim
-              (λ (k : end < length text). ap (λ b. short && b)
-              (next-is-kept-in-longer-text text m 46 end k))
-              (λ (k : group + 4 ≤ end). and_left _ _ (le-ltb _ _ k)
-              ∙ sym (and_left _ _ (le-ltb _ _ k)))
-              end-is-within-or-four-on
+          dot-is-kept m =
+              grind (arith, nat_tests, next-is-kept-in-longer-text, end-is-within-or-four-on)
 
           outcome-of-ipv4 : (o : Option ℕ) → ipv4_end text group ≡ o
               → groups_from text n is_first i ≡ after_ipv4 text (room - 1) o
@@ -294,9 +278,7 @@ module _ (text more : List ℕ) where
       → Kept (groups_from text room is_first i) (groups_from long room is_first i)
       (groups_from (closing text) room is_first i)
   groups-are-kept zero is_first i le =
-      kept-by _ (Groups_end 0 i) _ (groups_from long 0 is_first i) _ (Groups_end 0 i)
-      (groups_from-ends-without-room text 0 is_first i refl) refl
-      (groups_from-ends-without-room (closing text) 0 is_first i refl) (le, λ _. inl refl)
+      grind (arith, nat_tests, kept-by, groups_from-ends-without-room)
   groups-are-kept (suc room) is_first i le = ⊎_elim
       (λ (l : i < length text). ⊎_elim
       (λ z. outcome-without-group room is_first i l (eqb-true _ _ z))
@@ -334,13 +316,7 @@ module _ (text more : List ℕ) where
       → after_groups text g ≡ Some e → length text ≤ e
       → after_groups long h ≡ Some last → is_next long 93 last ≡ true
       → after_groups (closing text) u ≡ Some (length text)
-  groups-close (Groups_end room at) h u k e last a past b c =
-      let q = cond_some (eqb room 0) at e a in
-      let over_it : length text ≤ at = omega (arith, past, q.1) in
-      let whole : at ≡ length text = omega (arith, k.0, over_it) in ⊎_elim
-      (λ s. ap (after_groups (closing text)) s ∙ cond-true _ _ _ q.0 ∙ ap Some whole)
-      (λ s. absurd (s.0 (eqb-true room 0 q.0)))
-      (k.1 over_it)
+  groups-close (Groups_end room at) h u k e last a past b c = grind (arith, nat_tests, cond_some)
   groups-close (Elision room at) h u k e last a past b c =
       ap (after_groups (closing text)) k.1
       ∙ elided-groups-close (groups_from text room true at) (groups_from long room true at)

@@ -1,14 +1,14 @@
 -- What is next in a text that goes on, and where digits and IPv4 addresses end in it.
-use Rattle.std.proofs.Common.{Bool, ◌≡◌, ℕ, zero, suc, ◌+◌, ◌-◌, ◌<◌, ◌≤◌, true, false, cond, eqb, List, [], ◌∷◌, ◌++◌, length, take, drop, ◌⊎◌, Option, Some, None, sym, refl, ap, ◌∙◌, arith, ◌&&◌, ⊎_elim, length-drop, length-append, ◌||◌}
-use Rattle.std.specs.Prelude.{codes, nat_lt, nat_le, slice_range, option_and_then}
+use Rattle.std.proofs.Common.{Bool, ◌≡◌, ℕ, zero, suc, ◌+◌, ◌-◌, ◌<◌, ◌≤◌, true, false, cond, eqb, List, [], ◌∷◌, ◌++◌, length, take, drop, ◌⊎◌, Option, Some, None, sym, refl, ap, ◌∙◌, arith, ◌&&◌, ⊎_elim, length-drop, length-append, ◌||◌, codes, nat_lt, nat_le, slice_range, option_and_then}
 use Rattle.std.specs.Char.{is_digit}
 use Rattle.std.specs.Net.Reader.{digit_count}
 use Rattle.std.specs.Str.Parse.{digits_value}
-use Rattle.std.proofs.lemmas.Bool.{cases_Bool, cases_lt, cond-true, cond-false, or_left, both_ways, and_from, eq-eqb, ne_eqb, not_from_false}
+use Rattle.std.proofs.lemmas.Bool.{cases_Bool, cases_lt, cond-true, cond-false, both_ways, ne_eqb}
 use Rattle.std.proofs.lemmas.List.{drop-append-le, drop_more, drop_all, take-append-le, get_or_append_left}
 use Rattle.std.proofs.lemmas.List.Sums.{prefix_len-le-length}
 use Rattle.std.proofs.lemmas.Option.{same_Some, none-some}
-use Rattle.uri_parts.specs.Components.{starts, is_end}
+use Rattle.std.proofs.lemmas.Bool.Decides.{nat_tests}
+use Rattle.uri_parts.specs.Components.{is_end}
 use Rattle.uri_parts.specs.LiteralErrors.{digits_end, octet_end, octets_end, ipv4_end, Groups, cannot_begin_ipv6, after_elision, Groups_end, Elision, Malformed}
 use Rattle.uri_parts.specs.Scanning.{is_next, is_at_end}
 use Rattle.error_laws.proofs.SharedPrefixes.{is_next-by-byte, mark-is-within-text}
@@ -18,9 +18,7 @@ use Rattle.uri_parts.proofs.Refusals.Literals.{version-letter-begins-no-ipv6}
 pub next-is-kept-in-longer-text : (text more : List ℕ) (mark i : ℕ) → i < length text
     → is_next (text ++ more) mark i ≡ is_next text mark i
 next-is-kept-in-longer-text text more mark i l =
-    is_next-by-byte (text ++ more) mark i (omega (arith, l, length-append text more))
-    ∙ ap (λ b. eqb b mark) (get_or_append_left text more 0 i l)
-    ∙ sym (is_next-by-byte text mark i l)
+    grind (arith, nat_tests, is_next-by-byte, length-append, get_or_append_left)
 
 -- general fact on texts, for the error law: one with a byte is not at its end
 pub bytes-are-no-end : (b : ℕ) (bs : List ℕ) → is_end (b ∷ bs) ≡ false
@@ -74,38 +72,26 @@ groups-with-room-end-address text room end =
 -- error law: no IPv6 address begins at the end of a text
 end-begins-no-ipv6 : (text : List ℕ) (i : ℕ) → length text ≤ i → cannot_begin_ipv6 text i ≡ true
 unfolding cannot_begin_ipv6
-end-begins-no-ipv6 text i l =
-    let d = drop_all i text l in
-    let z = ap (digit_count 16) d in
-    let same : digits_end text 16 4 i ≡ i = omega (arith, z) in
-    and_from _ _ (not_from_false _ (ap (starts 58) d)) (or_left _ _ (eq-eqb _ i same))
+end-begins-no-ipv6 text i l = grind (arith, nat_tests, drop_all)
 
 -- error law: where an IPv6 address begins, no address of a later version does in a longer text
 pub longer-text-begins-no-version : (text more : List ℕ) (i : ℕ) → cannot_begin_ipv6 text i ≡ false
     → (is_next (text ++ more) 118 i || is_next (text ++ more) 86 i) ≡ false
-longer-text-begins-no-version text more i begins = ⊎_elim
-    (λ v. absurd (both_ways _ begins (⊎_elim
-    (λ (l : i < length text). version-letter-begins-no-ipv6 text i
-    (ap (λ b. b || is_next text 86 i) (sym (next-is-kept-in-longer-text text more 118 i l))
-    ∙ ap (λ b. is_next (text ++ more) 118 i || b)
-    (sym (next-is-kept-in-longer-text text more 86 i l)) ∙ v))
-    (λ (l : length text ≤ i). end-begins-no-ipv6 text i l)
-    (cases_lt i (length text)))))
-    (λ v. v)
-    (cases_Bool (is_next (text ++ more) 118 i || is_next (text ++ more) 86 i))
+longer-text-begins-no-version text more i begins =
+    grind (
+      arith,
+      nat_tests,
+      version-letter-begins-no-ipv6,
+      next-is-kept-in-longer-text,
+      end-begins-no-ipv6,
+    )
 
 -- error law: in a longer text no fewer digits come first
 digits-are-no-fewer-in-longer-text : (radix : ℕ) (bs more : List ℕ)
     → digit_count radix bs ≤ digit_count radix (bs ++ more)
 digits-are-no-fewer-in-longer-text radix [] more = omega arith
 digits-are-no-fewer-in-longer-text radix (b ∷ bs) more =
-    let ih = digits-are-no-fewer-in-longer-text radix bs more in ⊎_elim
-    (λ d.
-    let e = cond-true (is_digit b radix) (1 + digit_count radix bs) 0 d in
-    let f = cond-true (is_digit b radix) (1 + digit_count radix (bs ++ more)) 0 d in
-    omega (arith, ih, e, f))
-    (λ d. let e = cond-false (is_digit b radix) (1 + digit_count radix bs) 0 d in omega (arith, e))
-    (cases_Bool (is_digit b radix))
+    let ih = digits-are-no-fewer-in-longer-text radix bs more in grind (arith, nat_tests)
 
 -- error law: digits that end within a text end there in a longer text too
 digits-within-text-are-kept : (radix : ℕ) (bs more : List ℕ) → digit_count radix bs < length bs
@@ -137,32 +123,18 @@ module _ (text : List ℕ) (radix most i : ℕ) (le : i ≤ length text) where
   digits_end-is-kept-in-longer-text more h =
       let d = digits-of-longer-text more in
       let n = length-drop i text in
-      let fewer = digits-are-no-fewer-in-longer-text radix (drop i text) more in ⊎_elim
-      (λ (l : digit_count radix (drop i text) < length (drop i text)).
-      let s = digits-within-text-are-kept radix (drop i text) more l in omega (arith, d, s))
-      (λ (l : length (drop i text) ≤ digit_count radix (drop i text)). ⊎_elim
-      (λ (a : digits_end text radix most i < length text). omega (arith, d, n, fewer, l, a, le))
-      (λ (a : i + most ≤ digits_end text radix most i). omega (arith, d, fewer, a))
-      h)
-      (cases_lt (digit_count radix (drop i text)) (length (drop i text)))
+      let fewer = digits-are-no-fewer-in-longer-text radix (drop i text) more in
+      grind (arith, nat_tests, digits-within-text-are-kept)
 
   pub digits_end-is-no-earlier-in-longer-text : (more : List ℕ)
       → digits_end text radix most i ≤ digits_end (text ++ more) radix most i
   digits_end-is-no-earlier-in-longer-text more =
-      omega (
-        arith,
-        digits-of-longer-text more,
-        digits-are-no-fewer-in-longer-text radix (drop i text) more,
-      )
+      grind (arith, nat_tests, digits-of-longer-text, digits-are-no-fewer-in-longer-text)
 
   pub digits_end-is-kept-where-none-follow : (more : List ℕ) → digit_count radix more ≡ 0
       → digits_end (text ++ more) radix most i ≡ digits_end text radix most i
   digits_end-is-kept-where-none-follow more z =
-      omega (
-        arith,
-        digits-of-longer-text more,
-        digits-end-where-none-follow radix (drop i text) more z,
-      )
+      grind (arith, nat_tests, digits-of-longer-text, digits-end-where-none-follow)
 
 -- general fact on options, for the error law: what follows is the same if it is for what is there
 same-next-if-same-for-value : (f g : ℕ → Option ℕ) (o : Option ℕ)
@@ -184,12 +156,8 @@ module _ (text : List ℕ) where
   -- but for a `]`, the same characters are next if the text goes on with one
   pub next-before-bracket-is-kept : (mark i : ℕ) → eqb 93 mark ≡ false → i ≤ length text
       → is_next closing mark i ≡ is_next text mark i
-  next-before-bracket-is-kept mark i other le = ⊎_elim
-      (λ (l : i < length text). next-is-kept-in-longer-text text (codes "]") mark i l)
-      (λ (l : length text ≤ i). ap (starts mark) (drop-append-le i text (codes "]") le
-      ∙ ap (λ t. t ++ codes "]") (drop_all i text l)) ∙ other
-      ∙ sym (ap (starts mark) (drop_all i text l)))
-      (cases_lt i (length text))
+  next-before-bracket-is-kept mark i other le =
+      grind (arith, nat_tests, next-is-kept-in-longer-text, drop-append-le, drop_all)
 
   pub digits_end-is-within-text : (radix most i : ℕ) → i ≤ length text
       → digits_end text radix most i ≤ length text

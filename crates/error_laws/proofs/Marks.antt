@@ -1,6 +1,5 @@
 -- Scans that end at marks, and ASCII texts.
-use Rattle.std.proofs.Common.{◌≡◌, ℕ, true, List, [], ◌∷◌, ◌++◌, length, drop, ap, sym, ◌∙◌, zero, suc, Bool, ltb, ◌<◌, arith}
-use Rattle.std.specs.Str.{IsUtf8, IsAscii}
+use Rattle.std.proofs.Common.{◌≡◌, ℕ, true, List, [], ◌∷◌, ◌++◌, length, drop, ap, sym, ◌∙◌, zero, suc, Bool, ltb, ◌<◌, arith, IsUtf8, IsAscii}
 use Rattle.std.proofs.lemmas.Bool.{eqb-true, and_parts, ltb-true}
 use Rattle.uri_pct.specs.Prefixes.{valid_prefix}
 use Rattle.uri_pct.specs.Sets.{TableSet, LacksPercent}

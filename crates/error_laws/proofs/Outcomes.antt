@@ -1,10 +1,10 @@
 -- What an error says of the texts that begin with what is before it: each has an error too, where
 -- the error is late, and otherwise some text has none.
-use Rattle.std.proofs.Common.{◌≡◌, ℕ, ◌<◌, ◌≤◌, Bool, true, false, List, [], ◌++◌, take, drop, Some, None, refl, sym, ap, subst, ◌∙◌, arith, ◌&&◌, ⊎_elim, length, drop_at, length-take-le}
-use Rattle.std.specs.Str.{IsUtf8}
+use Rattle.std.proofs.Common.{◌≡◌, ℕ, ◌<◌, ◌≤◌, Bool, true, false, List, [], ◌++◌, take, drop, Some, None, refl, sym, ap, subst, ◌∙◌, arith, ◌&&◌, ⊎_elim, length, drop_at, length-take-le, IsUtf8}
 use Rattle.std.proofs.lemmas.Bool.{cases_Bool, cases_lt, cond-true, cond-false}
 use Rattle.std.proofs.lemmas.Option.{same_Some}
 use Rattle.std.proofs.lemmas.Str.{IsUtf8-append, IsUtf8-nil, IsUtf8-take, IsCharBoundary-from_drop}
+use Rattle.std.proofs.lemmas.Bool.Decides.{nat_tests}
 use Rattle.uri_pct.specs.Sets.{TableSet, LacksPercent, digit_set, is_one_of}
 use Rattle.uri_pct.proofs.ValidTexts.Cuts.{excludes}
 use Rattle.uri_parts.specs.declared.error.ParseError.{ParseError}
@@ -42,21 +42,8 @@ module _ (text : List ℕ) (n : ℕ) where
       → j ≤ i → Outcome late P i e
       → ((other : List ℕ) → Alike n text other → P other → Q other × (f other ≡ e other))
       → Outcome late Q j f
-  carry true P Q i j e f le o h =
-      let from = o.from in
-      record {
-        from = omega arith;
-        within = o.within;
-        is = λ other w.
-            let p = o.is other w in
-            let q = h other w p.0 in
-            (q.0, (p.1.0, q.1 ∙ p.1.1));
-      }
-  carry false P Q i j e f le o h =
-      let from = o.from in
-      let (other, (w, (p, z))) = o.is in
-      let q = h other w p in
-      record { from = omega arith; within = o.within; is = (other, (w, (q.0, q.1 ∙ z))) }
+  carry true P Q i j e f le o h = grind (arith, nat_tests)
+  carry false P Q i j e f le o h = grind (arith, nat_tests)
 
   -- the text ends there, or goes on in this way
   pub stop : (P : List ℕ → Type 0) (i : ℕ) (error : List ℕ → OptionalParseError) (more : List ℕ)

@@ -1,10 +1,9 @@
 -- The outcomes of errors in a fragment, a query, a path and a port.
-use Rattle.std.proofs.Common.{◌≡◌, ℕ, ◌+◌, ◌<◌, ◌≤◌, Bool, true, false, cond, eqb, List, [], ◌∷◌, drop, Some, None, refl, sym, ap, subst, ◌∙◌, arith, ◌&&◌, ◌||◌, inl, ⊎_elim, inr, ◌⊎◌, length-drop}
-use Rattle.std.specs.Prelude.{codes, Ok}
-use Rattle.std.specs.Str.{IsUtf8}
+use Rattle.std.proofs.Common.{◌≡◌, ℕ, ◌+◌, ◌<◌, ◌≤◌, Bool, true, false, cond, eqb, List, [], ◌∷◌, drop, Some, None, refl, sym, ap, subst, ◌∙◌, arith, ◌&&◌, ◌||◌, inl, ⊎_elim, inr, ◌⊎◌, length-drop, codes, Ok, IsUtf8}
 use Rattle.std.proofs.lemmas.Bool.{cases_Bool, cond-true, cond-false, and_parts, and_from, or_left, or_right, or_from, or_parts, both_ways, eq-eqb, eqb-true, ne_eqb, ltb-true, lt-ltb, not-true, not_from_false, or_cases}
 use Rattle.std.proofs.lemmas.Option.{same_Some, none-some}
 use Rattle.std.proofs.lemmas.Str.{IsUtf8-nil, IsCharBoundary-from_take}
+use Rattle.std.proofs.lemmas.Bool.Decides.{nat_tests}
 use Rattle.uri_pct.specs.Prefixes.{valid_prefix}
 use Rattle.uri_pct.specs.Sets.{TableSet, LacksPercent, digit_set, is_one_of}
 use Rattle.uri_pct.specs.Tokens.{IsValidFor}
@@ -29,8 +28,7 @@ use Rattle.error_laws.proofs.SharedPrefixes.{IsPosition, position-after-mark, sc
 scan-stays-at-end : (text : List ℕ) (set : TableSet) (i : ℕ) → drop i text ≡ []
     → scan text set i ≡ Ok i
 scan-stays-at-end text set i d =
-    let z = ap (valid_prefix set) d ∙ empty_text_has_empty_valid_prefix set in
-    scan-goes-on text set i i (omega (arith, z)) (ap (starts 37) d)
+    grind (arith, nat_tests, empty_text_has_empty_valid_prefix, scan-goes-on)
 
 module _ (kind : Kind) (text : List ℕ) (i : ℕ) (d : drop i text ≡ []) where
   end-has-no-error : error_from_end kind text i ≡ None
@@ -52,9 +50,8 @@ module _ (kind : Kind) (text : List ℕ) (i : ℕ) (d : drop i text ≡ []) wher
 
   end-has-no-abempty-path-error : error_from_abempty_path kind text i ≡ None
   unfolding error_from_abempty_path
-  end-has-no-abempty-path-error = ap (λ r. r >>= λ end. cond (eqb end i || is_next text 47 i)
-      (error_from_query kind text end) (Some (unexpected i))) (scan-stays-at-end text kind.path i d)
-      ∙ cond-true _ _ _ (or_left _ _ (eq-eqb i i refl)) ∙ end-has-no-query-error
+  end-has-no-abempty-path-error =
+      grind (arith, nat_tests, scan-stays-at-end, end-has-no-query-error)
 
   pub end-has-no-port-error : error_from_port kind text i ≡ None
   unfolding error_from_port
@@ -63,9 +60,7 @@ module _ (kind : Kind) (text : List ℕ) (i : ℕ) (d : drop i text ≡ []) wher
 
   pub end-has-no-host-error : error_from_host kind text i ≡ None
   unfolding error_from_host
-  end-has-no-host-error = cond-false _ _ _ (ap (starts 91) d)
-      ∙ ap (λ r. r >>= error_from_port kind text) (scan-stays-at-end text kind.reg_name i d)
-      ∙ end-has-no-port-error
+  end-has-no-host-error = grind (arith, nat_tests, scan-stays-at-end, end-has-no-port-error)
 
 module _ (kind : Kind) (f : Facts kind) (text : List ℕ) (u : IsUtf8 text) where
   -- the end of the text

@@ -1,14 +1,13 @@
 -- Positions between the characters of a text, and two texts that begin alike: what is next and what
 -- is scanned within what they share.
-use Rattle.std.proofs.Common.{◌≡◌, ℕ, ◌+◌, ◌-◌, ◌<◌, ◌≤◌, true, false, eqb, List, [], ◌∷◌, ◌++◌, ap, length, get_or, take, drop, refl, sym, subst, ◌∙◌, arith, ◌&&◌, ⊎_elim, length-append, length-drop, length-take-le, take-append-drop, take_at, drop_at, append_assoc}
-use Rattle.std.specs.Prelude.{Ok, is_ok, codes}
+use Rattle.std.proofs.Common.{◌≡◌, ℕ, ◌+◌, ◌-◌, ◌<◌, ◌≤◌, true, false, eqb, List, [], ◌∷◌, ◌++◌, ap, length, get_or, take, drop, refl, sym, subst, ◌∙◌, arith, ◌&&◌, ⊎_elim, length-append, length-drop, length-take-le, take-append-drop, take_at, drop_at, append_assoc, Ok, is_ok, codes, IsUtf8}
 use Rattle.std.specs.Result.{result_ok}
-use Rattle.std.specs.Str.{IsUtf8}
-use Rattle.std.proofs.lemmas.Bool.{cases_Bool, cases_lt, cond-true, cond-false, and_parts, eqb-true, and_right, false≢true}
+use Rattle.std.proofs.lemmas.Bool.{cases_Bool, cond-true, cond-false, and_parts, eqb-true, and_right, false≢true}
 use Rattle.std.proofs.Math.Seq.{take-append-add}
 use Rattle.std.proofs.lemmas.List.{drop-drop, drop-take, take-take, get_or-take, get_or-drop, drop_more, drop_all}
 use Rattle.std.proofs.lemmas.Option.{same_Some}
 use Rattle.std.proofs.lemmas.Str.{IsUtf8-take, IsUtf8-drop, IsCharBoundary-from_drop, IsCharBoundary-from_take, IsCharBoundary-before_ascii}
+use Rattle.std.proofs.lemmas.Bool.Decides.{nat_tests}
 use Rattle.uri_pct.specs.Prefixes.{allows_first, valid_prefix}
 use Rattle.uri_pct.specs.Sets.{TableSet, LacksPercent, allows_past_ascii, digit_set, is_one_of}
 use Rattle.uri_pct.specs.Tokens.{IsValidFor}
@@ -31,10 +30,7 @@ use Rattle.error_laws.proofs.Marks.{At, valid-text-is-scanned-to-mark}
 -- error law: where a mark is next, the text does not end
 pub mark-is-within-text : (text : List ℕ) (mark i : ℕ) → is_next text mark i ≡ true
     → i < length text
-mark-is-within-text text mark i e = ⊎_elim
-    (λ (l : i < length text). l)
-    (λ (l : length text ≤ i). absurd (false≢true (sym (ap (starts mark) (drop_all i text l)) ∙ e)))
-    (cases_lt i (length text))
+mark-is-within-text text mark i e = grind (arith, nat_tests, drop_all)
 
 -- general fact on lists, for the error law: what is taken in one step is taken in two
 pub taken-in-two-steps : (text : List ℕ) (i k : ℕ) → i ≤ length text
@@ -116,14 +112,7 @@ pub record Alike (n : ℕ) (text other : List ℕ) : Type 0 where
 -- error law: a text is alike to each text that its first n bytes begin
 pub prefix-is-alike : (text more : List ℕ) (n : ℕ) → n ≤ length text → IsUtf8 (take n text ++ more)
     → Alike n text (take n text ++ more)
-prefix-is-alike text more n le v =
-    let size = length-take-le n text le in
-    record {
-      same = sym (take_at (take n text) more n size);
-      within = le;
-      in_other = omega (arith, length-append (take n text) more, size);
-      utf8 = v;
-    }
+prefix-is-alike text more n le v = grind (arith, nat_tests, length-take-le, take_at, length-append)
 
 -- error law: whether a byte is a decimal digit says whether the set of digits allows what it begins
 digit-is-allowed-by-byte : (b : ℕ) (bs more : List ℕ) → allows_first digit_set b bs
@@ -152,9 +141,7 @@ module _ (n : ℕ) (text other : List ℕ) (w : Alike n text other) where
       ∙ get_or-take n text i 0 l
 
   pub next-is-shared : (mark i : ℕ) → i < n → is_next other mark i ≡ is_next text mark i
-  next-is-shared mark i l = is_next-by-byte other mark i (omega (arith, w.in_other))
-      ∙ ap (λ b. eqb b mark) (byte-is-shared i l)
-      ∙ sym (is_next-by-byte text mark i (omega (arith, w.within)))
+  next-is-shared mark i l = grind (arith, nat_tests, is_next-by-byte, byte-is-shared)
 
   pub prefix-is-shared : (i : ℕ) → i ≤ n → take i other ≡ take i text
   prefix-is-shared i le = sym (take-take i n other le) ∙ ap (take i) (sym w.same)
@@ -167,12 +154,7 @@ module _ (n : ℕ) (text other : List ℕ) (w : Alike n text other) where
   -- `//`
   pub slashes-are-shared : (i : ℕ) → i + 2 ≤ n
       → has_authority (drop i other) ≡ has_authority (drop i text)
-  slashes-are-shared i le =
-      let byte : (k : ℕ) → k < 2 → get_or (drop i other) k 0 ≡ get_or (drop i text) k 0 = λ k l.
-      get_or-drop i other k 0 ∙ byte-is-shared (i + k) (omega arith)
-      ∙ sym (get_or-drop i text k 0) in
-      ap (λ b. eqb b 47 && eqb (get_or (drop i other) 1 0) 47) (byte 0 (omega arith))
-      ∙ ap (λ b. eqb (get_or (drop i text) 0 0) 47 && eqb b 47) (byte 1 (omega arith))
+  slashes-are-shared i le = grind (arith, nat_tests, get_or-drop, byte-is-shared)
 
   module _ (u : IsUtf8 text) where
     pub position-is-shared : (i : ℕ) → i ≤ n → IsPosition text i → IsPosition other i
@@ -214,9 +196,8 @@ module _ (n : ℕ) (text other : List ℕ) (w : Alike n text other) where
         → excludes set marks ≡ true → is_one_of marks 37 ≡ false → (i : ℕ) → IsPosition text i
         → scan_end text set i ≤ n → At marks (scan_end text set i) other
         → scan other set i ≡ Ok (scan_end text set i)
-    scan-goes-on-alike set marks lacks outside plain i a le at = scan-goes-on other set i _
-        (scan-is-shared set marks lacks outside i a le at)
-        (begins-with-no-other 37 marks (drop (scan_end text set i) other) plain at)
+    scan-goes-on-alike set marks lacks outside plain i a le at =
+        grind (arith, nat_tests, scan-goes-on, scan-is-shared, begins-with-no-other)
 
   -- digits that end within what is shared
   pub digits-end-is-shared : (i : ℕ) → i ≤ n → scan_end text digit_set i < n

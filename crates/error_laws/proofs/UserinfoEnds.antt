@@ -1,7 +1,6 @@
 -- Where userinfo, a name and a port end in one another, and the last `:` of a text.
-use Rattle.std.proofs.Common.{◌≡◌, ℕ, zero, suc, ◌+◌, ◌<◌, ◌≤◌, true, false, cond, eqb, List, ◌∷◌, drop, refl, ap, ◌∙◌, arith, ⊎_elim}
+use Rattle.std.proofs.Common.{◌≡◌, ℕ, zero, suc, ◌+◌, ◌<◌, ◌≤◌, true, false, cond, eqb, List, ◌∷◌, drop, refl, ap, ◌∙◌, arith, ⊎_elim, drop-drop}
 use Rattle.std.proofs.lemmas.Bool.{cases_Bool, cond-true, cond-false, and_right, eq-eqb}
-use Rattle.std.proofs.lemmas.List.{drop-drop}
 use Rattle.uri_pct.specs.Prefixes.{valid_prefix_from, valid_prefix}
 use Rattle.uri_pct.specs.Sets.{digit_set}
 use Rattle.uri_pct.proofs.ValidTexts.Cuts.{valid_prefix_by_first_byte}

@@ -1,10 +1,7 @@
 -- The outcomes of errors in a whole text: the law of viable prefixes, and its exceptions.
-use Rattle.std.proofs.Common.{◌≡◌, ℕ, ◌+◌, ◌<◌, ◌≤◌, Bool, true, false, cond, eqb, List, [], ◌∷◌, ◌++◌, length, get_or, take, drop, Some, None, refl, sym, ap, subst, ◌∙◌, arith, ◌&&◌, ⊎_elim, length-drop, take-append-drop, zero-add}
-use Rattle.std.specs.Prelude.{codes, is_none, slice_index}
+use Rattle.std.proofs.Common.{◌≡◌, ℕ, ◌+◌, ◌<◌, ◌≤◌, Bool, true, false, cond, eqb, List, [], ◌∷◌, ◌++◌, length, get_or, take, drop, Some, None, refl, sym, ap, subst, ◌∙◌, arith, ◌&&◌, ⊎_elim, length-drop, take-append-drop, zero-add, codes, is_none, slice_index, IsUtf8, drop-drop, get_or-drop}
 use Rattle.std.specs.Char.{is_ascii_alphabetic}
-use Rattle.std.specs.Str.{IsUtf8}
 use Rattle.std.proofs.lemmas.Bool.{cases_Bool, cases_lt, cond-true, cond-false, and_parts, and_left, and_right, and_cases, both_ways, false≢true, ltb-true, lt-ltb, not-true, not-false, or_right}
-use Rattle.std.proofs.lemmas.List.{drop-drop, get_or-drop}
 use Rattle.std.proofs.lemmas.Option.{same_Some}
 use Rattle.std.proofs.lemmas.Str.{IsUtf8-nil}
 use Rattle.uri_pct.specs.Prefixes.{valid_prefix}

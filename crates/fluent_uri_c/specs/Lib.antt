@@ -21,7 +21,6 @@ pub mod Origins
 pub mod Outcomes
 pub mod Pairs
 pub mod PartColumns
-pub mod PlainTexts
 pub mod PortNumbers
 pub mod Relatives
 pub mod Results

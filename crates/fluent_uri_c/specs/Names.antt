@@ -8,7 +8,7 @@ version = 0x000100
 
 -- the version of normal forms: it is another wherever one of them is
 abbrev pub normal_version : ℕ
-normal_version = 1
+normal_version = 2
 
 -- the name in the C header of an error with a number, if there is one
 abbrev pub error_name : ℕ → Option (List ℕ)

@@ -21,7 +21,7 @@ pub extern "C" fn fluent_uri_version() -> u32
 pub extern "C" fn fluent_uri_normal_version() -> u32
     ensures { result ≡ normal_version }
 {
-    1
+    2
 }
 
 /// Returns the name, in the header, of the error with this number, if there is one.

@@ -27,7 +27,6 @@ mod origins;
 mod outcome;
 mod parsing;
 mod parts;
-mod plain;
 mod queries;
 mod relative;
 mod rules;

@@ -9,7 +9,8 @@ use crate::texts::parsed;
 use fluent_uri::{IriRef, Reference, RiMaybeRef};
 use std::alloc::Global;
 use std::convert::AsStr;
-use uri_ops::normalize::unchanged::is_unchanged;
+use uri_ops::default_port::SchemeDefaults;
+use uri_ops::normalize::unchanged::is_found_normal;
 use uri_parts::kind::Kind;
 use uri_setting::RuleSetting;
 
@@ -57,8 +58,8 @@ impl<'a> NormalForm<'a> {
     }
 }
 
-/// Returns `true` only if a value is plainly its own normal form under the setting's rules. With
-/// the rules of schemes it returns `false`.
+/// Returns `true` only if a value is found to be its own normal form under the setting's rules.
+/// With the rules of schemes it returns `false`.
 #[inline(always)]
 pub fn is_own_normal_form<K: Kind>(setting: RuleSetting, value: &Reference<K, &str>) -> bool
     ensures { let text = reference_text value.now in
@@ -67,11 +68,11 @@ pub fn is_own_normal_form<K: Kind>(setting: RuleSetting, value: &Reference<K, &s
     if setting.scheme_rules {
         return false;
     }
-    is_unchanged(value.core())
+    is_found_normal(value.core(), &SchemeDefaults)
 }
 
 /// Returns the normal form of bytes that are a text of the kind. It takes no memory if default
-/// ports alone count, and the text is plainly its own normal form.
+/// ports alone count, and the text is found to be its own normal form.
 pub fn normal_form<'a, K: Kind>(
     alloc: Global,
     bytes: &'a [u8],

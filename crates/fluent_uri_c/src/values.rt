@@ -24,7 +24,7 @@ use uri_parts::core_text::Core;
 use uri_parts::kind::Kind;
 use uri_setting::RuleSetting;
 
-/// Writes the normal form of a value, from the input if the text is plainly its own, or reports
+/// Writes the normal form of a value, from the input if the text is found to be its own, or reports
 /// that memory is out. Returns the number of the error, or 0.
 #[inline(always)]
 fn write_normal_form<K: Kind>(

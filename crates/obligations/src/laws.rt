@@ -3,6 +3,8 @@
 #![tactic(auto)]
 
 pub mod addresses;
+pub mod by_rules;
+pub mod comparing;
 pub mod converting;
 pub mod decoding;
 pub mod dots;
@@ -10,9 +12,14 @@ pub mod empty;
 pub mod equivalence;
 pub mod errors;
 pub mod grammar;
+pub mod leading;
+pub mod lines;
+pub mod mending;
 pub mod normalising;
 pub mod octets;
+pub mod ordering;
 pub mod parsing;
+pub mod printed_rules;
 pub mod removing;
 pub mod splits;
 pub mod swapping;

@@ -2,6 +2,7 @@ pub mod Commands
 pub mod NormalForms
 pub mod Targets
 pub mod Prefixes
+pub mod Calls
 pub mod Appended
 pub mod Refusals
 pub mod Outputs

@@ -1,5 +1,5 @@
 -- What a call of `uri_mend` returned is what a link is mended to.
-use Rattle.std.proofs.Common.{◌≡◌, List, Result, ap, sym, subst, true, ℕ}
+use Rattle.std.proofs.Common.{◌≡◌, List, Result, sym, subst, true, ℕ}
 use Rattle.std.specs.Prelude.{IfErr, IfOk}
 use Rattle.std.proofs.lemmas.Result.{IfErr-weaker, IfOk-weaker}
 use Rattle.fluent_uri.specs.Grammar.{Kind}
@@ -44,3 +44,10 @@ pub mended-link-has-mended-text : {A E : Type 0} (bytes : A → List ℕ) (name 
     → IfOk result (λ link. bytes link ≡ mended_text (kind_named name) (trimmed_link text))
 mended-link-has-mended-text bytes name kind text result same is = IfOk-weaker result _ _
     (λ link e. subst (λ k. bytes link ≡ mended_text k (trimmed_link text)) (sym same) e.text) is
+
+-- links: what `mend` owes for each kind that a word names
+pub ruleset of_each_kind = (
+  error-of-link-is-error-of-mend,
+  mended-link-can-be-mended,
+  mended-link-has-mended-text,
+)

@@ -21,11 +21,11 @@ normal_form_is by_rules kind text normal is = is.text
 
 -- commands: an error that is right for a text of which the normal form is asked for is one of
 -- `normalize`
-pub error-of-normal-form-is-error-of-normalize : {A : Type 0} (by_rules : Bool) (name : KindName)
+pub error_of_normal_form_is_error_of_normalize : {A : Type 0} (by_rules : Bool) (name : KindName)
     (kind : Kind) (text : List ℕ) (result : Result A CommandError) → kind_named name ≡ kind
     → IfErr result (IsErrorOfNormalForm kind text)
     → IfErr result (IsErrorOfCommand (Normalize by_rules name text))
-error-of-normal-form-is-error-of-normalize by_rules name kind text result same is =
+error_of_normal_form_is_error_of_normalize by_rules name kind text result same is =
     IfErr-weaker result _ _
     (λ why e. of-each why (subst (λ k. IsErrorOfNormalForm k text why) (sym same) e)) is
   where

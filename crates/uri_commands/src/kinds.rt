@@ -21,6 +21,23 @@ pub enum KindName {
     IriRef,
 }
 
+/// Calls a generic function at the kind that a `KindName` names: `for_kind!(kind, f(a))`.
+#[macro_export]
+macro_rules! for_kind {
+    ($kind:expr, $function:ident($($argument:expr),*)) => {
+        match $kind {
+            $crate::kinds::KindName::Uri => $function::<fluent_uri::kind::UriKind>($($argument),*),
+            $crate::kinds::KindName::UriRef => {
+                $function::<fluent_uri::kind::UriRefKind>($($argument),*)
+            }
+            $crate::kinds::KindName::Iri => $function::<fluent_uri::kind::IriKind>($($argument),*),
+            $crate::kinds::KindName::IriRef => {
+                $function::<fluent_uri::kind::IriRefKind>($($argument),*)
+            }
+        }
+    };
+}
+
 /// Returns the kind of this name, if there is one.
 pub fn kind_named(word: &str) -> Option<KindName>
     ensures { MatchOption result ((kind : _) → word.now ≢ word_of_kind kind)

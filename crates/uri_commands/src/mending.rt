@@ -8,10 +8,11 @@ ghost use Rattle.uri_mend.specs.Mended.{IsMended};
 ghost use Rattle.uri_mend.specs.Mending.{can_be_mended, mended_text};
 ghost use Rattle.uri_mend.specs.Trimming.{trimmed_link};
 
+use crate::for_kind;
 use crate::kinds::KindName;
 use crate::refusal::CommandError;
 use fluent_uri::Reference;
-use fluent_uri::kind::{IriKind, IriRefKind, Kind, UriKind, UriRefKind};
+use fluent_uri::kind::Kind;
 use std::alloc::Global;
 use uri_mend::{Mend, MendError};
 
@@ -22,6 +23,7 @@ use uri_mend::{Mend, MendError};
 /// # Errors
 ///
 /// Returns `Text` if the link cannot be mended, and `OutOfMemory` if allocation fails.
+#[tactic(auto, using(crate::proofs::MendedLinks::of_each_kind))]
 pub fn mended(alloc: Global, kind: KindName, text: &str) -> Result<String, CommandError>
     ensures mendable { IfOk result (λ _.
         can_be_mended (kind_named kind) (trimmed_link text.now) ≡ true) }
@@ -30,12 +32,7 @@ pub fn mended(alloc: Global, kind: KindName, text: &str) -> Result<String, Comma
         ≡ mended_text (kind_named kind) (trimmed_link text.now)) }
     ensures unwritten { has_output_failed result ≡ false }
 {
-    match kind {
-        KindName::Uri => mended_link_text::<UriKind>(alloc, text),
-        KindName::UriRef => mended_link_text::<UriRefKind>(alloc, text),
-        KindName::Iri => mended_link_text::<IriKind>(alloc, text),
-        KindName::IriRef => mended_link_text::<IriRefKind>(alloc, text),
-    }
+    for_kind!(kind, mended_link_text(alloc, text))
 }
 
 /// Returns the text of the kind `K` that a link of a page is mended to.

@@ -6,10 +6,11 @@ ghost use Rattle.uri_commands.specs.Ends.{has_output_failed};
 ghost use Rattle.uri_commands.specs.Kinds.{kind_named, normal_form_of};
 ghost use Rattle.uri_commands.specs.Refusals.{IsErrorOfCommand, IsErrorOfNormalForm};
 
+use crate::for_kind;
 use crate::kinds::KindName;
 use crate::refusal::CommandError;
 use fluent_uri::Reference;
-use fluent_uri::kind::{IriKind, IriRefKind, Kind, UriKind, UriRefKind};
+use fluent_uri::kind::Kind;
 use std::alloc::Global;
 use uri_setting::RuleSetting;
 
@@ -19,6 +20,7 @@ use uri_setting::RuleSetting;
 /// # Errors
 ///
 /// Returns `Text` if the text is not of the kind, and `OutOfMemory` if allocation fails.
+#[tactic(auto, using(crate::proofs::NormalForms::error_of_normal_form_is_error_of_normalize))]
 pub fn normalize_text(
     alloc: Global,
     kind: KindName,
@@ -31,12 +33,7 @@ pub fn normalize_text(
         ≡ normal_form_of scheme_rules (kind_named kind) text.now) }
     ensures unwritten { has_output_failed result ≡ false }
 {
-    match kind {
-        KindName::Uri => normal_form::<UriKind>(alloc, text, scheme_rules),
-        KindName::UriRef => normal_form::<UriRefKind>(alloc, text, scheme_rules),
-        KindName::Iri => normal_form::<IriKind>(alloc, text, scheme_rules),
-        KindName::IriRef => normal_form::<IriRefKind>(alloc, text, scheme_rules),
-    }
+    for_kind!(kind, normal_form(alloc, text, scheme_rules))
 }
 
 /// Parses a text as the kind, and returns its normal form.

@@ -1,13 +1,47 @@
 //! A writer that says whether it failed, and keeps its error.
 ghost use Rattle.std.specs.Prelude.{◌≡◌, ◌||◌, ◌++◌, ℕ, List, Option, false, true, not, IsTrue};
-ghost use Rattle.std.specs.Prelude.{IfErr, IfSome, None, OnOk};
+ghost use Rattle.std.specs.Prelude.{◌<◌, IfErr, IfOk, IfSome, None, OnOk, option_map};
 ghost use Rattle.std.specs.Io.{WritesAtMost};
 ghost use Rattle.std.specs.Io.KnownBytes.{Appends, Keeps, WriteAppends};
 ghost use Rattle.uri_commands.specs.Prefixes.{AppendsPrefix};
 ghost use Rattle.uri_commands.specs.Sinks.{IsFinal, IsFlushedUnlessPut, KeepsErrorOf};
-ghost use Rattle.uri_commands.specs.Sinks.{KeepsFinalError};
+ghost use Rattle.uri_commands.specs.Sinks.{Call, Flushed, IsFailedFlush, IsFailedWrite};
+ghost use Rattle.uri_commands.specs.Sinks.{IsInterruptedWrite, KeepsFinalError, Wrote};
 
 use std::io::{self, ErrorKind, Write};
+
+/// A writer of which contracts know the last call. Each writer is one.
+pub trait Traced: Write {
+    ghost use Rattle.std.specs.Prelude.{None, Option};
+    ghost use Rattle.uri_commands.specs.Sinks.{Call};
+
+    /// The last call, with what it returned, if it is known.
+    ghost last_call: { Self → Option Call } = { λ _. None };
+
+    /// Writes some of the bytes by `write`, and returns how many.
+    fn write_some(&mut self, bytes: &[u8]) -> io::Result<usize>
+        ensures bound { WritesAtMost result bytes.now }
+        ensures bytes { WriteAppends (Self.contents self.old) (Self.contents self.new) result
+            bytes.now }
+        ensures call { IfSome (last_call self.new) (λ call. call ≡ Wrote result) };
+
+    /// Flushes the writer by `flush`.
+    fn flush_once(&mut self) -> io::Result<()>
+        ensures bytes { Keeps (Self.contents self.old) (Self.contents self.new) }
+        ensures call { IfSome (last_call self.new) (λ call. call ≡ Flushed result) };
+}
+
+impl<W: Write> Traced for W {
+    /// Writes some of the bytes by `write`, and returns how many.
+    fn write_some(&mut self, bytes: &[u8]) -> io::Result<usize> {
+        self.write(bytes)
+    }
+
+    /// Flushes the writer by `flush`.
+    fn flush_once(&mut self) -> io::Result<()> {
+        self.flush()
+    }
+}
 
 /// A writer that says whether it failed, and keeps its error.
 #[derive(Drop)]
@@ -22,7 +56,7 @@ pub struct Sink<W> {
     error: Option<io::Error>,
 }
 
-impl<W: Write> Sink<W> {
+impl<W: Traced> Sink<W> {
     /// Returns the writer, as one that has not failed and to which nothing was written.
     pub fn new(writer: W) -> Sink<W>
         ensures writer { result.writer ≡ writer }
@@ -45,6 +79,13 @@ impl<W: Write> Sink<W> {
         self.has_failed
     }
 
+    /// Returns why a write or a flush failed, if one did and `take_error` was not called since.
+    pub fn error(&self) -> Option<&io::Error>
+        ensures { option_map (λ error. error.now) result ≡ self.now.error }
+    {
+        self.error.as_ref()
+    }
+
     /// Returns the writer that was given to `new`.
     pub fn into_inner(self) -> W
         ensures { result ≡ self.writer }
@@ -62,13 +103,15 @@ impl<W: Write> Sink<W> {
             text.now }
         ensures failed { self.new.has_failed ≡ (not result || self.old.has_failed) }
         ensures error { result ≡ false → KeepsFinalError self.new.error }
+        ensures cause { result ≡ false
+            → IfSome (W.last_call self.new.writer) (IsFailedWrite self.new.error) }
         ensures flushed { IsFlushedUnlessPut self.old.is_flushed self.new.is_flushed text.now }
     {
         if text.is_empty() {
             return true;
         }
         self.is_flushed = false;
-        match self.writer.write(text) {
+        match self.writer.write_some(text) {
             Ok(count) if count == text.len() => true,
             first => self.put_rest(first, text),
         }
@@ -89,6 +132,9 @@ impl<W: Write> Sink<W> {
         ensures failed { self.new.has_failed ≡ (not result || self.old.has_failed) }
         ensures error { result ≡ false → KeepsFinalError self.new.error }
         ensures first { KeepsErrorOf first self.new.error }
+        ensures cause { IfSome (W.last_call self.old.writer) (λ call. call ≡ Wrote first)
+            → result ≡ false
+            → IfSome (W.last_call self.new.writer) (IsFailedWrite self.new.error) }
         ensures flushed { self.new.is_flushed ≡ self.old.is_flushed }
     {
         match write_rest(&mut self.writer, first, text) {
@@ -133,6 +179,10 @@ impl<W: Write> Sink<W> {
         ensures failed { self.new.has_failed ≡ (not result || self.old.has_failed) }
         ensures error { result ≡ false → KeepsFinalError self.new.error }
         ensures flushed { result ≡ true → self.new.is_flushed ≡ true }
+        ensures reached { result ≡ true
+            → IfSome (W.last_call self.new.writer) (λ call. call ≡ Flushed (Ok tt)) }
+        ensures cause { result ≡ false
+            → IfSome (W.last_call self.new.writer) (IsFailedFlush self.new.error) }
     {
         match flush_whole(&mut self.writer) {
             Ok(()) => {
@@ -145,12 +195,16 @@ impl<W: Write> Sink<W> {
 }
 
 /// Flushes a writer, again if that was interrupted.
-fn flush_whole<W: Write>(writer: &mut W) -> io::Result<()>
+fn flush_whole<W: Traced>(writer: &mut W) -> io::Result<()>
     ensures keeps { Keeps (W.contents writer.old) (W.contents writer.new) }
     ensures ends { IfErr result IsFinal }
+    ensures reached { OnOk result
+        (IfSome (W.last_call writer.new) (λ call. call ≡ Flushed (Ok tt))) }
+    ensures cause { IfErr result
+        (λ error. IfSome (W.last_call writer.new) (IsFailedFlush (Some error))) }
 {
-    for _ in 0..u64::MAX {
-        match writer.flush() {
+    for tries in 0..u64::MAX {
+        match writer.flush_once() {
             Err(error) if error.kind() == ErrorKind::Interrupted => {}
             outcome => return outcome,
         }
@@ -159,26 +213,25 @@ fn flush_whole<W: Write>(writer: &mut W) -> io::Result<()>
 }
 
 /// Writes all of the bytes. If that fails, the writer got a prefix of them.
-fn write_whole<W: Write>(writer: &mut W, bytes: &[u8]) -> io::Result<()>
+fn write_whole<W: Traced>(writer: &mut W, bytes: &[u8]) -> io::Result<()>
     ensures whole { OnOk result
         (Appends (W.contents writer.old) (W.contents writer.new) bytes.now) }
     ensures prefix { AppendsPrefix (W.contents writer.old) (W.contents writer.new) bytes.now }
     ensures ends { IfErr result IsFinal }
+    ensures cause { IfErr result
+        (λ error. IfSome (W.last_call writer.new) (IsFailedWrite (Some error))) }
 {
     let mut rest = bytes;
-    for _ in 0..u64::MAX {
-        if rest.is_empty() {
-            return Ok(());
-        }
-        let taken = write_once(writer, rest)?;
+    while !rest.is_empty() {
+        let taken = write_retrying(writer, rest)?;
         rest = &rest[taken..];
     }
-    Err(io::Error::from(ErrorKind::WriteZero))
+    Ok(())
 }
 
 /// Writes two texts, one after the other. Returns whether both were written whole.
 #[inline(always)]
-pub fn put_both<W: Write>(writer: &mut Sink<W>, first: &[u8], second: &[u8]) -> bool
+pub fn put_both<W: Traced>(writer: &mut Sink<W>, first: &[u8], second: &[u8]) -> bool
     ensures whole { IsTrue result → Appends (W.contents writer.old.writer)
         (W.contents writer.new.writer) (first.now ++ second.now) }
     ensures prefix { AppendsPrefix (W.contents writer.old.writer)
@@ -190,7 +243,7 @@ pub fn put_both<W: Write>(writer: &mut Sink<W>, first: &[u8], second: &[u8]) -> 
 }
 
 /// Writes what the first write of the bytes left; `first` is what that write returned.
-fn write_rest<W: Write>(writer: &mut W, first: io::Result<usize>, bytes: &[u8]) -> io::Result<()>
+fn write_rest<W: Traced>(writer: &mut W, first: io::Result<usize>, bytes: &[u8]) -> io::Result<()>
     requires { WritesAtMost first bytes.now }
     ensures whole { OnOk result ((held : Option (List ℕ))
         → WriteAppends held (W.contents writer.old) first bytes.now
@@ -200,19 +253,30 @@ fn write_rest<W: Write>(writer: &mut W, first: io::Result<usize>, bytes: &[u8]) 
         → AppendsPrefix held (W.contents writer.new) bytes.now }
     ensures ends { IfErr result IsFinal }
     ensures first { IfErr first (λ error. IsFinal error → result ≡ Err error) }
+    ensures cause { IfSome (W.last_call writer.old) (λ call. call ≡ Wrote first)
+        → IfErr result (λ error. IfSome (W.last_call writer.new) (IsFailedWrite (Some error))) }
 {
     let taken = settled(first, bytes)?;
     write_whole(writer, &bytes[taken..])
 }
 
-/// Writes the bytes once. Returns how many of them the writer took: 0 if it was interrupted.
-fn write_once<W: Write>(writer: &mut W, bytes: &[u8]) -> io::Result<usize>
+/// Writes some of the bytes, again if that was interrupted. Returns how many the writer took.
+fn write_retrying<W: Traced>(writer: &mut W, bytes: &[u8]) -> io::Result<usize>
     ensures bound { WritesAtMost result bytes.now }
+    ensures some { IfOk result (λ taken. 0 < taken) }
     ensures bytes { WriteAppends (W.contents writer.old) (W.contents writer.new) result bytes.now }
     ensures ends { IfErr result IsFinal }
+    ensures cause { IfErr result
+        (λ error. IfSome (W.last_call writer.new) (IsFailedWrite (Some error))) }
 {
-    let outcome = writer.write(bytes);
-    settled(outcome, bytes)
+    for tries in 0..u64::MAX {
+        let outcome = writer.write_some(bytes);
+        let taken = settled(outcome, bytes)?;
+        if taken > 0 {
+            return Ok(taken);
+        }
+    }
+    Err(io::Error::from(ErrorKind::Other))
 }
 
 /// Returns how many bytes a write took, from what it returned: 0 if it was interrupted.
@@ -226,6 +290,8 @@ fn settled(outcome: io::Result<usize>, bytes: &[u8]) -> io::Result<usize>
         → WriteAppends held held_new result bytes.now }
     ensures ends { IfErr result IsFinal }
     ensures error { IfErr outcome (λ error. IsFinal error → result ≡ Err error) }
+    ensures failed { IfErr result (λ error. IsFailedWrite (Some error) (Wrote outcome)) }
+    ensures again { IfOk result (λ taken. taken ≡ 0 → IsInterruptedWrite (Wrote outcome)) }
 {
     match outcome {
         Ok(0) => Err(io::Error::from(ErrorKind::WriteZero)),

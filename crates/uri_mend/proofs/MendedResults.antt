@@ -17,7 +17,7 @@ use Rattle.uri_mend.specs.Encodings.{AreComponentsEncodedAs, DecodeAlike}
 use Rattle.uri_mend.specs.Mended.{IsMended}
 use Rattle.uri_mend.specs.Mending.{can_be_mended, has_false_scheme, link_components, mended_components, mended_text, with_dot_segment}
 use Rattle.uri_mend.proofs.FewestEncodings.{mended-components-are-encoded, mended-components-decode-alike, mended-components-encode-fewest}
-use Rattle.uri_mend.proofs.LinkComponents.{link-components-without-false-scheme, with_dot_segment-is-utf8}
+use Rattle.uri_mend.proofs.LinkComponents.{false-scheme-gets-dot-segment, link-components-without-false-scheme, with_dot_segment-is-utf8}
 use Rattle.uri_mend.proofs.MendedTokens.{mended-text-is-utf8}
 use Rattle.uri_mend.proofs.MendedLengths.{length-of-mended-text}
 use Rattle.uri_mend.proofs.MendedReferences.{components-of-mended-text, mended-text-is-of-kind}
@@ -79,6 +79,16 @@ module _ (kind : Kind) (sets : HasComponentSets kind) (text : List ℕ) (u : IsU
   made-prefix e =
       made-components ∙ ap (mended_components kind) (link-components-without-false-scheme text e)
 
+  -- mending: with a false scheme the mended text has neither a scheme nor an authority
+  made-prefix-is-empty : has_false_scheme text ≡ true
+      → ((components (mended_text kind text)).scheme ≡ None)
+      × ((components (mended_text kind text)).authority ≡ None)
+  unfolding link_components
+  made-prefix-is-empty e =
+      let made = made-components
+      ∙ ap (λ t. mended_components kind (components t)) (false-scheme-gets-dot-segment text e) in
+      (ap (λ (p : Components). p.scheme) made, ap (λ (p : Components). p.authority) made)
+
   -- mending: the mended text of a text that can be mended is what it is mended to
   mended-text-is-mended : can_be_mended kind text ≡ true
       → IsMended kind text (mended_text kind text)
@@ -90,6 +100,7 @@ module _ (kind : Kind) (sets : HasComponentSets kind) (text : List ℕ) (u : IsU
     split = made-components;
     scheme = λ e. ap (λ (p : Components). p.scheme) (made-prefix e);
     authority = λ e. ap (λ (p : Components). p.authority) (made-prefix e);
+    bare = made-prefix-is-empty;
     decoded = subst (λ p. DecodeAlike p (link_components text)) (sym made-components)
         (mended-components-decode-alike kind sets text u);
     encoded = subst (AreComponentsEncodedAs (link_components text)) (sym made-components)

@@ -1,5 +1,5 @@
 -- What the reference that a text is mended to has: RFC 3986, sections 2.1, 4.2 and 5.3.
-use Rattle.std.specs.Prelude.{◌≡◌, ◌+◌, ◌*◌, ℕ, List, false, true, length}
+use Rattle.std.specs.Prelude.{◌≡◌, ◌+◌, ◌*◌, ℕ, List, None, false, true, length}
 use Rattle.uri_parts.specs.Components.{components}
 use Rattle.uri_parts.specs.Grammar.{Kind, IsOfKind, IsTextOf}
 use Rattle.uri_mend.specs.Encodings.{AreComponentsEncodedAs, DecodeAlike}
@@ -14,12 +14,15 @@ pub record IsMended (kind : Kind) (source made : List ℕ) : Type 0 where
   pub of_kind : IsOfKind kind made
   -- a text of the kind is unchanged
   pub unchanged : IsOfKind kind source → made ≡ source
-  -- path, query and fragment are mended; scheme and authority are those of the source
+  -- path, query and fragment are mended; scheme and authority are those of the source, but if what
+  -- is before its first `:` is no scheme: then the source is in the path, and there are neither
   pub split : components made ≡ mended_components kind (link_components source)
   pub scheme : has_false_scheme source ≡ false
       → (components made).scheme ≡ (components source).scheme
   pub authority : has_false_scheme source ≡ false
       → (components made).authority ≡ (components source).authority
+  pub bare : has_false_scheme source ≡ true
+      → ((components made).scheme ≡ None) × ((components made).authority ≡ None)
   -- what is decoded is unchanged
   pub decoded : DecodeAlike (components made) (link_components source)
   -- some characters are percent-encoded, and as few as may be: each other text of the kind that is

@@ -1,6 +1,6 @@
 //! The reference that a text is mended to (RFC 3986, sections 4.2 and 5.3).
-ghost use Rattle.std.specs.Prelude.{◌≡◌, ◌↔◌, ◌≤◌, ◌+◌, IfErr, IfOk, IfSome, IsOk, Some, codes};
-ghost use Rattle.std.specs.Prelude.{drop, is_some, length, string_bytes, take, true};
+ghost use Rattle.std.specs.Prelude.{◌≡◌, ◌↔◌, ◌≤◌, ◌+◌, IfErr, IfOk, IfSome, IsOk, IsOkAnd, Some};
+ghost use Rattle.std.specs.Prelude.{codes, drop, is_some, length, string_bytes, take, true};
 ghost use Rattle.std.specs.Str.{IsCharBoundary, IsUtf8};
 ghost use Rattle.uri_parts.specs.Components.{from_any};
 ghost use Rattle.uri_parts.specs.CoreTexts.{core_text};
@@ -245,6 +245,8 @@ fn mended_string<K: Kind>(
     ensures refused { IfErr result (λ rejected.
         IsMendErrorOf K.kind (string_bytes text) rejected.0) }
     ensures back { IfErr result (λ rejected. string_bytes rejected.1 ≡ string_bytes text) }
+    ensures kept { IsOfKind K.kind (string_bytes text)
+        → IsOkAnd result (λ made. reference_text made ≡ string_bytes text) }
 {
     let error = match parsed::<K>(text.as_str()) {
         Ok(core) => {
@@ -279,11 +281,13 @@ pub trait Mend<K: Kind> {
     /// Returns the reference that a text is mended to: what its path, its query or its fragment
     /// must not have is percent-encoded (RFC 3986, sections 2.1 and 2.4), and all else stays.
     ///
-    /// A text of the kind stays as it is. So do the scheme and the authority of each text. If what
-    /// is before a `:` is no scheme, it is in the path, after `./` (section 4.2). No reference of
-    /// the kind is the text with fewer characters percent-encoded.
+    /// A text of the kind stays as it is. The scheme and the authority of a text stay, unless what
+    /// is before its first `:` is no scheme: then `./` is put before the text, which is a path
+    /// (section 4.2). No reference of the kind is made of this text by percent-encoding fewer
+    /// characters.
     ///
-    /// `http://h/a b?x=[1]` is mended to `http://h/a%20b?x=%5B1%5D`, and `/50%` to `/50%25`.
+    /// `http://h/a b?x=[1]` is mended to `http://h/a%20b?x=%5B1%5D`, `/50%` to `/50%25`, and
+    /// `1a://h/x` to `./1a://h/x`.
     ///
     /// # Errors
     ///
@@ -295,17 +299,19 @@ pub trait Mend<K: Kind> {
         ensures refused { IfErr result (IsMendErrorOf K.kind text.now) };
 
     /// Returns the reference that an owned text is mended to, as `mend` does. A text of the kind is
-    /// not copied.
+    /// returned as it is, whatever memory there is.
     ///
     /// # Errors
     ///
-    /// Those of `mend`, each with the text as it was.
+    /// Those of `mend`, each with the text as it was, and none for a text of the kind.
     fn mend_owned(alloc: Global, text: String) -> Result<Reference<K, String>, (MendError, String)>
         ensures mended { IfOk result (λ made.
             IsMended K.kind (string_bytes text) (reference_text made)) }
         ensures refused { IfErr result (λ rejected.
             IsMendErrorOf K.kind (string_bytes text) rejected.0) }
-        ensures back { IfErr result (λ rejected. string_bytes rejected.1 ≡ string_bytes text) };
+        ensures back { IfErr result (λ rejected. string_bytes rejected.1 ≡ string_bytes text) }
+        ensures kept { IsOfKind K.kind (string_bytes text)
+            → IsOkAnd result (λ made. reference_text made ≡ string_bytes text) };
 
     /// Returns the reference that a link of a page is mended to: `mend` of what `trim_link` leaves.
     ///

@@ -1,6 +1,7 @@
 pub mod Paths
 pub mod Meanings
 pub mod Normal
+pub mod FromEnd
 pub mod Targeting
 pub mod AsciiForms
 pub mod Builders

@@ -9,5 +9,7 @@ pub mod laws;
 pub mod normalize;
 #[doc(hidden)]
 pub mod path;
+#[doc(hidden)]
+pub mod read_back;
 pub mod resolve;
 pub mod traits;

@@ -18,8 +18,7 @@ pub(crate) mod decoded_paths;
 pub mod formatting;
 pub(crate) mod kept_octets;
 pub(crate) mod literal_runs;
-#[doc(hidden)]
-pub mod normal_authority;
+pub(crate) mod normal_authority;
 #[doc(hidden)]
 pub mod normal_text;
 pub(crate) mod normalized;
@@ -31,10 +30,9 @@ pub(crate) mod short_components;
 pub mod unchanged;
 
 use crate::default_port::{DefaultPort, SchemeDefaults};
-use crate::normalize::normal_authority::is_port_unchanged;
 use crate::normalize::normal_text::written_normal_text;
 use crate::normalize::normalized::Normalized;
-use crate::normalize::unchanged::{is_unchanged, is_unchanged_but_for_port};
+use crate::normalize::unchanged::is_found_normal;
 use crate::traits::RiMaybeRef;
 use std::alloc::{AllocError, Global};
 use thiserror::Error;
@@ -102,9 +100,7 @@ pub(crate) fn normalize_core<K: Kind, P: DefaultPort>(
     ensures underflow { IfOk result (λ made.
         made.underflows ≡ text_underflows (core_text core.entry)) }
 {
-    if is_unchanged_but_for_port(core)
-        && is_port_unchanged(core.authority(), core.scheme(), ports)
-    {
+    if is_found_normal(core, ports) {
         return Ok(Normalized {
             text: String::from_str(alloc, core.as_str())?,
             positions: core.packed_positions(),
@@ -133,7 +129,7 @@ pub(crate) fn normalize_string<K: Kind, P: DefaultPort>(
         ArePackedPositionsOf (string_bytes made.text) made.positions) }
 {
     let core = Core::<K, &str>::new(text.as_str(), positions);
-    if is_unchanged(core) {
+    if is_found_normal(core, ports) {
         return Ok(Normalized {
             text,
             positions,

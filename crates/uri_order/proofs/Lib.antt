@@ -1,11 +1,4 @@
 pub mod Equivalences
 pub mod InStep
-pub mod LastDecodables
-pub mod LastOctets
-pub mod LastTokens
-pub mod NormalParts
-pub mod NormalTokens
-pub mod Octets
-pub mod PathBack
 pub mod RuledParts
-pub mod SegmentsLeft
+pub mod TotalOrders

@@ -1,22 +1,27 @@
 -- What the rules of schemes change in the components of a text.
 use Rattle.std.proofs.Common.{◌≡◌, ◌↔◌, ℕ, Bool, true, false, cond, List, [], ◌++◌, refl, sym, ap, ◌∙◌, ◌&&◌, Option, Some, None, option_map}
-use Rattle.std.specs.Prelude.{codes, is_some, bytes_eq}
+use Rattle.std.specs.Prelude.{codes, is_some}
 use Rattle.std.specs.Option.{option_and_then}
-use Rattle.std.specs.Str.{str_to_ascii_lowercase}
+use Rattle.std.specs.Str.{chars, str_to_ascii_lowercase}
+use Rattle.std.proofs.lemmas.Bool.{and_from}
 use Rattle.std.proofs.lemmas.List.{append-nil}
 use Rattle.std.proofs.lemmas.Slice.Eq.{bytes_eq-Decides}
-use Rattle.uri_parts.specs.Components.{Components, components, recompose}
+use Rattle.std.proofs.lemmas.Str.{IsUtf8-nil}
+use Rattle.uri_pct.specs.Sets.{TableSet}
+use Rattle.uri_pct.specs.Tokens.{IsValidFor, is_valid_for, tokens_from_chars}
+use Rattle.uri_parts.specs.Components.{components, recompose}
 use Rattle.uri_parts.specs.Grammar.{Kind, IsTextOf}
 use Rattle.uri_parts.proofs.Splitting.Recompose.{recompose-components}
 use Rattle.uri_ops.specs.ComponentSets.{HasComponentSets}
 use Rattle.uri_ops.specs.Dots.{is_empty}
 use Rattle.uri_ops.specs.Meaning.{AuthorityMeaning, authority_meaning, components_meaning, meaning_of}
 use Rattle.uri_ops.specs.Normal.{normal_authority, normal_authority_with_delimiter, normal_text}
+use Rattle.uri_ops.proofs.Meanings.AllowedParts.{validity-splits-at-slash}
 use Rattle.uri_ops.proofs.Normal.NormalTexts.{text-has-parts-of-kind}
-use Rattle.uri_order.specs.Addresses.{ipv6_host_of}
+use Rattle.uri_ops.specs.FromEnd.Addresses.{ipv6_host_of}
 use Rattle.uri_order.specs.NormalForms.{normal_form_under}
 use Rattle.uri_order.specs.RuledParts.{drops_host}
-use Rattle.uri_order.proofs.NormalParts.{name_has_no_address}
+use Rattle.uri_ops.proofs.FromEnd.NormalParts.{name_has_no_address}
 use Rattle.uri_rules.specs.Edits.{edited, edited_by, has_default_host, has_root_path}
 use Rattle.uri_rules.specs.Rules.{Rules, is_localhost, is_scheme_of}
 use Rattle.uri_rules.proofs.EditedTexts.{edited-text-is-normal-form}
@@ -122,3 +127,9 @@ unedited_text_is_its_form kind rules sets text w normal host root =
     ap (λ b. edited b (has_root_path rules.roots p) p) host ∙ ap (λ b. edited false b p) root in
     (edited-text-is-normal-form kind rules sets text w (sym normal) text
     (sym (ap recompose kept ∙ recompose-components text))).text
+
+-- rules: `/` (47) is a path, where a set has it
+pub slash_is_valid : (set : TableSet) → set.ascii 47 ≡ true → IsValidFor set (codes "/")
+unfolding is_valid_for chars tokens_from_chars
+slash_is_valid set slash =
+    validity-splits-at-slash set [] [] IsUtf8-nil ∙ and_from _ _ slash refl

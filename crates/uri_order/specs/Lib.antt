@@ -1,13 +1,6 @@
-pub mod Addresses
 pub mod Ends
 pub mod HashedTexts
-pub mod Held
-pub mod LastTokens
-pub mod Literals
-pub mod NormalComponents
 pub mod NormalForms
-pub mod OctetsBack
-pub mod PathBack
 pub mod Ports
 pub mod RuledParts
-pub mod SegmentsLeft
+pub mod TotalOrders

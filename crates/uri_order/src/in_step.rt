@@ -1,29 +1,14 @@
 //! Two texts read from their ends in step, and one read into a hasher.
-ghost use Rattle.std.specs.Prelude.{◌≡◌, ◌↔◌, ◌+◌, ◌-◌, ◌<◌, length, take, true};
+ghost use Rattle.std.specs.Prelude.{◌≡◌, ◌+◌, ◌-◌, ◌<◌, length, take};
 ghost use Rattle.std.specs.Cmp.Lexicographic.{slice_cmp};
 ghost use Rattle.std.specs.List.{fold};
 ghost use Rattle.std.specs.Ordering.{nat_cmp};
 ghost use Rattle.uri_order.specs.HashedTexts.{hashed_text};
 ghost use Rattle.uri_order.specs.Ends.{AreEnds};
 
-use crate::read_back::ReadBack;
 use std::cmp::Ordering;
 use std::hash::Hasher;
-
-/// Returns whether two texts are equal.
-pub(crate) fn are_equal<A: ReadBack, B: ReadBack>(one: A, other: B) -> bool
-    ensures { (result ≡ true) ↔ (A.unread one ≡ B.unread other) }
-{
-    let mut one = one;
-    let mut other = other;
-    while let Some(byte) = one.next_back() {
-        match other.next_back() {
-            Some(found) if found == byte => {}
-            _ => return false,
-        }
-    }
-    other.next_back().is_none()
-}
+use uri_ops::read_back::ReadBack;
 
 /// Which of two texts ends first, where both are read from their ends in step.
 #[derive(Drop)]

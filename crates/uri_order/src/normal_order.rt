@@ -8,12 +8,13 @@ ghost use Rattle.uri_order.specs.HashedTexts.{hashed_text};
 ghost use Rattle.uri_order.specs.NormalForms.{AreEquivalent, normal_form};
 
 use crate::no_rules::NoRules;
-use crate::normal_texts::{are_equivalent, cmp_normal, hash_normal, is_normal};
+use crate::normal_texts::{are_equivalent, cmp_normal, hash_normal};
 use fluent_uri::{Reference, RiMaybeRef};
 use std::cmp::Ordering;
 use std::convert::AsStr;
 use std::hash::Hasher;
 use uri_ops::default_port::{DefaultPort, SchemeDefaults};
+use uri_ops::normalize::unchanged::is_normal;
 use uri_parts::kind::Kind;
 
 /// Compares values by their normal forms (RFC 3986, section 6.2.2), which it does not make: no call
@@ -80,7 +81,7 @@ impl<P: DefaultPort> NormalOrder<P> {
         ensures { (result ≡ true) ↔ (normal_form K.kind (P.port_of (ports_of self.now))
             (reference_text value.now) ≡ reference_text value.now) }
     {
-        is_normal(value.core(), &self.ports, &NoRules)
+        is_normal(value.core(), &self.ports)
     }
 
     /// Returns the order of the normal forms of two values, byte by byte.

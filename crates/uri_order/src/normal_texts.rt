@@ -9,14 +9,15 @@ ghost use Rattle.uri_order.specs.HashedTexts.{hashed_text};
 ghost use Rattle.uri_order.specs.NormalForms.{AreEquivalentUnder, normal_form_under};
 ghost use Rattle.uri_rules.specs.Rules.{rules_of};
 
-use crate::in_step::{are_equal, cmp, hash};
-use crate::literal_back::LiteralBack;
-use crate::normal_authority::ipv6_host_of;
+use crate::in_step::{cmp, hash};
 use crate::ruled_back::ruled_back;
 use crate::unchanged::unchanged_text;
 use std::cmp::Ordering;
 use std::hash::Hasher;
 use uri_ops::default_port::DefaultPort;
+use uri_ops::read_back::are_equal;
+use uri_ops::read_back::literal_back::LiteralBack;
+use uri_ops::read_back::normal_authority::ipv6_host_of;
 use uri_parts::core_text::Core;
 use uri_parts::kind::Kind;
 use uri_rules::SchemeRules;
@@ -71,7 +72,10 @@ fn have_equal_texts<K: Kind, P: DefaultPort, S: SchemeRules>(
         (result ≡ true) ↔ (normal_form_under K.kind rules (core_text one.entry)
         ≡ normal_form_under K.kind rules (core_text other.entry)) }
 {
-    match (unchanged_text(one, rules), unchanged_text(other, rules)) {
+    match (
+        unchanged_text(one, ports, rules),
+        unchanged_text(other, ports, rules),
+    ) {
         (Some(first), Some(second)) => first == second,
         (Some(first), None) => is_normal_text_of(first, other, ports, rules),
         (None, Some(second)) => is_normal_text_of(second, one, ports, rules),
@@ -112,7 +116,8 @@ pub(crate) fn is_normal<K: Kind, P: DefaultPort, S: SchemeRules>(
         (result ≡ true)
         ↔ (normal_form_under K.kind rules (core_text core.entry) ≡ core_text core.entry) }
 {
-    unchanged_text(core, rules).is_some() || is_normal_text_of(core.as_str(), core, ports, rules)
+    unchanged_text(core, ports, rules).is_some()
+        || is_normal_text_of(core.as_str(), core, ports, rules)
 }
 
 /// Returns the order of the normal text of a value, which it reads from its end, and a text.
@@ -187,7 +192,10 @@ fn cmp_texts<K: Kind, P: DefaultPort, S: SchemeRules>(
         (normal_form_under K.kind rules (core_text one.entry))
         (normal_form_under K.kind rules (core_text other.entry)) }
 {
-    match (unchanged_text(one, rules), unchanged_text(other, rules)) {
+    match (
+        unchanged_text(one, ports, rules),
+        unchanged_text(other, ports, rules),
+    ) {
         (Some(first), Some(second)) => first.cmp(second),
         (Some(first), None) => cmp_text_to(first, other, ports, rules),
         (None, Some(second)) => cmp_to_text(one, second, ports, rules),
@@ -246,7 +254,7 @@ pub(crate) fn hash_normal<K: Kind, P: DefaultPort, S: SchemeRules, H: Hasher>(
         state.new ≡ fold H.write state.old
         (hashed_text (normal_form_under K.kind rules (core_text core.entry))) }
 {
-    match unchanged_text(core, rules) {
+    match unchanged_text(core, ports, rules) {
         Some(text) => hash(LiteralBack::copied(text.as_bytes()), state),
         None => hash_read(core, ports, rules, state),
     }

@@ -9,17 +9,17 @@ ghost use Rattle.uri_parts.specs.Grammar.{Kind};
 ghost use Rattle.uri_parts.specs.Schemes.{scheme_text};
 ghost use Rattle.uri_ops.specs.Dots.{is_empty};
 ghost use Rattle.uri_ops.specs.Normal.{default_port_of, normal_scheme};
-ghost use Rattle.uri_order.specs.Addresses.{ipv6_host_of};
+ghost use Rattle.uri_ops.specs.FromEnd.Addresses.{ipv6_host_of};
 ghost use Rattle.uri_order.specs.NormalForms.{normal_form_under};
 ghost use Rattle.uri_order.specs.RuledParts.{drops_host};
 ghost use Rattle.uri_rules.specs.Rules.{is_scheme_of, rules_of};
 
-use crate::in_step::are_equal;
-use crate::literal_back::LiteralBack;
-use crate::normal_authority::authority_back;
-use crate::normal_back::{NormalBack, normal_back};
-use crate::read_back::ReadBack;
+use crate::edited_back::edited_back;
 use uri_ops::default_port::DefaultPort;
+use uri_ops::read_back::literal_back::LiteralBack;
+use uri_ops::read_back::normal_authority::authority_back;
+use uri_ops::read_back::normal_back::NormalBack;
+use uri_ops::read_back::{ReadBack, are_equal};
 use uri_parts::component::{Authority, Scheme};
 use uri_parts::core_text::Core;
 use uri_parts::kind::Kind;
@@ -136,5 +136,5 @@ pub(crate) fn ruled_back<'a, K: Kind, P: DefaultPort, S: SchemeRules>(
     let drops_host = drops_host(core.authority(), scheme, ports, rules, address);
     let adds_root = adds_root(core.has_authority(), scheme, core.path(), rules);
     let address = address_unless(address, drops_host);
-    normal_back(core, drops_host, adds_root, ports, address)
+    edited_back(core, drops_host, adds_root, ports, address)
 }

@@ -36,7 +36,7 @@ pub struct SchemeOrder<P, S> {
 
 impl SchemeOrder<SchemeDefaults, StandardRules> {
     /// Returns the order of normal forms under the default ports of `Scheme::default_port` and
-    /// `StandardRules`: by the whole of RFC 3986, section 6.2.3.
+    /// `StandardRules` (RFC 3986, section 6.2.3).
     ///
     /// In it `http://a:80` and `http://a/` are equal, and so are `file://localhost/a` and
     /// `file:///a`.

@@ -1,6 +1,5 @@
 -- What `Debug` prints of components is what it prints of their texts.
-use Rattle.std.proofs.Common.{◌≡◌, ℕ, List, refl, ap, ◌∙◌, option_map, arith}
-use Rattle.std.specs.Prelude.{Option, Some, None, codes}
+use Rattle.std.proofs.Common.{◌≡◌, ℕ, List, refl, ap, ◌∙◌, option_map, arith, Option, Some, None, codes}
 use Rattle.std.specs.Fmt.{debug_option, debug_str}
 use Rattle.std.proofs.lemmas.Bool.Decides.{nat_tests}
 use Rattle.uri_pct.specs.declared.pct_enc.EStr.{EStr}

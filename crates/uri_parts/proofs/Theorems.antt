@@ -1,7 +1,5 @@
 -- What the crate is for, theorem by theorem.
-use Rattle.std.proofs.Common.{◌≡◌, ℕ, true, List, sym, ap, subst, ◌∙◌, arith}
-use Rattle.std.specs.Prelude.{IfOk, Result, Ok, Err, is_ok}
-use Rattle.std.specs.Str.{IsUtf8}
+use Rattle.std.proofs.Common.{◌≡◌, ℕ, true, List, sym, ap, subst, ◌∙◌, arith, IfOk, Result, Ok, Err, is_ok, IsUtf8}
 use Rattle.std.proofs.lemmas.Bool.Decides.{nat_tests}
 use Rattle.uri_pct.specs.Sets.{TableSet}
 use Rattle.uri_parts.specs.declared.packed_positions.PackedPositions.{PackedPositions}

@@ -5,4 +5,5 @@ pub mod NormalTargets
 pub mod RuledMeanings
 pub mod RuledTargets
 pub mod RuledTexts
+pub mod TargetsOfNormalForms
 mod RulesRows

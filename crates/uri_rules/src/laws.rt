@@ -1,15 +1,31 @@
 //! Laws of meanings and normal texts under the rules of schemes, each the contract of a function
 //! that does nothing.
-ghost use Rattle.std.specs.Prelude.{◌≡◌, ◌↔◌, ℕ, List, Ok, true};
+ghost use Rattle.std.specs.Prelude.{◌≡◌, ◌↔◌, ℕ, List, Ok, Some, true};
+ghost use Rattle.uri_parts.specs.Components.{components};
 ghost use Rattle.uri_parts.specs.Grammar.{Kind, IsTextOf};
 ghost use Rattle.uri_parts.specs.Ports.{PortFunction};
+ghost use Rattle.uri_parts.specs.SchemePorts.{default_port};
 ghost use Rattle.uri_ops.specs.ComponentSets.{HasComponentSets};
 ghost use Rattle.uri_ops.specs.Encoded.{encode_past_ascii};
 ghost use Rattle.uri_ops.specs.Meaning.{meaning_of};
 ghost use Rattle.uri_ops.specs.Normal.{normal_text};
-ghost use Rattle.uri_ops.specs.NormalTargets.{reference_kind};
-ghost use Rattle.uri_rules.specs.Rules.{Rules, meaning_under, only_ports};
+ghost use Rattle.uri_ops.specs.Normalizers.{IsNormalForm};
+ghost use Rattle.uri_ops.specs.NormalTargets.{reference_kind, resolved_meaning};
+ghost use Rattle.uri_ops.specs.Resolving.{IsErrorWithUnderflowAllowed};
+ghost use Rattle.uri_ops.specs.declared.resolve.error.ResolveError.{ResolveError};
+ghost use Rattle.fluent_uri.specs.References.{reference_text};
+ghost use Rattle.fluent_uri.specs.Targets.{target_of_texts};
+ghost use Rattle.uri_rules.specs.NormalForms.{IsNormalFormUnder};
+ghost use Rattle.uri_rules.specs.Normalizers.{default_ports_of, scheme_rules_of};
+ghost use Rattle.uri_rules.specs.Rules.{Rules, meaning_under, only_ports, rules_of};
 ghost use Rattle.uri_rules.specs.Targets.{resolved_under};
+
+use crate::normalizer::SchemeNormalizer;
+use crate::scheme_rules::SchemeRules;
+use fluent_uri::normalize::DefaultPort;
+use fluent_uri::roles::RefKind;
+use fluent_uri::{Reference, RiMaybeRef};
+use std::convert::AsStr;
 
 /// Under any rules, the normal text of a text's meaning is a text of the kind and has that meaning,
 /// so texts have equal normal texts exactly if they have equal meanings, and the normal text of a
@@ -84,3 +100,104 @@ pub fn encoding_past_ascii_keeps_meaning_under_rules()
         → IsTextOf kind text
         → meaning_under kind rules (encode_past_ascii text) ≡ meaning_under kind rules text }
 {}
+
+/// It makes no difference whether a base and a reference are normalised before they are resolved:
+/// the targets of both have the same normal form, or both have none, for the same reason (RFC 3986,
+/// sections 5.2 and 6.2.2).
+///
+/// `%67` against `HTTP://a:80/b` and `g` against `http://a/b` have targets with the normal form
+/// `http://a/g`.
+///
+/// # Conditions
+///
+/// The last two arguments are what `normalize` returns for the first two.
+pub fn normal_forms_have_equivalent_targets<K: RefKind, B: AsStr, T: AsStr>(
+    base: &Reference<K::Base, B>,
+    reference: &Reference<K, T>,
+    normal_base: &Reference<K::Base, String>,
+    normal_reference: &Reference<K, String>,
+)
+    requires base { IsNormalForm K.Base.kind default_port (reference_text base.now)
+        (reference_text normal_base.now) }
+    requires reference { IsNormalForm K.kind default_port (reference_text reference.now)
+        (reference_text normal_reference.now) }
+    ensures meanings { resolved_meaning K.Base.kind default_port
+        (reference_text normal_base.now) (reference_text normal_reference.now)
+        ≡ resolved_meaning K.Base.kind default_port
+        (reference_text base.now) (reference_text reference.now) }
+    ensures targets { (target other normal other_normal : List ℕ)
+        → target_of_texts (reference_text base.now) (reference_text reference.now) ≡ Some target
+        → target_of_texts (reference_text normal_base.now) (reference_text normal_reference.now)
+        ≡ Some other
+        → IsNormalForm K.Base.kind default_port target normal
+        → IsNormalForm K.Base.kind default_port other other_normal
+        → other_normal ≡ normal }
+    ensures refusals { (error : ResolveError)
+        → (IsErrorWithUnderflowAllowed (components (reference_text normal_base.now))
+        (components (reference_text normal_reference.now)) error
+        ↔ IsErrorWithUnderflowAllowed (components (reference_text base.now))
+        (components (reference_text reference.now)) error) }
+{
+    let _base = base.core().as_str();
+    let _reference = reference.core().as_str();
+}
+
+/// It makes no difference under any rules either: the targets of a base and a reference, and of
+/// their normal forms by a normaliser, have the same normal form by it, or both have none, for the
+/// same reason (RFC 3986, sections 5.2 and 6.2.3).
+///
+/// Under `StandardRules`, `?q` against `http://a` and against `http://a/` have targets with the
+/// normal form `http://a/?q`.
+///
+/// # Conditions
+///
+/// The last two arguments are what the normaliser's `normalize` returns for the two before them.
+pub fn normal_forms_under_rules_have_equivalent_targets<
+    K: RefKind,
+    B: AsStr,
+    T: AsStr,
+    P: DefaultPort,
+    S: SchemeRules,
+>(
+    normalizer: &SchemeNormalizer<P, S>,
+    base: &Reference<K::Base, B>,
+    reference: &Reference<K, T>,
+    normal_base: &Reference<K::Base, String>,
+    normal_reference: &Reference<K, String>,
+)
+    requires base { let rules = rules_of (P.port_of (default_ports_of normalizer.now))
+        (S.roots_of (scheme_rules_of normalizer.now))
+        (S.locals_of (scheme_rules_of normalizer.now)) in
+        IsNormalFormUnder K.Base.kind rules (reference_text base.now)
+        (reference_text normal_base.now) }
+    requires reference { let rules = rules_of (P.port_of (default_ports_of normalizer.now))
+        (S.roots_of (scheme_rules_of normalizer.now))
+        (S.locals_of (scheme_rules_of normalizer.now)) in
+        IsNormalFormUnder K.kind rules (reference_text reference.now)
+        (reference_text normal_reference.now) }
+    ensures meanings { let rules = rules_of (P.port_of (default_ports_of normalizer.now))
+        (S.roots_of (scheme_rules_of normalizer.now))
+        (S.locals_of (scheme_rules_of normalizer.now)) in
+        resolved_under K.Base.kind rules
+        (reference_text normal_base.now) (reference_text normal_reference.now)
+        ≡ resolved_under K.Base.kind rules
+        (reference_text base.now) (reference_text reference.now) }
+    ensures targets { let rules = rules_of (P.port_of (default_ports_of normalizer.now))
+        (S.roots_of (scheme_rules_of normalizer.now))
+        (S.locals_of (scheme_rules_of normalizer.now)) in
+        (target other normal other_normal : List ℕ)
+        → target_of_texts (reference_text base.now) (reference_text reference.now) ≡ Some target
+        → target_of_texts (reference_text normal_base.now) (reference_text normal_reference.now)
+        ≡ Some other
+        → IsNormalFormUnder K.Base.kind rules target normal
+        → IsNormalFormUnder K.Base.kind rules other other_normal
+        → other_normal ≡ normal }
+    ensures refusals { (error : ResolveError)
+        → (IsErrorWithUnderflowAllowed (components (reference_text normal_base.now))
+        (components (reference_text normal_reference.now)) error
+        ↔ IsErrorWithUnderflowAllowed (components (reference_text base.now))
+        (components (reference_text reference.now)) error) }
+{
+    let _base = base.core().as_str();
+    let _reference = reference.core().as_str();
+}

@@ -39,7 +39,7 @@ impl SchemeNormalizer<SchemeDefaults, StandardRules> {
     ghost use Rattle.uri_rules.specs.Normalizers.{allows_underflow};
 
     /// Returns a normaliser by the default ports of `Scheme::default_port` and by `StandardRules`,
-    /// where dot segments may underflow: the whole of RFC 3986, section 6.2.3.
+    /// where dot segments may underflow (RFC 3986, section 6.2.3).
     ///
     /// It normalises `http://a:80` to `http://a/`.
     pub fn new() -> SchemeNormalizer<SchemeDefaults, StandardRules>

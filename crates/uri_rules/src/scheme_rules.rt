@@ -34,14 +34,29 @@ pub trait SchemeRules: Drop {
         ensures { result ≡ locals_of self.now (lowered_scheme scheme.entry) };
 }
 
-/// The rules that standards give.
+/// The rules that the registered documents of schemes give.
 ///
-/// | Schemes | Rule | Standard |
+/// | Schemes | Rule | Document |
 /// |---|---|---|
 /// | `http`, `https` | an empty path after an authority is `/` | RFC 9110, section 4.2.3 |
 /// | `ws`, `wss` | the same | RFC 6455, section 3 |
+/// | `coap`, `coaps` | the same | RFC 7252, section 6.3 |
+/// | `coap+tcp`, `coaps+tcp`, `coap+ws`, `coaps+ws` | the same | RFC 8323, section 8.6 |
 /// | `ftp` | the same | RFC 1738, section 3.2.2 |
+/// | `gopher` | the same | RFC 4266, section 2.1 |
+/// | `imap` | the same | RFC 5092, section 4 |
+/// | `ipp` | the same | RFC 3510, section 4.7 |
+/// | `ipps` | the same | RFC 7472, section 4.6 |
+/// | `ldap` | the same | RFC 4516, section 4 |
+/// | `nfs` | the same | RFC 2224, section 1 |
+/// | `snmp` | the same | RFC 4088, section 3 |
+/// | `telnet` | the same | RFC 4248, section 2 |
+/// | `tn3270` | the same | RFC 6270, section 2.1 |
 /// | `file` | the host `localhost` is left out | RFC 8089, section 2 |
+///
+/// No document gives another scheme with a default port such a rule. Rules on the text of a path or
+/// a query are not applied: `mailto:Joe@Example.COM` stays as it is, though RFC 3986, section 6.2.3,
+/// has it equivalent to `mailto:Joe@example.com`.
 ///
 /// The target of an `OPTIONS` request must not be normalised by them: there an empty path is not
 /// `/` (RFC 9110, section 4.2.3).
@@ -63,9 +78,33 @@ impl SchemeRules for StandardRules {
 
     ghost locals_of = { λ _. standard_rules.locals };
 
-    /// Returns whether the scheme is `http`, `https`, `ws`, `wss` or `ftp`.
+    /// Returns whether the scheme is one of those whose empty path is `/`.
     fn empty_path_is_root(&self, scheme: Scheme<'_>) -> bool {
-        is_one_of(scheme.as_str(), &["ftp", "http", "https", "ws", "wss"])
+        is_one_of(
+            scheme.as_str(),
+            &[
+                "coap",
+                "coap+tcp",
+                "coap+ws",
+                "coaps",
+                "coaps+tcp",
+                "coaps+ws",
+                "ftp",
+                "gopher",
+                "http",
+                "https",
+                "imap",
+                "ipp",
+                "ipps",
+                "ldap",
+                "nfs",
+                "snmp",
+                "telnet",
+                "tn3270",
+                "ws",
+                "wss",
+            ],
+        )
     }
 
     /// Returns whether the scheme is `file`.

@@ -24,8 +24,8 @@ use uri_rules::SchemeNormalizer;
 /// | `file://localhost/a` | the same | `file:///a` |
 #[derive(Clone, Copy, Debug, PartialEq, Eq)]
 pub struct RuleSetting {
-    /// Whether the rules are those of `SchemeNormalizer::new()`, the whole of RFC 3986, section
-    /// 6.2.3. If not, they are those of `Normalizer::new()`: default ports alone.
+    /// Whether the rules are those of `SchemeNormalizer::new()` (RFC 3986, section 6.2.3). If not,
+    /// they are those of `Normalizer::new()`: default ports alone.
     pub scheme_rules: bool,
 }
 

@@ -37,7 +37,8 @@ pub(crate) fn read_line<R: Read, W: Write>(
     line.clear();
     let mut count = 0usize;
     let mut is_return = false;
-    for _ in 0..u64::MAX {
+    let mut reads = 0u64;
+    while reads < u64::MAX {
         flush_before_read(reader, writer)?;
         let part = reader.take_part(writer, end, limit, is_return, line)?;
         count = count.saturating_add(part.count);
@@ -48,8 +49,9 @@ pub(crate) fn read_line<R: Read, W: Write>(
             }
             return Ok(Some(is_return && part.count > 0));
         }
+        reads += 1;
     }
-    Err(reader.fail_too_many_reads())
+    Err(reader.fail_too_many_reads(reads))
 }
 
 /// Flushes the writer if the reader has nothing buffered, so that output does not wait for input.

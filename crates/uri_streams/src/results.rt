@@ -15,7 +15,8 @@ use fluent_uri::{Reference, RiMaybeRef};
 use std::alloc::{AllocError, Global};
 use uri_commands::kinds::{KindName, parse_as_iri_ref};
 use uri_commands::refusal::CommandError;
-use uri_ops::normalize::unchanged::is_unchanged;
+use uri_ops::default_port::SchemeDefaults;
+use uri_ops::normalize::unchanged::is_found_normal;
 use uri_setting::RuleSetting;
 
 /// Returns the result of `urilines normalize` for a text: its normal form, by the rules of its
@@ -58,7 +59,7 @@ fn normal_form<'t, K: Kind>(
         Ok(value) => value,
         Err(error) => return Ok(refused(CommandError::Text(error))),
     };
-    if !scheme_rules && is_unchanged(value.core()) {
+    if !scheme_rules && is_found_normal(value.core(), &SchemeDefaults) {
         return Ok(LineResult::Borrowed(text));
     }
     let setting = RuleSetting { scheme_rules };

@@ -130,7 +130,8 @@ fn process_lines<R: Read, W: Write, E: Write, V: Watch>(
         lines: 0,
         errors: 0,
     };
-    for number in 0..u64::MAX {
+    let mut number = 0u64;
+    while number < u64::MAX {
         let before = Step {
             alloc,
             job: &*job,
@@ -142,8 +143,9 @@ fn process_lines<R: Read, W: Write, E: Write, V: Watch>(
         if step.is_last {
             return flushed(writer, tally);
         }
+        number += 1;
     }
-    Err(reader.fail_too_many_reads())
+    Err(reader.fail_too_many_reads(number))
 }
 
 /// Shows the observer of a run the tally after a step, if that processed a line.

@@ -1,8 +1,9 @@
 //! A reader that says whether it failed.
-ghost use Rattle.std.specs.Prelude.{◌≡◌, ◌≢◌, ◌-◌, ◌<◌, ◌≤◌, ◌++◌, ◌||◌, ℕ, List, All, IfOk};
+ghost use Rattle.std.specs.Prelude.{◌≡◌, ◌≢◌, ◌-◌, ◌<◌, ◌≤◌, ◌++◌, ◌||◌, ℕ, List, All, IfErr, IfOk};
 ghost use Rattle.std.specs.Prelude.{IfSome, IsTrue, None, OnErr, OnSome, Some, length, slice_index};
 ghost use Rattle.std.specs.Prelude.{true, false, [], ◌↔◌, ◌&&◌, ◌+◌, ◌^◌, ◌==◌, nat_le, not, take};
 ghost use Rattle.std.specs.Int.{bit_at};
+ghost use Rattle.std.specs.IoError.{error_kind};
 ghost use Rattle.uri_pct.specs.Models.ByteRuns.{IsLongestRun};
 ghost use Rattle.std.specs.Io.{StopsAt, IsEmptyOrEndsWith};
 ghost use Rattle.std.specs.Io.BufRead.{DropsConsumable};
@@ -97,9 +98,10 @@ impl<R: Read> Source<R> {
         self.reader.consume(count);
     }
 
-    /// Marks the reader as failed, and returns the cause: it was read too often for one line or
-    /// input.
-    pub(crate) fn fail_too_many_reads(&mut self) -> Cause
+    /// Marks the reader as failed, and returns the cause: there were so many reads of one line, or
+    /// lines of one input, that a `u64` counts no more.
+    pub(crate) fn fail_too_many_reads(&mut self, count: u64) -> Cause
+        requires { count ≡ 2 ^ 64 - 1 }
         ensures failed { self.new.has_failed ≡ true }
         ensures kept { self.new.reader ≡ self.old.reader }
         ensures input { is_input_cause result ≡ true }
@@ -137,6 +139,28 @@ impl<R: Read> Source<R> {
         }
     }
 
+    /// Returns what a read took of a line where it returned an error: nothing if it was
+    /// interrupted. Any other error is the reader's, which is kept.
+    #[cold]
+    #[inline(never)]
+    fn part_after_error(&mut self, error: io::Error, was_return: bool) -> Result<LinePart, Cause>
+        ensures again { IfOk result (λ part. (error_kind error ≡ ErrorKind.Interrupted)
+            × (part.count ≡ 0) × (part.is_last ≡ false) × (part.is_return ≡ was_return)) }
+        ensures failed { IfErr result (λ cause. (error_kind error ≢ ErrorKind.Interrupted)
+            × (cause ≡ Cause.Input) × (self.new.error ≡ Some error)) }
+        ensures kept { self.new.reader ≡ self.old.reader }
+        ensures flag { self.new.has_failed ≡ (caused_by_input result || self.old.has_failed) }
+    {
+        if error.kind() == ErrorKind::Interrupted {
+            return Ok(LinePart {
+                count: 0,
+                is_last: false,
+                is_return: was_return,
+            });
+        }
+        Err(self.fail(error))
+    }
+
     /// Reads a part of a line: what is buffered, up to and including the first `end`. Appends it to
     /// `line` as far as the limit. `was_return` says whether a `\r` ends what was read before.
     /// Since the reader may wait if it has nothing buffered, the writer, `flushed`, must be flushed
@@ -169,16 +193,7 @@ impl<R: Read> Source<R> {
     {
         let available = match self.reader.fill_buf() {
             Ok(available) => available,
-            Err(error) => {
-                if error.kind() == ErrorKind::Interrupted {
-                    return Ok(LinePart {
-                        count: 0,
-                        is_last: false,
-                        is_return: was_return,
-                    });
-                }
-                return Err(self.fail(error));
-            }
+            Err(error) => return self.part_after_error(error, was_return),
         };
         let count = count_through(available, end);
         let kept = count.min(limit.saturating_sub(line.len()));

@@ -1,12 +1,12 @@
-//! Each line of standard input as a URI, an IRI or a reference: `urilines normalize KIND`,
-//! `urilines resolve uri|iri BASE`, `urilines check KIND`, `urilines parse KIND`, `urilines query
-//! KIND`, `urilines unique KIND` and `urilines links BASE`.
+//! Each line of standard input as a URI, an IRI or a reference: `table` has the commands.
 #![tactic(auto)]
 
 mod options;
 mod progress;
+mod table;
 
-use options::{command, job, shows_progress};
+use clap::Error;
+use options::{job, parsed, shows_progress};
 use progress::Progress;
 use std::alloc::Global;
 use std::env;
@@ -35,17 +35,9 @@ fn main(rt: HostRuntime) -> ExitCode {
             return ExitCode::from(2);
         }
     };
-    let Ok(command) = command(alloc) else {
-        return failed(&rt, "out of memory");
-    };
-    let matches = match command.try_get_matches_from(words.as_slice()) {
+    let matches = match parsed(alloc, words.as_slice()) {
         Ok(matches) => matches,
-        Err(error) => {
-            return match error.print(&rt) {
-                Ok(()) => ExitCode::from(error.exit_code() as u8),
-                Err(_) => ExitCode::from(3),
-            };
-        }
+        Err(error) => return rejected(&rt, &error),
     };
     let Ok(hasher) = RandomState::new(&rt) else {
         return failed(&rt, "no random numbers");
@@ -56,6 +48,18 @@ fn main(rt: HostRuntime) -> ExitCode {
             let _ = eprintln!(rt; "error: {error}");
             ExitCode::from(2)
         }
+    }
+}
+
+/// Prints what `clap` says of the words of the command line, and returns the exit status of
+/// `urilines`.
+fn rejected(rt: &HostRuntime, error: &Error) -> ExitCode {
+    if error.kind() == clap::error::ErrorKind::OutOfMemory {
+        return failed(rt, "out of memory");
+    }
+    match error.print(rt) {
+        Ok(()) => ExitCode::from(error.exit_code() as u8),
+        Err(_) => ExitCode::from(3),
     }
 }
 
@@ -79,7 +83,7 @@ fn process(rt: &HostRuntime, alloc: Global, job: &Job<'_>, shows_progress: bool)
         &mut err,
         &mut progress,
     );
-    let status = status(job.errors, &ended);
+    let status = status(job.errors, &ended, err.error());
     match ended {
         Ok(tally) => progress.end(tally),
         Err(failure) if status != 0 => show_error(rt, failure_message(&failure)),
@@ -93,6 +97,9 @@ fn process(rt: &HostRuntime, alloc: Global, job: &Job<'_>, shows_progress: bool)
 fn failure_message(failure: &Failure) -> &'static str {
     match failure {
         Failure::Output(_) => "output failed",
+        Failure::Input(error) if error.kind() == ErrorKind::WouldBlock => {
+            "input failed: it is in non-blocking mode, and the next bytes are not there yet"
+        }
         Failure::Input(_) => "input failed",
         Failure::OutOfMemory => "out of memory",
     }
@@ -112,9 +119,5 @@ fn failed(rt: &HostRuntime, why: &str) -> ExitCode {
 
 /// Returns the words of the command line of `urilines`.
 fn words(rt: &HostRuntime, alloc: Global) -> io::Result<Vec<String>> {
-    let mut words = Vec::new(alloc);
-    for word in env::args(rt)? {
-        words.push(word)?;
-    }
-    Ok(words)
+    Ok(env::args(rt)?.collect(alloc)?)
 }

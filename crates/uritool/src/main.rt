@@ -1,5 +1,4 @@
-//! URIs and IRIs on the command line: `uritool parse KIND TEXT`, `uritool normalize KIND TEXT`,
-//! `uritool mend KIND TEXT`, `uritool resolve uri|iri BASE REF` and `uritool links BASE REF...`.
+//! URIs and IRIs on the command line: `USAGE` of `uri_commands` has the forms.
 #![tactic(auto)]
 
 use std::alloc::Global;
@@ -63,9 +62,5 @@ fn main(rt: HostRuntime) -> ExitCode {
 
 /// Returns the words of the command line of `uritool` after the program's name.
 fn words(rt: &HostRuntime, alloc: Global) -> io::Result<Vec<String>> {
-    let mut words = Vec::new(alloc);
-    for word in env::args(&(Arguments(rt), alloc))? {
-        words.push(word)?;
-    }
-    Ok(words)
+    Ok(env::args(&(Arguments(rt), alloc))?.collect(alloc)?)
 }

@@ -183,7 +183,7 @@ static PyMethodDef reference_methods[] = {
     {"normalize", (PyCFunction)(void (*)(void))reference_normalize, METH_FASTCALL | METH_KEYWORDS,
      "normalize($self, /, *, scheme_rules=False)\n--\n\n"
      "Returns the normal form (RFC 3986, section 6.2.2), without a default or empty port (section\n"
-     "6.2.3). With `scheme_rules` it is that of the whole of section 6.2.3: `http://a` is\n"
+     "6.2.3). With `scheme_rules` it is by the other rules of schemes too: `http://a` is\n"
      "`http://a/`."},
     {"_resolve", (PyCFunction)(void (*)(void))reference_resolve, METH_FASTCALL, NULL},
     {"_relativize", (PyCFunction)(void (*)(void))reference_relativize, METH_FASTCALL, NULL},

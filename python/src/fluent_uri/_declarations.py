@@ -107,7 +107,6 @@ FUNCTIONS: Dict[str, Tuple[Any, ...]] = {
     "error_name": (NUMBER, *_BUFFER, OUT),
     "error_message": (NUMBER, *_BUFFER, OUT),
     "parse": (NUMBER, *_TEXT, OUT),
-    "is_plainly_normal": (NUMBER, *_TEXT, OUT),
     "is_normal": (NUMBER, NUMBER, *_TEXT),
     "compare": (NUMBER, NUMBER, *_TEXT, *_TEXT),
     "hash": (NUMBER, NUMBER, WORD, *_TEXT, OUT),

@@ -25,7 +25,6 @@
 #define KINDS 4
 
 typedef uint32_t parse_call(uint32_t, const uint8_t *, size_t, fluent_uri_parts *);
-typedef uint32_t test_call(uint32_t, const uint8_t *, size_t, const fluent_uri_parts *);
 typedef uint32_t next_call(const uint8_t *, size_t, size_t *, fluent_uri_pair *);
 typedef uint32_t text_call(uint32_t, const uint8_t *, size_t, uint8_t *, size_t,
                            fluent_uri_parts *, size_t, fluent_uri_outcome *);
@@ -37,7 +36,6 @@ typedef uint32_t option_call(uint32_t, uint32_t, const uint8_t *, size_t, const 
 
 typedef struct {
     parse_call *parse; /* NULL before `open` */
-    test_call *is_plainly_normal;
     next_call *next_pair;
     text_call *to_uri, *to_uri_with_ascii_host, *mend, *mend_link;
     ruled_call *normalize;
@@ -92,7 +90,6 @@ static PyObject *module_open(PyObject *module, PyObject *words) {
                                     &PyType_Type, &parse_error, &PyTuple_Type, &kinds))
         return NULL;
     if (taken(addresses, "parse", &found.parse) < 0 ||
-        taken(addresses, "is_plainly_normal", &found.is_plainly_normal) < 0 ||
         taken(addresses, "next_pair", &found.next_pair) < 0 ||
         taken(addresses, "normalize", &found.normalize) < 0 ||
         taken(addresses, "to_uri", &found.to_uri) < 0 ||

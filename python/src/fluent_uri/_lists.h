@@ -9,7 +9,6 @@ typedef struct {
     const State *state;
     int kind;
     PyObject *cls;
-    int normal; /* above 0 if most of the texts before were in their normal form, else below */
 } Each;
 
 typedef PyObject *each_call(Each *, PyObject *);
@@ -46,33 +45,13 @@ static PyObject *validity(Each *it, PyObject *given) {
     return is_of_kind(it->state, it->kind, it->cls, given);
 }
 
-/* Whether a text is of the kind, and found to be in its normal form by its parts. That takes less
- * than to normalise it, and is lost where the text is in another form. So it is asked while most
- * texts before were in their normal form, and else of one text in sixteen. */
-static int is_found_normal(Each *it, const Utf8 *utf8) {
-    const Functions *call = &it->state->call;
-    fluent_uri_parts parts;
-    uint32_t kind = (uint32_t)it->kind;
-    size_t size = (size_t)utf8->size;
-    if (it->normal < 0 && ++it->normal < 0) return 0;
-    if (!call->parse(kind, utf8->at, size, &parts) &&
-        call->is_plainly_normal(kind, utf8->at, size, &parts)) {
-        if (it->normal < 4) it->normal++;
-        return 1;
-    }
-    if (it->normal-- == 0) it->normal = -16;
-    return 0;
-}
-
 static PyObject *normal_or_none(Each *it, PyObject *given) {
     PyObject *text = text_given(given), *made = NULL;
     Utf8 utf8 = {0};
     Call normal = {.kind = (uint32_t)it->kind, .ruled = it->state->call.normalize};
     if (!text) return NULL;
     if (utf8_of(Py_NewRef(text), &utf8) == 0)
-        made = is_found_normal(it, &utf8)
-                   ? Py_NewRef(text)
-                   : result_of(it->state, &normal, &utf8, NULL, text, 1, NULL);
+        made = result_of(it->state, &normal, &utf8, NULL, text, 1, NULL);
     Py_XDECREF(utf8.held);
     Py_DECREF(text);
     return made;

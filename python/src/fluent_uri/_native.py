@@ -89,7 +89,6 @@ def addresses() -> Dict[str, int]:
 
 message_of = function("error_message")
 parse = function("parse")
-is_plainly_normal = function("is_plainly_normal")
 normalize = function("normalize")
 resolve = function("resolve")
 resolve_normalized = function("resolve_normalized")

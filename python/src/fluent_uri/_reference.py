@@ -190,19 +190,10 @@ class Reference:
 
     def normalize(self: Self, *, scheme_rules: bool = False) -> Self:
         """Returns the normal form (RFC 3986, section 6.2.2), without a default or empty port
-        (section 6.2.3). With `scheme_rules` it is that of the whole of section 6.2.3: `http://a` is
+        (section 6.2.3). With `scheme_rules` it is by the other rules of schemes too: `http://a` is
         `http://a/`."""
-        if not scheme_rules and self.__is_plainly_normal():
-            return self
         numbers = self._number, _RULES if scheme_rules else 0
         return self.__made(type(self), _native.normalize, numbers)
-
-    def __is_plainly_normal(self) -> int:
-        data, parts = self.__utf8(), self.__parts
-        if not isinstance(parts, bytes):
-            parts = _PARTS.pack(*parts)
-        found: int = _native.is_plainly_normal(self._number, data, len(data), parts)
-        return found
 
     def _resolve(
         self: Self,

@@ -205,20 +205,15 @@ static int is_hardly_normal(const Reference *self, const char *text) {
     return (*text >= 'A' && *text <= 'Z') || self->parts.port.start != SIZE_MAX;
 }
 
-/* The normal form of a value, by options. It is the value itself if its text does not change. The
- * library finds that of most such texts by their parts, and then nothing is parsed. Of others
- * nothing is made: so the parts of the result are asked for at once only where the text will hardly
- * be its own. */
+/* The normal form of a value, by options. It is the value itself if its text does not change, and
+ * then nothing is made. So the parts of the result are asked for at once only where the text will
+ * hardly be its own. */
 static PyObject *normal_form(const State *state, int kind, uint32_t options, PyObject *object) {
     Reference *self = (Reference *)object;
     PyObject *cls = (PyObject *)Py_TYPE(self);
     Py_ssize_t length;
     const char *text = PyUnicode_AsUTF8AndSize(self->text, &length);
     if (!text) return NULL;
-    /* (the test knows no option) */
-    if (!options && state->call.is_plainly_normal((uint32_t)kind, (const uint8_t *)text,
-                                                  (size_t)length, &self->parts))
-        return Py_NewRef(object);
     if (length <= ROOM - BESIDE) {
         uint8_t room[ROOM];
         fluent_uri_outcome outcome;

@@ -49,14 +49,27 @@ pub trait SchemeRules {
     fn default_host_is_localhost(&self, scheme: &Scheme) -> bool;
 }
 
-/// The rules that standards give.
+/// The rules that the registered documents of schemes give.
 ///
-/// | Schemes | Rule | Standard |
+/// | Schemes | Rule | Document |
 /// |---|---|---|
 /// | `http`, `https` | an empty path after an authority is `/` | RFC 9110, section 4.2.3 |
 /// | `ws`, `wss` | the same | RFC 6455, section 3 |
+/// | `coap`, `coaps` | the same | RFC 7252, section 6.3 |
+/// | `coap+tcp`, `coaps+tcp`, `coap+ws`, `coaps+ws` | the same | RFC 8323, section 8.6 |
 /// | `ftp` | the same | RFC 1738, section 3.2.2 |
+/// | `gopher` | the same | RFC 4266, section 2.1 |
+/// | `imap` | the same | RFC 5092, section 4 |
+/// | `ipp` | the same | RFC 3510, section 4.7 |
+/// | `ipps` | the same | RFC 7472, section 4.6 |
+/// | `ldap` | the same | RFC 4516, section 4 |
+/// | `nfs` | the same | RFC 2224, section 1 |
+/// | `snmp` | the same | RFC 4088, section 3 |
+/// | `telnet` | the same | RFC 4248, section 2 |
+/// | `tn3270` | the same | RFC 6270, section 2.1 |
 /// | `file` | the host `localhost` is left out | RFC 8089, section 2 |
+///
+/// Rules on the text of a path or a query are not applied: `mailto:Joe@Example.COM` stays as it is.
 ///
 /// The target of an
 /// `OPTIONS` request must not be normalised by them: there an empty path is not `/`.

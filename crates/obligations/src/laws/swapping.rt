@@ -1,5 +1,5 @@
 //! Resolving and normalising, in either order (RFC 3986, sections 5.2 and 6.2.2).
-ghost use Rattle.std.specs.Prelude.{◌≡◌, ◌⊎◌, IfOk, IfErr};
+ghost use Rattle.std.specs.Prelude.{◌≡◌, ◌⊎◌, IfErr, IfOk, IfSome};
 ghost use Rattle.fluent_uri.specs.Components.{components};
 ghost use Rattle.fluent_uri.specs.Grammar.{iri};
 ghost use Rattle.fluent_uri.specs.Iris.{iri_ref_text};
@@ -7,11 +7,16 @@ ghost use Rattle.fluent_uri.specs.Iris.{iri_text};
 ghost use Rattle.fluent_uri.specs.NormalTargets.{IsNormalFormOfTarget};
 ghost use Rattle.fluent_uri.specs.Resolving.{IsErrorWithUnderflowAllowed};
 ghost use Rattle.fluent_uri.specs.SchemePorts.{default_port};
+ghost use Rattle.fluent_uri.specs.Uris.{uri_text};
 
 use fluent_uri::normalize::Normalizer;
 use fluent_uri::resolve::{ResolveError, Resolver};
-use fluent_uri::{Iri, IriRef};
+use fluent_uri::{Iri, IriRef, Uri, UriRef};
 use std::alloc::Global;
+use uri_rules::SchemeNormalizer;
+use uri_rules::laws::{
+    normal_forms_have_equivalent_targets, normal_forms_under_rules_have_equivalent_targets,
+};
 
 /// A caller proves that the normalised target of the normal forms of a base and a reference is that
 /// of the two, and returns it.
@@ -43,31 +48,69 @@ pub fn normal_target(
 }
 
 /// A caller proves that it makes no difference whether a base and a reference are normalised before
-/// they are resolved: returns the normalised target of the two, and of their normal forms, which
-/// are equal.
+/// they are resolved: returns the normal form of their target, and that of the target of their
+/// normal forms, which are equal.
 ///
 /// # Errors
 ///
-/// Those of `Resolver::resolve_normalized`.
+/// Those of `resolve_against`.
 pub fn normalised_before(
+    alloc: Global,
+    base: Uri<&str>,
+    reference: UriRef<&str>,
+) -> Result<(Uri<String>, Uri<String>), ResolveError>
+    ensures { IfOk result (λ both. uri_text both.1 ≡ uri_text both.0) }
+{
+    let (normal_base, normal_reference) = (base.normalize(alloc)?, reference.normalize(alloc)?);
+    normal_forms_have_equivalent_targets(&base, &reference, &normal_base, &normal_reference);
+    let target = reference.resolve_against(alloc, &base)?;
+    let other = normal_reference.resolve_against(alloc, &normal_base)?;
+    Ok((target.normalize(alloc)?, other.normalize(alloc)?))
+}
+
+/// A caller proves the same of IRIs, and that the error is the one for the base and the reference
+/// themselves.
+///
+/// # Errors
+///
+/// Those of `resolve_against` for the two.
+pub fn refused_alike(
     alloc: Global,
     base: Iri<&str>,
     reference: IriRef<&str>,
-) -> Result<(Iri<String>, Iri<String>), ResolveError>
-    ensures first { IfOk result (λ both. IsNormalFormOfTarget iri default_port
-        (iri_text base.entry) (iri_ref_text reference.entry) (iri_text both.0)) }
-    ensures equal { IfOk result (λ both. iri_text both.1 ≡ iri_text both.0) }
+) -> Result<Iri<String>, ResolveError>
+    ensures { IfErr result (λ error. (error ≡ ResolveError.OutOfMemory) ⊎
+        IsErrorWithUnderflowAllowed (components (iri_text base.entry))
+        (components (iri_ref_text reference.entry)) error) }
 {
-    let normalizer = Normalizer::new();
-    let target = Resolver::with_base(base).resolve_normalized(alloc, &reference, &normalizer)?;
-    let normal_base = base.normalize(alloc)?;
-    let normal_reference = reference.normalize(alloc)?;
-    let of_normal = Resolver::with_base(normal_base).resolve_normalized(
-        alloc,
+    let (normal_base, normal_reference) = (base.normalize(alloc)?, reference.normalize(alloc)?);
+    normal_forms_have_equivalent_targets(&base, &reference, &normal_base, &normal_reference);
+    normal_reference.resolve_against(alloc, &normal_base)
+}
+
+/// A caller proves that it makes no difference under the rules of schemes either. Returns `None` if
+/// there is no target, or no memory.
+pub fn normalised_before_by_rules(
+    alloc: Global,
+    base: Uri<&str>,
+    reference: UriRef<&str>,
+) -> Option<(Uri<String>, Uri<String>)>
+    ensures { IfSome result (λ both. uri_text both.1 ≡ uri_text both.0) }
+{
+    let rules = SchemeNormalizer::new();
+    let normal_base = rules.normalize(alloc, &base).ok()?;
+    let normal_reference = rules.normalize(alloc, &reference).ok()?;
+    normal_forms_under_rules_have_equivalent_targets(
+        &rules,
+        &base,
+        &reference,
+        &normal_base,
         &normal_reference,
-        &normalizer,
-    )?;
-    Ok((target, of_normal))
+    );
+    let target = reference.resolve_against(alloc, &base).ok()?;
+    let other = normal_reference.resolve_against(alloc, &normal_base).ok()?;
+    let normal_target = rules.normalize(alloc, &target).ok()?;
+    Some((normal_target, rules.normalize(alloc, &other).ok()?))
 }
 
 /// A caller proves that resolving and then normalising is resolving and normalising in one call:

@@ -126,8 +126,7 @@ fn push_host<U: Encoder, R: Encoder>(
 }
 
 /// Returns whether a host is in brackets, so that normalising decodes nothing in it.
-#[doc(hidden)]
-pub fn is_bracketed(host: &str) -> bool
+pub(crate) fn is_bracketed(host: &str) -> bool
     ensures { result ≡ starts left_bracket host.now }
 {
     matches!(host.as_bytes(), [b'[', ..])
@@ -173,8 +172,7 @@ pub(crate) fn is_port_unchanged<U: Encoder, R: Encoder, P: DefaultPort>(
 /// Returns the port's digits in a normal authority, unless there are none or they write the default
 /// port of the scheme. It calls `ports` only if there is a port that isn't empty. A port over 65535
 /// is no default.
-#[doc(hidden)]
-pub fn port_unless_default<'a, U: Encoder, R: Encoder, P: DefaultPort>(
+pub(crate) fn port_unless_default<'a, U: Encoder, R: Encoder, P: DefaultPort>(
     authority: Authority<'a, U, R>,
     scheme: Option<Scheme<'_>>,
     ports: &P,

@@ -1,29 +1,28 @@
-//! A cheap test of values that are their own normal text (RFC 3986, section 6.2.2). It misses a few
-//! of them.
-ghost use Rattle.std.specs.Prelude.{◌≡◌, ◌≤◌, ◌<◌, ℕ, IfSome, None, codes, false, length};
-ghost use Rattle.std.specs.Prelude.{option_map, slice_index, take, true};
+//! Whether a value is its own normal text (RFC 3986, sections 6.2.2 and 6.2.3).
+ghost use Rattle.std.specs.Prelude.{◌≡◌, ◌↔◌, ◌≤◌, ◌<◌, ℕ, codes, false, length};
+ghost use Rattle.std.specs.Prelude.{slice_index, take, true};
 ghost use Rattle.std.specs.Char.{is_ascii_uppercase};
 ghost use Rattle.std.specs.List.{list_all};
 ghost use Rattle.std.specs.Str.{str_to_ascii_lowercase};
 ghost use Rattle.uri_pct.specs.Delimiters.{left_bracket};
 ghost use Rattle.uri_pct.specs.Sets.{TableSet, is_one_of};
 ghost use Rattle.uri_parts.specs.Hosts.{host_kind, is_host};
-ghost use Rattle.uri_parts.specs.Authority.{authority_parts};
-ghost use Rattle.uri_parts.specs.AuthorityTexts.{authority_text};
-ghost use Rattle.uri_parts.specs.Components.{components, starts};
+ghost use Rattle.uri_parts.specs.Components.{starts};
 ghost use Rattle.uri_parts.specs.CoreTexts.{core_text};
-ghost use Rattle.uri_ops.specs.ComponentSets.{HasComponentSets};
-ghost use Rattle.uri_ops.specs.Models.Unchanged.{IsUnchangedHost, IsUnchangedPort};
+ghost use Rattle.uri_ops.specs.Models.Unchanged.{IsUnchangedHost};
 ghost use Rattle.uri_ops.specs.Models.Unchanged.{IsUnchangedPrefix, KindLacksPastAscii};
 ghost use Rattle.uri_ops.specs.Models.Unchanged.{is_literal_byte, is_settled_byte};
-ghost use Rattle.uri_ops.specs.Meaning.{host_meaning};
-ghost use Rattle.uri_ops.specs.Normal.{default_port_of, host_text};
+ghost use Rattle.uri_ops.specs.Meaning.{host_meaning, meaning_of};
+ghost use Rattle.uri_ops.specs.Normal.{host_text, normal_text};
 ghost use Rattle.uri_ops.specs.Normalizers.{HasNormalText, text_underflows};
-ghost use Rattle.uri_parts.specs.Ports.{PortFunction};
 
+use crate::default_port::DefaultPort;
 use crate::normalize::kept_octets::is_kept;
-use crate::normalize::normal_authority::is_bracketed;
-use uri_parts::component::Authority;
+use crate::normalize::normal_authority::{is_bracketed, is_port_unchanged};
+use crate::read_back::are_equal;
+use crate::read_back::literal_back::LiteralBack;
+use crate::read_back::normal_authority::ipv6_host_of;
+use crate::read_back::normal_back::normal_back;
 use uri_parts::core_text::Core;
 use uri_parts::kind::Kind;
 use uri_pct::encoder::Encoder;
@@ -150,16 +149,13 @@ fn unchanged_prefix_len<K: Kind>(core: Core<K, &str>) -> usize
     0
 }
 
-/// Returns `true` only if the normal text of a value is its own, under any default ports that keep
-/// its port.
+/// Returns `true` only if the normal text of a value is its own. It misses a few such values. It
+/// takes less than writing the normal text, and so normalising asks no more than this.
+#[doc(hidden)]
 #[inline(always)]
-pub(crate) fn is_unchanged_but_for_port<K: Kind>(core: Core<K, &str>) -> bool
-    requires { HasComponentSets K.kind }
-    ensures text { let p = components (core_text core.entry) in
-        result ≡ true → (ports : PortFunction)
-        → IfSome p.authority (λ a.
-        IsUnchangedPort (default_port_of ports p.scheme) (authority_parts a).port)
-        → HasNormalText K.kind ports (core_text core.entry) (core_text core.entry) }
+pub fn is_found_normal<K: Kind, P: DefaultPort>(core: Core<K, &str>, ports: &P) -> bool
+    ensures text { result ≡ true → HasNormalText K.kind (P.port_of ports.now)
+        (core_text core.entry) (core_text core.entry) }
     ensures underflow { result ≡ true → text_underflows (core_text core.entry) ≡ false }
 {
     let start = unchanged_prefix_len(core);
@@ -173,27 +169,27 @@ pub(crate) fn is_unchanged_but_for_port<K: Kind>(core: Core<K, &str>) -> bool
         0
     };
     is_kept(lacks_past_ascii::<K>(), bytes, start, limit)
+        && is_port_unchanged(core.authority(), core.scheme(), ports)
 }
 
-/// Returns whether no port is after the host of the authority, if there is one.
-fn lacks_port<U: Encoder, R: Encoder>(authority: Option<Authority<'_, U, R>>) -> bool
-    ensures { result ≡ true → IfSome (option_map authority_text authority.entry)
-        (λ a. (authority_parts a).port ≡ None) }
+/// Returns whether the normal text of a value, which it reads from its end, is its own.
+fn is_read_normal<K: Kind, P: DefaultPort>(core: Core<K, &str>, ports: &P) -> bool
+    ensures { (result ≡ true) ↔ (normal_text (meaning_of K.kind (P.port_of ports.now)
+        (core_text core.entry)) ≡ core_text core.entry) }
 {
-    match authority {
-        Some(authority) => !authority.has_port(),
-        None => true,
-    }
+    let authority = core.authority();
+    let (host, end) = ipv6_host_of(authority);
+    are_equal(
+        normal_back(core, authority, core.path(), ports, &host[..end]),
+        LiteralBack::copied(core.as_str().as_bytes()),
+    )
 }
 
-/// Returns `true` only if the normal text of a value is its own, under any default ports. It misses
-/// each value with a port, and a few others.
+/// Returns whether the normal text of a value is its own. Takes no memory.
 #[doc(hidden)]
-pub fn is_unchanged<K: Kind>(core: Core<K, &str>) -> bool
-    requires { HasComponentSets K.kind }
-    ensures text { result ≡ true → (ports : PortFunction)
-        → HasNormalText K.kind ports (core_text core.entry) (core_text core.entry) }
-    ensures underflow { result ≡ true → text_underflows (core_text core.entry) ≡ false }
+pub fn is_normal<K: Kind, P: DefaultPort>(core: Core<K, &str>, ports: &P) -> bool
+    ensures { (result ≡ true) ↔ (normal_text (meaning_of K.kind (P.port_of ports.now)
+        (core_text core.entry)) ≡ core_text core.entry) }
 {
-    lacks_port(core.authority()) && is_unchanged_but_for_port(core)
+    is_found_normal(core, ports) || is_read_normal(core, ports)
 }

@@ -37,7 +37,7 @@ fn ends_segment(text: &[u8]) -> bool
     matches!(text, [] | [b'/', ..])
 }
 
-/// Returns whether a segment of a base's path is `..`, where each dot may be percent-encoded.
+/// Returns whether a segment is `..`. Each dot may be percent-encoded.
 pub(crate) fn is_double_dot(segment: &str) -> bool
     ensures { result ≡ is_double_dot segment.now }
 {

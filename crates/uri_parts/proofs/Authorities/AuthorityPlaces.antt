@@ -1,6 +1,5 @@
 -- At their positions the parts of an authority can be cut out, and what is cut out is them.
-use Rattle.std.proofs.Common.{◌≡◌, ℕ, ◌+◌, ◌-◌, ◌<◌, ◌≤◌, true, false, eqb, List, [], ◌∷◌, ◌++◌, length, get_or, take, drop, refl, sym, ap, subst, ◌∙◌, arith, not, ◌||◌, ◌⊎◌, inl, append_assoc, append-nil, length-append}
-use Rattle.std.specs.Prelude.{codes, Some, None, Option, slice_range, is_some}
+use Rattle.std.proofs.Common.{◌≡◌, ℕ, ◌+◌, ◌-◌, ◌<◌, ◌≤◌, true, false, eqb, List, [], ◌∷◌, ◌++◌, length, get_or, take, drop, refl, sym, ap, subst, ◌∙◌, arith, not, ◌||◌, ◌⊎◌, inl, append_assoc, append-nil, length-append, codes, Some, None, Option, slice_range, is_some, drop-drop}
 use Rattle.std.specs.Option.{option_map_or}
 use Rattle.std.specs.Str.{IsUtf8, IsCharBoundary, chars}
 use Rattle.std.proofs.Math.Seq.{drop-append_seam, take-append_seam}
@@ -14,7 +13,6 @@ use Rattle.uri_parts.specs.Hosts.{is_host, host_kind, name_kind, literal_kind, l
 use Rattle.uri_parts.specs.Authority.{recompose_authority, authority_parts, is_authority_for}
 use Rattle.uri_parts.specs.Positions.{host_start_of, host_end_of, delimited_length}
 use Rattle.uri_parts.proofs.Splitting.Places.{slice-between-prefix-and-suffix, get_or-after-prefix, boundary_after_mark}
-use Rattle.std.proofs.lemmas.List.{drop-drop}
 use Rattle.std.proofs.lemmas.Bool.Decides.{nat_tests}
 
 -- authorities: what the test of one says of its components

@@ -1,6 +1,5 @@
 -- The parts of some authorities, and the kinds of their hosts, by computation.
-use Rattle.std.proofs.Common.{◌≡◌, true, false, [], ◌∷◌, refl}
-use Rattle.std.specs.Prelude.{codes, map, replicate, Some, None}
+use Rattle.std.proofs.Common.{◌≡◌, true, false, [], ◌∷◌, refl, codes, map, replicate, Some, None}
 use Rattle.std.specs.List.{list_any, list_all}
 use Rattle.std.specs.Net.Reader.{read_ipv4, read_ipv6, read_segments, read_segment, read_number, read_octet}
 use Rattle.std.specs.Str.{chars}

@@ -1,6 +1,5 @@
 -- The positions of an authority that is a host with what is after it, or userinfo and a host.
-use Rattle.std.proofs.Common.{◌≡◌, ℕ, ◌+◌, true, false, cond, List, ◌∷◌, ◌++◌, length, drop, refl, ap, ◌∙◌, arith, length-append}
-use Rattle.std.specs.Prelude.{codes, Some, None}
+use Rattle.std.proofs.Common.{◌≡◌, ℕ, ◌+◌, true, false, cond, List, ◌∷◌, ◌++◌, length, drop, refl, ap, ◌∙◌, arith, length-append, codes, Some, None}
 use Rattle.std.proofs.lemmas.Bool.{cond-true}
 use Rattle.std.proofs.lemmas.Bool.Decides.{nat_tests}
 use Rattle.uri_parts.specs.declared.positions.AuthorityPositions.{AuthorityPositions}

@@ -1,6 +1,5 @@
 -- How long the userinfo is that is found, and where the host begins after it.
-use Rattle.std.proofs.Common.{◌≡◌, ℕ, ◌+◌, false, eqb, List, [], ◌∷◌, drop, refl, sym, ap, ◌∙◌, arith, ⊎_elim, zero-add}
-use Rattle.std.specs.Prelude.{codes}
+use Rattle.std.proofs.Common.{◌≡◌, ℕ, ◌+◌, false, eqb, List, [], ◌∷◌, drop, refl, sym, ap, ◌∙◌, arith, ⊎_elim, zero-add, codes}
 use Rattle.std.proofs.lemmas.Bool.{cases_Bool, cond-true, cond-false, eqb-true}
 use Rattle.std.proofs.lemmas.Bool.Decides.{nat_tests}
 use Rattle.uri_pct.specs.Sets.{TableSet, digit_set}

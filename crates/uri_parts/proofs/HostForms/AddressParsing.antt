@@ -1,6 +1,5 @@
 -- What is parsed of an address, from how many hexadecimal digits come first.
-use Rattle.std.proofs.Common.{◌≡◌, ◌≢◌, ℕ, zero, suc, ◌^◌, ◌<◌, ◌≤◌, List, [], ◌∷◌, ◌++◌, length, get_or, take, drop, Option, Some, None, decimal, refl, sym, ap, ◌∙◌, arith, inl, inr, lit≤, length-take-le, take-append-drop, get_or-take, get_or-drop, add-zero, le-ltb, lt-ltb, append_assoc, ◌-◌, length-append, length-drop, drop_at}
-use Rattle.std.proofs.lemmas.List.{drop-drop}
+use Rattle.std.proofs.Common.{◌≡◌, ◌≢◌, ℕ, zero, suc, ◌^◌, ◌<◌, ◌≤◌, List, [], ◌∷◌, ◌++◌, length, get_or, take, drop, Option, Some, None, decimal, refl, sym, ap, ◌∙◌, arith, inl, inr, lit≤, length-take-le, take-append-drop, get_or-take, get_or-drop, add-zero, le-ltb, lt-ltb, append_assoc, ◌-◌, length-append, length-drop, drop_at, drop-drop}
 use Rattle.std.proofs.lemmas.Bool.{cases_lt}
 use Rattle.std.proofs.Math.Seq.{get_or-append_seam}
 use Rattle.std.proofs.lemmas.Fmt.{length-decimal-le}

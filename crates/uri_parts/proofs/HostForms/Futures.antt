@@ -1,8 +1,6 @@
 -- The test of an IPvFuture address is its grammar; and what no address in brackets holds.
-use Rattle.std.proofs.Common.{◌≡◌, ℕ, zero, suc, ◌<◌, ◌^◌, Bool, true, false, not, eqb, ltb, List, [], ◌∷◌, ◌++◌, length, get_or, All, refl, sym, ap, subst, ◌∙◌, arith, ◌&&◌, inl, inr}
-use Rattle.std.specs.Prelude.{codes}
+use Rattle.std.proofs.Common.{◌≡◌, ℕ, zero, suc, ◌<◌, ◌^◌, Bool, true, false, not, eqb, ltb, List, [], ◌∷◌, ◌++◌, length, get_or, All, refl, sym, ap, subst, ◌∙◌, arith, ◌&&◌, inl, inr, codes, IsUtf8}
 use Rattle.std.specs.Char.{is_ascii_hexdigit}
-use Rattle.std.specs.Str.{IsUtf8}
 use Rattle.std.specs.Net.Grammar.{IsDotted, IsColonHex}
 use Rattle.std.proofs.lemmas.List.Elements.{All-nil, All-cons, All-append}
 use Rattle.std.proofs.NetLemmas.Alphabet.{IsDigitOrDot, All-ipv4_text}

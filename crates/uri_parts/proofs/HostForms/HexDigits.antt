@@ -1,6 +1,5 @@
 -- Hexadecimal digits by a table, and how many of them a text begins with.
-use Rattle.std.proofs.Common.{◌≡◌, ℕ, zero, suc, ◌+◌, ◌<◌, ◌≤◌, min, Bool, true, ◌&&◌, List, get_or, refl, arith, eqb, ◌≢◌, ◌*◌, drop, get_or-drop, length-take-le, lit≤}
-use Rattle.std.proofs.lemmas.Bool.{eqb-true}
+use Rattle.std.proofs.Common.{◌≡◌, ℕ, zero, suc, ◌+◌, ◌<◌, ◌≤◌, min, Bool, true, ◌&&◌, List, get_or, refl, arith, eqb, ◌≢◌, ◌*◌, drop, get_or-drop, length-take-le, lit≤, eqb-true}
 use Rattle.std.proofs.lemmas.Bool.Decides.{Decides-below_and, nat_tests}
 use Rattle.std.proofs.lemmas.Int.Digits.{digits_more, digits_value-lt, digits_value_more}
 use Rattle.std.proofs.lemmas.List.{get_or_past}

@@ -1,7 +1,5 @@
 -- The test of a host is its grammar, and a text is a host of one kind.
-use Rattle.std.proofs.Common.{◌≡◌, ℕ, true, false, eqb, List, [], ◌∷◌, ◌++◌, refl, sym, ap, subst, ◌∙◌, arith, ◌||◌, ⊎_elim, inl, inr, ◌⊎◌, Option, Some, None}
-use Rattle.std.specs.Prelude.{codes, is_some}
-use Rattle.std.specs.Str.{IsUtf8}
+use Rattle.std.proofs.Common.{◌≡◌, ℕ, true, false, eqb, List, [], ◌∷◌, ◌++◌, refl, sym, ap, subst, ◌∙◌, arith, ◌||◌, ⊎_elim, inl, inr, ◌⊎◌, Option, Some, None, codes, is_some, IsUtf8}
 use Rattle.std.proofs.lemmas.Bool.{and_parts, or_right, eqb-true, cond-true, cond-false, both_ways, cases_Bool}
 use Rattle.std.proofs.lemmas.Bool.Decides.{nat_tests}
 use Rattle.std.proofs.lemmas.Slice.Eq.{bytes_eq-Decides}

@@ -1,6 +1,5 @@
 -- A text in brackets that begins with no `v` is parsed as an IPv6 address with `]` after it.
-use Rattle.std.proofs.Common.{◌≡◌, ℕ, ◌+◌, ◌-◌, ◌≤◌, Bool, true, false, List, [], ◌∷◌, ◌++◌, length, drop, Option, Some, None, option_map, refl, sym, ap, ◌∙◌, arith, ◌||◌, lit≤, eqb-true, length-append}
-use Rattle.std.specs.Prelude.{codes, is_some}
+use Rattle.std.proofs.Common.{◌≡◌, ℕ, ◌+◌, ◌-◌, ◌≤◌, Bool, true, false, List, [], ◌∷◌, ◌++◌, length, drop, Option, Some, None, option_map, refl, sym, ap, ◌∙◌, arith, ◌||◌, lit≤, eqb-true, length-append, codes, is_some}
 use Rattle.std.specs.Net.Reader.{read_ipv6}
 use Rattle.std.proofs.lemmas.Bool.{false≢true, and_parts, false_from_ne_true}
 use Rattle.std.proofs.lemmas.Option.{none-some}

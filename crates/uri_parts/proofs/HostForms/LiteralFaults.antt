@@ -1,8 +1,6 @@
 -- The error of an address in brackets is one in the whole text.
-use Rattle.std.proofs.Common.{◌≡◌, ℕ, ◌+◌, Bool, true, false, not, cond, List, [], ◌∷◌, drop, get_or, Option, Some, None, subst, arith}
+use Rattle.std.proofs.Common.{◌≡◌, ℕ, ◌+◌, Bool, true, false, not, cond, List, [], ◌∷◌, drop, get_or, Option, Some, None, subst, arith, IsCharBoundary, get_or-drop}
 use Rattle.std.specs.Prelude.{Ok, Err, codes, ⊤}
-use Rattle.std.specs.Str.{IsCharBoundary}
-use Rattle.std.proofs.lemmas.List.{get_or-drop}
 use Rattle.std.proofs.lemmas.Bool.{eqb-true, false≢true}
 use Rattle.std.proofs.lemmas.Bool.Decides.{nat_tests}
 use Rattle.uri_parts.specs.declared.error.ParseError.{ParseError}

@@ -1,8 +1,6 @@
 -- The first characters of an address in brackets, and the digits of one.
-use Rattle.std.proofs.Common.{◌≡◌, ℕ, ◌+◌, ◌<◌, ◌≤◌, true, false, eqb, List, [], ◌∷◌, length, get_or, refl, arith, ◌||◌}
-use Rattle.std.specs.Prelude.{codes, IsTrue}
+use Rattle.std.proofs.Common.{◌≡◌, ℕ, ◌+◌, ◌<◌, ◌≤◌, true, false, eqb, List, [], ◌∷◌, length, get_or, refl, arith, ◌||◌, codes, IsTrue, IsUtf8, IsCharBoundary}
 use Rattle.std.specs.Char.{digit_value}
-use Rattle.std.specs.Str.{IsUtf8, IsCharBoundary}
 use Rattle.std.proofs.lemmas.Str.{IsCharBoundary-after_ascii}
 use Rattle.std.proofs.lemmas.Bool.{and_left}
 use Rattle.std.proofs.lemmas.Bool.Decides.{nat_tests}

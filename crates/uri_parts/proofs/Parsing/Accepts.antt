@@ -1,7 +1,5 @@
 -- What the parser accepts is the grammar of its kind.
-use Rattle.std.proofs.Common.{◌≡◌, ℕ, Bool, true, false, eqb, List, [], ◌∷◌, drop, refl, sym, ap, ◌∙◌, arith, ◌&&◌, ⊎_elim}
-use Rattle.std.specs.Prelude.{codes}
-use Rattle.std.specs.Str.{IsUtf8}
+use Rattle.std.proofs.Common.{◌≡◌, ℕ, Bool, true, false, eqb, List, [], ◌∷◌, drop, refl, sym, ap, ◌∙◌, arith, ◌&&◌, ⊎_elim, codes, IsUtf8}
 use Rattle.std.proofs.lemmas.Bool.{cases_Bool, cond-false, eq-eqb, eqb-true, ne_eqb, both_ways}
 use Rattle.std.proofs.Math.Bool.{and-true, or-false}
 use Rattle.std.proofs.lemmas.Bool.Decides.{nat_tests}

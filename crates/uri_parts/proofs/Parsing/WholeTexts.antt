@@ -1,8 +1,6 @@
 -- A whole text is parsed where it is of its kind.
-use Rattle.std.proofs.Common.{◌≡◌, ℕ, Bool, true, false, cond, eqb, not, List, [], ◌∷◌, get_or, drop, refl, sym, ap, ◌∙◌, ◌||◌, ◌&&◌, ⊎_elim, lit<, arith}
-use Rattle.std.specs.Prelude.{codes, is_some}
+use Rattle.std.proofs.Common.{◌≡◌, ℕ, Bool, true, false, cond, eqb, not, List, [], ◌∷◌, get_or, drop, refl, sym, ap, ◌∙◌, ◌||◌, ◌&&◌, ⊎_elim, lit<, arith, codes, is_some, IsUtf8}
 use Rattle.std.specs.Char.{is_ascii_alphabetic}
-use Rattle.std.specs.Str.{IsUtf8}
 use Rattle.std.proofs.lemmas.Bool.{cases_Bool, cond-true, cond-false, and_left, and_right, and_from, and_parts, eq-eqb, eqb-true, ne_eqb, not_from_true, not_from_false, not-true, both_ways, false≢true, false_from_ne_true, or_left}
 use Rattle.std.proofs.Math.Bool.{and-true, and_assoc}
 use Rattle.std.proofs.lemmas.Bool.Decides.{nat_tests}

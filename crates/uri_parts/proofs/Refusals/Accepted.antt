@@ -1,11 +1,10 @@
 -- A text has no error exactly where it is parsed.
-use Rattle.std.proofs.Common.{◌≡◌, ℕ, ◌+◌, Bool, true, false, not, cond, eqb, List, drop, Some, ap, None, refl, subst, ◌∙◌, arith, lit<, ⊎_elim, ◌&&◌, zero-add, add-zero, add_assoc}
+use Rattle.std.proofs.Common.{◌≡◌, ℕ, ◌+◌, Bool, true, false, not, cond, eqb, List, drop, Some, ap, None, refl, subst, ◌∙◌, arith, lit<, ⊎_elim, ◌&&◌, zero-add, add-zero, add_assoc, drop-drop}
 use Rattle.std.proofs.Math.Bool.{and-false, and-true, and_assoc}
 use Rattle.std.specs.Prelude.{Ok, Err, codes, is_none, is_ok, Result}
 use Rattle.std.specs.Result.{result_err}
 use Rattle.std.specs.Str.{IsUtf8}
 use Rattle.std.proofs.lemmas.Bool.{cases_Bool, and_left, and_right, not_from_false, and_parts}
-use Rattle.std.proofs.lemmas.List.{drop-drop}
 use Rattle.std.proofs.lemmas.Str.{IsUtf8-drop}
 use Rattle.std.proofs.lemmas.Bool.Decides.{nat_tests}
 use Rattle.uri_pct.specs.Sets.{TableSet, scheme_set}

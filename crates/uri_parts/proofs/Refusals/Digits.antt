@@ -1,6 +1,5 @@
 -- Where digits end.
-use Rattle.std.proofs.Common.{◌≡◌, ℕ, ◌+◌, ◌-◌, ◌<◌, ◌≤◌, true, false, List, [], ◌∷◌, length, take, get_or, drop, ap, arith, refl, ⊎_elim, ltb-true, zero, suc, ◌&&◌, length-drop, length-take-le, Some, None, cond}
-use Rattle.std.specs.Prelude.{slice_range, Result, Ok, Err, is_ok, nat_lt, nat_le, option_and_then}
+use Rattle.std.proofs.Common.{◌≡◌, ℕ, ◌+◌, ◌-◌, ◌<◌, ◌≤◌, true, false, List, [], ◌∷◌, length, take, get_or, drop, ap, arith, refl, ⊎_elim, ltb-true, zero, suc, ◌&&◌, length-drop, length-take-le, Some, None, cond, slice_range, Result, Ok, Err, is_ok, nat_lt, nat_le, option_and_then}
 use Rattle.std.specs.Char.{is_digit}
 use Rattle.std.specs.Str.Parse.{AllDigits, ParsesUnsigned, digits_value}
 use Rattle.std.specs.Net.Reader.{digit_count}

@@ -1,11 +1,9 @@
 -- Where digits, an octet and an IPv4 address end, in a text at a position.
-use Rattle.std.proofs.Common.{◌≡◌, ◌≢◌, ℕ, suc, ◌+◌, ◌-◌, ◌<◌, ◌≤◌, false, List, [], ◌∷◌, ◌++◌, sym, length, get_or, take, drop, decimal, Some, refl, ap, ◌∙◌, arith, lit≤, ⊎_elim, append-nil, length-append, take_at, drop_at, lit<}
-use Rattle.std.specs.Prelude.{slice_range, nat_le, option_and_then}
+use Rattle.std.proofs.Common.{◌≡◌, ◌≢◌, ℕ, suc, ◌+◌, ◌-◌, ◌<◌, ◌≤◌, false, List, [], ◌∷◌, ◌++◌, sym, length, get_or, take, drop, decimal, Some, refl, ap, ◌∙◌, arith, lit≤, ⊎_elim, append-nil, length-append, take_at, drop_at, lit<, slice_range, nat_le, option_and_then, drop-drop}
 use Rattle.std.specs.Str.Parse.{AllDigits, digits_value}
 use Rattle.std.specs.Net.Grammar.{IsDotted}
 use Rattle.std.specs.Net.Text.{dotted_text}
 use Rattle.std.proofs.lemmas.Bool.{cond-true, cond-false, cases_lt, and_from, ne_eqb, lt-ltb, le-leb}
-use Rattle.std.proofs.lemmas.List.{drop-drop}
 use Rattle.std.proofs.lemmas.Fmt.{decimal_is_IsNumeral, decimal_digit, first_decimal, length-decimal-le}
 use Rattle.std.proofs.NetLemmas.Numbers.{NoDigit, digit_count-append, digit_count_none}
 use Rattle.std.proofs.lemmas.Bool.Decides.{nat_tests}

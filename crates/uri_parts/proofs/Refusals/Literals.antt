@@ -1,6 +1,5 @@
 -- The errors of an address in brackets.
-use Rattle.std.proofs.Common.{◌≡◌, ℕ, ◌+◌, ◌-◌, ◌<◌, true, false, eqb, List, [], ◌∷◌, ◌++◌, length, Option, drop, get_or, Some, None, refl, sym, ap, ◌∙◌, arith, ◌||◌, ⊎_elim, get_or-drop, add-zero, length-append, length-drop}
-use Rattle.std.specs.Prelude.{Ok, Err, is_ok, option_map, codes}
+use Rattle.std.proofs.Common.{◌≡◌, ℕ, ◌+◌, ◌-◌, ◌<◌, true, false, eqb, List, [], ◌∷◌, ◌++◌, length, Option, drop, get_or, Some, None, refl, sym, ap, ◌∙◌, arith, ◌||◌, ⊎_elim, get_or-drop, add-zero, length-append, length-drop, Ok, Err, is_ok, option_map, codes}
 use Rattle.std.specs.Char.{is_digit}
 use Rattle.std.specs.Net.Grammar.{IsColonHex}
 use Rattle.std.specs.Net.Reader.{read_ipv6, digit_count}

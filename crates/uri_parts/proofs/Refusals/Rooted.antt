@@ -1,9 +1,7 @@
 -- The errors after an authority, and of a host.
-use Rattle.std.proofs.Common.{◌≡◌, ℕ, ◌+◌, Bool, true, false, cond, eqb, List, [], ◌∷◌, drop, Some, refl, sym, ap, ◌∙◌, arith, ◌&&◌, ◌||◌, ⊎_elim, ◌⊎◌, inr}
-use Rattle.std.specs.Prelude.{Ok, Err, codes}
+use Rattle.std.proofs.Common.{◌≡◌, ℕ, ◌+◌, Bool, true, false, cond, eqb, List, [], ◌∷◌, drop, Some, refl, sym, ap, ◌∙◌, arith, ◌&&◌, ◌||◌, ⊎_elim, ◌⊎◌, inr, Ok, Err, codes, drop-drop}
 use Rattle.std.proofs.lemmas.Bool.{cond-true, cond-false, cases_Bool, eq-eqb, or_left, or_right, false≢true, and_from}
 use Rattle.std.proofs.lemmas.Bool.Decides.{nat_tests}
-use Rattle.std.proofs.lemmas.List.{drop-drop}
 use Rattle.uri_pct.specs.Sets.{TableSet, LacksPercent, digit_set, is_one_of}
 use Rattle.uri_pct.specs.Prefixes.{valid_prefix_from, valid_prefix, after}
 use Rattle.uri_pct.proofs.ValidTexts.Cuts.{excludes, valid_prefix_at_mark_is_empty}

@@ -1,10 +1,8 @@
 -- The error that the parser comes to, by how a text begins: with a scheme and `//`, with a scheme
 -- alone, or without.
-use Rattle.std.proofs.Common.{◌≡◌, ℕ, ◌+◌, Bool, true, false, List, get_or, drop, refl, sym, ap, ◌∙◌, zero-add, ◌&&◌}
-use Rattle.std.specs.Prelude.{Some, if◌then◌else◌}
+use Rattle.std.proofs.Common.{◌≡◌, ℕ, ◌+◌, Bool, true, false, List, get_or, drop, refl, sym, ap, ◌∙◌, zero-add, ◌&&◌, Some, if◌then◌else◌, drop-drop}
 use Rattle.std.specs.Char.{is_ascii_alphabetic}
 use Rattle.std.proofs.lemmas.Bool.{cond-true, cond-false}
-use Rattle.std.proofs.lemmas.List.{drop-drop}
 use Rattle.uri_pct.specs.Delimiters.{colon}
 use Rattle.uri_pct.specs.Prefixes.{valid_prefix, after}
 use Rattle.uri_pct.specs.Sets.{TableSet, scheme_set}

@@ -1,8 +1,6 @@
 -- The parser returns the error that `refusal` defines for a whole text.
-use Rattle.std.proofs.Common.{◌≡◌, ℕ, ◌+◌, Bool, true, false, cond, List, get_or, refl, sym, ap, subst, ◌∙◌, arith, ⊎_elim, zero-add, Some}
-use Rattle.std.specs.Prelude.{codes, if◌then◌else◌, Result, is_ok, is_none}
+use Rattle.std.proofs.Common.{◌≡◌, ℕ, ◌+◌, Bool, true, false, cond, List, get_or, refl, sym, ap, subst, ◌∙◌, arith, ⊎_elim, zero-add, Some, codes, if◌then◌else◌, Result, is_ok, is_none, IsUtf8}
 use Rattle.std.specs.Result.{result_err}
-use Rattle.std.specs.Str.{IsUtf8}
 use Rattle.std.specs.Char.{is_ascii_alphabetic}
 use Rattle.std.proofs.lemmas.Bool.{cases_Bool, cond-true, cond-false}
 use Rattle.uri_pct.specs.Sets.{TableSet, scheme_set, reg_name_set, userinfo_set, is_one_of, is_reg_name_char, is_userinfo_char, allows_past_ascii, ireg_name_set, iuserinfo_set}

@@ -1,6 +1,5 @@
 -- The components of some texts, by computation.
-use Rattle.std.proofs.Common.{◌≡◌, [], refl}
-use Rattle.std.specs.Prelude.{codes, Some, None}
+use Rattle.std.proofs.Common.{◌≡◌, [], refl, codes, Some, None}
 use Rattle.uri_parts.specs.Components.{components, recompose}
 
 -- examples of splitting: the components of the example of RFC 3986, section 3

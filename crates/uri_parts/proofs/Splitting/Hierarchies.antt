@@ -1,7 +1,5 @@
 -- An authority and what follows it, as they are cut.
-use Rattle.std.proofs.Common.{◌≡◌, ℕ, Bool, true, cond, List, drop, sym, ap, ◌∙◌, ◌&&◌, ⊎_elim, arith}
-use Rattle.std.specs.Prelude.{codes}
-use Rattle.std.specs.Str.{IsUtf8}
+use Rattle.std.proofs.Common.{◌≡◌, ℕ, Bool, true, cond, List, drop, sym, ap, ◌∙◌, ◌&&◌, ⊎_elim, arith, codes, IsUtf8}
 use Rattle.std.proofs.lemmas.Bool.{cases_Bool, and_left}
 use Rattle.std.proofs.lemmas.Bool.Decides.{nat_tests}
 use Rattle.uri_pct.specs.Sets.{TableSet}

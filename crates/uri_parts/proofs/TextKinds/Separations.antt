@@ -1,6 +1,5 @@
 -- What the sets of a kind have to keep apart for its texts to be parsed from left to right.
-use Rattle.std.proofs.Common.{◌≡◌, ℕ, true, false, List, arith}
-use Rattle.std.specs.Prelude.{codes}
+use Rattle.std.proofs.Common.{◌≡◌, ℕ, true, false, List, arith, codes}
 use Rattle.std.proofs.lemmas.Bool.Decides.{nat_tests}
 use Rattle.uri_pct.specs.Sets.{TableSet, LacksPercent, IsSubset, is_one_of, scheme_set, digit_set, reg_name_set, allows_past_ascii}
 use Rattle.uri_pct.specs.Prefixes.{allows_first}

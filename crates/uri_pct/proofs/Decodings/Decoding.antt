@@ -7,7 +7,7 @@ use Rattle.std.proofs.lemmas.Bool.{cases_Bool, cases_lt, cond-true, cond-false, 
 use Rattle.std.proofs.lemmas.List.{append-nil, take-append-drop, drop_all, length-drop, get_or-drop}
 use Rattle.std.proofs.lemmas.List.Folds.{list_all-append}
 use Rattle.std.proofs.lemmas.List.Sums.{prefix_len-le-length, prefix_len_stops}
-use Rattle.std.proofs.lemmas.Str.{chars-append, chars-encodes, encode_ascii, encodes-chars, scalars-chars, IsUtf8-take, IsUtf8-drop, IsCharBoundary-before_ascii, IsCharBoundary-after_ascii, IsCharBoundary-end}
+use Rattle.std.proofs.lemmas.Str.{chars-append, chars-encodes, encode_ascii, encodes-chars, scalars-chars, IsUtf8-take, IsUtf8-drop, IsCharBoundary-after_ascii}
 use Rattle.uri_pct.specs.Sets.{TableSet, LacksPercent, IsSubset}
 use Rattle.uri_pct.specs.Texts.{lacks}
 use Rattle.uri_pct.specs.Tokens.{Token, Char, Octet, is_pct_encoded, tokens_from_chars, tokens, allows_token, is_valid_for, IsValidFor}
@@ -112,9 +112,7 @@ pct_encoded_chars_begin_with_octet high low cs s e v =
           ∙ cond-true _ _ _ e
           ∙ ap (λ x. Octet (16 * digit_value high + digit_value low) ∷ tokens_from_chars x)
           (sym same);
-      valid = ap (λ x. list_all (allows_token widest_set) (tokens_from_chars x)) same
-          ∙ (and_parts true _ (sym (ap (list_all (allows_token widest_set)) (cond-true _ _ _ e))
-          ∙ v)).1;
+      valid = grind arith;
     }
 
 -- decoding: if a text from a `%` on is valid, the `%` begins an octet (the text by its characters)
@@ -148,9 +146,7 @@ percent_begins_octet [] u v some e = absurd (omega arith)
 percent_begins_octet (b ∷ rest) u v some e =
     let suffix : IsUtf8 rest = IsUtf8-drop (b ∷ rest) 1 u
     (IsCharBoundary-after_ascii (b ∷ rest) 0 u some (omega arith)) in
-    subst (λ x. BeginsWithOctet (x ∷ rest)) (sym e)
-    (valid_text_from_percent_begins_with_octet rest suffix
-    (ap (λ x. is_valid_for widest_set (x ∷ rest)) (sym e) ∙ v))
+    grind (arith, valid_text_from_percent_begins_with_octet)
 
 -- decoding: a text before an octet is a chunk by itself
 text_before_octet_is_own_chunk : (text : List ℕ) → BeginsWithOctet text
@@ -200,12 +196,7 @@ len_before_percent_is_at_most_length text = prefix_len-le-length (λ b. not (eqb
 pub first_percent_is_at_boundary : (text : List ℕ) → IsCharBoundary text (len_before_percent text)
 first_percent_is_at_boundary text =
     let p = len_before_percent text in
-    ⊎_elim
-    (λ h. let there = percent_ends_unencoded_prefix text h in IsCharBoundary-before_ascii text p h
-    (omega arith))
-    (λ h. let e : length text ≡ p = omega (arith, len_before_percent_is_at_most_length text) in
-    subst (IsCharBoundary text) e (IsCharBoundary-end text))
-    (cases_lt p (length text))
+    grind (arith, percent_ends_unencoded_prefix, len_before_percent_is_at_most_length)
 
 -- decoding: the text before the first `%` is not empty, unless the text begins with `%`
 unencoded_prefix_is_nonempty : (text : List ℕ) → 0 < length text → get_or text 0 0 ≢ 37
@@ -272,20 +263,17 @@ unencoded_prefix_is_first_chunk text n u v e some =
     ∙ tokens_after_unencoded_prefix prefix back inner (ap (λ k. lacks 37 (take k text)) e
     ∙ text_before_percent_is_unencoded text) in
     let valid : IsValidFor widest_set back =
-    (and_parts _ _
-    (sym (list_all-append (allows_token widest_set) (map Char (chars prefix)) (tokens back))
-    ∙ sym (ap (list_all (allows_token widest_set)) parts) ∙ v)).1 in
+    grind (arith, list_all-append) in
     let within : n ≤ length text = subst (λ k. k ≤ length text) (sym e)
     (len_before_percent_is_at_most_length text) in
     let percent : n < length text → get_or text n 0 ≡ 37 = λ h. ap (λ k. get_or text k 0) e
     ∙ percent_ends_unencoded_prefix text (subst (λ k. k < length text) e h) in
-    record {
-      first = ap chunks_of_tokens parts
-          ∙ unencoded_prefix_is_prepended_to_chunks (chars prefix) prefix (tokens back)
-          (encodes-chars prefix inner) some
-          ∙ text_before_percent_is_own_chunk text n outer valid within percent prefix;
-      valid = valid;
-    }
+    grind (
+      arith,
+      unencoded_prefix_is_prepended_to_chunks,
+      encodes-chars,
+      text_before_percent_is_own_chunk,
+    )
 
 -- decoding: if a text does not begin with `%`, its first chunk ends at the first `%`
 text_chunk_ends_at_percent : (text : List ℕ) (n : ℕ) → IsUtf8 text → IsValidFor widest_set text

@@ -1,9 +1,5 @@
 -- What is taken where text is appended.
-use Rattle.std.proofs.Common.{◌≡◌, ℕ, true, List, [], ◌∷◌, ◌++◌, refl, sym, ap, ◌∙◌, string_bytes, Result, Ok, Err}
-use Rattle.std.specs.List.{flat_map}
-use Rattle.std.specs.Result.{OnOk, is_ok}
-use Rattle.std.specs.Str.{IsUtf8}
-use Rattle.std.proofs.lemmas.List.{append-nil}
+use Rattle.std.proofs.Common.{◌≡◌, ℕ, true, List, [], ◌∷◌, ◌++◌, refl, sym, ap, ◌∙◌, string_bytes, Result, Ok, Err, flat_map, OnOk, is_ok, IsUtf8, append-nil}
 use Rattle.uri_pct.specs.Parts.{Part, Literal, pieces_of_parts, parts}
 use Rattle.uri_pct.specs.Pieces.{lossy_piece, utf8_pieces, lossy_text}
 use Rattle.uri_pct.specs.Models.TakenBytes.{TookText}

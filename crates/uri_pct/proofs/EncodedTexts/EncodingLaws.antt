@@ -1,6 +1,5 @@
 -- The laws on encoding that the crate states.
-use Rattle.std.proofs.Common.{◌≡◌, ℕ, List, ◌++◌}
-use Rattle.std.specs.Str.{IsUtf8}
+use Rattle.std.proofs.Common.{◌≡◌, ℕ, List, ◌++◌, IsUtf8}
 use Rattle.std.proofs.lemmas.List.Concat.{flat_map-append}
 use Rattle.uri_pct.specs.Sets.{TableSet, LacksPercent}
 use Rattle.uri_pct.specs.Tokens.{Token, tokens, bytes_decoded_from, bytes_of_one_token, print}

@@ -1,6 +1,5 @@
 -- What some texts and bytes are encoded as, by computation.
-use Rattle.std.proofs.Common.{◌≡◌, [], ◌∷◌, refl}
-use Rattle.std.specs.Prelude.{codes}
+use Rattle.std.proofs.Common.{◌≡◌, [], ◌∷◌, refl, codes}
 use Rattle.std.specs.Char.{encode_utf8}
 use Rattle.std.specs.Str.{chars}
 use Rattle.uri_pct.specs.Sets.{allows_past_ascii, is_ucschar, is_iprivate, data_set, idata_set, path_set}

@@ -1,6 +1,5 @@
 -- The tokens that texts and bytes are encoded as.
-use Rattle.std.proofs.Common.{◌≡◌, ℕ, ◌+◌, ◌-◌, ◌≤◌, true, false, List, [], ◌∷◌, ◌++◌, length, take, drop, map, refl, sym, ap, ◌∙◌, arith, append_assoc}
-use Rattle.std.specs.List.{flat_map, All}
+use Rattle.std.proofs.Common.{◌≡◌, ℕ, ◌+◌, ◌-◌, ◌≤◌, true, false, List, [], ◌∷◌, ◌++◌, length, take, drop, map, refl, sym, ap, ◌∙◌, arith, append_assoc, flat_map, All}
 use Rattle.std.specs.Char.{encode_utf8, len_utf8}
 use Rattle.std.specs.Str.{chars, encode_utf8_all, all_scalars, IsUtf8}
 use Rattle.std.proofs.Math.Seq.{take-append_seam}
@@ -110,9 +109,7 @@ slice_with_one_more_char text start end c ordered e =
     ap (take (len_utf8 c)) suffix
     ∙ ap (λ k. take k (encode_utf8 c ++ drop (end + len_utf8 c) text)) (sym (length-encode c))
     ∙ take-append_seam (encode_utf8 c) (drop (end + len_utf8 c) text) in
-    ap (λ k. take k (drop start text)) size
-    ∙ sym (take_then_take_is_take_of_sum n (len_utf8 c) (drop start text))
-    ∙ ap (λ x. take n (drop start text) ++ x) prefix
+    grind (arith, nat_tests, take_then_take_is_take_of_sum)
 
 -- encoding: a new text that begins with the old one does so with more after it
 pub append_keeps_prefix : (old new more : List ℕ) → take (length old) new ≡ old

@@ -147,9 +147,7 @@ module _ (test : ℕ → Bool) (bs : List ℕ) (start i mask : ℕ)
   run_goes_on_to_end none last within = record {
     from = within;
     within = omega arith;
-    pass = λ x from to. bytes_before_lane_pass 16 (omega arith)
-        (λ k h. ap (λ n. is_set_bit n k) none ∙ ap (λ n. eqb n 1) (bit_at-zero k))
-        x from (omega (arith, last, to));
+    pass = grind (arith, nat_tests, bytes_before_lane_pass, bit_at-zero);
     stop = λ h. absurd (omega arith);
   }
 

@@ -1,9 +1,7 @@
 -- A run of characters of ASCII and of parts of characters from U+00C0 to U+D7FF is scanned.
-use Rattle.std.proofs.Common.{◌≡◌, ℕ, zero, suc, ◌+◌, ◌<◌, ◌≤◌, Bool, true, not, eqb, List, length, get_or, drop, refl, sym, ap, subst, arith, ⊎_elim, ◌&&◌}
-use Rattle.std.specs.Prelude.{nat_le}
-use Rattle.std.specs.Str.{IsUtf8, IsCharBoundary}
+use Rattle.std.proofs.Common.{◌≡◌, ℕ, zero, suc, ◌+◌, ◌<◌, ◌≤◌, Bool, true, not, eqb, List, length, get_or, drop, ap, arith, ⊎_elim, ◌&&◌, nat_le, IsUtf8, IsCharBoundary}
 use Rattle.std.proofs.lemmas.Str.{IsCharBoundary-after_ascii}
-use Rattle.std.proofs.lemmas.Bool.{cases_lt, or_cases, or_right, both_ways}
+use Rattle.std.proofs.lemmas.Bool.{cases_lt, or_cases, both_ways}
 use Rattle.std.proofs.lemmas.Bool.Decides.{nat_tests}
 use Rattle.uri_pct.specs.Sets.{TableSet, LacksPercent}
 use Rattle.uri_pct.specs.Prefixes.{valid_prefix}
@@ -35,21 +33,10 @@ module _ (set : TableSet) (lacks : LacksPercent set) (flag : set.ucschar ≡ tru
       → get_or bs k 0 < 192 → ⊥
   char_run_ends_at_no_continuation_byte k e inside from to =
       both_ways _ (run.stop (omega (arith, e, inside)))
-      (or_right _ _ (byte_from_128_to_237_is_char_part (get_or bs end 0)
-      (subst (λ n. 128 ≤ get_or bs n 0) (sym e) from)
-      (let l : get_or bs end 0 < 192 = subst (λ n. get_or bs n 0 < 192) (sym e) to in omega arith)
-      (λ f. let l : get_or bs end 0 < 192 = subst (λ n. get_or bs n 0 < 192) (sym e) to in
-      omega arith)))
+      (grind (arith, nat_tests, byte_from_128_to_237_is_char_part))
 
   pub char_run_ends_at_boundary : IsCharBoundary bs end
-  char_run_ends_at_boundary = (
-    run.within,
-    λ inside past. ⊎_elim
-        (λ (l : get_or bs end 0 < 192). absurd
-        (char_run_ends_at_no_continuation_byte end refl inside past l))
-        (λ (l : 192 ≤ get_or bs end 0). l)
-        (cases_lt (get_or bs end 0) 192),
-  )
+  char_run_ends_at_boundary = grind (arith, nat_tests, char_run_ends_at_no_continuation_byte)
 
   abbrev IsScannedFrom : ℕ → Type 0
   IsScannedFrom i = end + valid_prefix set (drop end bs) ≡ i + valid_prefix set (drop i bs)

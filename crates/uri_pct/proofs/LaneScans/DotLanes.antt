@@ -35,16 +35,7 @@ module _ (bs : List ℕ) (i : ℕ) (room : i + 16 < length bs) (slashes dots oct
       ≡ is_slash_before_dot_or_percent bs (i + k)
   mask_bit_is_slash_dot_at_lane k h =
       let next : i + 1 + k ≡ i + k + 1 = omega arith in
-      bit_of_bit_and slashes (bit_or dots octets) k
-      ∙ ap (λ b. b && is_set_bit (bit_or dots octets) k)
-      (ap (λ m. is_set_bit m k) s ∙ mask_bit_is_equality_of_byte 47 bs i k (omega (arith, room)) h)
-      ∙ ap (λ b. eqb (get_or bs (i + k) 0) 47 && b) (bit_of_bit_or dots octets k
-      ∙ ap (λ b. b || is_set_bit octets k) (ap (λ m. is_set_bit m k) d
-      ∙ mask_bit_is_equality_of_byte 46 bs (i + 1) k (omega (arith, room)) h)
-      ∙ ap (λ b. eqb (get_or bs (i + 1 + k) 0) 46 || b)
-      (ap (λ m. is_set_bit m k) o ∙ mask_bit_is_equality_of_byte 37 bs (i + 1) k
-      (omega (arith, room)) h)
-      ∙ ap (λ n. eqb (get_or bs n 0) 46 || eqb (get_or bs n 0) 37) next)
+      grind (arith, nat_tests, bit_of_bit_and, mask_bit_is_equality_of_byte, bit_of_bit_or)
 
   pub no_slash_dot_where_mask_is_zero : slash_dot_mask ≡ 0 → (k : ℕ) → k < 16
       → is_slash_before_dot_or_percent bs (i + k) ≡ false

@@ -7,7 +7,7 @@ use Rattle.std.specs.Simd.Lanes.{zip2, mask_l, top, digits_l, Each1}
 use Rattle.std.proofs.lemmas.Nat.{shr-shr, and_mask, pow_pos}
 use Rattle.std.proofs.lemmas.Nat.Bits.{bit_at-lt, bit_at_and, bit_at_ones, bit_at_cat_low, bit_at_cat_high, and_pow}
 use Rattle.std.proofs.lemmas.Simd.{swz_l, SwzOk, SwzOk-from_Each1, Each1-from_get_or, Each1-get_or, length-swz_l, get_or-swz_l, zip2_of_maps, bitmask_splat, map-map}
-use Rattle.std.proofs.lemmas.Bool.{cases_lt, cond-true, cond-false, lt-ltb, le-ltb, ne_eqb, agree_below_at, eqb-true, or_right}
+use Rattle.std.proofs.lemmas.Bool.{cases_lt, cond-true, cond-false, lt-ltb, le-ltb, ne_eqb, agree_below_at, eqb-true}
 use Rattle.std.proofs.lemmas.List.{ext_get_or, length-map}
 use Rattle.std.proofs.lemmas.Grind.{get_or_default_zero}
 use Rattle.std.proofs.Math.ListN.{get_or-map}
@@ -98,10 +98,8 @@ module _ (xs v : List ℕ) (f g : ℕ → ℕ) (long : length v ≡ 16) (fits : 
       → SwzOk w8 16 16 0 (map f v)
   lanes_fit_swizzle ok =
       SwzOk-from_Each1 w8 16 1 16 0 _ refl (omega (arith, length-map v f))
-      (Each1-from_get_or (λ j. T (zeroes 16 w8 j || ltb j 16)) (map f v) 0 (λ i l.
-      let h : i < 16 = omega (arith, length-map v f) in
-      subst T (sym (ap (λ j. zeroes 16 w8 j || ltb j 16) (mapped_lane i h)
-      ∙ ok (get_or v i 0) (lane_is_below_256 i h))) tt))
+      (Each1-from_get_or (λ j. T (zeroes 16 w8 j || ltb j 16)) (map f v) 0
+      (grind (arith, length-map, mapped_lane, lane_is_below_256)))
 
   pub swizzle_is_lookup : ((b : ℕ) → b < 256 → cond (zeroes 16 w8 (f b)) 0 (get_or xs (f b) 0)
       ≡ g b)
@@ -123,9 +121,7 @@ module _ (xs is : List ℕ) (long : length is ≡ 16)
   pub small_indices_fit_swizzle : SwzOk w8 16 16 0 is
   small_indices_fit_swizzle =
       SwzOk-from_Each1 w8 16 1 16 0 _ refl (omega (arith, long))
-      (Each1-from_get_or (λ j. T (zeroes 16 w8 j || ltb j 16)) is 0 (λ i l.
-      subst T (sym (or_right (zeroes 16 w8 (get_or is i 0)) _
-      (lt-ltb (get_or is i 0) 16 (small i (omega arith))))) tt))
+      (Each1-from_get_or (λ j. T (zeroes 16 w8 j || ltb j 16)) is 0 (grind arith))
 
   pub swizzle_by_small_indices_is_lookup
       : swz_l w8 16 xs 0 is ≡ map (λ i. get_or xs i 0) is

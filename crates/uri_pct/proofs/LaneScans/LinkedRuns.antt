@@ -1,7 +1,7 @@
 -- Bytes that are linked from one to the next are bytes of a set and whole octets.
 use Rattle.std.proofs.Common.{◌≡◌, ℕ, ◌+◌, ◌-◌, ◌<◌, ◌≤◌, Bool, true, false, eqb, ltb, List, get_or, refl, sym, ap, ◌∙◌, arith, ◌&&◌}
 use Rattle.std.specs.Char.{is_ascii_hexdigit}
-use Rattle.std.proofs.lemmas.Bool.{and_parts, and_from, both_ways, lt-ltb, ltb-true, eqb-true}
+use Rattle.std.proofs.lemmas.Bool.{and_parts, both_ways, lt-ltb, ltb-true, eqb-true}
 use Rattle.uri_pct.specs.Texts.{has_hex_digits_after}
 use Rattle.uri_pct.specs.Models.ByteRuns.{AreCharactersOrOctets, IsByteOfEncodedText}
 
@@ -43,10 +43,7 @@ module _ (test : ℕ → Bool) (bs : List ℕ) (start i : ℕ)
     octet_begins_before_hex_digits k e =
         let p = octet_begins_with_percent k e in
         let w = whole (start + k) (omega arith) (omega (arith, p.0)) p.1 in
-        and_from _ _ (byte_after_percent_is_hexdigit (start + k) (start + k + 1) refl (omega arith)
-        (omega arith) p.1)
-        (second_byte_after_percent_is_hexdigit (start + k) (start + k + 2) refl (omega arith)
-        (omega arith) p.1)
+        grind (arith, byte_after_percent_is_hexdigit, second_byte_after_percent_is_hexdigit)
 
     linked_bytes_are_characters_or_octets : AreCharactersOrOctets test bs start n
     linked_bytes_are_characters_or_octets = record {
@@ -54,9 +51,7 @@ module _ (test : ℕ → Bool) (bs : List ℕ) (start i : ℕ)
       pass = λ k h none fresh. byte_outside_octets_passes_test k h none;
       percent = λ k e. (octet_begins_with_percent k e).1;
       digits = octet_begins_before_hex_digits;
-      whole = λ k h e.
-          let p = octet_begins_with_percent k e in
-          let w = whole (start + k) (omega arith) (omega (arith, h)) p.1 in omega arith;
+      whole = grind (arith, octet_begins_with_percent);
     }
 
   -- the bytes before a `%` are characters and octets
@@ -74,10 +69,7 @@ module _ (test : ℕ → Bool) (bs : List ℕ) (start i : ℕ)
   pub characters_or_octets_up_to_end : start ≤ i → (get_or bs (i - 1) 0 ≡ 37 → ⊥)
       → (get_or bs (i - 2) 0 ≡ 37 → ⊥) → AreCharactersOrOctets test bs start (i - start)
   characters_or_octets_up_to_end from none nor =
-      linked_bytes_are_characters_or_octets (i - start) (omega arith) (λ p first last e.
-      let one : p ≡ i - 1 → ⊥ = λ (f : p ≡ i - 1). none (ap (λ k. get_or bs k 0) (sym f) ∙ e) in
-      let two : p ≡ i - 2 → ⊥ = λ (f : p ≡ i - 2). nor (ap (λ k. get_or bs k 0) (sym f) ∙ e) in
-      omega (arith, one, two))
+      linked_bytes_are_characters_or_octets (i - start) (omega arith) (grind arith)
 
 -- sixteen bytes at a time: an empty run of bytes consists of characters and octets
 pub no_bytes_are_characters_or_octets : (test : ℕ → Bool) (bs : List ℕ) (start n : ℕ) → n ≡ 0

@@ -70,9 +70,7 @@ module _ (bs : List ℕ) (i percents others : ℕ)
       ∙ first.1) refl in
       let not_14 : k ≡ 14 → ⊥ = λ d. both_ways _ (sym (ap (λ m. is_set_bit 196608 (2 + m)) d)
       ∙ second.1) refl in
-      let room : k + 3 ≤ 16 = ⊎_elim (λ (h : k < 14). omega arith)
-      (λ (h : 14 ≤ k). ⊎_elim (λ (l : k < 15). absurd (not_14 (omega arith)))
-      (λ (l : 15 ≤ k). absurd (not_15 (omega arith))) (cases_lt k 15)) (cases_lt k 14) in
+      let room : k + 3 ≤ 16 = grind (arith, nat_tests) in
       let at_1 = char_of_hex_masks_is_hexdigit _
       (clear_lane_passes_test _ bs i 16 others (1 + k) marks (omega arith) first.0) in
       let at_2 = char_of_hex_masks_is_hexdigit _

@@ -64,7 +64,5 @@ module _ (holds : ℕ → Type 0) (block s mask : ℕ) (few : s ≤ 16) (below :
       let whole : 16 - s + s ≡ 16 = omega arith in
       let narrow : mask / 2 ^ s < 2 ^ (16 - s) =
       shr_below mask (16 - s) s (subst (λ w. mask < 2 ^ w) (sym whole) below) in
-      let near : s + n < 16 = ⊎_elim (λ (h : s + n < 16). h) (λ (h : 16 ≤ s + n).
-      let none = bit_at_above (mask / 2 ^ s) (16 - s) n narrow (omega (arith, h)) in
-      absurd (omega (arith, none, f.1))) (cases_lt (s + n) 16) in
+      let near : s + n < 16 = grind (arith, bit_at_above) in
       (near, clear_shifted_lanes_hold n (omega (arith, near)) f.2)

@@ -1,6 +1,5 @@
 -- Two words as a set of ASCII characters.
-use Rattle.std.proofs.Common.{◌≡◌, ℕ, ◌+◌, ◌-◌, ◌*◌, ◌/◌, ◌%◌, ◌^◌, ◌<◌, ◌≤◌, min, max, Bool, true, false, not, eqb, ltb, List, refl, sym, ap, ◌∙◌, arith, bit_and, bit_or, ◌&&◌, ◌||◌, ⊎_elim, w64}
-use Rattle.std.specs.Prelude.{slice_index_or}
+use Rattle.std.proofs.Common.{◌≡◌, ℕ, ◌+◌, ◌-◌, ◌*◌, ◌/◌, ◌%◌, ◌^◌, ◌<◌, ◌≤◌, min, max, Bool, true, false, not, eqb, ltb, List, refl, sym, ap, ◌∙◌, arith, bit_and, bit_or, ◌&&◌, ◌||◌, ⊎_elim, w64, slice_index_or}
 use Rattle.std.specs.Int.{bit_at, bit_not}
 use Rattle.std.proofs.Math.Bool.{or-false}
 use Rattle.std.proofs.lemmas.Nat.{and_mask}
@@ -46,9 +45,7 @@ tested_bit_is_bit_of_its_word : (words : List ℕ) (b q : ℕ) → b / 64 ≡ q
     → tested_bit words b ≡ eqb (bit_at (slice_index_or words q 0) (b - 64 * q)) 1
 tested_bit_is_bit_of_its_word words b q e =
     let place : bit_and b 63 ≡ b - 64 * q = and_mask b 6 ∙ omega arith in
-    ap (λ w. eqb w 1) (shr_and_one (slice_index_or words (b / 64) 0) (bit_and b 63))
-    ∙ ap (λ k. eqb (bit_at (slice_index_or words (b / 64) 0) k) 1) place
-    ∙ ap (λ k. eqb (bit_at (slice_index_or words k 0) (b - 64 * q)) 1) e
+    grind (arith, nat_tests, shr_and_one)
 
 -- bits, for tables: the word 0 has none
 zero_word_has_no_bit : (w k : ℕ) → w ≡ 0 → eqb (bit_at w k) 1 ≡ false
@@ -65,21 +62,14 @@ tested_bit-is-has_bit words b third fourth h =
     (λ (below : b < 64). tested_bit_is_bit_of_its_word words b 0 (omega arith)
     ∙ ap (λ k. eqb (bit_at low k) 1) (omega arith)
     ∙ sym (has_bit_below_64_is_bit_of_low low high b below))
-    (λ (from : 64 ≤ b).
-    ⊎_elim
-    (λ (below : b < 128). tested_bit_is_bit_of_its_word words b 1 (omega arith)
-    ∙ ap (λ k. eqb (bit_at high k) 1) (omega arith)
-    ∙ sym (has_bit_from_64_is_bit_of_high low high b from below))
-    (λ (past : 128 ≤ b).
-    ⊎_elim
-    (λ (below : b < 192). tested_bit_is_bit_of_its_word words b 2 (omega arith)
-    ∙ zero_word_has_no_bit _ (b - 64 * 2) third
-    ∙ sym (has_bit_past_ascii_is_false low high b past))
-    (λ (last : 192 ≤ b). tested_bit_is_bit_of_its_word words b 3 (omega arith)
-    ∙ zero_word_has_no_bit _ (b - 64 * 3) fourth
-    ∙ sym (has_bit_past_ascii_is_false low high b past))
-    (cases_lt b 192))
-    (cases_lt b 128))
+    (grind (
+      arith,
+      nat_tests,
+      tested_bit_is_bit_of_its_word,
+      has_bit_from_64_is_bit_of_high,
+      zero_word_has_no_bit,
+      has_bit_past_ascii_is_false,
+    ))
     (cases_lt b 64)
 
 -- tables: the bits of two words are a test of characters if those of `low` agree
@@ -192,9 +182,7 @@ has_bit_after_low_bit_is_set low high k c within =
     (λ c. has_bit low high c || eqb k c)
     (λ c h. bit_after_one_bit_is_set low k c within
     ∙ ap (λ a. a || eqb k c) (sym (has_bit_below_64_is_bit_of_low low high c h)))
-    (λ c h j.
-    sym (has_bit_from_64_is_bit_of_high low high c h j) ∙ sym (or-false (has_bit low high c))
-    ∙ ap (λ b. has_bit low high c || b) (sym (ne_eqb k c (λ (e : k ≡ c). omega arith))))
+    (grind (arith, nat_tests, has_bit_from_64_is_bit_of_high, or-false))
     (λ c h. or_from (has_bit low high c) (eqb k c) (has_bit_past_ascii_is_false low high c h)
     (ne_eqb k c (λ (e : k ≡ c). omega arith))) c
 
@@ -208,9 +196,7 @@ pub has_bit_after_high_bit_is_set : (low high k c : ℕ) → 64 ≤ k → k < 12
 has_bit_after_high_bit_is_set low high k c from within =
     has_bit_is_test_if_words_agree low (bit_or high (1 * 2 ^ (k - 64) % 2 ^ 64))
     (λ c. has_bit low high c || eqb k c)
-    (λ c h.
-    sym (has_bit_below_64_is_bit_of_low low high c h) ∙ sym (or-false (has_bit low high c))
-    ∙ ap (λ b. has_bit low high c || b) (sym (ne_eqb k c (λ (e : k ≡ c). omega arith))))
+    (grind (arith, nat_tests, has_bit_below_64_is_bit_of_low, or-false))
     (λ c h j.
     bit_after_one_bit_is_set high (k - 64) (c - 64) (omega arith)
     ∙ binary_function_of_equals_is_equal (λ a b. a || b)

@@ -1,5 +1,5 @@
 -- Sets as two masks and three flags.
-use Rattle.std.proofs.Common.{◌≡◌, ℕ, ◌+◌, ◌^◌, ◌<◌, ◌≤◌, Bool, true, false, not, eqb, refl, sym, ap, ◌∙◌, arith, bit_or, ◌&&◌, ◌||◌, All, List, get_or}
+use Rattle.std.proofs.Common.{◌≡◌, ℕ, ◌+◌, ◌^◌, ◌<◌, ◌≤◌, Bool, true, false, not, eqb, refl, sym, ap, arith, bit_or, ◌&&◌, ◌||◌, All, List, get_or}
 use Rattle.std.specs.Int.Bits.{bit_and, or_add_and}
 use Rattle.std.proofs.lemmas.Nat.{and_le_l, and_le_r}
 use Rattle.std.proofs.lemmas.Bool.{and_parts, or_parts, not-true, eqb-true, ne_eqb}
@@ -83,10 +83,7 @@ clear_masks_are_empty_set low high pct_encoded ucschar iprivate h =
     let flags = or_parts (pct_encoded || ucschar) iprivate
     (not-true (pct_encoded || ucschar || iprivate) parts.1) in
     let first_flags = or_parts pct_encoded ucschar flags.0 in
-    ap (λ n. set_of_masks n high pct_encoded ucschar iprivate) no_low
-    ∙ ap (λ n. set_of_masks 0 n pct_encoded ucschar iprivate) no_high
-    ∙ (λ i. record_set (λ c. has_bit-zero-masks c i) (first_flags.0 i) (first_flags.1 i)
-    (flags.1 i))
+    grind (arith, nat_tests, has_bit-zero-masks)
 
 -- tables: if the set of a table is empty, its two words are zero and it has no flag
 pub empty_set_has_clear_masks : (low high : ℕ) (pct_encoded ucschar iprivate : Bool) → low < 2 ^ 64
@@ -94,13 +91,7 @@ pub empty_set_has_clear_masks : (low high : ℕ) (pct_encoded ucschar iprivate :
     → is_clear low high pct_encoded ucschar iprivate ≡ true
 empty_set_has_clear_masks low high pct_encoded ucschar iprivate fits fits' e =
     let none : (c : ℕ) → has_bit low high c ≡ false = λ c. ap (λ (r : TableSet). r.ascii c) e in
-    ap (λ n. is_clear n high pct_encoded ucschar iprivate)
-    (low_mask_without_bits_is_zero low high fits none)
-    ∙ ap (λ n. is_clear 0 n pct_encoded ucschar iprivate)
-    (high_mask_without_bits_is_zero low high fits' none)
-    ∙ ap (λ b. not (b || ucschar || iprivate)) (ap (λ (r : TableSet). r.pct_encoded) e)
-    ∙ ap (λ b. not (b || iprivate)) (ap (λ (r : TableSet). r.ucschar) e)
-    ∙ ap not (ap (λ (r : TableSet). r.iprivate) e)
+    grind (arith, nat_tests, low_mask_without_bits_is_zero, high_mask_without_bits_is_zero)
 
 -- general fact on lists of bytes, for tables: a byte that equals none of a list is not one of it
 pub byte_unlike_all_is_not_one_of_them : (bytes : List ℕ) (c : ℕ) → All (λ b. b ≡ c → ⊥) bytes

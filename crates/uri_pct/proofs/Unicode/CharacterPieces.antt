@@ -1,15 +1,12 @@
 -- The bytes of a character are a well-formed piece in any context, and each well-formed piece is
 -- the bytes of a character.
-use Rattle.std.proofs.Common.{◌≡◌, ℕ, zero, suc, ◌+◌, ◌-◌, ◌*◌, ◌/◌, ◌%◌, ◌<◌, ◌≤◌, ◌⊎◌, true, false, eqb, leb, List, [], ◌∷◌, ◌++◌, length, take, refl, sym, ap, ◌∙◌, arith, ⊎_elim, Option, Some, None, option_map, subst, inl, inr, lit≤}
-use Rattle.std.specs.Prelude.{slice_index}
+use Rattle.std.proofs.Common.{◌≡◌, ℕ, zero, suc, ◌+◌, ◌-◌, ◌*◌, ◌/◌, ◌%◌, ◌<◌, ◌≤◌, ◌⊎◌, true, false, eqb, leb, List, [], ◌∷◌, ◌++◌, length, take, refl, sym, ap, ◌∙◌, arith, ⊎_elim, Option, Some, None, option_map, subst, inl, inr, lit≤, slice_index, chars, append-nil}
 use Rattle.std.specs.List.{find, All, AllByRecursion}
 use Rattle.std.specs.Char.{encode_utf8, IsScalar}
-use Rattle.std.specs.Str.{chars}
 use Rattle.std.proofs.Math.Utf8.{scalar_cases, low_scalar}
-use Rattle.std.proofs.lemmas.List.{append-nil}
 use Rattle.std.proofs.lemmas.List.Elements.{All-from_recursion}
 use Rattle.std.proofs.lemmas.Str.{encode_ascii, chars-encodes}
-use Rattle.std.proofs.lemmas.Bool.{cases_Bool, cond-true, cond-false, and_parts, and_left, and_right, leb-true, lt-leb, and_from, cases_lt, eqb-true}
+use Rattle.std.proofs.lemmas.Bool.{cases_Bool, cond-true, cond-false, and_parts, and_left, and_right, leb-true, lt-leb, and_from, cases_lt}
 use Rattle.std.proofs.lemmas.Bool.Decides.{nat_tests}
 use Rattle.uri_pct.specs.Pieces.{Piece, WellFormed, IllFormed, ByteRange, Row, is_in_byte_range, continuation, well_formed_rows, begins_with_continuation, char_of, IsOfCharacter, following_ranges, len_in_ranges, first_piece_tail_len, first_piece, pieces_from, utf8_pieces}
 use Rattle.uri_pct.proofs.Unicode.Pieces.{utf8_pieces_are_cut_at_non_continuation}
@@ -178,12 +175,7 @@ well_formed_piece_fits_all_ranges : (b : ℕ) (ranges : List ByteRange) (rest by
     → first_piece (Some ranges) b rest ≡ WellFormed bytes
     → (len_in_ranges ranges rest ≡ length ranges) × (bytes ≡ b ∷ take (length ranges) rest)
 well_formed_piece_fits_all_ranges b ranges rest bytes e = ⊎_elim
-    (λ t. let same = eqb-true (len_in_ranges ranges rest) (length ranges) t in
-    let f : WellFormed (b ∷ take (len_in_ranges ranges rest) rest) ≡ WellFormed bytes =
-    sym (cond-true _ _ _ t)
-    ∙ e in
-    let g : bytes ≡ b ∷ take (len_in_ranges ranges rest) rest = cc in
-    (same, g ∙ ap (λ n. b ∷ take n rest) same))
+    (grind (arith, nat_tests))
     (λ f. let g : IllFormed (b ∷ take (len_in_ranges ranges rest) rest) ≡ WellFormed bytes =
     sym (cond-false _ _ _ f) ∙ e in cc)
     (cases_Bool (eqb (len_in_ranges ranges rest) (length ranges)))

@@ -1,6 +1,5 @@
 -- Which bytes may follow a first byte, row by row: Unicode, table 3-7.
-use Rattle.std.proofs.Common.{◌≡◌, ℕ, suc, ◌<◌, ◌≤◌, true, List, [], ◌∷◌, ◌++◌, length, refl, ap, ◌∙◌, arith, Some}
-use Rattle.std.proofs.lemmas.List.{take_at, drop_at}
+use Rattle.std.proofs.Common.{◌≡◌, ℕ, suc, ◌<◌, ◌≤◌, true, List, [], ◌∷◌, ◌++◌, length, refl, ap, ◌∙◌, arith, Some, take_at, drop_at}
 use Rattle.std.proofs.lemmas.Bool.{cond-true, le-leb, and_from}
 use Rattle.std.proofs.lemmas.Bool.Decides.{nat_tests}
 use Rattle.uri_pct.specs.Pieces.{WellFormed, ByteRange, is_in_byte_range, continuation, following_ranges, len_in_ranges, pieces_from, utf8_pieces}

@@ -1,6 +1,5 @@
 -- The length of an ill-formed piece is the number of its bytes that fit a row, as that of std.
-use Rattle.std.proofs.Common.{◌≡◌, ℕ, suc, ◌<◌, ◌≤◌, ◌⊎◌, List, [], ◌∷◌, ◌++◌, length, refl, sym, ap, ◌∙◌, arith, ⊎_elim, Option, Some, None, subst, inl, inr}
-use Rattle.std.specs.Option.{unwrap_or}
+use Rattle.std.proofs.Common.{◌≡◌, ℕ, suc, ◌<◌, ◌≤◌, ◌⊎◌, List, [], ◌∷◌, ◌++◌, length, refl, sym, ap, ◌∙◌, arith, ⊎_elim, Option, Some, None, subst, inl, inr, unwrap_or}
 use Rattle.std.specs.Str.Lossy.{utf8_invalid_len, utf8_error_len, error_len_after_one, second_byte_min, second_byte_max}
 use Rattle.std.proofs.lemmas.Bool.{cases_Bool, cond-true, cases_lt}
 use Rattle.std.proofs.lemmas.Bool.Decides.{nat_tests}

@@ -1,10 +1,8 @@
 -- Bytes are UTF-8 if each piece is well-formed, and the lossy text is that of std.
-use Rattle.std.proofs.Common.{◌≡◌, ℕ, zero, suc, ◌+◌, ◌-◌, ◌<◌, ◌≤◌, ◌↔◌, true, List, [], ◌∷◌, ◌++◌, length, take, drop, map, refl, sym, ap, ◌∙◌, arith, ⊎_elim, append_assoc, subst}
-use Rattle.std.specs.Char.{encode_utf8}
+use Rattle.std.proofs.Common.{◌≡◌, ℕ, zero, suc, ◌+◌, ◌-◌, ◌<◌, ◌≤◌, ◌↔◌, true, List, [], ◌∷◌, ◌++◌, length, take, drop, map, refl, sym, ap, ◌∙◌, arith, ⊎_elim, append_assoc, subst, encode_utf8, append-nil, take-append-drop, length-drop, take_all, drop-drop}
 use Rattle.std.specs.List.{list_all, flat_map, All}
 use Rattle.std.specs.Str.{IsUtf8, is_utf8, all_scalars, encode_utf8_all}
 use Rattle.std.specs.Str.Lossy.{valid_len_up_to, utf8_valid_len, utf8_lossy, replacement_bytes, utf8_invalid_len, after_first_chunk}
-use Rattle.std.proofs.lemmas.List.{append-nil, take-append-drop, length-drop, take_all, drop-drop}
 use Rattle.std.proofs.lemmas.List.Concat.{flat_map-append}
 use Rattle.std.proofs.lemmas.List.Elements.{All-head, All-tail}
 use Rattle.std.proofs.lemmas.Str.{IsUtf8-append, IsUtf8-nil, IsUtf8-encode, IsUtf8-from_is_utf8, is_utf8-from_IsUtf8, utf8_valid_len_le, utf8_lossy_step, utf8_lossy-IsUtf8}

@@ -1,8 +1,6 @@
 -- The pieces of a run of octets, by the parts that std finds in it.
-use Rattle.std.proofs.Common.{◌≡◌, ℕ, suc, ◌<◌, List, [], ◌∷◌, ◌++◌, length, take, drop, map, refl, sym, ap, ◌∙◌, subst, arith, append_assoc, true, ◌==◌}
-use Rattle.std.specs.Str.{IsUtf8}
+use Rattle.std.proofs.Common.{◌≡◌, ℕ, suc, ◌<◌, List, [], ◌∷◌, ◌++◌, length, take, drop, map, refl, sym, ap, ◌∙◌, subst, arith, append_assoc, true, ◌==◌, IsUtf8, eqb-true}
 use Rattle.std.specs.Str.Lossy.{utf8_valid_len, utf8_invalid_len}
-use Rattle.std.proofs.lemmas.Bool.{eqb-true}
 use Rattle.std.proofs.lemmas.List.{append-nil, nil_from_length, length-append}
 use Rattle.std.proofs.Math.Seq.{take-append_seam, drop-append_seam}
 use Rattle.uri_pct.specs.Pieces.{IllFormed, following_ranges, first_piece_tail_len, first_piece, pieces_from, utf8_pieces, piece_bytes}
@@ -33,9 +31,7 @@ utf8_pieces_are_cut_after_text text rest u =
     ∙ pieces_of_chars_come_before_the_rest u.0 [] u.1.0
     ∙ ap (λ ps. map piece_of_char u.0 ++ ps) no_bytes_have_no_pieces
     ∙ append-nil (map piece_of_char u.0) in
-    ap (λ x. utf8_pieces (x ++ rest)) (sym u.1.1)
-    ∙ pieces_of_chars_come_before_the_rest u.0 rest u.1.0
-    ∙ ap (λ ps. ps ++ utf8_pieces rest) (sym alone)
+    grind (arith, nat_tests, pieces_of_chars_come_before_the_rest)
 
 -- UTF-8: an ill-formed first piece is followed by the pieces of the rest
 ill_formed_first_piece_is_cut_off : (b : ℕ) (rest bytes : List ℕ)
@@ -69,9 +65,7 @@ ill_formed_piece_follows_valid_prefix bs invalid rest suffix some long =
     ∙ ap (λ n. take n (invalid ++ rest)) size ∙ take-append_seam invalid rest in
     let after : drop k more ≡ rest = ap (drop (suc k)) (sym f.2)
     ∙ ap (λ n. drop n (invalid ++ rest)) size ∙ drop-append_seam invalid rest in
-    ap utf8_pieces f.2 ∙ ill_formed_first_piece_is_cut_off b more bad.0 bad.1
-    ∙ ap (λ x. IllFormed x ∷ utf8_pieces (drop k more)) bytes
-    ∙ ap (λ x. IllFormed invalid ∷ utf8_pieces x) after
+    grind (arith, nat_tests, ill_formed_first_piece_is_cut_off)
 
 -- ill-formed UTF-8: the pieces of one of std's chunks that has an ill-formed part (invalid)
 pieces_of_std_chunk_with_ill_formed_part : (bs valid invalid rest : List ℕ) → bs

@@ -45,9 +45,7 @@ found_row_has_at_most_three_ranges : (b : ℕ) (rows : List Row)
 found_row_has_at_most_three_ranges b [] h = omega arith
 found_row_has_at_most_three_ranges b (row ∷ rows) h =
     let p = and_parts (leb (length row.1) 3) _ h in
-    ⊎_elim (λ e. rw e (leb-true (length row.1) 3 p.0))
-    (λ e. rw e (found_row_has_at_most_three_ranges b rows p.1))
-    (cases_Bool (is_in_byte_range row.0 b))
+    grind (arith, nat_tests, leb-true, found_row_has_at_most_three_ranges b rows p.1)
 
 -- UTF-8: at most three bytes follow a first one
 at_most_three_bytes_follow : (b : ℕ) → following_byte_count b ≤ 3
@@ -86,11 +84,7 @@ unfinished_len_is_by_counts_of_last_three bytes third second last long e3 e2 e1 
     let at_2 : suc n ≡ length bytes - 2 = omega arith in
     let at_1 : suc (suc n) ≡ length bytes - 1 = omega arith in
     let called : ℕ → ℕ = λ i. following_byte_count (get_or bytes i 0) in
-    unfinished_len_is_by_last_three_bytes bytes n (omega arith)
-    ∙ ap (λ x. unfinished_len_by_last_three x (called (suc n)) (called (suc (suc n)))) (sym e3)
-    ∙ ap (λ x. unfinished_len_by_last_three third x (called (suc (suc n))))
-    (ap called at_2 ∙ sym e2)
-    ∙ ap (λ x. unfinished_len_by_last_three third second x) (ap called at_1 ∙ sym e1)
+    grind (arith, nat_tests, unfinished_len_is_by_last_three_bytes)
 
 -- UTF-8: if there is a byte for each range, what follows them changes nothing
 suffix_of_enough_bytes_keeps_len_in_ranges : (ranges : List ByteRange) (xs ys : List ℕ)

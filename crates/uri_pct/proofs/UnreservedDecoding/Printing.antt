@@ -1,5 +1,5 @@
 -- `tokens` inverts `print`.
-use Rattle.std.proofs.Common.{◌≡◌, ℕ, ◌+◌, ◌*◌, ◌/◌, ◌%◌, ◌<◌, Bool, true, false, eqb, ltb, List, [], ◌∷◌, ◌++◌, refl, sym, ap, ◌∙◌, arith, ◌&&◌}
+use Rattle.std.proofs.Common.{◌≡◌, ℕ, ◌+◌, ◌*◌, ◌/◌, ◌%◌, ◌<◌, Bool, true, false, eqb, ltb, List, [], ◌∷◌, ◌++◌, refl, sym, ap, ◌∙◌, arith, ◌&&◌, append-nil}
 use Rattle.std.specs.List.{list_all, flat_map}
 use Rattle.std.specs.Char.{encode_utf8, digit_value, is_ascii_hexdigit}
 use Rattle.std.specs.Fmt.{digit_glyph}
@@ -7,7 +7,6 @@ use Rattle.std.specs.Str.{chars, encode_utf8_all, all_scalars, IsUtf8}
 use Rattle.std.proofs.Math.Utf8.{low_scalar}
 use Rattle.std.proofs.lemmas.Str.{chars-encodes, encode_ascii, encodes-append}
 use Rattle.std.proofs.lemmas.Bool.{agree_below_at, cond-true, cond-false, and_left, and_from, and_parts, eqb-true, ltb-true, not-true}
-use Rattle.std.proofs.lemmas.List.{append-nil}
 use Rattle.uri_pct.specs.Sets.{TableSet}
 use Rattle.uri_pct.specs.Tokens.{Token, Char, Octet, tokens, tokens_from_chars, print, text_of_token, is_pct_encoded, allows_token, is_valid_for}
 use Rattle.uri_pct.specs.DecodeUnreserved.{decode_unreserved, is_printable}
@@ -123,10 +122,8 @@ printed_tokens_parse_to_themselves ts e = ap tokens_from_chars (chars_of_printed
 -- printing tokens: what is written of them is UTF-8
 pub printed_tokens_are_utf8 : (ts : List Token) → list_all is_printable ts ≡ true
     → IsUtf8 (print ts)
-printed_tokens_are_utf8 ts e = (
-  flat_map chars_of_token ts,
-  (chars_of_tokens_are_scalars ts e, sym (print_is_utf8_of_chars_of_tokens ts e)),
-)
+printed_tokens_are_utf8 ts e =
+    grind (arith, nat_tests, chars_of_tokens_are_scalars, print_is_utf8_of_chars_of_tokens)
 
 -- printing tokens: a set allows the text that is written of them if it allows them
 pub printed_tokens_are_valid_iff_allowed : (set : TableSet) (ts : List Token)

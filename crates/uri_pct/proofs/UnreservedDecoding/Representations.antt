@@ -1,12 +1,10 @@
 -- A text represents at most one list of characters and octets: its tokens.
-use Rattle.std.proofs.Common.{◌≡◌, ℕ, ◌+◌, ◌*◌, true, eqb, List, [], ◌∷◌, ◌++◌, refl, sym, ap, subst, ◌∙◌, ⊎_elim, lit<, arith}
-use Rattle.std.specs.Prelude.{◌↔◌}
+use Rattle.std.proofs.Common.{◌≡◌, ℕ, ◌+◌, ◌*◌, true, eqb, List, [], ◌∷◌, ◌++◌, refl, sym, ap, subst, ◌∙◌, ⊎_elim, lit<, arith, ◌↔◌, append-nil}
 use Rattle.std.specs.List.{list_all}
 use Rattle.std.specs.Char.{IsScalar, encode_utf8, digit_value, is_ascii_hexdigit}
 use Rattle.std.specs.Str.{chars, encode_utf8_all, all_scalars, IsUtf8}
 use Rattle.std.proofs.lemmas.Str.{chars-append, chars-encodes, chars-nil, encode_ascii, IsUtf8-encode}
-use Rattle.std.proofs.lemmas.Bool.{cases_Bool, cond-true, cond-false, and_parts, and_from, eqb-true, eqb-false, ne_eqb, not-true}
-use Rattle.std.proofs.lemmas.List.{append-nil}
+use Rattle.std.proofs.lemmas.Bool.{cases_Bool, cond-true, cond-false, and_parts, and_from, eqb-false, ne_eqb, not-true}
 use Rattle.uri_pct.specs.Sets.{TableSet, LacksPercent}
 use Rattle.uri_pct.specs.DecodeUnreserved.{is_printable}
 use Rattle.uri_pct.specs.Representation.{RepresentsToken, Represents, RepresentsWithin}
@@ -58,21 +56,7 @@ char_before_represented_text_is_represented : (c : ℕ) (cs : List ℕ) (ts : Li
     → Represents (encode_utf8_all cs) ts → Represents (encode_utf8_all (c ∷ cs)) (Char c ∷ ts)
 unfolding Represents
 char_before_represented_text_is_represented c cs ts e rest =
-    let p = and_parts (all_scalars (c ∷ [])) _ e in (
-      encode_utf8 c,
-      (
-        encode_utf8_all cs,
-        (
-          refl,
-          (
-            (and_parts _ true p.0).0,
-            eqb-false c 37 (not-true _ p.1),
-            refl,
-          ),
-          rest,
-        ),
-      ),
-    )
+    let p = and_parts (all_scalars (c ∷ [])) _ e in grind (arith, nat_tests, eqb-false, not-true)
 
 -- tokens printed and read: with an octet before it, a text represents this one and its tokens
 octet_before_represented_text_is_represented : (c high low : ℕ) (cs : List ℕ) (ts : List Token)
@@ -85,11 +69,7 @@ octet_before_represented_text_is_represented c high low cs ts e rest =
     let digits = and_parts (is_ascii_hexdigit high) (is_ascii_hexdigit low) p.1 in
     let X = encode_utf8_all cs in
     let text : encode_utf8_all (c ∷ high ∷ low ∷ cs) ≡ 37 ∷ high ∷ low ∷ X =
-    ap (λ n. encode_utf8 n ++ (encode_utf8 high ++ (encode_utf8 low ++ X))) (eqb-true c 37 p.0)
-    ∙ ap (λ x. x ++ (encode_utf8 high ++ (encode_utf8 low ++ X))) (encode_ascii 37 (lit< tt))
-    ∙ ap (λ x. 37 ∷ (x ++ (encode_utf8 low ++ X)))
-    (encode_ascii high (hexdigit_is_ascii high digits.0))
-    ∙ ap (λ x. 37 ∷ high ∷ (x ++ X)) (encode_ascii low (hexdigit_is_ascii low digits.1)) in
+    grind (arith, nat_tests, encode_ascii, hexdigit_is_ascii) in
     (37 ∷ high ∷ low ∷ [], (X, (text, (high, (low, (digits.0, digits.1, refl, refl))), rest)))
 
 -- tokens printed and read: characters represent their tokens, if these can be written

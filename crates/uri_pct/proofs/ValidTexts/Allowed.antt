@@ -4,7 +4,7 @@ use Rattle.std.specs.Char.{IsScalar, digit_value, is_ascii_hexdigit, to_ascii_lo
 use Rattle.std.specs.Str.{all_scalars, chars}
 use Rattle.std.specs.List.{list_all}
 use Rattle.std.proofs.Math.Utf8.{low_scalar}
-use Rattle.std.proofs.lemmas.Bool.{cases_Bool, cond-true, cond-false, and_parts, and_from, or_cases, le-ltb, lt-ltb, not_from_false, ne_eqb, eqb-true, false≢true, false_from_ne_true, cases_lt}
+use Rattle.std.proofs.lemmas.Bool.{cases_Bool, and_parts, and_from, or_cases, lt-ltb, not_from_false, ne_eqb, false_from_ne_true, cases_lt}
 use Rattle.std.proofs.lemmas.Str.Ascii.{lowercase-lowercase}
 use Rattle.std.proofs.lemmas.Bool.Decides.{nat_tests}
 use Rattle.uri_pct.specs.Sets.{TableSet, LacksPercent, IsSubset, allows, allows_past_ascii, is_ucschar, is_iprivate, is_unreserved, unreserved_set}
@@ -44,12 +44,8 @@ scalar_but_percent_is_printable c scalar e = and_from _ _ (and_from _ true scala
 pub allowed_char_is_printable : (set : TableSet) (c : ℕ) → LacksPercent set → allows set c ≡ true
     → is_printable (Char c) ≡ true
 allowed_char_is_printable set c lacks e = ⊎_elim
-    (λ h. let low : set.ascii c ≡ true = sym (cond-true _ _ _ (lt-ltb c 128 h)) ∙ e in
-    scalar_but_percent_is_printable c (low_scalar c (omega arith)) (false_from_ne_true _
-    (λ p. false≢true (sym lacks ∙ ap set.ascii (sym (eqb-true c 37 p)) ∙ low))))
-    (λ h. let p = allowed_past_ascii_is_scalar set c (sym (cond-false _ _ _ (le-ltb c 128 h))
-    ∙ e) in
-    scalar_but_percent_is_printable c p.1 (ne_eqb c 37 (λ q. omega arith)))
+    (grind (arith, nat_tests, scalar_but_percent_is_printable, low_scalar, false_from_ne_true))
+    (grind (arith, nat_tests, allowed_past_ascii_is_scalar, scalar_but_percent_is_printable))
     (cases_lt c 128)
 
 -- characters of valid texts: `%` (37) is not unreserved

@@ -1,13 +1,11 @@
 -- What a set allows to its end, and what is cut at a mark: the two agree where the set excludes the
 -- marks.
-use Rattle.std.proofs.Common.{◌≡◌, ℕ, zero, suc, ◌+◌, ◌<◌, ◌≤◌, Bool, true, false, cond, eqb, not, List, [], ◌∷◌, length, get_or, take, refl, sym, ap, ◌∙◌, arith, ◌&&◌, ⊎_elim}
-use Rattle.std.specs.Prelude.{nat_lt}
+use Rattle.std.proofs.Common.{◌≡◌, ℕ, zero, suc, ◌+◌, ◌<◌, ◌≤◌, Bool, true, false, cond, eqb, not, List, [], ◌∷◌, length, get_or, take, refl, sym, ap, ◌∙◌, arith, ◌&&◌, ⊎_elim, nat_lt, take_all}
 use Rattle.std.specs.List.{list_all}
 use Rattle.std.specs.Char.{is_ascii_hexdigit}
 use Rattle.std.specs.Str.{IsUtf8, continuation_len}
 use Rattle.std.proofs.lemmas.Str.{IsUtf8-take}
 use Rattle.std.proofs.lemmas.List.Sums.{prefix_len_is}
-use Rattle.std.proofs.lemmas.List.{take_all}
 use Rattle.std.proofs.lemmas.Bool.{cases_Bool, cond-true, cond-false, and_left, and_right, and_from, and_parts, eqb-true, ltb-true, not_from_false, not-true, false≢true}
 use Rattle.std.proofs.lemmas.Bool.Decides.{nat_tests}
 use Rattle.uri_pct.specs.Sets.{TableSet, LacksPercent, is_one_of}
@@ -176,16 +174,15 @@ module _ (marks : List ℕ) (set : TableSet) (lacks : LacksPercent set)
   char_before_cut_is_valid_iff_scanned b bs o s ih =
       let m = length_before_marks marks bs in
       let k = continuation_len b in
-      validity_by_first_byte set b _ ∙ cond-false _ _ _ (and_left _ _ o)
-      ∙ ap (λ t. t && valid_from set k (take m bs))
-      (cut_at_mark_keeps_whether_first_is_allowed set marks b bs s)
-      ∙ ⊎_elim (λ a. ap (λ t. t && valid_from set k (take m bs)) a ∙ ih
-      ∙ sym (eqb_of_successors_is_eqb (valid_prefix_from set k bs) m)
-      ∙ sym (ap (λ n. eqb n (suc m)) (cond-true _ _ _ a)))
-      (λ a. and_left _ _ a ∙ sym (zero_equals_no_successor m)
-      ∙ sym (ap (λ n. eqb n (suc m)) (cond-false _ _ _ a)))
-      (cases_Bool (allows_first set b bs))
-      ∙ sym (ap (λ n. eqb n (suc m)) (valid_prefix_by_first_byte set b bs ∙ cond-false _ _ _ o))
+      grind (
+        arith,
+        nat_tests,
+        validity_by_first_byte,
+        cut_at_mark_keeps_whether_first_is_allowed,
+        eqb_of_successors_is_eqb,
+        zero_equals_no_successor,
+        valid_prefix_by_first_byte,
+      )
 
   pub valid_prefix_at_mark_is_empty : (b : ℕ) (bs : List ℕ) → is_one_of marks b ≡ true
       → valid_prefix_from set 0 (b ∷ bs) ≡ 0

@@ -1,11 +1,7 @@
 -- An owned text that is valid for a set grows.
-use Rattle.std.proofs.Common.{◌≡◌, ℕ, true, List, [], ◌∷◌, ◌++◌, cond, refl, sym, ap, ◌∙◌, subst, Result, Ok, Err}
-use Rattle.std.specs.Char.{encode_utf8}
+use Rattle.std.proofs.Common.{◌≡◌, ℕ, true, List, [], ◌∷◌, ◌++◌, cond, refl, sym, ap, ◌∙◌, subst, Result, Ok, Err, encode_utf8, OnOk, OnErr, is_ok, IsUtf8, append-nil}
 use Rattle.std.specs.List.{list_all}
-use Rattle.std.specs.Result.{OnOk, OnErr, is_ok}
-use Rattle.std.specs.Str.{IsUtf8}
 use Rattle.std.proofs.lemmas.Bool.{and_from, false≢true, false_from_ne_true}
-use Rattle.std.proofs.lemmas.List.{append-nil}
 use Rattle.uri_pct.specs.Sets.{TableSet, LacksPercent, IsSubset, allows}
 use Rattle.uri_pct.specs.Tokens.{Token, Char, tokens, allows_token, IsValidFor, print}
 use Rattle.uri_pct.specs.Encoding.{encode_text, encode_bytes}

@@ -179,9 +179,7 @@ encoded_text_after_two_runs set out mid new text all start end next kept refused
     let part : List ℕ = take (end - start) (drop start text) in
     let octets_of : List ℕ = print (map Octet (take (next - end) (drop end text))) in
     let rest : List ℕ = print (encode_text set (drop next text)) in
-    ap (λ x. x ++ rest) (written ∙ ap (λ x. x ++ octets_of) copied)
-    ∙ append_assoc (out ++ part) octets_of rest ∙ append_assoc out part (octets_of ++ rest)
-    ∙ ap (λ x. out ++ x) (ap (λ x. part ++ x) (sym refused) ∙ sym kept) ∙ whole
+    grind (arith, nat_tests, append_assoc)
 
 -- valid prefixes: at the end of the text, what was appended is the whole encoded text
 pub encoded_text_at_end : (set : TableSet) (out text all : List ℕ) (done : ℕ) → length text ≤ done

@@ -1,6 +1,5 @@
 -- A test of texts that computes at a literal, and what it implies.
-use Rattle.std.proofs.Common.{◌≡◌, ℕ, Bool, true, List, [], ◌∷◌, ◌&&◌, ap, sym, refl, ◌∙◌, ⊎_elim, arith}
-use Rattle.std.specs.Prelude.{◌==◌, not, nat_lt, if◌then◌else◌}
+use Rattle.std.proofs.Common.{◌≡◌, ℕ, Bool, true, List, [], ◌∷◌, ◌&&◌, ap, sym, refl, ◌∙◌, ⊎_elim, arith, ◌==◌, not, nat_lt, if◌then◌else◌}
 use Rattle.std.specs.Char.{is_ascii_hexdigit}
 use Rattle.std.specs.Int.{is_in_range}
 use Rattle.std.specs.List.{list_all}

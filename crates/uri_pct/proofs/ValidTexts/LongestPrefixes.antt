@@ -1,7 +1,6 @@
 -- The longest prefix that is valid for a set: it is valid, and none that is longer is.
-use Rattle.std.proofs.Common.{◌≡◌, ℕ, ◌+◌, ◌≤◌, true, false, eqb, cond, List, [], ◌∷◌, ◌++◌, length, take, drop, refl, sym, ap, subst, ◌∙◌, arith, ◌&&◌, ⊎_elim, length-append, length-take-le}
+use Rattle.std.proofs.Common.{◌≡◌, ℕ, ◌+◌, ◌≤◌, true, false, eqb, cond, List, [], ◌∷◌, ◌++◌, length, take, drop, refl, sym, ap, subst, ◌∙◌, arith, ◌&&◌, ⊎_elim, length-append, length-take-le, take-append-drop}
 use Rattle.std.proofs.Math.Seq.{take-append_seam}
-use Rattle.std.proofs.lemmas.List.{take-append-drop}
 use Rattle.std.specs.List.{list_all}
 use Rattle.std.specs.Char.{encode_utf8, len_utf8, is_ascii_hexdigit}
 use Rattle.std.specs.Str.{chars, encode_utf8_all, all_scalars, IsUtf8, IsCharBoundary}
@@ -226,14 +225,7 @@ module _ (set : TableSet) (lacks : LacksPercent set) where
       let f = valid_prefix_of_chars_is_found set lacks cs s in
       let before = first_of_joined_scalars_is_scalars f.before f.suffix
       (ap all_scalars (sym f.whole) ∙ s) in
-      ap (λ n. is_valid_for set (take n (encode_utf8_all cs))) f.end
-      ∙ ap (λ t. is_valid_for set (take (length (encode_utf8_all f.before)) t))
-      (ap encode_utf8_all f.whole ∙ encodes-append f.before f.suffix)
-      ∙ ap (is_valid_for set)
-      (take-append_seam (encode_utf8_all f.before) (encode_utf8_all f.suffix))
-      ∙ ap (λ xs. list_all (allows_token set) (tokens_from_chars xs))
-      (chars-encodes f.before before)
-      ∙ f.valid
+      grind (arith, nat_tests, encodes-append, take-append_seam, chars-encodes)
 
   -- the longest valid prefix ends at a boundary of characters
   pub valid_prefix_ends_at_boundary : (text : List ℕ) → IsUtf8 text
@@ -256,9 +248,8 @@ module _ (set : TableSet) (lacks : LacksPercent set) where
       let x = IsUtf8-drop text n u b in
       let xs = chars (take n text) in
       let ys = chars (drop n text) in
-      let e : encode_utf8_all (xs ++ ys) ≡ text = encodes-append xs ys
-      ∙ ap (λ t. t ++ encode_utf8_all ys) (encodes-chars (take n text) w)
-      ∙ ap (λ t. take n text ++ t) (encodes-chars (drop n text) x) ∙ take-append-drop n text in
+      let e : encode_utf8_all (xs ++ ys) ≡ text =
+      grind (arith, nat_tests, encodes-append, encodes-chars, take-append-drop) in
       let l = valid_chars_are_within_valid_prefix set lacks xs ys
       (scalars-append xs ys (scalars-chars (take n text) w) (scalars-chars (drop n text) x)) v in
       let m = ap length (encodes-chars (take n text) w) ∙ length-take-le n text b.0 in

@@ -1,9 +1,8 @@
 -- How far a text is without a mark, and that no mark is within a character of it.
-use Rattle.std.proofs.Common.{◌≡◌, ℕ, zero, suc, ◌+◌, ◌-◌, ◌*◌, ◌<◌, Bool, true, false, eqb, not, List, [], ◌∷◌, ◌++◌, length, get_or, take, drop, refl, sym, subst, ap, ◌∙◌, arith, ◌&&◌, ⊎_elim}
-use Rattle.std.specs.Prelude.{nat_lt, slice_index}
+use Rattle.std.proofs.Common.{◌≡◌, ℕ, zero, suc, ◌+◌, ◌-◌, ◌*◌, ◌<◌, Bool, true, false, eqb, not, List, [], ◌∷◌, ◌++◌, length, get_or, take, drop, refl, sym, subst, ap, ◌∙◌, arith, ◌&&◌, ⊎_elim, nat_lt, slice_index}
 use Rattle.std.specs.List.{list_all, prefix_len}
 use Rattle.std.specs.Str.{IsUtf8, IsCharBoundary, encode_utf8_all, continuation_len, lead_bits, chars, chars_after}
-use Rattle.std.proofs.lemmas.Str.{IsCharBoundary-before_ascii, IsCharBoundary-end}
+use Rattle.std.proofs.lemmas.Str.{IsCharBoundary-before_ascii}
 use Rattle.std.proofs.lemmas.List.Sums.{prefix_len-le-length, prefix_len_stops}
 use Rattle.std.proofs.lemmas.List.{drop_all, drop_more}
 use Rattle.std.proofs.lemmas.Bool.{not-false, or_cases, cases_lt, cases_Bool, cond-true, cond-false, and_from, and_parts, lt-ltb, eqb-true, ltb-true, not_from_true, not_from_false, not-true, false≢true}
@@ -151,9 +150,7 @@ pub first_mark_is_at_boundary : (marks : List ℕ) → AreAscii marks → (bs : 
 first_mark_is_at_boundary marks ascii bs = ⊎_elim
     (λ h. IsCharBoundary-before_ascii bs (length_before_marks marks bs) h
     (ascii _ (byte_after_cut_is_mark marks bs h)))
-    (λ h. let e : length bs ≡ length_before_marks marks bs =
-    omega (arith, prefix_len-le-length (λ c. not (is_one_of marks c)) bs) in
-    subst (λ n. IsCharBoundary bs n) e (IsCharBoundary-end bs))
+    (grind (arith, nat_tests, prefix_len-le-length))
     (cases_lt (length_before_marks marks bs) (length bs))
 
 -- cuts of valid texts: what is left after a cut begins with a mark, or is nothing

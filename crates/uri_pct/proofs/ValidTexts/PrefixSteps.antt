@@ -69,9 +69,7 @@ pub valid_prefix_stops_at_stray_percent : (set : TableSet) → LacksPercent set
     → valid_prefix set (drop i bs) ≡ 0
 valid_prefix_stops_at_stray_percent set lacks bs i h p e = valid_prefix_by_byte_at_index set bs i h
     ∙ ⊎_elim
-    (λ o. cond-true _ _ _ (and_from _ _ o (eq-eqb _ _ p))
-    ∙ cond-false _ _ _ (hex_digits_after_index_begin_suffix bs i
-    ∙ sym (ap (λ t. t && has_hex_digits_after bs i) o) ∙ e))
+    (grind (arith, nat_tests, hex_digits_after_index_begin_suffix))
     (λ o. cond-false _ _ _ (and_left _ _ o)
     ∙ cond-false _ _ _ (percent_is_not_allowed_first set lacks _ _ (eq-eqb _ _ p)))
     (cases_Bool set.pct_encoded)

@@ -1,7 +1,6 @@
 -- The longest prefix that a set allows: its length, and that of a greater set.
-use Rattle.std.proofs.Common.{◌≡◌, ℕ, zero, suc, ◌+◌, ◌≤◌, true, false, eqb, List, [], ◌∷◌, length, drop, refl, sym, ap, ◌∙◌, arith, add-one, zero-add}
+use Rattle.std.proofs.Common.{◌≡◌, ℕ, zero, suc, ◌+◌, ◌≤◌, true, false, eqb, List, [], ◌∷◌, length, drop, refl, sym, ap, ◌∙◌, arith, add-one, zero-add, eqb-true}
 use Rattle.std.specs.Str.{continuation_len}
-use Rattle.std.proofs.lemmas.Bool.{eqb-true}
 use Rattle.uri_pct.specs.Sets.{TableSet, LacksPercent, IsSubset}
 use Rattle.uri_pct.specs.Prefixes.{allows_first, valid_prefix_from, valid_prefix, after}
 use Rattle.uri_pct.proofs.ValidTexts.EStrs.{superset_allows_same_past_ascii}

@@ -1,8 +1,6 @@
 -- What was there, where the text after it is cut off again.
-use Rattle.std.proofs.Common.{◌≡◌, ◌≤◌, length, take, sym, ap, arith, subst, string_bytes, String}
-use Rattle.std.specs.Str.{IsUtf8}
+use Rattle.std.proofs.Common.{◌≡◌, ◌≤◌, length, take, sym, ap, arith, subst, string_bytes, String, IsUtf8, length-take}
 use Rattle.std.specs.String.Boundary.{IsSplitPoint}
-use Rattle.std.proofs.lemmas.List.{length-take}
 use Rattle.std.proofs.lemmas.Str.{IsCharBoundary-from_take, IsUtf8-string_bytes}
 
 -- owned texts: what was there before an append may be cut off again

@@ -1,6 +1,5 @@
 -- A scan passes bytes and octets that the set allows.
-use Rattle.std.proofs.Common.{◌≡◌, ℕ, zero, suc, ◌+◌, ◌<◌, ◌≤◌, Bool, true, false, List, length, get_or, drop, sym, ap, subst, ◌∙◌, arith, ⊎_elim}
-use Rattle.std.specs.Str.{IsUtf8, IsCharBoundary}
+use Rattle.std.proofs.Common.{◌≡◌, ℕ, zero, suc, ◌+◌, ◌<◌, ◌≤◌, Bool, true, false, List, length, get_or, drop, sym, ap, subst, ◌∙◌, arith, ⊎_elim, IsUtf8, IsCharBoundary}
 use Rattle.std.proofs.lemmas.Str.{IsCharBoundary-after_ascii}
 use Rattle.std.proofs.lemmas.Bool.{cases_Bool, cases_lt, false_from_ne_true}
 use Rattle.uri_pct.specs.Sets.{TableSet, LacksPercent}
@@ -46,19 +45,10 @@ module _ (set : TableSet) (lacks : LacksPercent set) (pct : set.pct_encoded ≡ 
   no_octet_goes_on_after_octet : (k : ℕ) → oct k ≡ true → IsFresh (k + 3)
   no_octet_goes_on_after_octet k o j l h =
       let none = digits_of_octet_are_no_percent k o in
-      ⊎_elim
-      (λ (first : j < k + 2). let e : j ≡ k + 1 = omega arith in
-      byte_but_percent_begins_no_octet j (λ p. none.0 (ap (λ m. get_or bs m 0) (omega arith) ∙ p)))
-      (λ (second : k + 2 ≤ j). let e : j ≡ k + 2 = omega arith in
-      byte_but_percent_begins_no_octet j (λ p. none.1 (ap (λ m. get_or bs m 0) (omega arith) ∙ p)))
-      (cases_lt j (k + 2))
+      grind (arith, nat_tests, byte_but_percent_begins_no_octet)
 
   end_of_run_is_scanned : (k : ℕ) → n ≡ k → IsCharBoundary bs (i + k) → IsScanned k
-  end_of_run_is_scanned k e b = (
-    ap (λ m. i + m + valid_prefix set (drop (i + m) bs)) e,
-    subst (λ m. IsCharBoundary bs (i + m))
-        (sym e) b,
-  )
+  end_of_run_is_scanned k e b = grind (arith, nat_tests)
 
   run_is_scanned_from_index : (steps k : ℕ) → n ≤ k + steps → k ≤ n → IsFresh k
       → IsCharBoundary bs (i + k) → IsScanned k

@@ -2,14 +2,10 @@ use Rattle.std.proofs.Common.{◌≡◌, ◌∙◌, ap, false, subst, sym}
 use Rattle.fluent_uri.specs.References.{reference_text}
 use Rattle.uri_ops.specs.Normal.{normal_text}
 use Rattle.uri_ops.specs.Normalizers.{HasNormalText}
-use Rattle.uri_ops.proofs.TextKinds.FourKinds.{one-of-four-kinds-has-sets}
 use Rattle.uri_parts.specs.SchemePorts.{default_port}
 use Rattle.uri_rules.proofs.RuledMeanings.{meaning-under-ports-alone}
 use Rattle.fluent_uri_c.specs.Results.{normal_form_of}
 use Rattle.fluent_uri_c.proofs.normal_forms.is_own_normal_form.Goals as goal
-
-pub is_unchanged-requires : goal.is_unchanged-requires
-is_unchanged-requires g c = one-of-four-kinds-has-sets g.K.Kind.kind g.met.K.Kind.known
 
 pub returns : goal.returns
 unfolding normal_form_of
@@ -19,7 +15,7 @@ returns g c = λ e.
     let off : c.args.setting.scheme_rules ≡ false = c.if-setting.false in
     let own : HasNormalText kind default_port text text =
     subst (λ t. HasNormalText kind default_port t t) c.core.ensures.text
-    (c.is_unchanged.ensures.text e default_port) in
+    (c.is_found_normal.ensures.text e) in
     ap (λ b. normal_form_of b kind text) off
     ∙ ap normal_text (meaning-under-ports-alone kind default_port text)
     ∙ sym own.text

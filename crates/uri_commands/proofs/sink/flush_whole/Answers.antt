@@ -1,11 +1,13 @@
-use Rattle.std.proofs.KnownBytes.{Keeps-refl, Keeps-trans}
+use Rattle.std.proofs.Common.{arith}
+use Rattle.std.proofs.KnownBytes.{Keeps-trans}
+use Rattle.uri_commands.proofs.Calls.{any-error-after-interrupted-flush}
 use Rattle.uri_commands.proofs.sink.flush_whole.Goals as goal
 
-pub loop-init : goal.loop-init
-loop-init g c = Keeps-refl _
-
-pub loop-preserved : goal.loop-preserved
-loop-preserved g c = Keeps-trans _ _ _ c.loop.invariant c.flush.ensures.bytes
-
 pub returns-in_default-clause-keeps : goal.returns-in_default-clause-keeps
-returns-in_default-clause-keeps g c = Keeps-trans _ _ _ c.loop.invariant c.flush.ensures.bytes
+returns-in_default-clause-keeps g c =
+    Keeps-trans _ _ _ c.loop-tries.invariant.0 c.flush_once.ensures.bytes
+
+pub returns-clause-cause : goal.returns-clause-cause
+returns-clause-cause g c =
+    any-error-after-interrupted-flush _ _
+    (c.loop-tries.invariant.1 (omega (arith, c.loop-tries-test.false)))

@@ -1,9 +1,12 @@
-use Rattle.std.proofs.Common.{◌≡◌, ℕ, List, ◌++◌}
+use Rattle.std.proofs.Common.{◌≡◌, ℕ, List, ◌++◌, length}
 use Rattle.std.specs.Io.KnownBytes.{Appends}
 use Rattle.uri_commands.proofs.sink.write_whole.Given as goal
 
 -- what was taken so far, and what is left
-abbrev pub invariant-loop : goal.invariant-loop
-invariant-loop g l = (prefix : List ℕ)
+abbrev pub invariant-loop-rest : goal.invariant-loop-rest
+invariant-loop-rest g l = (prefix : List ℕ)
     × Appends (g.W.Write.contents l.initial.writer) (g.W.Write.contents l.writer) prefix
     × (l.bytes ≡ prefix ++ l.rest)
+
+abbrev pub decreases-loop-rest : goal.decreases-loop-rest
+decreases-loop-rest g l = length l.rest

@@ -1,12 +1,11 @@
-use Rattle.std.proofs.Common.{[], ap, sym, ◌∙◌, ◌&&◌, cond, option_map}
-use Rattle.std.specs.Prelude.{is_some}
+use Rattle.std.proofs.Common.{ap, sym, ◌∙◌, ◌&&◌, option_map}
 use Rattle.std.specs.Str.{str_to_ascii_lowercase}
 use Rattle.uri_parts.specs.Components.{components}
 use Rattle.uri_parts.specs.CoreTexts.{core_text}
 use Rattle.uri_ops.specs.Dots.{is_empty}
 use Rattle.uri_ops.specs.Normal.{default_port_of}
 use Rattle.uri_ops.proofs.TextKinds.FourKinds.{one-of-four-kinds-has-sets}
-use Rattle.uri_order.specs.Addresses.{ipv6_host_of}
+use Rattle.uri_ops.specs.FromEnd.Addresses.{ipv6_host_of}
 use Rattle.uri_order.specs.RuledParts.{drops_host}
 use Rattle.uri_order.proofs.Equivalences.{equal_text_is_of_kind}
 use Rattle.uri_order.proofs.RuledParts.{edited_address, edited_components_have_ruled_form}
@@ -16,12 +15,12 @@ use Rattle.uri_rules.specs.Rules.{is_scheme_of, rules_of}
 pub drops_host-drops_host-requires : goal.drops_host-drops_host-requires
 drops_host-drops_host-requires g c = c.requires ∙ ap ipv6_host_of (sym c.authority.ensures)
 
-pub normal_back-requires-clause-sets : goal.normal_back-requires-clause-sets
-normal_back-requires-clause-sets g c =
+pub edited_back-requires-clause-sets : goal.edited_back-requires-clause-sets
+edited_back-requires-clause-sets g c =
     one-of-four-kinds-has-sets g.K.Kind.kind g.met.K.Kind.known
 
-pub normal_back-requires-clause-address : goal.normal_back-requires-clause-address
-normal_back-requires-clause-address g c =
+pub edited_back-requires-clause-address : goal.edited_back-requires-clause-address
+edited_back-requires-clause-address g c =
     c.address_unless-address.ensures
     ∙ edited_address c.drops_host-drops_host.result (components (core_text c.args.core)).authority
     c.args.address.now c.requires
@@ -35,7 +34,7 @@ returns g c =
     let text = core_text c.args.core in
     let p = components text in
     let lowered = option_map str_to_ascii_lowercase in
-    c.normal_back.ensures
+    c.edited_back.ensures
     ∙ edited_components_have_ruled_form kind (rules_of ports roots locals)
     (one-of-four-kinds-has-sets kind g.met.K.Kind.known) text
     (equal_text_is_of_kind kind c.as_str-text.result.now text c.as_str-text.ensures.text

@@ -43,23 +43,13 @@ loop-byte-preserved c =
 
 pub returns-then-count-eq0-clause-value : goal.returns-then-count-eq0-clause-value
 returns-then-count-eq0-clause-value c =
-    let stop : 10 ≤ digit_value (get_or c.args.text.now c.loop-byte.count 0) =
-    elim c.loop-byte-test.branch [
-      | else-loop-byte-test w ↦ past _ _ _ c.loop-byte.invariant.counted w.loop-byte-test.false
-      | then-loop-byte-test+in_default w ↦ other _ _ _ _ c.loop-byte.invariant.counted
-          w.from.ensures w.in_default.ensures.value
-    ] in
-    sym (read_number_empty _ _ c.args.text.now (rw c.if-count-eq0.true at stop))
+    grind (arith, else-loop-byte-test, past, then-loop-byte-test+in_default, read_number_empty)
 
 pub returns-else-count-eq0-clause-value : goal.returns-else-count-eq0-clause-value
 returns-else-count-eq0-clause-value c =
     let i = c.loop-byte.invariant in
     let stop : 10 ≤ digit_value (get_or c.args.text.now c.loop-byte.count 0) =
-    elim c.loop-byte-test.branch [
-      | else-loop-byte-test w ↦ past _ _ _ i.counted w.loop-byte-test.false
-      | then-loop-byte-test+in_default w ↦ other _ _ _ _ i.counted w.from.ensures
-          w.in_default.ensures.value
-    ] in
+    grind (arith, else-loop-byte-test, past, then-loop-byte-test+in_default) in
     let found = read_number_some_at 10 255 _ _ (omega arith) (omega arith) i.digits
     (rw (← i.value) i.small) stop in
     rw i.value (sym found)

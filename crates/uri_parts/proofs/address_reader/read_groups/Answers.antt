@@ -1,4 +1,4 @@
-use Rattle.std.proofs.Common.{◌≡◌, ◌+◌, ◌-◌, ◌<◌, length, drop, get_or, sym, ap, ◌∙◌, arith, inl, inr, append-nil, length-drop, drop-drop, take, take_all, ℕ, List, [], ◌∷◌, ◌++◌, ◌≤◌, Some, None, nat_lt, le-ltb, refl}
+use Rattle.std.proofs.Common.{◌≡◌, ◌+◌, ◌-◌, ◌<◌, length, drop, get_or, sym, ap, ◌∙◌, arith, append-nil, length-drop, drop-drop, take, take_all, ℕ, List, [], ◌∷◌, ◌++◌, ◌≤◌, Some, None, nat_lt, le-ltb, refl}
 use Rattle.std.proofs.Math.ListN.{set}
 use Rattle.std.proofs.lemmas.List.{places, take_more_set}
 use Rattle.std.proofs.lemmas.Grind.{common_steps}
@@ -35,11 +35,7 @@ ipv4-leaves-suffix text two rest i within e = suffix-at-position text rest i wit
     (text-after-ipv4-is-suffix _ two rest (e ∙ same-for-suffix segments_of_ipv4 text i))
 
 pub returns-then-digits-eq0-clause-value : goal.returns-then-digits-eq0-clause-value
-returns-then-digits-eq0-clause-value c =
-    reading-ends-without-group _ _ _ _ _ _ c.loop-i-test.true c.loop-i.invariant.found
-    c.loop-i.invariant.next _
-    c.leading_digits-digits.ensures.digits
-    (elim c.then-digits-eq0.either [ inl none ↦ inl none | inr five ↦ inr five.1 ])
+returns-then-digits-eq0-clause-value c = grind (arith, reading-ends-without-group)
 
 pub overflow_sub-result : goal.overflow_sub-result
 overflow_sub-result c =
@@ -57,9 +53,7 @@ returns-in-Some-clause-value c =
     (c.in-Some.ensures ∙ same-for-suffix segments_of_ipv4 text group))
 
 pub returns-in-Some-clause-others : goal.returns-in-Some-clause-others
-returns-in-Some-clause-others c =
-    other-segments-are-kept c.loop-i.segments c.args.segments.now c.loop-i.i _ _ _ (omega arith)
-    c.loop-i.invariant.others
+returns-in-Some-clause-others c = grind (arith, other-segments-are-kept)
 
 pub returns-then-digits-ne58-clause-value : goal.returns-then-digits-ne58-clause-value
 returns-then-digits-ne58-clause-value c =
@@ -67,8 +61,7 @@ returns-then-digits-ne58-clause-value c =
     let text = c.args.text.now in
     let group = c.loop-i.group in
     let count = digits.result.count in
-    let few : count < 5 = let most = digits.ensures.digits.most in
-    let other = c.if-digits-eq5.false in omega arith in
+    let few : count < 5 = grind arith in
     let byte = byte-after-digits-at-position text group count _ (digits.ensures.next few) in
     let room : ℕ = length c.args.segments.now - (c.loop-i.i + 1) in
     let no_ipv4 : read_ipv4_if (nat_lt 0 room) (drop group text) ≡ None =
@@ -100,8 +93,7 @@ loop-i-preserved c =
     let group = c.loop-i.group in
     let count = digits.result.count in
     let within : c.loop-i.i < length c.loop-i.segments = omega arith in
-    let few : count < 5 = let most = digits.ensures.digits.most in
-    let other = c.if-digits-eq5.false in omega arith in
+    let few : count < 5 = grind arith in
     let byte = byte-after-digits-at-position text group count _ (digits.ensures.next few) in
     let no_ipv4 = no-dot-after-digits-is-no-ipv4
     (nat_lt 0 (length c.args.segments.now - (c.loop-i.i + 1))) (drop group text) count
@@ -116,25 +108,8 @@ loop-i-preserved c =
     no_ipv4 colon in
     let inside = colon-at-position-is-inside (drop group text) count colon in
     let size = length-drop group text in
-    record {
-      found = rw (
-        take_more_set c.loop-i.segments c.loop-i.i digits.result.value within,
-        digits.ensures.value few,
-        ← drop-drop count group text,
-      )
-          read;
-      next = rw (← drop-drop count group text)
-          (let same : drop (group + count + 1) text ≡ drop (count + 1) (drop group text) =
-          ap (λ n. drop n text) (omega arith) ∙ sym (drop-drop (count + 1) group text) in
-          rw same next);
-      group = omega arith;
-      end = omega arith;
-      others = let same = c.loop-i.invariant.others in grind (arith, common_steps, places);
-    }
+    grind (arith, take_more_set, drop-drop, common_steps)
 
 pub returns-clause-value : goal.returns-clause-value
 unfolding read_segments
-returns-clause-value c =
-    let none : length c.args.segments.now - c.loop-i.i ≡ 0 = omega arith in
-    let all : length c.args.segments.now ≡ c.loop-i.i = omega arith in
-    c.loop-i.invariant.found ∙ rw (none, append-nil, ← all)
+returns-clause-value c = grind (arith, append-nil)

@@ -1,11 +1,10 @@
-use Rattle.std.proofs.Common.{◌≡◌, ℕ, ◌+◌, slice_set, ◌∷◌, ◌++◌, ◌<◌, [], List, length, take, All, arith, rules, ap, ◌∙◌, sym, subst, inl, inr}
+use Rattle.std.proofs.Common.{◌≡◌, ℕ, ◌+◌, slice_set, ◌∷◌, ◌++◌, ◌<◌, [], List, length, take, All, arith, rules, sym, subst, inl, inr, IsAscii, IsUtf8}
 use Rattle.std.proofs.lemmas.Bool.{cases_lt}
 use Rattle.std.proofs.lemmas.List.{get_or_past, take_more_set}
 use Rattle.std.proofs.lemmas.List.Elements.{All-get_or}
 use Rattle.std.proofs.lemmas.Str.{IsAscii-append, IsUtf8-from_ascii}
 use Rattle.std.proofs.NetLemmas.Alphabet.{IsHexOrColon, All-hex_groups_text}
 use Rattle.std.specs.Net.Text.{hex_groups_text}
-use Rattle.std.specs.Str.{IsAscii, IsUtf8}
 use Rattle.uri_parts.proofs.address_text.push_compressed.Goals as goal
 
 -- hexadecimal digits and colons are ASCII
@@ -28,8 +27,7 @@ from_utf8_unchecked-requires c =
     let text = c.put_compressed-end.new.text in
     let address = hex_groups_text segments in
     let whole : take (end + 1) (slice_set text end 93) ≡ (91 ∷ []) ++ address ++ (93 ∷ []) =
-    take_more_set text end 93 (omega arith)
-    ∙ ap (λ s. s ++ 93 ∷ []) c.put_compressed-end.ensures.text in
+    grind (arith, take_more_set) in
     let ascii = IsAscii-append ((91 ∷ []) ++ address) (93 ∷ [])
     (IsAscii-append (91 ∷ []) address (one_is_ascii 91 (omega arith))
     (hex_is_ascii address (All-hex_groups_text segments (λ k. (c.type_inv.segments k).fits))))

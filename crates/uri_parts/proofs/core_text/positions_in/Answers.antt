@@ -1,5 +1,4 @@
-use Rattle.std.proofs.Common.{sym, ap, ◌∙◌}
-use Rattle.std.specs.Prelude.{is_ok}
+use Rattle.std.proofs.Common.{sym, ap, ◌∙◌, is_ok}
 use Rattle.std.proofs.lemmas.Bool.{false≢true}
 use Rattle.uri_parts.proofs.core_text.positions_in.Goals as goal
 

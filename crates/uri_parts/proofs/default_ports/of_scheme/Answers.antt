@@ -1,24 +1,16 @@
 use Rattle.std.proofs.Common.{◌<◌, ◌+◌, ◌-◌, ◌∙◌, map, ap, sym, arith, length, get_or}
 use Rattle.std.specs.Char.{to_ascii_lowercase, is_ascii_lowercase}
-use Rattle.std.proofs.lemmas.Bool.{eqb-true, eqb-false}
+use Rattle.std.proofs.lemmas.Bool.{eqb-false}
 use Rattle.uri_parts.specs.SchemePorts.{port_ignoring_case}
 use Rattle.uri_parts.proofs.Authorities.SchemePorts.{row_of}
 use Rattle.uri_parts.proofs.Authorities.SchemeRows.{before, map-of-slice-is-slice-of-map, default-port-by-rows-of-first-letter, no-default-port-without-first-letter, empty-scheme-has-no-default-port}
 use Rattle.uri_parts.proofs.default_ports.of_scheme.Goals as goal
 
 pub returns-then-is_empty : goal.returns-then-is_empty
-returns-then-is_empty c =
-    sym (empty-scheme-has-no-default-port c.args.scheme.now
-    (sym (ap length c.as_bytes-bytes.ensures.value)
-    ∙ eqb-true _ 0 (sym c.is_empty.ensures ∙ c.if-is_empty.true)))
+returns-then-is_empty c = grind (arith, empty-scheme-has-no-default-port)
 
 pub returns-then-not-is_ascii_lowercase : goal.returns-then-not-is_ascii_lowercase
-returns-then-not-is_ascii_lowercase c =
-    let letter = c.to_ascii_lowercase-letter.ensures.value
-    ∙ ap (λ x. to_ascii_lowercase (get_or x 0 0)) c.as_bytes-bytes.ensures.value in
-    sym (no-default-port-without-first-letter c.args.scheme.now
-    (ap is_ascii_lowercase (sym letter) ∙ sym c.is_ascii_lowercase.ensures.value
-    ∙ c.if-not-is_ascii_lowercase.true))
+returns-then-not-is_ascii_lowercase c = grind (arith, no-default-port-without-first-letter)
 
 pub returns : goal.returns
 returns c =

@@ -1,6 +1,4 @@
-use Rattle.std.proofs.Common.{Some, None, ap, sym, subst, ◌∙◌, ◌++◌, ◌∷◌, take}
-use Rattle.std.specs.Prelude.{option_map, string_bytes}
-use Rattle.std.specs.Str.{IsCharBoundary}
+use Rattle.std.proofs.Common.{Some, None, ap, sym, subst, ◌∙◌, ◌++◌, ◌∷◌, take, option_map, string_bytes, IsCharBoundary}
 use Rattle.uri_pct.specs.EncodedTexts.{text_of}
 use Rattle.uri_parts.specs.Fragments.{IsWithFragment}
 use Rattle.uri_parts.proofs.Splitting.Fragments.{boundary-at-fragment-mark, stripped_is_without_fragment, appended_is_with_fragment, stays_of_kind_with_fragment, stays_of_kind_without_fragment, positions_stay_with_fragment}

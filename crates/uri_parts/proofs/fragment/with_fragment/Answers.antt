@@ -1,5 +1,4 @@
-use Rattle.std.proofs.Common.{Some, None, ap, sym, subst, ◌∙◌, ◌++◌, ◌∷◌}
-use Rattle.std.specs.Prelude.{option_map, string_bytes}
+use Rattle.std.proofs.Common.{Some, None, ap, sym, subst, ◌∙◌, ◌++◌, ◌∷◌, arith, option_map, string_bytes}
 use Rattle.uri_pct.specs.EncodedTexts.{text_of}
 use Rattle.uri_parts.specs.Fragments.{IsWithFragment}
 use Rattle.uri_parts.proofs.Splitting.Fragments.{appended_is_with_fragment, stays_of_kind_with_fragment, stays_of_kind_without_fragment, positions_stay_with_fragment}
@@ -8,11 +7,7 @@ use Rattle.uri_parts.proofs.fragment.with_fragment.Goals as goal
 -- the text that is made without a fragment, and with one
 without : (g : _) (c : goal.In_ok-push_str g)
     → IsWithFragment c.args.text.now None (string_bytes c.push_str.new.self)
-without g c =
-    let copied = c.in_ok-push_str.ensures.bytes
-    ∙ ap (λ t. t ++ c.without_fragment-kept.result.now) c.new-made.ensures.bytes in
-    subst (IsWithFragment c.args.text.now None) (sym copied)
-    c.without_fragment-kept.ensures.fragment
+without g c = grind arith
 
 with : (g : _) (c : goal.In_ok-push_fragment g)
     → IsWithFragment c.args.text.now (Some c.as_str.result.now)
@@ -27,15 +22,10 @@ with g c =
     (c.in_ok-push_fragment.ensures.text ∙ ap (λ t. t ++ (35 ∷ fragment)) start)
 
 pub returns-in_default-clause-of_kind : goal.returns-in_default-clause-of_kind
-returns-in_default-clause-of_kind g c =
-    stays_of_kind_without_fragment g.E.Encoder.set c.args.text.now
-    (string_bytes c.push_str.new.self) (without g c)
+returns-in_default-clause-of_kind g c = grind (arith, stays_of_kind_without_fragment, without)
 
 pub returns-in_default-clause-at : goal.returns-in_default-clause-at
-returns-in_default-clause-at g c =
-    positions_stay_with_fragment c.args.text.now (string_bytes c.push_str.new.self) None
-    c.args.positions.now
-    c.requires (without g c)
+returns-in_default-clause-at g c = grind (arith, positions_stay_with_fragment, without)
 
 pub returns-clause-fragment : goal.returns-clause-fragment
 returns-clause-fragment g c =

@@ -1,5 +1,4 @@
-use Rattle.std.proofs.Common.{◌≡◌, ◌+◌, ◌≤◌, true, length, drop, sym, ap, ◌∙◌, arith, length-drop, option_map}
-use Rattle.std.specs.Prelude.{Ok}
+use Rattle.std.proofs.Common.{◌≡◌, ◌+◌, ◌≤◌, true, length, drop, sym, ap, ◌∙◌, arith, length-drop, option_map, Ok}
 use Rattle.uri_parts.specs.Components.{starts}
 use Rattle.uri_parts.proofs.HostForms.Ipv6Literals.{no_ipv6_is_no_literal, unclosed_ipv6_is_no_literal}
 use Rattle.uri_parts.proofs.Refusals.Literals.{literal-ends-after-read-ipv6, literal-rejects-unparsed}
@@ -18,14 +17,8 @@ returns-then-next_is-clause-exact c =
     ∙ ap (λ n. Ok (n + 1)) (omega (arith, length-drop end text))
 
 pub returns-else-next_is-clause-absent : goal.returns-else-next_is-clause-absent
-returns-else-next_is-clause-absent c = λ t e no_version.
-    let found = rw (c.in_ok-end.was, c.as_bytes.ensures.value) at c.in_ok-found.ensures in
-    literal-rejects-unparsed _ _ no_version
-    (unclosed_ipv6_is_no_literal _ _ no_version (ap (option_map (λ p. p.1)) found.read)
-    (sym c.next_is.ensures.value ∙ c.if-next_is.false))
+returns-else-next_is-clause-absent c =
+    grind (arith, literal-rejects-unparsed, unclosed_ipv6_is_no_literal)
 
 pub returns-in_err-end-clause-absent : goal.returns-in_err-end-clause-absent
-returns-in_err-end-clause-absent c = λ t e no_version.
-    let found = rw (c.in_err-end.was, c.as_bytes.ensures.value) at c.in_ok-found.ensures in
-    literal-rejects-unparsed _ _ no_version
-    (no_ipv6_is_no_literal _ no_version (ap (option_map (λ p. p.1)) found.read))
+returns-in_err-end-clause-absent c = grind (arith, literal-rejects-unparsed, no_ipv6_is_no_literal)

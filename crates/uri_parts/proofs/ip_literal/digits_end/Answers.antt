@@ -1,4 +1,4 @@
-use Rattle.std.proofs.Common.{◌<◌, arith, ap, sym, ◌∙◌, ltb-true}
+use Rattle.std.proofs.Common.{◌<◌, arith, ap, sym, ◌∙◌}
 use Rattle.std.specs.Char.{is_digit}
 use Rattle.uri_parts.proofs.Refusals.Digits.{digits_end-passes-digit}
 use Rattle.std.proofs.lemmas.Str.{IsCharBoundary-after_ascii}
@@ -9,8 +9,7 @@ pub loop-end-preserved : goal.loop-end-preserved
 loop-end-preserved c =
     let bs = c.as_bytes-bytes.result.now in
     let below : c.from.result < 128 =
-    digit-is-ascii c.from.result c.args.radix c.requires.high
-    (ltb-true _ _ (sym c.is_digit.ensures.value ∙ c.if-is_digit.true)) in
+    grind (arith, digit-is-ascii) in
     record {
       boundary = IsCharBoundary-after_ascii bs c.loop-end.end c.as_bytes-bytes.ensures.utf8
           (omega arith) (omega arith);

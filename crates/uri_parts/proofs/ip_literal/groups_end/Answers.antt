@@ -1,7 +1,5 @@
-use Rattle.std.proofs.Common.{◌≡◌, ◌+◌, ◌-◌, ◌<◌, ℕ, Bool, false, not, sym, ap, ◌∙◌, arith, ◌&&◌, ◌||◌}
-use Rattle.std.specs.Prelude.{◌==◌}
-use Rattle.std.proofs.lemmas.Bool.{ne_eqb}
-use Rattle.uri_parts.specs.LiteralErrors.{Groups_end, after_ipv4, groups_from}
+use Rattle.std.proofs.Common.{◌≡◌, ◌+◌, ◌-◌, ◌<◌, ℕ, Bool, false, not, sym, ap, ◌∙◌, arith, ◌&&◌, ◌||◌, ◌==◌, ne_eqb}
+use Rattle.uri_parts.specs.LiteralErrors.{Groups_end, after_ipv4}
 use Rattle.uri_parts.proofs.Refusals.GroupTurns.{groups_from-ends-without-room, groups_from-ends-without-group, groups_from-elides-at-two-colons, groups_from-rejects-lone-colon, groups_from-ends-with-text, groups_from-rejects-misplaced-colon, groups_from-rejects-ipv4-without-room, dotted, groups_from-goes-on-after-group}
 use Rattle.uri_parts.proofs.ip_literal.groups_end.Goals as goal
 
@@ -62,15 +60,7 @@ returns-then-has_misplaced_colon-clause-exact c =
 
 pub returns-then-room-counted-eq1-clause-exact : goal.returns-then-room-counted-eq1-clause-exact
 returns-then-room-counted-eq1-clause-exact c =
-    sym (c.loop-counted.invariant.left
-    ∙ groups_from-rejects-ipv4-without-room _ _ _ _ _ _ _ (room_left _ _ c.loop-counted-test.true)
-    c.after_colon-first.ensures.exact
-    c.digits_end-last.ensures.exact c.if-last-first.false
-    (sym c.is_short_group_at_end.ensures ∙ c.if-is_short_group_at_end.false)
-    (turn_is _ _ _ _ _ c.next_is-has_colon.ensures.value c.has_misplaced_colon.ensures
-    c.if-has_misplaced_colon.false)
-    (sym c.is_short_group_before_dot.ensures ∙ c.if-is_short_group_before_dot.true)
-    (omega (arith, c.if-room-counted-eq1.true)))
+    grind (arith, groups_from-rejects-ipv4-without-room, room_left, turn_is)
 
 pub returns-in-Some-clause-exact : goal.returns-in-Some-clause-exact
 returns-in-Some-clause-exact c =
@@ -104,22 +94,7 @@ returns-in-None-clause-exact c =
 pub loop-counted-preserved : goal.loop-counted-preserved
 loop-counted-preserved c =
     let later : (c.loop-counted.counted + 1 == 0) ≡ false = ne_eqb _ _ (omega arith) in
-    record {
-      boundary = c.digits_end-last.ensures.boundary;
-      left = c.loop-counted.invariant.left
-          ∙ groups_from-goes-on-after-group _ _ _ _ _ _ _ (room_left _ _ c.loop-counted-test.true)
-          c.after_colon-first.ensures.exact
-          c.digits_end-last.ensures.exact
-          c.if-last-first.false (sym c.is_short_group_at_end.ensures
-          ∙ c.if-is_short_group_at_end.false)
-          (turn_is _ _ _ _ _ c.next_is-has_colon.ensures.value c.has_misplaced_colon.ensures
-          c.if-has_misplaced_colon.false)
-          (sym c.is_short_group_before_dot.ensures ∙ c.if-is_short_group_before_dot.false)
-          ∙ ap (λ f. groups_from c.args.text.now (c.args.room - (c.loop-counted.counted + 1)) f
-          c.digits_end-last.result) (sym later);
-    }
+    grind (arith, groups_from-goes-on-after-group, room_left, turn_is)
 
 pub returns-clause-exact : goal.returns-clause-exact
-returns-clause-exact c =
-    sym (c.loop-counted.invariant.left
-    ∙ groups_from-ends-without-room _ _ _ _ (omega (arith, c.loop-counted-test.false)))
+returns-clause-exact c = grind (arith, groups_from-ends-without-room)

@@ -1,6 +1,4 @@
-use Rattle.std.proofs.Common.{◌≡◌, ◌-◌, true}
-use Rattle.std.specs.Prelude.{◌==◌}
-use Rattle.std.specs.Str.{IsCharBoundary}
+use Rattle.std.proofs.Common.{◌≡◌, ◌-◌, true, ◌==◌, IsCharBoundary}
 use Rattle.uri_parts.specs.LiteralErrors.{groups_from}
 use Rattle.uri_parts.proofs.ip_literal.groups_end.Given as goal
 

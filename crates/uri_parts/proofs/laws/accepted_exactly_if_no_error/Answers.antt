@@ -1,5 +1,4 @@
-use Rattle.std.proofs.Common.{◌≡◌, sym, ◌∙◌, refl}
-use Rattle.std.specs.Prelude.{Result, Ok, Err, None, IsOk}
+use Rattle.std.proofs.Common.{◌≡◌, sym, refl, arith, Result, Ok, Err, None, IsOk}
 use Rattle.std.specs.Result.{result_err}
 use Rattle.std.proofs.lemmas.Option.{none-some}
 use Rattle.std.proofs.lemmas.Bool.{false≢true}
@@ -14,10 +13,4 @@ none_is (Ok x) e = refl
 none_is (Err x) e = absurd (false≢true e)
 
 pub returns : goal.returns
-returns g c =
-    let found = c.parse-parsed.ensures.refused in
-    let accepts = c.parse-parsed.ensures.accepts in (
-      (λ none. accepts.0 (ok_is _ (found ∙ none))),
-      (λ of_kind. sym found
-          ∙ none_is _ (accepts.1 of_kind)),
-    )
+returns g c = grind (arith, ok_is, none_is)

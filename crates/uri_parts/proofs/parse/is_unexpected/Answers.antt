@@ -1,5 +1,4 @@
-use Rattle.std.proofs.Common.{◌≡◌, ◌<◌, ℕ, List, false, drop, arith, refl}
-use Rattle.std.specs.Prelude.{Ok, Some}
+use Rattle.std.proofs.Common.{◌≡◌, ◌<◌, ℕ, List, false, drop, arith, Ok, Some}
 use Rattle.uri_pct.specs.Sets.{TableSet}
 use Rattle.uri_parts.specs.Components.{is_end, starts}
 use Rattle.uri_parts.specs.Errors.{unexpected}
@@ -17,18 +16,7 @@ unexpected_where_no_path_begins : (segment : TableSet) (kind : Kind) (text : Lis
     → error_from_relative_path kind text segment i ≡ Some (unexpected i)
 unfolding error_from_relative_path error_from_path error_from_query error_from_fragment
     error_from_end
-unexpected_where_no_path_begins segment kind text i first path other some =
-    rw (
-      first,
-      other 58 (omega arith) (omega arith),
-      path,
-      other 63 (omega arith) (omega arith),
-      other 35 (omega arith) (omega arith),
-      some,
-    ) refl
+unexpected_where_no_path_begins segment kind text i first path other some = grind arith
 
 pub returns : goal.returns
-returns g c t =
-    let next = c.is_before_excluded.ensures in
-    unexpected_where_no_path_begins _ g.K.Kind.kind _ _ (next.segment t) (next.path t)
-    (next.other t) (next.some t)
+returns g c t = grind (arith, unexpected_where_no_path_begins)

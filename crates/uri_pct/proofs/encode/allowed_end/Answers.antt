@@ -1,4 +1,4 @@
-use Rattle.std.proofs.Common.{◌≡◌, ◌+◌, drop, ap, ◌∙◌}
+use Rattle.std.proofs.Common.{◌≡◌, ◌+◌, drop, arith}
 use Rattle.uri_pct.specs.Prefixes.{valid_prefix}
 use Rattle.uri_pct.specs.Tables.{set_of}
 use Rattle.uri_pct.proofs.ValidTexts.KeptPrefixes.{set_without_octets, allowed_run_is_encoded_as_itself, char_after_allowed_run_is_not_allowed}
@@ -8,9 +8,7 @@ scanned_to : (c : goal.After-scan)
     → c.scan.result ≡ c.args.start
     + valid_prefix (set_without_octets (set_of c.args.table.now))
     (drop c.args.start c.args.text.now)
-scanned_to c = c.scan.ensures.end
-    ∙ ap (λ set. c.args.start + valid_prefix set (drop c.args.start c.args.text.now))
-    c.without_octets.ensures
+scanned_to c = grind arith
 
 pub returns-clause-kept : goal.returns-clause-kept
 returns-clause-kept c = allowed_run_is_encoded_as_itself (set_of c.args.table.now) c.args.text.now

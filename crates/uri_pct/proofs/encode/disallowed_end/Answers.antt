@@ -1,18 +1,11 @@
-use Rattle.std.proofs.Common.{◌≡◌, ◌+◌, drop, sym, ap, ◌∙◌, subst, arith}
+use Rattle.std.proofs.Common.{◌≡◌, ◌+◌, drop, sym, ap, subst, arith, IsCharBoundary}
 use Rattle.std.specs.Char.{len_utf8}
-use Rattle.std.specs.Str.{IsCharBoundary}
 use Rattle.std.proofs.lemmas.Str.{IsCharBoundary-past_char, IsUtf8-drop}
-use Rattle.uri_pct.specs.Tables.{set_of}
 use Rattle.uri_pct.proofs.ValidTexts.KeptPrefixes.{empty_run_is_encoded_as_octets, longer_run_is_encoded_as_octets, disallowed_run_is_not_empty}
 use Rattle.uri_pct.proofs.encode.disallowed_end.Goals as goal
 
 pub loop-end-init : goal.loop-end-init
-loop-end-init c = record {
-  from = omega arith;
-  boundary = c.requires;
-  octets =
-      empty_run_is_encoded_as_octets (set_of c.args.table.now) c.args.text.now c.args.start;
-}
+loop-end-init c = grind (arith, empty_run_is_encoded_as_octets)
 
 pub loop-end-preserved : goal.loop-end-preserved
 loop-end-preserved c =
@@ -28,13 +21,8 @@ loop-end-preserved c =
       boundary = subst (IsCharBoundary text) (sym place)
           (IsCharBoundary-past_char text (drop (end + len_utf8 ch) text) end ch (omega arith) u
           c.char_at-ch.ensures);
-      octets = longer_run_is_encoded_as_octets (set_of c.args.table.now) text c.args.start end _ ch
-          u before.from
-          c.char_at-ch.ensures place (sym c.allows.ensures ∙ c.if-allows.false) before.octets;
+      octets = grind (arith, longer_run_is_encoded_as_octets);
     }
 
 pub returns-then-allows-clause-goes : goal.returns-then-allows-clause-goes
-returns-then-allows-clause-goes c = λ inside first.
-    disallowed_run_is_not_empty (set_of c.args.table.now) c.args.text.now c.args.start
-    c.loop-end.end c.char_at-ch.result c.loop-end.invariant.from c.char_at-ch.ensures
-    (sym c.allows.ensures ∙ c.if-allows.true) first
+returns-then-allows-clause-goes c = grind (arith, disallowed_run_is_not_empty)

@@ -1,5 +1,4 @@
-use Rattle.std.proofs.Common.{◌≡◌, ◌++◌, ap, ◌∙◌, map, string_bytes, subst}
-use Rattle.std.specs.Str.{IsUtf8}
+use Rattle.std.proofs.Common.{◌≡◌, ◌++◌, map, string_bytes, subst, arith, IsUtf8}
 use Rattle.std.specs.Str.Chunks.{utf8_chunks_rest, utf8_chunk_valid, utf8_chunk_invalid}
 use Rattle.uri_pct.specs.Encoding.{encode_text}
 use Rattle.uri_pct.specs.Tables.{set_of}
@@ -19,19 +18,15 @@ loop-chunk-preserved c =
     let out = string_bytes c.loop-chunk.out in
     let mid = string_bytes c.push_text.new.out in
     let new = string_bytes c.push_octets.new.out in
-    let first : mid ≡ out ++ print (encode_text set text) = c.in_ok-push_text.ensures.ok
-    ∙ ap (λ x. out ++ print (encode_text set x)) c.valid.ensures in
-    let then : new ≡ mid ++ print (map Octet fault) = c.in_ok-push_octets.ensures.ok
-    ∙ ap (λ x. mid ++ print (map Octet x)) c.invalid.ensures in
+    let first : mid ≡ out ++ print (encode_text set text) = grind arith in
+    let then : new ≡ mid ++ print (map Octet fault) = grind arith in
     let pieces = utf8_pieces-of-std-chunk (utf8_chunks_rest c.loop-chunk.chunk-iterator) text fault
     rest steps.0 steps.3.0 steps.3.1 steps.2 in
     record {
       total = encoded_bytes_after_chunk set out mid new _ text fault rest _
           (subst IsUtf8 c.valid.ensures c.valid.utf8) pieces first
           then c.loop-chunk.invariant.total;
-      keeps = kept_prefix-transitive old mid new
-          (kept_prefix-transitive old out mid c.loop-chunk.invariant.keeps
-          c.in_ok-push_text.ensures.keeps) c.in_ok-push_octets.ensures.keeps;
+      keeps = grind (arith, kept_prefix-transitive);
     }
 
 pub returns-clause-ok : goal.returns-clause-ok

@@ -22,8 +22,7 @@ returns-in_err-push_octets-clause-keeps c =
     let mid = ap (take (length old)) copied
     ∙ append_keeps_prefix old (string_bytes c.loop-done.out) c.range.result.now
     c.loop-done.invariant.keeps in
-    kept_prefix-transitive old (string_bytes c.push_str.new.self)
-    (string_bytes c.push_octets.new.out) mid c.in_err-push_octets.ensures.keeps
+    grind (arith, kept_prefix-transitive)
 
 pub loop-done-preserved : goal.loop-done-preserved
 loop-done-preserved c =
@@ -36,20 +35,15 @@ loop-done-preserved c =
     let mid = string_bytes c.push_str.new.self in
     let new = string_bytes c.push_octets.new.out in
     let pushed : mid ≡ out ++ c.range.result.now = c.in_ok-push_str.ensures.bytes in
-    let copied : mid ≡ out ++ take (end - done) (drop done text) = pushed
-    ∙ ap (λ x. out ++ x) c.range.ensures.value in
+    let copied : mid ≡ out ++ take (end - done) (drop done text) = grind arith in
     let octets : new ≡ mid ++ print (map Octet (take (next - end) (drop end text))) =
-    c.in_ok-push_octets.ensures.ok
-    ∙ ap (λ x. mid ++ print (map Octet (take (next - end) (drop end x))))
-    c.as_bytes.ensures.value in
+    grind arith in
     record {
       boundary = c.disallowed_end-next.ensures.boundary;
       total = encoded_text_after_two_runs (set_of c.args.table.now) out mid new text _ done end next
           c.allowed_end-end.ensures.kept c.disallowed_end-next.ensures.octets copied octets
           c.loop-done.invariant.total;
-      keeps = kept_prefix-transitive old mid new (ap (take (length old)) pushed
-          ∙ append_keeps_prefix old out c.range.result.now c.loop-done.invariant.keeps)
-          c.in_ok-push_octets.ensures.keeps;
+      keeps = grind (arith, kept_prefix-transitive, append_keeps_prefix);
     }
 
 pub returns-clause-ok : goal.returns-clause-ok

@@ -1,4 +1,4 @@
-use Rattle.std.proofs.Common.{◌≡◌, ◌∙◌, ap, subst, sym, map, replicate, length, List, ℕ, bit_and, w8}
+use Rattle.std.proofs.Common.{◌≡◌, ◌∙◌, ap, subst, sym, map, replicate, length, List, ℕ, bit_and, w8, arith}
 use Rattle.std.proofs.lemmas.Simd.{zip2_splat, SwzOk, swz_l}
 use Rattle.std.specs.Simd.Lanes.{zip2}
 use Rattle.uri_pct.specs.Models.LaneMasks.{bit_in_mask_byte}
@@ -11,8 +11,7 @@ places v long = zip2_splat bit_and v 16 143 long
 
 pub swizzle : goal.swizzle
 swizzle c = subst (SwzOk w8 16 16 0) (sym (places c.args.lanes c.fits-lanes.0))
-    (lanes_fit_swizzle swizzle_bits c.args.lanes (λ b. bit_and b 143) bit_in_mask_byte
-    c.fits-lanes.0 c.fits-lanes.1 bit_index_fits_swizzle)
+    (grind (arith, lanes_fit_swizzle, bit_index_fits_swizzle))
 
 pub returns : goal.returns
 returns c = ap (swz_l w8 16 swizzle_bits 0) (places c.args.lanes c.fits-lanes.0)

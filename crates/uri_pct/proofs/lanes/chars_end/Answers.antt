@@ -12,10 +12,7 @@ block : (low high : ℕ) (bs : List ℕ) (i mask : ℕ) → mask < 2 ^ 16
     → ((k : ℕ) → k < 16 → is_set_bit mask k
     ≡ not (is_char_byte (has_bit low high) (get_or bs (i + k) 0)))
     → MarksFailingLanes (is_char_byte (has_bit low high)) bs i 16 mask
-block low high bs i mask below lane = record {
-  lane = λ k h. bit_is_failing_test _ _ (bit_at-lt mask k) (lane k h);
-  below = below;
-}
+block low high bs i mask below lane = grind (arith, bit_is_failing_test, bit_at-lt)
 
 pub returns-then-mask-ne0 : goal.returns-then-mask-ne0
 returns-then-mask-ne0 c =

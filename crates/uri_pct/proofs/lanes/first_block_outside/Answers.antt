@@ -2,6 +2,7 @@ use Rattle.std.proofs.Common.{◌≡◌, ◌+◌, ◌-◌, ◌*◌, ◌/◌, ◌
 use Rattle.std.specs.Simd.Lanes.{mask_l, chunk}
 use Rattle.std.proofs.Math.Nat.{div-mul-le_self}
 use Rattle.std.proofs.lemmas.Bool.{cases_lt, and_right, le-leb, lt-leb}
+use Rattle.std.proofs.lemmas.Bool.Decides.{nat_tests}
 use Rattle.uri_pct.specs.Masks.{has_bit}
 use Rattle.uri_pct.proofs.LaneScans.LaneRuns.{set_mask_marks_lanes_outside, run_goes_on_past_unmarked_lanes}
 use Rattle.uri_pct.proofs.LaneScans.LaneBits.{is_set_bit, mask_bit_is_test_of_byte, bit_of_left_shift, bit_of_right_shift, low_bit_of_left_shift_is_clear}
@@ -21,12 +22,7 @@ returns-then-mask-ne0-clause-below c =
     c.outside-mask.ensures).below
 
 pub returns-then-mask-ne0-clause-lane : goal.returns-then-mask-ne0-clause-lane
-returns-then-mask-ne0-clause-lane c k h =
-    lane c.args.low c.args.high c.args.bytes.now c.loop-i.i c.outside-mask.result k
-    (omega (arith, c.loop-i.invariant.within, c.loop-i-test.true)) c.outside-mask.ensures h
-    ∙ ap (λ b. b && not (has_bit c.args.low c.args.high
-    (get_or c.args.bytes.now (c.loop-i.i + k) 0)))
-    (sym (le-leb c.args.start (c.loop-i.i + k) (omega (arith, c.loop-i.invariant.from))))
+returns-then-mask-ne0-clause-lane c k h = grind (arith, nat_tests, lane)
 
 pub loop-i-preserved : goal.loop-i-preserved
 loop-i-preserved c =

@@ -1,5 +1,4 @@
 use Rattle.std.proofs.Common.{arith, refl, rules}
-use Rattle.std.specs.Simd.Lanes.{chunk}
 use Rattle.uri_pct.specs.Masks.{has_bit}
 use Rattle.uri_pct.proofs.LaneScans.LaneMasks.{index_of_mask_byte_is_small}
 use Rattle.uri_pct.proofs.LaneScans.LaneBits.{trailing_zeros_is_first_set_lane}
@@ -11,9 +10,7 @@ use Rattle.uri_pct.proofs.lanes.first_run_end.Goals.{Else-mask-eq0}
 marks : (c : Else-mask-eq0) → MarksFailingLanesFrom (has_bit c.args.low c.args.high)
     c.args.bytes.now c.args.start c.first_block_outside-block.result.0
     c.first_block_outside-block.result.1
-marks c =
-    let b = c.first_block_outside-block.ensures in
-    record { below = b.below; lane = b.lane; before = b.before }
+marks c = grind arith
 
 -- no byte is outside the set
 pub returns-then-mask-eq0 : goal.returns-then-mask-eq0
@@ -34,31 +31,18 @@ returns-then-mask-eq0 c =
 
 -- the first byte outside the set
 pub bounds-bytes-first : goal.bounds-bytes-first
-bounds-bytes-first c =
-    let b = c.first_block_outside-block.ensures in
-    let f = trailing_zeros_is_first_set_lane _ b.below c.if-mask-eq0.false in
-    omega (arith, b.room, f.0)
+bounds-bytes-first c = grind (arith, trailing_zeros_is_first_set_lane)
 
 pub returns-then-bytes-first-ne37 : goal.returns-then-bytes-first-ne37
 returns-then-bytes-first-ne37 c =
     let m = marks (goal.at.returns-then-bytes-first-ne37 c).Else-mask-eq0 in
     let run = run_ends_at_first_marked_byte _ _ _ _ _ m c.if-mask-eq0.false
     c.first_block_outside-block.ensures.room in
-    record {
-      from = run.from;
-      within = run.within;
-      allowed = passing_bytes_are_characters _ _ _ _ run;
-      ends = λ _. refl;
-      plain = λ _. run;
-      outside = λ _. run.stop;
-      stray = search rules;
-    }
+    grind (arith, passing_bytes_are_characters)
 
 -- the keys of the block are those of its bytes
 pub outside_by_keys-no_digits-requires : goal.outside_by_keys-no_digits-requires
-outside_by_keys-no_digits-requires c k h = index_of_mask_byte_is_small
-    (chunk c.first_block_outside-block.result.0 16 c.args.bytes.now)
-    c.first_block_outside-block.result.2 c.first_block_outside-block.ensures.indices k
+outside_by_keys-no_digits-requires c k h = grind (arith, index_of_mask_byte_is_small)
 
 -- an octet's digits are not among the bytes outside a set that has all digits
 pub lanes_outside_octets-open-requires-clause-digits
@@ -110,11 +94,7 @@ returns-then-last-eq0 c =
 
 -- it is one of the last two lanes
 pub bounds-bytes-end : goal.bounds-bytes-end
-bounds-bytes-end c =
-    let o = c.lanes_outside_octets-open in
-    let first = first_of_last_lanes o.result o.ensures.below c.if-certain-ne0.false
-    c.if-last-eq0.false in
-    omega (arith, c.first_block_outside-block.ensures.room, first.within)
+bounds-bytes-end c = grind (arith, first_of_last_lanes)
 
 pub returns : goal.returns
 returns c =

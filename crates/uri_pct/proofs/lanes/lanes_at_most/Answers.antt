@@ -1,5 +1,4 @@
-use Rattle.std.proofs.Common.{arith, w8}
-use Rattle.std.specs.Prelude.{nat_le}
+use Rattle.std.proofs.Common.{arith, w8, nat_le}
 use Rattle.std.specs.Simd.Lanes.{chunk}
 use Rattle.std.proofs.lemmas.Simd.{bitmask_splat, length-chunk}
 use Rattle.uri_pct.proofs.lanes.lanes_at_most.Goals as goal

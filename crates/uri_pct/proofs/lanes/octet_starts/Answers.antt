@@ -1,5 +1,4 @@
-use Rattle.std.proofs.Common.{◌≡◌, ◌+◌, ◌/◌, ◌^◌, ◌<◌, ◌≤◌, ℕ, true, false, not, length, subst, sym, ap, ◌∙◌, arith, bit_and, bit_or, w64, get_or}
-use Rattle.std.specs.Prelude.{slice_index}
+use Rattle.std.proofs.Common.{◌≡◌, ◌+◌, ◌/◌, ◌^◌, ◌<◌, ◌≤◌, ℕ, true, false, not, length, subst, sym, ap, ◌∙◌, arith, bit_and, bit_or, w64, get_or, slice_index}
 use Rattle.std.specs.Char.{is_ascii_hexdigit}
 use Rattle.std.proofs.lemmas.Nat.{or_lt}
 use Rattle.std.proofs.lemmas.Bool.{and_from, and_parts, or_from, eq-eqb, eqb-true}
@@ -59,10 +58,7 @@ returns-clause-all c k h percent digits =
     (sym c.requires.no_digits) (load_mask_marks_failing_lanes _ bs i 16 room) in
     let digit : (j : ℕ) → j < 16 → is_ascii_hexdigit (get_or bs (i + j) 0) ≡ true
     → is_set_bit others j ≡ false =
-    λ j l e. ap (λ m. is_set_bit m j) c.requires.no_digits
-    ∙ mask_bit_is_test_of_byte (λ b. not (has_bit 0x03FF000000000000 0x0000007E0000007E b))
-    bs i j room l
-    ∙ ap not (ap (λ s. s.ascii (get_or bs (i + j) 0)) hexdig_masks_are_hexdig_set ∙ e) in
+    grind (arith, mask_bit_is_test_of_byte, hexdig_masks_are_hexdig_set) in
     let both = and_parts _ _ digits in
     eqb-true _ _ (set_lane c.lanes_equal_to-percents.result others k marks.below h
     (ap (λ m. is_set_bit m k) c.lanes_equal_to-percents.ensures

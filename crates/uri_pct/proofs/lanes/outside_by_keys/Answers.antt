@@ -1,4 +1,4 @@
-use Rattle.std.proofs.Common.{◌≡◌, ◌∙◌, ◌/◌, ◌^◌, ◌%◌, ap, sym, eqb, cond, bit_and, map, length, get_or, replicate, List, ℕ}
+use Rattle.std.proofs.Common.{◌≡◌, ◌∙◌, ◌/◌, ◌^◌, ◌%◌, ap, eqb, cond, bit_and, map, length, get_or, replicate, List, ℕ, arith}
 use Rattle.std.proofs.lemmas.List.{length-map}
 use Rattle.std.proofs.lemmas.Simd.{map-map}
 use Rattle.std.specs.Simd.Lanes.{zip2, mask_l, top}
@@ -17,8 +17,7 @@ pub returns : goal.returns
 unfolding mask_of
 returns c bytes places bits =
     let byte : ℕ → ℕ = λ i. get_or (bytes_of_masks c.args.low c.args.high) i 0 in
-    let long : length bytes ≡ 16 = sym (ap length places ∙ length-map bytes (λ b. b / 8 % 16))
-    ∙ c.fits-indices.0 in
+    let long : length bytes ≡ 16 = grind (arith, length-map) in
     same c.mask_bytes.result c.args.bits _ _
     (c.mask_bytes.ensures ∙ ap (map byte) places ∙ map-map byte (λ b. b / 8 % 16) bytes) bits
     ∙ swizzle_mask_is_outside_set c.args.low c.args.high bytes long c.ranges.low.fits

@@ -1,5 +1,4 @@
-use Rattle.std.proofs.Common.{◌≡◌, ◌+◌, ◌≤◌, Bool, true, false, not, eqb, length, refl, sym, ap, subst, ◌∙◌, arith, bit_and, w64, ◌&&◌, ◌||◌}
-use Rattle.std.specs.Prelude.{slice_index, nat_le}
+use Rattle.std.proofs.Common.{◌≡◌, ◌+◌, ◌≤◌, Bool, true, false, not, eqb, length, refl, sym, ap, subst, ◌∙◌, arith, bit_and, w64, ◌&&◌, ◌||◌, slice_index, nat_le}
 use Rattle.std.specs.Int.{bit_not}
 use Rattle.std.proofs.lemmas.Nat.{and_le_l}
 use Rattle.uri_pct.specs.Masks.{has_bit}
@@ -42,25 +41,11 @@ returns-clause-lane c k h =
     ap (λ m. is_set_bit m k) c.lanes_at_most-ascii.ensures
     ∙ mask_bit_is_test_of_byte (λ x. nat_le x 127) bs i k room h in
     let is_c2 : is_set_bit c2 k ≡ eqb b 194 =
-    ap (λ m. is_set_bit m k) c.lanes_equal_to.ensures
-    ∙ mask_bit_is_equality_of_byte 194 bs i k room h in
+    grind (arith, mask_bit_is_equality_of_byte) in
     let is_out : is_set_bit c.outside.result k ≡ not (has_bit c.args.low c.args.high b) =
     ap (λ m. is_set_bit m k) c.outside.ensures
     ∙ mask_bit_is_test_of_byte (λ x. not (has_bit c.args.low c.args.high x)) bs i k room h in
     let is_part : is_set_bit (bit_and past (bit_not w64 c2)) k
     ≡ ((nat_le b 237 && not (nat_le b 127)) && not (eqb b 194)) =
-    bit_of_bit_and_not past c2 k c.lanes_equal_to.type_inv (omega arith)
-    ∙ ap (λ x. x && not (is_set_bit c2 k))
-    (bit_of_bit_and_not from others k c.lanes_at_most-ascii.type_inv (omega arith))
-    ∙ ap (λ x. ((x && not (is_set_bit others k)) && not (is_set_bit c2 k))) is_from
-    ∙ ap (λ x. ((nat_le b 237 && not x) && not (is_set_bit c2 k))) is_other
-    ∙ ap (λ x. ((nat_le b 237 && not (nat_le b 127)) && not x)) is_c2 in
-    bit_of_bit_and_not c.outside.result (bit_and past (bit_not w64 c2)) k (omega (
-      arith,
-      and_le_l past (bit_not w64 c2),
-      and_le_l from (bit_not w64 others),
-      c.lanes_at_most-low_bytes.type_inv,
-    )) (omega arith)
-    ∙ ap (λ x. x && not (is_set_bit (bit_and past (bit_not w64 c2)) k)) is_out
-    ∙ ap (λ x. not (has_bit c.args.low c.args.high b) && not x) is_part
-    ∙ neither (has_bit c.args.low c.args.high b) _
+    grind (arith, bit_of_bit_and_not) in
+    grind (arith, bit_of_bit_and_not, and_le_l, neither)

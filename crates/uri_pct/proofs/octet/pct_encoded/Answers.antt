@@ -13,7 +13,4 @@ range-requires-clause-end_boundary c =
     IsCharBoundary-from_ascii OCTETS.now _ octet_table_is_ascii (omega arith)
 
 pub returns : goal.returns
-returns c =
-    let three : c.from-start.result * 3 + 3 - c.from-start.result * 3 ≡ 3 = omega arith in
-    rw (c.range.ensures.value, three, c.from-start.ensures)
-    (octet_entry_is_printed_octet c.args.byte (omega arith))
+returns c = grind (arith, octet_entry_is_printed_octet)

@@ -1,35 +1,18 @@
 use Rattle.uri_pct.proofs.LaneScans.DotLanes.{first_slash_dot_lane_is_at_most_16, no_slash_dot_where_no_slash, no_slash_dot_before_first_lane, no_slash_dot_where_mask_is_zero, slash_is_at_first_slash_dot_lane}
+use Rattle.std.proofs.Common.{arith}
 use Rattle.uri_pct.proofs.search.len_before_slash_dot.Goals as goal
 
 pub returns-then-slashes-eq0-clause-none : goal.returns-then-slashes-eq0-clause-none
-returns-then-slashes-eq0-clause-none c =
-    no_slash_dot_where_no_slash c.args.bytes.now c.args.at c.lanes_equal_to-slashes.result
-    c.requires c.lanes_equal_to-slashes.ensures c.if-slashes-eq0.true
+returns-then-slashes-eq0-clause-none c = grind (arith, no_slash_dot_where_no_slash)
 
 pub returns-then-found-eq0-clause-none : goal.returns-then-found-eq0-clause-none
-returns-then-found-eq0-clause-none c =
-    no_slash_dot_where_mask_is_zero c.args.bytes.now c.args.at c.requires
-    c.lanes_equal_to-slashes.result c.lanes_equal_to.result c.lanes_equal_to-2.result
-    c.lanes_equal_to-slashes.ensures
-    c.lanes_equal_to.ensures c.lanes_equal_to-2.ensures c.if-found-eq0.true
+returns-then-found-eq0-clause-none c = grind (arith, no_slash_dot_where_mask_is_zero)
 
 pub returns-clause-few : goal.returns-clause-few
-returns-clause-few c =
-    first_slash_dot_lane_is_at_most_16 c.args.bytes.now c.args.at c.requires
-    c.lanes_equal_to-slashes.result c.lanes_equal_to.result c.lanes_equal_to-2.result
-    c.lanes_equal_to-slashes.ensures
-    c.lanes_equal_to.ensures c.lanes_equal_to-2.ensures c.if-found-eq0.false
+returns-clause-few c = grind (arith, first_slash_dot_lane_is_at_most_16)
 
 pub returns-clause-none : goal.returns-clause-none
-returns-clause-none c =
-    no_slash_dot_before_first_lane c.args.bytes.now c.args.at c.requires
-    c.lanes_equal_to-slashes.result c.lanes_equal_to.result c.lanes_equal_to-2.result
-    c.lanes_equal_to-slashes.ensures
-    c.lanes_equal_to.ensures c.lanes_equal_to-2.ensures c.if-found-eq0.false
+returns-clause-none c = grind (arith, no_slash_dot_before_first_lane)
 
 pub returns-clause-slash : goal.returns-clause-slash
-returns-clause-slash c = λ _.
-    slash_is_at_first_slash_dot_lane c.args.bytes.now c.args.at c.requires
-    c.lanes_equal_to-slashes.result c.lanes_equal_to.result c.lanes_equal_to-2.result
-    c.lanes_equal_to-slashes.ensures
-    c.lanes_equal_to.ensures c.lanes_equal_to-2.ensures c.if-found-eq0.false
+returns-clause-slash c = grind (arith, slash_is_at_first_slash_dot_lane)

@@ -1,11 +1,9 @@
-use Rattle.std.proofs.Common.{◌≡◌, ℕ, ◌+◌, ◌-◌, ◌*◌, ◌<◌, ◌≤◌, List, [], ◌∷◌, ◌++◌, length, get_or, drop, sym, ap, ◌∙◌, subst, arith}
+use Rattle.std.proofs.Common.{◌≡◌, ℕ, ◌+◌, ◌-◌, ◌*◌, ◌<◌, ◌≤◌, List, [], ◌∷◌, ◌++◌, length, get_or, drop, sym, ap, ◌∙◌, subst, arith, IsUtf8, eqb-true}
 use Rattle.std.specs.Char.{encode_utf8}
-use Rattle.std.specs.Str.{IsUtf8}
-use Rattle.std.proofs.lemmas.Bool.{eqb-true}
 use Rattle.std.proofs.Math.Utf8.{low_scalar}
 use Rattle.std.proofs.lemmas.Bool.Decides.{nat_tests}
 use Rattle.std.proofs.lemmas.List.{drop_more, drop_all}
-use Rattle.std.proofs.lemmas.Str.{IsUtf8-append, IsUtf8-encode, IsUtf8-nil}
+use Rattle.std.proofs.lemmas.Str.{IsUtf8-append, IsUtf8-encode}
 use Rattle.uri_pct.proofs.utf8_runs.are_chars_of_two_bytes.Goals as goal
 
 -- UTF-8: a byte of C2 to DF and one of 80 to BF are a character
@@ -24,10 +22,7 @@ pair-is-utf8 b d low high from below =
 -- general fact on lists, for a run: what begins at an index is two bytes and the rest
 suffix-is-pair-and-rest : (run : List ℕ) (i : ℕ) → i + 1 < length run
     → drop i run ≡ (get_or run i 0 ∷ get_or run (i + 1) 0 ∷ []) ++ drop (i + 2) run
-suffix-is-pair-and-rest run i within =
-    drop_more run i 0 (omega arith)
-    ∙ ap (λ rest. get_or run i 0 ∷ rest) (drop_more run (i + 1) 0 within)
-    ∙ ap (λ k. get_or run i 0 ∷ get_or run (i + 1) 0 ∷ drop k run) (omega arith)
+suffix-is-pair-and-rest run i within = grind (arith, nat_tests, drop_more)
 
 -- UTF-8: what begins at an index is UTF-8 if a pair is there and UTF-8 follows it
 suffix-is-utf8 : (run : List ℕ) (i : ℕ) → i + 1 < length run
@@ -43,18 +38,7 @@ pub loop-end-init : goal.loop-end-init
 loop-end-init c = record { within = omega arith; utf8 = λ u. u }
 
 pub loop-end-preserved : goal.loop-end-preserved
-loop-end-preserved c =
-    let holds = c.loop-end.invariant in
-    let run = c.args.run.now in
-    let i = c.loop-end.end in
-    let first : (0xC2 ≤ get_or run i 0) × (get_or run i 0 ≤ 0xDF) = grind arith in
-    record {
-      within = omega arith;
-      utf8 = λ u. holds.utf8 (suffix-is-utf8 run i (omega arith) first.0 first.1
-          (c.requires (i + 1) 0 (omega arith)) c.if-run-end-ge192.false u);
-    }
+loop-end-preserved c = grind (arith, nat_tests, suffix-is-utf8)
 
 pub returns : goal.returns
-returns c = λ whole. c.loop-end.invariant.utf8
-    (subst IsUtf8
-    (sym (drop_all c.loop-end.end c.args.run.now (omega (arith, eqb-true _ _ whole)))) IsUtf8-nil)
+returns c = grind (arith, drop_all)

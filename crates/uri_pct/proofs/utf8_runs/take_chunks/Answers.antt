@@ -1,4 +1,4 @@
-use Rattle.std.proofs.Common.{◌≡◌, ◌++◌, [], map, refl, sym, ap, ◌∙◌, subst}
+use Rattle.std.proofs.Common.{◌≡◌, ◌++◌, [], map, refl, sym, subst, arith}
 use Rattle.std.specs.Str.Chunks.{utf8_chunks_rest, utf8_chunk_valid, utf8_chunk_invalid}
 use Rattle.std.proofs.lemmas.List.{map-append, nil_from_length}
 use Rattle.uri_pct.specs.Parts.{Decoded, ill_formed_piece_if_any}
@@ -27,9 +27,7 @@ loop-chunk-preserved g c =
     ++ map Decoded (utf8_pieces suffix)
     ≡ map Decoded (utf8_pieces (utf8_chunks_rest c.loop-chunk.chunk-iterator)) =
     rw (c.valid.ensures, c.invalid.ensures)
-    (sym (map-append Decoded (utf8_pieces text ++ ill_formed_piece_if_any fault)
-    (utf8_pieces suffix))
-    ∙ ap (map Decoded) (sym pieces)) in
+    (grind (arith, map-append)) in
     record {
       past_ascii = suffix_of_past_ascii_is_past_ascii fault suffix _ refl
           (suffix_of_past_ascii_is_past_ascii text (fault ++ suffix) _ steps.0
@@ -43,9 +41,7 @@ loop-chunk-preserved g c =
 pub returns : goal.returns
 returns g c =
     let none : utf8_pieces (utf8_chunks_rest c.loop-chunk.chunk-iterator) ≡ [] =
-    ap utf8_pieces (nil_from_length (utf8_chunks_rest c.loop-chunk.chunk-iterator)
-    c.in-None.ensures.steps.0)
-    ∙ no_bytes_have_no_pieces in
+    grind (arith, nil_from_length, no_bytes_have_no_pieces) in
     c.loop-chunk.invariant.taken c.loop-chunk.taker
     (subst (λ ps. g.T.TakeParts.took c.loop-chunk.taker (map Decoded ps) c.loop-chunk.taker)
     (sym none) (g.met.T.TakeParts.takes_no_parts c.loop-chunk.taker))

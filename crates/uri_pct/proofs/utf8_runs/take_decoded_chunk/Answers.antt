@@ -1,4 +1,4 @@
-use Rattle.std.proofs.Common.{◌∷◌, [], map, sym, subst}
+use Rattle.std.proofs.Common.{◌∷◌, [], map, sym, subst, arith}
 use Rattle.std.proofs.lemmas.Result.{on_ok_weaker}
 use Rattle.uri_pct.specs.Decodes.{chunk_of}
 use Rattle.uri_pct.specs.Models.Windows.{window_bytes}
@@ -26,8 +26,4 @@ returns-in_ok-take_window-in-Unencoded g c = on_ok_weaker c.take_unencoded.resul
     window_bytes.taken rest)) c.take_unencoded.ensures
 
 pub returns-in-PctDecoded : goal.returns-in-PctDecoded
-returns-in-PctDecoded g c = on_ok_weaker c.take_octet.result
-    (λ octet u suffix h.
-    subst (λ chunk. g.T.TakeParts.took c.args.taker.now
-    (parts_from (window_bytes c.args.window.now) (chunk_of chunk ∷ suffix)) u)
-    (sym c.in-PctDecoded.is) (octet u suffix h)) c.take_octet.ensures
+returns-in-PctDecoded g c = grind (arith, on_ok_weaker)

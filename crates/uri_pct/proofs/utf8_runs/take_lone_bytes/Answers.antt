@@ -1,6 +1,5 @@
-use Rattle.std.proofs.Common.{◌≡◌, ℕ, ◌-◌, ◌<◌, ◌≤◌, List, [], ◌∷◌, ◌++◌, length, get_or, take, drop, map, sym, ap, ◌∙◌, subst, arith, inr}
+use Rattle.std.proofs.Common.{◌≡◌, ℕ, ◌-◌, ◌<◌, ◌≤◌, List, [], ◌∷◌, ◌++◌, length, get_or, take, drop, map, sym, ap, ◌∙◌, subst, arith, inr, length-drop, take_all}
 use Rattle.std.proofs.lemmas.Bool.Decides.{nat_tests}
-use Rattle.std.proofs.lemmas.List.{length-drop, take_all}
 use Rattle.std.proofs.lemmas.List.Elements.{All-same, All-drop}
 use Rattle.uri_pct.specs.Parts.{ArePastAscii, Decoded}
 use Rattle.uri_pct.specs.Pieces.{IllFormed, following_ranges, first_piece, pieces_from, utf8_pieces}
@@ -33,9 +32,7 @@ first-byte-is-ill-formed (b ∷ d ∷ rest) past long high =
 
 -- general fact on lists, for a run: a slice from the second byte on is what is dropped to
 slice-after-first-is-drop : (bytes : List ℕ) → take (length bytes - 1) (drop 1 bytes) ≡ drop 1 bytes
-slice-after-first-is-drop bytes =
-    let long : length (drop 1 bytes) ≡ length bytes - 1 = length-drop 1 bytes in
-    take_all (length bytes - 1) (drop 1 bytes) (omega arith)
+slice-after-first-is-drop bytes = grind (arith, length-drop, take_all)
 
 -- decoding: the parts of a run whose first byte is ill-formed by itself are that byte and the rest
 parts-after-ill-formed-byte : (bytes : List ℕ) → ArePastAscii bytes → 1 < length bytes
@@ -43,9 +40,7 @@ parts-after-ill-formed-byte : (bytes : List ℕ) → ArePastAscii bytes → 1 < 
     ++ map Decoded (utf8_pieces (take (length bytes - 1) (drop 1 bytes)))
     ≡ map Decoded (utf8_pieces bytes)
 parts-after-ill-formed-byte bytes past long high =
-    ap (λ rest. Decoded (IllFormed (take 1 bytes)) ∷ map Decoded (utf8_pieces rest))
-    (slice-after-first-is-drop bytes)
-    ∙ sym (ap (map Decoded) (first-byte-is-ill-formed bytes past long high))
+    grind (arith, nat_tests, slice-after-first-is-drop, first-byte-is-ill-formed)
 
 -- decoding: the parts of a run of one byte are that byte, ill-formed by itself
 parts-of-lone-byte : (bytes : List ℕ) → ArePastAscii bytes → length bytes ≡ 1

@@ -5,8 +5,8 @@ use Rattle.std.specs.Io.Buffered.{reader_remaining}
 use Rattle.std.specs.Io.KnownBytes.{Consumes, Keeps}
 use Rattle.uri_streams.proofs.lines.read_line.Given as goal
 
-abbrev pub invariant-loop : goal.invariant-loop
-invariant-loop g l = (done : List ℕ) × (l.line.items ≡ take l.limit done)
+abbrev pub invariant-loop-reads : goal.invariant-loop-reads
+invariant-loop-reads g l = (done : List ℕ) × (l.line.items ≡ take l.limit done)
     × All (λ x. x ≢ l.end) done
     × Consumes (reader_remaining g.R.Read.remaining l.initial.reader.reader) (reader_remaining
     g.R.Read.remaining l.reader.reader) done
@@ -15,3 +15,6 @@ invariant-loop g l = (done : List ℕ) × (l.line.items ≡ take l.limit done)
     × (l.is_return ≡ ends_with_byte 13 done)
     × (l.reader.has_failed ≡ l.initial.reader.has_failed)
     × (l.writer.has_failed ≡ l.initial.writer.has_failed)
+
+abbrev pub decreases-loop-reads : goal.decreases-loop-reads
+decreases-loop-reads g l = 2 ^ 64 - 1 - l.reads

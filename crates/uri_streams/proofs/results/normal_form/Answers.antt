@@ -2,16 +2,12 @@ use Rattle.std.proofs.Common.{◌≡◌, ℕ, List, [], ap, false, refl, subst, 
 use Rattle.fluent_uri.specs.References.{reference_text}
 use Rattle.uri_commands.proofs.NormalForms.{normal_form_is}
 use Rattle.uri_commands.specs.Kinds.{normal_form_of}
-use Rattle.uri_ops.proofs.TextKinds.FourKinds.{one-of-four-kinds-has-sets}
 use Rattle.uri_ops.specs.Normalizers.{HasNormalText}
 use Rattle.uri_parts.specs.SchemePorts.{default_port}
 use Rattle.uri_streams.proofs.TextResults.{parsed_result-of-error, parsed_result-of-kind, unchanged-is-normal_form}
 use Rattle.uri_streams.specs.Results.{LineResult, Text, normalize_result}
 use Rattle.uri_streams.specs.Returned.{result_in}
 use Rattle.uri_streams.proofs.results.normal_form.Goals as goal
-
-pub is_unchanged-requires : goal.is_unchanged-requires
-is_unchanged-requires g c = one-of-four-kinds-has-sets g.K.Kind.kind g.met.K.Kind.known
 
 pub returns-in-Err-clause-result : goal.returns-in-Err-clause-result
 unfolding normalize_result
@@ -21,16 +17,16 @@ returns-in-Err-clause-result g c =
     (Text (normal_form_of c.args.scheme_rules g.K.Kind.kind c.args.text.now)) c.in-Err.error
     c.in-Err.ensures.accepts c.in-Err.ensures.refused
 
-pub returns-then-is_unchanged-clause-result : goal.returns-then-is_unchanged-clause-result
+pub returns-then-is_found_normal-clause-result : goal.returns-then-is_found_normal-clause-result
 unfolding normalize_result
-returns-then-is_unchanged-clause-result g c =
+returns-then-is_found_normal-clause-result g c =
     let kind = g.K.Kind.kind in
     let text = c.args.text.now in
     let form : List ℕ → LineResult = λ t. Text (normal_form_of c.args.scheme_rules kind t) in
     let off : c.args.scheme_rules ≡ false = cc c.if-not-scheme_rules.true in
     let own : HasNormalText kind default_port text text =
     subst (λ t. HasNormalText kind default_port t t) (c.core.ensures.text ∙ c.in-Ok.ensures.text)
-    (c.if-is_unchanged.ensures.text refl default_port) in
+    (c.if-is_found_normal.ensures.text refl) in
     ap Text (unchanged-is-normal_form kind text own
     ∙ ap (λ b. normal_form_of b kind text) (sym off))
     ∙ parsed_result-of-kind [] kind text (form text) c.in-Ok.ensures.accepts

@@ -1,5 +1,5 @@
 -- What was written is the output so far, and nothing has failed.
-use Rattle.std.proofs.Common.{◌≡◌}
+use Rattle.std.proofs.Common.{◌≡◌, ◌-◌, ◌^◌}
 use Rattle.std.specs.Io.Buffered.{reader_remaining}
 use Rattle.uri_streams.specs.Models.{HasWrittenSoFar}
 use Rattle.uri_streams.specs.Runs.{error_output_of}
@@ -15,3 +15,6 @@ invariant-loop-number g l =
     (g.V.Watch.seen l.initial.watch) (g.V.Watch.seen l.watch) l.tally
     × (l.reader.has_failed ≡ l.initial.reader.has_failed)
     × (l.writer.has_failed ≡ l.initial.writer.has_failed)
+
+abbrev pub decreases-loop-number : goal.decreases-loop-number
+decreases-loop-number g l = 2 ^ 64 - 1 - l.number

@@ -1,9 +1,7 @@
-use Rattle.std.proofs.Common.{◌≡◌, ℕ, List, ap, ◌∙◌}
+use Rattle.std.proofs.Common.{ap, ◌∙◌}
 use Rattle.std.specs.List.{fold}
-use Rattle.fluent_uri.specs.References.{reference_text}
 use Rattle.uri_ops.specs.Normal.{normal_text}
 use Rattle.uri_order.specs.HashedTexts.{hashed_text}
-use Rattle.uri_order.specs.NormalForms.{normal_form}
 use Rattle.uri_order.specs.Ports.{ports_of}
 use Rattle.uri_order.proofs.Equivalences.{forms_under_ports_alone}
 use Rattle.uri_order.proofs.normal_order.NormalOrder.hash.Goals as goal

@@ -1,7 +1,4 @@
-use Rattle.std.proofs.Common.{◌≡◌, ◌∙◌, length, not, eqb, ap, arith, ⊎_elim}
-use Rattle.std.specs.Prelude.{is_some}
-use Rattle.std.specs.Str.{IsUtf8}
-use Rattle.std.proofs.lemmas.Bool.{eq-eqb, ne_eqb}
+use Rattle.std.proofs.Common.{◌≡◌, ◌∙◌, length, not, eqb, ap, arith, ⊎_elim, is_some, IsUtf8, eq-eqb, ne_eqb}
 use Rattle.uri_parts.proofs.Authorities.AuthorityPlaces.{port_is_after_host}
 use Rattle.uri_parts.specs.Positions.{host_end_of}
 use Rattle.uri_parts.proofs.component.Authority.has_port.Goals as goal

@@ -1,26 +1,19 @@
-use Rattle.std.proofs.Common.{◌≡◌, ◌∙◌, ap, sym, true, false, Some, None, drop}
-use Rattle.std.specs.Prelude.{codes}
+use Rattle.std.proofs.Common.{◌≡◌, ◌∙◌, ap, sym, true, false, Some, None, drop, arith, codes}
 use Rattle.uri_parts.specs.Addresses.{ipv4_octets, ipv6_segments}
 use Rattle.uri_parts.specs.Components.{starts, before_any}
-use Rattle.uri_parts.specs.Hosts.{host_kind, ipv4_value}
+use Rattle.uri_parts.specs.Hosts.{host_kind}
 use Rattle.uri_parts.proofs.Authorities.AuthorityPlaces.{holds, reg_name_host_is_valid, kind_of_unbracketed_host, kind_of_bracketed_host}
 use Rattle.uri_parts.proofs.component.Authority.host_parsed.Goals as goal
 
 pub new_or_panic-requires : goal.new_or_panic-requires
-new_or_panic-requires g c =
-    let host = c.host-host.result.now in
-    let s : starts 91 host ≡ false = sym c.in-None.ensures.begins in
-    let v : ipv4_value host ≡ None = sym c.in-None-parse-2.ensures in
-    let w = (holds g.U.Encoder.set g.R.Encoder.set c.args.self.text.now c.args.self.valid).host in
-    reg_name_host_is_valid g.R.Encoder.set host (rw c.host-host.ensures w) s v
+new_or_panic-requires g c = grind (arith, holds, reg_name_host_is_valid)
 
 pub returns-in-Some-parse-clause-kind : goal.returns-in-Some-parse-clause-kind
 returns-in-Some-parse-clause-kind g c =
     let host = c.host-host.result.now in
     let s : starts 91 host ≡ true = sym c.in-Some.ensures.begins in
     let a : c.cut_before.result.0.now ≡ before_any (codes "]") (drop 1 host) =
-    c.cut_before.ensures.before
-    ∙ ap (before_any (codes "]")) c.in-Some.ensures.rest in
+    grind arith in
     kind_of_bracketed_host host c.cut_before.result.0.now
     (Some (ipv6_segments c.in-Some-parse.address)) s
     a c.in-Some-parse.ensures
@@ -31,8 +24,7 @@ returns-in-None-parse-clause-kind g c =
     let host = c.host-host.result.now in
     let s : starts 91 host ≡ true = sym c.in-Some.ensures.begins in
     let a : c.cut_before.result.0.now ≡ before_any (codes "]") (drop 1 host) =
-    c.cut_before.ensures.before
-    ∙ ap (before_any (codes "]")) c.in-Some.ensures.rest in
+    grind arith in
     kind_of_bracketed_host host c.cut_before.result.0.now None s a c.in-None-parse.ensures
     ∙ ap host_kind c.host-host.ensures
 

@@ -1,12 +1,11 @@
-use Rattle.std.proofs.Common.{◌≡◌, ◌≢◌, ◌<◌, ◌≤◌, ◌∙◌, ◌||◌, ◌⊎◌, Bool, ℕ, List, false, true, length, ap, arith, drop, get_or, refl, subst, sym, inl, inr, ⊎_elim}
-use Rattle.std.specs.Prelude.{Ok}
-use Rattle.std.proofs.lemmas.Bool.{and_right, cond-false, lt-ltb, ne_eqb, not-true, or_parts}
+use Rattle.std.proofs.Common.{◌≡◌, ◌≢◌, ◌<◌, ◌≤◌, ◌∙◌, ◌||◌, ◌⊎◌, Bool, ℕ, List, false, true, length, arith, drop, get_or, sym, ⊎_elim, Ok}
+use Rattle.std.proofs.lemmas.Bool.{not-true}
 use Rattle.std.proofs.lemmas.Bool.Decides.{nat_tests}
 use Rattle.uri_pct.specs.Models.Scans.{may_begin_octet_or_past_ascii}
 use Rattle.uri_pct.specs.Sets.{LacksPercent, TableSet, is_path_char, is_segment_nz_nc_char, is_userinfo_char}
 use Rattle.uri_pct.proofs.ValidTexts.PrefixSteps.{valid_prefix_stops_where_none_may_begin}
 use Rattle.uri_parts.specs.Grammar.{Kind, first_segment_set, kind_by_flags}
-use Rattle.uri_parts.specs.Scanning.{scan, scan_end}
+use Rattle.uri_parts.specs.Scanning.{scan}
 use Rattle.uri_parts.specs.Components.{is_end}
 use Rattle.uri_parts.proofs.Parsing.NextBytes.{starts_at_position, text_ends_where_position_is_length}
 use Rattle.uri_parts.proofs.cursor.Cursor.is_before_excluded.Goals as goal
@@ -40,28 +39,13 @@ for_both P iris uris true = iris
 for_both P iris uris false = uris
 
 userinfo_excludes : ExcludesBytes (λ k. k.userinfo)
-userinfo_excludes = record {
-  lacks = λ u n. for_both (λ u. LacksPercent (kind_by_flags u n).userinfo) refl refl u;
-  ascii = λ u n b out. for_both (λ u. (kind_by_flags u n).userinfo.ascii b ≡ false)
-      (is_no_userinfo_char b out) (is_no_userinfo_char b out) u;
-  uris = λ n. refl;
-}
+userinfo_excludes = grind (arith, for_both, is_no_userinfo_char)
 
 path_excludes : ExcludesBytes (λ k. k.path)
-path_excludes = record {
-  lacks = λ u n. for_both (λ u. LacksPercent (kind_by_flags u n).path) refl refl u;
-  ascii = λ u n b out. for_both (λ u. (kind_by_flags u n).path.ascii b ≡ false)
-      (is_no_path_char b out) (is_no_path_char b out) u;
-  uris = λ n. refl;
-}
+path_excludes = grind (arith, for_both, is_no_path_char)
 
 segment_excludes : ExcludesBytes first_segment_set
-segment_excludes = record {
-  lacks = λ u n. for_both (λ u. LacksPercent (first_segment_set (kind_by_flags u n))) refl refl u;
-  ascii = λ u n b out. for_both (λ u. (first_segment_set (kind_by_flags u n)).ascii b ≡ false)
-      (is_no_segment_char b out) (is_no_segment_char b out) u;
-  uris = λ n. refl;
-}
+segment_excludes = grind (arith, for_both, is_no_segment_char)
 
 -- a scan that may not go on where it begins passes nothing
 scan_stops : (set : TableSet) → LacksPercent set → (text : List ℕ) (i : ℕ) → i < length text
@@ -69,26 +53,17 @@ scan_stops : (set : TableSet) → LacksPercent set → (text : List ℕ) (i : �
     → may_begin_octet_or_past_ascii set (get_or text i 0) ≡ false → get_or text i 0 ≢ 37
     → scan text set i ≡ Ok i
 scan_stops set lacks text i inside refused none other =
-    let same : scan_end text set i ≡ i = omega (
-      arith,
-      valid_prefix_stops_where_none_may_begin set lacks text i inside refused none,
-    ) in
-    rw same (cond-false _ _ _ (and_right _ _ (starts_at_position 37 i text
-    ∙ and_right _ _ (ne_eqb _ _ other))))
+    grind (arith, valid_prefix_stops_where_none_may_begin, starts_at_position)
 
 -- the index of a byte of a text
 inside_text : (bytes text : List ℕ) (i : ℕ) → bytes ≡ text → i ≤ length text
     → (i ≡ length bytes → ⊥) → i < length text
-inside_text bytes text i same within other =
-    let apart : i ≢ length text = λ e. other (e ∙ sym (ap length same)) in
-    omega (arith, within, apart)
+inside_text bytes text i same within other = grind arith
 
 -- something is left of a text before its end
 is_not_at_end : (bytes text : List ℕ) (i : ℕ) → bytes ≡ text → i ≤ length text
     → (i ≡ length bytes → ⊥) → is_end (drop i text) ≡ false
-is_not_at_end bytes text i same within other =
-    text_ends_where_position_is_length i text within
-    ∙ ne_eqb i (length text) (λ e. other (e ∙ sym (ap length same)))
+is_not_at_end bytes text i same within other = grind (arith, text_ends_where_position_is_length)
 
 module _ (set_in : Kind → TableSet) (excludes : ExcludesBytes set_in) (kind : Kind)
     (known : kind ≡ kind_by_flags kind.path.ucschar kind.needs_scheme) (bytes text : List ℕ) (i : ℕ)
@@ -96,32 +71,14 @@ module _ (set_in : Kind → TableSet) (excludes : ExcludesBytes set_in) (kind : 
   -- a control character or a space is next
   stops_at_control : get_or bytes i 0 ≤ 32 → scan text (set_in kind) i ≡ Ok i
   unfolding may_begin_octet_or_past_ascii
-  stops_at_control low =
-      let u = kind.path.ucschar in
-      let n = kind.needs_scheme in
-      let at : get_or text i 0 ≤ 32 = rw (← same) low in
-      let other : get_or text i 0 ≢ 37 = λ e. omega arith in
-      subst (λ k. scan text (set_in k) i ≡ Ok i) (sym known)
-      (scan_stops (set_in (kind_by_flags u n)) (excludes.lacks u n) text i
-      (inside_text bytes text i same within some) (excludes.ascii u n _ (inl at))
-      (rw (ne_eqb (get_or text i 0) 37 other, lt-ltb (get_or text i 0) 128 (omega (arith, at))) refl)
-      other)
+  stops_at_control low = grind (arith, scan_stops, inside_text)
 
   -- a character past ASCII is next in a URI, by its tables
   stops_past_ascii : (tables : Kind) → tables ≡ kind
       → (tables.path.ucschar || tables.path.iprivate) ≡ false → 128 ≤ get_or bytes i 0
       → scan text (set_in kind) i ≡ Ok i
   unfolding may_begin_octet_or_past_ascii
-  stops_past_ascii tables of_kind none high =
-      let n = kind.needs_scheme in
-      let at : 128 ≤ get_or text i 0 = rw (← same) high in
-      let other : get_or text i 0 ≢ 37 = λ e. omega arith in
-      let ascii : kind ≡ kind_by_flags false n = known ∙ ap (λ u. kind_by_flags u n)
-      (ap (λ k. k.path.ucschar) (sym of_kind) ∙ (or_parts _ _ none).0) in
-      subst (λ k. scan text (set_in k) i ≡ Ok i) (sym ascii)
-      (scan_stops (set_in (kind_by_flags false n)) (excludes.lacks false n) text i
-      (inside_text bytes text i same within some) (excludes.ascii false n _ (inr at))
-      (cond-false _ _ _ (ne_eqb (get_or text i 0) 37 other) ∙ and_right _ _ (excludes.uris n)) other)
+  stops_past_ascii tables of_kind none high = grind (arith, scan_stops, inside_text)
 
 pub returns-then-byte-le32-clause-userinfo : goal.returns-then-byte-le32-clause-userinfo
 returns-then-byte-le32-clause-userinfo g c t =
@@ -160,6 +117,4 @@ returns-then-byte-ge128-clause-segment g c t =
     c.tables.ensures.kind (sym c.allows_some_past_ascii.ensures ∙ not-true _ t) c.if-byte-ge128.true
 
 pub returns-then-byte-ge128-clause-some : goal.returns-then-byte-ge128-clause-some
-returns-then-byte-ge128-clause-some g c t =
-    is_not_at_end _ _ _ c.as_bytes-bytes.ensures.value c.args.self.now.boundary.0
-    c.if-i-bytes.false
+returns-then-byte-ge128-clause-some g c t = grind (arith, is_not_at_end)

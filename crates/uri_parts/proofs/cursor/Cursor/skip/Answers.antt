@@ -1,5 +1,4 @@
-use Rattle.std.proofs.Common.{arith, ◌+◌, subst}
-use Rattle.std.specs.Str.{IsCharBoundary}
+use Rattle.std.proofs.Common.{arith}
 use Rattle.std.proofs.lemmas.Str.{IsCharBoundary-after_ascii}
 use Rattle.uri_parts.proofs.cursor.Cursor.skip.Goals as goal
 
@@ -7,7 +6,4 @@ pub invariant_of-self : goal.invariant_of-self
 invariant_of-self c =
     let b = IsCharBoundary-after_ascii c.as_bytes-bytes.result.now c.args.self.now.position
     c.as_bytes-bytes.ensures.utf8 (omega arith) (omega (arith, c.requires)) in
-    record {
-      boundary = subst (λ t. IsCharBoundary t (c.args.self.now.position + 1))
-          c.as_bytes-bytes.ensures.value b;
-    }
+    grind arith

@@ -1,5 +1,4 @@
-use Rattle.std.proofs.Common.{arith, ◌+◌, ◌≡◌, subst}
-use Rattle.std.specs.Str.{IsCharBoundary}
+use Rattle.std.proofs.Common.{arith, ◌+◌, ◌≡◌}
 use Rattle.std.proofs.lemmas.Str.{IsCharBoundary-after_ascii}
 use Rattle.uri_parts.proofs.cursor.Cursor.skip_slashes.Goals as goal
 
@@ -9,7 +8,4 @@ invariant_of-self c =
     let b = IsCharBoundary-after_ascii c.as_bytes-bytes.result.now (i + 1)
     c.as_bytes-bytes.ensures.utf8 (omega arith) (omega arith) in
     let e : i + 1 + 1 ≡ i + 2 = omega arith in
-    record {
-      boundary = subst (λ t. IsCharBoundary t (i + 2)) c.as_bytes-bytes.ensures.value
-          (rw e at b);
-    }
+    grind arith

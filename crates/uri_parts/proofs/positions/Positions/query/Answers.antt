@@ -1,4 +1,4 @@
-use Rattle.std.proofs.Common.{ap, ◌∙◌, Some}
+use Rattle.std.proofs.Common.{arith}
 use Rattle.uri_parts.proofs.Splitting.ComponentPositions.{query_is_at_positions}
 use Rattle.uri_parts.proofs.positions.Positions.query.Goals as goal
 
@@ -14,7 +14,4 @@ range-requires-clause-end_boundary c =
     c.in_ok-end.was).ends
 
 pub returns : goal.returns
-returns c =
-    ap Some c.range.ensures.value
-    ∙ (query_is_at_positions c.args.text.now c.args.self.now c.utf8.text c.requires c.in_ok-end.end
-    c.in_ok-end.was).holds
+returns c = grind (arith, query_is_at_positions)

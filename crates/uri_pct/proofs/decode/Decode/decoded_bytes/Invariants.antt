@@ -1,5 +1,4 @@
-use Rattle.std.proofs.Common.{◌≡◌, ◌++◌}
-use Rattle.std.specs.List.{flat_map}
+use Rattle.std.proofs.Common.{◌≡◌, ◌++◌, flat_map}
 use Rattle.uri_pct.specs.Chunks.{chunk_bytes}
 use Rattle.uri_pct.specs.Decodes.{chunks_left, decoded}
 use Rattle.uri_pct.proofs.decode.Decode.decoded_bytes.Given as goal

@@ -1,14 +1,9 @@
-use Rattle.std.proofs.Common.{sym, ◌∙◌, subst}
-use Rattle.std.specs.Str.{IsUtf8}
+use Rattle.std.proofs.Common.{sym, ◌∙◌, arith}
 use Rattle.uri_pct.proofs.Unicode.PartPieces.{bytes_left-is-decoded, unencoded_text_decodes_to_itself}
 use Rattle.uri_pct.proofs.decode.Decode.to_bytes.Goals as goal
 
 pub returns-then-is_unencoded-clause-bytes : goal.returns-then-is_unencoded-clause-bytes
-returns-then-is_unencoded-clause-bytes c =
-    c.as_bytes.ensures.value
-    ∙ sym (unencoded_text_decodes_to_itself c.args.self.rest.now
-    (subst IsUtf8 c.as_bytes.ensures.value c.as_bytes.ensures.utf8)
-    (sym c.is_unencoded.ensures ∙ c.if-is_unencoded.true))
+returns-then-is_unencoded-clause-bytes c = grind (arith, unencoded_text_decodes_to_itself)
 
 pub returns-then-is_unencoded-clause-left : goal.returns-then-is_unencoded-clause-left
 returns-then-is_unencoded-clause-left c = returns-then-is_unencoded-clause-bytes c

@@ -1,22 +1,13 @@
-use Rattle.std.proofs.Common.{rules, ℕ, Vec, Global, sym, ap, ◌∙◌, subst}
-use Rattle.std.specs.Str.{IsUtf8}
+use Rattle.std.proofs.Common.{rules, ℕ, Vec, Global, sym, ap, ◌∙◌, subst, arith, IsUtf8}
 use Rattle.std.proofs.lemmas.Str.{IsUtf8-string_bytes}
 use Rattle.uri_pct.proofs.Unicode.PartPieces.{unencoded_text_decodes_to_itself, bytes_left-is-decoded}
 use Rattle.uri_pct.proofs.decode.Decode.to_string.Goals as goal
 
 pub returns-then-is_unencoded-clause-text : goal.returns-then-is_unencoded-clause-text
-returns-then-is_unencoded-clause-text c =
-    c.as_str.ensures
-    ∙ sym (unencoded_text_decodes_to_itself c.args.self.rest.now
-    (subst IsUtf8 c.as_str.ensures c.as_str.utf8)
-    (sym c.is_unencoded.ensures ∙ c.if-is_unencoded.true))
+returns-then-is_unencoded-clause-text c = grind (arith, unencoded_text_decodes_to_itself)
 
 pub returns-then-is_unencoded-clause-utf8 : goal.returns-then-is_unencoded-clause-utf8
-returns-then-is_unencoded-clause-utf8 c = λ _.
-    subst IsUtf8 (c.as_str.ensures
-    ∙ sym (unencoded_text_decodes_to_itself c.args.self.rest.now
-    (subst IsUtf8 c.as_str.ensures c.as_str.utf8)
-    (sym c.is_unencoded.ensures ∙ c.if-is_unencoded.true))) c.as_str.utf8
+returns-then-is_unencoded-clause-utf8 c = grind (arith, unencoded_text_decodes_to_itself)
 
 pub returns-then-is_unencoded-clause-left : goal.returns-then-is_unencoded-clause-left
 returns-then-is_unencoded-clause-left c = returns-then-is_unencoded-clause-text c

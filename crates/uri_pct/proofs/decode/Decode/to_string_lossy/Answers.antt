@@ -1,5 +1,4 @@
-use Rattle.std.proofs.Common.{sym, ap, ◌∙◌, subst}
-use Rattle.std.specs.Str.{IsUtf8}
+use Rattle.std.proofs.Common.{sym, ap, ◌∙◌, arith}
 use Rattle.uri_pct.specs.Pieces.{lossy_text}
 use Rattle.uri_pct.proofs.Unicode.Lossy.{lossy_text_of_utf8_is_itself}
 use Rattle.uri_pct.proofs.Unicode.PartPieces.{unencoded_text_decodes_to_itself, bytes_left-is-decoded}
@@ -8,11 +7,7 @@ use Rattle.uri_pct.proofs.decode.Decode.to_string_lossy.Goals as goal
 
 pub returns-then-is_unencoded-clause-text : goal.returns-then-is_unencoded-clause-text
 returns-then-is_unencoded-clause-text c =
-    sym (lossy_text_of_utf8_is_itself c.as_str.result.now c.as_str.utf8)
-    ∙ ap lossy_text (c.as_str.ensures
-    ∙ sym (unencoded_text_decodes_to_itself c.args.self.rest.now
-    (subst IsUtf8 c.as_str.ensures c.as_str.utf8)
-    (sym c.is_unencoded.ensures ∙ c.if-is_unencoded.true)))
+    grind (arith, lossy_text_of_utf8_is_itself, unencoded_text_decodes_to_itself)
 
 pub returns-clause-text : goal.returns-clause-text
 returns-clause-text c = parts_taken_give_lossy_text c.args.self.rest.now _ c.take_parts.new.taker

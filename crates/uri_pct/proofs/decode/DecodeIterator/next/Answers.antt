@@ -1,23 +1,14 @@
-use Rattle.std.proofs.Common.{◌≡◌, ◌∷◌, [], ◌+◌, ◌*◌, ℕ, List, eqb, length, get_or, drop, sym, ap, ◌∙◌, subst, arith, rules}
-use Rattle.std.specs.Char.{digit_value, is_ascii_hexdigit}
-use Rattle.std.specs.List.{position_or_len}
-use Rattle.std.specs.Str.{IsUtf8}
+use Rattle.std.proofs.Common.{◌≡◌, ◌∷◌, [], ◌+◌, ◌*◌, ℕ, List, eqb, length, get_or, drop, sym, ap, ◌∙◌, subst, arith, rules, IsUtf8, eqb-true}
+use Rattle.std.specs.Char.{digit_value}
 use Rattle.uri_pct.specs.Chunks.{Byte, Text, chunks, widest_set}
 use Rattle.uri_pct.specs.Tokens.{IsValidFor}
 use Rattle.uri_pct.proofs.Decodings.Decoding.{BeginsWithOctet, boundary_after_octet, bytes_from_percent_begin_with_octet, bytes_begin_with_text_up_to_percent, first_chunk_is_value_of_octet, empty_text_has_no_chunks}
 use Rattle.std.proofs.lemmas.List.{nil_from_length}
-use Rattle.std.proofs.lemmas.Bool.{eqb-true}
 use Rattle.uri_pct.proofs.decode.DecodeIterator.next.Goals as goal
 use Rattle.uri_pct.proofs.decode.DecodeIterator.next.Goals.{Then-bytes-eq37}
 
 pub returns-then-is_empty-clause-steps : goal.returns-then-is_empty-clause-steps
-returns-then-is_empty-clause-steps c =
-    let none : chunks c.args.self.now.rest.now ≡ [] =
-    ap chunks (sym c.as_bytes-bytes.ensures.value
-    ∙ nil_from_length c.as_bytes-bytes.result.now
-    (eqb-true _ 0 (sym c.is_empty.ensures ∙ c.if-is_empty.true)))
-    ∙ empty_text_has_no_chunks in
-    (none, none)
+returns-then-is_empty-clause-steps c = grind (arith, nil_from_length, empty_text_has_no_chunks)
 
 -- the text begins with the octet of its first `%`
 octet : (c : Then-bytes-eq37) → BeginsWithOctet c.args.self.now.rest.now
@@ -39,28 +30,22 @@ bounds-bytes-2 c =
 pub octet_value-value-requires-clause-high : goal.octet_value-value-requires-clause-high
 octet_value-value-requires-clause-high c =
     let o = octet (goal.at.octet_value-value-requires-clause-high c).Then-bytes-eq37 in
-    ap (λ (x : List ℕ). is_ascii_hexdigit (get_or x 1 0)) (c.as_bytes-bytes.ensures.value
-    ∙ o.joined)
-    ∙ o.high_digit
+    grind arith
 
 pub octet_value-value-requires-clause-low : goal.octet_value-value-requires-clause-low
 octet_value-value-requires-clause-low c =
     let o = octet (goal.at.octet_value-value-requires-clause-low c).Then-bytes-eq37 in
-    ap (λ (x : List ℕ). is_ascii_hexdigit (get_or x 2 0)) (c.as_bytes-bytes.ensures.value
-    ∙ o.joined)
-    ∙ o.low_digit
+    grind arith
 
 pub range_from-self-requires : goal.range_from-self-requires
 range_from-self-requires c =
     let o = octet (goal.at.range_from-self-requires c).Then-bytes-eq37 in
-    λ _. boundary_after_octet c.args.self.now.rest.now
-    (subst IsUtf8 c.as_bytes-bytes.ensures.value c.as_bytes-bytes.ensures.utf8) o
+    grind (arith, boundary_after_octet)
 
 pub invariant_of-self : goal.invariant_of-self
 invariant_of-self c =
     let o = octet (goal.at.invariant_of-self c).Then-bytes-eq37 in
-    let suffix : c.range_from-self.result.now ≡ o.suffix = c.range_from-self.ensures.value
-    ∙ ap (drop 3) o.joined in
+    let suffix : c.range_from-self.result.now ≡ o.suffix = grind arith in
     record { whole = subst (IsValidFor widest_set) (sym suffix) o.valid }
 
 octet_steps : (c : goal.After-self-1)
@@ -71,14 +56,10 @@ octet_steps c =
     c.as_bytes-bytes.ensures.value c.as_bytes-bytes.ensures.utf8 c.args.self.now.whole
     (sym c.is_empty.ensures ∙ c.if-is_empty.false) c.if-bytes-eq37.true in
     let joined = c.as_bytes-bytes.ensures.value ∙ o.joined in
-    let suffix : c.range_from-self.result.now ≡ o.suffix = c.range_from-self.ensures.value
-    ∙ ap (drop 3) o.joined in
+    let suffix : c.range_from-self.result.now ≡ o.suffix = grind arith in
     let value : c.octet_value-value.result ≡ 16 * digit_value o.high + digit_value o.low =
-    c.octet_value-value.ensures
-    ∙ ap (λ (x : List ℕ). 16 * digit_value (get_or x 1 0) + digit_value (get_or x 2 0)) joined in
-    first_chunk_is_value_of_octet c.args.self.now.rest.now o ∙ ap (λ v. Byte v ∷ chunks o.suffix)
-    (sym value)
-    ∙ ap (λ x. Byte c.octet_value-value.result ∷ chunks x) (sym suffix)
+    grind arith in
+    grind (arith, first_chunk_is_value_of_octet)
 
 pub returns-then-bytes-eq37-clause-steps : goal.returns-then-bytes-eq37-clause-steps
 returns-then-bytes-eq37-clause-steps c = octet_steps c
@@ -91,8 +72,7 @@ split_at-requires c =
     let t = bytes_begin_with_text_up_to_percent c.as_bytes-bytes.result.now c.args.self.now.rest.now
     c.unencoded_len.result c.as_bytes-bytes.ensures.value c.as_bytes-bytes.ensures.utf8
     c.args.self.now.whole (sym c.is_empty.ensures ∙ c.if-is_empty.false)
-    c.if-bytes-eq37.false (c.unencoded_len.ensures
-    ∙ ap (position_or_len (λ b. eqb b 37)) (sym c.as_bytes-bytes.ensures.value)) in
+    c.if-bytes-eq37.false (grind arith) in
     t.1
 
 pub invariant_of-self-2 : goal.invariant_of-self-2
@@ -100,23 +80,13 @@ invariant_of-self-2 c =
     let t = bytes_begin_with_text_up_to_percent c.as_bytes-bytes.result.now c.args.self.now.rest.now
     c.unencoded_len.result c.as_bytes-bytes.ensures.value c.as_bytes-bytes.ensures.utf8
     c.args.self.now.whole (sym c.is_empty.ensures ∙ c.if-is_empty.false)
-    c.if-bytes-eq37.false (c.unencoded_len.ensures
-    ∙ ap (position_or_len (λ b. eqb b 37)) (sym c.as_bytes-bytes.ensures.value)) in
+    c.if-bytes-eq37.false (grind arith) in
     record { whole = subst (IsValidFor widest_set) (sym c.split_at.ensures.back) t.0.valid }
 
 text_steps : (c : goal.After-text-2-1)
     → chunks c.args.self.now.rest.now
     ≡ Text c.split_at.result.0.now ∷ chunks c.split_at.result.1.now
-text_steps c =
-    let t = bytes_begin_with_text_up_to_percent c.as_bytes-bytes.result.now c.args.self.now.rest.now
-    c.unencoded_len.result c.as_bytes-bytes.ensures.value c.as_bytes-bytes.ensures.utf8
-    c.args.self.now.whole (sym c.is_empty.ensures ∙ c.if-is_empty.false)
-    c.if-bytes-eq37.false (c.unencoded_len.ensures
-    ∙ ap (position_or_len (λ b. eqb b 37)) (sym c.as_bytes-bytes.ensures.value)) in
-    t.0.first
-    ∙ ap (λ x. Text x ∷ chunks (drop c.unencoded_len.result c.args.self.now.rest.now))
-    (sym c.split_at.ensures.front)
-    ∙ ap (λ x. Text c.split_at.result.0.now ∷ chunks x) (sym c.split_at.ensures.back)
+text_steps c = grind (arith, bytes_begin_with_text_up_to_percent)
 
 pub returns-clause-steps : goal.returns-clause-steps
 returns-clause-steps c = text_steps c

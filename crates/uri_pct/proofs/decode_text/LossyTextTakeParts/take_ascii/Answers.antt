@@ -1,8 +1,6 @@
-use Rattle.std.proofs.Common.{[], ◌∷◌, ◌++◌, ap, ◌∙◌}
+use Rattle.std.proofs.Common.{[], ◌∷◌, ◌++◌, ap, ◌∙◌, encode_utf8, string_bytes}
 use Rattle.std.proofs.lemmas.Bool.{cond-true}
 use Rattle.std.proofs.lemmas.Str.{encode_ascii}
-use Rattle.std.specs.Char.{encode_utf8}
-use Rattle.std.specs.Prelude.{string_bytes}
 use Rattle.uri_pct.specs.Pieces.{utf8_pieces}
 use Rattle.uri_pct.proofs.Decodings.Taking.{OnOk-from-is_ok, appended_text_takes_lossy_text_of_parts}
 use Rattle.uri_pct.proofs.Unicode.AsciiOctets.{ascii_byte_is_utf8}

@@ -1,5 +1,4 @@
-use Rattle.std.proofs.Common.{string_bytes}
-use Rattle.std.specs.Char.{encode_utf8}
+use Rattle.std.proofs.Common.{string_bytes, encode_utf8}
 use Rattle.std.proofs.lemmas.Str.{IsUtf8-string_bytes}
 use Rattle.uri_pct.proofs.ValidTexts.Growing.{grows_by_char, valid_after_push}
 use Rattle.uri_pct.proofs.estring.EString.push.Goals as goal

@@ -1,4 +1,4 @@
-use Rattle.std.proofs.Common.{Some, None}
+use Rattle.std.proofs.Common.{Some, None, arith}
 use Rattle.uri_pct.proofs.ValidTexts.Delimiters.{rsplit_once_cuts_at_last}
 use Rattle.uri_pct.proofs.ValidTexts.TokenCuts.{reserved_is_never_in_octet, valid_before_mark, valid_after_mark}
 use Rattle.uri_pct.proofs.pct_enc.EStr.rsplit_once.Goals as goal
@@ -15,16 +15,14 @@ new_or_panic-requires g c =
     let mark = reserved_is_never_in_octet c.args.delimiter c.requires in
     let cut = rsplit_once_cuts_at_last c.args.delimiter c.as_str.result.now
     (Some (c.in_ok-before.before, c.in_ok-before.after)) c.in_ok-before.ensures.cases mark.ascii in
-    valid_before_mark g.E.Encoder.set c.as_str.result.now _ _ c.args.delimiter
-    c.as_str.ensures.valid cut.0 mark c.as_str.utf8
+    grind (arith, valid_before_mark)
 
 pub new_or_panic-requires-2 : goal.new_or_panic-requires-2
 new_or_panic-requires-2 g c =
     let mark = reserved_is_never_in_octet c.args.delimiter c.requires in
     let cut = rsplit_once_cuts_at_last c.args.delimiter c.as_str.result.now
     (Some (c.in_ok-before.before, c.in_ok-before.after)) c.in_ok-before.ensures.cases mark.ascii in
-    valid_after_mark g.E.Encoder.set c.as_str.result.now _ _ c.args.delimiter c.as_str.ensures.valid
-    cut.0 mark c.as_str.utf8
+    grind (arith, valid_after_mark)
 
 pub returns : goal.returns
 returns g c =

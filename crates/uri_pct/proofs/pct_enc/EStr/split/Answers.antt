@@ -1,8 +1,6 @@
-use Rattle.std.proofs.Common.{◌<◌, ◌^◌, eqb, length, ap, arith}
-use Rattle.std.specs.List.{slice_split}
+use Rattle.std.proofs.Common.{arith}
 use Rattle.std.proofs.lemmas.List.Splits.{join_with_byte-slice_split}
 use Rattle.std.proofs.lemmas.List.Sums.{AllPass-from_list_all}
-use Rattle.uri_pct.specs.EncodedTexts.{text_of}
 use Rattle.uri_pct.specs.Texts.{lacks}
 use Rattle.uri_pct.proofs.Decodings.Counts.{split_pieces_are_at_most_length_plus_one}
 use Rattle.uri_pct.proofs.ValidTexts.Delimiters.{substrings_lack_delimiter}
@@ -16,12 +14,4 @@ returns-clause-apart g c = AllPass-from_list_all (lacks c.args.delimiter) _
     (substrings_lack_delimiter c.args.delimiter _)
 
 pub returns-clause-fits : goal.returns-clause-fits
-returns-clause-fits g c =
-    let fits : length (slice_split (λ b. eqb b c.args.delimiter) (text_of c.args.self)) < 2 ^ 64 =
-    omega (
-      arith,
-      split_pieces_are_at_most_length_plus_one (λ b. eqb b c.args.delimiter) (text_of c.args.self),
-      ap length
-          c.as_str-text.ensures.text,
-    ) in
-    fits
+returns-clause-fits g c = grind (arith, split_pieces_are_at_most_length_plus_one)

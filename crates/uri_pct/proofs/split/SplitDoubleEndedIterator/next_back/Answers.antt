@@ -1,6 +1,5 @@
-use Rattle.std.proofs.Common.{◌≡◌, ◌∷◌, ◌++◌, [], eqb, length, rules, ap, ◌∙◌}
+use Rattle.std.proofs.Common.{◌≡◌, ◌∷◌, ◌++◌, [], eqb, length, rules, ap, ◌∙◌, length-append}
 use Rattle.std.specs.List.{slice_split}
-use Rattle.std.proofs.lemmas.List.{length-append}
 use Rattle.uri_pct.specs.EncodedTexts.{text_of, substrings_left}
 use Rattle.uri_pct.proofs.ValidTexts.Delimiters.{split_piece_after_last_delimiter_is_last, text_without_delimiter_is_one_piece}
 use Rattle.uri_pct.proofs.Decodings.Splits.{substrings_left_are_split_of_rest}

@@ -1,5 +1,4 @@
-use Rattle.std.proofs.Common.{◌≡◌, ◌∙◌, ◌||◌, take, get_or, eqb, sym, ap}
-use Rattle.std.proofs.lemmas.List.{take_all}
+use Rattle.std.proofs.Common.{◌≡◌, ◌∙◌, ◌||◌, take, get_or, eqb, sym, ap, arith, take_all}
 use Rattle.std.proofs.lemmas.List.Folds.{list_any_more}
 use Rattle.uri_pct.specs.Sets.{is_one_of}
 use Rattle.uri_pct.specs.Masks.{has_bit}
@@ -16,17 +15,14 @@ loop-byte-preserved c = λ code.
     let here = get_or c.args.bytes.now c.loop-byte.byte-index 0 in
     let step : has_bit c.if-byte-lt64.low c.if-byte-lt64.high code
     ≡ (has_bit c.loop-byte.low c.loop-byte.high code || eqb here code) =
-    elim c.if-byte-lt64.branch [
-      | then-byte-lt64 w ↦ (λ i. has_bit (w.low-is i) (w.high-is i) code)
-          ∙ has_bit_after_low_bit_is_set c.loop-byte.low c.loop-byte.high here code
-          w.if-byte-lt64.true
-      | else-byte-lt64 w ↦
-          (λ i. has_bit (w.low-is i) (w.high-is i) code)
-          ∙ has_bit_after_high_bit_is_set c.loop-byte.low c.loop-byte.high here code
-          w.if-byte-lt64.false
-          (unencoded_ascii_is_below_128_and_no_percent c.args.bytes.now c.requires
-          c.loop-byte.byte-index 0 c.loop-byte-test.true).0
-    ] in
+    grind (
+      arith,
+      then-byte-lt64,
+      has_bit_after_low_bit_is_set,
+      else-byte-lt64,
+      has_bit_after_high_bit_is_set,
+      unencoded_ascii_is_below_128_and_no_percent,
+    ) in
     step ∙ ap (λ b. b || eqb here code) (c.loop-byte.invariant code)
     ∙ sym (list_any_more (λ x. eqb x code) c.args.bytes.now c.loop-byte.byte-index 0
     c.loop-byte-test.true)

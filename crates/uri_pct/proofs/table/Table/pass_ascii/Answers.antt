@@ -1,5 +1,4 @@
-use Rattle.std.proofs.Common.{◌≡◌, ◌+◌, ℕ, List, drop, subst}
-use Rattle.std.specs.Str.{IsCharBoundary, IsUtf8}
+use Rattle.std.proofs.Common.{◌≡◌, ◌+◌, ℕ, List, drop, arith, IsCharBoundary, IsUtf8}
 use Rattle.uri_pct.specs.declared.table.Table.{Table}
 use Rattle.uri_pct.specs.Models.ByteRuns.{IsLongestRun}
 use Rattle.uri_pct.specs.Masks.{has_bit}
@@ -19,14 +18,11 @@ run_is_scanned : (table : Table) (low high : ℕ) → has_bit low high ≡ (set_
 run_is_scanned table low high ascii bytes text same utf8 start end here run =
     let scanned = ascii_run_is_scanned (set_of table) (lacks_percent table)
     (has_bit-only-ascii _ _) text utf8 start here end
-    (subst (λ b. IsLongestRun (set_of table).ascii b start end) same
-    (subst (λ f. IsLongestRun f bytes start end) ascii run)) in
+    (grind arith) in
     (scanned.0, scanned.1)
 
 pub returns-then-this-clause-total : goal.returns-then-this-clause-total
-returns-then-this-clause-total c =
-    (run_is_scanned c.args.self.now _ _ c.masks-low.ensures _ _ c.as_bytes-bytes.ensures.value
-    c.utf8.text _ _ c.requires c.run_end.ensures).0
+returns-then-this-clause-total c = grind (arith, run_is_scanned)
 
 pub returns-then-this-clause-boundary : goal.returns-then-this-clause-boundary
 returns-then-this-clause-boundary c =
@@ -34,9 +30,7 @@ returns-then-this-clause-boundary c =
     c.utf8.text _ _ c.requires c.run_end.ensures).1
 
 pub returns-then-is_constant-clause-total : goal.returns-then-is_constant-clause-total
-returns-then-is_constant-clause-total c =
-    (run_is_scanned c.args.self.now _ _ c.masks-low.ensures _ _ c.as_bytes-bytes.ensures.value
-    c.utf8.text _ _ c.requires c.run_end_by_members.ensures).0
+returns-then-is_constant-clause-total c = grind (arith, run_is_scanned)
 
 pub returns-then-is_constant-clause-boundary : goal.returns-then-is_constant-clause-boundary
 returns-then-is_constant-clause-boundary c =
@@ -44,9 +38,7 @@ returns-then-is_constant-clause-boundary c =
     c.utf8.text _ _ c.requires c.run_end_by_members.ensures).1
 
 pub returns-else-is_constant-clause-total : goal.returns-else-is_constant-clause-total
-returns-else-is_constant-clause-total c =
-    (run_is_scanned c.args.self.now _ _ c.masks-low.ensures _ _ c.as_bytes-bytes.ensures.value
-    c.utf8.text _ _ c.requires c.run_end_by_words.ensures).0
+returns-else-is_constant-clause-total c = grind (arith, run_is_scanned)
 
 pub returns-else-is_constant-clause-boundary : goal.returns-else-is_constant-clause-boundary
 returns-else-is_constant-clause-boundary c =

@@ -1,5 +1,4 @@
-use Rattle.std.proofs.Common.{◌≡◌, ◌≤◌, ◌+◌, ◌-◌, ℕ, List, true, length, drop, subst, sym, arith}
-use Rattle.std.specs.Str.{IsUtf8, IsCharBoundary}
+use Rattle.std.proofs.Common.{◌≡◌, ◌≤◌, ◌+◌, ◌-◌, ℕ, List, true, length, drop, subst, sym, arith, IsUtf8, IsCharBoundary}
 use Rattle.uri_pct.specs.Models.ByteRuns.{AreCharactersOrOctets}
 use Rattle.uri_pct.specs.Prefixes.{valid_prefix}
 use Rattle.uri_pct.specs.Tables.{set_of}
@@ -24,14 +23,7 @@ passed t bs start end pct u here from within allowed =
     (has_bit-only-ascii t.low t.high) bs start (end - start) (omega arith) u here allowed)
 
 pub returns-clause-total : goal.returns-clause-total
-returns-clause-total c =
-    let run = c.encoded_run_end.ensures in
-    let b = c.as_bytes-bytes in
-    rw (← b.ensures.value)
-    (passed c.args.self.now b.result.now c.args.start c.encoded_run_end.result
-    c.requires.octets b.ensures.utf8
-    (subst (λ t. IsCharBoundary t c.args.start) (sym b.ensures.value) c.requires.here)
-    run.from run.within run.allowed).0
+returns-clause-total c = grind (arith, passed)
 
 pub returns-clause-boundary : goal.returns-clause-boundary
 returns-clause-boundary c =

@@ -1,8 +1,6 @@
-use Rattle.std.proofs.Common.{◌≡◌, ◌+◌, ◌-◌, ◌<◌, ◌≤◌, ◌∙◌, ℕ, Bool, List, true, false, length, drop, eqb, get_or, arith, sym, ap, subst, ⊎_elim}
-use Rattle.std.proofs.lemmas.Bool.{and_left, and_right, both_ways, cases_Bool, eqb-true}
-use Rattle.std.specs.Str.{IsUtf8, IsCharBoundary}
+use Rattle.std.proofs.Common.{◌≡◌, ◌+◌, ◌-◌, ◌<◌, ◌≤◌, ◌∙◌, ℕ, Bool, List, true, false, length, drop, eqb, get_or, arith, sym, subst, ⊎_elim, IsUtf8, IsCharBoundary}
+use Rattle.std.proofs.lemmas.Bool.{cases_Bool}
 use Rattle.uri_pct.specs.Models.ByteRuns.{AreCharactersOrOctets, IsLongestRun}
-use Rattle.uri_pct.specs.Masks.{has_bit}
 use Rattle.uri_pct.specs.Prefixes.{valid_prefix}
 use Rattle.uri_pct.specs.Texts.{has_hex_digits_after}
 use Rattle.uri_pct.specs.Tables.{set_of}
@@ -21,31 +19,13 @@ stops : (t : Table) (text : List ℕ) (i : ℕ) → i < length text → get_or t
     → (get_or text i 0 ≡ 37 → (set_of t).pct_encoded ≡ true → has_hex_digits_after text i ≡ false)
     → valid_prefix (set_of t) (drop i text) ≡ 0
 stops t text i inside ascii outside stray = ⊎_elim
-    (λ (e : eqb (get_or text i 0) 37 ≡ true).
-    let percent = eqb-true _ _ e in
-    valid_prefix_stops_at_stray_percent (set_of t) (lacks_percent t) text i inside percent
-    (⊎_elim (λ (p : (set_of t).pct_encoded ≡ true). and_right _ _ (stray percent p))
-    (λ (p : (set_of t).pct_encoded ≡ false). and_left _ _ p) (cases_Bool (set_of t).pct_encoded)))
+    (grind (arith, valid_prefix_stops_at_stray_percent, lacks_percent))
     (λ (e : eqb (get_or text i 0) 37 ≡ false).
     valid_prefix_stops_at_ascii_outside_set (set_of t) text i inside ascii e outside)
     (cases_Bool (eqb (get_or text i 0) 37))
 
 pub returns-then-i-bytes-clause-stop : goal.returns-then-i-bytes-clause-stop
-returns-then-i-bytes-clause-stop c = λ inside below.
-    let text = c.args.text.now in
-    let i = c.pass_ascii-i.result in
-    let same = c.as_bytes-bytes.ensures.value in
-    stops c.args.self.now text i inside below (c.pass_ascii-i.ensures.stop inside)
-    (λ percent allowed. elim c.then-i-bytes.branch [
-      | then-i-bytes-via-then-i-bytes w ↦
-          let long : length c.as_bytes-bytes.result.now ≡ length text = ap length same in
-          absurd (omega (arith, inside, long, w.if-i-bytes.true))
-      | goal.then-i-bytes-via-else-i-bytes+then-bytes-i-ne37 w ↦
-          absurd (w.if-bytes-i-ne37.true (ap (λ t. get_or t i 0) same ∙ percent))
-      | goal.then-i-bytes-via-else-i-bytes+else-bytes-i-ne37+then-not-allows_pct_encoded w ↦
-          absurd (both_ways _ (sym w.allows_pct_encoded.ensures
-          ∙ w.if-not-allows_pct_encoded.true) allowed)
-    ])
+returns-then-i-bytes-clause-stop c = grind (arith, stops, then-i-bytes-via-then-i-bytes)
 
 -- what the first block shows is scanned
 scanned : (t : Table) (ascii : ℕ → Bool) (octets : Bool) (text bs : List ℕ) (start end : ℕ)
@@ -87,21 +67,7 @@ returns-then-is_end-clause-boundary c =
     c.requires run.from run.within run.allowed run.plain).1
 
 pub returns-then-is_end-clause-stop : goal.returns-then-is_end-clause-stop
-returns-then-is_end-clause-stop c = λ inside below.
-    let run = c.first_run_end-end.ensures in
-    let text = c.args.text.now in
-    let end = c.first_run_end-end.result.0 in
-    let same = c.as_bytes-bytes.ensures.value in
-    let within : end < length c.as_bytes-bytes.result.now =
-    subst (λ b. end < length b) (sym same) inside in
-    stops c.args.self.now text end inside below
-    (sym (ap (λ f. f (get_or text end 0)) c.masks-low.ensures)
-    ∙ subst (λ b. has_bit c.masks-low.result.0 c.masks-low.result.1 (get_or b end 0) ≡ false) same
-    (run.outside c.if-is_end.true within))
-    (λ percent allowed.
-    subst (λ b. has_hex_digits_after b end ≡ false) same
-    (run.stray c.if-is_end.true (c.allows_pct_encoded-2.ensures ∙ allowed) within
-    (ap (λ b. get_or b end 0) same ∙ percent)))
+returns-then-is_end-clause-stop c = grind (arith, stops)
 
 pub scan_octets-requires-2-clause-here : goal.scan_octets-requires-2-clause-here
 scan_octets-requires-2-clause-here c =
@@ -113,7 +79,4 @@ scan_octets-requires-2-clause-here c =
 pub returns-clause-total : goal.returns-clause-total
 returns-clause-total c =
     let run = c.first_run_end-end.ensures in
-    c.scan_octets-2.ensures.total
-    ∙ (scanned c.args.self.now _ _ c.args.text.now _ c.args.start c.first_run_end-end.result.0
-    c.masks-low.ensures c.allows_pct_encoded-2.ensures c.as_bytes-bytes.ensures.value c.utf8.text
-    c.requires run.from run.within run.allowed run.plain).0
+    grind (arith, scanned)

@@ -1,14 +1,10 @@
-use Rattle.std.proofs.Common.{◌≡◌, ◌+◌, ◌<◌, ◌≤◌, true, false, length, drop, get_or, arith, ◌&&◌, sym, ◌∙◌, ap, subst, ℕ, List}
-use Rattle.std.specs.Prelude.{slice_index}
-use Rattle.std.specs.Int.{is_in_range}
-use Rattle.std.specs.Str.{IsUtf8, IsCharBoundary}
-use Rattle.std.proofs.lemmas.Bool.{and_left, and_parts, ne_eqb}
+use Rattle.std.proofs.Common.{◌≡◌, ◌+◌, ◌<◌, true, false, length, drop, get_or, arith, ◌&&◌, sym, ◌∙◌, ap, subst, ℕ, List, slice_index, IsUtf8, IsCharBoundary}
+use Rattle.std.proofs.lemmas.Bool.{and_left}
 use Rattle.std.proofs.lemmas.Str.{IsCharBoundary-after_ascii}
 use Rattle.uri_pct.specs.Prefixes.{valid_prefix}
 use Rattle.uri_pct.specs.Texts.{has_hex_digits_after}
 use Rattle.uri_pct.specs.Tables.{set_of}
 use Rattle.uri_pct.specs.declared.table.Table.{Table}
-use Rattle.uri_pct.specs.Masks.{has_bit}
 use Rattle.uri_pct.specs.Models.ByteRuns.{IsLongestRun, is_char_byte}
 use Rattle.uri_pct.proofs.ValidTexts.PrefixSteps.{valid_prefix_passes_ascii_char_of_set, valid_prefix_stops_at_ascii_outside_set, valid_prefix_stops_at_stray_percent}
 use Rattle.uri_pct.proofs.TableSets.Percent.{lacks_percent}
@@ -36,30 +32,11 @@ scan_octets-requires-clause-octets c =
     sym c.allows_pct_encoded.ensures ∙ c.if-not-allows_pct_encoded.false
 
 pub returns-then-byte-eq37-clause-stop : goal.returns-then-byte-eq37-clause-stop
-returns-then-byte-eq37-clause-stop c = λ e.
-    let set = set_of c.args.self.now in
-    let text = c.args.text.now in
-    let percent : slice_index text c.args.start ≡ 37 =
-    subst (λ t. slice_index t c.args.start ≡ 37) c.as_bytes-bytes.ensures.value
-    c.if-byte-eq37.true in
-    subst (λ n. valid_prefix set (drop n text) ≡ 0) e
-    (c.scan_octets.ensures.stop (omega (arith, c.requires.inside))
-    (let f : slice_index text c.scan_octets.result ≡ 37 =
-    ap (λ n. slice_index text n) e ∙ percent in omega arith))
+returns-then-byte-eq37-clause-stop c = grind arith
 
 -- a character of ASCII
 pub returns-then-not-has-clause-stop : goal.returns-then-not-has-clause-stop
-returns-then-not-has-clause-stop c = λ _.
-    let set = set_of c.args.self.now in
-    let bs = c.as_bytes-bytes.result.now in
-    let same = c.as_bytes-bytes.ensures.value in
-    let outside : set.ascii (get_or bs c.args.start 0) ≡ false =
-    sym (ap (λ f. f (get_or bs c.args.start 0)) c.masks-low.ensures)
-    ∙ sym c.has.ensures ∙ c.if-not-has.true in
-    subst (λ t. valid_prefix set (drop c.args.start t) ≡ 0) same
-    (valid_prefix_stops_at_ascii_outside_set set bs c.args.start
-    (subst (λ t. c.args.start < length t) (sym same) c.requires.inside) c.if-byte-lt128.true
-    (ne_eqb _ _ c.if-byte-eq37.false) outside)
+returns-then-not-has-clause-stop c = grind (arith, valid_prefix_stops_at_ascii_outside_set)
 
 no_octet : (t : Table) (text bs : List ℕ) (i : ℕ) → bs ≡ text → IsUtf8 text → i < length text
     → get_or bs i 0 < 128 → (set_of t).ascii (get_or bs i 0) ≡ true
@@ -81,59 +58,31 @@ pass_ascii_run-requires c =
     ∙ sym c.has.ensures ∙ c.if-not-has.false)).1
 
 pub returns-then-byte-lt128-clause-total : goal.returns-then-byte-lt128-clause-total
-returns-then-byte-lt128-clause-total c =
-    omega (
-      arith,
-      (no_octet c.args.self.now c.args.text.now c.as_bytes-bytes.result.now c.args.start
-          c.as_bytes-bytes.ensures.value c.utf8.text c.requires.inside c.if-byte-lt128.true
-          (sym (ap (λ f. f (get_or c.as_bytes-bytes.result.now c.args.start 0)) c.masks-low.ensures)
-          ∙ sym c.has.ensures ∙ c.if-not-has.false)).0,
-      c.pass_ascii_run.ensures.total,
-    )
+returns-then-byte-lt128-clause-total c = grind (arith, no_octet)
 
 -- characters past ASCII
 run : (c : goal.After-chars_end)
     → IsLongestRun (is_char_byte (set_of c.args.self.now).ascii) c.args.text.now c.args.start
     c.chars_end.result
-run c = subst (λ f. IsLongestRun (is_char_byte f) c.args.text.now c.args.start c.chars_end.result)
-    c.masks-low.ensures
-    (subst (λ t. IsLongestRun (is_char_byte (has_bit c.masks-low.result.0 c.masks-low.result.1)) t
-    c.args.start c.chars_end.result) c.as_bytes-bytes.ensures.value c.chars_end.ensures)
+run c = grind arith
 
 pub returns-then-allows_lead-clause-total : goal.returns-then-allows_lead-clause-total
 returns-then-allows_lead-clause-total c =
-    let table = c.args.self.now in
-    let lead = and_parts _ _ (sym c.allows_lead.ensures ∙ c.if-allows_lead.true) in
-    char_run_is_scanned_from_start (set_of table) (lacks_percent table) lead.0
-    (has_bit-only-ascii _ _) c.args.text.now
-    c.utf8.text c.args.start c.chars_end.result (run c) c.requires.here
+    grind (arith, char_run_is_scanned_from_start, lacks_percent, has_bit-only-ascii)
 
 pub returns-then-allows_lead-clause-from : goal.returns-then-allows_lead-clause-from
 returns-then-allows_lead-clause-from c = (run c).from
 
 pub returns-then-allows_lead-clause-boundary : goal.returns-then-allows_lead-clause-boundary
 returns-then-allows_lead-clause-boundary c =
-    let table = c.args.self.now in
-    let lead = and_parts _ _ (sym c.allows_lead.ensures ∙ c.if-allows_lead.true) in
-    char_run_ends_at_boundary (set_of table) (lacks_percent table) lead.0 (has_bit-only-ascii _ _)
-    c.args.text.now c.utf8.text c.args.start c.chars_end.result (run c)
+    grind (arith, char_run_ends_at_boundary, lacks_percent, has_bit-only-ascii)
 
 pub returns-then-allows_lead-clause-stop : goal.returns-then-allows_lead-clause-stop
-returns-then-allows_lead-clause-stop c = λ e.
-    let text = c.args.text.now in
-    let i = c.args.start in
-    let lead = and_parts _ _ (sym c.allows_lead.ensures ∙ c.if-allows_lead.true) in
-    let range = byte_in_lead_range_is_c3_to_ed (slice_index text i)
-    (subst (λ t. is_in_range 0xC3 0xED (slice_index t i) ≡ true) c.as_bytes-bytes.ensures.value
-    lead.1) in
-    absurd (char_part_begins_nonempty_run (set_of c.args.self.now).ascii text i
-    (subst (λ n. IsLongestRun (is_char_byte (set_of c.args.self.now).ascii) text i n) e (run c))
-    c.requires.inside range.0 range.1)
+returns-then-allows_lead-clause-stop c =
+    grind (arith, byte_in_lead_range_is_c3_to_ed, char_part_begins_nonempty_run)
 
 pub past_ascii_len-requires-clause-past : goal.past_ascii_len-requires-clause-past
-past_ascii_len-requires-clause-past c =
-    subst (λ t. 128 ≤ slice_index t c.args.start) c.as_bytes-bytes.ensures.value
-    c.if-byte-lt128.false
+past_ascii_len-requires-clause-past c = grind arith
 
 pub returns-clause-stop : goal.returns-clause-stop
 returns-clause-stop c = λ e. c.past_ascii_len.ensures.refused (omega (arith, e))

@@ -1,6 +1,5 @@
-use Rattle.std.proofs.Common.{◌≡◌, ◌<◌, ◌≤◌, ◌∙◌, ◌||◌, ℕ, List, false, length, drop, get_or, arith, not, sym, ap, subst, ⊎_elim}
-use Rattle.std.specs.Prelude.{slice_index}
-use Rattle.std.proofs.lemmas.Bool.{and_right, cond-false, eq-eqb, false≢true, ne_eqb, cases_lt, le-ltb}
+use Rattle.std.proofs.Common.{◌≡◌, ◌<◌, ◌≤◌, ◌∙◌, ◌||◌, ℕ, List, false, length, drop, get_or, arith, sym, ap, subst, ⊎_elim, slice_index}
+use Rattle.std.proofs.lemmas.Bool.{and_right, cond-false, ne_eqb, cases_lt}
 use Rattle.uri_pct.specs.declared.table.Table.{Table}
 use Rattle.uri_pct.specs.Models.Scans.{may_begin_octet_or_past_ascii}
 use Rattle.uri_pct.proofs.TableSets.Masks.{has_bit_past_ascii_is_false}
@@ -21,11 +20,7 @@ past_done t bs i inside past none =
     (cond-false _ _ _ (ne_eqb (get_or bs i 0) 37 (λ e. omega arith)) ∙ and_right _ _ none)
 
 pub returns-then-start-bytes-clause-end : goal.returns-then-start-bytes-clause-end
-returns-then-start-bytes-clause-end c =
-    let bs = c.as_bytes-bytes.result.now in
-    let e : valid_prefix (set_of c.args.self.now) (drop c.args.start bs) ≡ 0 =
-    valid_prefix_at_end_is_empty _ bs c.args.start (omega (arith, c.if-start-bytes.true)) in
-    rw (← c.as_bytes-bytes.ensures.value) (omega (arith, e))
+returns-then-start-bytes-clause-end c = grind (arith, valid_prefix_at_end_is_empty)
 
 pub returns-then-not-allows_some_past_ascii-clause-end
     : goal.returns-then-not-allows_some_past_ascii-clause-end
@@ -57,29 +52,7 @@ returns-then-not-allows_some_past_ascii-clause-end c =
 
 pub returns-then-run_end-bytes-clause-end : goal.returns-then-run_end-bytes-clause-end
 returns-then-run_end-bytes-clause-end c =
-    let set = set_of c.args.self.now in
-    let text = c.args.text.now in
-    let end = c.pass_chars-run_end.result in
-    let same : c.as_bytes-bytes.result.now ≡ text = c.as_bytes-bytes.ensures.value in
-    let within : end ≤ length text = c.pass_chars-run_end.ensures.boundary.0 in
-    let long : length c.as_bytes-bytes.result.now ≡ length text = ap length same in
-    let e : valid_prefix set (drop end text) ≡ 0 = elim c.then-run_end-bytes.branch [
-      | then-run_end-bytes-via-then-run_end-bytes w ↦
-          valid_prefix_at_end_is_empty set text end (omega (arith, w.if-run_end-bytes.true, long))
-      | goal.then-run_end-bytes-via-else-run_end-bytes+then-bytes-run_end-ne37 w ↦
-          elim w.if-bytes-run_end-lt128.branch [
-            | goal.then-bytes-run_end-lt128 w' ↦
-                c.pass_chars-run_end.ensures.stop
-                (omega (arith, within, w.if-run_end-bytes.false, long))
-                (subst (λ t. slice_index t end < 128) same w'.if-bytes-run_end-lt128.true)
-                (λ e. false≢true (sym (sym w.if-bytes-run_end-ne37.true ∙ w'.value-is
-                ∙ ap not (eq-eqb _ _ (ap (λ t. slice_index t end) same ∙ e)))))
-            | goal.else-bytes-run_end-lt128 w' ↦
-                absurd (false≢true (sym (le-ltb _ _ w'.if-bytes-run_end-lt128.false)
-                ∙ sym w'.value-is ∙ w.if-bytes-run_end-ne37.true))
-          ]
-    ] in
-    omega (arith, e, c.pass_encoded-end.ensures.total, c.pass_chars-run_end.ensures.total)
+    grind (arith, then-run_end-bytes-via-then-run_end-bytes, valid_prefix_at_end_is_empty)
 
 pub scan_mixed_runs-requires-clause-percent : goal.scan_mixed_runs-requires-clause-percent
 scan_mixed_runs-requires-clause-percent c =

@@ -1,6 +1,5 @@
-use Rattle.std.proofs.Common.{◌≡◌, ◌+◌, ◌<◌, true, false, length, drop, get_or, arith, rules, ◌&&◌, sym, ◌∙◌, ap, subst}
-use Rattle.std.specs.Prelude.{slice_index}
-use Rattle.std.proofs.lemmas.Bool.{and_right, ne_eqb}
+use Rattle.std.proofs.Common.{◌≡◌, ◌+◌, ◌<◌, true, false, length, drop, get_or, arith, rules, ◌&&◌, sym, ◌∙◌, subst}
+use Rattle.std.proofs.lemmas.Bool.{and_right}
 use Rattle.std.proofs.lemmas.Str.{IsCharBoundary-after_ascii}
 use Rattle.uri_pct.specs.Prefixes.{valid_prefix}
 use Rattle.uri_pct.specs.Texts.{has_hex_digits_after}
@@ -19,11 +18,7 @@ loop-i-preserved-then-byte-eq37 c =
     let within : i + 2 < length bs = c.has_octet_digits.ensures.within (search rules) in
     let r = octet_is_scanned (set_of c.args.table.now) bs i c.as_bytes-bytes.ensures.utf8
     c.requires.octets within c.if-byte-eq37.true digits in
-    record {
-      from = omega (arith, c.loop-i.invariant.from);
-      boundary = r.1;
-      total = r.0 ∙ c.loop-i.invariant.total;
-    }
+    grind arith
 
 pub loop-i-preserved : goal.loop-i-preserved
 loop-i-preserved c =
@@ -31,13 +26,10 @@ loop-i-preserved c =
     let bs = c.as_bytes-bytes.result.now in
     let i = c.loop-i.i in
     let inside : set.ascii (get_or bs i 0) ≡ true =
-    sym (ap (λ f. f (get_or bs i 0)) c.masks-low.ensures)
-    ∙ sym c.has.ensures ∙ c.if-not-has.false in
+    grind arith in
     let below : get_or bs i 0 < 128 = omega (arith, c.if-byte-ge128.false) in
     let e : valid_prefix set (drop i bs) ≡ valid_prefix set (drop (i + 1) bs) + 1 =
-    valid_prefix_passes_ascii_char_of_set set (lacks_percent c.args.table.now) bs i
-    c.loop-i-test.true
-    below inside in
+    grind (arith, valid_prefix_passes_ascii_char_of_set, lacks_percent) in
     record {
       from = omega (arith, c.loop-i.invariant.from);
       boundary = IsCharBoundary-after_ascii bs i c.as_bytes-bytes.ensures.utf8
@@ -59,18 +51,5 @@ returns-then-not-has_octet_digits-clause-stop c = λ _ _.
     c.if-byte-eq37.true stray)
 
 pub returns-then-byte-ge128-clause-stop : goal.returns-then-byte-ge128-clause-stop
-returns-then-byte-ge128-clause-stop c = λ _ below.
-    let set = set_of c.args.table.now in
-    let bs = c.as_bytes-bytes.result.now in
-    let i = c.loop-i.i in
-    let same = c.as_bytes-bytes.ensures.value in
-    let low : get_or bs i 0 < 128 = subst (λ t. slice_index t i < 128) (sym same) below in
-    let outside : set.ascii (get_or bs i 0) ≡ false = elim c.then-byte-ge128.branch [
-      | then-byte-ge128-via-then-byte-ge128 w ↦ absurd (omega (arith, low, w.if-byte-ge128.true))
-      | goal.then-byte-ge128-via-else-byte-ge128+then-not-has w ↦
-          sym (ap (λ f. f (get_or bs i 0)) c.masks-low.ensures)
-          ∙ sym w.has.ensures ∙ w.if-not-has.true
-    ] in
-    subst (λ t. valid_prefix set (drop i t) ≡ 0) same
-    (valid_prefix_stops_at_ascii_outside_set set bs i c.loop-i-test.true low
-    (ne_eqb _ _ c.if-byte-eq37.false) outside)
+returns-then-byte-ge128-clause-stop c =
+    grind (arith, then-byte-ge128-via-then-byte-ge128, valid_prefix_stops_at_ascii_outside_set)

@@ -1,4 +1,4 @@
-use Rattle.std.proofs.Common.{◌∙◌, sym, ◌&&◌, not, arith}
+use Rattle.std.proofs.Common.{◌∙◌, sym, not, arith}
 use Rattle.std.proofs.lemmas.Bool.{and_left}
 use Rattle.uri_pct.specs.Masks.{has_bit}
 use Rattle.uri_pct.proofs.TableSets.Masks.{has_bit_of_mask_difference_is_and_not, has_bit_of_percent_is_bit_of_low}
@@ -19,10 +19,4 @@ invariant_of-result c =
     }
 
 pub returns : goal.returns
-returns c =
-    let s = c.args.self in
-    let t = c.args.other.now in
-    sets_equal_by_agreement _ (λ code. has_bit s.low s.high code && not (has_bit t.low t.high code))
-    _ _ _
-    (λ code. has_bit_of_mask_difference_is_and_not s.low s.high t.low t.high code (omega arith)
-    (omega arith))
+returns c = grind (arith, sets_equal_by_agreement, has_bit_of_mask_difference_is_and_not)

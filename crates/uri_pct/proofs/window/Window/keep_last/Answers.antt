@@ -1,6 +1,5 @@
-use Rattle.std.proofs.Common.{◌≡◌, ◌-◌, ◌≤◌, ℕ, List, length, take, drop, sym, ap, ◌∙◌, arith}
-use Rattle.std.specs.List.{copy_within, between}
-use Rattle.std.proofs.lemmas.List.{take_at, length-take, length-drop}
+use Rattle.std.proofs.Common.{◌≡◌, ◌-◌, ◌≤◌, ℕ, List, length, take, drop, arith, take_at, length-take, length-drop}
+use Rattle.std.specs.List.{copy_within}
 use Rattle.std.proofs.lemmas.List.Elements.{All-same, All-drop}
 use Rattle.std.proofs.lemmas.Slice.{between_is}
 use Rattle.uri_pct.proofs.window.Window.keep_last.Goals as goal
@@ -10,17 +9,7 @@ moved : (bytes after : List ℕ) (len kept : ℕ) → kept ≤ length (take len 
     → after ≡ copy_within bytes (len - kept) len 0
     → take kept after ≡ drop (length (take len bytes) - kept) (take len bytes)
 moved bytes after len kept fits within put =
-    let end = between (len - kept) len bytes in
-    let whole : length (take len bytes) ≡ len = omega (arith, length-take len bytes) in
-    let long : length end ≡ kept =
-    omega (
-      arith,
-      whole,
-      length-take (len - (len - kept)) (drop (len - kept) bytes),
-      length-drop (len - kept) bytes,
-    ) in
-    ap (take kept) put ∙ take_at end _ kept long ∙ between_is bytes (len - kept) len
-    ∙ ap (λ n. drop (n - kept) (take len bytes)) (sym whole)
+    grind (arith, length-take, length-drop, take_at, between_is)
 
 pub invariant_of-self-clause-past_ascii : goal.invariant_of-self-clause-past_ascii
 invariant_of-self-clause-past_ascii c =
@@ -30,6 +19,4 @@ invariant_of-self-clause-past_ascii c =
     c.copy_within.ensures.after) (All-drop (λ b. 128 ≤ b) _ (take w.len w.bytes) w.past_ascii)
 
 pub returns : goal.returns
-returns c =
-    let w = c.args.self.now in
-    moved w.bytes _ w.len c.args.kept c.requires (omega (arith, w.fits)) c.copy_within.ensures.after
+returns c = grind (arith, moved)

@@ -4,7 +4,9 @@ use Rattle.std.proofs.lemmas.List.Elements.{All-nil, All-more}
 use Rattle.std.specs.Io.Buffered.{reader_remaining, reader_buffer}
 use Rattle.std.specs.Io.BufRead.{FillKeeps}
 use Rattle.std.specs.Prelude.{Some}
+use Rattle.std.specs.Io.KnownBytes.{Consumes}
 use Rattle.std.proofs.KnownBytes.{Consumes-nil, Consumes-kept}
+use Rattle.std.proofs.lemmas.Result.{IfOk-weaker}
 use Rattle.std.proofs.BufReadLemmas.{Consumes_shown, zero_unless_positive}
 use Rattle.std.proofs.Transfers.{StopsAt-take}
 use Rattle.std.proofs.Math.Seq.{take-nil}
@@ -12,19 +14,23 @@ use Rattle.uri_streams.proofs.Parts.{take-min}
 use Rattle.uri_streams.proofs.source.Source.take_part.Goals.{then-count-eq0, else-count-eq0}
 use Rattle.uri_streams.proofs.source.Source.take_part.Goals as goal
 
-pub returns-then-eq-clause-taken : goal.returns-then-eq-clause-taken
-returns-then-eq-clause-taken g c = (
-  [],
-  refl,
-  sym (ap (λ l. c.args.line.now.items ++ l) (take-nil (c.args.limit - length
-      c.args.line.now.items)) ∙ append-nil c.args.line.now.items),
-  All-nil (λ x. x ≢ c.args.end),
-  Consumes-kept _ _ _ [] (Consumes-nil _) c.fill_buf.follows.holds-at-none.0,
-  λ _. All-nil (λ x. x ≢ c.args.end),
-  λ done. absurd (true≢false (sym done)),
-  λ done. absurd (true≢false (sym done)),
-  refl,
-)
+pub returns-in-Err-clause-taken : goal.returns-in-Err-clause-taken
+returns-in-Err-clause-taken g c =
+    IfOk-weaker c.part_after_error.result _ _ (λ part (again, none, last, is). (
+      [],
+      sym none,
+      sym (ap (λ l. c.args.line.now.items ++ l) (take-nil (c.args.limit - length
+          c.args.line.now.items)) ∙ append-nil c.args.line.now.items),
+      All-nil (λ x. x ≢ c.args.end),
+      subst (λ r. Consumes (reader_remaining g.R.Read.remaining c.args.self.now.reader)
+          (reader_remaining g.R.Read.remaining r) [])
+          (sym c.part_after_error.ensures.kept)
+          (Consumes-kept _ _ _ [] (Consumes-nil _) c.fill_buf.follows.holds-at-none.0),
+      λ _. All-nil (λ x. x ≢ c.args.end),
+      λ done. absurd (true≢false (sym done ∙ last)),
+      λ done. absurd (true≢false (sym done ∙ last)),
+      is,
+    )) c.part_after_error.ensures.again
 
 pub returns-clause-taken : goal.returns-clause-taken
 returns-clause-taken g c =

@@ -1,5 +1,4 @@
-use Rattle.std.proofs.Common.{ap, subst, ◌∙◌, List, ℕ}
-use Rattle.std.specs.Prelude.{Option}
+use Rattle.std.proofs.Common.{ap, subst, ◌∙◌, List, ℕ, Option}
 use Rattle.std.specs.Fmt.{DisplaysOnOk, debug_option, debug_str}
 use Rattle.uri_pct.specs.EncodedTexts.{text_of}
 use Rattle.uri_parts.specs.AuthorityTexts.{authority_text}

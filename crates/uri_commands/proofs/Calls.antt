@@ -1,0 +1,21 @@
+-- What an interrupted call of a writer says.
+use Rattle.std.proofs.Common.{Option, Some, None}
+use Rattle.std.specs.Prelude.{Ok, Err, IfSome}
+use Rattle.std.specs.declared.io.Error.{Error}
+use Rattle.uri_commands.specs.Sinks.{Call, Flushed, IsFailedFlush, IsFailedWrite, IsInterruptedFlush, IsInterruptedWrite, Wrote}
+
+-- writers: after a write that was interrupted too often any error may be kept
+pub any-error-after-interrupted-write : (kept : Option Error) (last : Option Call)
+    → IfSome last IsInterruptedWrite → IfSome last (IsFailedWrite kept)
+any-error-after-interrupted-write kept None i = tt
+any-error-after-interrupted-write kept (Some (Wrote (Ok count))) i = absurd i
+any-error-after-interrupted-write kept (Some (Wrote (Err error))) i = λ final. absurd (final i)
+any-error-after-interrupted-write kept (Some (Flushed outcome)) i = absurd i
+
+-- writers: after a flush that was interrupted too often any error may be kept
+pub any-error-after-interrupted-flush : (kept : Option Error) (last : Option Call)
+    → IfSome last IsInterruptedFlush → IfSome last (IsFailedFlush kept)
+any-error-after-interrupted-flush kept None i = tt
+any-error-after-interrupted-flush kept (Some (Wrote outcome)) i = absurd i
+any-error-after-interrupted-flush kept (Some (Flushed (Ok value))) i = absurd i
+any-error-after-interrupted-flush kept (Some (Flushed (Err error))) i = λ final. absurd (final i)

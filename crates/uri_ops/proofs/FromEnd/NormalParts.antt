@@ -1,0 +1,112 @@
+-- The components of a normal text, in the pieces that they are read in.
+use Rattle.std.proofs.Common.{◌≡◌, ℕ, Bool, true, false, List, [], ◌++◌, refl, sym, ap, ◌∙◌, cond, eqb, length, option_map}
+use Rattle.std.specs.Prelude.{Option, Some, None, is_some}
+use Rattle.std.specs.Str.{str_to_ascii_lowercase}
+use Rattle.std.proofs.lemmas.Bool.{cond-false, cond-true, eqb-true}
+use Rattle.std.proofs.lemmas.List.{append-nil, nil_from_length}
+use Rattle.uri_pct.specs.DecodeUnreserved.{decode_unreserved}
+use Rattle.uri_pct.specs.Sets.{TableSet}
+use Rattle.uri_pct.specs.Tokens.{print}
+use Rattle.uri_pct.proofs.General.{is_some-option_map}
+use Rattle.uri_parts.specs.Components.{Components, starts}
+use Rattle.uri_parts.specs.Grammar.{Kind}
+use Rattle.uri_parts.specs.Hosts.{host_kind, ipv4_value, ipv6_value, literal_kind, literal_of, name_kind}
+use Rattle.uri_parts.specs.Ports.{PortFunction}
+use Rattle.uri_ops.specs.Dots.{remove_dot_segments}
+use Rattle.uri_ops.specs.Meaning.{components_meaning, dotless_path, host_meaning}
+use Rattle.uri_ops.specs.Normal.{host_text, normal_authority, normal_path, normal_path_text}
+use Rattle.uri_ops.specs.Target.{guarded}
+use Rattle.uri_ops.specs.FromEnd.Addresses.{ipv6_host_text}
+use Rattle.uri_ops.specs.FromEnd.NormalComponents.{normal_component}
+use Rattle.uri_ops.proofs.FromEnd.NormalTokens.{nothing_is_left}
+
+-- normal texts: of an empty component nothing is written
+pub nothing_is_written : (lowers : Bool) (set : TableSet) → normal_component lowers set [] ≡ []
+nothing_is_written lowers set =
+    sym (append-nil (normal_component lowers set [])) ∙ nothing_is_left lowers set [] [] refl refl
+
+-- normal texts: two pieces that are read one after the other are what each is
+pub two_pieces : (whole first second x y : List ℕ) → whole ≡ first ++ second → first ≡ x
+    → second ≡ y → whole ≡ x ++ y
+two_pieces whole first second x y e f h = e ∙ ap (λ t. t ++ second) f ∙ ap (λ t. x ++ t) h
+
+-- normal texts: where nothing is read after it, a piece is all that is read
+pub first_piece_alone : (whole first second text : List ℕ) → whole ≡ first ++ second → second ≡ []
+    → first ≡ text → whole ≡ text
+first_piece_alone whole first second text e none f =
+    e ∙ ap (λ t. first ++ t) none ∙ append-nil first ∙ f
+
+-- normal texts: where nothing is read before it, a piece is all that is read
+pub second_piece_alone : (whole first second text : List ℕ) → whole ≡ first ++ second → first ≡ []
+    → second ≡ text → whole ≡ text
+second_piece_alone whole first second text e none f = e ∙ ap (λ t. t ++ second) none ∙ f
+
+-- normal texts: a text without length is empty
+pub empty_if_tested : (text : List ℕ) → eqb (length text) 0 ≡ true → text ≡ []
+empty_if_tested text e = nil_from_length text (eqb-true (length text) 0 e)
+
+-- normal texts: a text with a length is not empty
+pub not_empty_if_tested : (text : List ℕ) → eqb (length text) 0 ≡ false → text ≡ [] → ⊥
+not_empty_if_tested text e none = let same = ap (λ t. eqb (length t) 0) none in cc
+
+-- normal paths: under a scheme a path that begins with `/` (47) is without its dot segments
+pub normal_path_under_scheme : (set : TableSet) (scheme authority : Option (List ℕ))
+    (path : List ℕ) → is_some scheme ≡ true → starts 47 path ≡ true
+    → guarded authority (print (decode_unreserved set (remove_dot_segments path)))
+    ≡ normal_path_text set scheme authority path
+normal_path_under_scheme set None authority path e s = cc
+normal_path_under_scheme set (Some scheme) authority path e s =
+    ap (λ t. guarded authority (print (decode_unreserved set t))) (sym (cond-true _ _ _ s))
+
+-- normal paths: of components, the normal text of the path is the normal path of their meaning
+pub normal_path_of_components : (kind : Kind) (ports : PortFunction) (p : Components)
+    → (let m = components_meaning kind ports p in
+    normal_path_text kind.path p.scheme (option_map normal_authority m.authority) p.path
+    ≡ normal_path m)
+normal_path_of_components kind ports p =
+    let authority = option_map normal_authority (components_meaning kind ports p).authority in
+    let path = print (decode_unreserved kind.path (dotless_path p.scheme p.path)) in
+    ap (λ (b : Bool). cond b (guarded authority path) path)
+    (sym (is_some-option_map str_to_ascii_lowercase p.scheme))
+
+-- normal hosts: a host without brackets is no IPv6 address
+pub name_has_no_address : (host : List ℕ) → starts 91 host ≡ false
+    → ipv6_host_text (host_kind host) ≡ []
+unfolding host_kind
+name_has_no_address host s = ap ipv6_host_text (cond-false _ _ _ s) ∙ by_value (ipv4_value host)
+  where
+    by_value : (value : Option (List ℕ)) → ipv6_host_text (name_kind value) ≡ []
+    by_value None = refl
+    by_value (Some octets) = refl
+
+-- normal hosts: a host in brackets that is no IPv6 address is in lower case
+pub host_without_address_is_lowered : (names : TableSet) (host : List ℕ) → starts 91 host ≡ true
+    → ipv6_host_text (host_kind host) ≡ []
+    → str_to_ascii_lowercase host ≡ host_text (host_meaning names host (host_kind host))
+unfolding host_kind
+host_without_address_is_lowered names host s none =
+    let kind = cond-true _ _ _ s in
+    by_value (ipv6_value (literal_of host)) (sym (ap ipv6_host_text kind) ∙ none)
+    ∙ sym (ap (λ k. host_text (host_meaning names host k)) kind)
+  where
+    by_value : (value : Option (List ℕ)) → ipv6_host_text (literal_kind value) ≡ []
+        → str_to_ascii_lowercase host ≡ host_text (host_meaning names host (literal_kind value))
+    by_value None e = refl
+    by_value (Some segments) e = cc
+
+-- normal hosts: an IPv6 address is the text of its numbers
+pub host_with_address_is_its_text : (names : TableSet) (host : List ℕ) → starts 91 host ≡ true
+    → (ipv6_host_text (host_kind host) ≡ [] → ⊥)
+    → ipv6_host_text (host_kind host) ≡ host_text (host_meaning names host (host_kind host))
+unfolding host_kind
+host_with_address_is_its_text names host s some =
+    let kind = cond-true _ _ _ s in
+    ap ipv6_host_text kind
+    ∙ by_value (ipv6_value (literal_of host)) (λ e. some (ap ipv6_host_text kind ∙ e))
+    ∙ sym (ap (λ k. host_text (host_meaning names host k)) kind)
+  where
+    by_value : (value : Option (List ℕ)) → (ipv6_host_text (literal_kind value) ≡ [] → ⊥)
+        → ipv6_host_text (literal_kind value)
+        ≡ host_text (host_meaning names host (literal_kind value))
+    by_value None f = absurd (f refl)
+    by_value (Some segments) f = refl

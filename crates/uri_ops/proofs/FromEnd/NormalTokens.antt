@@ -1,0 +1,186 @@
+-- The normal text of a component, with that of its last token at its end.
+use Rattle.std.proofs.Common.{◌≡◌, ℕ, ◌<◌, Bool, true, false, List, [], ◌∷◌, ◌++◌, length, map, refl, sym, ap, ◌∙◌, arith, eqb, ⊎_elim}
+use Rattle.std.specs.Prelude.{◌&&◌, ◌||◌, ◌==◌}
+use Rattle.std.specs.Char.{IsScalar, encode_utf8, to_ascii_lowercase}
+use Rattle.std.specs.Int.{is_in_range}
+use Rattle.std.proofs.lemmas.Bool.{cases_Bool, cond-true, cond-false, and_parts, eqb-true}
+use Rattle.std.proofs.lemmas.Bool.Decides.{nat_tests}
+use Rattle.std.proofs.lemmas.List.{append-nil, nil_from_length}
+use Rattle.std.proofs.lemmas.Str.{encode_ascii}
+use Rattle.std.proofs.lemmas.Str.Ascii.{lowercase_ascii}
+use Rattle.uri_pct.specs.Sets.{TableSet, allows}
+use Rattle.uri_pct.specs.Tokens.{Token, Char, Octet, tokens, text_of_token, print}
+use Rattle.uri_pct.specs.DecodeUnreserved.{is_bidi_formatting, is_never_literal, formatting_as_octets, decode_after_run, decode_run}
+use Rattle.uri_pct.specs.Pieces.{pieces_from}
+use Rattle.uri_pct.proofs.UnreservedDecoding.Formatting.{ascii_char_separates_encode_formatting}
+use Rattle.uri_pct.proofs.ValidTexts.Allowed.{decodable_char_is_printable}
+use Rattle.uri_ops.proofs.Meanings.Cased.{octets-stay-when-lowered}
+use Rattle.uri_ops.proofs.Meanings.WrittenFormatting.{set_allows_formatting_by_ucschar}
+use Rattle.uri_ops.specs.Models.Decodings.{lowered_if, lowered_code_if, cased_append}
+use Rattle.uri_ops.specs.FromEnd.LastTokens.{EndsIn, EndsInDecodable, TokensEndInNoDecodable}
+use Rattle.uri_ops.specs.FromEnd.NormalComponents.{normal_component}
+use Rattle.uri_ops.proofs.FromEnd.LastOctets.{decoded, last_octet_stays, last_character_stays, last_decodable_is_decoded}
+use Rattle.uri_ops.proofs.FromEnd.LastTokens.{empty_text_has_no_tokens}
+use Rattle.uri_ops.proofs.FromEnd.LastDecodables.{char_has_one_to_four_bytes}
+
+-- normal texts: which characters a set never has literally, as the code tests it
+pub never_literal_by_tests : (set : TableSet) (c : ℕ) → is_never_literal set c
+    ≡ (allows set 0x200E && set.pct_encoded
+    && (c == 0x200E || c == 0x200F || is_in_range 0x202A 0x202E c))
+unfolding is_never_literal is_bidi_formatting
+never_literal_by_tests set c = ap (λ b. b && set.pct_encoded
+    && (c == 0x200E || c == 0x200F || is_in_range 0x202A 0x202E c))
+    (sym (set_allows_formatting_by_ucschar set))
+
+pub ruleset never_literals = (never_literal_by_tests, nat_tests)
+
+-- normal texts: a formatting character is written as octets
+pub never_literal_char_is_written_as_octets : (set : TableSet) (lowers : Bool) (c : ℕ)
+    → is_never_literal set c ≡ true
+    → print (lowered_if lowers (formatting_as_octets set (Char c)))
+    ≡ print (map Octet (encode_utf8 c))
+never_literal_char_is_written_as_octets set lowers c e =
+    ap (λ ts. print (lowered_if lowers ts)) (cond-true _ _ _ e)
+    ∙ ap print (octets-stay-when-lowered lowers (encode_utf8 c))
+
+-- normal texts: any other character is written in lower case
+lowered_char_is_written : (set : TableSet) (c : ℕ) → is_never_literal set c ≡ false
+    → print (lowered_if true (formatting_as_octets set (Char c)))
+    ≡ encode_utf8 (to_ascii_lowercase c)
+lowered_char_is_written set c e =
+    ap (λ ts. print (lowered_if true ts)) (cond-false _ _ _ e)
+    ∙ append-nil (encode_utf8 (to_ascii_lowercase c))
+
+-- normal texts: any other character is written as it is
+char_is_written : (set : TableSet) (c : ℕ) → is_never_literal set c ≡ false
+    → print (lowered_if false (formatting_as_octets set (Char c))) ≡ encode_utf8 c
+char_is_written set c e =
+    ap (λ ts. print (lowered_if false ts)) (cond-false _ _ _ e) ∙ append-nil (encode_utf8 c)
+
+-- normal texts: the octets of some bytes have some text
+octets_of_bytes_have_text : (bytes : List ℕ) → 0 < length bytes
+    → 0 < length (print (map Octet bytes))
+octets_of_bytes_have_text [] some = absurd (omega arith)
+octets_of_bytes_have_text (b ∷ bytes) some = omega arith
+
+-- normal texts: a character that is not never literal has some text
+literal_char_has_text : (set : TableSet) (lowers : Bool) (c : ℕ) → is_never_literal set c ≡ false
+    → 0 < length (print (lowered_if lowers (formatting_as_octets set (Char c))))
+literal_char_has_text set true c e =
+    let some = char_has_one_to_four_bytes (to_ascii_lowercase c) in
+    omega (arith, ap length (lowered_char_is_written set c e))
+literal_char_has_text set false c e =
+    let some = char_has_one_to_four_bytes c in
+    omega (arith, ap length (char_is_written set c e))
+
+-- normal texts: a character has some text
+pub char_has_text : (set : TableSet) (lowers : Bool) (c : ℕ) (text : List ℕ)
+    → text ≡ print (lowered_if lowers (formatting_as_octets set (Char c))) → 0 < length text
+char_has_text set lowers c text same = ⊎_elim
+    (λ e.
+    let bytes = char_has_one_to_four_bytes c in
+    let some = octets_of_bytes_have_text (encode_utf8 c) (omega arith) in
+    omega (arith, ap length (same ∙ never_literal_char_is_written_as_octets set lowers c e)))
+    (λ e.
+    let some = literal_char_has_text set lowers c e in
+    omega (arith, ap length same))
+    (cases_Bool (is_never_literal set c))
+
+-- normal texts: an octet is written with upper-case digits
+octet_is_written : (lowers : Bool) (value : ℕ)
+    → print (lowered_if lowers (Octet value ∷ [])) ≡ text_of_token (Octet value)
+octet_is_written true value = refl
+octet_is_written false value = refl
+
+-- normal texts: what the last tokens of a text become is written last
+last_tokens_are_written_last : (set : TableSet) (lowers : Bool) (text before : List ℕ)
+    (ts us : List Token)
+    → EndsIn text before ts → decoded set (tokens before ++ ts) ≡ decoded set (tokens before) ++ us
+    → normal_component lowers set text
+    ≡ normal_component lowers set before ++ print (lowered_if lowers us)
+last_tokens_are_written_last set lowers text before ts us ends e =
+    ap (λ all. print (lowered_if lowers (decoded set all))) ends.tokens
+    ∙ ap (λ all. print (lowered_if lowers all)) e
+    ∙ cased_append lowers (decoded set (tokens before)) us
+
+-- normal texts: a last character is written last
+pub last_char_is_written_last : (set : TableSet) (lowers : Bool) (text before : List ℕ) (c : ℕ)
+    → EndsIn text before (Char c ∷ [])
+    → normal_component lowers set text
+    ≡ normal_component lowers set before
+    ++ print (lowered_if lowers (formatting_as_octets set (Char c)))
+last_char_is_written_last set lowers text before c ends =
+    last_tokens_are_written_last set lowers text before (Char c ∷ []) _ ends
+    (last_character_stays set (tokens before) c)
+
+-- normal texts: a decodable character whose octets are last is written last
+pub last_decodable_is_written_last : (set : TableSet) (lowers : Bool) (text before : List ℕ) (c : ℕ)
+    → EndsInDecodable set text before c
+    → normal_component lowers set text
+    ≡ normal_component lowers set before
+    ++ print (lowered_if lowers (formatting_as_octets set (Char c)))
+last_decodable_is_written_last set lowers text before c ends =
+    let scalar : IsScalar c =
+    (and_parts _ _ (and_parts _ _ (decodable_char_is_printable set c ends.0)).0).0 in
+    last_tokens_are_written_last set lowers text before (map Octet (encode_utf8 c)) _ ends.1
+    (last_decodable_is_decoded set (tokens before) c scalar ends.0)
+
+-- normal texts: a last octet is written last, if no decodable character ends there
+pub last_octet_is_written_last : (set : TableSet) (lowers : Bool) (text before : List ℕ)
+    (value : ℕ)
+    → EndsIn text before (Octet value ∷ []) → TokensEndInNoDecodable set (tokens text)
+    → normal_component lowers set text
+    ≡ normal_component lowers set before ++ text_of_token (Octet value)
+last_octet_is_written_last set lowers text before value ends none =
+    last_tokens_are_written_last set lowers text before (Octet value ∷ []) _ ends
+    (last_octet_stays set (tokens before) value
+    (λ front c scalar decodable e. none front c scalar decodable (ends.tokens ∙ e)))
+    ∙ ap (λ t. normal_component lowers set before ++ t) (octet_is_written lowers value)
+
+-- normal texts: of an empty component nothing is written
+empty_component_is_empty : (lowers : Bool) (set : TableSet) (text : List ℕ) → text ≡ []
+    → normal_component lowers set text ≡ []
+unfolding decode_after_run decode_run pieces_from
+empty_component_is_empty true set text e =
+    ap (λ ts. print (lowered_if true (decoded set ts))) (empty_text_has_no_tokens text e)
+empty_component_is_empty false set text e =
+    ap (λ ts. print (lowered_if false (decoded set ts))) (empty_text_has_no_tokens text e)
+
+-- normal texts: where no text is left, and nothing is held, nothing is left
+pub nothing_is_left : (lowers : Bool) (set : TableSet) (text held : List ℕ)
+    → eqb (length text) 0 ≡ true → held ≡ [] → normal_component lowers set text ++ held ≡ []
+nothing_is_left lowers set text held none empty =
+    let left = empty_component_is_empty lowers set text
+    (nil_from_length text (eqb-true (length text) 0 none)) in
+    rw (left, empty) refl
+
+-- normal texts: an ASCII character is no formatting character, in lower case if `lowers` or not
+ascii_char_is_lowered_alone : (set : TableSet) (lowers : Bool) (c : ℕ) → c < 128
+    → lowered_if lowers (formatting_as_octets set (Char c)) ≡ lowered_if lowers (Char c ∷ [])
+ascii_char_is_lowered_alone set lowers c low = ap (λ ts. lowered_if lowers ts)
+    (sym (append-nil (formatting_as_octets set (Char c)))
+    ∙ ascii_char_separates_encode_formatting set [] c [] low)
+
+-- normal texts: an ASCII character is written as its code, in lower case if `lowers`
+ascii_char_is_written : (set : TableSet) (lowers : Bool) (c : ℕ) → c < 128
+    → print (lowered_if lowers (formatting_as_octets set (Char c))) ≡ lowered_code_if lowers c ∷ []
+ascii_char_is_written set true c low = ap print (ascii_char_is_lowered_alone set true c low)
+    ∙ append-nil (encode_utf8 (to_ascii_lowercase c))
+    ∙ encode_ascii (to_ascii_lowercase c) (lowercase_ascii c low)
+ascii_char_is_written set false c low = ap print (ascii_char_is_lowered_alone set false c low)
+    ∙ append-nil (encode_utf8 c) ∙ encode_ascii c low
+
+-- normal texts: a last ASCII character is written last, as its code
+pub last_ascii_is_written_last : (set : TableSet) (lowers : Bool) (text before held left : List ℕ)
+    (c byte : ℕ) → EndsIn text before (Char c ∷ []) → c < 128 → byte ≡ lowered_code_if lowers c
+    → held ≡ [] → left ≡ []
+    → normal_component lowers set text ++ held
+    ≡ (normal_component lowers set before ++ left) ++ byte ∷ []
+last_ascii_is_written_last set lowers text before held left c byte ends low same e f =
+    ap (λ t. normal_component lowers set text ++ t) e
+    ∙ append-nil (normal_component lowers set text)
+    ∙ last_char_is_written_last set lowers text before c ends
+    ∙ ap (λ t. normal_component lowers set before ++ t)
+    (ascii_char_is_written set lowers c low ∙ ap (λ b. b ∷ []) (sym same))
+    ∙ ap (λ t. t ++ byte ∷ []) (sym (append-nil (normal_component lowers set before))
+    ∙ ap (λ t. normal_component lowers set before ++ t) (sym f))

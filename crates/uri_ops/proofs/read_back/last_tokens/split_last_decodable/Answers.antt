@@ -1,0 +1,28 @@
+-- Octets are passed from the end until they are a decodable character, or there are four of them.
+use Rattle.std.proofs.Common.{drop, refl, sym, arith}
+use Rattle.std.proofs.lemmas.List.{append-nil, length-drop}
+use Rattle.uri_pct.specs.Tables.{set_of}
+use Rattle.uri_pct.specs.Tokens.{tokens}
+use Rattle.uri_ops.proofs.FromEnd.LastDecodables.{no_decodable_ends_after_no_octet, none_ends_no_bytes, no_decodable_ends_with_four_octets}
+use Rattle.uri_ops.proofs.read_back.last_tokens.split_last_decodable.Goals as goal
+
+pub loop-start-init : goal.loop-start-init
+loop-start-init c = record {
+  within = omega arith;
+  size = refl;
+  utf8 = c.utf8.text;
+  ends = record { tokens = sym (append-nil (tokens c.args.text.now)); valid = c.requires };
+  none = none_ends_no_bytes (set_of c.args.table.now);
+}
+
+pub returns-in_default : goal.returns-in_default
+returns-in_default c = no_decodable_ends_after_no_octet (set_of c.args.table.now)
+    (tokens c.args.text.now) (tokens c.loop-start.before.now)
+    (drop c.loop-start.start c.loop-start.bytes) c.loop-start.invariant.ends.tokens
+    c.in_default.ensures c.loop-start.invariant.none
+
+pub returns : goal.returns
+returns c = no_decodable_ends_with_four_octets (set_of c.args.table.now)
+    (tokens c.args.text.now) (tokens c.loop-start.before.now)
+    (drop c.loop-start.start c.loop-start.bytes) c.loop-start.invariant.ends.tokens
+    (omega (arith, length-drop c.loop-start.start c.loop-start.bytes)) c.loop-start.invariant.none

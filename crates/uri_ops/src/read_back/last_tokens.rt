@@ -1,0 +1,121 @@
+//! The last token of a component, as normalising decodes it (RFC 3986, section 6.2.2.2; RFC 3987,
+//! section 5.3.2.3).
+ghost use Rattle.std.specs.Prelude.{◌≡◌, ◌<◌, ◌∷◌, [], IfSome, MatchOption, false, length};
+ghost use Rattle.uri_pct.specs.Chunks.{widest_set};
+ghost use Rattle.uri_pct.specs.Tables.{set_of};
+ghost use Rattle.uri_pct.specs.Tokens.{Char, Octet, tokens, IsValidFor};
+ghost use Rattle.uri_ops.specs.FromEnd.LastTokens.{AreDecodable, AreNoDecodable, EndInNoOctet};
+ghost use Rattle.uri_ops.specs.FromEnd.LastTokens.{EndsIn, EndsInDecodable, LacksPercentThird};
+ghost use Rattle.uri_ops.specs.FromEnd.LastTokens.{TokensEndInNoDecodable};
+
+use std::str;
+use uri_pct::octet::octet_value;
+use uri_pct::table::Table;
+use uri_pct::utf8::char_at;
+
+/// Returns the value of the octet that ends the text, and the text before it, or `None` if no octet
+/// ends the text.
+pub(crate) fn split_last_octet(text: &str) -> Option<(&str, u8)>
+    requires { IsValidFor widest_set text.now }
+    ensures { MatchOption result (EndInNoOctet (tokens text.now))
+        (λ found. EndsIn text.now found.0.now (Octet found.1 ∷ [])) }
+{
+    let bytes = text.as_bytes();
+    if bytes.len() < 3 {
+        return None;
+    }
+    let start = bytes.len() - 3;
+    if bytes[start] != b'%' {
+        return None;
+    }
+    let value = octet_value(bytes[start + 1], bytes[start + 2]);
+    Some((&text[..start], value))
+}
+
+/// Returns the last character of a text that no octet ends, and the text before it.
+pub(crate) fn split_last_char(text: &str) -> (&str, char)
+    requires valid { IsValidFor widest_set text.now }
+    requires some { 0 < length text.now }
+    requires char { EndInNoOctet (tokens text.now) }
+    ensures { EndsIn text.now result.0.now (Char result.1 ∷ []) }
+{
+    let mut chars = text.chars();
+    match chars.next_back() {
+        Some(ch) => (chars.as_str(), ch),
+        None => unreachable!(),
+    }
+}
+
+/// Returns whether the third byte from the end is `%`.
+#[inline(always)]
+fn has_percent_third(bytes: &[u8]) -> bool
+    ensures { result ≡ false → LacksPercentThird bytes.now }
+{
+    bytes.len() >= 3 && bytes[bytes.len() - 3] == b'%'
+}
+
+/// Returns the last character of the text, if it is ASCII and no octet ends the text, and the text
+/// before it.
+#[inline(always)]
+pub(crate) fn split_last_ascii(text: &str) -> Option<(&str, u8)>
+    requires { IsValidFor widest_set text.now }
+    ensures { IfSome result (λ found.
+        (found.1 < 128) × EndsIn text.now found.0.now (Char found.1 ∷ [])) }
+{
+    let bytes = text.as_bytes();
+    if bytes.is_empty() || has_percent_third(bytes) {
+        return None;
+    }
+    let end = bytes.len() - 1;
+    let byte = bytes[end];
+    if byte >= 128 {
+        return None;
+    }
+    Some((&text[..end], byte))
+}
+
+/// Returns the decodable character whose UTF-8 the bytes are, if they are that of one.
+fn decodable(table: &Table, bytes: &[u8]) -> Option<char>
+    ensures { MatchOption result (AreNoDecodable (set_of table.now) bytes.now)
+        (AreDecodable (set_of table.now) bytes.now) }
+{
+    let Ok(text) = str::from_utf8(bytes) else {
+        return None;
+    };
+    if text.is_empty() {
+        return None;
+    }
+    let ch = char_at(text, 0);
+    if ch.len_utf8() == bytes.len() && table.decodable().allows(ch) {
+        Some(ch)
+    } else {
+        None
+    }
+}
+
+/// The most bytes that a character has in UTF-8.
+const MOST_BYTES: usize = 4;
+
+/// Returns the decodable character whose octets end the text, and the text before them, or `None`
+/// if no such octets end the text.
+pub(crate) fn split_last_decodable<'a>(table: &Table, text: &'a str) -> Option<(&'a str, char)>
+    requires { IsValidFor widest_set text.now }
+    ensures { MatchOption result (TokensEndInNoDecodable (set_of table.now) (tokens text.now))
+        (λ found. EndsInDecodable (set_of table.now) text.now found.0.now found.1) }
+{
+    let mut bytes = [0; MOST_BYTES];
+    let mut start = MOST_BYTES;
+    let mut before = text;
+    while start > 0 {
+        let Some((rest, value)) = split_last_octet(before) else {
+            return None;
+        };
+        before = rest;
+        start -= 1;
+        bytes[start] = value;
+        if let Some(ch) = decodable(table, &bytes[start..]) {
+            return Some((before, ch));
+        }
+    }
+    None
+}

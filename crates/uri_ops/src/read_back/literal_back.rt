@@ -1,0 +1,59 @@
+//! Texts that normalising copies, or writes in lower case, read from their end.
+ghost use Rattle.std.specs.Prelude.{◌≡◌, ◌++◌, ◌∷◌, if◌then◌else◌};
+ghost use Rattle.std.specs.Str.{str_to_ascii_lowercase};
+ghost use Rattle.uri_ops.specs.FromEnd.Literals.{cased};
+
+use crate::read_back::ReadBack;
+
+/// A text that is read from its end as it is, or with its ASCII letters in lower case.
+#[derive(Clone, Copy)]
+pub struct LiteralBack<'a> {
+    text: &'a [u8],
+    lowers: bool,
+}
+
+impl<'a> LiteralBack<'a> {
+    ghost use Rattle.uri_ops.specs.FromEnd.Literals.{literal_unread};
+
+    /// Returns the text to read as it is.
+    #[inline(always)]
+    pub fn copied(text: &'a [u8]) -> Self
+        ensures { literal_unread result ≡ text.now }
+    {
+        LiteralBack {
+            text,
+            lowers: false,
+        }
+    }
+
+    /// Returns the text to read in lower case.
+    #[inline(always)]
+    pub(crate) fn lowered(text: &'a [u8]) -> Self
+        ensures { literal_unread result ≡ str_to_ascii_lowercase text.now }
+    {
+        LiteralBack { text, lowers: true }
+    }
+}
+
+impl<'a> ReadBack for LiteralBack<'a> {
+    ghost use Rattle.uri_ops.specs.FromEnd.Literals.{literal_unread};
+
+    ghost unread = { literal_unread };
+
+    /// Takes the last byte that is left.
+    #[inline(always)]
+    fn next_back(&mut self) -> Option<u8> {
+        let text = self.text;
+        if text.is_empty() {
+            return None;
+        }
+        let end = text.len() - 1;
+        let byte = text[end];
+        self.text = &text[..end];
+        Some(if self.lowers {
+            byte.to_ascii_lowercase()
+        } else {
+            byte
+        })
+    }
+}

@@ -1,0 +1,76 @@
+//! A component of a normal text, read from its end (RFC 3986, section 6.2.2.2; RFC 3987, sections
+//! 4.1 and 5.3.2.3).
+ghost use Rattle.std.specs.Prelude.{◌≡◌, ◌++◌, ◌∷◌, [], IfSome, None};
+ghost use Rattle.uri_pct.specs.Chunks.{widest_set};
+ghost use Rattle.uri_pct.specs.Tables.{set_of};
+ghost use Rattle.uri_pct.specs.Tokens.{IsValidFor};
+
+use crate::read_back::ReadBack;
+use crate::read_back::held::Held;
+use crate::read_back::last_tokens::split_last_ascii;
+use crate::read_back::normal_tokens::{normal_ascii, split_last_token};
+use uri_pct::table::Table;
+
+/// A component of a normal text that is read from its end, with its letters in lower case if
+/// `lowers`. Of the last token that was read, `held` is what is left.
+#[derive(Clone, Copy)]
+pub struct OctetsBack<'a> {
+    table: Table,
+    lowers: bool,
+    rest: &'a str,
+    held: Held,
+    pub ghost valid: { IsValidFor widest_set rest.now },
+}
+
+impl<'a> OctetsBack<'a> {
+    ghost use Rattle.uri_ops.specs.FromEnd.NormalComponents.{normal_component};
+    ghost use Rattle.uri_ops.specs.FromEnd.OctetsBack.{octets_unread};
+
+    /// Returns the normal text of a component, to read from its end, with its letters in lower case
+    /// if `lowers`.
+    pub(crate) fn new(table: &Table, lowers: bool, text: &'a str) -> Self
+        requires { IsValidFor widest_set text.now }
+        ensures { octets_unread result ≡ normal_component lowers (set_of table.now) text.now }
+    {
+        OctetsBack {
+            table: *table,
+            lowers,
+            rest: text,
+            held: Held::nothing(),
+        }
+    }
+
+    /// Takes the last byte that is left, if there is one.
+    pub(crate) fn next_back(&mut self) -> Option<u8>
+        ensures some { IfSome result (λ byte.
+            octets_unread self.old ≡ octets_unread self.new ++ byte ∷ []) }
+        ensures none { result ≡ None → octets_unread self.old ≡ [] }
+        ensures end { result ≡ None → octets_unread self.new ≡ [] }
+    {
+        if let Some(byte) = self.held.pop() {
+            return Some(byte);
+        }
+        if self.rest.is_empty() {
+            return None;
+        }
+        if let Some((rest, byte)) = split_last_ascii(self.rest) {
+            self.rest = rest;
+            return Some(normal_ascii(self.lowers, byte));
+        }
+        let (rest, held) = split_last_token(&self.table, self.lowers, self.rest);
+        self.rest = rest;
+        self.held = held;
+        self.held.pop()
+    }
+}
+
+impl<'a> ReadBack for OctetsBack<'a> {
+    ghost use Rattle.uri_ops.specs.FromEnd.OctetsBack.{octets_unread};
+
+    ghost unread = { octets_unread };
+
+    /// Takes the last byte that is left of the component, if there is one.
+    fn next_back(&mut self) -> Option<u8> {
+        OctetsBack::next_back(self)
+    }
+}

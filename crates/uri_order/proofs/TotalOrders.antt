@@ -1,0 +1,71 @@
+-- The order of normal forms is a total order of the texts that have them.
+use Rattle.std.proofs.Common.{◌≡◌, ◌↔◌, ◌⊎◌, ℕ, List, false, refl, sym, ap, ◌∙◌, inl, inr, Ordering, Less, Equal, Greater, true}
+use Rattle.std.proofs.lemmas.Bool.{false≢true}
+use Rattle.std.specs.Cmp.{IsTotalOrder, tied_itself, upto}
+use Rattle.std.specs.Cmp.Lexicographic.{on_texts}
+use Rattle.std.specs.Ordering.{is_gt, is_le, ordering_reverse}
+use Rattle.uri_parts.specs.Grammar.{IsTextOf, Kind}
+use Rattle.uri_parts.specs.Ports.{PortFunction}
+use Rattle.uri_ops.specs.ComponentSets.{HasComponentSets}
+use Rattle.uri_order.specs.NormalForms.{AreEquivalent, AreEquivalentUnder, normal_form, normal_form_under}
+use Rattle.uri_order.specs.TotalOrders.{IsTotalOrderBy, order_by}
+use Rattle.uri_order.proofs.Equivalences.{equal_in_order_if_equal, equivalent_if_forms_are_equal, forms_under_ports_alone, meanings_under_ports_alone}
+use Rattle.uri_rules.specs.Rules.{Rules, only_ports}
+
+-- total orders: what is at most another is not greater
+at-most-is-not-greater : (order : Ordering) → is_le order ≡ true → is_gt order ≡ false
+at-most-is-not-greater Less e = refl
+at-most-is-not-greater Equal e = refl
+at-most-is-not-greater Greater e = absurd (false≢true e)
+
+-- total orders: what is not greater is at most
+not-greater-is-at-most : (order : Ordering) → is_gt order ≡ false → is_le order ≡ true
+not-greater-is-at-most Less e = refl
+not-greater-is-at-most Equal e = refl
+not-greater-is-at-most Greater e = absurd (false≢true (sym e))
+
+-- total orders: an order is at most, or the other way round it is
+one-way-or-the-other : (order back : Ordering) → order ≡ ordering_reverse back
+    → (is_le order ≡ true) ⊎ (is_le back ≡ true)
+one-way-or-the-other order Less e = inr refl
+one-way-or-the-other order Equal e = inr refl
+one-way-or-the-other order Greater e = inl (ap is_le e)
+
+-- total orders: forms are in one
+pub forms-are-in-total-order : (form : List ℕ → List ℕ) → IsTotalOrderBy form
+forms-are-in-total-order form =
+    let o : IsTotalOrder (order_by form) = on_texts form in
+    record {
+      reflexive = λ one. tied_itself o one;
+      antisymmetric = λ one other. o.antisymm one other;
+      transitive = λ one other third h k. not-greater-is-at-most (order_by form one third)
+          (upto o one other third (at-most-is-not-greater (order_by form one other) h)
+          (at-most-is-not-greater (order_by form other third) k));
+      total = λ one other. one-way-or-the-other (order_by form one other)
+          (order_by form other one) (o.antisymm one other);
+    }
+
+-- total orders: two texts of a kind are equal in the order under rules exactly if they are
+-- equivalent
+pub equal-in-order-if-equivalent-under : (kind : Kind) (rules : Rules) (one other : List ℕ)
+    → HasComponentSets kind → IsTextOf kind one → IsTextOf kind other
+    → (order_by (normal_form_under kind rules) one other ≡ Equal
+    ↔ AreEquivalentUnder kind rules one other)
+equal-in-order-if-equivalent-under kind rules one other sets v w =
+    equivalent_if_forms_are_equal kind rules sets one other v w
+    (equal_in_order_if_equal (normal_form_under kind rules one) (normal_form_under kind rules other)
+    (order_by (normal_form_under kind rules) one other) refl)
+
+-- total orders: the same under default ports alone
+pub equal-in-order-if-equivalent : (kind : Kind) (ports : PortFunction) (one other : List ℕ)
+    → HasComponentSets kind → IsTextOf kind one → IsTextOf kind other
+    → (order_by (normal_form kind ports) one other ≡ Equal ↔ AreEquivalent kind ports one other)
+equal-in-order-if-equivalent kind ports one other sets v w =
+    let same = equal-in-order-if-equivalent-under kind (only_ports ports) one other sets v w in
+    let forms = forms_under_ports_alone kind ports in
+    let meanings = meanings_under_ports_alone kind ports in (
+      λ e. sym (λ i. meanings i one) ∙ same.0 ((λ i. order_by (forms i) one other) ∙ e)
+          ∙ (λ i. meanings i other),
+      λ e. sym (λ i. order_by (forms i) one other)
+          ∙ same.1 ((λ i. meanings i one) ∙ e ∙ sym (λ i. meanings i other)),
+    )

@@ -1,7 +1,0 @@
-use Rattle.std.proofs.Common.{arith}
-use Rattle.std.proofs.lemmas.Grind.{common_steps}
-use Rattle.uri_parts.proofs.HostForms.AddressTexts.{hex_has_no_leading_zeros}
-use Rattle.uri_order.proofs.address_text.put_segment.Goals as goal
-
-pub returns : goal.returns
-returns c = grind (arith, common_steps, hex_has_no_leading_zeros)

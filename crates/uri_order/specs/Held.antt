@@ -1,7 +1,0 @@
--- The text of a token that is read from its end.
-use Rattle.std.specs.Prelude.{ℕ, List, take}
-use Rattle.uri_order.specs.declared.held.Held.{Held}
-
--- what is left of the text that is held
-abbrev pub held_text : Held → List ℕ
-held_text held = take held.len held.bytes
