@@ -104,7 +104,7 @@ must 'the line of a kit with another logic' \
     "$(head -n 1 "$work/err")"
 KIT=$other ./build uritool 2> "$work/err"
 must 'no line of a kit with the same logic' 0 "$(grep -c 'the kit here' "$work/err")"
-no_rt='rt is not on the PATH: add the folder bin of the Rattle kit (README.md, "Build and prove")'
+no_rt='rt is not on the PATH: add the folder bin of the Rattle kit (README.md, "Try it")'
 PATH=$tools ./build uritool 2> "$work/err"
 must 'the status of ./build without rt' 1 $?
 must 'the line of ./build without rt' "build: $no_rt" "$(cat "$work/err")"

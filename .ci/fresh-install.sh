@@ -120,7 +120,7 @@ inside 'a package is not whole' "dpkg --verify $names; dpkg --audit"
 echo 'fresh-install: installed, and upgraded from an earlier version'
 
 # The first commands of README.md.
-of_install=$(sed -n '/^## Install/,/^## Speed/s/^    \(uritool .*\|printf .*\)/\1/p' \
+of_install=$(sed -n '/^## Install/,/^## Work/s/^    \(uritool .*\|printf .*\)/\1/p' \
     "$root/README.md")
 user 'the commands of "Install" in README.md' "$of_install"
 prints 'the commands of "Install" in README.md' "scheme=foo
@@ -129,7 +129,7 @@ path=/over/there
 query=name=ferret
 fragment=nose
 http://example.com/~user"
-first=$(sed -n '/^## Build and prove/,/^## How to call it/s/^    \.\/\(uritool .*\)/\1/p' \
+first=$(sed -n '/^## Try it/,/^## Use it/s/^    \.\/\(uritool .*\)/\1/p' \
     "$root/README.md")
 user 'the first commands of README.md' "$first"
 prints 'the first commands of README.md' "scheme=foo

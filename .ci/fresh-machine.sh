@@ -5,7 +5,7 @@
 #
 # usage: sh .ci/fresh-machine.sh [COMMAND..]      as sh .ci/fresh-machine.sh './build uritool'
 #
-# With no command it runs those of the section "Build and prove" up to ./test. PACKAGES, if set, are
+# With no command it runs those of the section "Try it", and those after it up to ./test. PACKAGES, if set, are
 # installed in place of README.md's, SUITE is the release (bookworm), and MIRROR where it is from.
 set -eu
 root=$(cd "$(dirname "$0")/.." && pwd)
@@ -16,7 +16,7 @@ packages=${PACKAGES-$named}
 [ "$(id -u)" = 0 ] && command -v debootstrap > /dev/null ||
     { echo 'fresh-machine: it needs root and debootstrap' >&2; exit 2; }
 if [ $# -eq 0 ]; then
-    first=$(sed -n '/^## Build and prove/,/^    .\/test$/s/^    \(.\/.*\)/\1/p' "$root/README.md")
+    first=$(sed -n '/^## Try it/,/^    .\/test$/s/^    \(.\/.*\)/\1/p' "$root/README.md")
     # A command a word.
     IFS='
 '

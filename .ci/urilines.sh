@@ -110,7 +110,7 @@ holds closed-input "$? $(cat "$work/err")" '3 error: input failed'
 yes 'http://h/a?b#c' | { "$URILINES" parse uri; echo "$?" > "$work/status"; } 2> "$work/err" | head -n 1 > "$work/out"
 holds closed-output-in-mid-run "$(cat "$work/status") $(cut -c 1-16 "$work/out") $(cat "$work/err")" '0 {"scheme":"http" '
 
-# The recipes of docs/AT_SCALE.md: a line that is an error fails none, and a full disk fails each.
+# The recipes of docs/IN_USE.md: a line that is an error fails none, and a full disk fails each.
 printf 'HTTP://a\nHTTP://b\na b\nHTTP://c/%%7e\nHTTP://a:80\nx:\n' > "$work/urls.txt"
 (cd "$work" && "$URILINES" normalize uri < urls.txt > whole.txt)
 holds recipe-whole "$?" 1

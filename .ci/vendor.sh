@@ -103,13 +103,16 @@ session() {
         found && /^```console$/ { fenced = 1 }' "$root/$1"
 }
 
-# program PAGE CRATE: pastes a whole program of a page, and runs it as the page does
+# program PAGE CRATE: pastes a whole program of a page, or takes that of which the page shows a part,
+# and runs it as the page does
 program() {
     own=$work/$2
     mkdir -p "$own/crates/$2/src"
     "$root/tools/vendor" "$own" > "$work/out" || return
-    shown "$1" 'From `crates.txt`:' >> "$own/crates.txt"
+    grep "^$2:" "$root/crates.txt" >> "$own/crates.txt"
     shown "$1" "From \`crates/$2/src/main.rt\`:" > "$own/crates/$2/src/main.rt"
+    grep -q '^fn main' "$own/crates/$2/src/main.rt" ||
+        cp "$root/crates/$2/src/main.rt" "$own/crates/$2/src/main.rt"
     session "$1" "$2" > "$work/session"
     command=$(sed -n '1s/^\$ //p' "$work/session")
     must "$2: the page has a command" 1 "$(echo "$command" | grep -c 'rt try')"

@@ -13,6 +13,11 @@ their contracts and doc comments, with a search by name: the packages for Debian
 TOGETHER = (
     ("fluent_uri::kind", r"\w+Kind", "The four kinds, as types."),
     ("fluent_uri::build", r"\w*(?:Start|End)", "The states of a builder: which step was the last."),
+    (
+        "fluent_uri::pct_enc::encoder",
+        "I?(?:Userinfo|RegName|Path|Query|Fragment)|Port",
+        "The encoders of the components, as types.",
+    ),
     ("fluent_uri::pct_enc::table", "[A-Z_]+", "The sets of rules of the RFCs, as constants."),
 )
 # Each task, and the items that it has: the name of a module, or of an item with the type that has

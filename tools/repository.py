@@ -13,7 +13,7 @@ OUT = ROOT / "out"
 PARTS = ("src", "specs", "proofs")
 NO_RT = (
     "rt is not on the PATH: add the folder bin of the Rattle kit "
-    '(README.md, "Build and prove")'
+    '(README.md, "Try it")'
 )
 
 

@@ -266,7 +266,7 @@ uint32_t fluent_uri_normalize(uint32_t kind, uint32_t options, const uint8_t *te
  * base, a URI or an IRI; the reference is one of URIs or of IRIs. The target is that of the base
  * without its fragment (section 5.1). OPTIONS is 0 or FLUENT_URI_BASIC: with it a base may be
  * opaque, and a target that has no authority and a path that begins with `//` is
- * FLUENT_URI_PATH_STARTS_WITH_DOUBLE_SLASH. docs/C.md has all differences. */
+ * FLUENT_URI_PATH_STARTS_WITH_DOUBLE_SLASH. docs/CONCEPTS.md has all differences. */
 uint32_t fluent_uri_resolve(uint32_t kind, uint32_t options, const uint8_t *base, size_t base_len,
                             const uint8_t *reference, size_t reference_len, uint8_t *out,
                             size_t out_len, fluent_uri_parts *parts, size_t parts_len,

@@ -143,8 +143,8 @@ static void resolves_against_a_fragment(void) {
                   FLUENT_URI_INVALID_REFERENCE_AGAINST_OPAQUE_BASE, 0, 0));
 }
 
-/* The differences that docs/C.md lists: base, reference, target without options, and by the basic
- * algorithm. */
+/* The differences that docs/CONCEPTS.md lists: base, reference, target without options, and by the
+ * basic algorithm. */
 static void resolves_by_the_basic_algorithm(void) {
     static const char *const rows[][4] = {
         {"http://a/b", "%2E%2E/g", "http://a/g", "http://a/%2E%2E/g"},

@@ -48,7 +48,7 @@ SELECT uri_error('http://a b'), uri_error('http://a'), uri_error('http://é b', 
        uri_error_position('http://a b'), uri_error_position('http://a');
 SELECT uri_is('url', 'http://a');
 
--- Links that are no references (docs/MENDING.md).
+-- Links that are no references (docs/CONCEPTS.md).
 SELECT uri_mend('http://h/a b?x=[1]'), uri_mend('/50%', 'uri-ref'), uri_mend('1:2', 'uri-ref'),
        uri_mend('/é', 'uri-ref') AS uri, uri_mend('/é', 'iri-ref') AS iri;
 SELECT uri_mend_link(E' http://h/a\n b '), uri_mend_link('/a b'), uri_mend_link('x:é ', 'iri');

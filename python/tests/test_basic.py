@@ -94,22 +94,21 @@ class TestBasic(unittest.TestCase):
 
 
 class TestPages(unittest.TestCase):
-    """The tables of the pages have what the calls return."""
+    """The table of the page has what the calls return."""
 
     def test_differences(self):
         found = 0
-        for page in ["PYTHON.md", "C.md"]:
-            text = (ROOT / "docs" / page).read_text(encoding="utf-8")
-            for base, reference, by_basic, without in ROW.findall(text):
-                base = Uri.parse(base)
-                for wanted, basic in [(by_basic, True), (without, False)]:
-                    try:
-                        made = str(base.resolve(reference, basic=basic))
-                    except ResolveError as error:
-                        made = error.kind.name
-                    self.assertEqual(made, wanted, (page, base, reference, basic))
-                found += 1
-        self.assertEqual(found, 12)
+        text = (ROOT / "docs" / "CONCEPTS.md").read_text(encoding="utf-8")
+        for base, reference, by_basic, without in ROW.findall(text):
+            base = Uri.parse(base)
+            for wanted, basic in [(by_basic, True), (without, False)]:
+                try:
+                    made = str(base.resolve(reference, basic=basic))
+                except ResolveError as error:
+                    made = error.kind.name
+                self.assertEqual(made, wanted, (base, reference, basic))
+            found += 1
+        self.assertEqual(found, 6)
 
 
 if __name__ == "__main__":

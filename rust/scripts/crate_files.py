@@ -12,13 +12,16 @@ from erase import erase
 HERE = Path(__file__).resolve().parent.parent
 REPOSITORY = HERE.parent
 STANDINS = ["borrow-or-share", "ref-cast"]
+# The heading of the page from which on it is for those who go over to Rattle.
+NOT_OF_CRATE = "## From the crate to Rattle"
 
 
 def write_crate(crate):
     """Writes the crate as its package has it."""
     shutil.copytree(HERE / "facade", crate, ignore=shutil.ignore_patterns("target", "Cargo.lock"))
     shutil.copy(REPOSITORY / "LICENSE", crate / "LICENSE")
-    shutil.copy(REPOSITORY / "docs" / "RUST.md", crate / "README.md")
+    page = (REPOSITORY / "docs" / "RUST.md").read_text()
+    (crate / "README.md").write_text(page.partition(f"\n{NOT_OF_CRATE}\n")[0])
     erase(REPOSITORY, crate / "src" / "proved")
 
 

@@ -15,7 +15,7 @@ URLS = REPOSITORY / "tools" / "bench" / "urls.txt"
 SEED = "20261128"
 ROUNDS = "500"
 FEATURES = ["--features", "std,net"]
-# Its last assertion decodes formatting characters of bidirectional text (docs/DIFFERENCES.md).
+# Its last assertion decodes formatting characters of bidirectional text (docs/RUST.md).
 DIFFERENT_TEST = "uri_to_iri"
 # What this crate alone has: modules, calls that return an error where memory is denied, texts that
 # are mended, and its errors as the original's.

@@ -55,7 +55,7 @@ SELECT uri_encode('path', uri_decode('path', '%FF%00a%C3%A9'));
 SELECT uri_decode('path', 'a b');
 SELECT uri_decode('port', '80');
 SELECT uri_decode('nothing', '80');
--- Links that are no references (docs/MENDING.md).
+-- Links that are no references (docs/CONCEPTS.md).
 SELECT uri_mend('http://h/a b?x=[1]'), uri_mend('/50%', 'uri-ref'), uri_mend('1:2', 'uri-ref'),
        uri_mend('/é', 'uri-ref'), uri_mend('/é', 'iri-ref'), uri_mend('http://h/a');
 SELECT uri_mend_link(' http://h/a' || char(10) || ' b '), uri_mend_link('/a b'),

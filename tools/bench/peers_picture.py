@@ -2,6 +2,9 @@
 import html
 import re
 
+TITLE = "A URL of the list: nanoseconds, and how often those of fluent_uri"
+# The lines that have a colour of their own.
+OURS, LIMIT = "fluent_uri", "the limit"
 # Pixels; a panel is so many nanoseconds wide, and a longer bar is cut at its end.
 NAMES, PANEL, GAP, ROW, BAR, TOP, BOTTOM = 172, 196, 28, 26, 16, 62, 34
 SHOWN = 1600
@@ -32,10 +35,9 @@ def text(x, y, words, of, **more):
     return f'<text x="{x:g}" y="{y:g}" class="{of}"{told}>{html.escape(words)}</text>'
 
 
-def drawn(page, title, ours, limit):
-    """The picture as text: the lines `ours` and `limit` have a colour of their own. Lines with a
-    comma in their names are left out."""
-    heads, lines = rows_of(page, title)
+def drawn(page):
+    """The picture as text. Lines with a comma in their names are left out."""
+    heads, lines = rows_of(page, TITLE)
     heads = [it.replace("`", "") for it in heads[1:-1]]
     lines = [it for it in lines if "," not in it[0]]
     height = TOP + ROW * len(lines) + BOTTOM
@@ -43,7 +45,7 @@ def drawn(page, title, ours, limit):
     out = [
         f'<svg xmlns="http://www.w3.org/2000/svg" viewBox="0 0 {width} {height}" width="{width}" '
         f'height="{height}" font-family="system-ui, sans-serif" font-size="13">',
-        f"<title>{html.escape(title)}</title>",
+        f"<title>{html.escape(TITLE)}</title>",
         f"<style>{STYLE}</style>",
         f'<rect width="{width}" height="{height}" rx="6" class="page"/>',
     ]
@@ -51,9 +53,9 @@ def drawn(page, title, ours, limit):
         left = NAMES + column * (PANEL + GAP)
         out.append(text(left, 26, head, "ink", font_weight="bold"))
         out.append(text(left, 44, "nanoseconds", "quiet"))
-        least = next(number(it[column + 1]) for it in lines if it[0] == limit)
+        least = next(number(it[column + 1]) for it in lines if it[0] == LIMIT)
         for at, cells in enumerate(lines):
-            of = {ours: "ours", limit: "limit"}.get(cells[0], "peer")
+            of = {OURS: "ours", LIMIT: "limit"}.get(cells[0], "peer")
             took, top = number(cells[column + 1]), TOP + at * ROW
             long = min(took / SHOWN, 1) * (PANEL - 44)
             out.append(f'<rect x="{left}" y="{top}" width="{max(long, 1):.1f}" height="{BAR}" '
@@ -66,7 +68,7 @@ def drawn(page, title, ours, limit):
         out.append(f'<rect x="{at:.1f}" y="{TOP - 6}" width="1" height="{ROW * len(lines)}" '
                    'class="limit"/>')
     for at, cells in enumerate(lines):
-        bold = {"font_weight": "bold"} if cells[0] == ours else {}
+        bold = {"font_weight": "bold"} if cells[0] == OURS else {}
         bold["text_anchor"] = "end"
         out.append(text(NAMES - 12, TOP + at * ROW + 13, cells[0], "ink", **bold))
     told = "Shorter is better. The line is the limit: each byte is tested once, the result copied."

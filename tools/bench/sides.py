@@ -11,6 +11,8 @@ ROOT = BENCH.parent.parent
 OUT = ROOT / "out" / "bench"
 # So many rounds one start of the programs has.
 STARTED = 5
+# The tables that were printed.
+PRINTED = []
 
 
 def run(*words, **how):
@@ -133,6 +135,7 @@ def clocked(sides, rows, rounds):
 
 
 def print_table(title, heads, lines):
-    print(f"\n### {title}\n\n| {' | '.join(['', *heads])} |\n|{'---|' * (len(heads) + 1)}")
-    for line in lines:
-        print(f"| {' | '.join(line)} |", flush=True)
+    table = "\n".join(f"| {' | '.join(it)} |" for it in lines)
+    head = f"### {title}\n\n| {' | '.join(['', *heads])} |\n|{'---|' * (len(heads) + 1)}"
+    PRINTED.append(f"{head}\n{table}\n")
+    print(f"\n{PRINTED[-1]}", end="", flush=True)

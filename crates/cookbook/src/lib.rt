@@ -7,6 +7,7 @@ pub mod errors;
 pub mod frontier;
 pub mod links;
 pub mod normal;
+pub mod owned;
 pub mod pairs;
 pub mod parts;
 pub mod reach;

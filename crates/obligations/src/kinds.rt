@@ -1,4 +1,4 @@
-//! The calls of `Uri`, `UriRef`, `Iri` and `IriRef` that `docs/FROM_RUST.md` lists, each with what
+//! The calls of `Uri`, `UriRef`, `Iri` and `IriRef` that `docs/RUST.md` lists, each with what
 //! a caller may say of the text.
 #![tactic(auto)]
 

@@ -32,7 +32,7 @@ use std::process::ExitCode;
 use texts::{mutated, with_ports, Random};
 
 /// The formatting characters of bidirectional text, which only the original decodes when it
-/// normalizes (docs/DIFFERENCES.md).
+/// normalizes (docs/RUST.md).
 const FORMATTING: [char; 7] =
     ['\u{200E}', '\u{200F}', '\u{202A}', '\u{202B}', '\u{202C}', '\u{202D}', '\u{202E}'];
 

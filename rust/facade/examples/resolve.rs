@@ -3,8 +3,8 @@
 use fluent_uri::{ParseError, Uri, UriRef};
 
 fn main() -> Result<(), ParseError> {
-    let page = Uri::parse("http://example.com/docs/a.html")?;
-    let link = UriRef::parse("../%7Euser/?q=1#top")?;
+    let page = Uri::parse("http://example.com/a/b?c")?;
+    let link = UriRef::parse("../d")?;
     let target = link.resolve_against(&page).expect("the page has no fragment");
     println!("{}", target.normalize());
     println!("{}", target.authority().map_or("", |authority| authority.host()));
