@@ -24,12 +24,14 @@ export function resultOf(kind, module, given) {
 export const referenceText = (kind, given, mend) =>
   textOf(mend ? CLASSES[kind + 1].mend(given) : given);
 
+const RESOLVE = { call: 'resolve', number: 0 };
+
 /** The call of a module that resolves by these options, and their number. */
 export function resolvingOf({ basic = false, normalize = false, schemeRules = false }) {
   if (basic && normalize) throw new TypeError('normalize does not go with basic');
   if (schemeRules && !normalize) throw new TypeError('schemeRules goes with normalize');
-  return normalize ? ['resolve_normalized', schemeRules ? SCHEME_RULES : 0]
-    : ['resolve', basic ? BASIC : 0];
+  return normalize ? { call: 'resolve_normalized', number: schemeRules ? SCHEME_RULES : 0 }
+    : { call: 'resolve', number: basic ? BASIC : 0 };
 }
 
 export const relativizingOf = ({ preferRelativePath = false }) =>
@@ -45,7 +47,9 @@ function withoutWhiteSpace(link) {
 }
 
 function compareTexts(kind, one, other, options) {
-  const rules = rulesOf(options), [first, second] = core.putBoth(one, other);
+  const rules = rulesOf(options);
+  core.reserve(other.length);
+  const first = core.putWhole(one), second = core.putSecond(other);
   return core.number('compare', kind, rules, core.first, first, core.second, second) - 1;
 }
 
@@ -125,9 +129,9 @@ const membersOf = (kind) => ({
 });
 
 const membersOfBases = (kind) => ({
-  resolve(reference, options = {}) {
-    const [call, number] = resolvingOf(options);
-    const text = textOf(this), other = referenceText(kind, reference, options.mend);
+  resolve(reference, options) {
+    const { call, number } = options === undefined ? RESOLVE : resolvingOf(options);
+    const text = textOf(this), other = referenceText(kind, reference, options?.mend);
     core.callTwo(call, kind, number, text, other);
     return resultOf(kind, core, text) ?? this;
   },
