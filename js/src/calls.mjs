@@ -20,9 +20,8 @@ export function resultOf(kind, module, given) {
   return text === given ? null : makerOf(kind)(text, module.length, module);
 }
 
-/** The text of a reference, or what it is mended to: a base of a kind has those of the next. */
-export const referenceText = (kind, given, mend) =>
-  textOf(mend ? CLASSES[kind + 1].mend(given) : given);
+// What a reference is mended to: those of a base of a kind are of the next.
+const mendedText = (kind, reference) => textOf(CLASSES[kind + 1].mend(reference));
 
 const RESOLVE = { call: 'resolve', number: 0 };
 
@@ -131,12 +130,13 @@ const membersOf = (kind) => ({
 const membersOfBases = (kind) => ({
   resolve(reference, options) {
     const { call, number } = options === undefined ? RESOLVE : resolvingOf(options);
-    const text = textOf(this), other = referenceText(kind, reference, options?.mend);
+    const text = textOf(this);
+    const other = options?.mend ? mendedText(kind, reference) : textOf(reference);
     core.callTwo(call, kind, number, text, other);
     return resultOf(kind, core, text) ?? this;
   },
   relativize(target, options = {}) {
-    const other = referenceText(kind, target, options.mend);
+    const other = options.mend ? mendedText(kind, target) : textOf(target);
     core.callTwo('relativize', kind, relativizingOf(options), textOf(this), other);
     return resultOf(kind + 1, core);
   },

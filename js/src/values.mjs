@@ -153,8 +153,8 @@ export const makerOf = (kind) => makers[kind];
 export function textOf(given) {
   if (typeof given === 'string') return given;
   if (typeof given === 'object' && given !== null)
-    for (const reader of readers) {
-      const text = reader(given);
+    for (let kind = 0; kind < readers.length; kind++) {
+      const text = readers[kind](given);
       if (text !== undefined) return text;
     }
   throw new TypeError('a string, a Uri, UriRef, Iri or IriRef is needed');
