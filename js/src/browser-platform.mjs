@@ -21,4 +21,4 @@ export function reader(memory) {
   };
 }
 
-export const shortLength = 200;
+export const shortLength = 160;
