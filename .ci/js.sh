@@ -10,6 +10,9 @@
 [ $# -gt 0 ] || set -- support size differ memory stacks programs api rows random types ajv page \
     faults
 modules=/usr/share/nodejs suite=/usr/share/json-schema-test-suite
+# Chromium leaves folders in it.
+TMPDIR=$work
+export TMPDIR
 
 # tells WHAT COMMAND..: as `does`, and prints the last line.
 tells() {

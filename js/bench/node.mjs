@@ -5,7 +5,7 @@ import * as api from 'fluent-uri';
 import { rowsOf, timesOf } from './rows.mjs';
 
 const require = createRequire(import.meta.url);
-const [file, rounds = 31] = process.argv.slice(2);
+const [file, rounds = 61] = process.argv.slice(2);
 // Each text is a string of its own, and not a part of the file's.
 const urls = readFileSync(file, 'utf8').split('\n').filter((it) => /^\w+:/.test(it))
   .map((it) => Buffer.from(it).toString());

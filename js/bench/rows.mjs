@@ -5,7 +5,8 @@ const REFERENCES = [
   '../d/e?x=1', 'g', './h/../i', '?y', '#s', '//other.example/k', '/root/x',
 ];
 
-/** Returns the rows: a name, and a run over all texts. `uriJs` may be absent. */
+/** Returns the rows: a name, a run over all texts, and the name of the row beside which it is looked
+ * at, if there is one. `uriJs` may be absent. */
 export function rowsOf({ Uri, batch }, uriJs, urls) {
   const each = (call) => () => {
     let made;
@@ -20,35 +21,38 @@ export function rowsOf({ Uri, batch }, uriJs, urls) {
   };
   const lines = new TextEncoder().encode(`${urls.join('\n')}\n`);
   const rows = [
-    ['Uri.parse', each((it) => Uri.parse(it))],
+    ['Uri.parse', each((it) => Uri.parse(it)), 'new URL'],
     ['new URL', each((it) => new URL(it))],
     ['uri-js parse', uriJs && each((it) => uriJs.parse(it))],
-    ['Uri.canParse', each((it) => Uri.canParse(it))],
+    ['Uri.canParse', each((it) => Uri.canParse(it)), 'URL.canParse'],
     ['URL.canParse', URL.canParse && each((it) => URL.canParse(it))],
-    ['Uri.parse, normalize', each((it) => Uri.parse(it).normalize())],
+    ['Uri.parse, normalize', each((it) => Uri.parse(it).normalize()), 'new URL'],
     ['uri-js normalize', uriJs && each((it) => uriJs.normalize(it))],
-    ['Uri: base.resolve', eachReference((it) => base.resolve(it))],
+    ['Uri: base.resolve', eachReference((it) => base.resolve(it)), 'new URL(reference, base)'],
     ['new URL(reference, base)', eachReference((it) => new URL(it, BASE))],
     ['uri-js resolve', uriJs && eachReference((it) => uriJs.resolve(BASE, it))],
-    ['batch.normalize', () => batch.normalize(urls)],
-    ['batch.normalizeLines', () => batch.normalizeLines(lines)],
+    ['batch.normalize', () => batch.normalize(urls), 'new URL'],
+    ['batch.normalizeLines', () => batch.normalizeLines(lines), 'new URL'],
   ];
   return rows.filter(([, run]) => run);
 }
 
-/** Returns nanoseconds a text of each row: the least and the median of rounds, in which the rows
- * take turns. */
+const median = (values) => values.sort((a, b) => a - b)[values.length >> 1];
+
+/** Returns of each row the least nanoseconds a text of rounds, in which the rows take turns, and the
+ * median of the rounds' ratios to the row beside it. */
 export function timesOf(rows, count, rounds, now) {
-  const took = rows.map(() => []);
-  for (let i = 0; i < 20; i++) for (const [, run] of rows) run();
+  const took = new Map(rows.map(([name]) => [name, []]));
+  for (let i = 0; i < 50; i++) for (const [, run] of rows) run();
   for (let i = 0; i < rounds; i++)
-    rows.forEach(([, run], n) => {
+    for (const [name, run] of rows) {
       const began = now();
       for (let k = 0; k < 5; k++) run();
-      took[n].push(((now() - began) * 1e6) / (5 * count));
-    });
-  return rows.map(([name], n) => {
-    const sorted = took[n].sort((a, b) => a - b);
-    return { name, least: sorted[0], median: sorted[sorted.length >> 1] };
+      took.get(name).push(((now() - began) * 1e6) / (5 * count));
+    }
+  return rows.map(([name, , beside]) => {
+    const times = took.get(name), others = took.get(beside);
+    const ratio = others ? median(times.map((it, i) => it / others[i])) : null;
+    return { name, least: Math.min(...times), beside, ratio };
   });
 }

@@ -158,7 +158,7 @@ export const batch = Object.freeze({
       .results(mended(texts, kind, options));
   },
   resolve(base, texts, options = {}) {
-    const [kind, ofReferences] = kindsOf(base), [call, number] = resolvingOf(options);
+    const [kind, ofReferences] = kindsOf(base), { call, number } = resolvingOf(options);
     return new Batch(`${call}_batch`, [kind, number], textOf(base))
       .results(mended(texts, ofReferences, options));
   },

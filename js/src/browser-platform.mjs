@@ -10,10 +10,15 @@ export async function compiled(url) {
 export const openerOf = (module) => () => new WebAssembly.Instance(module).exports;
 
 const decoder = new TextDecoder('utf-8', { ignoreBOM: true });
+// A TextDecoder takes more time for so few bytes.
+const FEW = 40;
 
 export function reader(memory) {
   const bytes = new Uint8Array(memory);
-  return (at, length) => decoder.decode(bytes.subarray(at, at + length));
+  return (at, length, isAscii) => {
+    const text = bytes.subarray(at, at + length);
+    return isAscii && length <= FEW ? String.fromCharCode.apply(null, text) : decoder.decode(text);
+  };
 }
 
-export const shortLength = 200;
+export const shortLength = 160;

@@ -20,16 +20,17 @@ export function resultOf(kind, module, given) {
   return text === given ? null : makerOf(kind)(text, module.length, module);
 }
 
-/** The text of a reference, or what it is mended to: a base of a kind has those of the next. */
-export const referenceText = (kind, given, mend) =>
-  textOf(mend ? CLASSES[kind + 1].mend(given) : given);
+// What a reference is mended to: those of a base of a kind are of the next.
+const mendedText = (kind, reference) => textOf(CLASSES[kind + 1].mend(reference));
+
+const RESOLVE = { call: 'resolve', number: 0 };
 
 /** The call of a module that resolves by these options, and their number. */
 export function resolvingOf({ basic = false, normalize = false, schemeRules = false }) {
   if (basic && normalize) throw new TypeError('normalize does not go with basic');
   if (schemeRules && !normalize) throw new TypeError('schemeRules goes with normalize');
-  return normalize ? ['resolve_normalized', schemeRules ? SCHEME_RULES : 0]
-    : ['resolve', basic ? BASIC : 0];
+  return normalize ? { call: 'resolve_normalized', number: schemeRules ? SCHEME_RULES : 0 }
+    : { call: 'resolve', number: basic ? BASIC : 0 };
 }
 
 export const relativizingOf = ({ preferRelativePath = false }) =>
@@ -45,7 +46,9 @@ function withoutWhiteSpace(link) {
 }
 
 function compareTexts(kind, one, other, options) {
-  const rules = rulesOf(options), [first, second] = core.putBoth(one, other);
+  const rules = rulesOf(options);
+  core.reserve(other.length);
+  const first = core.putWhole(one), second = core.putSecond(other);
   return core.number('compare', kind, rules, core.first, first, core.second, second) - 1;
 }
 
@@ -124,14 +127,15 @@ const membersOf = (kind) => ({
 });
 
 const membersOfBases = (kind) => ({
-  resolve(reference, options = {}) {
-    const [call, number] = resolvingOf(options);
-    const text = textOf(this), other = referenceText(kind, reference, options.mend);
+  resolve(reference, options) {
+    const { call, number } = options === undefined ? RESOLVE : resolvingOf(options);
+    const text = textOf(this);
+    const other = options?.mend ? mendedText(kind, reference) : textOf(reference);
     core.callTwo(call, kind, number, text, other);
     return resultOf(kind, core, text) ?? this;
   },
   relativize(target, options = {}) {
-    const other = referenceText(kind, target, options.mend);
+    const other = options.mend ? mendedText(kind, target) : textOf(target);
     core.callTwo('relativize', kind, relativizingOf(options), textOf(this), other);
     return resultOf(kind + 1, core);
   },

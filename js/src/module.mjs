@@ -148,13 +148,6 @@ export class Module {
     return bytes.length;
   }
 
-  /** Puts two texts into their rooms. Returns their lengths. */
-  putBoth(one, other) {
-    if (other.length > this.#capacity) this.reserve(other.length);
-    // The first text may make larger rooms, and never smaller ones.
-    return [this.putWhole(one), this.putSecond(other)];
-  }
-
   /** Puts a text into the second room, which is large enough. Returns its length. */
   putSecond(text) {
     const length = this.#write(text, this.#secondView);
@@ -243,7 +236,9 @@ export class Module {
   /** The same with two texts. */
   callTwo(name, kind, options, one, other) {
     for (;;) {
-      const [first, second] = this.putBoth(one, other);
+      // The first text may make larger rooms, and never smaller ones.
+      this.reserve(other.length);
+      const first = this.putWhole(one), second = this.putSecond(other);
       let error;
       try {
         error = this.calls[name](kind, options, this.#room, first, this.second, second, this.out,

@@ -17,119 +17,121 @@ export class Reference {
   }
 }
 
+// A text, and where each of its components ends or starts, ABSENT if it is absent.
+class Places {
+  /** Takes the parts of a text from memory, where `length` is that of its UTF-8. */
+  constructor(text, length, ints, at) {
+    this.text = text;
+    this.hostKind = ints[at + 1];
+    this.schemeEnd = ints[at + SCHEME + 2];
+    this.authority = ints[at + AUTHORITY];
+    this.host = ints[at + HOST];
+    this.hostEnd = ints[at + HOST + 2];
+    this.authorityEnd = ints[at + AUTHORITY + 2];
+    this.pathEnd = ints[at + PATH + 2];
+    this.queryEnd = ints[at + QUERY + 2];
+    if (length !== text.length) this.#convert();
+  }
+
+  // Makes indices of byte offsets. A scheme and the delimiters after it are ASCII.
+  #convert() {
+    const cursor = new Cursor(this.text);
+    if (this.authority !== ABSENT) {
+      this.host = cursor.indexOf(this.host);
+      this.hostEnd = cursor.indexOf(this.hostEnd);
+      this.authorityEnd = cursor.indexOf(this.authorityEnd);
+    }
+    this.pathEnd = cursor.indexOf(this.pathEnd);
+    if (this.queryEnd !== ABSENT) this.queryEnd = cursor.indexOf(this.queryEnd);
+  }
+
+  get path() {
+    return this.authority === ABSENT ? this.schemeEnd + 1 : this.authorityEnd;
+  }
+  // Past the end of the text where there is no fragment.
+  get fragment() {
+    return (this.queryEnd === ABSENT ? this.pathEnd : this.queryEnd) + 1;
+  }
+}
+
 // For each kind, what returns the text of a value of it, or undefined of anything else, and what
 // makes a value of a text of so many bytes, of which a module has the parts.
 const readers = [], makers = [];
 
-// A class without `super` in its constructor, which takes a third of the time of one with it.
+// The four classes share this code. So a class has one private field: with more V8 takes several
+// times as long to make values, once a program makes those of two classes.
 const classOf = (kind, name) => {
   const Class = class {
-    #text;
-    #hostKind;
-    // Where each of these ends or starts in the text, ABSENT if it is absent.
-    #schemeEnd;
-    #authority;
-    #host;
-    #hostEnd;
-    #authorityEnd;
-    #pathEnd;
-    #queryEnd;
+    #places;
 
     static {
-      readers[kind] = (value) => (#text in value ? value.#text : undefined);
+      readers[kind] = (value) => (#places in value ? value.#places.text : undefined);
       makers[kind] = (text, length, { ints, parts }) =>
-        new Class(SECRET, text, length, ints, parts >> 2);
+        new Class(SECRET, new Places(text, length, ints, parts >> 2));
     }
 
-    /** Takes the parts of a text from memory, where `length` is that of its UTF-8. */
-    constructor(secret, text, length, ints, at) {
+    constructor(secret, places) {
       if (secret !== SECRET) return new Reference();
-      this.#text = text;
-      this.#hostKind = ints[at + 1];
-      this.#schemeEnd = ints[at + SCHEME + 2];
-      this.#authority = ints[at + AUTHORITY];
-      this.#host = ints[at + HOST];
-      this.#hostEnd = ints[at + HOST + 2];
-      this.#authorityEnd = ints[at + AUTHORITY + 2];
-      this.#pathEnd = ints[at + PATH + 2];
-      this.#queryEnd = ints[at + QUERY + 2];
-      if (length !== text.length) this.#convert();
+      this.#places = places;
       Object.freeze(this);
     }
 
-    // Makes indices of byte offsets. A scheme and the delimiters after it are ASCII.
-    #convert() {
-      const cursor = new Cursor(this.#text);
-      if (this.#authority !== ABSENT) {
-        this.#host = cursor.indexOf(this.#host);
-        this.#hostEnd = cursor.indexOf(this.#hostEnd);
-        this.#authorityEnd = cursor.indexOf(this.#authorityEnd);
-      }
-      this.#pathEnd = cursor.indexOf(this.#pathEnd);
-      if (this.#queryEnd !== ABSENT) this.#queryEnd = cursor.indexOf(this.#queryEnd);
-    }
-
     get scheme() {
-      return this.#schemeEnd === ABSENT ? null : this.#text.slice(0, this.#schemeEnd);
+      const { text, schemeEnd } = this.#places;
+      return schemeEnd === ABSENT ? null : text.slice(0, schemeEnd);
     }
     get authority() {
-      return this.#authority === ABSENT ? null
-        : this.#text.slice(this.#authority, this.#authorityEnd);
+      const { text, authority, authorityEnd } = this.#places;
+      return authority === ABSENT ? null : text.slice(authority, authorityEnd);
     }
     get userinfo() {
-      return this.#host === this.#authority ? null
-        : this.#text.slice(this.#authority, this.#host - 1);
+      const { text, authority, host } = this.#places;
+      return host === authority ? null : text.slice(authority, host - 1);
     }
     get host() {
-      return this.#authority === ABSENT ? null : this.#text.slice(this.#host, this.#hostEnd);
+      const { text, host, hostEnd } = this.#places;
+      return host === ABSENT ? null : text.slice(host, hostEnd);
     }
     get port() {
-      return this.#hostEnd === this.#authorityEnd ? null
-        : this.#text.slice(this.#hostEnd + 1, this.#authorityEnd);
+      const { text, hostEnd, authorityEnd } = this.#places;
+      return hostEnd === authorityEnd ? null : text.slice(hostEnd + 1, authorityEnd);
     }
     get path() {
-      return this.#text.slice(this.#pathStart, this.#pathEnd);
+      const { text, path, pathEnd } = this.#places;
+      return text.slice(path, pathEnd);
     }
     get query() {
-      return this.#queryEnd === ABSENT ? null
-        : this.#text.slice(this.#pathEnd + 1, this.#queryEnd);
+      const { text, pathEnd, queryEnd } = this.#places;
+      return queryEnd === ABSENT ? null : text.slice(pathEnd + 1, queryEnd);
     }
     get fragment() {
-      const start = this.#fragmentStart;
-      return start > this.#text.length ? null : this.#text.slice(start);
+      const { text, fragment } = this.#places;
+      return fragment > text.length ? null : text.slice(fragment);
     }
     get hostKind() {
-      return HOST_KINDS[this.#hostKind];
-    }
-
-    get #pathStart() {
-      return this.#authority === ABSENT ? this.#schemeEnd + 1 : this.#authorityEnd;
-    }
-    // Past the end of the text where there is no fragment.
-    get #fragmentStart() {
-      return (this.#queryEnd === ABSENT ? this.#pathEnd : this.#queryEnd) + 1;
+      return HOST_KINDS[this.#places.hostKind];
     }
 
     span(name) {
       if (!COMPONENTS.includes(name)) throw new TypeError(`there is no component ${String(name)}`);
       const value = this[name];
       if (value === null) return null;
+      const { authority, host, hostEnd, path, pathEnd, fragment } = this.#places;
       const start = {
-        scheme: 0, authority: this.#authority, userinfo: this.#authority, host: this.#host,
-        port: this.#hostEnd + 1, path: this.#pathStart, query: this.#pathEnd + 1,
-        fragment: this.#fragmentStart,
+        scheme: 0, authority, userinfo: authority, host, port: hostEnd + 1, path,
+        query: pathEnd + 1, fragment,
       }[name];
       return [start, start + value.length];
     }
 
     toString() {
-      return this.#text;
+      return this.#places.text;
     }
     toJSON() {
-      return this.#text;
+      return this.#places.text;
     }
     [Symbol.for('nodejs.util.inspect.custom')]() {
-      return `${name} { '${this.#text}' }`;
+      return `${name} { '${this.#places.text}' }`;
     }
   };
   Object.setPrototypeOf(Class, Reference);
@@ -151,8 +153,8 @@ export const makerOf = (kind) => makers[kind];
 export function textOf(given) {
   if (typeof given === 'string') return given;
   if (typeof given === 'object' && given !== null)
-    for (const reader of readers) {
-      const text = reader(given);
+    for (let kind = 0; kind < readers.length; kind++) {
+      const text = readers[kind](given);
       if (text !== undefined) return text;
     }
   throw new TypeError('a string, a Uri, UriRef, Iri or IriRef is needed');

@@ -72,7 +72,8 @@ def is_seen(tree, part, wanted):
 def digest():
     files = [it for top in ("js", ".ci", "crates/fluent_uri_c", "c")
              for it in sorted((ROOT / top).rglob("*"))
-             if it.is_file() and not {"out", "wasm", "cjs", "__pycache__"} & {*it.parts}]
+             if it.is_file() and it.suffix != ".md"
+             and not {"out", "wasm", "cjs", "__pycache__"} & {*it.parts}]
     found = hashlib.sha256()
     for it in files:
         found.update(repr((str(it.relative_to(ROOT)), it.read_bytes())).encode())

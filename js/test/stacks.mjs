@@ -46,6 +46,8 @@ function said(bytes) {
     } catch (why) {
       assert.ok(why instanceof WebAssembly.RuntimeError, String(why));
       room.enter(open().exports);
+      // What the call wrote before it trapped is no part of the next result.
+      room.bytes.fill(0, of.places.OUT, of.places.OUT + of.places.OUT_SIZE);
       trapped = true;
       return 0;
     }
