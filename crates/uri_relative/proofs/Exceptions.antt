@@ -84,8 +84,7 @@ module _ (b t o : Components) (rooted : IsAbemptyPath b.path) (w : IsPathForm b 
   path-reference-misses-exception : is_opaque b ≡ false → needs_authority b t ≡ true → ⊥
   path-reference-misses-exception opaque e =
       ⊎_elim (path-reference-reaches-no-rootless-target opaque)
-      (λ h. ⊎_elim path-reference-does-not-empty-path path-reference-would-not-inherit-query
-      (or_cases (has_emptied_path b t) (would_inherit_query b t) h))
+      (grind (arith, path-reference-does-not-empty-path, path-reference-would-not-inherit-query))
       (or_cases (is_rootless t) (has_emptied_path b t || would_inherit_query b t) e)
 
 -- relativized references: to some targets, each has a scheme or an authority

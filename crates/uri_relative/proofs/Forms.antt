@@ -19,7 +19,7 @@ use Rattle.uri_ops.proofs.Meanings.AllowedParts.{validity-splits-at-slash}
 use Rattle.uri_ops.proofs.Meanings.AsciiCharacters.{ascii-bytes-are-utf8}
 use Rattle.uri_ops.proofs.Paths.PathCharacters.{lacked-delimiters-fail-test, test-of-delimiters-gives-lacks}
 use Rattle.uri_ops.proofs.Paths.TakenSegments.{absolute-path-is-slash-and-rest}
-use Rattle.uri_relative.specs.Forms.{IsDotlessTargetOf, IsReferenceTo, IsUnguarded, NeedsPath, after_path, after_scheme, from_authority}
+use Rattle.uri_relative.specs.Forms.{IsDotlessTargetOf, IsReferenceTo, IsUnguarded, NeedsPath, after_path, from_authority}
 use Rattle.uri_relative.specs.Leading.{IsRelativeTo, needs_authority}
 use Rattle.uri_relative.specs.Relative.{IsPathTo}
 use Rattle.uri_relative.specs.Shortest.{IsShortestPath, Shortest}
@@ -155,34 +155,13 @@ module _ (kind : Kind) (prefers : Bool) (base t : Components) (w : IsDotlessTarg
   network-form-is-reference s some relative opaque least =
       let m = components-of-kind-meet-rules kind t w.meets in
       record {
-        split = record {
-          whole = refl;
-          scheme = tt;
-          authority = w.split.authority;
-          path = w.split.path;
-          query = w.split.query;
-          no_scheme = network-path-has-no-scheme t.authority _ some;
-          no_authority = w.split.no_authority;
-        };
-        meets = reference-components-meet-rules kind (record t { scheme = None }) (record {
-          scheme = refl;
-          authority = m.authority;
-          path = m.path;
-          query = m.query;
-          fragment = m.fragment;
-        }) (or_left (is_some t.authority) _ some);
+        split = grind (arith, no_scheme, network-path-has-no-scheme);
+        meets = grind (arith, reference-components-meet-rules);
         leads = target_of-authority-form base t s some w.settled;
         taken = ap (λ b. b && not (is_fragment_only (record t { scheme = None }))) opaque;
-        below = ap (λ (c : Components). underflows_if_absolute c.path)
-            (let j : dotted_target base (record t { scheme = None })
-            ≡ record t { scheme = base.scheme } =
-            cond-true _ _ _ some in j) ∙ settled-target-does-not-underflow t w.settled;
+        below = grind (arith, settled-target-does-not-underflow);
         relative = relative;
-        short = λ _. omega (
-          arith,
-          scheme-adds-two-bytes-at-least t.scheme (after_scheme t) w.scheme
-              w.split.scheme,
-        );
+        short = grind (arith, scheme-adds-two-bytes-at-least);
         shortest = least;
       }
 
@@ -272,18 +251,13 @@ module _ (kind : Kind) (prefers : Bool) (base t : Components) (w : IsDotlessTarg
   fragment-form-is-reference s a p q =
       let r : Components = record t { scheme = None; authority = None; path = []; query = None } in
       record {
-        split = path-and-query-are-split t [] None
-            (test-of-delimiters-gives-lacks (codes "?#") [] refl) tt refl refl;
+        split = grind (arith, path-and-query-are-split, test-of-delimiters-gives-lacks);
         meets = path-and-query-meet-rules [] None (empty_text_is_valid kind.path) refl refl;
         leads = target_of-fragment-form base t s a p q w.settled;
         taken = and-false (is_opaque base);
         below = ap underflows_if_absolute p ∙ settled-target-does-not-underflow t w.settled;
         relative = reference-without-authority-is-relative base t r refl refl;
-        short = λ _. omega (
-          arith,
-          path-and-tail-are-no-longer-than-target [] (omega arith),
-          length-append (marked (codes "?") t.query []) (marked (codes "#") t.fragment []),
-        );
+        short = grind (arith, path-and-tail-are-no-longer-than-target, length-append);
         shortest = λ _ _. fragment-form-is-shortest kind base t _ (omega arith);
       }
 

@@ -29,8 +29,7 @@ colon-is-in-first-segment-alone (c ∷ s) rest e =
     let more : prefix_len (λ c. not (is_one_of (codes "/") c)) ((c ∷ s) ++ slashed rest)
     ≡ suc (prefix_len (λ c. not (is_one_of (codes "/") c)) (s ++ slashed rest)) =
     cond-true _ _ _ (not_from_false _ (is_one_of-slash-is-equality c ∙ p.0)) ∙ omega arith in
-    ap (λ n. list_any (λ c. eqb c 58) (take n ((c ∷ s) ++ slashed rest))) more
-    ∙ ap (λ b. eqb c 58 || b) (colon-is-in-first-segment-alone s rest p.1)
+    grind (arith, colon-is-in-first-segment-alone s rest p.1)
 
 -- relativized paths: if a text is parsed as a path, it needs no `./`, nor does one with the same
 -- first segment

@@ -35,11 +35,7 @@ target_of-path-form b t path way s a rooted g w =
     let r : Components = record t { scheme = None; authority = None; path = way } in
     let whole : guarded b.authority path ≡ t.path = ap (λ x. guarded x path) a ∙ g in
     ⊎_elim
-    (λ h. let c : Components = record b { path = way; query = t.query; fragment = t.fragment } in
-    let j : dotted_target b r ≡ c = cond-false _ _ _ w.some ∙ cond-true _ _ _ h in
-    let k : joined_path b.path way ≡ way = cond-false _ _ _ w.some ∙ cond-true _ _ _ h in
-    ap with_final_path j ∙ equal-parts-make-equal-components (with_final_path c) t s a
-    (joined-path-is-target-path b.authority b.path way way path t.path w k h whole) refl refl)
+    (grind (arith, equal-parts-make-equal-components, joined-path-is-target-path))
     (λ h. let m = merged b.path way in
     let c : Components = record b { path = m; query = t.query; fragment = t.fragment } in
     let j : dotted_target b r ≡ c = cond-false _ _ _ w.some ∙ cond-false _ _ _ h in

@@ -2,8 +2,7 @@
 use Rattle.std.proofs.Common.{◌≡◌, ℕ, Bool, true, false, List, refl, sym, ap, ◌∙◌, arith, None, Ok, is_some}
 use Rattle.uri_pct.proofs.General.{None-from-not-is_some}
 use Rattle.uri_parts.specs.Components.{Components, components, recompose}
-use Rattle.uri_ops.specs.Resolving.{with_final_path}
-use Rattle.uri_ops.specs.Target.{is_opaque_rejection, dotted_target, resolution_of_texts, target_of}
+use Rattle.uri_ops.specs.Target.{is_opaque_rejection, resolution_of_texts, target_of}
 use Rattle.uri_ops.proofs.Targeting.RefusalOrder.{ok-result-has-no-opaque-rejection, result_or_target_error}
 use Rattle.uri_ops.proofs.Targeting.Targets.{target-text-has-target-components}
 use Rattle.uri_relative.specs.Leading.{LeadsTo, without_fragment, settled}
@@ -51,8 +50,7 @@ resolved-target-is-settled base reference target some e =
     let same = (outcome-is-target-of-base-without-fragment base reference target e).1 in
     let parts : components target ≡ target_of b r =
     sym (ap components same) ∙ target-text-has-target-components base reference some in
-    ap (λ c. recompose (with_final_path c)) parts
-    ∙ ap recompose (final-path-is-idempotent (dotted_target b r)) ∙ same
+    grind (arith, final-path-is-idempotent)
 
 -- relativized references: each that leads to a target that was resolved resolves to it again
 pub reference-leads-back-to-resolved-target : (base reference target short : List ℕ)

@@ -1,7 +1,7 @@
 -- Targets of which no dot segment is left to remove: RFC 3986, section 5.2.2.
 use Rattle.std.proofs.Common.{◌≡◌, ℕ, Bool, true, false, cond, List, [], ◌∷◌, ◌++◌, ◌&&◌, arith, drop, eqb, refl, sym, ap, ◌∙◌, ⊎_elim, codes, Option, None, Some, IfNone, is_some, is_none, IsCharBoundary, IsUtf8}
 use Rattle.std.proofs.Math.Bool.{and-false}
-use Rattle.std.proofs.lemmas.Bool.{and_parts, both_ways, cases_Bool, cond-true, cond-false, false_from_ne_true, false≢true}
+use Rattle.std.proofs.lemmas.Bool.{and_parts, cases_Bool, cond-true, cond-false, false_from_ne_true, false≢true}
 use Rattle.std.proofs.lemmas.Bool.Decides.{nat_tests}
 use Rattle.uri_pct.proofs.General.{eq_true_from_IsTrue}
 use Rattle.uri_pct.specs.Delimiters.{slash}
@@ -66,8 +66,7 @@ finished-path-does-not-underflow : (a : Option (List ℕ)) (path : List ℕ)
     → underflows_if_absolute (finish a path) ≡ false
 finished-path-does-not-underflow a path = ⊎_elim
     (λ e. finished-absolute-path-does-not-underflow a path (equal-to-true-is-IsTrue _ e))
-    (λ e. ap underflows_if_absolute (finish-keeps-rootless-path a path e)
-    ∙ ap (λ b. b && underflows path) e) (cases_Bool (starts slash path))
+    (grind (arith, finish-keeps-rootless-path)) (cases_Bool (starts slash path))
 
 -- targets to relativize: one without removable dot segments has no underflow
 pub settled-target-does-not-underflow : (t : Components) → with_final_path t ≡ t
@@ -135,8 +134,7 @@ path-after-authority-is-unguarded t some h done =
     let q = remove_dot_segments t.path in
     let e : q ≡ t.path = sym (path-after-authority-gets-no-guard t.authority q some)
     ∙ guarded-dotless-path-is-the-path t h done in
-    path-without-dots-is-unguarded t h e
-    (path-after-authority-gets-no-guard t.authority t.path some)
+    grind (arith, path-without-dots-is-unguarded, path-after-authority-gets-no-guard)
 
 -- targets to relativize: without an authority (a), a path is guarded as it is for None
 guard-is-that-without-authority : (a : Option (List ℕ)) (path : List ℕ) → is_some a ≡ false
@@ -164,8 +162,7 @@ path-after-guard-is-unguarded : (t : Components) (rest : List ℕ) → is_some t
 path-after-guard-is-unguarded t rest none h done whole double =
     let q = remove_dot_segments t.path in
     let guards : guarded None q ≡ t.path =
-    sym (guard-is-that-without-authority t.authority q none)
-    ∙ guarded-dotless-path-is-the-path t h done in
+    grind (arith, guard-is-that-without-authority, guarded-dotless-path-is-the-path) in
     let lacks = removing-dots-leaves-no-dot-segment t.path h in
     let same : q ≡ rest = grind (arith, guarded-path-has-dot-segment) in
     grind (arith, removing-dots-keeps-absolute, guarded-dotless-path-is-the-path)
@@ -214,8 +211,7 @@ pub path-that-needs-no-guard-is-unguarded : (t : Components) → is_some t.autho
     → with_final_path t ≡ t → is_guarded t.path ≡ false → IsUnguarded t t.path
 path-that-needs-no-guard-is-unguarded t none h done e =
     path-without-guard-is-itself-unguarded t none h done
-    (λ rest whole. false_from_ne_true _ (λ double.
-    both_ways _ e (ap is_guarded whole ∙ guard-before-slashes-is-guarded rest double)))
+    (grind (arith, false_from_ne_true, guard-before-slashes-is-guarded))
 
 -- targets to relativize: a character begins after the guard `/.` of a path
 pub guard-ends-at-character : (path : List ℕ) → IsUtf8 path → is_guarded path ≡ true

@@ -1,6 +1,6 @@
 -- The length of the longest prefix that two paths share and that ends in `/`.
 use Rattle.std.proofs.Common.{◌≡◌, ℕ, zero, suc, ◌<◌, ◌≤◌, true, ◌&&◌, ◌||◌, eqb, List, [], ◌∷◌, ◌++◌, length, take, refl, ap, ◌∙◌, arith, ◌⊎◌, ⊎_elim, inl, inr, length-append, codes, nat_lt, length-take-le}
-use Rattle.std.proofs.lemmas.Bool.{and_from, and_parts, cond-true, cond_both, eq-eqb, eqb-true, lt-ltb, or_left, or_right}
+use Rattle.std.proofs.lemmas.Bool.{and_from, and_parts, cond-true, cond_both, eq-eqb, eqb-true, lt-ltb, or_right}
 use Rattle.std.proofs.lemmas.Bool.Decides.{nat_tests}
 use Rattle.uri_ops.specs.Dots.{EndsInSlash}
 use Rattle.uri_relative.specs.Relative.{IsLongestPrefix, IsSharedPrefix}
@@ -70,12 +70,7 @@ shared-prefix-is-within-shared_directory_len (a ∷ base) (b ∷ path) (suc m) h
     → shared_directory_len (a ∷ base) (b ∷ path) ≡ suc n =
     λ k. cond-true _ _ _ (and_from _ _ (eq-eqb a b e) k) in
     ⊎_elim
-    (λ last. omega (
-      arith,
-      more (or_left _ _ (eq-eqb a 47 last.0)),
-      ap length last.1,
-      len,
-    ))
+    (grind arith)
     (λ longer.
     let ih = shared-prefix-is-within-shared_directory_len base path m within
     (record { same = rest; closed = longer.1 }) in

@@ -145,8 +145,7 @@ pushed-segment-shares-directory-prefix s output left segs prefix [] down spare e
       up = [];
       down = s ∷ down;
       output_is = sym (append-nil output);
-      left_is = f ∙ ap (λ t. t ++ down) (sym (e ∙ append-nil prefix))
-          ∙ append_assoc output (s ∷ []) down;
+      left_is = grind (arith, append-nil, append_assoc);
       spare = 0;
       few = omega arith;
       some = omega arith;
@@ -182,8 +181,7 @@ pushed-segment-shares-directory-prefix s output left segs prefix (u ∷ us) down
       some = some;
       why = inl refl;
       cost = omega (arith, cost, few, fewer, length-of-first-segment-and-rest s segs);
-      first = inr (inr (inr (omega
-          (arith, cost, few, fewer, length-of-first-segment-and-rest s segs))));
+      first = grind (arith, length-of-first-segment-and-rest);
     }
 
 -- relativized paths: whether a byte is spare stays with one more segment to go up

@@ -163,8 +163,7 @@ module _ (kind : Kind) (b t : Components) where
       guard-is-removed-as-dot-segment a (dotless_if_absolute p)
       ∙ dotless_if_absolute-is-idempotent p ∙ cond-true _ _ _ (eq_true_from_IsTrue _ h) in
       let once : dotless_if_absolute (guarded a q) ≡ q =
-      guard-is-removed-as-dot-segment a q ∙ cond-true _ _ _ (eq_true_from_IsTrue _ k)
-      ∙ remove-dots-of-dotless q k dotless in
+      grind (arith, guard-is-removed-as-dot-segment, eq_true_from_IsTrue, remove-dots-of-dotless) in
       sym twice ∙ ap dotless_if_absolute e ∙ once
 
   first-segment-has-no-colon-without-scheme : (a c d : Bool) → a ≡ false → c ≡ false

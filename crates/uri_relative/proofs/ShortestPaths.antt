@@ -1,8 +1,7 @@
 -- No path that is joined to a base's and leads to a path is shorter than the relative one, where
 -- the base's path has no dot segment.
-use Rattle.std.proofs.Common.{◌≡◌, ℕ, ◌+◌, ◌<◌, ◌≤◌, true, false, List, [], ◌∷◌, ◌++◌, length, take, drop, get_or, sym, ap, subst, ◌∙◌, arith, append_assoc, length-append, None, length-drop}
+use Rattle.std.proofs.Common.{◌≡◌, ℕ, ◌+◌, ◌<◌, ◌≤◌, true, false, List, [], ◌∷◌, ◌++◌, length, take, drop, get_or, ap, subst, ◌∙◌, arith, append_assoc, length-append, None, length-drop}
 use Rattle.std.proofs.Math.Seq.{drop-append_seam, take-append_seam}
-use Rattle.std.proofs.lemmas.Bool.{cond-false, cond-true}
 use Rattle.std.proofs.lemmas.Bool.Decides.{nat_tests}
 use Rattle.uri_pct.specs.Delimiters.{slash}
 use Rattle.uri_parts.specs.Components.{has_authority, starts}
@@ -53,8 +52,7 @@ text-below-directory-counts-climbs prefix up last lack lacks =
     (pushed-segments-are-not-none up last) in
     let below = first.0 ++ slashed first.1 in
     let e : slashed ((prefix ++ up) ++ last ∷ []) ≡ dir prefix ++ below =
-    segments-left-are-directory-and-rest ((prefix ++ up) ++ last ∷ []) prefix first.0 first.1
-    (append_assoc prefix up (last ∷ []) ∙ ap (λ t. prefix ++ t) first.2) in
+    grind (arith, segments-left-are-directory-and-rest, append_assoc) in
     let free = prefix-all-pass lacks_slash prefix up lack in
     let z = path-below-directory-has-its-segments-first prefix (prefix ++ up) last below free
     lacks e in (
@@ -82,8 +80,7 @@ target-shares-prefix-with-segments s segs x lack dotless some rootless colon =
     let lack' = subst NoSlashes l.1 lack in
     let dotless' = subst (AllPass is_dotless) l.1 dotless in
     let lack_xs = prefix-all-pass lacks_slash xs (l.0 ∷ []) lack' in
-    let w = leads xs x (prefix-all-pass is_dotless xs (l.0
-    ∷ []) dotless') lack_xs some rootless colon in
+    let w = leads xs x (grind (arith, prefix-all-pass)) lack_xs some rootless colon in
     let b = text-below-directory-counts-climbs w.prefix w.up l.0
     (subst NoSlashes w.output_is lack_xs)
     (subst (λ t. NoSlashes (t ++ l.0 ∷ [])) w.output_is lack') in
@@ -128,8 +125,7 @@ relative-path-is-shortest-rootless-path : (given base path x : List ℕ) (last :
 relative-path-is-shortest-rootless-path given base path x last same absolute dotless w some rootless
     colon leads =
     let joins : remove_dot_segments (directory base ++ x) ≡ path =
-    ap (λ t. remove_dot_segments (t ++ x)) same
-    ∙ ap remove_dot_segments (sym (cond-false _ _ _ some ∙ cond-false _ _ _ rootless)) ∙ leads in
+    grind (arith, leads) in
     let f = subst (λ t. SharesPrefix base t x) joins
     (target-shares-prefix-with-base base x absolute dotless some rootless colon) in
     omega (
@@ -147,8 +143,7 @@ path-from-root-is-shortest-absolute-path : (given path x : List ℕ) → is_empt
     → length (guarded None path) ≤ length x
 path-from-root-is-shortest-absolute-path given path x some rooted none leads =
     let same : dotless_if_absolute x ≡ path =
-    cond-true _ _ _ rooted
-    ∙ ap remove_dot_segments (sym (cond-false _ _ _ some ∙ cond-true _ _ _ rooted)) ∙ leads in
+    grind (arith, leads) in
     omega (arith, target-path-is-no-longer None x none, ap (λ t. length (guarded None t)) same)
 
 -- relativized paths: one (way) that is no longer than the relative path and the one from the root

@@ -189,12 +189,8 @@ relative-path-leads-to-path n base given path same base_absolute base_dotless ab
     relative-path-is-merged given way r ∙ ap (λ d. d ++ way) (sym same) in
     record {
       some = r.some;
-      leads = ap remove_dot_segments joined
-          ∙ merged-relative-path-leads-to-path n base path base_absolute base_dotless
-          absolute dotless s;
-      below = ap underflows joined
-          ∙ merged-relative-path-does-not-underflow n base path base_absolute base_dotless
-          absolute dotless s;
+      leads = grind (arith, merged-relative-path-leads-to-path);
+      below = grind (arith, merged-relative-path-does-not-underflow);
       no_authority = rootless-path-has-no-authority way r.rootless;
       no_scheme = r.no_scheme;
       lacks = λ h. test-of-delimiters-gives-lacks (codes "?#") way
@@ -272,8 +268,7 @@ pub boundary-after-last-slash : (path bytes : List ℕ) (last : ℕ) → bytes �
 boundary-after-last-slash path bytes last e utf8 within at =
     IsCharBoundary-after_ascii path last utf8
     (let h : last < length path = subst (λ t. last < length t) e within in h)
-    (let h : get_or path last 0 ≡ 47 = subst (λ t. get_or t last 0 ≡ 47) e at in
-    let k : get_or path last 0 < 128 = omega arith in k)
+    (grind arith)
 
 -- relativized paths: equal texts share the same prefix
 pub shared-prefix-of-equals : (n : ℕ) (a b p q : List ℕ) → a ≡ b → p ≡ q → IsSharedPrefix n a p

@@ -40,9 +40,7 @@ returns-then-uses_relative_path-clause-way c =
     relative-path-is-no-longer-than-from-root n path c.range_from-rest.result.now
     (relative_path c.count_slashes-double_dots.result c.range_from-rest.result.now)
     c.guard_len-guard.result c.range_from-rest.ensures.value
-    (let h : n ≤ length path =
-    subst (λ t. n ≤ length t) c.as_bytes-2.ensures.value
-    (omega (arith, c.last_shared_slash-last.ensures.in_path)) in h)
+    (grind arith)
     c.guard_len-guard.ensures.length
     (c.uses_relative_path.ensures.short c.if-uses_relative_path.true e) in
     let double_dots : c.count_slashes-double_dots.result ≡ slashes (drop n base) =
@@ -94,8 +92,7 @@ returns-then-uses_relative_path-clause-text c =
     c.last_shared_slash-last.ensures.in_base c.last_shared_slash-last.ensures.shared
     c.last_shared_slash-last.ensures.longest double_dots c.range_from-rest.ensures.value in
     let within : n ≤ length path =
-    subst (λ t. n ≤ length t) c.as_bytes-2.ensures.value
-    (omega (arith, c.last_shared_slash-last.ensures.in_path)) in
+    grind arith in
     grind (arith, relative-path-if-no-longer, not-false, relative-path-is-no-longer-than-from-root)
 
 pub returns-clause-way : goal.returns-clause-way
@@ -107,8 +104,7 @@ returns-clause-way c =
     let double_dots : c.count_slashes-double_dots.result ≡ slashes (drop n base) =
     grind (arith, slice_from-is-drop) in
     let within : n ≤ length path =
-    subst (λ t. n ≤ length t) c.as_bytes-2.ensures.value
-    (omega (arith, c.last_shared_slash-last.ensures.in_path)) in
+    grind arith in
     pushed-path-leads-to-path _ _
     (λ way. c.args.prefers_relative ≡ false → length way ≤ length (guarded None path))
     (λ way. c.args.prefers_relative ≡ false → IsShortestPath c.args.base.now path way)
@@ -155,6 +151,5 @@ returns-clause-text c =
     c.last_shared_slash-last.ensures.in_base c.last_shared_slash-last.ensures.shared
     c.last_shared_slash-last.ensures.longest double_dots c.range_from-rest.ensures.value in
     let within : n ≤ length path =
-    subst (λ t. n ≤ length t) c.as_bytes-2.ensures.value
-    (omega (arith, c.last_shared_slash-last.ensures.in_path)) in
+    grind arith in
     grind (arith, path-from-root-if-shorter, path-from-root-is-shorter)

@@ -1,4 +1,4 @@
-use Rattle.std.proofs.Common.{◌≡◌, ℕ, List, ◌++◌, ap, arith, drop, length, length-append, refl, subst, sym, take, ◌∙◌, IsCharBoundary, IsUtf8, drop_at, take_at}
+use Rattle.std.proofs.Common.{◌≡◌, ℕ, List, ◌++◌, ap, arith, drop, length, length-append, refl, sym, ◌∙◌, IsCharBoundary, IsUtf8, drop_at, take_at}
 use Rattle.std.proofs.lemmas.Str.{IsCharBoundary-from_take}
 use Rattle.uri_parts.proofs.Splitting.Recompose.{recompose-components}
 use Rattle.uri_ops.specs.Resolving.{components_of}
@@ -11,8 +11,7 @@ boundary-after-scheme : (scheme rest text : List ℕ) → scheme ++ rest ≡ tex
 boundary-after-scheme scheme rest text whole utf8 scheme_utf8 =
     IsCharBoundary-from_take text (length scheme) utf8
     (omega (arith, ap length whole, length-append scheme rest))
-    (subst IsUtf8 (sym (ap (take (length scheme)) (sym whole)
-    ∙ take_at scheme rest (length scheme) refl)) scheme_utf8)
+    (grind (arith, take_at))
 
 pub range_from-requires : goal.range_from-requires
 range_from-requires c = λ _.
@@ -27,7 +26,5 @@ returns c =
     let t = components_of c.args.target.now in
     let scheme = c.scheme_with_delimiter.result.now in
     c.range_from.ensures.value
-    ∙ ap (drop (length scheme)) (c.as_str.ensures.text
-    ∙ sym (recompose-components c.args.target.now.text.now)
-    ∙ sym (ap (λ s. s ++ after_scheme t) c.scheme_with_delimiter.ensures))
+    ∙ ap (drop (length scheme)) (grind (arith, recompose-components))
     ∙ drop_at scheme (after_scheme t) (length scheme) refl

@@ -1,4 +1,4 @@
-use Rattle.std.proofs.Common.{sym, ◌∙◌, arith}
+use Rattle.std.proofs.Common.{arith}
 use Rattle.uri_ops.specs.Resolving.{components_of}
 use Rattle.uri_relative.proofs.EndPlaces.{authority-positions-of-components, authority-begins-after-scheme, authority-positions-without-scheme, no-authority-positions-no-authority}
 use Rattle.uri_relative.proofs.places.authority_after_scheme.Goals as goal
@@ -7,8 +7,7 @@ pub shift_authority_back-requires : goal.shift_authority_back-requires
 shift_authority_back-requires c =
     let t = components_of c.args.target.now in
     let w = authority-begins-after-scheme c.args.start t.authority c.in-Some.authority
-    (authority-positions-of-components t c.args.start c.in-Some.authority c.requires
-    (sym c.authority.ensures ∙ c.in-Some.is)) in
+    (grind (arith, authority-positions-of-components)) in
     record { start = w.start; host_start = w.host_start; host_end = w.host_end; end = w.end }
 
 pub returns-in-Some : goal.returns-in-Some
@@ -16,8 +15,7 @@ returns-in-Some c =
     let t = components_of c.args.target.now in
     authority-positions-without-scheme c.args.start t.authority c.in-Some.authority
     c.shift_authority_back.result
-    (authority-positions-of-components t c.args.start c.in-Some.authority c.requires
-    (sym c.authority.ensures ∙ c.in-Some.is)) c.shift_authority_back.ensures.start
+    (grind (arith, authority-positions-of-components)) c.shift_authority_back.ensures.start
     c.shift_authority_back.ensures.host_start
     c.shift_authority_back.ensures.host_end c.shift_authority_back.ensures.end
 

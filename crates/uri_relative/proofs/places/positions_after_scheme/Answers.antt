@@ -1,4 +1,4 @@
-use Rattle.std.proofs.Common.{◌+◌, refl}
+use Rattle.std.proofs.Common.{◌+◌, refl, arith}
 use Rattle.uri_ops.specs.Resolving.{components_of}
 use Rattle.uri_relative.proofs.EndPlaces.{positions-without-scheme, scheme-end-is-scheme-length, positions-of-text-without-scheme-stay, query-ends-after-scheme}
 use Rattle.uri_relative.proofs.places.positions_after_scheme.Goals as goal
@@ -20,8 +20,7 @@ shift_position_back-requires c =
     let t = components_of c.args.target.now in
     query-ends-after-scheme t c.positions-positions.result (c.in-Some.end + 1)
     c.positions-positions.ensures
-    (scheme-end-is-scheme-length t c.positions-positions.result c.in-Some.end
-    c.positions-positions.ensures c.in-Some.is)
+    (grind (arith, scheme-end-is-scheme-length))
 
 pub returns-in-Some : goal.returns-in-Some
 returns-in-Some c =

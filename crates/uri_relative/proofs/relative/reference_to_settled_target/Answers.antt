@@ -1,4 +1,4 @@
-use Rattle.std.proofs.Common.{◌≡◌, ap, string_bytes, subst, ◌∙◌, IfOk}
+use Rattle.std.proofs.Common.{◌≡◌, ap, string_bytes, subst, ◌∙◌, arith, IfOk}
 use Rattle.uri_parts.specs.Components.{components, recompose}
 use Rattle.uri_parts.specs.CoreTexts.{core_text}
 use Rattle.uri_ops.specs.Resolving.{components_of}
@@ -11,8 +11,7 @@ use Rattle.uri_relative.proofs.relative.reference_to_settled_target.Goals as goa
 pub reference-requires : goal.reference-requires
 reference-requires g c = settled-components-stay-settled (core_text c.args.target)
     (components_of c.of_core-view.result)
-    (c.of_core-view.ensures.components ∙ ap components c.borrow.ensures.text
-    ∙ c.in_ok-settled.ensures)
+    (grind arith)
 
 pub returns-clause-leads : goal.returns-clause-leads
 returns-clause-leads g c =
@@ -31,8 +30,7 @@ pub returns-clause-text : goal.returns-clause-text
 returns-clause-text g c =
     subst (λ t. IfOk c.reference.result (λ made. string_bytes made.text
     ≡ recompose (reference_components c.args.prefers_relative (components_of c.args.base.now) t)))
-    (c.of_core-view.ensures.components ∙ ap components c.borrow.ensures.text
-    ∙ c.in_ok-settled.ensures)
+    (grind arith)
     c.reference.ensures.text
 
 pub returns-clause-at : goal.returns-clause-at

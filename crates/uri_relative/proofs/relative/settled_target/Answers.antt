@@ -1,4 +1,4 @@
-use Rattle.std.proofs.Common.{◌≡◌, ap, subst, sym, true, ◌∙◌, is_some}
+use Rattle.std.proofs.Common.{◌≡◌, ap, subst, sym, true, ◌∙◌, arith, is_some}
 use Rattle.uri_parts.specs.Components.{Components, recompose}
 use Rattle.uri_parts.specs.CoreTexts.{core_text}
 use Rattle.uri_parts.specs.Grammar.{IsOfKind}
@@ -29,5 +29,4 @@ returns g c =
     components-of-settled-text text (core_text c.new.result)
     (kind-that-needs-scheme-has-one g.K.Kind.kind text g.met.K.BaseKind.needs_scheme
     c.args.target.of_kind)
-    (c.new.ensures ∙ c.in_ok-text.ensures.text
-    ∙ ap (λ t. recompose (with_final_path t)) c.of_core.ensures.components)
+    (grind arith)

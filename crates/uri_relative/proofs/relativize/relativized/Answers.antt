@@ -1,4 +1,4 @@
-use Rattle.std.proofs.Common.{string_bytes, subst, sym, ap, ◌∙◌}
+use Rattle.std.proofs.Common.{string_bytes, subst, sym, ap, ◌∙◌, arith}
 use Rattle.uri_parts.specs.Components.{components, recompose}
 use Rattle.uri_parts.specs.CoreTexts.{core_text}
 use Rattle.uri_parts.specs.Grammar.{IsOfKind}
@@ -51,6 +51,5 @@ returns g c =
       shortest = λ not. reference-is-shortest kind prefers (core_text c.core.result)
           (core_text c.core-2.result) made base target reference g.met.K.BaseKind.needs_scheme
           c.core.result.of_kind c.core-2.result.of_kind of_base of_target of_made not leads;
-      relative = reference-is-relative kind prefers (core_text c.core.result)
-          (core_text c.core-2.result) made base target reference of_base of_target of_made leads;
+      relative = grind (arith, reference-is-relative);
     }
