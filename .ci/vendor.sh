@@ -103,8 +103,8 @@ session() {
         found && /^```console$/ { fenced = 1 }' "$root/$1"
 }
 
-# program PAGE CRATE: pastes a whole program of a page, or takes the one of which it shows a part, and
-# runs it as the page does
+# program PAGE CRATE: pastes a whole program of a page, or takes the one of which it shows a part,
+# and runs it as the page does
 program() {
     own=$work/$2
     mkdir -p "$own/crates/$2/src"
