@@ -103,7 +103,7 @@ session() {
         found && /^```console$/ { fenced = 1 }' "$root/$1"
 }
 
-# program PAGE CRATE: pastes a whole program of a page, or takes that of which the page shows a part,
+# program PAGE CRATE: pastes a whole program of a page, or takes the one of which it shows a part,
 # and runs it as the page does
 program() {
     own=$work/$2
