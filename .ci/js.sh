@@ -56,7 +56,8 @@ differs() {
     "$folder/differ" < "$folder/lines" > "$folder/x86-64" &
     # (a wrong module may go round in a loop)
     timeout "${JS_SECONDS:-300}" node "$root/js/test/differ.mjs" "$root/js/wasm/$module" \
-        "$folder/calls.mjs" < "$folder/lines" 2> "$folder/told" | cmp - "$folder/x86-64" > "$work/log" 2>&1 ||
+        "$folder/calls.mjs" < "$folder/lines" 2> "$folder/told" |
+        cmp - "$folder/x86-64" > "$work/log" 2>&1 ||
         fail "$module returns something else than the archive for x86-64"
     [ -s "$folder/told" ] || fail "$module made no calls"
     echo "js: differ: $module: $(cat "$folder/told"), as by the archive for x86-64"
