@@ -5,7 +5,8 @@
 #
 # usage: sh .ci/js.sh [PART..]      (all parts, if none is named)
 #
-# JS_SEED (1) and JS_LINES (20000) say of which texts, and of how many, the calls are made.
+# JS_SEED (1) and JS_LINES (20000) say of which texts, and of how many, the calls are made, and
+# JS_SECONDS (300) after which time a module has failed.
 . "$(dirname "$0")/lib.sh"
 [ $# -gt 0 ] || set -- support size differ memory stacks programs api rows random types ajv page \
     faults
@@ -53,8 +54,10 @@ differs() {
         "$root/c/heap.c" "$archive" -o "$folder/differ"
     mkfifo "$folder/x86-64"
     "$folder/differ" < "$folder/lines" > "$folder/x86-64" &
-    node "$root/js/test/differ.mjs" "$root/js/wasm/$module" "$folder/calls.mjs" \
-        < "$folder/lines" 2> "$folder/told" | cmp - "$folder/x86-64" > "$work/log" 2>&1 ||
+    # (a wrong module may go round in a loop)
+    timeout "${JS_SECONDS:-300}" node "$root/js/test/differ.mjs" "$root/js/wasm/$module" \
+        "$folder/calls.mjs" < "$folder/lines" 2> "$folder/told" |
+        cmp - "$folder/x86-64" > "$work/log" 2>&1 ||
         fail "$module returns something else than the archive for x86-64"
     [ -s "$folder/told" ] || fail "$module made no calls"
     echo "js: differ: $module: $(cat "$folder/told"), as by the archive for x86-64"

@@ -61,7 +61,7 @@ def is_seen(tree, part, wanted):
     """Whether the part fails, with a last line that begins with what is wanted."""
     ran = subprocess.run(["sh", tree / ".ci" / "js.sh", part], stdout=subprocess.PIPE, text=True,
                          stderr=subprocess.STDOUT, errors="replace",
-                         env={**os.environ, "JS_LINES": "2000"})
+                         env={**os.environ, "JS_LINES": "2000", "JS_SECONDS": "60"})
     last = ran.stdout.rstrip().rpartition("\n")[2]
     if ran.returncode and last.startswith(f"js: {wanted}"):
         return True
