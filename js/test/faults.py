@@ -25,7 +25,7 @@ FAULTS = [
     ("a call is left out of the core", "rows", "rows",
      "js/build/core.txt", "decode encode next_pair", "encode next_pair"),
     ("the stack is above the data", "stacks", "stacks of the full module",
-     "js/build/module", '"--stack-first", ', ""),
+     "js/build/module", '"--stack-first", ', '"--no-stack-first", '),
     ("a block that moves loses bytes", "support", "the heap and its neighbours",
      "js/build/heap.c", "memcpy(made, block, kept)", "memcpy(made, block, kept / 2)"),
     ("a free block is given twice", "support", "the heap and its neighbours",
@@ -41,8 +41,8 @@ FAULTS = [
      "js/src/units.mjs", "isPair ? 4 : 3", "isPair ? 3 : 3"),
     ("a lone surrogate is a character", "random", "random strings",
      "js/src/units.mjs", "text.isWellFormed?.() ? -1 : text.search(LONE)", "-1"),
-    ("a target is resolved against nothing", "ajv", "Ajv over the suite",
-     "js/src/uri-js.mjs", "if (!from || !given) return", "if (from || given) return"),
+    ("a target keeps the last segment of its base", "ajv", "Ajv over the suite",
+     "js/src/uri-js.mjs", "whole.slice(0, whole.lastIndexOf('/') + 1) + path", "whole + path"),
 ]
 
 
