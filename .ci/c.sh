@@ -80,14 +80,19 @@ fi
 # AddressSanitizer and UndefinedBehaviorSanitizer watch what is written by hand: the tests, and the
 # header that they use from C++.
 sanitized='-O1 -g -fsanitize=address,undefined -fno-sanitize-recover=all'
-# shellcheck disable=SC2086 # (words)
-if echo 'int main(void) { return 0; }' | cc $sanitized -x c - -o "$work/none" 2> "$work/log"; then
+# sanitizers_of COMPILER: its tests with sanitizers.
+sanitizers_of() {
     for it in borders calls columns hosts orders threads rows; do
         # shellcheck disable=SC2086 # (words)
-        does "sanitizers of cc: $it cannot be built" cc -std=c99 $sanitized -I"$root/c/include" \
-            "$root/c/tests/$it.c" "$work/gcc/libfluent_uri_c.a" -pthread -o "$work/$it"
-        does "sanitizers of cc: $it" "$work/$it" "$root"/crates/vectors/data/*.txt
+        does "sanitizers of $1: $it cannot be built" "$1" -std=c99 $sanitized \
+            -I"$root/c/include" "$root/c/tests/$it.c" "$work/gcc/libfluent_uri_c.a" -pthread \
+            -o "$work/$it"
+        does "sanitizers of $1: $it" "$work/$it" "$root"/crates/vectors/data/*.txt
     done
+}
+# shellcheck disable=SC2086 # (words)
+if echo 'int main(void) { return 0; }' | cc $sanitized -x c - -o "$work/none" 2> "$work/log"; then
+    sanitizers_of cc
     # shellcheck disable=SC2086 # (words)
     does 'sanitizers of c++: the test cannot be built' c++ -std=c++17 $sanitized \
         -I"$root/c/include" "$root/c/tests/cplusplus.cc" "$work/gcc/libfluent_uri_c.a" \
@@ -99,13 +104,7 @@ fi
 
 if has clang 'a second compiler'; then
     does 'clang: the tests fail' build clang CC=clang CXX=clang++ check
-    flags=$sanitized
-    for it in borders calls columns hosts orders threads rows; do
-        # shellcheck disable=SC2086 # (words)
-        does "sanitizers: $it cannot be built" clang -std=c99 $flags -I"$root/c/include" \
-            "$root/c/tests/$it.c" "$work/gcc/libfluent_uri_c.a" -pthread -o "$work/$it"
-        does "sanitizers: $it" "$work/$it" "$root"/crates/vectors/data/*.txt
-    done
+    sanitizers_of clang
     if echo 'int LLVMFuzzerTestOneInput(void); int LLVMFuzzerTestOneInput(void) { return 0; }' |
         clang -fsanitize=fuzzer,address -x c - -o "$work/none" 2> "$work/log"; then
         fuzzed="$root/c/tests/fuzz.c $work/gcc/libfluent_uri_c.a"
