@@ -1,8 +1,6 @@
 #!/bin/sh
-# Tries the C library over the proved archive: with gcc and clang, by the static and the shared
-# library, with sanitizers, under valgrind, as it is installed, and by libFuzzer for FUZZ_SECONDS
-# (60), beside a second build where `tools/archive fluent_uri_c` made one. It writes nothing into the
-# tree but what rt keeps in out/.
+# Tries the C library over the proved archive, and fuzzes it for FUZZ_SECONDS (60), beside a second
+# build where `tools/archive fluent_uri_c` made one.
 . "$(dirname "$0")/lib.sh"
 second=$root/crates/fluent_uri_c/out/libfluent_uri_c.by-rattle.a
 seconds=${FUZZ_SECONDS:-60}

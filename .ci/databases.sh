@@ -1,8 +1,5 @@
 #!/bin/sh
-# Tries the extensions of SQLite and PostgreSQL over the proved archive (docs/DATABASES.md): what
-# statements write, random texts against the library, denied memory, concurrent writers, sanitizers
-# and valgrind, and one table over three servers. It installs nothing, and writes nothing into the
-# tree but what rt keeps in out/.
+# Tries the extensions of SQLite and PostgreSQL over the proved archive (docs/DATABASES.md).
 #
 # FUZZ_ROWS (100000) says how many random texts are tried, SERVER_ROWS (100000) how many URLs the
 # three servers get, and FLUENT_URI_ARCHIVE names an archive in place of the proved one.
