@@ -91,7 +91,8 @@ cmp "$work/one/"*.whl "$work/other/"*.whl > "$work/log" 2>&1 || fail 'two wheels
     fail 'the wheel could not be unpacked'
 works='from fluent_uri import Uri, batch
 assert str(Uri.parse("A:%7e").normalize()) == batch.normalize(["A:%7e"])[0] == "a:~"'
-PYTHONPATH=$work/installed "$python" -c "$works" > "$work/log" 2>&1 || fail 'the wheel does not work'
+PYTHONPATH=$work/installed "$python" -c "$works" > "$work/log" 2>&1 ||
+    fail 'the wheel does not work'
 
 # The package as a new user installs it: by the commands of the page, with a home of their own, over
 # the archive. Nothing may be left beside the sources.
