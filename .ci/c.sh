@@ -1,8 +1,6 @@
 #!/bin/sh
-# Tries the C library over the proved archive: with gcc and clang, by the static and the shared
-# library, with sanitizers, under valgrind, as it is installed, and by libFuzzer for FUZZ_SECONDS
-# (60), beside a second build where `tools/archive fluent_uri_c` made one. It writes nothing into the
-# tree but what rt keeps in out/.
+# Tries the C library over the proved archive, and fuzzes it for FUZZ_SECONDS (60), beside a second
+# build where `tools/archive fluent_uri_c` made one.
 . "$(dirname "$0")/lib.sh"
 second=$root/crates/fluent_uri_c/out/libfluent_uri_c.by-rattle.a
 seconds=${FUZZ_SECONDS:-60}
@@ -80,14 +78,19 @@ fi
 # AddressSanitizer and UndefinedBehaviorSanitizer watch what is written by hand: the tests, and the
 # header that they use from C++.
 sanitized='-O1 -g -fsanitize=address,undefined -fno-sanitize-recover=all'
-# shellcheck disable=SC2086 # (words)
-if echo 'int main(void) { return 0; }' | cc $sanitized -x c - -o "$work/none" 2> "$work/log"; then
+# sanitizers_of COMPILER: its tests with sanitizers.
+sanitizers_of() {
     for it in borders calls columns hosts orders threads rows; do
         # shellcheck disable=SC2086 # (words)
-        does "sanitizers of cc: $it cannot be built" cc -std=c99 $sanitized -I"$root/c/include" \
-            "$root/c/tests/$it.c" "$work/gcc/libfluent_uri_c.a" -pthread -o "$work/$it"
-        does "sanitizers of cc: $it" "$work/$it" "$root"/crates/vectors/data/*.txt
+        does "sanitizers of $1: $it cannot be built" "$1" -std=c99 $sanitized \
+            -I"$root/c/include" "$root/c/tests/$it.c" "$work/gcc/libfluent_uri_c.a" -pthread \
+            -o "$work/$it"
+        does "sanitizers of $1: $it" "$work/$it" "$root"/crates/vectors/data/*.txt
     done
+}
+# shellcheck disable=SC2086 # (words)
+if echo 'int main(void) { return 0; }' | cc $sanitized -x c - -o "$work/none" 2> "$work/log"; then
+    sanitizers_of cc
     # shellcheck disable=SC2086 # (words)
     does 'sanitizers of c++: the test cannot be built' c++ -std=c++17 $sanitized \
         -I"$root/c/include" "$root/c/tests/cplusplus.cc" "$work/gcc/libfluent_uri_c.a" \
@@ -99,13 +102,7 @@ fi
 
 if has clang 'a second compiler'; then
     does 'clang: the tests fail' build clang CC=clang CXX=clang++ check
-    flags=$sanitized
-    for it in borders calls columns hosts orders threads rows; do
-        # shellcheck disable=SC2086 # (words)
-        does "sanitizers: $it cannot be built" clang -std=c99 $flags -I"$root/c/include" \
-            "$root/c/tests/$it.c" "$work/gcc/libfluent_uri_c.a" -pthread -o "$work/$it"
-        does "sanitizers: $it" "$work/$it" "$root"/crates/vectors/data/*.txt
-    done
+    sanitizers_of clang
     if echo 'int LLVMFuzzerTestOneInput(void); int LLVMFuzzerTestOneInput(void) { return 0; }' |
         clang -fsanitize=fuzzer,address -x c - -o "$work/none" 2> "$work/log"; then
         fuzzed="$root/c/tests/fuzz.c $work/gcc/libfluent_uri_c.a"

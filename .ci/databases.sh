@@ -1,27 +1,10 @@
 #!/bin/sh
-# Tries the extensions of SQLite and PostgreSQL over the proved archive (docs/DATABASES.md): what
-# statements write, random texts against the library, denied memory, concurrent writers, sanitizers
-# and valgrind, and one table over three servers. It installs nothing, and writes nothing into the
-# tree but what rt keeps in out/.
+# Tries the extensions of SQLite and PostgreSQL over the proved archive (docs/DATABASES.md).
 #
 # FUZZ_ROWS (100000) says how many random texts are tried, SERVER_ROWS (100000) how many URLs the
 # three servers get, and FLUENT_URI_ARCHIVE names an archive in place of the proved one.
 . "$(dirname "$0")/lib.sh"
 rows=${FUZZ_ROWS:-100000}
-# has_header NAME WHAT
-has_header() {
-    printf '#include <%s>\n' "$1" | cc -E - > "$work/none" 2>&1 && return 0
-    skip "$2" "there is no $1"
-    return 1
-}
-
-# exports EXTENSION WANTED: it exports its own names alone.
-exports() {
-    nm -D --defined-only "$1" | awk '{ print $NF }' | grep -vE "$2" > "$work/log" &&
-        fail "$1 exports other names"
-    rm -f "$work/log"
-}
-
 has cc 'the extensions' || exit 0
 archive=${FLUENT_URI_ARCHIVE-}
 [ -n "$archive" ] || need_archive
@@ -47,13 +30,19 @@ crates/fluent_uri_c and FLUENT_URI_NORMAL_VERSION of the header, and write the \
 number and these digests there: ${now#* }"
 }
 
-if has sqlite3 'the extension of SQLite' && has_header sqlite3.h 'the extension of SQLite'; then
+of_sqlite='the extension of SQLite'
+if ! has sqlite3 "$of_sqlite"; then
+    :
+elif ! echo '#include <sqlite3.h>' | cc -E - > "$work/none" 2>&1; then
+    skip "$of_sqlite" 'there is no sqlite3.h'
+else
     sqlite() {
         make -s -C "$root/sqlite" CC=cc OUT="$work/sqlite" "$@"
     }
     does 'sqlite: a test fails' sqlite FUZZ="$rows" check
     sed 's/^/databases: sqlite: /' "$work/log"
-    exports "$work/sqlite/fluent_uri.so" '^sqlite3_fluenturi_init$'
+    nm -D --defined-only "$work/sqlite/fluent_uri.so" | awk '{ print $NF }' |
+        grep -v '^sqlite3_fluenturi_init$' > "$work/log" && fail 'sqlite: it exports other names'
     does 'sqlite: it cannot be installed' sqlite PREFIX=/usr DESTDIR="$work/stage" install
     does 'sqlite: the statements of docs/DATABASES.md' "$root/databases/statements" \
         'Statements for SQLite' sqlite3 -batch -cmd ".load $work/sqlite/fluent_uri" :memory:

@@ -1,16 +1,13 @@
 #!/bin/sh
-# Installs the files of a release on a fresh machine: a root file system that has Debian's base, and
-# neither kit nor compiler. It runs the first commands of the pages there, upgrades from an earlier
-# version, removes and purges, and compares what is left. By hand, as root, with debootstrap and the
-# network; it takes 2 GB in TMPDIR.
+# Installs the files of a release on a fresh machine (CONTRIBUTING.md). By hand, as root, with
+# debootstrap and the network; it takes 2 GB in TMPDIR.
 #
 # usage: sh .ci/fresh-install.sh FOLDER [EARLIER]
 #
 # FOLDER is what tools/release made. EARLIER has the packages of the version before; with none,
 # those of FOLDER stand for it, with the version 0.0.9 and a file that the new ones lack. SUITE is
-# the release of Debian (bookworm), and MIRROR where it is from. qemu-x86_64-static runs what is
-# installed on a processor without x86-64-v2, autopkgtest runs debian/tests, and qemu-aarch64-static
-# runs programs over the packages for arm64, if they are there.
+# the release of Debian (bookworm), and MIRROR where it is from. What qemu-x86_64-static,
+# qemu-aarch64-static and autopkgtest run is skipped where they are not there.
 set -eu
 [ $# -ge 1 ] && [ -f "$1/SHA256SUMS" ] || { sed -n 's/^# usage: /usage: /p' "$0" >&2; exit 2; }
 root=$(cd "$(dirname "$0")/.." && pwd)

@@ -1,12 +1,10 @@
 #!/bin/sh
-# Runs commands of README.md on a fresh machine: a clean clone, in a root file system that has the
-# base of Debian, the packages that README.md names, and the kit. So it finds an install step that
-# README.md lacks. By hand, as root, with debootstrap and the network; it takes 1 GB in TMPDIR.
+# Runs commands of README.md on a fresh machine (CONTRIBUTING.md). It takes 1 GB in TMPDIR.
 #
-# usage: sh .ci/fresh-machine.sh [COMMAND..]      as sh .ci/fresh-machine.sh './build uritool'
+# usage: sh .ci/fresh-machine.sh [COMMAND..]
 #
-# With no command it runs those of the section "Try it", and those after it up to ./test. PACKAGES, if set, are
-# installed in place of README.md's, SUITE is the release (bookworm), and MIRROR where it is from.
+# With no command it runs those from "Try it" on up to ./test. PACKAGES, if set, are installed in
+# place of README.md's, SUITE is the release (bookworm), and MIRROR where it is from.
 set -eu
 root=$(cd "$(dirname "$0")/.." && pwd)
 rt=$(command -v rt) || { echo 'fresh-machine: rt is not on the PATH' >&2; exit 2; }

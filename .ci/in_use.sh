@@ -1,7 +1,6 @@
 #!/bin/sh
-# Tests what users import with Scrapy, lxml, rdflib and jsonschema (examples/, docs/IN_USE.md) over
-# the shared library: each with the packages of Debian, where a Python here has them. It installs
-# nothing, and asks no host but loopback.
+# Tests what users import with Scrapy, lxml, rdflib and jsonschema (docs/IN_USE.md) over the shared
+# library. It asks no host but loopback.
 #
 # FLUENT_URI_LIBRARY names a shared library to test with, in place of the one that is built of the
 # proved archive. SERD_TESTS names the folder `test` of the source of serd (`apt-get source serd`),

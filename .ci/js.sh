@@ -1,7 +1,5 @@
 #!/bin/sh
-# Tries the package for JavaScript: its modules beside the archive for x86-64, without memory and
-# with short stacks, and then the package as npm installs it: rows, random strings, types, Ajv and
-# the page. It writes nothing into the tree but what git ignores there.
+# Tries the package for JavaScript (docs/JAVASCRIPT.md).
 #
 # usage: sh .ci/js.sh [PART..]      (all parts, if none is named)
 #

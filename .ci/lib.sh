@@ -84,14 +84,8 @@ copy_tree() {
     tree=$1
     shift
     mkdir -p "$tree/crates"
-    (cd "$root" && cp -R build uritool tools README.md CHANGELOG.md LICENSE crates.txt "$tree")
-    for crate in "$root"/crates/*/; do
-        to=$tree/crates/$(basename "$crate")
-        mkdir "$to"
-        for part; do
-            [ ! -d "$crate$part" ] || cp -R "$crate$part" "$to/$part"
-        done
-    done
+    (cd "$root" && cp -R build uritool tools README.md CHANGELOG.md LICENSE crates.txt "$tree" &&
+        for part; do cp -R --parents crates/*/"$part" "$tree"; done)
 }
 
 # interrupted COMMAND..: ends the command once it has written $work/slow, and sets its `status`.

@@ -1,10 +1,7 @@
 #!/bin/sh
-# Tests the Python package over the shared library: with the compiled module and by ctypes, with
-# sanitizers, by a Python that counts references, then the wheel, and the commands that install the
-# package. It writes nothing into the tree but what make and rt keep in out/. FLUENT_URI_LIBRARY
-# names a shared library to test with, in place of the one that is built of the proved archive, and
-# PYTHON_DEBUG the Python that counts references, if it is not python3-dbg. GENERATED_SECONDS (6)
-# says how long generated calls are compared, and GENERATED_SEED (1) which.
+# Tests the Python package over the shared library. FLUENT_URI_LIBRARY names one in place of that of
+# the proved archive, and PYTHON_DEBUG the Python that counts references, if it is not python3-dbg.
+# GENERATED_SECONDS (6) says how long generated calls are compared, and GENERATED_SEED (1) which.
 . "$(dirname "$0")/lib.sh"
 # (the packages of Debian are those of its own Python)
 python=${PYTHON:-$(command -v /usr/bin/python3 || echo python3)}
@@ -92,13 +89,44 @@ cmp "$work/one/"*.whl "$work/other/"*.whl > "$work/log" 2>&1 || fail 'two wheels
 [ -f "$work/one/"*-manylinux_2_17_x86_64.whl ] || fail "the wheel is $(ls "$work/one")"
 "$python" -m zipfile -e "$work/one/"*.whl "$work/installed" > "$work/log" 2>&1 ||
     fail 'the wheel could not be unpacked'
-PYTHONPATH=$work/installed "$python" -c '
-from fluent_uri import Uri, batch
-assert str(Uri.parse("A:%7e").normalize()) == batch.normalize(["A:%7e"])[0] == "a:~"
-' > "$work/log" 2>&1 || fail 'the wheel does not work'
-if [ -n "$archive" ]; then
-    sh "$root/.ci/python_install.sh" "$archive" || exit 1
+works='from fluent_uri import Uri, batch
+assert str(Uri.parse("A:%7e").normalize()) == batch.normalize(["A:%7e"])[0] == "a:~"'
+PYTHONPATH=$work/installed "$python" -c "$works" > "$work/log" 2>&1 ||
+    fail 'the wheel does not work'
+
+# The package as a new user installs it: by the commands of the page, with a home of their own, over
+# the archive. Nothing may be left beside the sources.
+beside() {
+    git -C "$root" status --porcelain --untracked-files=all 2> /dev/null
+}
+what='the package as it is installed'
+if [ -z "$archive" ]; then
+    skip "$what" 'a library is given'
+elif ! has rt "$what" || ! has cc "$what"; then
+    :
+elif ! python3 -c 'import ensurepip, venv' 2> /dev/null; then
+    skip "$what" 'python3 has no venv (Debian: python3-venv)'
 else
-    skip 'the package as it is installed' 'a library is given'
+    cd "$root" || exit 2
+    unset PYTHONPATH PYTHONDONTWRITEBYTECODE
+    # The first lines of the section that stand in a fence, but for `./build`.
+    awk '/^## /{is = $0 == "## Install"} is && /^    /{print; seen = 1; next} is && seen{exit}' \
+        docs/PYTHON.md > "$work/page"
+    [ "$(wc -l < "$work/page")" -ge 4 ] || fail 'the page has no commands'
+    sed '/^ *\.\/build /d' "$work/page" > "$work/commands"
+    before=$(beside)
+    HOME=$work ARCHIVE=$archive sh -eu "$work/commands" > "$work/log" 2>&1 ||
+        fail 'a command of the page failed'
+    installed=$(find "$work" -path '*/bin/python3' | head -n 1)
+    (cd / && "$installed" -c "import fluent_uri
+assert fluent_uri.__file__.startswith(__import__('sys').prefix)
+$works
+print(fluent_uri.is_compiled)") > "$work/log" 2>&1 || fail 'what is installed does not work'
+    echo "python: installed (compiled: $(cat "$work/log"))"
+    FLUENT_URI_LIBRARY=/no/such "$installed" -m pip install --force-reinstall ./python \
+        > "$work/log" 2>&1 && fail 'pip installs the package without the shared library'
+    grep -q 'fluent_uri: there is no shared library /no/such: build it by' "$work/log" ||
+        fail 'pip does not say that the shared library is missing'
+    [ "$(beside)" = "$before" ] || fail "left beside the sources: $(beside)"
 fi
 echo 'python: ok'

@@ -6,6 +6,7 @@ identifier is given once and each relationship has both its ends, and the expres
 usage: .ci/spdx.py FILE..       (Debian: python3-jsonschema, python3-license-expression)
 """
 import json
+import pathlib
 import re
 import sys
 from datetime import datetime
@@ -99,14 +100,10 @@ def wrong(document):
 
 
 def main(names):
-    status = 0
-    for name in names:
-        with open(name, encoding="utf-8") as it:
-            document = json.load(it)
-        for line in wrong(document):
-            print(f"{name}: {line}")
-            status = 1
-    return status
+    documents = {name: json.loads(pathlib.Path(name).read_text(encoding="utf-8")) for name in names}
+    found = [f"{name}: {line}" for name, it in documents.items() for line in wrong(it)]
+    print(*found, sep="\n", end="\n" * bool(found))
+    return bool(found)
 
 
 if __name__ == "__main__":

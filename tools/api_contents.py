@@ -2,6 +2,8 @@
 import fnmatch
 import re
 
+from api_items import called
+
 HEAD = """# The public items, by task
 
 `tools/api` writes this page from the sources. `tools/api --html out/api.html` writes the items with
@@ -69,17 +71,19 @@ def about(module, name, doc):
     return first_sentence(doc)
 
 
-def contents(items):
-    """The page of the items, each with its module and what it has, and those that no task has."""
+def contents(modules):
+    """The page of the items of modules, and the items that lack a doc comment or a task."""
     lines, lacking = {it: {} for it in TASKS}, []
-    for module, item, members in items:
-        for it in [item, *(one for one in members if one.what != "variant")]:
-            name = f"{it.owner}::{it.name}" if it.owner else it.name
-            if title := task_of(module, name):
-                said = f"{about(module, name, it.doc)} | `{module}` |"
-                lines[title].setdefault(said, []).append(f"`{name}`")
+    for module, item, members in ((it.name, *one) for it in modules for one in it.items):
+        named = [[item], *called(members).values()]
+        lacking += [f"no doc comment: {it.file}: {it.path}"
+                    for same in named for it in same if not it.doc]
+        for it in (same[0] for same in named if same[0].what != "variant"):
+            if title := task_of(module, it.path):
+                said = f"{about(module, it.path, it.doc)} | `{module}` |"
+                lines[title].setdefault(said, []).append(f"`{it.path}`")
             else:
-                lacking.append(f"no task of tools/api_contents.py: {name}")
+                lacking.append(f"no task of tools/api_contents.py: {it.path}")
     out = [HEAD]
     for title, its in lines.items():
         out += [f"\n## {title}\n", "| Item | What it does | From |", "|---|---|---|"]

@@ -1,16 +1,18 @@
-"""The items of sources in Rattle, with their contracts and doc comments."""
+"""The public items of the crates that callers name, as their sources have them."""
 import functools
 import pathlib
 import re
 from typing import NamedTuple
 
 ROOT = pathlib.Path(__file__).resolve().parent.parent
-# The crates that examples of doc comments come from: all are proved.
-EXAMPLES = (
-    "cookbook", "obligations", "uri_commands", "uri_query", "uri_idna", "fluent_uri_c",
+LIBRARIES = ("uri_pct", "uri_parts", "uri_ops", "error_laws", "fluent_uri")
+# The other crates that callers name, which have their own items alone.
+BESIDE = (
+    "uri_relative", "uri_mend", "uri_rules", "uri_setting", "uri_basic", "uri_order",
+    "uri_query", "uri_idna", "uri_links",
 )
 ITEM = re.compile(
-    r"(?P<vis>pub )?(?P<final>final )?(?:const )?(?P<what>fn|struct|enum|trait|type|const|static) "
+    r"(?P<vis>pub )?(?:final )?(?:const )?(?P<what>fn|struct|enum|trait|type|const|static) "
     r"(?P<name>\w+)"
 )
 IMPL = re.compile(r"impl(?:<.*?>)? (?:(?P<trait>[\w:]+(?:<.*>)?) for )?(?P<type>\w+)")
@@ -20,6 +22,11 @@ SAID = {
     "Display": "output|styled_output", "From": "from_gives", "Hash": "hash_input", "Ord": "cmp",
     "PartialEq": "eq", "PartialOrd": "partial_cmp", "TryFrom": "try_from_gives",
 }
+# What src/lib.rt of fluent_uri makes public.
+PUBLIC = re.compile(
+    r"^(?P<indent> *)pub (?:mod (?P<module>\w+) \{|type (?P<type>\w+)"
+    r"|use (?P<path>[\w:]+?)::(?:\{(?P<names>[^}]*)\}|(?P<name>\w+));)", re.M
+)
 
 
 class Item(NamedTuple):
@@ -29,24 +36,34 @@ class Item(NamedTuple):
     what: str
     name: str
     signature: str
-    contract: list  # its clauses, line by line
-    doc: list
-    is_hidden: bool
+    contract: list = []  # its clauses, line by line
+    doc: list = []
+    is_hidden: bool = False
+
+    @property
+    def path(self):
+        return f"{self.owner}::{self.name}" if self.owner else self.name
+
+
+class Module(NamedTuple):
+    name: str
+    about: str
+    items: list  # each item with what it has
 
 
 def signature_of(lines, at):
     """The item's head in one line, without its contract and its body."""
     taken = []
-    for line in lines[at:]:
-        line = line.strip()
+    for line in map(str.strip, lines[at:]):
         if re.match(r"(requires|ensures|ghost)\b", line) or line == "{":
             break
         taken.append(line)
-        if line.endswith((";", "{")) or line.endswith("}"):
+        if line.endswith((";", "{", "}")):
             break
     text = re.sub(r"\s+", " ", " ".join(taken))
     text = re.sub(r"\( ", "(", re.sub(r",? \)", ")", text))
-    text = re.sub(r" = [^;]*;$", ";", text) if " const " in f" {text}" and "fn " not in text else text
+    if " const " in f" {text}" and "fn " not in text:
+        text = re.sub(r" = [^;]*;$", ";", text)
     return text.rstrip(" {;,")
 
 
@@ -60,9 +77,8 @@ def contract_of(lines, at):
         if word in ("{", "{}", ";") or not clauses and word.endswith(("{", ";")) and not is_clause:
             break
         if is_clause or clauses:
-            ends = word.endswith(";")
             clauses.append(line[indent:].rstrip(";"))
-            if ends:
+            if word.endswith(";"):
                 break
     return clauses
 
@@ -70,9 +86,8 @@ def contract_of(lines, at):
 def doc_above(lines, at):
     """The doc comment above a line, and whether it is hidden."""
     doc, is_hidden = [], False
-    while at > 0 and lines[at - 1].strip().startswith(("///", "#[", "ghost use")):
+    while at > 0 and (line := lines[at - 1].strip()).startswith(("///", "#[", "ghost use")):
         at -= 1
-        line = lines[at].strip()
         if line.startswith("///"):
             doc.insert(0, line[4:])
         is_hidden |= line == "#[doc(hidden)]"
@@ -86,108 +101,122 @@ def said_of(lines, at, trait):
     return re.findall(rf"^    (ghost (?:{names}) = .*?;)$", "\n".join(lines[at:end]), re.M | re.S)
 
 
-def derived_above(path, lines, at, owner):
-    """The traits of std that a type derives, of those that say what their calls return."""
-    held = held_by(lines, at)
+def derived_above(file, lines, at, owner):
+    """The traits of std that a type derives, of those that say what their calls return. What they
+    say is of the type of its field, if it has one alone."""
+    text = " ".join(lines[at : lines.index("}", at)]) if lines[at].endswith("{") else ""
+    held = re.findall(r"(?:^|\s)(?:pub(?:\(crate\))? )?\w+: (\w+)", text.partition("{")[2])
     while at > 0 and lines[at - 1].startswith(("///", "#[")):
         at -= 1
         if found := re.match(r"#\[derive(?:_where)?\((.*)\)\]", lines[at]):
             for it in found[1].split(", "):
                 if it in (*SAID, "Eq"):
-                    yield Item(file_of(path), owner, "", "derive", it, held, [], [], False)
+                    yield Item(file, owner, "", "derive", it, held[0] if len(held) == 1 else "")
 
 
-def held_by(lines, at):
-    """The type of the one field that a struct has, or nothing."""
-    text = " ".join(lines[at : lines.index("}", at)]) if lines[at].endswith("{") else ""
-    fields = re.findall(r"(?:^|\s)(?:pub(?:\(crate\))? )?\w+: (\w+)", text.partition("{")[2])
-    return fields[0] if len(fields) == 1 else ""
-
-
+@functools.cache
 def items_of(path):
-    """Each item of a source file."""
-    lines = path.read_text(encoding="utf-8").splitlines()
-    owner, trait, block = "", None, ""
+    """Each item of a source file, and last the variants of its enums."""
+    file, lines = str(path.relative_to(ROOT)), path.read_text(encoding="utf-8").splitlines()
+    found, variants = [], []
+    owner = trait = block = top = ""
     for at, line in enumerate(lines):
         indent = len(line) - len(line.lstrip())
-        if indent == 0 and line and not line.startswith((" ", "/", "#", "}", ")", "where")):
-            owner, trait, block = "", None, ""
-            found = IMPL.match(line)
-            if found:
-                owner, trait, block = found["type"], found["trait"], line.rstrip(" {")
+        doc = functools.partial(doc_above, lines, at)
+        if line and not line.startswith((" ", "/", "#", "}", ")", "where")):
+            owner = trait = block = top = ""
+            if it := IMPL.match(line):
+                owner, trait, block = it["type"], it["trait"], line.rstrip(" {")
                 if owner == "String" and (own := re.match(r"From<(\w+)", trait or "")):
                     owner = own[1]
                 if trait:
                     said = said_of(lines, at, trait)
-                    yield Item(file_of(path), owner, block, "impl", trait, block, said, [], False)
-        found = ITEM.match(line.strip())
-        if not found or indent not in (0, 4) or (indent == 4 and trait):
-            continue
-        what, name = found["what"], found["name"]
-        doc, is_hidden = doc_above(lines, at)
-        head = signature_of(lines, at)
-        clauses = contract_of(lines, at) if what == "fn" else []
-        if indent == 0 or what == "type" and not owner:
-            if found["vis"]:
-                yield Item(file_of(path), "", "", what, name, head, clauses, doc, is_hidden)
-                if what in ("trait", "enum", "struct"):
-                    owner = name
-                    yield from derived_above(path, lines, at, name)
-        elif owner and (found["vis"] or is_in_trait(lines, at)):
-            yield Item(file_of(path), owner, block, what, name, head, clauses, doc, is_hidden)
-    yield from variants_of(path, lines)
-
-
-def variants_of(path, lines):
-    """Each variant of a public enum."""
-    owner = None
-    for at, line in enumerate(lines):
-        found = re.match(r"pub enum (\w+)", line)
-        if found:
-            owner = found[1]
-        elif line == "}":
-            owner = None
-        elif owner and re.match(r"    [A-Z]\w*", line):
-            name = re.match(r"    (\w+)", line)[1]
-            doc, is_hidden = doc_above(lines, at)
+                    found.append(Item(file, owner, block, "impl", trait, block, said))
+        it = ITEM.match(line.strip())
+        if top == "enum" and re.match(r"    [A-Z]", line):
+            name = re.match(r"\w+", line.strip())[0]
             sign = line.strip().rstrip(",{ ")
-            yield Item(file_of(path), owner, "", "variant", name, sign, [], doc, is_hidden)
-
-
-def is_in_trait(lines, at):
-    """Whether the innermost block that begins at the margin is a trait."""
-    while at > 0:
-        at -= 1
-        if lines[at] and lines[at][0] not in " /#})":
-            return lines[at].startswith(("pub trait", "trait"))
-    return False
-
-
-def file_of(path):
-    return str(path.relative_to(ROOT))
-
-
-class Head(NamedTuple):
-    file: str
-    name: str
-    signature: str
+            variants.append(Item(file, owner, "", "variant", name, sign, [], *doc()))
+        if not it or indent not in (0, 4) or indent and trait:
+            continue
+        what, name = it["what"], it["name"]
+        is_top = not indent or what == "type" and not owner
+        if it["vis"] and (is_top or owner) or not is_top and top == "trait":
+            clauses = contract_of(lines, at) if what == "fn" else []
+            of = ("", "") if is_top else (owner, block)
+            found.append(Item(file, *of, what, name, signature_of(lines, at), clauses, *doc()))
+        if is_top and it["vis"] and what in ("trait", "enum", "struct"):
+            owner, top = name, what
+            found += derived_above(file, lines, at, name)
+    return found + variants
 
 
 @functools.cache
-def examples():
-    """The sources that examples come from: each with its lines, and these without their margins."""
-    paths = [it for name in EXAMPLES for it in (ROOT / "crates" / name / "src").rglob("*.rt")]
-    return [(file_of(it), it.read_text(encoding="utf-8").splitlines()) for it in sorted(paths)]
+def sources():
+    """The items of the libraries below fluent_uri, and its own."""
+    return [
+        it
+        for name in LIBRARIES
+        for path in sorted((ROOT / "crates" / name / "src").rglob("*.rt"))
+        for it in items_of(path)
+    ]
 
 
-def head_of_example(program):
-    """The head of the function whose body has the lines of an example, if it is one."""
-    wanted = [it.strip() for it in program]
-    for file, lines in examples():
-        bare = [it.strip() for it in lines]
-        for at in range(len(lines) - len(wanted) + 1):
-            if bare[at : at + len(wanted)] == wanted and lines[at].startswith("    "):
-                while at >= 0 and not (found := re.match(r" *(?:pub )?fn (\w+)", lines[at])):
-                    at -= 1
-                return Head(file, found[1], signature_of(lines, at)) if at >= 0 else None
-    return None
+def is_of_crate(item):
+    """Whether an item is of its module, and not of a type."""
+    return not (item.owner or item.what == "impl" or item.is_hidden)
+
+
+def is_named(item, name, crate):
+    """Whether the crate's item has this name, or is public in its module of this name."""
+    if not is_of_crate(item) or not item.file.startswith(f"crates/{crate}/"):
+        return False
+    is_of_module = name.islower() and item.what != "fn" and item.file.endswith(f"/{name}.rt")
+    return item.name == name or is_of_module
+
+
+def of_crate(name):
+    """The public modules of a crate that callers name beside fluent_uri, as one."""
+    folder = ROOT / "crates" / name / "src"
+    lines = (folder / "lib.rt").read_text(encoding="utf-8").splitlines()
+    about = "\n".join(it[4:] for it in lines if it.startswith("//!"))
+    files = [folder / f"{it[1]}.rt" for at, line in enumerate(lines)
+             if (it := re.match(r"pub mod (\w+);", line)) and lines[at - 1] != "#[doc(hidden)]"]
+    return Module(name, about, [
+        (it, [own for own in items_of(path) if own.owner == it.name])
+        for path in files for it in items_of(path) if is_of_crate(it)
+    ])
+
+
+def modules():
+    """The public modules with their items, and the names that no source has."""
+    text = (ROOT / "crates/fluent_uri/src/lib.rt").read_text(encoding="utf-8")
+    lines, lacking, done = text.splitlines(), [], set()
+    found = above = [Module("fluent_uri", "", [])]
+    for it in PUBLIC.finditer(text):
+        above = above[: len(it["indent"]) // 4 + 1]
+        if it["module"]:
+            doc, _ = doc_above(lines, text.count("\n", 0, it.start()))
+            above = [*above, Module(f"{above[-1].name}::{it['module']}", " ".join(doc), [])]
+            found = [*found, above[-1]]
+        crate = (it["path"] or "").partition("::")[0]
+        crate = crate if crate in LIBRARIES else "fluent_uri"
+        for name in re.findall(r"\w+", it["type"] or it["names"] or it["name"] or ""):
+            own = [item for item in sources() if name != "self" and is_named(item, name, crate)]
+            if name != "self" and not own:
+                lacking.append(f"{above[-1].name}: {name} is nowhere")
+            for item in own:
+                if item.name not in done:
+                    done.add(item.name)
+                    members = [member for member in sources() if member.owner == item.name]
+                    above[-1].items.append((item, members))
+    return [*found, *map(of_crate, BESIDE)], lacking
+
+
+def called(members):
+    """What a type or trait has that is public, by name: several of its impls may have one name."""
+    grouped = {}
+    for it in members:
+        if not it.is_hidden and it.what in ("fn", "const", "variant"):
+            grouped.setdefault(it.name, []).append(it)
+    return grouped

@@ -4,10 +4,9 @@ import base64
 import csv
 import gzip
 import hashlib
-import importlib.machinery
-import importlib.util
 import io
 import pathlib
+import runpy
 import tarfile
 import zipfile
 
@@ -20,17 +19,14 @@ BESIDE = pathlib.Path(__file__).resolve().parent / "source_distribution"
 SUFFIXES = (".py", ".c", ".h", ".pyi", ".typed")
 
 
-def make_wheel(tree):
-    """python/make-wheel of a tree, as a module."""
-    loader = importlib.machinery.SourceFileLoader("wheel", str(tree / "python" / "make-wheel"))
-    made = importlib.util.module_from_spec(importlib.util.spec_from_loader("wheel", loader))
-    loader.exec_module(made)
-    return made
+def of_make_wheel(tree, name):
+    """A function of python/make-wheel of a tree."""
+    return runpy.run_path(str(tree / "python" / "make-wheel"))[name]
 
 
 def add_statement(wheel, files):
     """Adds files to the folder sboms of a wheel, as PEP 770 has it."""
-    zipped = make_wheel(ROOT).zipped
+    zipped = of_make_wheel(ROOT, "zipped")
     with zipfile.ZipFile(wheel) as it:
         held = {name: it.read(name) for name in it.namelist()}
     (record,) = [it for it in held if it.endswith(".dist-info/RECORD")]
@@ -52,7 +48,7 @@ def add_statement(wheel, files):
 def source_distribution(tree, version, epoch, to):
     """Writes the source distribution of the Python package, in the folders of the repository."""
     python = tree / "python"
-    fields, _, about = make_wheel(tree).metadata()[1].decode().partition("\n\n")
+    fields, _, about = of_make_wheel(tree, "metadata")()[1].decode().partition("\n\n")
     fields += f"\nRequires-External: libfluent_uri_c.so.0 (>={version})\n\n"
     files = {it.name: it for it in BESIDE.iterdir() if it.is_file()}
     named = ("LICENSE", "c/include/fluent_uri.h", "python/README.md", "python/build-compiled",

@@ -3,6 +3,9 @@ import pathlib
 import random
 
 BENCH = pathlib.Path(__file__).resolve().parent
+# The table of peers that is drawn, and its lines that have a colour of their own.
+PEERS_TITLE = "A URL of the list: nanoseconds, and how often those of fluent_uri"
+OURS, LIMIT = "fluent_uri", "the limit"
 
 # The works, by their numbers in both libraries.
 PARSE_URI, PARSE_URI_REF, PARSE_IRI, PARSE_IRI_REF = range(4)

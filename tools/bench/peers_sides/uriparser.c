@@ -1,10 +1,7 @@
-/* The works of tools/bench/run that uriparser has: `bench` over uriparser/Uri.h. */
-#include <stdint.h>
+/* uriparser, over uriparser/Uri.h. */
 #include <uriparser/Uri.h>
 
-enum { PARSE_URI = 0, NORMALIZE_URI = 4, RESOLVE_URI = 8 };
-
-static char out[1 << 16];
+#include "side.h"
 
 /* The length of the text of a URI, or that of none. */
 static uint64_t printed(const UriUriA *uri) {
@@ -27,23 +24,13 @@ static uint64_t resolved(const char *text, const char *end, const char *base,
     return length;
 }
 
-static uint64_t parsed(uint32_t work, const char *text, const char *end) {
+static uint64_t worked(uint32_t work, const char *text, size_t length, const char *base,
+                       size_t base_length) {
     UriUriA uri;
-    uint64_t length = (uint64_t)(end - text);
-    if (uriParseSingleUriExA(&uri, text, end, NULL)) return UINT64_MAX;
-    if (work == NORMALIZE_URI) length = uriNormalizeSyntaxA(&uri) ? UINT64_MAX : printed(&uri);
+    uint64_t result = length;
+    if (work == RESOLVE_URI) return resolved(text, text + length, base, base + base_length);
+    if (uriParseSingleUriExA(&uri, text, text + length, NULL)) return UINT64_MAX;
+    if (work == NORMALIZE_URI) result = uriNormalizeSyntaxA(&uri) ? UINT64_MAX : printed(&uri);
     uriFreeUriMembersA(&uri);
-    return length;
-}
-
-uint64_t bench(uint32_t work, const uint8_t *text, size_t text_length, const uint8_t *base,
-               size_t base_length, uint64_t rounds) {
-    const char *begin = (const char *)text, *from = (const char *)base;
-    uint64_t length = UINT64_MAX;
-    int is_known = work == PARSE_URI || work == NORMALIZE_URI || work == RESOLVE_URI;
-    for (uint64_t round = 0; is_known && round < rounds; round++)
-        length = work == RESOLVE_URI
-                     ? resolved(begin, begin + text_length, from, from + base_length)
-                     : parsed(work, begin, begin + text_length);
-    return length;
+    return result;
 }

@@ -1,8 +1,8 @@
 //! What `urilines` does, by the original: `normalize KIND`, `resolve uri BASE`, `check uri`,
-//! `unique KIND` and `parse KIND` over the lines of standard input, with a buffer of 64 KiB either
-//! way. A kind is `uri` or `iri`, and of `parse` a reference too.
+//! `unique KIND` and `parse uri` over the lines of standard input, with a buffer of 64 KiB either
+//! way. A kind is `uri` or `iri`.
 use fluent_uri::component::Host;
-use fluent_uri::{Iri, IriRef, Uri, UriRef};
+use fluent_uri::{Iri, Uri, UriRef};
 use std::collections::HashSet;
 use std::io::{self, BufRead, BufReader, BufWriter, Write};
 
@@ -47,49 +47,36 @@ fn push_member(line: &mut String, name: &str, text: &str) {
     line.push_str(&format!("{comma}\"{name}\":\"{text}\""));
 }
 
-/// The components of a reference, whose scheme is given, as a line of JSON.
-macro_rules! json {
-    ($reference:expr, $scheme:expr) => {{
-        let mut line = String::from("{");
-        if let Some(scheme) = $scheme {
-            push_member(&mut line, "scheme", scheme.as_str());
+/// The components of a URI, as a line of JSON.
+fn json(uri: &Uri<&str>) -> String {
+    let mut line = String::from("{");
+    push_member(&mut line, "scheme", uri.scheme().as_str());
+    if let Some(authority) = uri.authority() {
+        push_member(&mut line, "authority", authority.as_str());
+        if let Some(userinfo) = authority.userinfo() {
+            push_member(&mut line, "userinfo", userinfo.as_str());
         }
-        if let Some(authority) = $reference.authority() {
-            push_member(&mut line, "authority", authority.as_str());
-            if let Some(userinfo) = authority.userinfo() {
-                push_member(&mut line, "userinfo", userinfo.as_str());
-            }
-            push_member(&mut line, "host", authority.host());
-            let kind = match authority.host_parsed() {
-                Host::Ipv4(_) => "ipv4",
-                Host::Ipv6(_) => "ipv6",
-                Host::IpvFuture { .. } => "ipvfuture",
-                Host::RegName(_) => "reg-name",
-            };
-            push_member(&mut line, "host_kind", kind);
-            if let Some(port) = authority.port() {
-                push_member(&mut line, "port", port.as_str());
-            }
+        push_member(&mut line, "host", authority.host());
+        let kind = match authority.host_parsed() {
+            Host::Ipv4(_) => "ipv4",
+            Host::Ipv6(_) => "ipv6",
+            Host::IpvFuture { .. } => "ipvfuture",
+            Host::RegName(_) => "reg-name",
+        };
+        push_member(&mut line, "host_kind", kind);
+        if let Some(port) = authority.port() {
+            push_member(&mut line, "port", port.as_str());
         }
-        push_member(&mut line, "path", $reference.path().as_str());
-        if let Some(query) = $reference.query() {
-            push_member(&mut line, "query", query.as_str());
-        }
-        if let Some(fragment) = $reference.fragment() {
-            push_member(&mut line, "fragment", fragment.as_str());
-        }
-        line.push('}');
-        line
-    }};
-}
-
-fn parsed(kind: &str, text: &str) -> Result<String, fluent_uri::ParseError> {
-    Ok(match kind {
-        "uri" => Uri::parse(text).map(|it| json!(it, Some(it.scheme())))?,
-        "uri-ref" => UriRef::parse(text).map(|it| json!(it, it.scheme()))?,
-        "iri" => Iri::parse(text).map(|it| json!(it, Some(it.scheme())))?,
-        _ => IriRef::parse(text).map(|it| json!(it, it.scheme()))?,
-    })
+    }
+    push_member(&mut line, "path", uri.path().as_str());
+    if let Some(query) = uri.query() {
+        push_member(&mut line, "query", query.as_str());
+    }
+    if let Some(fragment) = uri.fragment() {
+        push_member(&mut line, "fragment", fragment.as_str());
+    }
+    line.push_str("}\n");
+    line
 }
 
 fn main() -> io::Result<()> {
@@ -138,8 +125,8 @@ fn main() -> io::Result<()> {
             }
             Err(_) => Ok(()),
         }),
-        ["parse", kind] => each_line(|text, write| match parsed(kind, text) {
-            Ok(line) => write(format!("{line}\n").as_bytes()),
+        ["parse", "uri"] => each_line(|text, write| match Uri::parse(text) {
+            Ok(uri) => write(json(&uri).as_bytes()),
             Err(error) => write(format!("error: {error}\n").as_bytes()),
         }),
         _ => Err(io::Error::other("the words are those of a command of urilines")),
