@@ -4,7 +4,6 @@
 
 pub mod addresses;
 pub mod by_rules;
-pub mod comparing;
 pub mod converting;
 pub mod decoding;
 pub mod dots;

@@ -1,16 +1,13 @@
 //! The rules that the RFCs print (RFC 3986, appendix A; RFC 3987, section 2.2), and what callers
 //! read by them.
-ghost use Rattle.std.specs.Prelude.{◌≡◌, ◌↔◌, ◌∷◌, ℕ, List, [], false, map, true};
+ghost use Rattle.std.specs.Prelude.{◌≡◌, ◌↔◌, ◌∷◌, [], false, map, true};
 ghost use Rattle.fluent_uri.specs.Authority.{authority_parts};
-ghost use Rattle.fluent_uri.specs.Components.{components};
 ghost use Rattle.fluent_uri.specs.DecodeUnreserved.{is_decodable};
-ghost use Rattle.fluent_uri.specs.Grammar.{uri};
-ghost use Rattle.fluent_uri.specs.Hosts.{IsHost, Ipv4};
 ghost use Rattle.fluent_uri.specs.Iris.{iri_text};
 ghost use Rattle.fluent_uri.specs.Sets.{path_set};
 ghost use Rattle.fluent_uri.specs.Uris.{uri_text};
 ghost use Rattle.uri_abnf.specs.Abnf.{Has, IsOf};
-ghost use Rattle.uri_abnf.specs.Derivations.{IsAuthorityDerived, IsDerived, uri_rules};
+ghost use Rattle.uri_abnf.specs.Derivations.{IsAuthorityDerived, uri_rules};
 ghost use Rattle.uri_abnf.specs.Printed as Printed;
 ghost use Rattle.uri_abnf.specs.Printing.{line};
 ghost use Rattle.uri_abnf.specs.Rfc3986 as Rfc3986;
@@ -27,30 +24,12 @@ pub fn of_the_rule_iri(value: Iri<&str>)
     uri_abnf::kinds_are_the_languages_of_their_rules();
 }
 
-/// A caller that reads a URI reference by the printed rules proves that it finds the components that
-/// `parse` does.
-pub fn derived_components(text: &str)
-    requires { IsOf Rfc3986.URI-reference text.now }
-    ensures { IsDerived uri_rules text.now (components text.now) }
-{
-    uri_abnf::components_are_derived_in_one_way();
-}
-
 /// A caller proves the same of an authority.
 pub fn derived_components_of_an_authority(text: &str)
     requires { IsOf Rfc3986.authority text.now }
     ensures { IsAuthorityDerived uri_rules text.now (authority_parts text.now) }
 {
     uri_abnf::authorities_are_derived_in_one_way();
-}
-
-/// A caller that finds four decimal numbers with dots by the printed rule proves that it has an IPv4
-/// address.
-pub fn is_ipv4_by_its_rule(host: &str)
-    requires { IsOf Rfc3986.IPv4address host.now }
-    ensures { (octets : List ℕ) × IsHost uri.reg_name host.now (Ipv4 octets) }
-{
-    uri_abnf::hosts_are_of_the_first_rule_that_has_them();
 }
 
 /// A caller tests whether a text is of the printed rule for schemes.

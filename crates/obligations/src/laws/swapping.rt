@@ -1,5 +1,5 @@
 //! Resolving and normalising, in either order (RFC 3986, sections 5.2 and 6.2.2).
-ghost use Rattle.std.specs.Prelude.{◌≡◌, ◌⊎◌, IfErr, IfOk, IfSome};
+ghost use Rattle.std.specs.Prelude.{◌≡◌, ◌⊎◌, IfErr, IfOk};
 ghost use Rattle.fluent_uri.specs.Components.{components};
 ghost use Rattle.fluent_uri.specs.Grammar.{iri};
 ghost use Rattle.fluent_uri.specs.Iris.{iri_ref_text};
@@ -13,10 +13,7 @@ use fluent_uri::normalize::Normalizer;
 use fluent_uri::resolve::{ResolveError, Resolver};
 use fluent_uri::{Iri, IriRef, Uri, UriRef};
 use std::alloc::Global;
-use uri_rules::SchemeNormalizer;
-use uri_rules::laws::{
-    normal_forms_have_equivalent_targets, normal_forms_under_rules_have_equivalent_targets,
-};
+use uri_rules::laws::normal_forms_have_equivalent_targets;
 
 /// A caller proves that the normalised target of the normal forms of a base and a reference is that
 /// of the two, and returns it.
@@ -66,51 +63,6 @@ pub fn normalised_before(
     let target = reference.resolve_against(alloc, &base)?;
     let other = normal_reference.resolve_against(alloc, &normal_base)?;
     Ok((target.normalize(alloc)?, other.normalize(alloc)?))
-}
-
-/// A caller proves the same of IRIs, and that the error is the one for the base and the reference
-/// themselves.
-///
-/// # Errors
-///
-/// Those of `resolve_against` for the two.
-pub fn refused_alike(
-    alloc: Global,
-    base: Iri<&str>,
-    reference: IriRef<&str>,
-) -> Result<Iri<String>, ResolveError>
-    ensures { IfErr result (λ error. (error ≡ ResolveError.OutOfMemory) ⊎
-        IsErrorWithUnderflowAllowed (components (iri_text base.entry))
-        (components (iri_ref_text reference.entry)) error) }
-{
-    let (normal_base, normal_reference) = (base.normalize(alloc)?, reference.normalize(alloc)?);
-    normal_forms_have_equivalent_targets(&base, &reference, &normal_base, &normal_reference);
-    normal_reference.resolve_against(alloc, &normal_base)
-}
-
-/// A caller proves that it makes no difference under the rules of schemes either. Returns `None` if
-/// there is no target, or no memory.
-pub fn normalised_before_by_rules(
-    alloc: Global,
-    base: Uri<&str>,
-    reference: UriRef<&str>,
-) -> Option<(Uri<String>, Uri<String>)>
-    ensures { IfSome result (λ both. uri_text both.1 ≡ uri_text both.0) }
-{
-    let rules = SchemeNormalizer::new();
-    let normal_base = rules.normalize(alloc, &base).ok()?;
-    let normal_reference = rules.normalize(alloc, &reference).ok()?;
-    normal_forms_under_rules_have_equivalent_targets(
-        &rules,
-        &base,
-        &reference,
-        &normal_base,
-        &normal_reference,
-    );
-    let target = reference.resolve_against(alloc, &base).ok()?;
-    let other = normal_reference.resolve_against(alloc, &normal_base).ok()?;
-    let normal_target = rules.normalize(alloc, &target).ok()?;
-    Some((normal_target, rules.normalize(alloc, &other).ok()?))
 }
 
 /// A caller proves that resolving and then normalising is resolving and normalising in one call:
