@@ -194,7 +194,7 @@ function calls() {
     'x://é@ü/😀');
   assert.equal(String(Uri.parse('http://u@a:80/b?c#d').replace({ port: null, fragment: null })),
     'http://u@a/b?c');
-  assert.equal(normalVersion(), 1);
+  assert.equal(normalVersion(), 2);
 }
 
 function coding() {
