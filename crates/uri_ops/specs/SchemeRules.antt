@@ -4,6 +4,7 @@ use Rattle.uri_pct.specs.Delimiters.{slash}
 use Rattle.uri_pct.specs.Tokens.{Token, Char}
 use Rattle.uri_parts.specs.Grammar.{Kind}
 use Rattle.uri_parts.specs.Ports.{PortFunction}
+use Rattle.uri_parts.specs.SchemePorts.{default_port}
 use Rattle.uri_ops.specs.Meaning.{Name, AuthorityMeaning, Meaning, meaning_of}
 use Rattle.uri_ops.specs.Normal.{normal_authority}
 
@@ -17,12 +18,16 @@ pub record Rules : Type 0 where
 
 -- the rules with these default ports, these schemes with the path `/` and these with the default
 -- host `localhost`
-abbrev pub rules_of : PortFunction → (List ℕ → Bool) → (List ℕ → Bool) → Rules
-rules_of ports roots locals = record { ports = ports; roots = roots; locals = locals }
+abbrev pub rules_with : PortFunction → (List ℕ → Bool) → (List ℕ → Bool) → Rules
+rules_with ports roots locals = record { ports = ports; roots = roots; locals = locals }
 
 -- the rules that have default ports alone
 abbrev pub only_ports : PortFunction → Rules
-only_ports ports = rules_of ports (λ _. false) (λ _. false)
+only_ports ports = rules_with ports (λ _. false) (λ _. false)
+
+-- the rules that have the default ports of `Scheme::default_port` alone
+abbrev pub default_rules : Rules
+default_rules = only_ports default_port
 
 -- whether the scheme is one of a rule. An absent scheme is none: that of a relative reference is
 -- found only when it is resolved.

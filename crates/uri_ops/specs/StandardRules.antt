@@ -2,7 +2,7 @@
 use Rattle.std.specs.Prelude.{ℕ, Bool, List, [], ◌∷◌, codes, bytes_eq}
 use Rattle.std.specs.List.{list_any}
 use Rattle.uri_parts.specs.SchemePorts.{default_port}
-use Rattle.uri_rules.specs.Rules.{Rules, rules_of}
+use Rattle.uri_ops.specs.SchemeRules.{Rules, rules_with}
 
 -- the schemes, in lower case, under which an empty path after an authority is equivalent to `/`:
 -- RFC 9110, section 4.2.3, and RFC 7252, section 6.3, say so of `http`, `https`, `coap` and `coaps`;
@@ -30,4 +30,4 @@ is_listed schemes scheme = list_any (bytes_eq scheme) schemes
 
 -- the rules by these lists, and by the default ports of `Scheme::default_port`
 abbrev pub standard_rules : Rules
-standard_rules = rules_of default_port (is_listed rooted_schemes) (is_listed local_schemes)
+standard_rules = rules_with default_port (is_listed rooted_schemes) (is_listed local_schemes)

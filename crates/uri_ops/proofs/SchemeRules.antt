@@ -1,0 +1,5 @@
+-- What the rules of schemes make of meanings, texts and targets.
+pub mod RuledMeanings
+pub mod RuledTexts
+pub mod RuledTargets
+mod RulesRows
