@@ -24,7 +24,7 @@ ghost use Rattle.uri_ops.specs.Target.{guarded};
 ghost use Rattle.uri_ops.specs.Normalizers.{HasNormalText, text_underflows};
 ghost use Rattle.uri_ops.specs.Models.Written.{authority_parts_at};
 
-use crate::default_port::DefaultPort;
+use crate::scheme_rules::SchemeRules;
 use crate::normalize::decode_unreserved::push_decoded_component;
 use crate::normalize::decoded_paths::push_decoded_path;
 use crate::normalize::literal_runs::push_lower;
@@ -112,14 +112,14 @@ fn push_normal_path<E: PathEncoder>(
 
 /// Returns the normal text of a value, written component by component, with its positions and
 /// whether the removal of its dot segments underflows.
-pub(crate) fn written_normal_text<K: Kind, P: DefaultPort>(
+pub(crate) fn written_normal_text<K: Kind, S: SchemeRules>(
     alloc: Global,
     core: Core<K, &str>,
-    ports: &P,
+    rules: &S,
 ) -> Result<Normalized, AllocError>
     requires { HasComponentSets K.kind }
     ensures text { IfOk result (λ made.
-        HasNormalText K.kind (P.port_of ports.now) (core_text core.entry)
+        HasNormalText K.kind (S.rules_of rules.now).ports (core_text core.entry)
         (string_bytes made.text)) }
     ensures at { IfOk result (λ made.
         ArePackedPositionsOf (string_bytes made.text) made.positions) }
@@ -130,7 +130,7 @@ pub(crate) fn written_normal_text<K: Kind, P: DefaultPort>(
     let scheme = core.scheme();
     let scheme_end = push_scheme(scheme, &mut text)?;
     let authority = core.authority();
-    let places = push_authority(authority, scheme, ports, &mut text)?;
+    let places = push_authority(authority, scheme, rules, &mut text)?;
     let path_start = text.len();
     let path = core.path();
     let has_authority = authority.is_some();

@@ -16,7 +16,7 @@ ghost use Rattle.uri_ops.specs.Meaning.{host_meaning, meaning_of};
 ghost use Rattle.uri_ops.specs.Normal.{host_text, normal_text};
 ghost use Rattle.uri_ops.specs.Normalizers.{HasNormalText, text_underflows};
 
-use crate::default_port::DefaultPort;
+use crate::scheme_rules::SchemeRules;
 use crate::normalize::kept_octets::is_kept;
 use crate::normalize::normal_authority::{is_bracketed, is_port_unchanged};
 use crate::read_back::are_equal;
@@ -153,8 +153,8 @@ fn unchanged_prefix_len<K: Kind>(core: Core<K, &str>) -> usize
 /// takes less than writing the normal text, and so normalising asks no more than this.
 #[doc(hidden)]
 #[inline(always)]
-pub fn is_found_normal<K: Kind, P: DefaultPort>(core: Core<K, &str>, ports: &P) -> bool
-    ensures text { result ≡ true → HasNormalText K.kind (P.port_of ports.now)
+pub fn is_found_normal<K: Kind, S: SchemeRules>(core: Core<K, &str>, rules: &S) -> bool
+    ensures text { result ≡ true → HasNormalText K.kind (S.rules_of rules.now).ports
         (core_text core.entry) (core_text core.entry) }
     ensures underflow { result ≡ true → text_underflows (core_text core.entry) ≡ false }
 {
@@ -169,27 +169,27 @@ pub fn is_found_normal<K: Kind, P: DefaultPort>(core: Core<K, &str>, ports: &P) 
         0
     };
     is_kept(lacks_past_ascii::<K>(), bytes, start, limit)
-        && is_port_unchanged(core.authority(), core.scheme(), ports)
+        && is_port_unchanged(core.authority(), core.scheme(), rules)
 }
 
 /// Returns whether the normal text of a value, which it reads from its end, is its own.
-fn is_read_normal<K: Kind, P: DefaultPort>(core: Core<K, &str>, ports: &P) -> bool
-    ensures { (result ≡ true) ↔ (normal_text (meaning_of K.kind (P.port_of ports.now)
+fn is_read_normal<K: Kind, S: SchemeRules>(core: Core<K, &str>, rules: &S) -> bool
+    ensures { (result ≡ true) ↔ (normal_text (meaning_of K.kind (S.rules_of rules.now).ports
         (core_text core.entry)) ≡ core_text core.entry) }
 {
     let authority = core.authority();
     let (host, end) = ipv6_host_of(authority);
     are_equal(
-        normal_back(core, authority, core.path(), ports, &host[..end]),
+        normal_back(core, authority, core.path(), rules, &host[..end]),
         LiteralBack::copied(core.as_str().as_bytes()),
     )
 }
 
 /// Returns whether the normal text of a value is its own. Takes no memory.
 #[doc(hidden)]
-pub fn is_normal<K: Kind, P: DefaultPort>(core: Core<K, &str>, ports: &P) -> bool
-    ensures { (result ≡ true) ↔ (normal_text (meaning_of K.kind (P.port_of ports.now)
+pub fn is_normal<K: Kind, S: SchemeRules>(core: Core<K, &str>, rules: &S) -> bool
+    ensures { (result ≡ true) ↔ (normal_text (meaning_of K.kind (S.rules_of rules.now).ports
         (core_text core.entry)) ≡ core_text core.entry) }
 {
-    is_found_normal(core, ports) || is_read_normal(core, ports)
+    is_found_normal(core, rules) || is_read_normal(core, rules)
 }

@@ -20,7 +20,7 @@ pub returns : goal.returns
 unfolding text_underflows
 returns g c =
     let kind = g.K.Kind.kind in
-    let ports = g.P.DefaultPort.port_of c.args.ports.now in
+    let ports = (g.S.SchemeRules.rules_of c.args.rules.now).ports in
     let p = components c.args.core.text.now in
     let meaning = authority_meaning kind (default_port_of ports p.scheme) in
     let authority = option_map normal_authority (option_map meaning p.authority) in

@@ -49,7 +49,7 @@ pub returns-then-is_kept-clause-text : goal.returns-then-is_kept-clause-text
 returns-then-is_kept-clause-text g c = λ e.
     let kind = g.K.Kind.kind in
     let text = core_text c.args.core in
-    let ports = g.P.DefaultPort.port_of c.args.ports.now in
+    let ports = (g.S.SchemeRules.rules_of c.args.rules.now).ports in
     let both = kept g c c.if-is_kept.true in
     let port : IfSome (components text).authority (λ a. IsUnchangedPort
     (default_port_of ports (components text).scheme) (authority_parts a).port) =
