@@ -10,7 +10,7 @@ use Rattle.uri_parts.specs.Grammar.{Kind}
 use Rattle.uri_parts.specs.Ports.{PortFunction}
 use Rattle.uri_ops.specs.Dots.{is_empty}
 use Rattle.uri_ops.specs.Meaning.{AuthorityMeaning, Meaning, meaning_of}
-use Rattle.uri_rules.specs.Rules.{Rules, authority_under, empty_authority, has_no_token, is_localhost, is_scheme_of, meaning_under, only_ports, path_under, root, under_rules}
+use Rattle.uri_ops.specs.SchemeRules.{Rules, authority_under, empty_authority, has_no_token, is_localhost, is_scheme_of, meaning_under, only_ports, path_under, root, under_rules}
 
 -- general fact on booleans, for rules: a function of what a test chooses
 pub map-cond : {A B : Type 0} (f : A → B) (b : Bool) (x y : A)

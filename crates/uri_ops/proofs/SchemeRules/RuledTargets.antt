@@ -12,19 +12,18 @@ use Rattle.uri_ops.specs.ComponentSets.{HasComponentSets}
 use Rattle.uri_ops.specs.Dots.{is_empty, directory}
 use Rattle.uri_ops.specs.Meaning.{Meaning, authority_meaning, components_meaning, meaning_of}
 use Rattle.uri_ops.specs.Normal.{normal_text}
-use Rattle.uri_ops.specs.NormalTargets.{reference_kind}
+use Rattle.uri_ops.specs.NormalTargets.{reference_kind, resolved_meaning}
 use Rattle.uri_ops.specs.Target.{TargetError, is_opaque_rejection, is_opaque, is_fragment_only, dotted_target, target_of, query_or}
 use Rattle.uri_ops.proofs.Meanings.AllowedParts.{is_set_text}
 use Rattle.uri_ops.proofs.Normal.NormalTexts.{text-has-parts-of-kind}
 use Rattle.uri_parts.proofs.Splitting.Recompose.{components_of_parts}
 use Rattle.uri_ops.proofs.Targeting.JoinedMeanings.{target-path-has-meaning-of-joined, reference-kind-has-component-sets}
 use Rattle.uri_ops.proofs.Targeting.RefusalOrder.{result_or_target_error, map-of-result_or_error}
-use Rattle.uri_ops.proofs.Targeting.Swaps.{resolving-respects-meaning, text-of-kind-has-needed-scheme, dotted_target-has-scheme-as-base}
+use Rattle.uri_ops.proofs.Targeting.Swaps.{resolving-respects-meaning_of, text-of-kind-has-needed-scheme, dotted_target-has-scheme-as-base}
 use Rattle.uri_ops.proofs.Targeting.Targets.{target-text-has-target-components}
-use Rattle.uri_rules.specs.Rules.{Rules, authority_under, is_scheme_of, meaning_under, path_under, under_rules}
-use Rattle.uri_rules.specs.Targets.{resolved_under}
-use Rattle.uri_rules.proofs.RuledTexts.{ruled_authority, components-without-scheme-are-ruled, ruled_path, ruled_text, ruled_components-have-meaning-under, ruled_components, normal-text-under-rules-is-text-of-kind, ruled_authority-has-meaning-under, components-of-ruled_text, path-without-authority-is-ruled, ruled-text-is-text-of-kind, ruled-text-has-meaning-under, meaning_under-normal_text}
-use Rattle.uri_rules.proofs.RuledMeanings.{authority_under-if-some-is-idempotent, under_rules-is-idempotent}
+use Rattle.uri_ops.specs.SchemeRules.{Rules, authority_under, is_scheme_of, meaning_under, path_under, under_rules}
+use Rattle.uri_ops.proofs.SchemeRules.RuledTexts.{ruled_authority, components-without-scheme-are-ruled, ruled_path, ruled_text, ruled_components-have-meaning-under, ruled_components, normal-text-under-rules-is-text-of-kind, ruled_authority-has-meaning-under, components-of-ruled_text, path-without-authority-is-ruled, ruled-text-is-text-of-kind, ruled-text-has-meaning-under, meaning_under-normal_text}
+use Rattle.uri_ops.proofs.SchemeRules.RuledMeanings.{authority_under-if-some-is-idempotent, under_rules-is-idempotent}
 
 -- general fact on booleans, for rules: what one test chooses is alike if both choices are
 choices-are-alike : {A B : Type 0} (f : A → B) (b : Bool) (x y u v : A) → f x ≡ f u → f y ≡ f v
@@ -139,10 +138,10 @@ module _ (kind : Kind) (rules : Rules) (sets : HasComponentSets kind) where
   resolution_under base r = result_or_target_error (is_some base.fragment)
       (is_opaque_rejection base r) (under (dotted_target base r))
 
-  resolved_under-is-resolution_under : (b t : List ℕ) → is_some (components b).scheme ≡ true
-      → resolved_under kind rules b t ≡ resolution_under (components b) (components t)
+  resolved_meaning-is-resolution_under : (b t : List ℕ) → is_some (components b).scheme ≡ true
+      → resolved_meaning kind rules b t ≡ resolution_under (components b) (components t)
   unfolding resolution_under result_or_target_error
-  resolved_under-is-resolution_under b t some =
+  resolved_meaning-is-resolution_under b t some =
       let base = components b in
       let r = components t in
       map-of-result_or_error (meaning_under kind rules) (is_some base.fragment)
@@ -171,13 +170,13 @@ module _ (kind : Kind) (rules : Rules) (sets : HasComponentSets kind) where
   -- so do the ruled texts
   ruled-texts-resolve-to-same-meaning : (b t : List ℕ) → kind.needs_scheme ≡ true
       → IsTextOf kind b → IsTextOf (reference_kind kind) t
-      → resolved_under kind rules (ruled_text kind rules b)
+      → resolved_meaning kind rules (ruled_text kind rules b)
       (ruled_text (reference_kind kind) rules t)
-      ≡ resolved_under kind rules b t
+      ≡ resolved_meaning kind rules b t
   ruled-texts-resolve-to-same-meaning b t needs v w =
       let some = text-of-kind-has-needed-scheme kind b needs v in
       let sb = ruled_text kind rules b in
-      resolved_under-is-resolution_under sb (ruled_text (reference_kind kind) rules t)
+      resolved_meaning-is-resolution_under sb (ruled_text (reference_kind kind) rules t)
       (text-of-kind-has-needed-scheme kind sb needs
       (ruled-text-is-text-of-kind kind rules sets b v))
       ∙ ap (λ p. resolution_under p (components (ruled_text (reference_kind kind) rules t)))
@@ -188,16 +187,16 @@ module _ (kind : Kind) (rules : Rules) (sets : HasComponentSets kind) where
       ∙ ruled-components-have-same-resolution (components b) (components t)
       (text-has-parts-of-kind kind b v).path
       (text-has-parts-of-kind (reference_kind kind) t w).path
-      ∙ sym (resolved_under-is-resolution_under b t some)
+      ∙ sym (resolved_meaning-is-resolution_under b t some)
 
   -- meanings under the rules alone decide what comes of it
-  pub resolving-respects-meaning-under : (b c t u : List ℕ) → kind.needs_scheme ≡ true
+  pub resolving-respects-meaning : (b c t u : List ℕ) → kind.needs_scheme ≡ true
       → IsTextOf kind b → IsTextOf kind c
       → IsTextOf (reference_kind kind) t → IsTextOf (reference_kind kind) u
       → meaning_under kind rules b ≡ meaning_under kind rules c
       → meaning_under (reference_kind kind) rules t ≡ meaning_under (reference_kind kind) rules u
-      → resolved_under kind rules b t ≡ resolved_under kind rules c u
-  resolving-respects-meaning-under b c t u needs v w x y e f =
+      → resolved_meaning kind rules b t ≡ resolved_meaning kind rules c u
+  resolving-respects-meaning b c t u needs v w x y e f =
       let of_reference = reference_kind kind in
       let reference_sets = reference-kind-has-component-sets kind sets rules.ports in
       let sb = ruled_text kind rules b in
@@ -207,7 +206,7 @@ module _ (kind : Kind) (rules : Rules) (sets : HasComponentSets kind) where
       sym (ruled-texts-resolve-to-same-meaning b t needs v x)
       ∙ map-of-map (under_rules rules) (meaning_of kind rules.ports) _
       ∙ ap (result_map_both (under_rules rules) (λ (refusal : TargetError). refusal))
-      (resolving-respects-meaning kind rules.ports sets sb sc st su needs
+      (resolving-respects-meaning_of kind rules.ports sets sb sc st su needs
       (ruled-text-is-text-of-kind kind rules sets b v)
       (ruled-text-is-text-of-kind kind rules sets c w)
       (ruled-text-is-text-of-kind of_reference rules reference_sets t x)
@@ -220,15 +219,15 @@ module _ (kind : Kind) (rules : Rules) (sets : HasComponentSets kind) where
       ∙ ruled-texts-resolve-to-same-meaning c u needs w y
 
   -- the normal texts of a base and a reference resolve to the same meaning
-  pub normal-texts-under-rules-resolve-alike : (b t : List ℕ) → kind.needs_scheme ≡ true
+  pub normal-texts-resolve-to-same-meaning : (b t : List ℕ) → kind.needs_scheme ≡ true
       → IsTextOf kind b → IsTextOf (reference_kind kind) t
-      → resolved_under kind rules (normal_text (meaning_under kind rules b))
+      → resolved_meaning kind rules (normal_text (meaning_under kind rules b))
       (normal_text (meaning_under (reference_kind kind) rules t))
-      ≡ resolved_under kind rules b t
-  normal-texts-under-rules-resolve-alike b t needs v w =
+      ≡ resolved_meaning kind rules b t
+  normal-texts-resolve-to-same-meaning b t needs v w =
       let of_reference = reference_kind kind in
       let reference_sets = reference-kind-has-component-sets kind sets rules.ports in
-      resolving-respects-meaning-under (normal_text (meaning_under kind rules b)) b
+      resolving-respects-meaning (normal_text (meaning_under kind rules b)) b
       (normal_text (meaning_under of_reference rules t)) t needs
       (normal-text-under-rules-is-text-of-kind kind rules sets b v) v
       (normal-text-under-rules-is-text-of-kind of_reference rules reference_sets t w) w

@@ -34,8 +34,8 @@ use Rattle.uri_ops.proofs.Normal.NormalTexts.{meaning_of-normal_text, normal-tex
 use Rattle.uri_ops.proofs.Paths.DotLaws.{remove-dots-of-dotless}
 use Rattle.uri_ops.proofs.Paths.DecodedStarts.{decoding-keeps-emptiness}
 use Rattle.uri_ops.proofs.Paths.PathMeanings.{path-without-dots-is-set-text, removing-dots-keeps-leading-slash}
-use Rattle.uri_rules.specs.Rules.{Rules, empty_authority, has_no_token, is_localhost, is_scheme_of, root, authority_under, path_under, under_rules, meaning_under}
-use Rattle.uri_rules.proofs.RuledMeanings.{map-cond, meaning-under-ports-alone, print-is-empty-without-tokens, under_rules-is-idempotent}
+use Rattle.uri_ops.specs.SchemeRules.{Rules, empty_authority, has_no_token, is_localhost, is_scheme_of, root, authority_under, path_under, under_rules, meaning_under}
+use Rattle.uri_ops.proofs.SchemeRules.RuledMeanings.{map-cond, print-is-empty-without-tokens, under_rules-is-idempotent}
 
 -- the authority as the rules of its scheme have it: empty if its normal form is `localhost` and
 -- that is the default host
@@ -320,23 +320,15 @@ module _ (kind : Kind) (rules : Rules) (sets : HasComponentSets kind) where
       (ruled-text-is-text-of-kind text w)))
       ∙ under_rules-is-idempotent rules (meaning_of kind rules.ports text)
 
-  pub normal_text-under-rules-is-idempotent : (text : List ℕ) → IsTextOf kind text
+  pub normal_text-is-idempotent : (text : List ℕ) → IsTextOf kind text
       → normal_text (meaning_under kind rules (normal_text (meaning_under kind rules text)))
       ≡ normal_text (meaning_under kind rules text)
-  normal_text-under-rules-is-idempotent text w = ap normal_text (meaning_under-normal_text text w)
+  normal_text-is-idempotent text w = ap normal_text (meaning_under-normal_text text w)
 
-  pub same-normal-text-same-meaning-under : (t u : List ℕ) → IsTextOf kind t → IsTextOf kind u
+  pub same-normal-text-same-meaning : (t u : List ℕ) → IsTextOf kind t → IsTextOf kind u
       → (normal_text (meaning_under kind rules t) ≡ normal_text (meaning_under kind rules u))
       ↔ (meaning_under kind rules t ≡ meaning_under kind rules u)
-  same-normal-text-same-meaning-under t u v w = (
+  same-normal-text-same-meaning t u v w = (
     λ e. cc (meaning_under-normal_text t v, meaning_under-normal_text u w),
     λ e. ap normal_text e,
   )
-
-pub ruleset canonical_under = (
-  meaning-under-ports-alone,
-  normal-text-under-rules-is-text-of-kind,
-  meaning_under-normal_text,
-  normal_text-under-rules-is-idempotent,
-  same-normal-text-same-meaning-under,
-)

@@ -15,9 +15,9 @@ use Rattle.uri_parts.specs.SchemePorts.{default_port}
 use Rattle.uri_ops.specs.Dots.{remove_dot_segments, run}
 use Rattle.uri_ops.specs.Normal.{normal_text}
 use Rattle.uri_ops.specs.Target.{InvalidReferenceAgainstOpaqueBase}
-use Rattle.uri_rules.specs.Rules.{meaning_under}
-use Rattle.uri_rules.specs.Standard.{standard_rules}
-use Rattle.uri_rules.specs.Targets.{resolved_under}
+use Rattle.uri_ops.specs.SchemeRules.{meaning_under}
+use Rattle.uri_ops.specs.StandardRules.{standard_rules}
+use Rattle.uri_ops.specs.NormalTargets.{resolved_meaning}
 
 -- examples of rules: the second text is the normal form of the first, for the kind
 IsNormalOf : Kind → List ℕ → List ℕ → Type 0
@@ -69,6 +69,6 @@ normal-forms-of-local-hosts =
 
 -- examples of rules: a base without an authority stays opaque
 opaque-bases-stay-opaque :
-    resolved_under uri standard_rules (codes "ws:") (codes "?")
+    resolved_meaning uri standard_rules (codes "ws:") (codes "?")
     ≡ Err InvalidReferenceAgainstOpaqueBase
 opaque-bases-stay-opaque = refl
