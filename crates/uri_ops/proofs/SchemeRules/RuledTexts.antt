@@ -25,6 +25,7 @@ use Rattle.uri_ops.specs.ComponentSets.{HasComponentSets, IsComponentSet}
 use Rattle.uri_ops.specs.Dots.{is_empty}
 use Rattle.uri_ops.specs.Meaning.{authority_meaning, dotless_path, components_meaning, meaning_of}
 use Rattle.uri_ops.specs.Normal.{normal_text}
+use Rattle.uri_ops.specs.Models.RuledComponents.{ruled_authority, ruled_components, ruled_path, ruled_text}
 use Rattle.uri_ops.specs.Target.{dotless_if_absolute}
 use Rattle.uri_pct.proofs.UnreservedDecoding.Printing.{print_decoded}
 use Rattle.uri_ops.proofs.Meanings.AllowedParts.{is_set_text, set-text-from-utf8, validity-splits-at-slash}
@@ -36,31 +37,6 @@ use Rattle.uri_ops.proofs.Paths.DecodedStarts.{decoding-keeps-emptiness}
 use Rattle.uri_ops.proofs.Paths.PathMeanings.{path-without-dots-is-set-text, removing-dots-keeps-leading-slash}
 use Rattle.uri_ops.specs.SchemeRules.{Rules, empty_authority, has_no_token, is_localhost, is_scheme_of, root, authority_under, path_under, under_rules, meaning_under}
 use Rattle.uri_ops.proofs.SchemeRules.RuledMeanings.{map-cond, print-is-empty-without-tokens, under_rules-is-idempotent}
-
--- the authority as the rules of its scheme have it: empty if its normal form is `localhost` and
--- that is the default host
-abbrev pub ruled_authority : Kind → Option ℕ → Bool → List ℕ → List ℕ
-ruled_authority kind default local authority =
-    if local && is_localhost (authority_meaning kind default authority) then [] else authority
-
--- the path as the rules of its scheme have it: `/` for an empty one after an authority
-abbrev pub ruled_path : Bool → Bool → List ℕ → List ℕ
-ruled_path rooted follows_authority path =
-    if (rooted && follows_authority) && is_empty path then codes "/" else path
-
--- the components as the rules of their scheme have them
-abbrev pub ruled_components : Kind → Rules → Components → Components
-ruled_components kind rules p =
-    let scheme = option_map str_to_ascii_lowercase p.scheme in
-    record p {
-      authority = option_map (ruled_authority kind (option_and_then rules.ports scheme)
-          (is_scheme_of rules.locals scheme)) p.authority;
-      path = ruled_path (is_scheme_of rules.roots scheme) (is_some p.authority) p.path;
-    }
-
--- the text as the rules of its scheme have it
-abbrev pub ruled_text : Kind → Rules → List ℕ → List ℕ
-ruled_text kind rules text = recompose (ruled_components kind rules (components text))
 
 -- rules: the empty authority means no host
 empty-authority-means-no-host : (kind : Kind) (default : Option ℕ)
