@@ -24,6 +24,8 @@ pub(crate) mod normalized;
 pub(crate) mod octet_runs;
 pub(crate) mod octets;
 pub(crate) mod room;
+#[doc(hidden)]
+pub mod ruled_parts;
 pub(crate) mod short_components;
 #[doc(hidden)]
 pub mod unchanged;

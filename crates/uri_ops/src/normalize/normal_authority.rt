@@ -141,7 +141,8 @@ fn push_port<U: Encoder, R: Encoder, S: SchemeRules>(
     out: &mut String,
 ) -> Result<(), AllocError>
     ensures { let p = authority_parts (authority_text authority.entry) in
-        let default = default_port_of (S.rules_of rules.now).ports (option_map scheme_text scheme.entry) in
+        let default = default_port_of (S.rules_of rules.now).ports
+        (option_map scheme_text scheme.entry) in
         OnOk result (Pushes out.old out.new (marked (codes ":") (port_meaning default p.port) [])) }
 {
     let Some(digits) = port_unless_default(authority, scheme, rules) else {

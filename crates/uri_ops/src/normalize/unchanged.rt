@@ -12,17 +12,19 @@ ghost use Rattle.uri_parts.specs.CoreTexts.{core_text};
 ghost use Rattle.uri_ops.specs.Models.Unchanged.{IsUnchangedHost};
 ghost use Rattle.uri_ops.specs.Models.Unchanged.{IsUnchangedPrefix, KindLacksPastAscii};
 ghost use Rattle.uri_ops.specs.Models.Unchanged.{is_literal_byte, is_settled_byte};
-ghost use Rattle.uri_ops.specs.Meaning.{host_meaning, meaning_of};
+ghost use Rattle.uri_ops.specs.Meaning.{host_meaning};
 ghost use Rattle.uri_ops.specs.Normal.{host_text, normal_text};
 ghost use Rattle.uri_ops.specs.Normalizers.{HasNormalText, text_underflows};
+ghost use Rattle.uri_ops.specs.SchemeRules.{meaning_under};
 
 use crate::scheme_rules::SchemeRules;
 use crate::normalize::kept_octets::is_kept;
 use crate::normalize::normal_authority::{is_bracketed, is_port_unchanged};
+use crate::normalize::ruled_parts::{has_default_host, has_root_path, ruled_authority};
 use crate::read_back::are_equal;
 use crate::read_back::literal_back::LiteralBack;
 use crate::read_back::normal_authority::ipv6_host_of;
-use crate::read_back::normal_back::normal_back;
+use crate::read_back::ruled_back::ruled_back;
 use uri_parts::core_text::Core;
 use uri_parts::kind::Kind;
 use uri_pct::encoder::Encoder;
@@ -154,7 +156,7 @@ fn unchanged_prefix_len<K: Kind>(core: Core<K, &str>) -> usize
 #[doc(hidden)]
 #[inline(always)]
 pub fn is_found_normal<K: Kind, S: SchemeRules>(core: Core<K, &str>, rules: &S) -> bool
-    ensures text { result ≡ true → HasNormalText K.kind (S.rules_of rules.now).ports
+    ensures text { result ≡ true → HasNormalText K.kind (S.rules_of rules.now)
         (core_text core.entry) (core_text core.entry) }
     ensures underflow { result ≡ true → text_underflows (core_text core.entry) ≡ false }
 {
@@ -170,17 +172,19 @@ pub fn is_found_normal<K: Kind, S: SchemeRules>(core: Core<K, &str>, rules: &S) 
     };
     is_kept(lacks_past_ascii::<K>(), bytes, start, limit)
         && is_port_unchanged(core.authority(), core.scheme(), rules)
+        && !has_root_path(core, rules)
+        && !has_default_host(core, rules)
 }
 
 /// Returns whether the normal text of a value, which it reads from its end, is its own.
 fn is_read_normal<K: Kind, S: SchemeRules>(core: Core<K, &str>, rules: &S) -> bool
-    ensures { (result ≡ true) ↔ (normal_text (meaning_of K.kind (S.rules_of rules.now).ports
+    ensures { (result ≡ true) ↔ (normal_text (meaning_under K.kind (S.rules_of rules.now)
         (core_text core.entry)) ≡ core_text core.entry) }
 {
-    let authority = core.authority();
+    let authority = ruled_authority(core, rules);
     let (host, end) = ipv6_host_of(authority);
     are_equal(
-        normal_back(core, authority, core.path(), rules, &host[..end]),
+        ruled_back(core, authority, rules, &host[..end]),
         LiteralBack::copied(core.as_str().as_bytes()),
     )
 }
@@ -188,7 +192,7 @@ fn is_read_normal<K: Kind, S: SchemeRules>(core: Core<K, &str>, rules: &S) -> bo
 /// Returns whether the normal text of a value is its own. Takes no memory.
 #[doc(hidden)]
 pub fn is_normal<K: Kind, S: SchemeRules>(core: Core<K, &str>, rules: &S) -> bool
-    ensures { (result ≡ true) ↔ (normal_text (meaning_of K.kind (S.rules_of rules.now).ports
+    ensures { (result ≡ true) ↔ (normal_text (meaning_under K.kind (S.rules_of rules.now)
         (core_text core.entry)) ≡ core_text core.entry) }
 {
     is_found_normal(core, rules) || is_read_normal(core, rules)

@@ -120,7 +120,8 @@ fn port_back<'a, U: Encoder, R: Encoder, S: SchemeRules>(
     rules: &S,
 ) -> Joined<LiteralBack<'a>, LiteralBack<'a>>
     ensures { let p = authority_parts (authority_text authority.entry) in
-        let default = default_port_of (S.rules_of rules.now).ports (option_map scheme_text scheme.entry) in
+        let default = default_port_of (S.rules_of rules.now).ports
+        (option_map scheme_text scheme.entry) in
         ⟦<Joined<LiteralBack<'a>, LiteralBack<'a>> as ReadBack>⟧.unread result
         ≡ marked (codes ":") (port_meaning default p.port) [] }
 {
