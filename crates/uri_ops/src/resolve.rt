@@ -231,7 +231,7 @@ impl<R: Ri> Resolver<R> {
             (R.text (base_of self.now)) (Q.text reference.now)) }
     {
         let target = resolve_to_text(alloc, &self.base, reference, true)?;
-        let made = normalize_string::<R::Kind, P>(
+        let made = normalize_string::<R::Kind, S>(
             alloc,
             target.text,
             target.positions,
