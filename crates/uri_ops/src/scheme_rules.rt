@@ -196,8 +196,10 @@ impl SchemeRules for RuleSet {
 /// It is what `Normalizer::default_port_with` makes of a normaliser's rules.
 #[derive(Clone, Copy, Drop)]
 pub struct WithPorts<P, S> {
-    pub(crate) ports: P,
-    pub(crate) rules: S,
+    /// The value whose default ports these are.
+    pub ports: P,
+    /// The value whose other rules these are.
+    pub rules: S,
 }
 
 impl<P: SchemeRules, S: SchemeRules> SchemeRules for WithPorts<P, S> {
