@@ -36,11 +36,7 @@ fn unchanged_text<'a, K: Kind, S: SchemeRules>(core: Core<K, &'a str>, rules: &S
 }
 
 /// Returns whether a text is the normal text of a value.
-fn is_normal_text_of<K: Kind, S: SchemeRules>(
-    text: &str,
-    core: Core<K, &str>,
-    rules: &S,
-) -> bool
+fn is_normal_text_of<K: Kind, S: SchemeRules>(text: &str, core: Core<K, &str>, rules: &S) -> bool
     ensures { let rules = S.rules_of rules.now in
         (result ≡ true) ↔ (normal_form K.kind rules (core_text core.entry) ≡ text.now) }
 {
@@ -82,10 +78,7 @@ fn have_equal_texts<K: Kind, S: SchemeRules>(
         (result ≡ true) ↔ (normal_form K.kind rules (core_text one.entry)
         ≡ normal_form K.kind rules (core_text other.entry)) }
 {
-    match (
-        unchanged_text(one, rules),
-        unchanged_text(other, rules),
-    ) {
+    match (unchanged_text(one, rules), unchanged_text(other, rules)) {
         (Some(first), Some(second)) => first == second,
         (Some(first), None) => is_normal_text_of(first, other, rules),
         (None, Some(second)) => is_normal_text_of(second, one, rules),
@@ -113,11 +106,7 @@ pub(crate) fn are_equivalent<K: Kind, S: SchemeRules>(
 }
 
 /// Returns the order of the normal text of a value, which it reads from its end, and a text.
-fn cmp_to_text<K: Kind, S: SchemeRules>(
-    core: Core<K, &str>,
-    text: &str,
-    rules: &S,
-) -> Ordering
+fn cmp_to_text<K: Kind, S: SchemeRules>(core: Core<K, &str>, text: &str, rules: &S) -> Ordering
     ensures { let rules = S.rules_of rules.now in
         result ≡ slice_cmp nat_cmp
         (normal_form K.kind rules (core_text core.entry)) text.now }
@@ -131,11 +120,7 @@ fn cmp_to_text<K: Kind, S: SchemeRules>(
 }
 
 /// Returns the order of a text and the normal text of a value, which it reads from its end.
-fn cmp_text_to<K: Kind, S: SchemeRules>(
-    text: &str,
-    core: Core<K, &str>,
-    rules: &S,
-) -> Ordering
+fn cmp_text_to<K: Kind, S: SchemeRules>(text: &str, core: Core<K, &str>, rules: &S) -> Ordering
     ensures { let rules = S.rules_of rules.now in
         result ≡ slice_cmp nat_cmp
         text.now (normal_form K.kind rules (core_text core.entry)) }
@@ -180,10 +165,7 @@ fn cmp_texts<K: Kind, S: SchemeRules>(
         (normal_form K.kind rules (core_text one.entry))
         (normal_form K.kind rules (core_text other.entry)) }
 {
-    match (
-        unchanged_text(one, rules),
-        unchanged_text(other, rules),
-    ) {
+    match (unchanged_text(one, rules), unchanged_text(other, rules)) {
         (Some(first), Some(second)) => first.cmp(second),
         (Some(first), None) => cmp_text_to(first, other, rules),
         (None, Some(second)) => cmp_to_text(one, second, rules),
@@ -212,11 +194,7 @@ pub(crate) fn cmp_normal<K: Kind, S: SchemeRules>(
 }
 
 /// Writes the normal text of a value, which it reads from its end, into a hasher.
-fn hash_read<K: Kind, S: SchemeRules, H: Hasher>(
-    core: Core<K, &str>,
-    rules: &S,
-    state: &mut H,
-)
+fn hash_read<K: Kind, S: SchemeRules, H: Hasher>(core: Core<K, &str>, rules: &S, state: &mut H)
     ensures { let rules = S.rules_of rules.now in
         state.new ≡ fold H.write state.old
         (hashed_text (normal_form K.kind rules (core_text core.entry))) }
