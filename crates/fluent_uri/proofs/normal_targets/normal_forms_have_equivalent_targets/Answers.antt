@@ -1,11 +1,11 @@
 use Rattle.std.proofs.Common.{◌∙◌, subst}
 use Rattle.uri_parts.specs.Grammar.{IsTextOf}
+use Rattle.uri_ops.specs.Normalizers.{scheme_rules_of}
+use Rattle.uri_ops.specs.SchemeRules.{meaning_under}
 use Rattle.uri_ops.proofs.TextKinds.FourKinds.{one-of-four-kinds-has-sets}
 use Rattle.fluent_uri.specs.References.{reference_text}
-use Rattle.uri_rules.specs.Normalizers.{default_ports_of, scheme_rules_of}
-use Rattle.uri_rules.specs.Rules.{meaning_under, rules_of}
-use Rattle.uri_rules.proofs.TargetsOfNormalForms.{normal-forms-resolve-to-same-meaning-under, one-meaning-one-normal-form-under, pairs-are-refused-alike, targets-of-pairs-map-alike}
-use Rattle.uri_rules.proofs.laws.normal_forms_under_rules_have_equivalent_targets.Goals as goal
+use Rattle.fluent_uri.proofs.TargetsOfNormalForms.{normal-forms-resolve-to-same-meaning, one-meaning-one-normal-form, pairs-are-refused-alike, targets-of-pairs-map-alike}
+use Rattle.fluent_uri.proofs.normal_targets.normal_forms_have_equivalent_targets.Goals as goal
 
 pub returns-clause-meanings : goal.returns-clause-meanings
 returns-clause-meanings g c =
@@ -15,10 +15,8 @@ returns-clause-meanings g c =
     let reference = subst (IsTextOf g.K.Kind.kind)
     (c.as_str-reference.ensures.text ∙ c.core-2.ensures.text)
     (record { utf8 = c.as_str-reference.utf8; grammar = c.as_str-reference.ensures.of_kind }) in
-    let rules = rules_of (g.P.DefaultPort.port_of (default_ports_of c.args.normalizer.now))
-    (g.S.SchemeRules.roots_of (scheme_rules_of c.args.normalizer.now))
-    (g.S.SchemeRules.locals_of (scheme_rules_of c.args.normalizer.now)) in
-    normal-forms-resolve-to-same-meaning-under kind g.K.Kind.kind
+    let rules = g.S.SchemeRules.rules_of (scheme_rules_of c.args.normalizer.now) in
+    normal-forms-resolve-to-same-meaning kind g.K.Kind.kind
     (one-of-four-kinds-has-sets kind g.met.K.Base.Kind.known) g.met.K.Base.BaseKind.needs_scheme
     g.met.K.RefKind.same_tables (reference_text c.args.base.now)
     (reference_text c.args.reference.now) (reference_text c.args.normal_base.now)
@@ -27,10 +25,8 @@ returns-clause-meanings g c =
 
 pub returns-clause-targets : goal.returns-clause-targets
 returns-clause-targets g c = λ target other normal other_normal e d v w.
-    let rules = rules_of (g.P.DefaultPort.port_of (default_ports_of c.args.normalizer.now))
-    (g.S.SchemeRules.roots_of (scheme_rules_of c.args.normalizer.now))
-    (g.S.SchemeRules.locals_of (scheme_rules_of c.args.normalizer.now)) in
-    one-meaning-one-normal-form-under g.K.Base.Kind.kind rules target other normal other_normal
+    let rules = g.S.SchemeRules.rules_of (scheme_rules_of c.args.normalizer.now) in
+    one-meaning-one-normal-form g.K.Base.Kind.kind rules target other normal other_normal
     (targets-of-pairs-map-alike (meaning_under g.K.Base.Kind.kind rules)
     (reference_text c.args.normal_base.now) (reference_text c.args.normal_reference.now)
     (reference_text c.args.base.now) (reference_text c.args.reference.now)
@@ -38,9 +34,7 @@ returns-clause-targets g c = λ target other normal other_normal e d v w.
 
 pub returns-clause-refusals : goal.returns-clause-refusals
 returns-clause-refusals g c = λ error.
-    let rules = rules_of (g.P.DefaultPort.port_of (default_ports_of c.args.normalizer.now))
-    (g.S.SchemeRules.roots_of (scheme_rules_of c.args.normalizer.now))
-    (g.S.SchemeRules.locals_of (scheme_rules_of c.args.normalizer.now)) in
+    let rules = g.S.SchemeRules.rules_of (scheme_rules_of c.args.normalizer.now) in
     pairs-are-refused-alike (meaning_under g.K.Base.Kind.kind rules)
     (reference_text c.args.normal_base.now) (reference_text c.args.normal_reference.now)
     (reference_text c.args.base.now) (reference_text c.args.reference.now)

@@ -4,22 +4,17 @@ use Rattle.std.specs.Prelude.{Err, Ok, Result, Some}
 use Rattle.std.specs.Result.{result_ok}
 use Rattle.uri_parts.specs.Components.{components}
 use Rattle.uri_parts.specs.Grammar.{Kind, IsTextOf}
-use Rattle.uri_parts.specs.Ports.{PortFunction}
 use Rattle.uri_ops.specs.ComponentSets.{HasComponentSets}
-use Rattle.uri_ops.specs.Meaning.{meaning_of}
 use Rattle.uri_ops.specs.Normal.{normal_text}
 use Rattle.uri_ops.specs.NormalTargets.{reference_kind, resolved_meaning}
 use Rattle.uri_ops.specs.Normalizers.{IsNormalForm}
 use Rattle.uri_ops.specs.Resolving.{IsErrorWithUnderflowAllowed}
+use Rattle.uri_ops.specs.SchemeRules.{Rules, meaning_under}
 use Rattle.uri_ops.specs.Target.{resolution_of_texts}
 use Rattle.uri_ops.specs.declared.resolve.error.ResolveError.{ResolveError}
 use Rattle.uri_ops.proofs.Targeting.NormalTargets.{equal-mapped-results-are-ok-alike, equal-mapped-results-have-equal-errors, equal-mapped-results-have-equal-targets, mapped, resolution-is-unique, same-resolution-error-with-underflow-allowed}
-use Rattle.uri_ops.proofs.Targeting.Swaps.{resolving-respects-meaning}
+use Rattle.uri_ops.proofs.SchemeRules.RuledTargets.{resolving-respects-meaning}
 use Rattle.fluent_uri.specs.Targets.{target_of_texts}
-use Rattle.uri_rules.specs.NormalForms.{IsNormalFormUnder}
-use Rattle.uri_rules.specs.Rules.{Rules, meaning_under}
-use Rattle.uri_rules.specs.Targets.{resolved_under}
-use Rattle.uri_rules.proofs.RuledTargets.{resolving-respects-meaning-under}
 
 -- general fact on results, for targets: what a result has is what it is
 result-of-its-value : {A E : Type 0} (r : Result A E) (x : A) → result_ok r ≡ Some x → r ≡ Ok x
@@ -69,38 +64,20 @@ module _ (kind of_reference : Kind) (sets : HasComponentSets kind)
     (needs : kind.needs_scheme ≡ true) (same : of_reference ≡ reference_kind kind)
     (base reference b r : List ℕ) (of_base : IsTextOf kind base)
     (of_ref : IsTextOf of_reference reference) where
-  pub normal-forms-resolve-to-same-meaning : (ports : PortFunction)
-      → IsNormalForm kind ports base b → IsNormalForm of_reference ports reference r
-      → resolved_meaning kind ports b r ≡ resolved_meaning kind ports base reference
-  normal-forms-resolve-to-same-meaning ports v w =
+  pub normal-forms-resolve-to-same-meaning : (rules : Rules)
+      → IsNormalForm kind rules base b → IsNormalForm of_reference rules reference r
+      → resolved_meaning kind rules b r ≡ resolved_meaning kind rules base reference
+  normal-forms-resolve-to-same-meaning rules v w =
       let x = subst (λ k. IsTextOf k reference) same of_ref in
-      let y = subst (λ k. IsNormalForm k ports reference r) same w in
-      resolving-respects-meaning kind ports sets b base r reference needs v.of_kind of_base
-      y.of_kind x v.meaning y.meaning
-
-  pub normal-forms-resolve-to-same-meaning-under : (rules : Rules)
-      → IsNormalFormUnder kind rules base b → IsNormalFormUnder of_reference rules reference r
-      → resolved_under kind rules b r ≡ resolved_under kind rules base reference
-  normal-forms-resolve-to-same-meaning-under rules v w =
-      let x = subst (λ k. IsTextOf k reference) same of_ref in
-      let y = subst (λ k. IsNormalFormUnder k rules reference r) same w in
-      resolving-respects-meaning-under kind rules sets b base r reference needs v.of_kind of_base
+      let y = subst (λ k. IsNormalForm k rules reference r) same w in
+      resolving-respects-meaning kind rules sets b base r reference needs v.of_kind of_base
       y.of_kind x v.meaning y.meaning
 
 -- targets: texts with one meaning have one normal form
-pub one-meaning-one-normal-form : (kind : Kind) (ports : PortFunction)
-    (text other normal other_normal : List ℕ)
-    → meaning_of kind ports other ≡ meaning_of kind ports text
-    → IsNormalForm kind ports text normal → IsNormalForm kind ports other other_normal
-    → other_normal ≡ normal
-one-meaning-one-normal-form kind ports text other normal other_normal e v w =
-    w.text.text ∙ ap normal_text e ∙ sym v.text.text
-
--- targets: the same under rules
-pub one-meaning-one-normal-form-under : (kind : Kind) (rules : Rules)
+pub one-meaning-one-normal-form : (kind : Kind) (rules : Rules)
     (text other normal other_normal : List ℕ)
     → meaning_under kind rules other ≡ meaning_under kind rules text
-    → IsNormalFormUnder kind rules text normal → IsNormalFormUnder kind rules other other_normal
+    → IsNormalForm kind rules text normal → IsNormalForm kind rules other other_normal
     → other_normal ≡ normal
-one-meaning-one-normal-form-under kind rules text other normal other_normal e v w =
-    w.text ∙ ap normal_text e ∙ sym v.text
+one-meaning-one-normal-form kind rules text other normal other_normal e v w =
+    w.text.text ∙ ap normal_text e ∙ sym v.text.text
