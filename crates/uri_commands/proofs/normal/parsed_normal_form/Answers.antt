@@ -2,7 +2,7 @@ use Rattle.std.proofs.Common.{refl}
 use Rattle.uri_commands.proofs.Refusals.{parse-error-is-of-text}
 use Rattle.uri_commands.specs.Refusals.{IsErrorOfNormalForm}
 use Rattle.uri_commands.specs.declared.refusal.CommandError.TheVariants.{Text}
-use Rattle.uri_commands.proofs.normal.normal_form.Goals as goal
+use Rattle.uri_commands.proofs.normal.parsed_normal_form.Goals as goal
 
 pub returns-in_err-value-clause-refused : goal.returns-in_err-value-clause-refused
 returns-in_err-value-clause-refused g c =
