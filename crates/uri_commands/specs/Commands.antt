@@ -7,7 +7,7 @@ use Rattle.fluent_uri.specs.Components.{components}
 use Rattle.fluent_uri.specs.Grammar.{Kind, uri, uri_ref, iri, iri_ref, is_of_kind}
 use Rattle.fluent_uri.specs.Target.{resolution_of}
 use Rattle.fluent_uri.specs.declared.normalize.RuleSet.{RuleSet}
-use Rattle.fluent_uri.specs.declared.normalize.RuleSet.TheVariants as sets
+use Rattle.fluent_uri.specs.declared.normalize.RuleSet.TheVariants as Set
 use Rattle.uri_commands.specs.Kinds.{kind_named, normal_form_of, word_of_kind}
 use Rattle.uri_commands.specs.Lines.{component_lines}
 use Rattle.uri_commands.specs.Links.{link_lines}
@@ -46,8 +46,8 @@ pub data Command : Type 0 where
 -- the words of a command line of `uritool`, after the option that asks for these rules of schemes:
 -- `--scheme-rules` for the standard ones
 abbrev pub with_option : RuleSet → List (List ℕ) → List (List ℕ)
-with_option sets.DefaultPorts words = words
-with_option sets.StandardRules words = codes "--scheme-rules" ∷ words
+with_option Set.DefaultPorts words = words
+with_option Set.StandardRules words = codes "--scheme-rules" ∷ words
 
 -- the words of the command line of `uritool` for a command
 abbrev pub words_of : Command → List (List ℕ)
@@ -112,18 +112,18 @@ AreWordsOfResolve words = (name : BaseName) × (base : List ℕ) × (reference :
 abbrev pub AreWordsOfLinks : List (List ℕ) → Type 0
 AreWordsOfLinks words =
     (base : List ℕ) × (reference : List ℕ) × (others : List (List ℕ))
-    × (words ≡ words_of (Links sets.DefaultPorts base reference others))
+    × (words ≡ words_of (Links Set.DefaultPorts base reference others))
 
 -- the words of a command line are those of the command `normalize` of `uritool`, with the option
 abbrev pub AreWordsOfRuledNormalize : List (List ℕ) → Type 0
 AreWordsOfRuledNormalize words = (name : KindName) × (text : List ℕ)
-    × (words ≡ words_of (Normalize sets.StandardRules name text))
+    × (words ≡ words_of (Normalize Set.StandardRules name text))
 
 -- the words of a command line are those of the command `links` of `uritool`, with the option
 abbrev pub AreWordsOfRuledLinks : List (List ℕ) → Type 0
 AreWordsOfRuledLinks words =
     (base : List ℕ) × (reference : List ℕ) × (others : List (List ℕ))
-    × (words ≡ words_of (Links sets.StandardRules base reference others))
+    × (words ≡ words_of (Links Set.StandardRules base reference others))
 
 -- the bytes of a writer, before and after, grow by the output of the command of `uritool`, which
 -- has one

@@ -22,7 +22,6 @@ word_of_kind UriRef = codes "uri-ref"
 word_of_kind Iri = codes "iri"
 word_of_kind IriRef = codes "iri-ref"
 
--- the normal form of a text of the kind that a program writes, by these rules of schemes (section
--- 6.2.3)
+-- the normal form of a text of the kind that a program writes, by a set of rules (section 6.2.3)
 unfoldable pub normal_form_of : RuleSet → Kind → List ℕ → List ℕ
 normal_form_of set kind text = normal_text (meaning_under kind (rules_of_set set) text)

@@ -28,7 +28,7 @@ abbrev pub outcome_lines : List (List ℕ) → List Outcome → List ℕ
 outcome_lines registered outcomes = flat_map (outcome_line registered) outcomes
 
 -- The lines that `uritool links` prints for references to a base.
--- They are noted in an empty register, by these rules of schemes.
+-- They are noted in an empty register, by a set of rules.
 unfoldable pub link_lines : RuleSet → List ℕ → List (List ℕ) → List ℕ
 link_lines set base references =
     let noted = outcomes_of (rules_of_set set) base [] references in

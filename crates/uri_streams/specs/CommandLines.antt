@@ -9,7 +9,7 @@ use Rattle.fluent_uri.specs.Uris.{uri_text}
 use Rattle.fluent_uri.specs.Iris.{iri_text}
 use Rattle.fluent_uri.specs.declared.ParseError.{ParseError}
 use Rattle.fluent_uri.specs.declared.normalize.RuleSet.{RuleSet}
-use Rattle.fluent_uri.specs.declared.normalize.RuleSet.TheVariants as sets
+use Rattle.fluent_uri.specs.declared.normalize.RuleSet.TheVariants as Set
 use Rattle.uri_commands.specs.Refusals.{command_error_text}
 use Rattle.uri_commands.specs.declared.refusal.CommandError.TheVariants as command_errors
 use Rattle.uri_streams.specs.declared.command.Base.{Base}
@@ -68,7 +68,7 @@ IsBaseOf line (bases.Iri base) =
 -- the rules of schemes that a command line of `urilines` asks for: the standard ones if
 -- `--scheme-rules` is given, and else default ports alone
 abbrev pub rules_asked : CommandLine → RuleSet
-rules_asked line = if line.scheme_rules then sets.StandardRules else sets.DefaultPorts
+rules_asked line = if line.scheme_rules then Set.StandardRules else Set.DefaultPorts
 
 -- the command that a command line of `urilines` asks for; the other argument is the keys that
 -- `unique` hashes with
