@@ -68,7 +68,8 @@ pub fn normal_form<K: Kind>(
     ensures { IfOk result (λ normal. reference_text normal
         ≡ normal_form_of rules K.kind (reference_text value.now)) }
 {
-    match Normalizer::new().scheme_rules_with(rules).normalize(alloc, value) {
+    let normalizer = Normalizer::new().scheme_rules_with(rules);
+    match normalizer.normalize(alloc, value) {
         Ok(normal) => Ok(normal),
         // Underflow is allowed, so memory ran out.
         Err(_) => Err(AllocError),
