@@ -174,7 +174,7 @@ ruled-authority-is-of-kind kind default local (Some a) h =
     (λ t. IsUtf8 t × (is_authority kind t ≡ true))
     (λ _. (IsUtf8-nil, empty_is_authority kind.userinfo kind.reg_name)) (λ _. h)
 
-slash-is-set-text : (set : TableSet) → set.ascii 47 ≡ true → is_set_text set (codes "/") ≡ true
+pub slash-is-set-text : (set : TableSet) → set.ascii 47 ≡ true → is_set_text set (codes "/") ≡ true
 unfolding is_valid_for chars tokens_from_chars
 slash-is-set-text set slash =
     set-text-from-utf8 set (codes "/") (ascii-bytes-are-utf8 (codes "/") refl)

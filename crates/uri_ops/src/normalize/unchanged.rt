@@ -12,7 +12,7 @@ ghost use Rattle.uri_parts.specs.CoreTexts.{core_text};
 ghost use Rattle.uri_ops.specs.Models.Unchanged.{IsUnchangedHost};
 ghost use Rattle.uri_ops.specs.Models.Unchanged.{IsUnchangedPrefix, KindLacksPastAscii};
 ghost use Rattle.uri_ops.specs.Models.Unchanged.{is_literal_byte, is_settled_byte};
-ghost use Rattle.uri_ops.specs.Meaning.{host_meaning};
+ghost use Rattle.uri_ops.specs.Meaning.{host_meaning, meaning_of};
 ghost use Rattle.uri_ops.specs.Normal.{host_text, normal_text};
 ghost use Rattle.uri_ops.specs.Normalizers.{HasNormalText, text_underflows};
 ghost use Rattle.uri_ops.specs.SchemeRules.{meaning_under};
@@ -151,13 +151,12 @@ fn unchanged_prefix_len<K: Kind>(core: Core<K, &str>) -> usize
     0
 }
 
-/// Returns `true` only if the normal text of a value is its own. It misses a few such values. It
-/// takes less than writing the normal text, and so normalising asks no more than this.
-#[doc(hidden)]
+/// Returns `true` only if the normal text of a value under the default ports of the rules alone is
+/// its own. It misses a few such values.
 #[inline(always)]
-pub fn is_found_normal<K: Kind, S: SchemeRules>(core: Core<K, &str>, rules: &S) -> bool
-    ensures text { result ≡ true → HasNormalText K.kind (S.rules_of rules.now)
-        (core_text core.entry) (core_text core.entry) }
+fn is_found_normal_by_ports<K: Kind, S: SchemeRules>(core: Core<K, &str>, rules: &S) -> bool
+    ensures text { result ≡ true → core_text core.entry
+        ≡ normal_text (meaning_of K.kind (S.rules_of rules.now).ports (core_text core.entry)) }
     ensures underflow { result ≡ true → text_underflows (core_text core.entry) ≡ false }
 {
     let start = unchanged_prefix_len(core);
@@ -172,8 +171,23 @@ pub fn is_found_normal<K: Kind, S: SchemeRules>(core: Core<K, &str>, rules: &S) 
     };
     is_kept(lacks_past_ascii::<K>(), bytes, start, limit)
         && is_port_unchanged(core.authority(), core.scheme(), rules)
-        && !has_root_path(core, rules)
-        && !has_default_host(core, rules)
+}
+
+/// Returns `true` only if the normal text of a value is its own. It misses a few such values. It
+/// takes less than writing the normal text, and so normalising asks no more than this.
+#[doc(hidden)]
+#[inline(always)]
+pub fn is_found_normal<K: Kind, S: SchemeRules>(core: Core<K, &str>, rules: &S) -> bool
+    ensures text { result ≡ true → HasNormalText K.kind (S.rules_of rules.now)
+        (core_text core.entry) (core_text core.entry) }
+    ensures underflow { result ≡ true → text_underflows (core_text core.entry) ≡ false }
+{
+    // What `as_str` promises of the text is used by the proof.
+    let _text = core.as_str();
+    if !is_found_normal_by_ports(core, rules) {
+        return false;
+    }
+    !has_root_path(core, rules) && !has_default_host(core, rules)
 }
 
 /// Returns whether the normal text of a value, which it reads from its end, is its own.
