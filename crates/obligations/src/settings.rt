@@ -1,7 +1,9 @@
 //! Normalisers and resolvers, with and without settings.
 #![tactic(auto)]
 
-use fluent_uri::normalize::{DefaultPort, NormalizeError, Normalizer};
+use fluent_uri::normalize::{
+    DefaultPorts, NormalizeError, Normalizer, RuleSet, SchemeRules, StandardRules, WithPorts,
+};
 use fluent_uri::resolve::{ResolveError, Resolver};
 use fluent_uri::{Uri, UriRef};
 use std::alloc::Global;
@@ -22,14 +24,31 @@ pub fn normal_form_without_underflow(
     normalizer.normalize(alloc, uri)
 }
 
-/// A caller gets the normal form of a URI by a `Normalizer` under default ports of its own.
-pub fn normal_form_under<P: DefaultPort + Drop>(
+/// A caller makes a `Normalizer` by the rules of the library, and default ports of its own.
+pub fn with_own_ports<P: SchemeRules>(ports: P) -> Normalizer<WithPorts<P, StandardRules>> {
+    Normalizer::new()
+        .scheme_rules_with(StandardRules)
+        .default_port_with(ports)
+}
+
+/// A caller gets the normal form of a URI by a `Normalizer` under rules of its own.
+pub fn normal_form_under<S: SchemeRules>(
     alloc: Global,
     uri: &Uri<&str>,
-    ports: P,
+    rules: S,
 ) -> Result<Uri<String>, NormalizeError> {
-    let normalizer = Normalizer::new().default_port_with(ports);
+    let normalizer = Normalizer::new().scheme_rules_with(rules);
     normalizer.normalize(alloc, uri)
+}
+
+/// A caller makes a `Normalizer` by the set of rules that a flag chooses.
+pub fn normalizer_by_flag(standard: bool) -> Normalizer<RuleSet> {
+    let rules = if standard {
+        RuleSet::StandardRules
+    } else {
+        RuleSet::DefaultPorts
+    };
+    Normalizer::<DefaultPorts>::default().scheme_rules_with(rules)
 }
 
 /// A caller gets the targets of two references by one `Resolver`.

@@ -6,14 +6,13 @@ ghost use Rattle.fluent_uri.specs.Iris.{iri_ref_text};
 ghost use Rattle.fluent_uri.specs.Iris.{iri_text};
 ghost use Rattle.fluent_uri.specs.NormalTargets.{IsNormalFormOfTarget};
 ghost use Rattle.fluent_uri.specs.Resolving.{IsErrorWithUnderflowAllowed};
-ghost use Rattle.fluent_uri.specs.SchemePorts.{default_port};
+ghost use Rattle.fluent_uri.specs.SchemeRules.{default_rules};
 ghost use Rattle.fluent_uri.specs.Uris.{uri_text};
 
 use fluent_uri::normalize::Normalizer;
 use fluent_uri::resolve::{ResolveError, Resolver};
-use fluent_uri::{Iri, IriRef, Uri, UriRef};
+use fluent_uri::{Iri, IriRef, Uri, UriRef, laws};
 use std::alloc::Global;
-use uri_rules::laws::normal_forms_have_equivalent_targets;
 
 /// A caller proves that the normalised target of the normal forms of a base and a reference is that
 /// of the two, and returns it.
@@ -26,7 +25,7 @@ pub fn normal_target(
     base: Iri<&str>,
     reference: IriRef<&str>,
 ) -> Result<Iri<String>, ResolveError>
-    ensures target { IfOk result (λ normal. IsNormalFormOfTarget iri default_port
+    ensures target { IfOk result (λ normal. IsNormalFormOfTarget iri default_rules
         (iri_text base.entry) (iri_ref_text reference.entry) (iri_text normal)) }
     ensures error { IfErr result (λ error. (error ≡ ResolveError.OutOfMemory) ⊎
         IsErrorWithUnderflowAllowed (components (iri_text base.entry))
@@ -59,7 +58,13 @@ pub fn normalised_before(
     ensures { IfOk result (λ both. uri_text both.1 ≡ uri_text both.0) }
 {
     let (normal_base, normal_reference) = (base.normalize(alloc)?, reference.normalize(alloc)?);
-    normal_forms_have_equivalent_targets(&base, &reference, &normal_base, &normal_reference);
+    laws::normal_forms_have_equivalent_targets(
+        &Normalizer::new(),
+        &base,
+        &reference,
+        &normal_base,
+        &normal_reference,
+    );
     let target = reference.resolve_against(alloc, &base)?;
     let other = normal_reference.resolve_against(alloc, &normal_base)?;
     Ok((target.normalize(alloc)?, other.normalize(alloc)?))
@@ -76,7 +81,7 @@ pub fn normalised_after(
     base: Iri<&str>,
     reference: IriRef<&str>,
 ) -> Result<(Iri<String>, Iri<String>), ResolveError>
-    ensures first { IfOk result (λ both. IsNormalFormOfTarget iri default_port
+    ensures first { IfOk result (λ both. IsNormalFormOfTarget iri default_rules
         (iri_text base.entry) (iri_ref_text reference.entry) (iri_text both.0)) }
     ensures equal { IfOk result (λ both. iri_text both.1 ≡ iri_text both.0) }
 {
