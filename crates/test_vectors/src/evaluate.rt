@@ -2,9 +2,10 @@
 
 use crate::fields::{Fields, RowError, Words};
 use crate::operation::{Kind, Operation, Order, PairOperation, SubstringOperation, ValueOperation};
-use crate::orders;
 use crate::settings::RowPort;
-use crate::{ascii_hosts, basic, conversions, encoded, mending, references, relative, rules};
+use crate::{
+    ascii_hosts, basic, conversions, encoded, mending, orders, references, relative, rules,
+};
 use fluent_uri::component::Scheme;
 use fluent_uri::net::{IpAddr, Ipv4Addr, Ipv6Addr};
 use fluent_uri::normalize::{DefaultPorts, StandardRules};

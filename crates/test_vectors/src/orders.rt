@@ -64,9 +64,13 @@ pub(crate) fn is_normal<K: Kind, S: SchemeRules + Copy>(
     words: &mut Words,
 ) -> Result<(), RowError> {
     let value = parsed::<K>(text)?;
-    let is_normal = NormalOrder::new().scheme_rules_with(rules).is_normal(&value);
+    let is_normal = NormalOrder::new()
+        .scheme_rules_with(rules)
+        .is_normal(&value);
     words.verbatim(if is_normal { "yes" } else { "no" })?;
-    let made = Normalizer::new().scheme_rules_with(rules).normalize(alloc, &value)?;
+    let made = Normalizer::new()
+        .scheme_rules_with(rules)
+        .normalize(alloc, &value)?;
     let is_same = made.as_str() == text;
     Ok(words.unless(is_same == is_normal, "by another normal form")?)
 }

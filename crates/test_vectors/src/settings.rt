@@ -24,13 +24,7 @@ impl SchemeRules for RowPort<'_> {
     /// Returns the port that the row gives to the scheme, if it gives one.
     fn default_port(&self, scheme: Scheme<'_>) -> Option<u16> {
         match self.scheme {
-            Some(one) => {
-                if one == scheme {
-                    Some(self.port)
-                } else {
-                    None
-                }
-            }
+            Some(one) => { if one == scheme { Some(self.port) } else { None } }
             None => Some(self.port),
         }
     }
