@@ -22,7 +22,8 @@ use Rattle.uri_ops.proofs.Targeting.RefusalOrder.{result_or_target_error, map-of
 use Rattle.uri_ops.proofs.Targeting.Swaps.{resolving-respects-meaning_of, text-of-kind-has-needed-scheme, dotted_target-has-scheme-as-base}
 use Rattle.uri_ops.proofs.Targeting.Targets.{target-text-has-target-components}
 use Rattle.uri_ops.specs.SchemeRules.{Rules, authority_under, is_scheme_of, meaning_under, path_under, under_rules}
-use Rattle.uri_ops.proofs.SchemeRules.RuledTexts.{ruled_authority, components-without-scheme-are-ruled, ruled_path, ruled_text, ruled_components-have-meaning-under, ruled_components, normal-text-under-rules-is-text-of-kind, ruled_authority-has-meaning-under, components-of-ruled_text, path-without-authority-is-ruled, ruled-text-is-text-of-kind, ruled-text-has-meaning-under, meaning_under-normal_text}
+use Rattle.uri_ops.specs.Models.RuledComponents.{ruled_authority, ruled_components, ruled_path, ruled_text}
+use Rattle.uri_ops.proofs.SchemeRules.RuledTexts.{components-without-scheme-are-ruled, ruled_components-have-meaning-under, normal-text-under-rules-is-text-of-kind, ruled_authority-has-meaning-under, components-of-ruled_text, path-without-authority-is-ruled, ruled-text-is-text-of-kind, ruled-text-has-meaning-under, meaning_under-normal_text}
 use Rattle.uri_ops.proofs.SchemeRules.RuledMeanings.{authority_under-if-some-is-idempotent, under_rules-is-idempotent}
 
 -- general fact on booleans, for rules: what one test chooses is alike if both choices are
