@@ -4,7 +4,7 @@ use Rattle.std.specs.Prelude.{codes, is_some}
 use Rattle.std.specs.Option.{option_and_then}
 use Rattle.std.specs.Str.{str_to_ascii_lowercase}
 use Rattle.std.proofs.lemmas.Bool.{cond-false}
-use Rattle.uri_parts.specs.Components.{components}
+use Rattle.uri_parts.specs.Components.{Components, components}
 use Rattle.uri_parts.specs.Grammar.{Kind, IsTextOf}
 use Rattle.uri_ops.specs.ComponentSets.{HasComponentSets}
 use Rattle.uri_ops.specs.Dots.{is_empty, run, underflows}
@@ -61,7 +61,7 @@ unruled-text-is-its-normal-text kind rules sets text w normal host root =
     ∙ ruled_components-have-normal-text kind rules sets text w
 
 -- rules: the removal of dot segments underflows exactly as before
-pub ruled-path-underflows-alike : (scheme : Option (List ℕ)) (rooted after : Bool) (path : List ℕ)
+ruled-path-underflows-alike : (scheme : Option (List ℕ)) (rooted after : Bool) (path : List ℕ)
     → path_underflows scheme (ruled_path rooted after path) ≡ path_underflows scheme path
 unfolding underflows run
 ruled-path-underflows-alike None rooted after path = refl
@@ -71,3 +71,11 @@ ruled-path-underflows-alike (Some s) false after [] = refl
 ruled-path-underflows-alike (Some s) true true (c ∷ path) = refl
 ruled-path-underflows-alike (Some s) true false (c ∷ path) = refl
 ruled-path-underflows-alike (Some s) false after (c ∷ path) = refl
+
+pub ruled-components-underflow-alike : (kind : Kind) (rules : Rules) (p : Components)
+    → path_underflows p.scheme (ruled_components kind rules p).path
+    ≡ path_underflows p.scheme p.path
+ruled-components-underflow-alike kind rules p =
+    ruled-path-underflows-alike p.scheme
+    (is_scheme_of rules.roots (option_map str_to_ascii_lowercase p.scheme)) (is_some p.authority)
+    p.path

@@ -16,12 +16,12 @@ make_owned-requires-clause-of_kind g c =
 
 pub returns-clause-normal : goal.returns-clause-normal
 returns-clause-normal g c =
-    let ports = g.S.SchemeRules.rules_of (scheme_rules_of c.args.self.now) in
-    subst (IsNormalForm g.R.RiMaybeRef.kind ports (g.R.RiMaybeRef.text c.args.value.now))
+    let rules = g.S.SchemeRules.rules_of (scheme_rules_of c.args.self.now) in
+    subst (IsNormalForm g.R.RiMaybeRef.kind rules (g.R.RiMaybeRef.text c.args.value.now))
     (sym c.make_owned.ensures)
     (normal-text-is-normal-form g.R.RiMaybeRef.kind g.R.Kind.Kind.kind
     g.met.R.RiMaybeRef.kind_is_its_own
-    g.met.R.RiMaybeRef.component_sets ports
+    g.met.R.RiMaybeRef.component_sets rules
     (core_text c.core.result) (g.R.RiMaybeRef.text c.args.value.now)
     (string_bytes c.in_ok-made.made.text)
     c.core.ensures.text c.normalize_core.ensures.utf8 c.core.ensures.of_kind

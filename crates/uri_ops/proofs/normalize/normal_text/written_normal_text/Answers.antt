@@ -16,28 +16,28 @@ use Rattle.uri_ops.proofs.Builders.BuilderGrowth.{string_len-is-length-of-bytes}
 use Rattle.uri_ops.proofs.Normal.NormalPieces.{is_some-of-mapped-twice}
 use Rattle.uri_ops.proofs.Normal.NormalPlaces.{written-positions-are-of-normal-text}
 use Rattle.uri_ops.proofs.Normal.WrittenPlaces.{pushed-components-are-normal-text}
-use Rattle.uri_ops.proofs.SchemeRules.RuledParts.{ruled-path-underflows-alike}
+use Rattle.uri_ops.proofs.SchemeRules.RuledParts.{ruled-components-underflow-alike}
 use Rattle.uri_ops.proofs.SchemeRules.RuledTexts.{components-of-ruled_text, ruled-text-has-meaning-under, ruled-text-is-text-of-kind}
 use Rattle.uri_ops.proofs.normalize.normal_text.written_normal_text.Goals as goal
 use Rattle.uri_pct.proofs.General.{is_some-option_map}
 
-pub ruled_path-requires : goal.ruled_path-requires
-ruled_path-requires g c = c.requires
+pub ruled_path-path-requires : goal.ruled_path-path-requires
+ruled_path-path-requires g c = c.requires
 
 pub returns : goal.returns
 unfolding text_underflows
 returns g c =
     let kind = g.K.Kind.kind in
-    let rules = g.S.SchemeRules.rules_of c.args.rules.now in
-    let ports = rules.ports in
+    let scheme_rules = g.S.SchemeRules.rules_of c.args.rules.now in
+    let ports = scheme_rules.ports in
     let given = core_text c.args.core in
     let given_is_of_kind : IsTextOf kind given = record {
       utf8 = subst IsUtf8 c.as_str.ensures.text c.as_str.utf8;
       grammar = c.args.core.of_kind;
     } in
-    let text = ruled_text kind rules given in
+    let text = ruled_text kind scheme_rules given in
     let p = components text in
-    let split = components-of-ruled_text kind rules c.requires given in
+    let split = components-of-ruled_text kind scheme_rules c.requires given in
     let scheme = c.scheme-scheme.ensures ∙ ap (λ q. q.scheme) (sym split) in
     let given_authority = c.ruled_authority-authority.ensures ∙ ap (λ q. q.authority) (sym split) in
     let given_path = c.ruled_path-path.ensures ∙ ap (λ q. q.path) (sym split) in
@@ -88,15 +88,15 @@ returns g c =
     record {
       text = record {
         text = whole ∙ ap normal_text
-            (ruled-text-has-meaning-under kind rules c.requires given given_is_of_kind);
+            (ruled-text-has-meaning-under kind scheme_rules c.requires given given_is_of_kind);
       };
       at = written-positions-are-of-normal-text kind c.requires ports text
           (string_bytes c.push_with_delimiter-2.new.out) c.of-positions.result
-          (ruled-text-is-text-of-kind kind rules c.requires given given_is_of_kind)
+          (ruled-text-is-text-of-kind kind scheme_rules c.requires given given_is_of_kind)
           whole (c.of-positions.ensures ∙ ap packed (written.1 empty));
       underflow = c.in_ok-underflows.ensures.underflow p.scheme has_scheme
           ∙ ap (path_underflows p.scheme) c.ruled_path-path.ensures
           ∙ ap (λ q. path_underflows q.scheme
-          (ruled_components kind rules (components given)).path) split
-          ∙ ruled-path-underflows-alike (components given).scheme _ _ (components given).path;
+          (ruled_components kind scheme_rules (components given)).path) split
+          ∙ ruled-components-underflow-alike kind scheme_rules (components given);
     }
