@@ -24,21 +24,28 @@ pub fn normal_form_without_underflow(
     normalizer.normalize(alloc, uri)
 }
 
-/// A caller makes a `Normalizer` by the rules of the library, and default ports of its own.
-pub fn with_own_ports<P: SchemeRules>(ports: P) -> Normalizer<WithPorts<P, StandardRules>> {
-    Normalizer::new()
-        .scheme_rules_with(StandardRules)
-        .default_port_with(ports)
-}
-
-/// A caller gets the normal form of a URI by a `Normalizer` under rules of its own.
-pub fn normal_form_under<S: SchemeRules>(
+/// A caller gets the normal form of a URI by a `Normalizer` under default ports of its own.
+pub fn normal_form_under<P: SchemeRules>(
     alloc: Global,
     uri: &Uri<&str>,
-    rules: S,
+    ports: P,
 ) -> Result<Uri<String>, NormalizeError> {
-    let normalizer = Normalizer::new().scheme_rules_with(rules);
+    let normalizer = Normalizer::new().default_port_with(ports);
     normalizer.normalize(alloc, uri)
+}
+
+/// A caller gets the normal form of a URI by the rules that standards give.
+pub fn normal_form_by_standards(
+    alloc: Global,
+    uri: &Uri<&str>,
+) -> Result<Uri<String>, NormalizeError> {
+    let normalizer = Normalizer::new().scheme_rules_with(StandardRules);
+    normalizer.normalize(alloc, uri)
+}
+
+/// A caller names the type of a `Normalizer` with default ports of its own.
+pub fn with_own_ports<P: SchemeRules>(ports: P) -> Normalizer<WithPorts<P, DefaultPorts>> {
+    Normalizer::new().default_port_with(ports)
 }
 
 /// A caller makes a `Normalizer` by the set of rules that a flag chooses.

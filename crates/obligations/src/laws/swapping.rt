@@ -9,9 +9,10 @@ ghost use Rattle.fluent_uri.specs.Resolving.{IsErrorWithUnderflowAllowed};
 ghost use Rattle.fluent_uri.specs.SchemeRules.{default_rules};
 ghost use Rattle.fluent_uri.specs.Uris.{uri_text};
 
+use fluent_uri::laws::normal_forms_have_equivalent_targets;
 use fluent_uri::normalize::Normalizer;
 use fluent_uri::resolve::{ResolveError, Resolver};
-use fluent_uri::{Iri, IriRef, Uri, UriRef, laws};
+use fluent_uri::{Iri, IriRef, Uri, UriRef};
 use std::alloc::Global;
 
 /// A caller proves that the normalised target of the normal forms of a base and a reference is that
@@ -43,9 +44,9 @@ pub fn normal_target(
     Ok(target)
 }
 
-/// A caller proves that it makes no difference whether a base and a reference are normalised before
-/// they are resolved: returns the normal form of their target, and that of the target of their
-/// normal forms, which are equal.
+/// A caller proves that it makes no difference whether a base and a link are normalised before the
+/// link is resolved: returns the normal form of its target, and that of the target of their normal
+/// forms, which are equal.
 ///
 /// # Errors
 ///
@@ -53,20 +54,15 @@ pub fn normal_target(
 pub fn normalised_before(
     alloc: Global,
     base: Uri<&str>,
-    reference: UriRef<&str>,
+    link: UriRef<&str>,
 ) -> Result<(Uri<String>, Uri<String>), ResolveError>
     ensures { IfOk result (λ both. uri_text both.1 ≡ uri_text both.0) }
 {
-    let (normal_base, normal_reference) = (base.normalize(alloc)?, reference.normalize(alloc)?);
-    laws::normal_forms_have_equivalent_targets(
-        &Normalizer::new(),
-        &base,
-        &reference,
-        &normal_base,
-        &normal_reference,
-    );
-    let target = reference.resolve_against(alloc, &base)?;
-    let other = normal_reference.resolve_against(alloc, &normal_base)?;
+    let normalizer = Normalizer::new();
+    let (normal_base, normal_link) = (base.normalize(alloc)?, link.normalize(alloc)?);
+    normal_forms_have_equivalent_targets(&normalizer, &base, &link, &normal_base, &normal_link);
+    let target = link.resolve_against(alloc, &base)?;
+    let other = normal_link.resolve_against(alloc, &normal_base)?;
     Ok((target.normalize(alloc)?, other.normalize(alloc)?))
 }
 
