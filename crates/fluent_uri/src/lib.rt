@@ -126,10 +126,9 @@ pub mod laws {
     };
     pub use uri_parts::laws::{
         accepted_exactly_if_no_error, components_are_a_split, components_are_the_only_split,
-        components_recompose, ipv4_addresses_compare_by_octets,
-        ipv4_as_ip_addresses_compare_by_octets, ipv4_is_less_than_ipv6,
-        ipv4_text_parses_to_its_octets, ipv6_addresses_compare_by_segments,
-        ipv6_as_ip_addresses_compare_by_segments, ipv6_text_parses_to_its_segments,
+        components_recompose, ip_addresses_compare_by_version_first,
+        ipv4_addresses_compare_by_octets, ipv4_text_parses_to_its_octets,
+        ipv6_addresses_compare_by_segments, ipv6_text_parses_to_its_segments,
     };
     pub use uri_pct::laws::{
         decoding_inverts_encoding, lossy_texts_are_those_of_std, octets_decode_in_either_case,

@@ -1,6 +1,8 @@
 -- The default ports of schemes: RFC 3986, section 3.2.3. The standard names none, and this list is
 -- the project's own.
-use Rattle.std.specs.Prelude.{ℕ, List, [], ◌∷◌, codes, bytes_eq, Option, option_map, find}
+use Rattle.std.specs.Prelude.{ℕ, ◌==◌, List, [], ◌∷◌, map, filter, slice_index, codes, bytes_eq, Option, option_map, find}
+use Rattle.std.specs.Char.{to_ascii_lowercase}
+use Rattle.std.specs.List.{range_with_len}
 use Rattle.std.specs.Str.{str_eq_ignore_ascii_case}
 
 -- the schemes that have a default port, in lower case, each with its port
@@ -62,3 +64,12 @@ default_port scheme = option_map (λ row. row.1) (find (λ row. bytes_eq row.0 s
 unfoldable pub port_ignoring_case : List ℕ → List (List ℕ × ℕ) → Option ℕ
 port_ignoring_case name rows =
     option_map (λ row. row.1) (find (λ row. str_eq_ignore_ascii_case row.0 name) rows)
+
+-- the rows of the schemes that begin with a letter
+abbrev pub rows_of_letter : ℕ → List (List ℕ × ℕ)
+rows_of_letter letter =
+    filter (λ row. to_ascii_lowercase (slice_index row.0 0) == letter) scheme_ports
+
+-- the rows of each letter, from `a` (97) on
+abbrev pub rows_by_letter : List (List (List ℕ × ℕ))
+rows_by_letter = map rows_of_letter (range_with_len 97 26)

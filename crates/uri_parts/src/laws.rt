@@ -2,7 +2,7 @@
 ghost use Rattle.std.specs.Prelude.{◌≡◌, ◌↔◌, ℕ, List, [], ◌∷◌, true};
 ghost use Rattle.std.specs.Cmp.Lexicographic.{slice_cmp};
 ghost use Rattle.std.specs.Ordering.{nat_cmp};
-ghost use Rattle.std.specs.declared.cmp.Ordering.TheVariants.{Less};
+ghost use Rattle.std.specs.declared.cmp.Ordering.TheVariants.{Less, Greater};
 ghost use Rattle.std.specs.Str.{IsUtf8};
 ghost use Rattle.std.specs.Net.Text.{ipv4_text, ipv6_text};
 ghost use Rattle.uri_pct.specs.Sets.{TableSet, userinfo_set, reg_name_set};
@@ -15,13 +15,15 @@ ghost use Rattle.uri_parts.specs.Hosts.{HostKind, IsHost, IsIpv4Text, IsIpv6Text
 ghost use Rattle.uri_parts.specs.Hosts.{is_host};
 ghost use Rattle.std.specs.Prelude.{map, None};
 ghost use Rattle.uri_parts.specs.Grammar.{uri, uri_ref, IsOfKind};
+ghost use Rattle.uri_parts.specs.declared.net.Ipv4Addr.{Ipv4Addr};
+ghost use Rattle.uri_parts.specs.declared.net.Ipv6Addr.{Ipv6Addr};
+ghost use Rattle.uri_parts.specs.declared.net.IpAddr.TheVariants.{V4, V6};
 ghost use Rattle.uri_parts.specs.RefusalRows.{uri_ref_rows, uri_rows};
 ghost use Rattle.uri_parts.specs.Refusals.{refusal};
 
 use crate::kind::Kind;
 use crate::net::{IpAddr, Ipv4Addr, Ipv6Addr};
 use crate::parse::parse;
-use std::cmp::Ordering;
 
 /// The components of a text are a split of it by RFC 3986, appendix B.
 ///
@@ -76,50 +78,34 @@ pub fn ipv6_constants_are_their_addresses()
     ensures unspecified { ipv6_segments Ipv6Addr.UNSPECIFIED ≡ 0 ∷ 0 ∷ 0 ∷ 0 ∷ 0 ∷ 0 ∷ 0 ∷ 0 ∷ [] }
 {}
 
-/// States that IPv4 addresses are compared by their octets, first to last.
+/// IPv4 addresses are compared by their octets, first to last.
 ///
 /// `9.255.255.255` is less than `10.0.0.0`.
-pub fn ipv4_addresses_compare_by_octets(a: &Ipv4Addr, b: &Ipv4Addr) -> Ordering
-    ensures { result ≡ slice_cmp nat_cmp (ipv4_octets a.now) (ipv4_octets b.now) }
-{
-    a.cmp(b)
-}
+pub fn ipv4_addresses_compare_by_octets()
+    ensures { (a b : Ipv4Addr) → ⟦<Ipv4Addr as Ord>⟧.cmp a b
+        ≡ slice_cmp nat_cmp (ipv4_octets a) (ipv4_octets b) }
+{}
 
-/// States that IPv6 addresses are compared by their segments, first to last.
+/// IPv6 addresses are compared by their segments, first to last.
 ///
 /// `0:ffff::` is less than `1::`.
-pub fn ipv6_addresses_compare_by_segments(a: &Ipv6Addr, b: &Ipv6Addr) -> Ordering
-    ensures { result ≡ slice_cmp nat_cmp (ipv6_segments a.now) (ipv6_segments b.now) }
-{
-    a.cmp(b)
-}
+pub fn ipv6_addresses_compare_by_segments()
+    ensures { (a b : Ipv6Addr) → ⟦<Ipv6Addr as Ord>⟧.cmp a b
+        ≡ slice_cmp nat_cmp (ipv6_segments a) (ipv6_segments b) }
+{}
 
-/// States that an IPv4 address is less than an IPv6 address.
+/// IP addresses are compared by their versions, and then by their octets or segments.
 ///
 /// `255.255.255.255` is less than `::`.
-pub fn ipv4_is_less_than_ipv6(a: Ipv4Addr, b: Ipv6Addr) -> Ordering
-    ensures { result ≡ Less }
-{
-    IpAddr::V4(a).cmp(&IpAddr::V6(b))
-}
-
-/// States that IPv4 addresses are compared by their octets as IP addresses, too.
-///
-/// As IP addresses, too, `9.255.255.255` is less than `10.0.0.0`.
-pub fn ipv4_as_ip_addresses_compare_by_octets(a: Ipv4Addr, b: Ipv4Addr) -> Ordering
-    ensures { result ≡ slice_cmp nat_cmp (ipv4_octets a) (ipv4_octets b) }
-{
-    IpAddr::V4(a).cmp(&IpAddr::V4(b))
-}
-
-/// States that IPv6 addresses are compared by their segments as IP addresses, too.
-///
-/// As IP addresses, too, `0:ffff::` is less than `1::`.
-pub fn ipv6_as_ip_addresses_compare_by_segments(a: Ipv6Addr, b: Ipv6Addr) -> Ordering
-    ensures { result ≡ slice_cmp nat_cmp (ipv6_segments a) (ipv6_segments b) }
-{
-    IpAddr::V6(a).cmp(&IpAddr::V6(b))
-}
+pub fn ip_addresses_compare_by_version_first()
+    ensures ipv4 { (a b : Ipv4Addr) → ⟦<IpAddr as Ord>⟧.cmp (V4 a) (V4 b)
+        ≡ slice_cmp nat_cmp (ipv4_octets a) (ipv4_octets b) }
+    ensures ipv6 { (a b : Ipv6Addr) → ⟦<IpAddr as Ord>⟧.cmp (V6 a) (V6 b)
+        ≡ slice_cmp nat_cmp (ipv6_segments a) (ipv6_segments b) }
+    ensures less { (a : Ipv4Addr) (b : Ipv6Addr) → ⟦<IpAddr as Ord>⟧.cmp (V4 a) (V6 b) ≡ Less }
+    ensures greater { (a : Ipv6Addr) (b : Ipv4Addr)
+        → ⟦<IpAddr as Ord>⟧.cmp (V6 a) (V4 b) ≡ Greater }
+{}
 
 /// The characters of userinfo and of registered names keep the components of an authority apart.
 #[doc(hidden)]

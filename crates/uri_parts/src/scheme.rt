@@ -86,8 +86,8 @@ impl<'a> Scheme<'a> {
         self.text
     }
 
-    /// Returns the default port of the scheme (RFC 3986, section 3.2.3), if it is one of the 44
-    /// that have one here. ASCII case makes no difference.
+    /// Returns the default port of the scheme (RFC 3986, section 3.2.3), if it is one of those that
+    /// have one here. ASCII case makes no difference.
     ///
     /// # Examples
     ///

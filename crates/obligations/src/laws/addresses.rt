@@ -7,7 +7,7 @@ ghost use Rattle.fluent_uri.specs.Addresses.{ipv4_octets, ipv6_segments};
 ghost use Rattle.fluent_uri.specs.Hosts.{Ipv4, Ipv6, bracketed, host_kind};
 
 use fluent_uri::laws;
-use fluent_uri::net::{Ipv4Addr, Ipv6Addr};
+use fluent_uri::net::{IpAddr, Ipv4Addr, Ipv6Addr};
 use std::cmp::Ordering;
 
 /// A caller that writes an IPv4 address as a host proves that readers get the same address.
@@ -35,7 +35,8 @@ pub fn is_ipv4_from(first: &Ipv4Addr, address: &Ipv4Addr) -> bool
     ensures { result ≡ is_le (slice_cmp nat_cmp (ipv4_octets first.now)
         (ipv4_octets address.now)) }
 {
-    laws::ipv4_addresses_compare_by_octets(first, address).is_le()
+    laws::ipv4_addresses_compare_by_octets();
+    first.cmp(address).is_le()
 }
 
 /// A caller that denies a block of IPv6 addresses, from its first one on, proves that the order is
@@ -44,7 +45,8 @@ pub fn is_ipv6_from(first: &Ipv6Addr, address: &Ipv6Addr) -> bool
     ensures { result ≡ is_le (slice_cmp nat_cmp (ipv6_segments first.now)
         (ipv6_segments address.now)) }
 {
-    laws::ipv6_addresses_compare_by_segments(first, address).is_le()
+    laws::ipv6_addresses_compare_by_segments();
+    first.cmp(address).is_le()
 }
 
 /// A caller with a sorted list of blocks of both versions proves that IPv4 addresses come first,
@@ -52,7 +54,8 @@ pub fn is_ipv6_from(first: &Ipv6Addr, address: &Ipv6Addr) -> bool
 pub fn order_of_ipv4(one: Ipv4Addr, other: Ipv4Addr) -> Ordering
     ensures { result ≡ slice_cmp nat_cmp (ipv4_octets one) (ipv4_octets other) }
 {
-    laws::ipv4_as_ip_addresses_compare_by_octets(one, other)
+    laws::ip_addresses_compare_by_version_first();
+    IpAddr::V4(one).cmp(&IpAddr::V4(other))
 }
 
 /// A caller with a sorted list of blocks of both versions proves that IPv6 addresses come last, in
@@ -61,8 +64,10 @@ pub fn order_of_ipv6(before: Ipv4Addr, one: Ipv6Addr, other: Ipv6Addr) -> (bool,
     ensures before { result.0 ≡ true }
     ensures order { result.1 ≡ slice_cmp nat_cmp (ipv6_segments one) (ipv6_segments other) }
 {
+    laws::ip_addresses_compare_by_version_first();
+    let last = IpAddr::V6(one);
     (
-        laws::ipv4_is_less_than_ipv6(before, one).is_lt(),
-        laws::ipv6_as_ip_addresses_compare_by_segments(one, other),
+        IpAddr::V4(before).cmp(&last).is_lt(),
+        last.cmp(&IpAddr::V6(other)),
     )
 }

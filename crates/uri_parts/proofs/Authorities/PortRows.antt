@@ -1,12 +1,8 @@
 -- Rows of the table of default ports, and ports as numbers.
-use Rattle.std.proofs.Common.{◌≡◌, [], map, length, refl, Some, None, codes}
+use Rattle.std.proofs.Common.{◌≡◌, [], map, refl, Some, None, codes}
 use Rattle.std.specs.Str.{str_to_ascii_lowercase}
 use Rattle.uri_parts.specs.Ports.{port_number}
 use Rattle.uri_parts.specs.SchemePorts.{scheme_ports, default_port}
-
--- default ports: the table has 44 rows
-table-of-default-ports-has-44-rows : length scheme_ports ≡ 44
-table-of-default-ports-has-44-rows = refl
 
 -- default ports: the names of the table are in lower case,
 -- so its rows are found by a scheme in lower case

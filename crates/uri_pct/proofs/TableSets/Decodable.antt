@@ -5,8 +5,8 @@ use Rattle.std.proofs.lemmas.Bool.{cond-true, cond-false, le-ltb, lt-ltb, false_
 use Rattle.uri_pct.specs.DecodeUnreserved.{is_decodable}
 use Rattle.uri_pct.specs.Sets.{TableSet, allows, allows_past_ascii, is_unreserved}
 use Rattle.uri_pct.proofs.ValidTexts.Allowed.{allowed_past_ascii_is_scalar}
-use Rattle.uri_pct.proofs.TableSets.Constants.{unreserved_masks_are_unreserved_set, past_ascii_is_not_unreserved}
-use Rattle.uri_pct.proofs.TableSets.Tables.{set_of_masks}
+use Rattle.uri_pct.proofs.TableSets.Constants.{set_of_characters, unreserved_masks_are_unreserved_set, past_ascii_is_not_unreserved}
+use Rattle.uri_pct.specs.declared.table.characters.TheConstants.{UNRESERVED}
 
 -- sets: an ASCII character is not allowed as one past ASCII
 ascii_is_not_allowed_past_ascii : (set : TableSet) (c : ℕ) → c < 128 → allows_past_ascii set c
@@ -17,7 +17,7 @@ ascii_is_not_allowed_past_ascii set c below = false_from_ne_true _
 -- tables: the table of decodable characters, unreserved ones
 -- and those of the set past ASCII, allows exactly these
 pub decodable_table_allows_decodable : (set : TableSet) (c : ℕ)
-    → allows (set_of_masks 0x03FF600000000000 0x47FFFFFE87FFFFFE false set.ucschar set.iprivate) c
+    → allows (set_of_characters UNRESERVED false set.ucschar set.iprivate) c
     ≡ is_decodable set c
 unfolding is_decodable allows_past_ascii
 decodable_table_allows_decodable set c = ⊎_elim

@@ -5,29 +5,59 @@ ghost use Rattle.uri_pct.specs.Models.ByteRuns.{IsLongestRun};
 ghost use Rattle.uri_pct.specs.declared.table.members.TheConstants.{MEMBERS};
 
 use crate::masks::{holds, words};
-use crate::table::{DIGIT, PATH, QUERY, REG_NAME, SCHEME, SEGMENT_NZ_NC, USERINFO};
+use crate::table::{DIGIT, PATH, QUERY, REG_NAME, SCHEME, SEGMENT_NZ_NC, USERINFO, characters};
 
-/// The sets that have each byte: 1 for a scheme's, 2 for the digits, and then for those of
+/// Gives the sets that have a byte: 1 for a scheme's, 2 for the digits, and then for those of
 /// userinfo, of a registered name, of a first segment without `:`, of a path, and of a query or a
 /// fragment.
-const MEMBERS: &[u8; 256] = &[
-    0, 0, 0, 0, 0, 0, 0, 0, 0, 0, 0, 0, 0, 0, 0, 0, // 00
-    0, 0, 0, 0, 0, 0, 0, 0, 0, 0, 0, 0, 0, 0, 0, 0, // 10
-    0, 124, 0, 0, 124, 0, 124, 124, 124, 124, 124, 125, 124, 125, 125, 96, // 20
-    127, 127, 127, 127, 127, 127, 127, 127, 127, 127, 100, 124, 0, 124, 0, 64, // 30
-    112, 125, 125, 125, 125, 125, 125, 125, 125, 125, 125, 125, 125, 125, 125, 125, // 40
-    125, 125, 125, 125, 125, 125, 125, 125, 125, 125, 125, 0, 0, 0, 0, 124, // 50
-    0, 125, 125, 125, 125, 125, 125, 125, 125, 125, 125, 125, 125, 125, 125, 125, // 60
-    125, 125, 125, 125, 125, 125, 125, 125, 125, 125, 125, 0, 0, 0, 124, 0, // 70
-    0, 0, 0, 0, 0, 0, 0, 0, 0, 0, 0, 0, 0, 0, 0, 0, // 80
-    0, 0, 0, 0, 0, 0, 0, 0, 0, 0, 0, 0, 0, 0, 0, 0, // 90
-    0, 0, 0, 0, 0, 0, 0, 0, 0, 0, 0, 0, 0, 0, 0, 0, // A0
-    0, 0, 0, 0, 0, 0, 0, 0, 0, 0, 0, 0, 0, 0, 0, 0, // B0
-    0, 0, 0, 0, 0, 0, 0, 0, 0, 0, 0, 0, 0, 0, 0, 0, // C0
-    0, 0, 0, 0, 0, 0, 0, 0, 0, 0, 0, 0, 0, 0, 0, 0, // D0
-    0, 0, 0, 0, 0, 0, 0, 0, 0, 0, 0, 0, 0, 0, 0, 0, // E0
-    0, 0, 0, 0, 0, 0, 0, 0, 0, 0, 0, 0, 0, 0, 0, 0, // F0
-];
+macro_rules! sets_with {
+    ($byte:expr) => {
+        ((characters::SCHEME >> $byte & 1)
+            | (characters::DIGIT >> $byte & 1) << 1
+            | (characters::USERINFO >> $byte & 1) << 2
+            | (characters::REG_NAME >> $byte & 1) << 3
+            | (characters::SEGMENT_NZ_NC >> $byte & 1) << 4
+            | (characters::PATH >> $byte & 1) << 5
+            | (characters::QUERY >> $byte & 1) << 6) as u8
+    };
+}
+
+/// Gives no set, since a byte past ASCII is in none.
+macro_rules! none {
+    ($byte:expr) => {
+        0
+    };
+}
+
+/// Gives the sets that have each byte of the rows, of which each has the bytes of one first digit.
+macro_rules! by_byte {
+    ($($sets:ident $($row:literal)+),+) => {
+        &[$($(
+            $sets!($row + 0),
+            $sets!($row + 1),
+            $sets!($row + 2),
+            $sets!($row + 3),
+            $sets!($row + 4),
+            $sets!($row + 5),
+            $sets!($row + 6),
+            $sets!($row + 7),
+            $sets!($row + 8),
+            $sets!($row + 9),
+            $sets!($row + 10),
+            $sets!($row + 11),
+            $sets!($row + 12),
+            $sets!($row + 13),
+            $sets!($row + 14),
+            $sets!($row + 15),
+        )+)+]
+    };
+}
+
+/// The sets that have each byte.
+const MEMBERS: &[u8; 256] = by_byte!(
+    sets_with 0x00 0x10 0x20 0x30 0x40 0x50 0x60 0x70,
+    none 0x80 0x90 0xA0 0xB0 0xC0 0xD0 0xE0 0xF0
+);
 
 /// Returns the bit of a set in `MEMBERS`, or 0 if it is none of these. The set is a constant in a
 /// parser, and so this is.

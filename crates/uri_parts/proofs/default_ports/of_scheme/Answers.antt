@@ -1,9 +1,8 @@
-use Rattle.std.proofs.Common.{◌<◌, ◌+◌, ◌-◌, ◌∙◌, map, ap, sym, arith, length, get_or}
+use Rattle.std.proofs.Common.{◌<◌, ◌-◌, ◌∙◌, ap, sym, arith, length, get_or}
 use Rattle.std.specs.Char.{to_ascii_lowercase, is_ascii_lowercase}
 use Rattle.std.proofs.lemmas.Bool.{eqb-false}
 use Rattle.uri_parts.specs.SchemePorts.{port_ignoring_case}
-use Rattle.uri_parts.proofs.Authorities.SchemePorts.{row_of}
-use Rattle.uri_parts.proofs.Authorities.SchemeRows.{before, map-of-slice-is-slice-of-map, default-port-by-rows-of-first-letter, no-default-port-without-first-letter, empty-scheme-has-no-default-port}
+use Rattle.uri_parts.proofs.Authorities.SchemeRows.{default-port-by-rows-of-first-letter, no-default-port-without-first-letter, empty-scheme-has-no-default-port}
 use Rattle.uri_parts.proofs.default_ports.of_scheme.Goals as goal
 
 pub returns-then-is_empty : goal.returns-then-is_empty
@@ -24,8 +23,6 @@ returns c =
     let same = ap length c.as_bytes-bytes.ensures.value in
     let long : 0 < length scheme = omega (arith, some, same) in
     c.port_of_named_row.ensures
-    ∙ ap (λ rows. port_ignoring_case scheme (map row_of rows)) c.rows_of_letter.ensures
-    ∙ ap (port_ignoring_case scheme) (map-of-slice-is-slice-of-map row_of _ (before nth)
-    (before (nth + 1)))
+    ∙ ap (port_ignoring_case scheme) c.rows_of_letter-rows.ensures
     ∙ default-port-by-rows-of-first-letter scheme nth long low (c.from.ensures
     ∙ ap (λ x. x - 97) letter)
