@@ -80,7 +80,7 @@ static uint32_t work(int which, size_t room) {
     }
 }
 
-/* A text that is its own normal form is written without a request. */
+/* A text that is its own normal form is written without a request, and so is its host in ASCII. */
 static void test_unchanged(void) {
     static const char *const text = "http://h/%2F/b?q#f";
     static const uint32_t offsets[] = {0, 18};
@@ -96,6 +96,9 @@ static void test_unchanged(void) {
         clear();
         CHECK(!fluent_uri_normalize_lines(kind, 0, TEXT(text), out, ROOM, &valid, 1, &outcome));
         CHECK(outcome.length == 19 && !memcmp(out, text, 18) && is_kept(19));
+        clear();
+        CHECK(!fluent_uri_ascii_host(kind, TEXT(text), out, ROOM, &outcome));
+        CHECK(outcome.length == 1 && out[0] == 'h' && is_kept(1));
     }
     CHECK(asked == 0);
     left = -1;

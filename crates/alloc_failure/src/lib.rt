@@ -11,11 +11,17 @@ mod building;
 #[cfg(test)]
 mod commands;
 #[cfg(test)]
+mod hosts;
+#[cfg(test)]
 mod kinds;
 #[cfg(test)]
 mod links;
 #[cfg(test)]
 mod mending;
+#[cfg(test)]
+mod orders;
+#[cfg(test)]
+mod queries;
 #[cfg(test)]
 mod relatives;
 #[cfg(test)]

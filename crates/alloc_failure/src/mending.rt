@@ -87,8 +87,9 @@ fn without_requests(rt: HostRuntime) {
         matches!(trim_link(alloc, " a b "), Ok(CowStr::Borrowed("a b"))),
         "borrowed",
     );
-    let made = UriRef::<String>::mend_owned(alloc, String::new(alloc)).ok();
-    is_text(&rt, made.expect(&rt, "a reference").as_str(), "");
+    let text = tried!(&rt; "String::from_str", String::from_str(alloc, "/a?b"));
+    let made = UriRef::<String>::mend_owned(alloc, text).ok();
+    is_text(&rt, made.expect(&rt, "a reference").as_str(), "/a?b");
     let rejected = UriRef::<String>::mend(alloc, "//a b").err();
     holds(
         &rt,

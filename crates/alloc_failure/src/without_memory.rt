@@ -1,5 +1,5 @@
 //! Calls that do not allocate, so that none of them meets a failed allocation.
-use crate::requests::end;
+use crate::requests::{end, tried};
 use crate::values::{encoded, holds, is_encoded, is_text, parsed};
 use fluent_uri::build::Builder;
 use fluent_uri::build::state::FragmentEnd;
@@ -39,18 +39,20 @@ fn is_empty_of_kind<K: Kind>(alloc: Global) -> bool {
     Reference::<K, String>::parse(String::new(alloc)).is_ok()
 }
 
-/// Tests that parsing and converting a text that is owned requests no memory.
+/// Tests that parsing, cutting and converting a text that is owned requests no memory, and handing
+/// it back none.
 #[test]
 fn owned_texts(rt: HostRuntime) {
     let alloc = rt.alloc();
-    let mut owned = UriRef::<String>::parse(String::new(alloc)).expect(&rt, "a reference");
+    let text = tried!(&rt; "String::from_str", String::from_str(alloc, "/a?b#c"));
+    let mut owned = UriRef::<String>::parse(text).expect(&rt, "a reference");
     owned.set_fragment(None).expect(&rt, "no fragment");
-    is_text(&rt, owned.borrow().as_str(), "");
-    holds(
-        &rt,
-        Iri::try_from(IriRef::from(owned)).is_err(),
-        "no scheme",
-    );
+    is_text(&rt, owned.borrow().as_str(), "/a?b");
+    is_text(&rt, owned.path().as_str(), "/a");
+    let (_, back) = Iri::try_from(IriRef::from(owned))
+        .err()
+        .expect(&rt, "no scheme");
+    is_text(&rt, back.into_string().as_str(), "/a?b");
     holds(&rt, is_empty_of_kind::<IriRefKind>(alloc), "a reference");
     holds(&rt, !is_empty_of_kind::<UriKind>(alloc), "no URI");
     holds(&rt, !is_empty_of_kind::<IriKind>(alloc), "no IRI");

@@ -1,6 +1,6 @@
 //! More calls that make no request for memory: tests of presence, hosts and ports, texts of an
 //! encoder, tables, addresses, and the setters.
-use crate::requests::end;
+use crate::requests::{end, tried};
 use crate::values::{encoded, holds, is_text, parsed};
 use fluent_uri::component::{Authority, HostOf, Scheme};
 use fluent_uri::net::{IpAddr, Ipv4Addr, Ipv6Addr};
@@ -85,10 +85,18 @@ fn empty_texts(rt: HostRuntime) {
     let empty = EString::<Path>::new(rt.alloc());
     is_text(&rt, empty.as_estr().as_str(), "");
     is_text(&rt, empty.into_string().as_str(), "");
-    let reference = UriRef::<String>::parse(String::new(rt.alloc())).expect(&rt, "a reference");
-    is_text(&rt, reference.into_string().as_str(), "");
     is_text(&rt, UriRef::<&str>::default().as_str(), "");
     is_text(&rt, IriRef::<&str>::default().as_str(), "");
+    end(&rt, rt.alloc());
+}
+
+/// Tests that what fits the capacity of an encoded text makes no request for memory.
+#[test]
+fn texts_within_capacity(rt: HostRuntime) {
+    let mut text = tried!(&rt; "with_capacity", EString::<Path>::with_capacity(rt.alloc(), 5));
+    text.push('a').expect(&rt, "room");
+    text.push_estr(encoded(&rt, "/%41")).expect(&rt, "room");
+    is_text(&rt, text.as_str(), "a/%41");
     end(&rt, rt.alloc());
 }
 

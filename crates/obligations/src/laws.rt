@@ -4,6 +4,7 @@
 
 pub mod addresses;
 pub mod by_rules;
+pub mod comparing;
 pub mod converting;
 pub mod decoding;
 pub mod dots;
@@ -11,6 +12,7 @@ pub mod empty;
 pub mod equivalence;
 pub mod errors;
 pub mod grammar;
+pub mod json;
 pub mod leading;
 pub mod lines;
 pub mod mending;

@@ -1,13 +1,16 @@
 //! The rules that the RFCs print (RFC 3986, appendix A; RFC 3987, section 2.2), and what callers
 //! read by them.
-ghost use Rattle.std.specs.Prelude.{◌≡◌, ◌↔◌, ◌∷◌, [], false, map, true};
+ghost use Rattle.std.specs.Prelude.{◌≡◌, ◌↔◌, ◌∷◌, ℕ, List, [], false, map, true};
 ghost use Rattle.fluent_uri.specs.Authority.{authority_parts};
+ghost use Rattle.fluent_uri.specs.Components.{components};
 ghost use Rattle.fluent_uri.specs.DecodeUnreserved.{is_decodable};
+ghost use Rattle.fluent_uri.specs.Grammar.{uri};
+ghost use Rattle.fluent_uri.specs.Hosts.{IsHost, Ipv4};
 ghost use Rattle.fluent_uri.specs.Iris.{iri_text};
 ghost use Rattle.fluent_uri.specs.Sets.{path_set};
 ghost use Rattle.fluent_uri.specs.Uris.{uri_text};
 ghost use Rattle.uri_abnf.specs.Abnf.{Has, IsOf};
-ghost use Rattle.uri_abnf.specs.Derivations.{IsAuthorityDerived, uri_rules};
+ghost use Rattle.uri_abnf.specs.Derivations.{IsAuthorityDerived, IsDerived, uri_rules};
 ghost use Rattle.uri_abnf.specs.Printed as Printed;
 ghost use Rattle.uri_abnf.specs.Printing.{line};
 ghost use Rattle.uri_abnf.specs.Rfc3986 as Rfc3986;
@@ -24,7 +27,26 @@ pub fn of_the_rule_iri(value: Iri<&str>)
     uri_abnf::kinds_are_the_languages_of_their_rules();
 }
 
-/// A caller proves the same of an authority.
+/// A caller proves that a reader of the printed rules which takes a reference derives the components
+/// that this library returns.
+pub fn derived_components(text: &str)
+    ensures { IsOf Rfc3986.URI-reference text.now
+        ↔ IsDerived uri_rules text.now (components text.now) }
+{
+    uri_abnf::components_are_derived_in_one_way();
+}
+
+/// A caller proves that the hosts which this library has as IPv4 addresses are those of the printed
+/// rule.
+pub fn host_of_the_rule_ipv4(host: &str)
+    ensures { ((octets : List ℕ) × IsHost uri.reg_name host.now (Ipv4 octets))
+        ↔ IsOf Rfc3986.IPv4address host.now }
+{
+    uri_abnf::hosts_are_of_the_first_rule_that_has_them();
+}
+
+/// A caller proves that a reader of the printed rules which takes an authority derives the parts
+/// that this library returns.
 pub fn derived_components_of_an_authority(text: &str)
     requires { IsOf Rfc3986.authority text.now }
     ensures { IsAuthorityDerived uri_rules text.now (authority_parts text.now) }
