@@ -26,7 +26,7 @@ ghost use Rattle.uri_parts.specs.Models.Literals.{literal_length};
 ghost use Rattle.uri_parts.specs.Models.Cursors.{text_after_cursor, cursor_text, cursor_position};
 
 use crate::cursor::Cursor;
-use crate::error::{ParseError, ParseErrorKind};
+use crate::error::{Padding, ParseError, ParseErrorKind};
 use crate::ip_literal::literal_end;
 use crate::kind::Kind;
 use uri_pct::table::DIGIT;
@@ -197,8 +197,7 @@ pub(crate) fn pass_userinfo<K: Kind>(cursor: &mut Cursor<'_>) -> Result<(), Pars
 #[derive(Clone, Copy)]
 pub(crate) struct HostEnds {
     pub end: usize,
-    /// Where an error has its one byte. LLVM would split a position that is there in two.
-    padding: bool,
+    padding: Padding,
     pub host_end: usize,
 }
 
@@ -232,7 +231,7 @@ pub(crate) fn find_host<K: Kind>(text: &str, host_start: usize) -> Result<HostEn
     }
     Ok(HostEnds {
         end: cursor.position(),
-        padding: false,
+        padding: Padding::BYTE,
         host_end,
     })
 }

@@ -36,6 +36,16 @@ pub struct ParseError {
     kind: ParseErrorKind,
 }
 
+/// A byte of what a function returns, at which an error in its place has its kind. LLVM would split
+/// a position that is there in two.
+#[derive(Clone, Copy)]
+pub(crate) struct Padding(bool);
+
+impl Padding {
+    /// The byte, which means nothing.
+    pub(crate) const BYTE: Self = Padding(false);
+}
+
 /// Returns the message of a kind of parse error, such as `unexpected character`.
 fn kind_text(kind: ParseErrorKind) -> &'static str
     ensures { result.now ≡ error_kind_text kind }

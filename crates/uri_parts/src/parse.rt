@@ -24,7 +24,7 @@ ghost use Rattle.uri_parts.specs.Models.Cursors.{packed_from, packed_if_parsed_f
 
 use crate::authority_parser::{find_host, is_before_literal, pass_name, pass_userinfo};
 use crate::cursor::Cursor;
-use crate::error::ParseError;
+use crate::error::{Padding, ParseError};
 use crate::kind::Kind;
 use crate::packed_positions::PackedPositions;
 use crate::scheme_prefix::pass_scheme;
@@ -33,8 +33,7 @@ use crate::scheme_prefix::pass_scheme;
 #[derive(Clone, Copy)]
 struct BeforePath {
     path_start: usize,
-    /// Where an error has its one byte. LLVM would split a position that is there in two.
-    padding: bool,
+    padding: Padding,
     scheme_end: usize,
     host_start: usize,
     host_end: usize,
@@ -98,7 +97,7 @@ fn pass_host<K: Kind>(cursor: &mut Cursor<'_>, scheme_end: usize) -> Result<Befo
     *cursor = Cursor::at(text, host.end);
     Ok(BeforePath {
         path_start: host.end,
-        padding: false,
+        padding: Padding::BYTE,
         scheme_end,
         host_start,
         host_end: host.host_end,
@@ -132,7 +131,7 @@ fn pass_authority<K: Kind>(
     if is_whole {
         return Ok(BeforePath {
             path_start: cursor.position(),
-            padding: false,
+            padding: Padding::BYTE,
             scheme_end,
             host_start,
             host_end,
@@ -223,7 +222,7 @@ fn pass_schemeless<K: Kind>(cursor: &mut Cursor<'_>) -> Result<BeforePath, Parse
     }
     Ok(BeforePath {
         path_start: 0,
-        padding: false,
+        padding: Padding::BYTE,
         scheme_end: 0,
         host_start: 0,
         host_end: 0,
@@ -255,7 +254,7 @@ fn pass_before_path<K: Kind>(cursor: &mut Cursor<'_>) -> Result<BeforePath, Pars
         }
         return Ok(BeforePath {
             path_start: cursor.position(),
-            padding: false,
+            padding: Padding::BYTE,
             scheme_end: scheme.end,
             host_start: 0,
             host_end: 0,

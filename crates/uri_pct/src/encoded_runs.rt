@@ -5,18 +5,20 @@ ghost use Rattle.std.specs.Int.{bit_at};
 ghost use Rattle.uri_pct.specs.Models.ByteRuns.{AreCharactersOrOctets, IsByteOfEncodedText};
 ghost use Rattle.uri_pct.specs.Masks.{has_bit};
 ghost use Rattle.uri_pct.specs.Tables.{set_of};
+ghost use Rattle.uri_pct.specs.declared.table.characters.TheConstants.{HEXDIG_LOW, HEXDIG_HIGH};
 
 use crate::lanes::{LANES, lanes_equal_to, outside};
 use crate::table::Table;
+use crate::table::characters::{HEXDIG_HIGH, HEXDIG_LOW};
 
 /// Returns which of the sixteen bytes from `at` on are no hexadecimal digits.
 #[inline(always)]
 fn lanes_without_hex_digit(bytes: &[u8], at: usize) -> u64
     requires { at + LANES ≤ length bytes.now }
-    ensures { result ≡ mask_l (map (λ b. not (has_bit 0x03FF000000000000 0x0000007E0000007E b))
+    ensures { result ≡ mask_l (map (λ b. not (has_bit HEXDIG_LOW HEXDIG_HIGH b))
         (chunk at 16 bytes.now)) }
 {
-    outside(0x03FF_0000_0000_0000, 0x0000_007E_0000_007E, bytes, at)
+    outside(HEXDIG_LOW, HEXDIG_HIGH, bytes, at)
 }
 
 /// Returns a mask of the sixteen bytes from `at` on. It has those that are neither in the set nor a

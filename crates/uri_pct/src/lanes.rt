@@ -10,8 +10,10 @@ ghost use Rattle.uri_pct.specs.Texts.{has_hex_digits_after};
 ghost use Rattle.uri_pct.specs.Models.LaneMasks.{bytes_of_masks, bit_in_mask_byte};
 ghost use Rattle.uri_pct.specs.Models.LaneMasks.{is_lane_of_octet};
 ghost use Rattle.uri_pct.specs.Masks.{has_bit, HasHexDigits};
+ghost use Rattle.uri_pct.specs.declared.table.characters.TheConstants.{HEXDIG_LOW, HEXDIG_HIGH};
 
 use crate::masks::has;
+use crate::table::characters::{HEXDIG_HIGH, HEXDIG_LOW};
 use std::simd::prelude::*;
 
 /// How many bytes are scanned at once.
@@ -249,7 +251,7 @@ pub fn chars_end(low: u64, high: u64, bytes: &[u8], start: usize) -> usize
 fn octet_starts(bytes: &[u8], at: usize, no_digits: u64) -> u64
     requires room { at + LANES ≤ length bytes.now }
     requires no_digits { no_digits ≡ mask_l (map (λ b.
-        not (has_bit 0x03FF000000000000 0x0000007E0000007E b)) (chunk at 16 bytes.now)) }
+        not (has_bit HEXDIG_LOW HEXDIG_HIGH b)) (chunk at 16 bytes.now)) }
     ensures starts { (k : ℕ) → bit_at result k ≡ 1 → (k + 3 ≤ 16)
         × (slice_index bytes.now (at + k) ≡ percent_sign)
         × (has_hex_digits_after bytes.now (at + k) ≡ true) }
@@ -273,9 +275,7 @@ fn lanes_outside_octets(low: u64, high: u64, mask: u64, starts: u64) -> u64
         ≡ (bit_at mask k == 1 && not (is_lane_of_octet (bit_and starts mask) k)) }
 {
     // If digits are in the set, `mask` lacks them. Where the set is constant, so is this test.
-    if low & 0x03FF_0000_0000_0000 == 0x03FF_0000_0000_0000
-        && high & 0x0000_007E_0000_007E == 0x0000_007E_0000_007E
-    {
+    if low & HEXDIG_LOW == HEXDIG_LOW && high & HEXDIG_HIGH == HEXDIG_HIGH {
         return mask & !starts;
     }
     let begun = starts & mask;
@@ -313,7 +313,7 @@ pub(crate) fn first_run_end(
     if bytes[first] != b'%' || !octets {
         return (first, true);
     }
-    let no_digits = outside_by_keys(0x03FF_0000_0000_0000, 0x0000_007E_0000_007E, indices, bits);
+    let no_digits = outside_by_keys(HEXDIG_LOW, HEXDIG_HIGH, indices, bits);
     let open = lanes_outside_octets(low, high, mask, octet_starts(bytes, block, no_digits));
     // An octet that begins in the last two lanes is cut by the end of the block.
     let certain = open & 0x3FFF;

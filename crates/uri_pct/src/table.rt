@@ -8,7 +8,7 @@ ghost use Rattle.uri_pct.specs.DecodeUnreserved.{is_decodable};
 ghost use Rattle.uri_pct.specs.Sets.{allows, allows_past_ascii, is_ucschar, is_iprivate, is_one_of};
 ghost use Rattle.uri_pct.specs.Sets.{characters_only, union, difference, IsSubset};
 
-mod characters;
+pub(crate) mod characters;
 mod constants;
 pub(crate) mod members;
 

@@ -1,9 +1,9 @@
 -- A text cut before the first of some marks.
-use Rattle.std.proofs.Common.{◌≡◌, ℕ, zero, suc, true, false, not, List, [], ◌∷◌, ◌++◌, take, drop, refl, ap, ◌∙◌, arith, ⊎_elim}
-use Rattle.std.specs.List.{prefix_len}
-use Rattle.std.proofs.lemmas.Bool.{cases_Bool, cond-true, cond-false, not_from_true, not_from_false, eqb-true}
+use Rattle.std.proofs.Common.{◌≡◌, ℕ, zero, suc, true, false, List, [], ◌∷◌, ◌++◌, take, drop, refl, ap, ◌∙◌, arith, ⊎_elim}
+use Rattle.std.proofs.lemmas.Bool.{cases_Bool, eqb-true}
 use Rattle.std.proofs.lemmas.Bool.Decides.{nat_tests}
 use Rattle.uri_pct.specs.Sets.{is_one_of}
+use Rattle.uri_pct.proofs.ValidTexts.MarksInTexts.{length_before_mark_at_start_is_zero, length_before_marks_counts_other_byte}
 use Rattle.uri_parts.specs.Components.{Lacks, before_any, from_any, starts}
 
 -- splitting: the text is empty or begins with one of the delimiters, which come first
@@ -36,45 +36,29 @@ pub begins-with-further-mark : (mark : ℕ) (marks bs : List ℕ) → IsEmptyOrM
 begins-with-further-mark mark marks [] m n = tt
 begins-with-further-mark mark marks (b ∷ bs) m n = grind (arith, nat_tests)
 
--- splitting: the length of what is before the first of the delimiters
-abbrev length_before : List ℕ → List ℕ → ℕ
-length_before marks text = prefix_len (λ c. not (is_one_of marks c)) text
-
--- splitting: before a delimiter at the start there are 0 bytes
-length-before-mark-is-zero : (marks : List ℕ) (c : ℕ) (rest : List ℕ) → is_one_of marks c ≡ true
-    → length_before marks (c ∷ rest) ≡ 0
-length-before-mark-is-zero marks c rest h = cond-false _ _ _ (not_from_true _ h)
-
--- splitting: another byte at the start is one more before the first delimiter
-length-before-grows-past-other-byte : (marks : List ℕ) (c : ℕ) (rest : List ℕ)
-    → is_one_of marks c ≡ false
-    → length_before marks (c ∷ rest) ≡ suc (length_before marks rest)
-length-before-grows-past-other-byte marks c rest h = cond-true _ _ _ (not_from_false _ h)
-    ∙ omega arith
-
 -- splitting: before a delimiter at the start of a text there is nothing
 pub before_any-at-mark : (marks : List ℕ) (c : ℕ) (rest : List ℕ) → is_one_of marks c ≡ true
     → before_any marks (c ∷ rest) ≡ []
 before_any-at-mark marks c rest h = ap (λ n. take n (c ∷ rest))
-    (length-before-mark-is-zero marks c rest h)
+    (length_before_mark_at_start_is_zero marks c rest h)
 
 -- splitting: a text that begins with a delimiter is all from it on
 pub from_any-at-mark : (marks : List ℕ) (c : ℕ) (rest : List ℕ) → is_one_of marks c ≡ true
     → from_any marks (c ∷ rest) ≡ c ∷ rest
 from_any-at-mark marks c rest h = ap (λ n. drop n (c ∷ rest))
-    (length-before-mark-is-zero marks c rest h)
+    (length_before_mark_at_start_is_zero marks c rest h)
 
 -- splitting: another byte at the start of a text is before the first delimiter
 pub before_any-past-other : (marks : List ℕ) (c : ℕ) (rest : List ℕ) → is_one_of marks c ≡ false
     → before_any marks (c ∷ rest) ≡ c ∷ before_any marks rest
 before_any-past-other marks c rest h = ap (λ n. take n (c ∷ rest))
-    (length-before-grows-past-other-byte marks c rest h)
+    (length_before_marks_counts_other_byte marks c rest h)
 
 -- splitting: another byte at the start of a text is not in what is from the first delimiter on
 pub from_any-past-other : (marks : List ℕ) (c : ℕ) (rest : List ℕ) → is_one_of marks c ≡ false
     → from_any marks (c ∷ rest) ≡ from_any marks rest
 from_any-past-other marks c rest h = ap (λ n. drop n (c ∷ rest))
-    (length-before-grows-past-other-byte marks c rest h)
+    (length_before_marks_counts_other_byte marks c rest h)
 
 -- splitting: if a text lacks some delimiters, so do its first byte and the rest
 byte-and-rest-lack-marks : (marks : List ℕ) (c : ℕ) (text : List ℕ) → Lacks marks (c ∷ text)

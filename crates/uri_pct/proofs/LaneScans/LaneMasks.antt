@@ -1,5 +1,5 @@
 -- Two words as the sixteen bytes of a vector, and the lanes of a load that have no bit in them.
-use Rattle.std.proofs.Common.{◌≡◌, ℕ, zero, suc, ◌+◌, ◌-◌, ◌*◌, ◌/◌, ◌%◌, ◌^◌, ◌<◌, ◌≤◌, min, true, false, not, cond, eqb, List, [], ◌∷◌, map, length, get_or, replicate, refl, sym, ap, ◌∙◌, arith, ⊎_elim, w8, bit_and, Fits, ◌||◌, subst, T, ltb}
+use Rattle.std.proofs.Common.{◌≡◌, ℕ, zero, suc, ◌+◌, ◌-◌, ◌*◌, ◌/◌, ◌%◌, ◌^◌, ◌<◌, ◌≤◌, min, true, false, not, cond, eqb, List, [], ◌∷◌, map, length, get_or, replicate, refl, sym, ap, ◌∙◌, arith, ⊎_elim, w8, bit_and, Fits, ◌||◌, T, ltb}
 use mir.Val.{zeroes}
 use Rattle.std.specs.Int.{bit_at}
 use Rattle.std.specs.Int.Bits.{and_zero_r}

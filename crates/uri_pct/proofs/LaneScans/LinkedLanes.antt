@@ -3,6 +3,7 @@ use Rattle.std.proofs.Common.{◌≡◌, ℕ, ◌+◌, ◌-◌, ◌^◌, ◌<◌
 use Rattle.std.specs.Int.{bit_at, bit_not}
 use Rattle.std.specs.Char.{is_ascii_hexdigit}
 use Rattle.std.proofs.lemmas.Bool.{eq-eqb, or_left, or_right, or_parts, both_ways, cases_lt}
+use Rattle.uri_pct.specs.declared.table.characters.TheConstants.{HEXDIG_LOW, HEXDIG_HIGH}
 use Rattle.uri_pct.specs.Models.ByteRuns.{IsByteOfEncodedText}
 use Rattle.uri_pct.specs.Masks.{has_bit}
 use Rattle.uri_pct.proofs.TableSets.Masks.{bit_of_bit_and, bit_of_bit_or, bit_of_bit_and_not}
@@ -12,7 +13,7 @@ use Rattle.uri_pct.proofs.LaneScans.OctetLanes.{char_of_hex_masks_is_hexdigit, f
 
 module _ (test : ℕ → Bool) (bs : List ℕ) (i misses others percents one two : ℕ) (before : 2 ≤ i)
     (outside : MarksFailingLanes test bs i 16 misses)
-    (no_digits : MarksFailingLanes (has_bit 0x03FF000000000000 0x0000007E0000007E) bs i 16 others)
+    (no_digits : MarksFailingLanes (has_bit HEXDIG_LOW HEXDIG_HIGH) bs i 16 others)
     (fits : percents < 2 ^ 64)
     (here : (k : ℕ) → k < 16 → is_set_bit percents k ≡ eqb (get_or bs (i + k) 0) 37)
     (one_before : (k : ℕ) → k < 16 → is_set_bit one k ≡ eqb (get_or bs (i - 1 + k) 0) 37)

@@ -6,6 +6,7 @@ use Rattle.std.proofs.lemmas.Nat.{or_lt}
 use Rattle.std.proofs.lemmas.Nat.Bits.{bit_at_and, bit_at_above}
 use Rattle.std.proofs.lemmas.Bool.{cases_lt, both_ways, eqb-true, eq-eqb, and_from, or_from, or_parts, and_right, cases_Bool, le-leb, lt-leb}
 use Rattle.std.proofs.Math.Bool.{and-true, or-false}
+use Rattle.uri_pct.specs.declared.table.characters.TheConstants.{HEXDIG_LOW, HEXDIG_HIGH}
 use Rattle.uri_pct.specs.Texts.{has_hex_digits_after}
 use Rattle.uri_pct.specs.Models.LaneMasks.{is_lane_of_octet}
 use Rattle.uri_pct.specs.Masks.{has_bit}
@@ -16,7 +17,7 @@ use Rattle.uri_pct.proofs.LaneScans.LaneBits.{is_set_bit, bit_of_right_shift, bi
 use Rattle.std.proofs.lemmas.Bool.Decides.{nat_tests}
 
 -- sixteen bytes at a time: the two words of the table of digits have hexadecimal digits only
-pub char_of_hex_masks_is_hexdigit : (c : ℕ) → has_bit 0x03FF000000000000 0x0000007E0000007E c ≡ true
+pub char_of_hex_masks_is_hexdigit : (c : ℕ) → has_bit HEXDIG_LOW HEXDIG_HIGH c ≡ true
     → is_ascii_hexdigit c ≡ true
 char_of_hex_masks_is_hexdigit c e = sym (ap (λ s. s.ascii c) hexdig_masks_are_hexdig_set) ∙ e
 
@@ -35,7 +36,7 @@ first_is_false_if_and_is_false false b e h = refl
 module _ (bs : List ℕ) (i percents others : ℕ)
     (is : (k : ℕ) → k < 16 → is_set_bit percents k ≡ eqb (get_or bs (i + k) 0) 37)
     (small : percents < 2 ^ 16)
-    (marks : MarksFailingLanes (has_bit 0x03FF000000000000 0x0000007E0000007E) bs i 16 others) where
+    (marks : MarksFailingLanes (has_bit HEXDIG_LOW HEXDIG_HIGH) bs i 16 others) where
   -- each lane of this mask has a `%` with two hexadecimal digits after it, all in the load
   pub octet_begins_at_set_lane : (k : ℕ)
       → bit_at

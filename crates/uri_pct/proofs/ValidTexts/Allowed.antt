@@ -1,5 +1,5 @@
 -- If a set allows a text, its tokens and its decoded tokens are printable.
-use Rattle.std.proofs.Common.{◌≡◌, ℕ, ◌+◌, ◌*◌, ◌<◌, ◌≤◌, Bool, true, false, eqb, ltb, List, [], ◌∷◌, map, refl, sym, ap, ◌∙◌, arith, ◌&&◌, ⊎_elim, ◌⊎◌}
+use Rattle.std.proofs.Common.{◌≡◌, ℕ, ◌+◌, ◌*◌, ◌<◌, ◌≤◌, Bool, true, false, eqb, ltb, List, [], ◌∷◌, map, refl, ap, arith, ◌&&◌, ⊎_elim, ◌⊎◌}
 use Rattle.std.specs.Char.{IsScalar, digit_value, is_ascii_hexdigit, to_ascii_lowercase}
 use Rattle.std.specs.Str.{all_scalars, chars}
 use Rattle.std.specs.List.{list_all}

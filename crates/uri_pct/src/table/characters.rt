@@ -7,6 +7,12 @@ pub(super) const DIGIT: u128 = (1 << 0x3A) - (1 << 0x30);
 
 pub(super) const HEXDIG: u128 = DIGIT | ((1 << 0x47) - (1 << 0x41)) | ((1 << 0x67) - (1 << 0x61));
 
+/// The word of `HEXDIG` for the characters below 64.
+pub(crate) const HEXDIG_LOW: u64 = (HEXDIG & 0xFFFF_FFFF_FFFF_FFFF) as u64;
+
+/// The word of `HEXDIG` for the characters from 64 on.
+pub(crate) const HEXDIG_HIGH: u64 = (HEXDIG >> 64) as u64;
+
 pub(super) const SCHEME: u128 = ALPHA | DIGIT | 1 << b'+' | 1 << b'-' | 1 << b'.';
 
 pub(super) const UNRESERVED: u128 = ALPHA | DIGIT | 1 << b'-' | 1 << b'.' | 1 << b'_' | 1 << b'~';

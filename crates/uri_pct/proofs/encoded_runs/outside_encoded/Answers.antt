@@ -1,6 +1,7 @@
 use Rattle.std.proofs.Common.{◌+◌, ◌-◌, ◌≤◌, length, ap, arith, ◌∙◌, bit_and, bit_or, w64}
 use Rattle.std.specs.Int.{bit_not}
 use Rattle.std.proofs.lemmas.Nat.{and_le_l, or_lt}
+use Rattle.uri_pct.specs.declared.table.characters.TheConstants.{HEXDIG_LOW, HEXDIG_HIGH}
 use Rattle.uri_pct.specs.Masks.{has_bit}
 use Rattle.uri_pct.proofs.LaneScans.LaneRuns.{set_mask_marks_lanes_outside}
 use Rattle.uri_pct.proofs.LaneScans.LaneBits.{is_set_bit, mask_bit_is_equality_of_byte}
@@ -16,7 +17,7 @@ returns-clause-below c =
     let digits = bit_or c.lanes_equal_to.result c.lanes_equal_to-2.result in
     let set = set_mask_marks_lanes_outside c.args.low c.args.high bs c.args.at misses
     c.requires.within c.outside.ensures in
-    let hex = set_mask_marks_lanes_outside 0x03FF000000000000 0x0000007E0000007E bs c.args.at
+    let hex = set_mask_marks_lanes_outside HEXDIG_LOW HEXDIG_HIGH bs c.args.at
     others c.requires.within c.lanes_without_hex_digit.ensures in
     or_lt 16 (bit_and misses percents) (bit_and others digits)
     (omega (arith, set.below, and_le_l misses percents))
@@ -33,7 +34,7 @@ returns-clause-lane c n few clear =
     c.requires.before
     (set_mask_marks_lanes_outside c.args.low c.args.high bs i c.outside.result room
     c.outside.ensures)
-    (set_mask_marks_lanes_outside 0x03FF000000000000 0x0000007E0000007E bs i
+    (set_mask_marks_lanes_outside HEXDIG_LOW HEXDIG_HIGH bs i
     c.lanes_without_hex_digit.result room c.lanes_without_hex_digit.ensures)
     c.lanes_equal_to-no_octet.type_inv
     (λ k h. ap (λ m. is_set_bit m k) c.lanes_equal_to-no_octet.ensures

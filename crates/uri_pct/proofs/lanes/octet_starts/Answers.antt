@@ -3,6 +3,7 @@ use Rattle.std.specs.Char.{is_ascii_hexdigit}
 use Rattle.std.proofs.lemmas.Nat.{or_lt}
 use Rattle.std.proofs.lemmas.Bool.{and_from, and_parts, or_from, eq-eqb, eqb-true}
 use Rattle.std.specs.Int.{bit_at, bit_not}
+use Rattle.uri_pct.specs.declared.table.characters.TheConstants.{HEXDIG_LOW, HEXDIG_HIGH}
 use Rattle.uri_pct.specs.Texts.{has_hex_digits_after}
 use Rattle.uri_pct.proofs.LaneScans.LaneRuns.{load_mask_marks_failing_lanes, MarksFailingLanes}
 use Rattle.uri_pct.specs.Masks.{has_bit}
@@ -27,7 +28,7 @@ returns-clause-starts c k =
     (sym c.lanes_equal_to-percents.ensures)
     (octet_begins_at_set_lane bs i _ others (λ j h. mask_bit_is_equality_of_byte 37 bs i j room h)
     (equality_mask_is_below_2_16 37 bs i room)
-    (subst (MarksFailingLanes (has_bit 0x03FF000000000000 0x0000007E0000007E) bs i 16)
+    (subst (MarksFailingLanes (has_bit HEXDIG_LOW HEXDIG_HIGH) bs i 16)
     (sym c.requires.no_digits) (load_mask_marks_failing_lanes _ bs i 16 room)) k)
 
 -- a lane is set whose byte is a `%` before two hexadecimal digits
@@ -54,7 +55,7 @@ returns-clause-all c k h percent digits =
     let i = c.args.at in
     let others = c.args.no_digits in
     let room : i + 16 ≤ length bs = c.requires.room in
-    let marks = subst (MarksFailingLanes (has_bit 0x03FF000000000000 0x0000007E0000007E) bs i 16)
+    let marks = subst (MarksFailingLanes (has_bit HEXDIG_LOW HEXDIG_HIGH) bs i 16)
     (sym c.requires.no_digits) (load_mask_marks_failing_lanes _ bs i 16 room) in
     let digit : (j : ℕ) → j < 16 → is_ascii_hexdigit (get_or bs (i + j) 0) ≡ true
     → is_set_bit others j ≡ false =

@@ -1,4 +1,4 @@
-use Rattle.std.proofs.Common.{◌≡◌, ◌∷◌, [], ◌+◌, ◌*◌, ℕ, List, eqb, length, get_or, drop, sym, ap, ◌∙◌, subst, arith, rules, IsUtf8, eqb-true}
+use Rattle.std.proofs.Common.{◌≡◌, ◌∷◌, ◌+◌, ◌*◌, length, sym, ap, ◌∙◌, subst, arith, rules}
 use Rattle.std.specs.Char.{digit_value}
 use Rattle.uri_pct.specs.Chunks.{Byte, Text, chunks, widest_set}
 use Rattle.uri_pct.specs.Tokens.{IsValidFor}
