@@ -224,12 +224,14 @@ impl<S: SchemeRules> Normalizer<S> {
         ensures rules { ⟦<WithPorts<P, S> as SchemeRules>⟧.rules_of (scheme_rules_of result)
             ≡ record (S.rules_of (scheme_rules_of self)) { ports = (P.rules_of ports).ports } }
     {
+        let allow_path_underflow = self.allow_path_underflow;
+        let rules = WithPorts {
+            ports,
+            rules: self.rules,
+        };
         Normalizer {
-            allow_path_underflow: self.allow_path_underflow,
-            rules: WithPorts {
-                ports,
-                rules: self.rules,
-            },
+            allow_path_underflow,
+            rules,
         }
     }
 
