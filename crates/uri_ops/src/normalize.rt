@@ -30,10 +30,10 @@ pub(crate) mod short_components;
 #[doc(hidden)]
 pub mod unchanged;
 
-use crate::scheme_rules::{DefaultPorts, SchemeRules, WithPorts};
 use crate::normalize::normal_text::written_normal_text;
 use crate::normalize::normalized::Normalized;
 use crate::normalize::unchanged::is_found_normal;
+use crate::scheme_rules::{DefaultPorts, SchemeRules, WithPorts};
 use crate::traits::RiMaybeRef;
 use std::alloc::{AllocError, Global};
 use thiserror::Error;
@@ -57,7 +57,7 @@ pub enum NormalizeError {
 
 impl From<AllocError> for NormalizeError {
     ghost use Rattle.uri_ops.specs.SchemeRules.{default_rules};
-ghost use Rattle.uri_ops.specs.declared.normalize.NormalizeError.TheVariants.{OutOfMemory};
+    ghost use Rattle.uri_ops.specs.declared.normalize.NormalizeError.TheVariants.{OutOfMemory};
 
     ghost from_gives = { λ _ error. error ≡ OutOfMemory };
 

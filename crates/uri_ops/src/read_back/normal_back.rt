@@ -11,11 +11,11 @@ ghost use Rattle.uri_ops.specs.Meaning.{components_meaning};
 ghost use Rattle.uri_ops.specs.Normal.{normal_scheme, normal_text};
 ghost use Rattle.uri_ops.specs.FromEnd.Addresses.{ipv6_host_of};
 
-use crate::scheme_rules::SchemeRules;
 use crate::read_back::literal_back::LiteralBack;
 use crate::read_back::normal_authority::{AuthorityBack, PartBack, authority_back, part_back};
 use crate::read_back::normal_path::{NormalPathBack, normal_path_back};
 use crate::read_back::{Joined, ReadBack, join};
+use crate::scheme_rules::SchemeRules;
 use uri_parts::component::{Authority, Scheme};
 use uri_parts::core_text::Core;
 use uri_parts::kind::Kind;
