@@ -136,7 +136,7 @@ fn port_back<'a, U: Encoder, R: Encoder, S: SchemeRules>(
 
 /// Returns the authority after its `//`, or nothing if it is absent. `address` is the host's text
 /// if it is an IPv6 address, and else empty.
-pub fn authority_back<'a, U: Encoder, R: Encoder, S: SchemeRules>(
+pub(crate) fn authority_back<'a, U: Encoder, R: Encoder, S: SchemeRules>(
     authority: Option<Authority<'a, U, R>>,
     scheme: Option<Scheme<'_>>,
     rules: &S,

@@ -46,7 +46,7 @@ fn scheme_back<'a>(scheme: Option<Scheme<'a>>) -> SchemeBack<'a>
 
 /// Returns the normal text of a value with this authority and this path in place of its own.
 /// `address` is the host's normal text if it is an IPv6 address, and else empty.
-pub fn normal_back<'a, K: Kind, S: SchemeRules>(
+pub(crate) fn normal_back<'a, K: Kind, S: SchemeRules>(
     core: Core<K, &'a str>,
     authority: Option<Authority<'a, K::UserinfoE, K::RegNameE>>,
     path: EStr<'a, K::PathE>,
