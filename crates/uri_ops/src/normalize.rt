@@ -30,10 +30,10 @@ pub(crate) mod short_components;
 #[doc(hidden)]
 pub mod unchanged;
 
-use crate::scheme_rules::{DefaultPorts, SchemeRules, WithPorts};
 use crate::normalize::normal_text::written_normal_text;
 use crate::normalize::normalized::Normalized;
 use crate::normalize::unchanged::is_found_normal;
+use crate::scheme_rules::{DefaultPorts, SchemeRules, WithPorts};
 use crate::traits::RiMaybeRef;
 use std::alloc::{AllocError, Global};
 use thiserror::Error;
@@ -57,7 +57,7 @@ pub enum NormalizeError {
 
 impl From<AllocError> for NormalizeError {
     ghost use Rattle.uri_ops.specs.SchemeRules.{default_rules};
-ghost use Rattle.uri_ops.specs.declared.normalize.NormalizeError.TheVariants.{OutOfMemory};
+    ghost use Rattle.uri_ops.specs.declared.normalize.NormalizeError.TheVariants.{OutOfMemory};
 
     ghost from_gives = { λ _ error. error ≡ OutOfMemory };
 
@@ -224,12 +224,14 @@ impl<S: SchemeRules> Normalizer<S> {
         ensures rules { ⟦<WithPorts<P, S> as SchemeRules>⟧.rules_of (scheme_rules_of result)
             ≡ record (S.rules_of (scheme_rules_of self)) { ports = (P.rules_of ports).ports } }
     {
+        let allow_path_underflow = self.allow_path_underflow;
+        let rules = WithPorts {
+            ports,
+            rules: self.rules,
+        };
         Normalizer {
-            allow_path_underflow: self.allow_path_underflow,
-            rules: WithPorts {
-                ports,
-                rules: self.rules,
-            },
+            allow_path_underflow,
+            rules,
         }
     }
 

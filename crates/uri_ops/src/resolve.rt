@@ -17,12 +17,12 @@ pub mod target_text;
 #[doc(hidden)]
 pub mod text_view;
 
-use crate::scheme_rules::SchemeRules;
 use crate::normalize::{Normalizer, normalize_string};
 pub use crate::resolve::error::ResolveError;
 use crate::resolve::target_pieces::{TargetPieces, taken_pieces};
 use crate::resolve::target_text::{Target, target_text};
 use crate::resolve::text_view::TextView;
+use crate::scheme_rules::SchemeRules;
 use crate::traits::{RefOf, Ri, RiMaybeRef};
 use std::alloc::{AllocError, Global};
 

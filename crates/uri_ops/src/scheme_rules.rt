@@ -114,7 +114,7 @@ impl SchemeRules for StandardRules {
 
     /// Returns the port that `Scheme::default_port` returns.
     fn default_port(&self, scheme: Scheme<'_>) -> Option<u16> {
-        scheme.default_port()
+        DefaultPorts.default_port(scheme)
     }
 
     /// Returns whether the scheme is one of those whose empty path is `/`.
@@ -171,7 +171,7 @@ impl SchemeRules for RuleSet {
 
     /// Returns the port that `Scheme::default_port` returns.
     fn default_port(&self, scheme: Scheme<'_>) -> Option<u16> {
-        scheme.default_port()
+        StandardRules.default_port(scheme)
     }
 
     /// Returns whether the rules of the set have `/` for an empty path under the scheme.

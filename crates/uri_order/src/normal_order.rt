@@ -64,12 +64,11 @@ impl<S: SchemeRules> NormalOrder<S> {
         ensures { ⟦<WithPorts<P, S> as SchemeRules>⟧.rules_of (scheme_rules_of result)
             ≡ record (S.rules_of (scheme_rules_of self)) { ports = (P.rules_of ports).ports } }
     {
-        NormalOrder {
-            rules: WithPorts {
-                ports,
-                rules: self.rules,
-            },
-        }
+        let rules = WithPorts {
+            ports,
+            rules: self.rules,
+        };
+        NormalOrder { rules }
     }
 
     /// Returns whether two values have the same normal form, and so are equivalent under the rules

@@ -7,7 +7,7 @@ use Rattle.std.proofs.lemmas.Bool.{cond-false}
 use Rattle.uri_parts.specs.Components.{Components, components}
 use Rattle.uri_parts.specs.Grammar.{Kind, IsTextOf}
 use Rattle.uri_ops.specs.ComponentSets.{HasComponentSets}
-use Rattle.uri_ops.specs.Dots.{is_empty, run, underflows}
+use Rattle.uri_ops.specs.Dots.{run, underflows}
 use Rattle.uri_ops.specs.Meaning.{authority_meaning, components_meaning, meaning_of}
 use Rattle.uri_ops.specs.Models.RuledComponents.{has_default_host, has_root_path, is_text, ruled_authority, ruled_components, ruled_path}
 use Rattle.uri_ops.specs.Normal.{normal_authority, normal_text, path_underflows}

@@ -13,7 +13,7 @@ use Rattle.uri_ops.specs.Dots.{is_empty, directory}
 use Rattle.uri_ops.specs.Meaning.{Meaning, authority_meaning, components_meaning, meaning_of}
 use Rattle.uri_ops.specs.Normal.{normal_text}
 use Rattle.uri_ops.specs.NormalTargets.{reference_kind, resolved_meaning}
-use Rattle.uri_ops.specs.Target.{TargetError, is_opaque_rejection, is_opaque, is_fragment_only, dotted_target, target_of, query_or}
+use Rattle.uri_ops.specs.Target.{TargetError, is_opaque_rejection, is_fragment_only, dotted_target, target_of, query_or}
 use Rattle.uri_ops.proofs.Meanings.AllowedParts.{is_set_text}
 use Rattle.uri_ops.proofs.Normal.NormalTexts.{text-has-parts-of-kind}
 use Rattle.uri_parts.proofs.Splitting.Recompose.{components_of_parts}

@@ -1,15 +1,15 @@
 -- A ruled text is a text with what the rules of its scheme change, not yet normal. Under default
 -- ports alone it has the meaning that the text has under the rules. So the laws of normal texts
 -- hold under any rules.
-use Rattle.std.proofs.Common.{◌≡◌, ℕ, Bool, true, false, cond, List, [], ◌∷◌, refl, sym, ap, ◌∙◌, ⊎_elim, ◌&&◌, ◌||◌, Option, Some, None, option_map, inr, not, rules, lit<, subst}
-use Rattle.std.specs.Prelude.{codes, is_some, IfSome, IfNone, ◌↔◌, if◌then◌else◌}
+use Rattle.std.proofs.Common.{◌≡◌, ℕ, Bool, true, false, cond, List, [], ◌∷◌, refl, sym, ap, ◌∙◌, ⊎_elim, ◌&&◌, ◌||◌, Option, Some, None, option_map, not, rules, lit<, subst}
+use Rattle.std.specs.Prelude.{codes, is_some, IfSome, IfNone, ◌↔◌}
 use Rattle.std.specs.Option.{option_and_then}
 use Rattle.std.specs.Str.{str_to_ascii_lowercase, IsUtf8, chars}
 use Rattle.std.proofs.lemmas.Str.{IsUtf8-nil}
 use Rattle.std.proofs.lemmas.List.Elements.{All-cons, All-nil}
 use Rattle.std.proofs.lemmas.Bool.{cond_both, cond-false, cases_Bool, and_from, false≢true}
 use Rattle.uri_pct.specs.Tokens.{tokens_from_chars, is_valid_for}
-use Rattle.uri_pct.specs.Sets.{TableSet, is_one_of}
+use Rattle.uri_pct.specs.Sets.{TableSet}
 use Rattle.uri_pct.specs.DecodeUnreserved.{decode_unreserved, decode_run, decode_after_run}
 use Rattle.uri_pct.specs.Pieces.{pieces_from}
 use Rattle.uri_pct.proofs.UnreservedDecoding.Formatting.{ascii_char_separates_encode_formatting}
@@ -17,7 +17,7 @@ use Rattle.uri_pct.proofs.General.{is_some-option_map}
 use Rattle.std.specs.Net.Reader.{read_ipv4, read_octet, read_number}
 use Rattle.uri_parts.specs.Hosts.{host_kind, ipv4_value}
 use Rattle.uri_parts.specs.Components.{Components, IsSplitOf, Lacks, IsAbemptyPath, components, recompose, has_authority, has_scheme, starts}
-use Rattle.uri_parts.specs.Grammar.{Kind, IsTextOf, is_authority, components_meet_rules, has_colon_in_first_segment}
+use Rattle.uri_parts.specs.Grammar.{Kind, IsTextOf, is_authority, has_colon_in_first_segment}
 use Rattle.uri_parts.proofs.Authorities.AuthorityPlaces.{empty_is_authority}
 use Rattle.uri_parts.proofs.Splitting.Recompose.{components-are-split-of-text, components_of_parts}
 use Rattle.uri_parts.proofs.Splitting.Splits.{only-split-is-components}
@@ -26,7 +26,6 @@ use Rattle.uri_ops.specs.Dots.{is_empty}
 use Rattle.uri_ops.specs.Meaning.{authority_meaning, dotless_path, components_meaning, meaning_of}
 use Rattle.uri_ops.specs.Normal.{normal_text}
 use Rattle.uri_ops.specs.Models.RuledComponents.{ruled_authority, ruled_components, ruled_path, ruled_text}
-use Rattle.uri_ops.specs.Target.{dotless_if_absolute}
 use Rattle.uri_pct.proofs.UnreservedDecoding.Printing.{print_decoded}
 use Rattle.uri_ops.proofs.Meanings.AllowedParts.{is_set_text, set-text-from-utf8, validity-splits-at-slash}
 use Rattle.uri_ops.proofs.Meanings.AsciiCharacters.{ascii-bytes-are-utf8}

@@ -15,9 +15,9 @@ ghost use Rattle.uri_ops.specs.Normal.{default_port_of, normal_authority_with_de
 ghost use Rattle.uri_ops.specs.Models.Unchanged.{IsUnchangedPort};
 ghost use Rattle.uri_ops.specs.Models.Written.{authority_parts_at};
 
-use crate::scheme_rules::SchemeRules;
 use crate::normalize::decode_unreserved::{push_decoded_component, push_decoded_host};
 use crate::normalize::literal_runs::push_lower;
+use crate::scheme_rules::SchemeRules;
 use std::alloc::AllocError;
 use uri_parts::address_text::push_ipv6_host;
 use uri_parts::component::{Authority, HostOf, Scheme};

@@ -24,7 +24,6 @@ ghost use Rattle.uri_ops.specs.Target.{guarded};
 ghost use Rattle.uri_ops.specs.Normalizers.{HasNormalText, text_underflows};
 ghost use Rattle.uri_ops.specs.Models.Written.{authority_parts_at};
 
-use crate::scheme_rules::SchemeRules;
 use crate::normalize::decode_unreserved::push_decoded_component;
 use crate::normalize::decoded_paths::push_decoded_path;
 use crate::normalize::literal_runs::push_lower;
@@ -32,6 +31,7 @@ use crate::normalize::normal_authority::push_authority;
 use crate::normalize::normalized::Normalized;
 use crate::normalize::ruled_parts::{has_root_path, ruled_authority, ruled_path};
 use crate::path::slashes::guard_path;
+use crate::scheme_rules::SchemeRules;
 use std::alloc::{AllocError, Global};
 use uri_parts::component::{Authority, Scheme};
 use uri_parts::core_text::Core;

@@ -17,7 +17,6 @@ ghost use Rattle.uri_ops.specs.Normal.{host_text, normal_text};
 ghost use Rattle.uri_ops.specs.Normalizers.{HasNormalText, text_underflows};
 ghost use Rattle.uri_ops.specs.SchemeRules.{meaning_under};
 
-use crate::scheme_rules::SchemeRules;
 use crate::normalize::kept_octets::is_kept;
 use crate::normalize::normal_authority::{is_bracketed, is_port_unchanged};
 use crate::normalize::ruled_parts::{has_default_host, has_root_path, ruled_authority};
@@ -25,6 +24,7 @@ use crate::read_back::are_equal;
 use crate::read_back::literal_back::LiteralBack;
 use crate::read_back::normal_authority::ipv6_host_of;
 use crate::read_back::ruled_back::ruled_back;
+use crate::scheme_rules::SchemeRules;
 use uri_parts::core_text::Core;
 use uri_parts::kind::Kind;
 use uri_pct::encoder::Encoder;

@@ -13,12 +13,12 @@ ghost use Rattle.uri_ops.specs.Normal.{default_port_of, host_text, normal_author
 ghost use Rattle.uri_ops.specs.Normal.{normal_authority_with_delimiter};
 ghost use Rattle.uri_ops.specs.FromEnd.Addresses.{ipv6_host_of, ipv6_host_text};
 
-use crate::scheme_rules::SchemeRules;
 use crate::normalize::normal_authority::{is_bracketed, port_unless_default};
 use crate::read_back::address_text::ipv6_host;
 use crate::read_back::literal_back::LiteralBack;
 use crate::read_back::octets_back::OctetsBack;
 use crate::read_back::{Joined, ReadBack, join};
+use crate::scheme_rules::SchemeRules;
 use uri_parts::component::{Authority, HostOf, Scheme};
 use uri_pct::encoder::Encoder;
 use uri_pct::pct_enc::EStr;
@@ -136,7 +136,7 @@ fn port_back<'a, U: Encoder, R: Encoder, S: SchemeRules>(
 
 /// Returns the authority after its `//`, or nothing if it is absent. `address` is the host's text
 /// if it is an IPv6 address, and else empty.
-pub fn authority_back<'a, U: Encoder, R: Encoder, S: SchemeRules>(
+pub(crate) fn authority_back<'a, U: Encoder, R: Encoder, S: SchemeRules>(
     authority: Option<Authority<'a, U, R>>,
     scheme: Option<Scheme<'_>>,
     rules: &S,

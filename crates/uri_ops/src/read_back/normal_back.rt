@@ -11,11 +11,11 @@ ghost use Rattle.uri_ops.specs.Meaning.{components_meaning};
 ghost use Rattle.uri_ops.specs.Normal.{normal_scheme, normal_text};
 ghost use Rattle.uri_ops.specs.FromEnd.Addresses.{ipv6_host_of};
 
-use crate::scheme_rules::SchemeRules;
 use crate::read_back::literal_back::LiteralBack;
 use crate::read_back::normal_authority::{AuthorityBack, PartBack, authority_back, part_back};
 use crate::read_back::normal_path::{NormalPathBack, normal_path_back};
 use crate::read_back::{Joined, ReadBack, join};
+use crate::scheme_rules::SchemeRules;
 use uri_parts::component::{Authority, Scheme};
 use uri_parts::core_text::Core;
 use uri_parts::kind::Kind;
@@ -46,7 +46,7 @@ fn scheme_back<'a>(scheme: Option<Scheme<'a>>) -> SchemeBack<'a>
 
 /// Returns the normal text of a value with this authority and this path in place of its own.
 /// `address` is the host's normal text if it is an IPv6 address, and else empty.
-pub fn normal_back<'a, K: Kind, S: SchemeRules>(
+pub(crate) fn normal_back<'a, K: Kind, S: SchemeRules>(
     core: Core<K, &'a str>,
     authority: Option<Authority<'a, K::UserinfoE, K::RegNameE>>,
     path: EStr<'a, K::PathE>,
