@@ -1,5 +1,6 @@
-//! The ASCII characters of the rules (RFC 3986, appendix A), as the alternatives of each rule: bit n
-//! of a number is for the character n, and `|` is the `/` of a rule.
+//! The ASCII characters of the rules (RFC 3986, appendix A), each by the alternatives of its rule.
+//!
+//! Bit n of a number is for the character n, and `|` is the `/` of a rule.
 
 pub(super) const ALPHA: u128 = ((1 << 0x5B) - (1 << 0x41)) | ((1 << 0x7B) - (1 << 0x61));
 
