@@ -8,7 +8,8 @@ ghost use Rattle.uri_pct.specs.DecodeUnreserved.{is_decodable};
 ghost use Rattle.uri_pct.specs.Sets.{allows, allows_past_ascii, is_ucschar, is_iprivate, is_one_of};
 ghost use Rattle.uri_pct.specs.Sets.{characters_only, union, difference, IsSubset};
 
-pub(crate) mod characters;
+#[doc(hidden)]
+pub mod characters;
 mod constants;
 pub(crate) mod members;
 

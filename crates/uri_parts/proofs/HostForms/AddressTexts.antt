@@ -5,7 +5,7 @@ use Rattle.std.specs.Char.{digit_char}
 use Rattle.std.specs.Net.Text.{hex}
 
 -- writing IPv6: a hexadecimal digit, or nothing for a leading zero
-abbrev unless_leading : Bool → ℕ → List ℕ
+abbrev pub unless_leading : Bool → ℕ → List ℕ
 unless_leading leading d = cond leading [] (digit_char d ∷ [])
 
 -- writing IPv6: a group is its hexadecimal digits, without leading zeros

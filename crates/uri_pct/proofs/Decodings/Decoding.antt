@@ -165,7 +165,7 @@ unfolding chunks_of_tokens prepend_to_chunks tokens_from_chars chars
 text_before_nothing_is_own_chunk x = refl
 
 -- decoding: the length of the text before the first `%`
-abbrev len_before_percent : List ℕ → ℕ
+abbrev pub len_before_percent : List ℕ → ℕ
 len_before_percent text = position_or_len (λ b. eqb b 37) text
 
 -- decoding: the bytes before the first that fails a test pass it

@@ -80,10 +80,11 @@ path_masks_are_path_set = agreeing_masks_are_set_of_test PATH true is_path_char 
     (λ c h. grind (arith, nat_tests))
 
 -- the table of a segment without `:` is its set (RFC 3986, section 3.3)
-pub segment_nz_nc_masks_are_segment_nz_nc_set : set_of_characters SEGMENT_NZ_NC true false false ≡ segment_nz_nc_set
+pub segment_nz_nc_masks_are_segment_nz_nc_set : set_of_characters SEGMENT_NZ_NC true false false
+    ≡ segment_nz_nc_set
 unfolding has_bit
-segment_nz_nc_masks_are_segment_nz_nc_set = agreeing_masks_are_set_of_test SEGMENT_NZ_NC true is_segment_nz_nc_char refl
-    (λ c h. grind (arith, nat_tests))
+segment_nz_nc_masks_are_segment_nz_nc_set = agreeing_masks_are_set_of_test SEGMENT_NZ_NC true
+    is_segment_nz_nc_char refl (λ c h. grind (arith, nat_tests))
 
 -- the table of a segment is its set (RFC 3986, section 3.3)
 pub pchar_masks_are_pchar_set : set_of_characters PCHAR true false false ≡ pchar_set
@@ -151,9 +152,10 @@ ipath_masks_are_ipath_set = masks_with_flags_are_set_with_flags PATH path_set tr
     path_masks_are_path_set
 
 -- the table of an IRI's segment without `:` is its set (RFC 3987, section 2.2)
-pub isegment_nz_nc_masks_are_isegment_nz_nc_set : set_of_characters SEGMENT_NZ_NC true true false ≡ isegment_nz_nc_set
-isegment_nz_nc_masks_are_isegment_nz_nc_set = masks_with_flags_are_set_with_flags SEGMENT_NZ_NC segment_nz_nc_set true false
-    segment_nz_nc_masks_are_segment_nz_nc_set
+pub isegment_nz_nc_masks_are_isegment_nz_nc_set : set_of_characters SEGMENT_NZ_NC true true false
+    ≡ isegment_nz_nc_set
+isegment_nz_nc_masks_are_isegment_nz_nc_set = masks_with_flags_are_set_with_flags SEGMENT_NZ_NC
+    segment_nz_nc_set true false segment_nz_nc_masks_are_segment_nz_nc_set
 
 -- the table of an IRI's query is its set (RFC 3987, section 2.2)
 pub iquery_masks_are_iquery_set : set_of_characters QUERY true true true ≡ iquery_set
