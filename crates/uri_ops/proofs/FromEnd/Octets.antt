@@ -5,10 +5,7 @@ use Rattle.std.proofs.lemmas.Bool.Decides.{nat_tests}
 use Rattle.std.proofs.lemmas.Fmt.{decimal_digit, decimal_step}
 use Rattle.std.specs.Char.{digit_char}
 use Rattle.std.specs.Fmt.{decimal}
-
--- a digit, or nothing for a leading zero
-abbrev unless_leading : Bool → ℕ → List ℕ
-unless_leading leading d = cond leading [] (digit_char d ∷ [])
+use Rattle.uri_parts.proofs.HostForms.AddressTexts.{unless_leading}
 
 -- a number below 1000 is its decimal digits, without leading zeros
 pub decimal_has_no_leading_zeros : (n : ℕ) → n < 1000 → decimal n

@@ -14,7 +14,7 @@ use Rattle.uri_pct.specs.DecodeUnreserved.{LacksPastAscii, decode_octet, decode_
 use Rattle.uri_pct.specs.Sets.{TableSet}
 use Rattle.uri_pct.specs.Texts.{lacks}
 use Rattle.uri_pct.specs.Tokens.{Char, Octet, tokens, tokens_from_chars, print, is_valid_for, IsValidFor}
-use Rattle.uri_pct.proofs.Decodings.Decoding.{bytes_from_percent_begin_with_octet, boundary_after_octet, tokens_after_unencoded_prefix, first_percent_is_at_boundary, prefix_len_bytes_pass}
+use Rattle.uri_pct.proofs.Decodings.Decoding.{len_before_percent, bytes_from_percent_begin_with_octet, boundary_after_octet, tokens_after_unencoded_prefix, first_percent_is_at_boundary, prefix_len_bytes_pass}
 use Rattle.uri_pct.proofs.Unicode.Pieces.{take_then_take_is_take_of_sum}
 use Rattle.uri_ops.specs.Models.Decodings.{IsOctetAt, KeepsPrefixWhenDecoded, cased_append, lowered_if, lowered_text_if, decoded_text}
 use Rattle.uri_ops.proofs.Meanings.Cased.{print-lowers-characters}
@@ -43,10 +43,6 @@ unfolding is_valid_for
 text-after-literal-prefix-is-valid prefix back u e v =
     grind (arith, nat_tests, list_all-append, tokens_after_unencoded_prefix)
 
--- meanings, decoded: where the first `%` of a text is, or its length
-abbrev first_percent : List ℕ → ℕ
-first_percent text = position_or_len (λ b. eqb b 37) text
-
 -- meanings, decoded: the first n bytes of a text are copied, and the rest is valid
 pub record LiteralPrefix (text : List ℕ) (n : ℕ) : Type 0 where
   pub boundary : IsCharBoundary text n
@@ -56,7 +52,7 @@ pub record LiteralPrefix (text : List ℕ) (n : ℕ) : Type 0 where
 -- meanings, decoded: the n bytes before the first `%` of a text are decoded as characters alone
 pub text-before-percent-is-literal-prefix : (text : List ℕ) (n : ℕ) → IsUtf8 text
     → IsValidFor widest_set text
-    → n ≡ first_percent text → LiteralPrefix text n
+    → n ≡ len_before_percent text → LiteralPrefix text n
 text-before-percent-is-literal-prefix text n u v e =
     let boundary : IsCharBoundary text n =
     subst (IsCharBoundary text) (sym e) (first_percent_is_at_boundary text) in
