@@ -16,16 +16,17 @@ use crate::buffer::{make_room, place_run};
 use crate::octets::{place_octet, place_octets};
 use std::alloc::AllocError;
 use uri_pct::lanes::{LANES, chars_end, run_end};
-use uri_pct::table::Table;
+use uri_pct::table::{Table, characters};
 use uri_pct::utf8::char_at;
 
-/// `%` and the ASCII characters that no path, query or fragment may have, but for the delimiters:
-/// control characters, the space, and `"<>[\]^`, the grave accent and `{|}`. These are the codes
-/// below 64, as bits.
-const NEVER_LOW: u64 = 0x5000_0025_FFFF_FFFF;
+/// `%` and the ASCII characters that no path, query or fragment may have, but for the `#`.
+const NEVER: u128 = !(characters::PATH | characters::QUERY | characters::FRAGMENT | 1 << b'#');
 
-/// The same characters from the code 64 on, as bits.
-const NEVER_HIGH: u64 = 0xB800_0001_7800_0000;
+/// The word of `NEVER` for the characters below 64.
+const NEVER_LOW: u64 = (NEVER & 0xFFFF_FFFF_FFFF_FFFF) as u64;
+
+/// The word of `NEVER` for the characters from 64 on.
+const NEVER_HIGH: u64 = (NEVER >> 64) as u64;
 
 /// How far a text was mended, and how much of this was written.
 #[derive(Clone, Copy)]

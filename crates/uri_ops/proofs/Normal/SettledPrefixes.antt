@@ -19,6 +19,7 @@ use Rattle.uri_parts.specs.Authority.{authority_parts, recompose_authority}
 use Rattle.uri_parts.specs.Components.{Components, marked, starts}
 use Rattle.uri_parts.specs.PackedPositions.{packed}
 use Rattle.uri_parts.specs.Positions.{authority_at, delimited_length, host_end_of, positions_of}
+use Rattle.uri_ops.specs.declared.normalize.unchanged.TheConstants.{SETTLED_HIGH, SETTLED_LOW}
 use Rattle.uri_ops.specs.Models.Unchanged.{IsUnchangedHost, is_literal_byte, is_settled_byte}
 use Rattle.uri_ops.specs.Normal.{normal_scheme}
 use Rattle.uri_ops.proofs.Normal.WrittenPlaces.{length-with-delimiter-after}
@@ -28,21 +29,19 @@ abbrev pub all_settled : List ℕ → Bool
 all_settled text = list_all is_settled_byte text
 
 -- settled bytes: the set of the two masks has the settled bytes of ASCII
-settled-masks-have-settled-bytes : (b : ℕ)
-    → has_bit 0xFFFFFFDFFFFFFFFF 0xFFFFFFFFF0000001 b ≡ true → is_settled_byte b ≡ true
+settled-masks-have-settled-bytes : (b : ℕ) → has_bit SETTLED_LOW SETTLED_HIGH b ≡ true
+    → is_settled_byte b ≡ true
 unfolding has_bit
 settled-masks-have-settled-bytes b e =
-    let low : ℕ = 0xFFFFFFDFFFFFFFFF in
-    let high : ℕ = 0xFFFFFFFFF0000001 in
-    let agrees : (not (has_bit low high b) || is_settled_byte b) ≡ true =
-    agree_below_at (λ c. not (has_bit low high c) || is_settled_byte c) (λ _. true) 128 b refl
-    (has_bit-only-ascii low high b e) in
+    let agrees : (not (has_bit SETTLED_LOW SETTLED_HIGH b) || is_settled_byte b) ≡ true =
+    agree_below_at (λ c. not (has_bit SETTLED_LOW SETTLED_HIGH c) || is_settled_byte c) (λ _. true)
+    128 b refl (has_bit-only-ascii SETTLED_LOW SETTLED_HIGH b e) in
     sym (ap (λ x. not x || is_settled_byte b) e) ∙ agrees
 
 -- settled bytes: a run of bytes of the set, in a window of a text, is a settled prefix
 pub run-of-settled-bytes-is-settled-prefix : (bytes window : List ℕ) (limit end last : ℕ)
     → window ≡ take limit bytes → end ≤ limit → end ≤ length bytes
-    → IsLongestRun (has_bit 0xFFFFFFDFFFFFFFFF 0xFFFFFFFFF0000001) window 0 last → end ≤ last
+    → IsLongestRun (has_bit SETTLED_LOW SETTLED_HIGH) window 0 last → end ≤ last
     → all_settled (take end bytes) ≡ true
 run-of-settled-bytes-is-settled-prefix bytes window limit end last same within inside run over =
     let prefix = take end bytes in
@@ -52,30 +51,28 @@ run-of-settled-bytes-is-settled-prefix bytes window limit end last same within i
     (All-from_get_or (λ b. is_settled_byte b ≡ true) prefix 0 (λ k h.
     let before : k < end = omega (arith, h, long) in
     settled-masks-have-settled-bytes (get_or prefix k 0)
-    (ap (λ x. has_bit 0xFFFFFFDFFFFFFFFF 0xFFFFFFFFF0000001 (get_or x k 0)) (sym whole)
-    ∙ ap (has_bit 0xFFFFFFDFFFFFFFFF 0xFFFFFFFFF0000001) (get_or-take end window k 0 before)
+    (ap (λ x. has_bit SETTLED_LOW SETTLED_HIGH (get_or x k 0)) (sym whole)
+    ∙ ap (has_bit SETTLED_LOW SETTLED_HIGH) (get_or-take end window k 0 before)
     ∙ run.pass k (omega arith) (omega (arith, before, over)))))
 
 -- settled bytes: the bytes of the two masks begin neither octets nor formatting characters
-settled-masks-have-literal-bytes : (b : ℕ)
-    → has_bit 0xFFFFFFDFFFFFFFFF 0xFFFFFFFFF0000001 b ≡ true → is_literal_byte b ≡ true
+settled-masks-have-literal-bytes : (b : ℕ) → has_bit SETTLED_LOW SETTLED_HIGH b ≡ true
+    → is_literal_byte b ≡ true
 unfolding has_bit
 settled-masks-have-literal-bytes b e =
-    let low : ℕ = 0xFFFFFFDFFFFFFFFF in
-    let high : ℕ = 0xFFFFFFFFF0000001 in
-    let agrees : (not (has_bit low high b) || is_literal_byte b) ≡ true =
-    agree_below_at (λ c. not (has_bit low high c) || is_literal_byte c) (λ _. true) 128 b refl
-    (has_bit-only-ascii low high b e) in
+    let agrees : (not (has_bit SETTLED_LOW SETTLED_HIGH b) || is_literal_byte b) ≡ true =
+    agree_below_at (λ c. not (has_bit SETTLED_LOW SETTLED_HIGH c) || is_literal_byte c) (λ _. true)
+    128 b refl (has_bit-only-ascii SETTLED_LOW SETTLED_HIGH b e) in
     sym (ap (λ x. not x || is_literal_byte b) e) ∙ agrees
 
 -- settled bytes: nor do those of a run of the set, in a window of a text
 pub run-of-settled-bytes-is-literal : (bytes window : List ℕ) (limit end last : ℕ)
     → window ≡ take limit bytes → end ≤ limit
-    → IsLongestRun (has_bit 0xFFFFFFDFFFFFFFFF 0xFFFFFFFFF0000001) window 0 last → end ≤ last
+    → IsLongestRun (has_bit SETTLED_LOW SETTLED_HIGH) window 0 last → end ≤ last
     → (k : ℕ) → k < end → is_literal_byte (get_or bytes k 0) ≡ true
 run-of-settled-bytes-is-literal bytes window limit end last same within run over k h =
     settled-masks-have-literal-bytes (get_or bytes k 0)
-    (ap (has_bit 0xFFFFFFDFFFFFFFFF 0xFFFFFFFFF0000001)
+    (ap (has_bit SETTLED_LOW SETTLED_HIGH)
     (sym (ap (λ w. get_or w k 0) same ∙ get_or-take limit bytes k 0 (omega (arith, h, within))))
     ∙ run.pass k (omega arith) (omega (arith, h, over)))
 

@@ -8,6 +8,7 @@ ghost use Rattle.uri_ops.specs.Models.Unchanged.{is_dot_kept_at, is_kept_octet, 
 ghost use Rattle.uri_ops.specs.Models.Unchanged.{stays_at};
 
 use uri_pct::lanes::{LANES, lanes_equal_to};
+use uri_pct::table::characters;
 
 /// Returns at which of the sixteen bytes from `at` on an octet or a formatting character may begin,
 /// or a dot is after a `/`.
@@ -75,47 +76,63 @@ fn literal_end(bytes: &[u8], start: usize) -> Option<usize>
     Some(i + mask.trailing_zeros() as usize)
 }
 
-/// The class of each digit that begins an octet which normalising may leave, and 0 for each other
-/// byte. Digits of a class go with the same second digits. That of octets past ASCII is 64.
-const FIRST_DIGITS: &[u8; 256] = &[
-    0, 0, 0, 0, 0, 0, 0, 0, 0, 0, 0, 0, 0, 0, 0, 0, // 00
-    0, 0, 0, 0, 0, 0, 0, 0, 0, 0, 0, 0, 0, 0, 0, 0, // 10
-    0, 0, 0, 0, 0, 0, 0, 0, 0, 0, 0, 0, 0, 0, 0, 0, // 20
-    1, 1, 2, 4, 8, 16, 8, 32, 64, 64, 0, 0, 0, 0, 0, 0, // 30
-    0, 64, 64, 64, 64, 64, 64, 0, 0, 0, 0, 0, 0, 0, 0, 0, // 40
-    0, 0, 0, 0, 0, 0, 0, 0, 0, 0, 0, 0, 0, 0, 0, 0, // 50
-    0, 0, 0, 0, 0, 0, 0, 0, 0, 0, 0, 0, 0, 0, 0, 0, // 60
-    0, 0, 0, 0, 0, 0, 0, 0, 0, 0, 0, 0, 0, 0, 0, 0, // 70
-    0, 0, 0, 0, 0, 0, 0, 0, 0, 0, 0, 0, 0, 0, 0, 0, // 80
-    0, 0, 0, 0, 0, 0, 0, 0, 0, 0, 0, 0, 0, 0, 0, 0, // 90
-    0, 0, 0, 0, 0, 0, 0, 0, 0, 0, 0, 0, 0, 0, 0, 0, // A0
-    0, 0, 0, 0, 0, 0, 0, 0, 0, 0, 0, 0, 0, 0, 0, 0, // B0
-    0, 0, 0, 0, 0, 0, 0, 0, 0, 0, 0, 0, 0, 0, 0, 0, // C0
-    0, 0, 0, 0, 0, 0, 0, 0, 0, 0, 0, 0, 0, 0, 0, 0, // D0
-    0, 0, 0, 0, 0, 0, 0, 0, 0, 0, 0, 0, 0, 0, 0, 0, // E0
-    0, 0, 0, 0, 0, 0, 0, 0, 0, 0, 0, 0, 0, 0, 0, 0, // F0
-];
+/// Gives the table of the numbers of the digits from `0` to `9` and from `A` to `F`, and of 0 for
+/// each other byte.
+macro_rules! by_digit {
+    ($($decimal:expr),+; $($letter:expr),+) => {
+        &[
+            0, 0, 0, 0, 0, 0, 0, 0, 0, 0, 0, 0, 0, 0, 0, 0, // 00
+            0, 0, 0, 0, 0, 0, 0, 0, 0, 0, 0, 0, 0, 0, 0, 0, // 10
+            0, 0, 0, 0, 0, 0, 0, 0, 0, 0, 0, 0, 0, 0, 0, 0, // 20
+            $($decimal,)+ 0, 0, 0, 0, 0, 0, // 30
+            0, $($letter,)+ 0, 0, 0, 0, 0, 0, 0, 0, 0, // 40
+            0, 0, 0, 0, 0, 0, 0, 0, 0, 0, 0, 0, 0, 0, 0, 0, // 50
+            0, 0, 0, 0, 0, 0, 0, 0, 0, 0, 0, 0, 0, 0, 0, 0, // 60
+            0, 0, 0, 0, 0, 0, 0, 0, 0, 0, 0, 0, 0, 0, 0, 0, // 70
+            0, 0, 0, 0, 0, 0, 0, 0, 0, 0, 0, 0, 0, 0, 0, 0, // 80
+            0, 0, 0, 0, 0, 0, 0, 0, 0, 0, 0, 0, 0, 0, 0, 0, // 90
+            0, 0, 0, 0, 0, 0, 0, 0, 0, 0, 0, 0, 0, 0, 0, 0, // A0
+            0, 0, 0, 0, 0, 0, 0, 0, 0, 0, 0, 0, 0, 0, 0, 0, // B0
+            0, 0, 0, 0, 0, 0, 0, 0, 0, 0, 0, 0, 0, 0, 0, 0, // C0
+            0, 0, 0, 0, 0, 0, 0, 0, 0, 0, 0, 0, 0, 0, 0, 0, // D0
+            0, 0, 0, 0, 0, 0, 0, 0, 0, 0, 0, 0, 0, 0, 0, 0, // E0
+            0, 0, 0, 0, 0, 0, 0, 0, 0, 0, 0, 0, 0, 0, 0, 0, // F0
+        ]
+    };
+}
+
+/// The class of each digit that begins an octet, and 0 for each other byte. Digits of a class go
+/// with the same second digits: `0` and `1`, with which no octet of an unreserved character begins,
+/// and those that begin an octet past ASCII, whose class is 128.
+const FIRST_DIGITS: &[u8; 256] =
+    by_digit!(1, 1, 2, 4, 8, 16, 32, 64, 128, 128; 128, 128, 128, 128, 128, 128);
+
+/// The ASCII characters whose octets normalising leaves: those that are not unreserved.
+const KEPT: u128 = !characters::UNRESERVED;
+
+/// Gives the classes of the first digits with which a digit ends an octet that normalising leaves.
+/// An octet past ASCII stays with any.
+macro_rules! classes_with {
+    ($digit:literal) => {
+        ((KEPT >> $digit & KEPT >> 16 + $digit & 1)
+            | (KEPT >> 32 + $digit & 1) << 1
+            | (KEPT >> 48 + $digit & 1) << 2
+            | (KEPT >> 64 + $digit & 1) << 3
+            | (KEPT >> 80 + $digit & 1) << 4
+            | (KEPT >> 96 + $digit & 1) << 5
+            | (KEPT >> 112 + $digit & 1) << 6
+            | 1 << 7) as u8
+    };
+}
 
 /// The classes of the first digits with which each digit ends an octet that normalising leaves, and
 /// 0 for each other byte.
-const SECOND_DIGITS: &[u8; 256] = &[
-    0, 0, 0, 0, 0, 0, 0, 0, 0, 0, 0, 0, 0, 0, 0, 0, // 00
-    0, 0, 0, 0, 0, 0, 0, 0, 0, 0, 0, 0, 0, 0, 0, 0, // 10
-    0, 0, 0, 0, 0, 0, 0, 0, 0, 0, 0, 0, 0, 0, 0, 0, // 20
-    75, 67, 67, 67, 67, 67, 67, 67, 67, 67, 0, 0, 0, 0, 0, 0, // 30
-    0, 71, 119, 119, 117, 85, 103, 0, 0, 0, 0, 0, 0, 0, 0, 0, // 40
-    0, 0, 0, 0, 0, 0, 0, 0, 0, 0, 0, 0, 0, 0, 0, 0, // 50
-    0, 0, 0, 0, 0, 0, 0, 0, 0, 0, 0, 0, 0, 0, 0, 0, // 60
-    0, 0, 0, 0, 0, 0, 0, 0, 0, 0, 0, 0, 0, 0, 0, 0, // 70
-    0, 0, 0, 0, 0, 0, 0, 0, 0, 0, 0, 0, 0, 0, 0, 0, // 80
-    0, 0, 0, 0, 0, 0, 0, 0, 0, 0, 0, 0, 0, 0, 0, 0, // 90
-    0, 0, 0, 0, 0, 0, 0, 0, 0, 0, 0, 0, 0, 0, 0, 0, // A0
-    0, 0, 0, 0, 0, 0, 0, 0, 0, 0, 0, 0, 0, 0, 0, 0, // B0
-    0, 0, 0, 0, 0, 0, 0, 0, 0, 0, 0, 0, 0, 0, 0, 0, // C0
-    0, 0, 0, 0, 0, 0, 0, 0, 0, 0, 0, 0, 0, 0, 0, 0, // D0
-    0, 0, 0, 0, 0, 0, 0, 0, 0, 0, 0, 0, 0, 0, 0, 0, // E0
-    0, 0, 0, 0, 0, 0, 0, 0, 0, 0, 0, 0, 0, 0, 0, 0, // F0
-];
+const SECOND_DIGITS: &[u8; 256] = by_digit!(
+    classes_with!(0), classes_with!(1), classes_with!(2), classes_with!(3), classes_with!(4),
+    classes_with!(5), classes_with!(6), classes_with!(7), classes_with!(8), classes_with!(9);
+    classes_with!(10), classes_with!(11), classes_with!(12), classes_with!(13), classes_with!(14),
+    classes_with!(15)
+);
 
 /// Returns whether normalising leaves the octet with these digits: they are in upper case, and it
 /// is not decoded. An octet past ASCII stays if no component may have characters past ASCII
@@ -124,7 +141,7 @@ const SECOND_DIGITS: &[u8; 256] = &[
 fn are_digits_kept(alone: bool, high: u8, low: u8) -> bool
     ensures { result ≡ true → is_kept_octet alone high low ≡ true }
 {
-    let classes: u8 = if alone { 127 } else { 63 };
+    let classes: u8 = if alone { 255 } else { 127 };
     FIRST_DIGITS[usize::from(high)] & SECOND_DIGITS[usize::from(low)] & classes != 0
 }
 

@@ -95,11 +95,14 @@ fn is_address_unchanged(host: &str) -> bool
     colons <= 6
 }
 
-/// The ASCII characters below 64 but `%`, as a mask.
-const SETTLED_BELOW_64: u64 = 0xFFFF_FFDF_FFFF_FFFF;
+/// The ASCII characters but `%`, `[` and the letters in upper case.
+const SETTLED: u128 = !(1 << b'%' | 1 << b'[' | ((1 << 0x5B) - (1 << 0x41)));
 
-/// The ASCII characters from 64 on but `[` and letters in upper case, as a mask.
-const SETTLED_FROM_64: u64 = 0xFFFF_FFFF_F000_0001;
+/// The word of `SETTLED` for the characters below 64.
+const SETTLED_LOW: u64 = (SETTLED & 0xFFFF_FFFF_FFFF_FFFF) as u64;
+
+/// The word of `SETTLED` for the characters from 64 on.
+const SETTLED_HIGH: u64 = (SETTLED >> 64) as u64;
 
 /// Returns `true` only if each of the first bytes of a text, up to `end`, is settled: it is neither
 /// a letter in upper case nor a `%` nor a `[`. It returns `false` for a text that is shorter than a
@@ -115,7 +118,7 @@ fn is_prefix_settled(bytes: &[u8], end: usize) -> bool
         return false;
     }
     let window = &bytes[..end.max(LANES)];
-    end <= run_end(SETTLED_BELOW_64, SETTLED_FROM_64, window, 0)
+    end <= run_end(SETTLED_LOW, SETTLED_HIGH, window, 0)
 }
 
 /// Returns the length of a prefix of the text in which normalising leaves each octet and each

@@ -17,7 +17,7 @@ second low = get_or SECOND_DIGITS.now low 0
 -- octets that stay: the test of the tables
 abbrev passes : Bool → ℕ → ℕ → Bool
 passes alone high low =
-    not (eqb (bit_and (bit_and (first high) (second low)) (cond alone 127 63)) 0)
+    not (eqb (bit_and (bit_and (first high) (second low)) (cond alone 255 127)) 0)
 
 -- octets that stay: what passes the test stays
 abbrev is_sound : Bool → ℕ → ℕ → Bool
@@ -38,7 +38,7 @@ test-is-sound : (alone : Bool) (high low : ℕ) → high < 256 → low < 256
 test-is-sound alone high low small below = ⊎_elim
     (λ none.
     let s = second low in
-    let k : ℕ = cond alone 127 63 in
+    let k : ℕ = cond alone 255 127 in
     let kept = is_kept_octet alone high low in
     ap (λ n. not (not (eqb (bit_and (bit_and n s) k) 0)) || kept) (eqb-true _ _ none)
     ∙ ap (λ n. not (not (eqb (bit_and n k) 0)) || kept) (and_zero_l s)
@@ -59,9 +59,9 @@ returns c = λ e.
     let high = c.args.high in
     let low = c.args.low in
     let k : ℕ = c.if-alone.classes in
-    let classes : k ≡ cond c.args.alone 127 63 = elim c.if-alone.branch [
-      | then-alone w ↦ w.classes-is ∙ sym (cond-true c.args.alone 127 63 w.if-alone.true)
-      | else-alone w ↦ w.classes-is ∙ sym (cond-false c.args.alone 127 63 w.if-alone.false)
+    let classes : k ≡ cond c.args.alone 255 127 = elim c.if-alone.branch [
+      | then-alone w ↦ w.classes-is ∙ sym (cond-true c.args.alone 255 127 w.if-alone.true)
+      | else-alone w ↦ w.classes-is ∙ sym (cond-false c.args.alone 255 127 w.if-alone.false)
     ] in
     digits-that-pass-stay c.args.alone high low (omega arith) (omega arith)
     (ap (λ n. not (eqb (bit_and (bit_and (first high) (second low)) n) 0)) (sym classes)
