@@ -21,7 +21,7 @@ export LIBRARY
     "$work/fuzz_rows" 100000 1 | cut -f 4,6 > "$work/forms"
     grep '^    ("' "$root/crates/uri_parts/src/default_ports.rt" >> "$work/forms"
     rules=$(sed -n '/^rooted_schemes =/,/^$/p; /^local_schemes =/,/^$/p' \
-        "$root/crates/uri_rules/specs/Standard.antt" | sha256sum)
+        "$root/crates/uri_ops/specs/StandardRules.antt" | sha256sum)
     version=$(sed -n 's/^#define FLUENT_URI_NORMAL_VERSION //p' "$root/c/include/fluent_uri.h")
     now="$version $(sha256sum < "$work/forms" | cut -d ' ' -f 1) ${rules%% *}"
     [ "$now" = "$(cat "$root/databases/forms")" ] ||

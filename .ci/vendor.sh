@@ -22,7 +22,7 @@ same() {
 
 echo 'fn main() {}' > "$own/crates/app/src/main.rt"
 echo 'app: fluent_uri uri_relative' > "$own/crates.txt"
-copied='uri_pct uri_parts uri_ops error_laws fluent_uri uri_relative uri_mend uri_rules uri_setting'
+copied='uri_pct uri_parts uri_ops error_laws fluent_uri uri_relative uri_mend'
 copied="$copied uri_basic uri_order uri_query uri_idna uri_links"
 there="is in $own/crates, and its lines are in crates.txt:"
 mark=', copied by tools/vendor of its repository.'

@@ -25,7 +25,6 @@ CRATES = [
     "fluent_uri",
     "uri_relative",
     "uri_mend",
-    "uri_rules",
     "uri_order",
     "uri_basic",
     "uri_query",

@@ -29,7 +29,7 @@ TASKS = {
              " Reference::borrow Reference::into_string Reference::to_owned fluent_uri::kind",
     "Take apart": "Reference::scheme Reference::authority Reference::path Reference::query"
                   " Reference::fragment Reference::has_* fluent_uri::component fluent_uri::net",
-    "Normalise": "Reference::normalize fluent_uri::normalize uri_rules uri_setting",
+    "Normalise": "Reference::normalize fluent_uri::normalize",
     "Compare, and hash": "uri_order",
     "Resolve": "Reference::resolve_against fluent_uri::resolve uri_basic uri_relative",
     "Mend links": "uri_mend",

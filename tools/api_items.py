@@ -8,8 +8,7 @@ ROOT = pathlib.Path(__file__).resolve().parent.parent
 LIBRARIES = ("uri_pct", "uri_parts", "uri_ops", "error_laws", "fluent_uri")
 # The other crates that callers name, which have their own items alone.
 BESIDE = (
-    "uri_relative", "uri_mend", "uri_rules", "uri_setting", "uri_basic", "uri_order",
-    "uri_query", "uri_idna", "uri_links",
+    "uri_relative", "uri_mend", "uri_basic", "uri_order", "uri_query", "uri_idna", "uri_links",
 )
 ITEM = re.compile(
     r"(?P<vis>pub )?(?:final )?(?:const )?(?P<what>fn|struct|enum|trait|type|const|static) "

@@ -17,11 +17,11 @@ ROUNDS = "500"
 FEATURES = ["--features", "std,net"]
 # Its last assertion decodes formatting characters of bidirectional text (docs/RUST.md).
 DIFFERENT_TEST = "uri_to_iri"
-# What this crate alone has: modules, calls that return an error where memory is denied, texts that
-# are mended, and its errors as the original's.
+# What this crate alone has: modules, calls that return an error where memory is denied, those that
+# take or apply rules of schemes, texts that are mended, and its errors as the original's.
 FURTHER = re.compile(
     r"\w+ ::(basic|fallible|mend|order|query|relativize|rules)\b"
-    r"|fn \S+::try_\w+ "
+    r"|fn \S+::(try_\w+|scheme_rules_with|resolve_normalized) "
     r'|impl ::\w+ \{"trait": \{"args": null, "path": "Mend"\}'
     r'|impl ::(build::Build|resolve::Resolve)Error \{.*"path": "From"\}'
 )

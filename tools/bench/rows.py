@@ -281,7 +281,7 @@ def alone():
             [[Row(label, it, text) for it in works.values()] for label, text in mended.items()],
         ),
         "Rules of schemes": (
-            ["`normalize`", "setting, rules off", "rules on"],
+            ["`normalize`", "`RuleSet::DefaultPorts`", "`RuleSet::StandardRules`"],
             [[Row(label, it, texts) for it in (NORMALIZE_URI, WITHOUT_RULES, WITH_RULES)]
              for label, texts in ruled.items()],
         ),

@@ -1,17 +1,15 @@
 //! A register of links, which a failed allocation leaves as it was.
 use crate::requests::{end, report};
 use crate::values::is_text;
-use fluent_uri::normalize::Normalizer;
+use fluent_uri::normalize::{Normalizer, SchemeRules, StandardRules};
 use fluent_uri::{Uri, UriRef};
 use std::alloc::AllocError;
 use std::process::Abort;
 use test_support::equal;
 use uri_links::links::{Outcome, Register};
-use uri_links::targets::TargetNormalizer;
-use uri_rules::SchemeNormalizer;
 
 /// Checks in a test of denied memory that the register of links has these targets.
-fn has_targets<R: Abort, N: TargetNormalizer>(rt: &R, register: &Register<N>, targets: &[&str]) {
+fn has_targets<R: Abort, S: SchemeRules>(rt: &R, register: &Register<S>, targets: &[&str]) {
     equal(register.len(), targets.len()).expect(rt, "how many targets");
     for (id, &wanted) in targets.iter().enumerate() {
         let target = register.target(id).expect(rt, wanted);
@@ -31,9 +29,9 @@ fn reference<'a, R: Abort>(rt: &R, text: &'a str) -> UriRef<&'a str> {
 
 /// Notes a link in a register, and checks the outcome. If memory is denied, the register still has
 /// the targets `held`, and notes the link again.
-fn notes<R: Abort + Print, N: TargetNormalizer>(
+fn notes<R: Abort + Print, S: SchemeRules>(
     rt: &R,
-    register: &mut Register<N>,
+    register: &mut Register<S>,
     text: &str,
     held: &[&str],
     wanted: Outcome,
@@ -83,7 +81,8 @@ fn second_link(rt: HostRuntime) {
 /// Tests a register by the rules of schemes that notes links while memory is denied.
 #[test]
 fn links_by_rules(rt: HostRuntime) {
-    let mut register = Register::new(rt.alloc(), SchemeNormalizer::new());
+    let normalizer = Normalizer::new().scheme_rules_with(StandardRules);
+    let mut register = Register::new(rt.alloc(), normalizer);
     notes(&rt, &mut register, "http://a", &[], Outcome::New(0));
     notes(
         &rt,

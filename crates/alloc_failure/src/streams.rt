@@ -5,6 +5,7 @@ use crate::awaits::ExpectedOutput;
 use crate::requests::{end, report};
 use crate::values::holds;
 use fluent_uri::Uri;
+use fluent_uri::normalize::RuleSet;
 use std::alloc::Global;
 use std::hash::RandomState;
 use std::io::BufReader;
@@ -75,7 +76,7 @@ fn written_by<R: Abort + Print>(rt: &R, alloc: Global, job: &Job<'_>, input: &st
 /// Tests `urilines normalize` while memory is denied.
 #[test]
 fn normalized_lines(rt: HostRuntime) {
-    let command = Command::Each(LineCommand::Normalize(KindName::Uri, false));
+    let command = Command::Each(LineCommand::Normalize(KindName::Uri, RuleSet::DefaultPorts));
     // The third line does not fit into the buffer.
     let input = "a S:%7e b\n\nc s:0123456789012345 d\n";
     let text = "a s:~ b\nerror: no field 2\nc s:0123456789012345 d\n";
@@ -134,7 +135,10 @@ fn mended_lines(rt: HostRuntime) {
 /// ends.
 #[test]
 fn lines_mended_first(rt: HostRuntime) {
-    let mut job = on_fields(Command::Each(LineCommand::Normalize(KindName::Uri, false)));
+    let mut job = on_fields(Command::Each(LineCommand::Normalize(
+        KindName::Uri,
+        RuleSet::DefaultPorts,
+    )));
     job.is_mended = true;
     job.is_null = true;
     written_by(&rt, rt.alloc(), &job, "a S:b\n|c\0", "a s:b%7Cc\0");
@@ -144,7 +148,7 @@ fn lines_mended_first(rt: HostRuntime) {
 #[test]
 fn unique_lines(rt: HostRuntime) {
     let hasher = RandomState::new(&rt).expect(&rt, "random numbers");
-    let command = Command::Unique(KindName::Uri, false, hasher);
+    let command = Command::Unique(KindName::Uri, RuleSet::DefaultPorts, hasher);
     written(
         &rt,
         rt.alloc(),
@@ -162,7 +166,7 @@ fn noted_lines(rt: HostRuntime) {
     written(
         &rt,
         rt.alloc(),
-        Command::Links(base, false),
+        Command::Links(base, RuleSet::DefaultPorts),
         "a b\na %62\n",
         text,
     );

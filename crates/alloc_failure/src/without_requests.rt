@@ -4,7 +4,7 @@ use crate::requests::{end, tried};
 use crate::values::{encoded, holds, is_text, parsed};
 use fluent_uri::component::{Authority, HostOf, Scheme};
 use fluent_uri::net::{IpAddr, Ipv4Addr, Ipv6Addr};
-use fluent_uri::normalize::{DefaultPort, Normalizer, SchemeDefaults};
+use fluent_uri::normalize::{DefaultPorts, Normalizer, SchemeRules, StandardRules};
 use fluent_uri::pct_enc::encoder::{Encoder, Path, Query};
 use fluent_uri::pct_enc::{EStr, EString, Table, table};
 use fluent_uri::resolve::Resolver;
@@ -138,9 +138,20 @@ fn setters(rt: HostRuntime) {
     let _ = resolver;
     let normalizer = Normalizer::new()
         .allow_path_underflow(false)
-        .default_port_with(SchemeDefaults);
+        .scheme_rules_with(StandardRules)
+        .default_port_with(DefaultPorts);
     let _ = normalizer;
     let scheme = Scheme::new("http").expect(&rt, "a scheme");
-    equal(SchemeDefaults.default_port(scheme), Some(80)).expect(&rt, "a port");
+    equal(DefaultPorts.default_port(scheme), Some(80)).expect(&rt, "a port");
+    holds(
+        &rt,
+        StandardRules.empty_path_is_root(scheme),
+        "an empty path",
+    );
+    holds(
+        &rt,
+        !StandardRules.default_host_is_localhost(scheme),
+        "a default host",
+    );
     end(&rt, rt.alloc());
 }

@@ -2,9 +2,8 @@
 use Rattle.std.specs.Prelude.{ℕ, Bool, List}
 use Rattle.std.specs.BTreeSet.{contains_text}
 use Rattle.fluent_uri.specs.Grammar.{uri}
-use Rattle.fluent_uri.specs.Meaning.{meaning_of}
 use Rattle.fluent_uri.specs.Normal.{normal_text}
-use Rattle.fluent_uri.specs.SchemePorts.{default_port}
+use Rattle.fluent_uri.specs.SchemeRules.{default_rules, meaning_under}
 use Rattle.cookbook.specs.declared.frontier.Frontier.{Frontier}
 
 -- whether a frontier, which has the URIs that were met, has this normal form
@@ -14,4 +13,4 @@ has_met f text = contains_text f.seen text
 -- the normal form by which a caller's program keeps a URI that it met or that was visited, under
 -- the default ports of the schemes (section 6.2.2)
 abbrev pub normal_of : List ℕ → List ℕ
-normal_of text = normal_text (meaning_of uri default_port text)
+normal_of text = normal_text (meaning_under uri default_rules text)

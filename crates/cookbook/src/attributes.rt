@@ -9,10 +9,10 @@ ghost use Rattle.uri_mend.specs.Refusing.{IsLinkErrorOf};
 ghost use Rattle.uri_mend.specs.Trimming.{trimmed_link};
 ghost use Rattle.cookbook.specs.Attributes.{link_of};
 
+use fluent_uri::normalize::SchemeRules;
 use fluent_uri::{Uri, UriRef};
 use std::alloc::Global;
 use uri_links::links::{Outcome, Register};
-use uri_links::targets::TargetNormalizer;
 use uri_mend::{Mend, MendError};
 
 /// Notes the link of an attribute of a page: drops the white space that HTML drops, mends the rest,
@@ -28,9 +28,9 @@ use uri_mend::{Mend, MendError};
 ///
 /// On `http://example.com/a/`, ` b c\n` is new, with the target `http://example.com/a/b%20c`. Then
 /// `/a/%62 c` is known.
-pub fn note_attribute<N: TargetNormalizer>(
+pub fn note_attribute<S: SchemeRules>(
     alloc: Global,
-    register: &mut Register<N>,
+    register: &mut Register<S>,
     base: &Uri<&str>,
     attribute: &str,
 ) -> Result<Outcome, MendError>

@@ -4,7 +4,7 @@ ghost use Rattle.std.specs.Prelude.{codes, if◌then◌else◌, List, ℕ, [], I
 ghost use Rattle.std.specs.Prelude.{IsOkUnless, OnErr, OnOk};
 ghost use Rattle.std.specs.Io.KnownBytes.{Appends};
 ghost use Rattle.std.specs.Option.{option_map_or};
-ghost use Rattle.fluent_uri.specs.Prelude.{IsTextOf, default_port, meaning_of, refusal, uri};
+ghost use Rattle.fluent_uri.specs.Prelude.{IsTextOf, default_rules, meaning_under, refusal, uri};
 ghost use Rattle.fluent_uri.specs.Prelude.{uri_text};
 ghost use Rattle.cookbook.specs.Frontiers.{has_met, normal_of};
 
@@ -59,7 +59,7 @@ impl Frontier {
             ≡ (if bytes_eq (normal_of text.now) other then true else has_met self.old other)) }
         ensures meaning { OnOk result ((other : List ℕ) → IsTextOf uri other
             → (normal_of text.now ≡ normal_of other
-            ↔ meaning_of uri default_port text.now ≡ meaning_of uri default_port other)) }
+            ↔ meaning_under uri default_rules text.now ≡ meaning_under uri default_rules other)) }
         ensures kept { OnErr result ((other : List ℕ) →
             has_met self.new other ≡ has_met self.old other) }
         ensures refused { IsOkUnless result

@@ -1,7 +1,7 @@
 //! From a text to its normal form, in a function of its own.
 ghost use Rattle.std.specs.Prelude.{◌≡◌, IfOk, IsOk, IsOkUnless, None};
 ghost use Rattle.std.specs.Option.{option_map_or};
-ghost use Rattle.fluent_uri.specs.Prelude.{IsNormalForm, default_port, refusal, uri, uri_text};
+ghost use Rattle.fluent_uri.specs.Prelude.{IsNormalForm, default_rules, refusal, uri, uri_text};
 
 use crate::refusal::Failure;
 use fluent_uri::Uri;
@@ -14,7 +14,7 @@ use std::alloc::Global;
 /// `Text` exactly if the text is not a URI; `OutOfMemory` if allocation fails.
 pub fn normal_form(alloc: Global, text: &str) -> Result<Uri<String>, Failure>
     ensures normal { IfOk result (λ made.
-        IsNormalForm uri default_port text.now (uri_text made)) }
+        IsNormalForm uri default_rules text.now (uri_text made)) }
     ensures accepted { IsOk result → refusal uri text.now ≡ None }
     ensures refused { IsOkUnless result
         (option_map_or Failure.Text (refusal uri text.now) Failure.OutOfMemory) }

@@ -39,7 +39,10 @@ pub use Rattle.uri_ops.specs.Resolving
 pub use Rattle.uri_ops.specs.Dots
 pub use Rattle.uri_ops.specs.HostParts
 pub use Rattle.uri_ops.specs.Meaning
+pub use Rattle.uri_ops.specs.RuleSets
 pub use Rattle.uri_ops.specs.SameMeanings
+pub use Rattle.uri_ops.specs.SchemeRules
+pub use Rattle.uri_ops.specs.StandardRules
 pub use Rattle.uri_ops.specs.Normal
 pub use Rattle.uri_ops.specs.Normalizers
 pub use Rattle.uri_ops.specs.NormalTargets

@@ -25,7 +25,8 @@ pub use Rattle.uri_parts.specs.Fragments.{IsWithFragment}
 pub use Rattle.uri_ops.specs.Target.{resolution_of_texts}
 pub use Rattle.uri_ops.specs.Resolving.{IsErrorWithUnderflowAllowed}
 pub use Rattle.fluent_uri.specs.Targets.{target_of_texts}
-pub use Rattle.uri_ops.specs.Meaning.{meaning_of}
+pub use Rattle.uri_ops.specs.SchemeRules.{Rules, default_rules, meaning_under}
+pub use Rattle.uri_ops.specs.StandardRules.{standard_rules}
 pub use Rattle.uri_ops.specs.Normal.{normal_text}
 pub use Rattle.uri_ops.specs.Normalizers.{IsNormalForm}
 -- Encoding and decoding.

@@ -5,8 +5,7 @@ ghost use Rattle.uri_ops.specs.Conversions.{Converts, ConvertsOwned, missing_sch
 ghost use Rattle.uri_ops.specs.Conversions.{not_ascii_error};
 ghost use Rattle.uri_ops.specs.Conversions.{uri_conversion_error};
 ghost use Rattle.uri_ops.specs.Encoded.{encode_past_ascii, AreEquivalent};
-ghost use Rattle.uri_ops.specs.Meaning.{meaning_of};
-ghost use Rattle.uri_parts.specs.Ports.{PortFunction};
+ghost use Rattle.uri_ops.specs.SchemeRules.{Rules, meaning_under};
 ghost use Rattle.fluent_uri.specs.References.{reference_text};
 
 use crate::reference::Reference;
@@ -282,7 +281,7 @@ impl<T: AsStr> Iri<T> {
     /// upper-case digits. Everything else is unchanged. A host name is percent-encoded too, and not
     /// written in Punycode.
     ///
-    /// As an IRI, the URI is equivalent to this one, under any default ports.
+    /// As an IRI, the URI is equivalent to this one, under any rules of schemes.
     ///
     /// # Errors
     ///
@@ -302,9 +301,9 @@ impl<T: AsStr> Iri<T> {
             reference_text encoded ≡ encode_past_ascii (reference_text self.now)) }
         ensures meaning { IfOk result (λ encoded.
             AreEquivalent iri (reference_text encoded) (reference_text self.now)) }
-        ensures under { (ports : PortFunction) → IfOk result (λ encoded.
-            meaning_of iri ports (reference_text encoded)
-            ≡ meaning_of iri ports (reference_text self.now)) }
+        ensures under { (rules : Rules) → IfOk result (λ encoded.
+            meaning_under iri rules (reference_text encoded)
+            ≡ meaning_under iri rules (reference_text self.now)) }
     {
         let (text, positions) = encoded(alloc, self)?;
         Ok(Uri::<String>::of_core(Core::new(text, positions)))
@@ -319,7 +318,7 @@ impl<T: AsStr> IriRef<T> {
     /// upper-case digits. Everything else is unchanged. A host name is percent-encoded too, and not
     /// written in Punycode.
     ///
-    /// As an IRI reference, the result is equivalent to this one, under any default ports.
+    /// As an IRI reference, the result is equivalent to this one, under any rules of schemes.
     ///
     /// `é?q` becomes `%C3%A9?q`.
     ///
@@ -331,9 +330,9 @@ impl<T: AsStr> IriRef<T> {
             reference_text encoded ≡ encode_past_ascii (reference_text self.now)) }
         ensures meaning { IfOk result (λ encoded.
             AreEquivalent iri_ref (reference_text encoded) (reference_text self.now)) }
-        ensures under { (ports : PortFunction) → IfOk result (λ encoded.
-            meaning_of iri_ref ports (reference_text encoded)
-            ≡ meaning_of iri_ref ports (reference_text self.now)) }
+        ensures under { (rules : Rules) → IfOk result (λ encoded.
+            meaning_under iri_ref rules (reference_text encoded)
+            ≡ meaning_under iri_ref rules (reference_text self.now)) }
     {
         let (text, positions) = encoded(alloc, self)?;
         Ok(UriRef::<String>::of_core(Core::new(text, positions)))

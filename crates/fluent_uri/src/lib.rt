@@ -6,6 +6,7 @@
 
 mod building;
 mod convert;
+mod normal_targets;
 pub mod reference;
 mod resolving;
 #[doc(hidden)]
@@ -101,6 +102,7 @@ pub mod kind {
 /// Laws of the definitions that contracts cite. A law is a function that does nothing, and its
 /// contract states the law. Code whose proof needs the law calls the function.
 pub mod laws {
+    pub use crate::normal_targets::normal_forms_have_equivalent_targets;
     pub use error_laws::{
         what_is_before_a_late_error_begins_no_text, what_is_before_an_error_begins_a_text,
     };
@@ -109,8 +111,8 @@ pub mod laws {
         texts_are_of_wider_kinds_too,
     };
     pub use uri_ops::laws::normal_form::{
-        bare_meanings_determine_meanings, four_kinds_have_component_sets,
-        meanings_are_equal_if_their_parts_are, normal_texts_are_canonical,
+        bare_meanings_determine_meanings, default_ports_are_rules, four_kinds_have_component_sets,
+        meanings_are_equal_if_their_parts_are, normal_texts_are_canonical, rules_keep_equivalence,
     };
     pub use uri_ops::laws::resolve_normalize::{
         resolving_and_normalising_swap, targets_are_of_the_kind_of_their_base,
@@ -142,10 +144,10 @@ pub mod net {
     pub use uri_parts::net::{IpAddr, Ipv4Addr, Ipv6Addr};
 }
 
-/// Normalising references (RFC 3986, section 6.2.2).
+/// Normalising references (RFC 3986, sections 6.2.2 and 6.2.3).
 pub mod normalize {
-    pub use uri_ops::default_port::{DefaultPort, SchemeDefaults};
     pub use uri_ops::normalize::{NormalizeError, Normalizer};
+    pub use uri_ops::scheme_rules::{DefaultPorts, RuleSet, SchemeRules, StandardRules, WithPorts};
 }
 
 /// Percent-encoded texts, each of them valid for the set of an encoder.

@@ -8,31 +8,20 @@ use Rattle.std.specs.List.{flat_map, fold}
 use Rattle.std.specs.Option.{unwrap_or}
 use Rattle.std.specs.Result.{result_ok}
 use Rattle.uri_parts.specs.Grammar.{Kind}
-use Rattle.uri_parts.specs.SchemePorts.{default_port}
-use Rattle.uri_ops.specs.Normal.{normal_text}
-use Rattle.uri_rules.proofs.RuledMeanings.{meaning-under-ports-alone}
+use Rattle.uri_ops.specs.RuleSets.{rules_of_set}
+use Rattle.uri_ops.specs.declared.scheme_rules.RuleSet.{RuleSet}
 use Rattle.uri_order.specs.HashedTexts.{hashed_text}
-use Rattle.uri_order.specs.NormalForms.{normal_form, normal_form_under}
-use Rattle.uri_rules.specs.Standard.{standard_rules}
+use Rattle.uri_order.specs.NormalForms.{normal_form}
 use Rattle.fluent_uri_c.specs.declared.fnv.Fnv.{Fnv}
 use Rattle.fluent_uri_c.specs.Fnv.{fnv_bytes, fnv_write}
 use Rattle.fluent_uri_c.specs.Orders.{AreOneKey, byte_order, key_order, normal_key, order_of_keys}
 use Rattle.fluent_uri_c.specs.Results.{normal_form_of, normal_result, rejection_or_result, text_error}
 
--- exports for C: a normal form by the rules of schemes is that of the order by them
-pub form-by-rules : (by_rules : Bool) → by_rules ≡ true → (kind : Kind) (text : List ℕ)
-    → normal_form_under kind standard_rules text ≡ normal_form_of by_rules kind text
+-- exports for C: a normal form by the rules of an order is one by the set that these are
+pub form-by-set : (given set : RuleSet) → given ≡ set → (kind : Kind) (text : List ℕ)
+    → normal_form kind (rules_of_set given) text ≡ normal_form_of set kind text
 unfolding normal_form_of
-form-by-rules true e kind text = refl
-form-by-rules false e kind text = cc
-
--- exports for C: and one by default ports alone is that of the order by these
-pub form-by-ports : (by_rules : Bool) → by_rules ≡ false → (kind : Kind) (text : List ℕ)
-    → normal_form kind default_port text ≡ normal_form_of by_rules kind text
-unfolding normal_form_of
-form-by-ports true e kind text = cc
-form-by-ports false e kind text =
-    ap normal_text (sym (meaning-under-ports-alone kind default_port text))
+form-by-set given set e kind text = ap (λ rules. normal_form kind (rules_of_set rules) text) e
 
 -- exports for C: an order of texts is that of texts equal to these
 pub order-of-same-texts : (order : Ordering) (one other same same_other : List ℕ) → one ≡ same
@@ -40,12 +29,12 @@ pub order-of-same-texts : (order : Ordering) (one other same same_other : List �
 order-of-same-texts order one other same same_other e f h = h ∙ (λ i. byte_order (e i) (f i))
 
 -- exports for C: normalising a text of the kind returns its normal form
-normal_result-of-text : (by_rules : Bool) (kind : Kind) (bytes text : List ℕ)
+normal_result-of-text : (set : RuleSet) (kind : Kind) (bytes text : List ℕ)
     → None ≡ text_error kind bytes → text ≡ bytes
-    → normal_result by_rules kind bytes ≡ Ok (normal_form_of by_rules kind text)
-normal_result-of-text by_rules kind bytes text none same =
-    ap (λ o. rejection_or_result o (Ok (normal_form_of by_rules kind bytes))) (sym none)
-    ∙ ap (λ t. Ok (normal_form_of by_rules kind t)) (sym same)
+    → normal_result set kind bytes ≡ Ok (normal_form_of set kind text)
+normal_result-of-text set kind bytes text none same =
+    ap (λ o. rejection_or_result o (Ok (normal_form_of set kind bytes))) (sym none)
+    ∙ ap (λ t. Ok (normal_form_of set kind t)) (sym same)
 
 -- exports for C: two keys in order
 keys-in-order : (one other one_key other_key : Option (List ℕ)) (order : Ordering)
@@ -56,16 +45,16 @@ keys-in-order one other one_key other_key order e f =
     ∙ ap (λ key. order_of_keys one key order) (sym f)
 
 -- exports for C: the order of two texts of the kind is that of their normal forms
-pub order-of-two-texts : (by_rules : Bool) (kind : Kind) (one other first second : List ℕ)
+pub order-of-two-texts : (set : RuleSet) (kind : Kind) (one other first second : List ℕ)
     (order : Ordering) → None ≡ text_error kind one → first ≡ one
     → None ≡ text_error kind other → second ≡ other
-    → byte_order (normal_form_of by_rules kind first) (normal_form_of by_rules kind second)
-    ≡ order_of_keys (result_ok (normal_result by_rules kind one))
-    (result_ok (normal_result by_rules kind other)) order
-order-of-two-texts by_rules kind one other first second order none same no_other same_other =
+    → byte_order (normal_form_of set kind first) (normal_form_of set kind second)
+    ≡ order_of_keys (result_ok (normal_result set kind one))
+    (result_ok (normal_result set kind other)) order
+order-of-two-texts set kind one other first second order none same no_other same_other =
     keys-in-order _ _ _ _ order
-    (ap result_ok (normal_result-of-text by_rules kind one first none same))
-    (ap result_ok (normal_result-of-text by_rules kind other second no_other same_other))
+    (ap result_ok (normal_result-of-text set kind one first none same))
+    (ap result_ok (normal_result-of-text set kind other second no_other same_other))
 
 -- exports for C: bytes are equal in their order exactly if they are the same
 same-bytes-are-equal-in-order : (one other : List ℕ)
@@ -111,14 +100,14 @@ equal-keys-are-one kind options one other order e =
     (λ equal. same.0 (sym e ∙ equal), λ h. e ∙ same.1 h)
 
 -- exports for C: a text of the kind is its own normal form exactly if normalising returns it
-pub own-normal-result : (by_rules : Bool) (kind : Kind) (bytes text : List ℕ) (is_normal : Bool)
+pub own-normal-result : (set : RuleSet) (kind : Kind) (bytes text : List ℕ) (is_normal : Bool)
     → None ≡ text_error kind bytes → text ≡ bytes
-    → (is_normal ≡ true) ↔ (normal_form_of by_rules kind text ≡ text)
-    → (is_normal ≡ true) ↔ (normal_result by_rules kind bytes ≡ Ok bytes)
-own-normal-result by_rules kind bytes text is_normal none same h =
-    let made = normal_result-of-text by_rules kind bytes text none same in (
+    → (is_normal ≡ true) ↔ (normal_form_of set kind text ≡ text)
+    → (is_normal ≡ true) ↔ (normal_result set kind bytes ≡ Ok bytes)
+own-normal-result set kind bytes text is_normal none same h =
+    let made = normal_result-of-text set kind bytes text none same in (
       λ e. made ∙ ap Ok (h.0 e ∙ same),
-      λ e. h.1 (let own : normal_form_of by_rules kind text ≡ bytes = cc in own ∙ sym same),
+      λ e. h.1 (let own : normal_form_of set kind text ≡ bytes = cc in own ∙ sym same),
     )
 
 -- exports for C: a hasher that is given the bytes one by one, and then 255, has their hash
@@ -137,11 +126,11 @@ hash-of-form form same old new e h =
     ∙ ap (λ t. fnv_bytes old.state (reverse t ++ 255 ∷ [])) e
 
 -- exports for C: the hash of a text of the kind is that of its normal form
-pub hash-of-text : (by_rules : Bool) (kind : Kind) (bytes text : List ℕ) (state : ℕ)
+pub hash-of-text : (set : RuleSet) (kind : Kind) (bytes text : List ℕ) (state : ℕ)
     → None ≡ text_error kind bytes → text ≡ bytes
-    → fnv_bytes state (reverse (normal_form_of by_rules kind text) ++ 255 ∷ [])
+    → fnv_bytes state (reverse (normal_form_of set kind text) ++ 255 ∷ [])
     ≡ fnv_bytes state
-    (reverse (unwrap_or (result_ok (normal_result by_rules kind bytes)) bytes) ++ 255 ∷ [])
-hash-of-text by_rules kind bytes text state none same =
+    (reverse (unwrap_or (result_ok (normal_result set kind bytes)) bytes) ++ 255 ∷ [])
+hash-of-text set kind bytes text state none same =
     ap (λ r. fnv_bytes state (reverse (unwrap_or (result_ok r) bytes) ++ 255 ∷ []))
-    (sym (normal_result-of-text by_rules kind bytes text none same))
+    (sym (normal_result-of-text set kind bytes text none same))

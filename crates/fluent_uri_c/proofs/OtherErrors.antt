@@ -17,6 +17,7 @@ use Rattle.uri_relative.specs.Rule.{reference_to}
 use Rattle.uri_basic.specs.Target as Basic
 use Rattle.uri_mend.specs.Mending.{can_be_mended, mended_text}
 use Rattle.uri_mend.specs.Trimming.{trimmed_link}
+use Rattle.uri_ops.specs.declared.scheme_rules.RuleSet.{RuleSet}
 use Rattle.fluent_uri_c.specs.declared.errors.Error.TheVariants.{OutOfMemory, InvalidArgument, NotUtf8}
 use Rattle.fluent_uri_c.specs.declared.errors.Rejection.{Rejection}
 use Rattle.fluent_uri_c.specs.Errors.{error_of_kind, in_reference, number_of, parse_rejection, rejected, rejected_at}
@@ -137,19 +138,19 @@ of_mapped_text : (f : List ℕ → List ℕ) (r : Returned) → is_out_of_memory
 of_mapped_text f (Ok text) p = refl
 of_mapped_text f (Err why) p = p
 
-of_normal_resolution : (by_rules : Bool) (kind : Kind) (base reference : List ℕ)
-    → is_out_of_memory (normal_resolution by_rules kind base reference) ≡ false
+of_normal_resolution : (set : RuleSet) (kind : Kind) (base reference : List ℕ)
+    → is_out_of_memory (normal_resolution set kind base reference) ≡ false
 unfolding normal_resolution
-of_normal_resolution by_rules kind base reference = of_mapped_text (normal_form_of by_rules kind)
+of_normal_resolution set kind base reference = of_mapped_text (normal_form_of set kind)
     (resolution base reference) (of_resolution base reference)
 
 -- exports for C: normalising is not defined to return that memory is out
 pub normalize_result-is-other : (n options : ℕ) (text : List ℕ)
     → is_out_of_memory (normalize_result n options text) ≡ false
 normalize_result-is-other n options text = of_valid_number (rules_choice options) _
-    (λ by_rules. of_valid_number (kind_numbered n) _
+    (λ set. of_valid_number (kind_numbered n) _
     (λ kind. of_rejection_or_result (text_error kind text)
-    (Ok (normal_form_of by_rules kind text)) (of_text_error kind text) refl))
+    (Ok (normal_form_of set kind text)) (of_text_error kind text) refl))
 
 -- exports for C: converting is not defined to return that memory is out
 pub to_uri_result-is-other : (n : ℕ) (text : List ℕ)
@@ -171,11 +172,11 @@ resolve_result-is-other n options base reference =
 pub resolve_normalized_result-is-other : (n options : ℕ) (base reference : List ℕ)
     → is_out_of_memory (resolve_normalized_result n options base reference) ≡ false
 resolve_normalized_result-is-other n options base reference =
-    of_valid_number (rules_choice options) _ (λ by_rules. of_base n base _
+    of_valid_number (rules_choice options) _ (λ set. of_base n base _
     (λ kind. of_rejection_or_result (second_text_error (reference_kind kind) reference)
-    (normal_resolution by_rules kind base reference)
+    (normal_resolution set kind base reference)
     (of_second_text (reference_kind kind) reference)
-    (of_normal_resolution by_rules kind base reference)))
+    (of_normal_resolution set kind base reference)))
 
 -- exports for C: relativizing is not defined to return that memory is out
 pub relativize_result-is-other : (n options : ℕ) (base target : List ℕ)

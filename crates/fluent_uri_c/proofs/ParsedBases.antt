@@ -3,6 +3,7 @@ use Rattle.std.proofs.Common.{◌≡◌, ℕ, Bool, List, refl, sym, ap, ◌∙�
 use Rattle.std.specs.Prelude.{Option, Some, None, Err, unwrap_or}
 use Rattle.fluent_uri.specs.Grammar.{Kind, iri, uri}
 use Rattle.fluent_uri.specs.References.{reference_text}
+use Rattle.uri_ops.specs.declared.scheme_rules.RuleSet.{RuleSet}
 use Rattle.fluent_uri_c.specs.declared.bases.Base.{Base}
 use Rattle.fluent_uri_c.specs.declared.bases.Base.TheVariants.{Iri, Rejected, Uri}
 use Rattle.fluent_uri_c.specs.declared.errors.Rejection.{Rejection}
@@ -60,14 +61,14 @@ pub normal_target_by-is-resolve_normalized_result : (n options : ℕ) (bytes : L
 normal_target_by-is-resolve_normalized_result n options bytes base reference is =
     of_choice (rules_choice options)
   where
-    of_choice : (o : Option Bool)
+    of_choice : (o : Option RuleSet)
         → with_valid_number o
-        (λ by_rules. by_base (λ k t. normal_target_from by_rules k t reference) base)
+        (λ set. by_base (λ k t. normal_target_from set k t reference) base)
         ≡ with_valid_number o
-        (λ by_rules. with_base n bytes (λ k. normal_target_from by_rules k bytes reference))
+        (λ set. with_base n bytes (λ k. normal_target_from set k bytes reference))
     of_choice None = refl
-    of_choice (Some by_rules) =
-        of_base (λ k t. normal_target_from by_rules k t reference) n bytes base is
+    of_choice (Some set) =
+        of_base (λ k t. normal_target_from set k t reference) n bytes base is
 
 of_preference : (o : Option Bool) (n : ℕ) (bytes : List ℕ) (base : Base) (target : List ℕ)
     → IsBaseOf n bytes base

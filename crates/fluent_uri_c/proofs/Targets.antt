@@ -8,12 +8,12 @@ use Rattle.uri_parts.specs.Fragments.{IsWithFragment}
 use Rattle.uri_parts.specs.Grammar.{Kind}
 use Rattle.uri_ops.specs.declared.resolve.error.ResolveError.{ResolveError}
 use Rattle.uri_ops.specs.declared.resolve.error.ResolveError.TheVariants as Of
+use Rattle.uri_ops.specs.NormalTargets.{IsNormalFormOfTarget}
 use Rattle.uri_ops.specs.Resolving.{IsErrorWithUnderflowAllowed}
+use Rattle.uri_ops.specs.RuleSets.{rules_of_set}
+use Rattle.uri_ops.specs.declared.scheme_rules.RuleSet.{RuleSet}
 use Rattle.uri_ops.specs.Target as Target
 use Rattle.uri_relative.specs.Leading.{without_fragment}
-use Rattle.uri_rules.specs.NormalForms.{IsNormalFormUnder}
-use Rattle.uri_rules.specs.Targets.{IsNormalFormOfTargetUnder}
-use Rattle.uri_setting.specs.Settings.{rules_set}
 use Rattle.uri_basic.specs.declared.error.BasicResolveError.{BasicResolveError}
 use Rattle.uri_basic.specs.declared.error.BasicResolveError.TheVariants as OfBasic
 use Rattle.uri_basic.specs.Resolving.{IsBasicError}
@@ -70,30 +70,30 @@ resolution-of-error base bare reference error is h =
     (subst (λ b. IsErrorWithUnderflowAllowed b (components reference) error) is.parts h)
 
 -- exports for C: the result of resolving, normalised; or the rejection
-normal_of : Bool → Kind → Returned → Returned
-normal_of by_rules kind r = result_map_both (normal_form_of by_rules kind) (λ why. why) r
+normal_of : RuleSet → Kind → Returned → Returned
+normal_of set kind r = result_map_both (normal_form_of set kind) (λ why. why) r
 
 -- exports for C: what resolving and normalising return is the
 -- normal target that the contract defines
-pub normal_resolution-of-target : (by_rules : Bool) (kind : Kind)
+pub normal_resolution-of-target : (set : RuleSet) (kind : Kind)
     (base bare reference normal : List ℕ) → IsWithFragment base None bare
-    → IsNormalFormOfTargetUnder kind (rules_set by_rules) bare reference normal
-    → normal_resolution by_rules kind base reference ≡ Ok normal
+    → IsNormalFormOfTarget kind (rules_of_set set) bare reference normal
+    → normal_resolution set kind base reference ≡ Ok normal
 unfolding normal_resolution normal_of normal_form_of
-normal_resolution-of-target by_rules kind base bare reference normal is found =
-    ap (normal_of by_rules kind) (resolution-of-target base bare reference found.0 is found.1.0)
+normal_resolution-of-target set kind base bare reference normal is found =
+    ap (normal_of set kind) (resolution-of-target base bare reference found.0 is found.1.0)
     ∙ ap Ok (sym found.1.1.text)
 
 -- exports for C: an error of resolving is the one that the contract defines, or that memory is out
-pub normal_resolution-of-error : (by_rules : Bool) (kind : Kind) (base bare reference : List ℕ)
+pub normal_resolution-of-error : (set : RuleSet) (kind : Kind) (base bare reference : List ℕ)
     (error : ResolveError) → IsWithFragment base None bare
     → IsErrorWithUnderflowAllowed (components bare) (components reference) error
-    → IsErrorOf (normal_resolution by_rules kind base reference) (resolve_rejection error)
+    → IsErrorOf (normal_resolution set kind base reference) (resolve_rejection error)
 unfolding normal_resolution normal_of
-normal_resolution-of-error by_rules kind base bare reference error is h = elim
+normal_resolution-of-error set kind base bare reference error is h = elim
     (resolution-of-error base bare reference error is h) [
-      | inl e ↦ inl (e.0, is_ok_mapped (normal_form_of by_rules kind) (λ why. why) _ e.1)
-      | inr e ↦ inr (ap (normal_of by_rules kind) e)
+      | inl e ↦ inl (e.0, is_ok_mapped (normal_form_of set kind) (λ why. why) _ e.1)
+      | inr e ↦ inr (ap (normal_of set kind) e)
     ]
 
 -- exports for C: if a returned rejection is that of an error,
@@ -104,23 +104,22 @@ pub returned-rejection-is-of-error : (returned : Returned) (why : Rejection) (er
 returned-rejection-is-of-error returned why error e h = rw e h
 
 -- exports for C: what normalising returns is the normal form that the contract defines
-pub normal_result-of-normal-form : (by_rules : Bool) (kind : Kind) (bytes text normal : List ℕ)
+pub normal_result-of-normal-form : (set : RuleSet) (kind : Kind) (bytes text normal : List ℕ)
     → None ≡ text_error kind bytes
-    → text ≡ bytes → IsNormalFormUnder kind (rules_set by_rules) text normal
-    → normal_result by_rules kind bytes ≡ Ok normal
-unfolding normal_form_of
-normal_result-of-normal-form by_rules kind bytes text normal none same is =
-    ap (λ o. rejection_or_result o (Ok (normal_form_of by_rules kind bytes))) (sym none)
-    ∙ ap (λ t. Ok (normal_form_of by_rules kind t)) (sym same)
-    ∙ ap Ok (sym is.text)
+    → text ≡ bytes → normal ≡ normal_form_of set kind text
+    → normal_result set kind bytes ≡ Ok normal
+normal_result-of-normal-form set kind bytes text normal none same is =
+    ap (λ o. rejection_or_result o (Ok (normal_form_of set kind bytes))) (sym none)
+    ∙ ap (λ t. Ok (normal_form_of set kind t)) (sym same)
+    ∙ ap Ok (sym is)
 
 -- exports for C: a text that is its own normal form is what normalising returns
-pub normal_result-of-own-form : (by_rules : Bool) (kind : Kind) (bytes text form : List ℕ)
-    → None ≡ text_error kind bytes → text ≡ bytes → normal_form_of by_rules kind text ≡ text
-    → form ≡ text → normal_result by_rules kind bytes ≡ Ok form
-normal_result-of-own-form by_rules kind bytes text form none same own is =
-    ap (λ o. rejection_or_result o (Ok (normal_form_of by_rules kind bytes))) (sym none)
-    ∙ ap Ok (ap (normal_form_of by_rules kind) (sym same) ∙ own ∙ sym is)
+pub normal_result-of-own-form : (set : RuleSet) (kind : Kind) (bytes text form : List ℕ)
+    → None ≡ text_error kind bytes → text ≡ bytes → normal_form_of set kind text ≡ text
+    → form ≡ text → normal_result set kind bytes ≡ Ok form
+normal_result-of-own-form set kind bytes text form none same own is =
+    ap (λ o. rejection_or_result o (Ok (normal_form_of set kind bytes))) (sym none)
+    ∙ ap Ok (ap (normal_form_of set kind) (sym same) ∙ own ∙ sym is)
 
 -- exports for C: the result of the basic algorithm: a target, or the rejection
 basic_of : Result (List ℕ) Basic.BasicTargetError → Returned

@@ -39,8 +39,8 @@ target_by options base reference =
 -- the normal form of the target of a reference against a base, by the options of a call
 abbrev pub normal_target_by : ℕ → Base → List ℕ → Returned
 normal_target_by options base reference =
-    with_valid_number (rules_choice options) λ by_rules.
-    by_base (λ kind text. normal_target_from by_rules kind text reference) base
+    with_valid_number (rules_choice options) λ set.
+    by_base (λ kind text. normal_target_from set kind text reference) base
 
 -- the reference from a base to a target, by the options of a call
 abbrev pub reference_by : ℕ → Base → List ℕ → Returned

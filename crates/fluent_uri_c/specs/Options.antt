@@ -1,5 +1,7 @@
 -- The options of a call, bits by the numbers of the header.
 use Rattle.std.specs.Prelude.{ℕ, Bool, true, false, ◌==◌, Option, Some, None, if◌then◌else◌}
+use Rattle.uri_ops.specs.declared.scheme_rules.RuleSet.{RuleSet}
+use Rattle.uri_ops.specs.declared.scheme_rules.RuleSet.TheVariants as Set
 
 -- the numbers in the C header of the options: that a relative path is preferred
 abbrev pub prefer_relative_path : ℕ
@@ -20,12 +22,12 @@ path_preference options =
     if options == 0 then Some false
     else (if options == prefer_relative_path then Some true else None)
 
--- whether normalising is by the rules of schemes, by the options of a call that normalises, if it
--- has no other option
-abbrev pub rules_choice : ℕ → Option Bool
+-- the rules that normalising is by, by the options of a call that normalises, if it has no other
+-- option
+abbrev pub rules_choice : ℕ → Option RuleSet
 rules_choice options =
-    if options == 0 then Some false
-    else (if options == scheme_rules then Some true else None)
+    if options == 0 then Some Set.DefaultPorts
+    else (if options == scheme_rules then Some Set.StandardRules else None)
 
 -- whether resolving is by the basic algorithm, by the options of a call that resolves, if it has no
 -- other option

@@ -5,6 +5,7 @@ use Rattle.std.specs.Str.{str_to_ascii_lowercase}
 use Rattle.fluent_uri.specs.Authority.{AuthorityParts, authority_parts}
 use Rattle.fluent_uri.specs.Components.{components, marked}
 use Rattle.fluent_uri.specs.Grammar.{Kind, uri, uri_ref}
+use Rattle.uri_ops.specs.declared.scheme_rules.RuleSet.TheVariants as Set
 use Rattle.uri_parts.specs.Ports.{port_number}
 use Rattle.uri_parts.specs.SchemePorts.{default_port}
 use Rattle.fluent_uri_c.specs.Results.{Returned, normal_form_of, rejection_or_result, text_error, with_valid_number}
@@ -39,7 +40,7 @@ origin_of (Some scheme) (Some authority) =
 -- case and no port is the default one (sections 4 and 6.2)
 abbrev pub origin_of_text : Kind → List ℕ → List ℕ
 origin_of_text kind text =
-    let normal = components (normal_form_of false kind text) in
+    let normal = components (normal_form_of Set.DefaultPorts kind text) in
     origin_of normal.scheme normal.authority
 
 -- the result of a call for C that writes the origin of a text of the kind

@@ -13,12 +13,13 @@ use Rattle.fluent_uri.specs.Refusals.{refusal}
 use Rattle.fluent_uri.specs.Sets.{TableSet}
 use Rattle.fluent_uri.specs.Target as Target
 use Rattle.fluent_uri.specs.Tokens.{print, bytes_decoded_from, tokens}
+use Rattle.uri_ops.specs.RuleSets.{rules_of_set}
+use Rattle.uri_ops.specs.SchemeRules.{meaning_under}
+use Rattle.uri_ops.specs.declared.scheme_rules.RuleSet.{RuleSet}
 use Rattle.uri_parts.specs.Errors.{unexpected}
 use Rattle.uri_parts.specs.Refusals.{OptionalParseError, ◌>>=◌}
 use Rattle.uri_parts.specs.Scanning.{is_at_end, scan}
 use Rattle.uri_relative.specs.Leading.{without_fragment}
-use Rattle.uri_rules.specs.Rules.{meaning_under}
-use Rattle.uri_setting.specs.Settings.{rules_set}
 use Rattle.uri_basic.specs.Target as Basic
 use Rattle.fluent_uri_c.specs.declared.errors.Error.TheVariants as Of
 use Rattle.fluent_uri_c.specs.declared.errors.Rejection.{Rejection}
@@ -97,16 +98,15 @@ IsPossibleUtf8 bytes = IsUtf8 bytes × IsTrue (is_possible_length bytes)
 abbrev pub IsPossibleText : Kind → List ℕ → Type 0
 IsPossibleText kind bytes = IsTextOf kind bytes × IsTrue (is_possible_length bytes)
 
--- the normal form of a text of the kind, where the Bool is whether it is by the rules of schemes,
--- or by their default ports alone (section 6.2.3)
-unfoldable pub normal_form_of : Bool → Kind → List ℕ → List ℕ
-normal_form_of by_rules kind text = normal_text (meaning_under kind (rules_set by_rules) text)
+-- the normal form of a text of the kind by a set of rules (section 6.2.3)
+unfoldable pub normal_form_of : RuleSet → Kind → List ℕ → List ℕ
+normal_form_of set kind text = normal_text (meaning_under kind (rules_of_set set) text)
 
--- the result of a call for C that normalises bytes as a text of the kind: its normal form, or why
--- they are rejected; the Bool is whether it is by the rules of schemes
-abbrev pub normal_result : Bool → Kind → List ℕ → Returned
-normal_result by_rules kind text =
-    rejection_or_result (text_error kind text) (Ok (normal_form_of by_rules kind text))
+-- the result of a call for C that normalises bytes as a text of the kind by a set of rules: its
+-- normal form, or why they are rejected
+abbrev pub normal_result : RuleSet → Kind → List ℕ → Returned
+normal_result set kind text =
+    rejection_or_result (text_error kind text) (Ok (normal_form_of set kind text))
 
 -- the result of a call for C that converts an IRI, of the kind, to a URI: characters past ASCII are
 -- percent-encoded (RFC 3987, section 3.1)
@@ -143,11 +143,11 @@ abbrev pub resolution_by : Bool → List ℕ → List ℕ → Returned
 resolution_by is_basic base reference =
     if is_basic then basic_resolution base reference else resolution base reference
 
--- the normal form of the target of a base and a reference, in this order, as a text of the kind, or
--- why there is no target; the Bool is whether it is by the rules of schemes
-unfoldable pub normal_resolution : Bool → Kind → List ℕ → List ℕ → Returned
-normal_resolution by_rules kind base reference =
-    result_map_both (normal_form_of by_rules kind) (λ why. why) (resolution base reference)
+-- the normal form, by a set of rules, of the target of a base and a reference, in this order, as a
+-- text of the kind, or why there is no target
+unfoldable pub normal_resolution : RuleSet → Kind → List ℕ → List ℕ → Returned
+normal_resolution set kind base reference =
+    result_map_both (normal_form_of set kind) (λ why. why) (resolution base reference)
 
 -- why a call for C rejects its second text as one of the kind, if it does
 abbrev pub second_text_error : Kind → List ℕ → Option Rejection
@@ -161,11 +161,11 @@ target_from is_basic kind base reference =
     (resolution_by is_basic base reference)
 
 -- the result of a call for C that resolves a reference against a text of the kind, the base, and
--- normalises the target, by the rules of schemes if the Bool is true; the base comes first
-abbrev pub normal_target_from : Bool → Kind → List ℕ → List ℕ → Returned
-normal_target_from by_rules kind base reference =
+-- normalises the target by a set of rules; the base comes first
+abbrev pub normal_target_from : RuleSet → Kind → List ℕ → List ℕ → Returned
+normal_target_from set kind base reference =
     rejection_or_result (second_text_error (reference_kind kind) reference)
-    (normal_resolution by_rules kind base reference)
+    (normal_resolution set kind base reference)
 
 -- the parse error of a component that has characters of the set alone, if it has one: it is scanned
 -- from left to right, and what is left over is unexpected
@@ -195,8 +195,8 @@ encoded_as_result set bytes =
 -- options in the C header
 abbrev pub normalize_result : ℕ → ℕ → List ℕ → Returned
 normalize_result n options text =
-    with_valid_number (rules_choice options) λ by_rules. with_valid_number (kind_numbered n)
-    λ kind. normal_result by_rules kind text
+    with_valid_number (rules_choice options) λ set. with_valid_number (kind_numbered n)
+    λ kind. normal_result set kind text
 
 -- the result of `fluent_uri_to_uri` for a text of the kind with a number of the C header
 abbrev pub to_uri_result : ℕ → List ℕ → Returned
@@ -220,8 +220,8 @@ resolve_result n options base reference =
 -- numbers are those of the base's kind and of the options in the C header
 abbrev pub resolve_normalized_result : ℕ → ℕ → List ℕ → List ℕ → Returned
 resolve_normalized_result n options base reference =
-    with_valid_number (rules_choice options) λ by_rules. with_base n base
-    λ kind. normal_target_from by_rules kind base reference
+    with_valid_number (rules_choice options) λ set. with_base n base
+    λ kind. normal_target_from set kind base reference
 
 -- the result of `fluent_uri_decode` for a component with a number of the C header
 abbrev pub decode_result : ℕ → List ℕ → Returned

@@ -1,6 +1,6 @@
 //! A base of references, which a batch parses once.
 use crate::errors::{Error, Rejection};
-use crate::numbered::{is_basic, prefers_relative_path, rule_setting};
+use crate::numbered::{is_basic, prefers_relative_path, rule_set};
 use crate::texts::{self, parsed};
 use fluent_uri::{Iri, IriRef, Uri};
 use std::alloc::Global;
@@ -74,15 +74,15 @@ impl<'a> Base<'a> {
         ensures { IsReturnedAs reference_text
             (normal_target_by options self.now reference.now) result }
     {
-        let Some(setting) = rule_setting(options) else {
+        let Some(rules) = rule_set(options) else {
             return Err(Rejection::of(Error::InvalidArgument));
         };
         match self {
             Base::Uri(base) => Ok(IriRef::from(texts::normal_target_from::<UriRefKind>(
-                alloc, base, reference, setting,
+                alloc, base, reference, rules,
             )?)),
             Base::Iri(base) => Ok(IriRef::from(texts::normal_target_from::<IriRefKind>(
-                alloc, base, reference, setting,
+                alloc, base, reference, rules,
             )?)),
             Base::Rejected(why) => Err(*why),
         }

@@ -30,7 +30,6 @@ mod parts;
 mod queries;
 mod relative;
 mod rules;
-mod setting_order;
 mod single;
 mod texts;
 mod values;

@@ -1,6 +1,6 @@
 //! What each call returns for the kind of a number. A value of any kind is one of IRI references
 //! too, so that what follows is compiled once.
-ghost use Rattle.std.specs.Prelude.{◌≡◌, IfOk, IsSomeAnd, option_map};
+ghost use Rattle.std.specs.Prelude.{◌≡◌, IfOk, IsSomeAnd};
 ghost use Rattle.fluent_uri.specs.References.{reference_text};
 ghost use Rattle.uri_mend.specs.Mended.{IsMended};
 ghost use Rattle.uri_mend.specs.Trimming.{trimmed_link};
@@ -18,19 +18,17 @@ use crate::normal_forms::{self, NormalForm};
 use crate::texts;
 use fluent_uri::IriRef;
 use std::alloc::Global;
+use uri_ops::scheme_rules::RuleSet;
 use uri_parts::kind::{IriKind, IriRefKind, UriKind, UriRefKind};
-use uri_setting::RuleSetting;
 
-/// Returns the setting of a normaliser that options of the header ask for, if they are options of a
-/// call that normalises.
-pub fn rule_setting(options: u32) -> Option<RuleSetting>
-    ensures { option_map (λ setting. setting.scheme_rules) result ≡ rules_choice options }
+/// Returns the set of rules that options of the header ask for, if they are options of a call that
+/// normalises.
+pub fn rule_set(options: u32) -> Option<RuleSet>
+    ensures { result ≡ rules_choice options }
 {
     match options {
-        0 => Some(RuleSetting {
-            scheme_rules: false,
-        }),
-        2 => Some(RuleSetting { scheme_rules: true }),
+        0 => Some(RuleSet::DefaultPorts),
+        2 => Some(RuleSet::StandardRules),
         _ => None,
     }
 }
@@ -45,14 +43,14 @@ pub fn normal_form<'a>(
 ) -> Result<NormalForm<'a>, Rejection>
     ensures { IsReturnedAs normal_form_text (normalize_result kind options text.now) result }
 {
-    let Some(setting) = rule_setting(options) else {
+    let Some(rules) = rule_set(options) else {
         return Err(Rejection::of(Error::InvalidArgument));
     };
     match kind {
-        0 => normal_forms::normal_form::<UriKind>(alloc, text, setting),
-        1 => normal_forms::normal_form::<UriRefKind>(alloc, text, setting),
-        2 => normal_forms::normal_form::<IriKind>(alloc, text, setting),
-        3 => normal_forms::normal_form::<IriRefKind>(alloc, text, setting),
+        0 => normal_forms::normal_form::<UriKind>(alloc, text, rules),
+        1 => normal_forms::normal_form::<UriRefKind>(alloc, text, rules),
+        2 => normal_forms::normal_form::<IriKind>(alloc, text, rules),
+        3 => normal_forms::normal_form::<IriRefKind>(alloc, text, rules),
         _ => Err(Rejection::of(Error::InvalidArgument)),
     }
 }

@@ -11,24 +11,24 @@ ghost use Rattle.fluent_uri_c.specs.Results.{normal_result, normalize_result};
 
 use crate::errors::Error;
 use crate::fnv::Fnv;
-use crate::numbered::rule_setting;
-use crate::setting_order;
+use crate::numbered::rule_set;
 use crate::texts::{is_possible_length, parsed};
 use std::cmp::Ordering;
 use std::hash::Hasher;
+use uri_ops::scheme_rules::RuleSet;
+use uri_order::NormalOrder;
 use uri_parts::kind::{IriKind, IriRefKind, Kind, UriKind, UriRefKind};
-use uri_setting::RuleSetting;
 
 /// Returns the order of bytes for tables, by the normal forms of texts of the kind.
-fn order<K: Kind>(setting: RuleSetting, one: &[u8], other: &[u8]) -> Ordering
-    ensures { result
-        ≡ order_of_keys (result_ok (normal_result setting.scheme_rules K.kind one.now))
-        (result_ok (normal_result setting.scheme_rules K.kind other.now))
-        (byte_order one.now other.now) }
+fn order<K: Kind>(rules: RuleSet, one: &[u8], other: &[u8]) -> Ordering
+    ensures { result ≡ order_of_keys (result_ok (normal_result rules K.kind one.now))
+        (result_ok (normal_result rules K.kind other.now)) (byte_order one.now other.now) }
 {
     match parsed::<K>(one) {
         Ok(first) => match parsed::<K>(other) {
-            Ok(second) => setting_order::cmp(setting, &first, &second),
+            Ok(second) => NormalOrder::new()
+                .scheme_rules_with(rules)
+                .cmp(&first, &second),
             Err(_) => Ordering::Less,
         },
         Err(_) => match parsed::<K>(other) {
@@ -43,14 +43,14 @@ fn order<K: Kind>(setting: RuleSetting, one: &[u8], other: &[u8]) -> Ordering
 fn order_by_numbers(kind: u32, options: u32, one: &[u8], other: &[u8]) -> Ordering
     ensures { result ≡ key_order kind options one.now other.now }
 {
-    let Some(setting) = rule_setting(options) else {
+    let Some(rules) = rule_set(options) else {
         return one.cmp(other);
     };
     match kind {
-        0 => order::<UriKind>(setting, one, other),
-        1 => order::<UriRefKind>(setting, one, other),
-        2 => order::<IriKind>(setting, one, other),
-        3 => order::<IriRefKind>(setting, one, other),
+        0 => order::<UriKind>(rules, one, other),
+        1 => order::<UriRefKind>(rules, one, other),
+        2 => order::<IriKind>(rules, one, other),
+        3 => order::<IriRefKind>(rules, one, other),
         _ => one.cmp(other),
     }
 }
@@ -77,12 +77,13 @@ pub extern "C" fn fluent_uri_compare(kind: u32, options: u32, one: &[u8], other:
 }
 
 /// Returns whether bytes are a text of the kind that is its own normal form.
-fn is_own_normal_form<K: Kind>(setting: RuleSetting, text: &[u8]) -> bool
-    ensures { (result ≡ true)
-        ↔ (normal_result setting.scheme_rules K.kind text.now ≡ Ok text.now) }
+fn is_own_normal_form<K: Kind>(rules: RuleSet, text: &[u8]) -> bool
+    ensures { (result ≡ true) ↔ (normal_result rules K.kind text.now ≡ Ok text.now) }
 {
     match parsed::<K>(text) {
-        Ok(value) => setting_order::is_normal(setting, &value),
+        Ok(value) => NormalOrder::new()
+            .scheme_rules_with(rules)
+            .is_normal(&value),
         Err(_) => false,
     }
 }
@@ -92,14 +93,14 @@ fn is_own_normal_form<K: Kind>(setting: RuleSetting, text: &[u8]) -> bool
 fn is_own_normal_form_by_numbers(kind: u32, options: u32, text: &[u8]) -> bool
     ensures { (result ≡ true) ↔ (normalize_result kind options text.now ≡ Ok text.now) }
 {
-    let Some(setting) = rule_setting(options) else {
+    let Some(rules) = rule_set(options) else {
         return false;
     };
     match kind {
-        0 => is_own_normal_form::<UriKind>(setting, text),
-        1 => is_own_normal_form::<UriRefKind>(setting, text),
-        2 => is_own_normal_form::<IriKind>(setting, text),
-        3 => is_own_normal_form::<IriRefKind>(setting, text),
+        0 => is_own_normal_form::<UriKind>(rules, text),
+        1 => is_own_normal_form::<UriRefKind>(rules, text),
+        2 => is_own_normal_form::<IriKind>(rules, text),
+        3 => is_own_normal_form::<IriRefKind>(rules, text),
         _ => false,
     }
 }
@@ -153,17 +154,18 @@ fn hash_of_bytes(seed: u64, bytes: &[u8]) -> u64
 }
 
 /// Returns the hash of bytes for tables, and whether they are a text of the kind.
-fn hash<K: Kind>(setting: RuleSetting, seed: u64, text: &[u8]) -> (u64, bool)
+fn hash<K: Kind>(rules: RuleSet, seed: u64, text: &[u8]) -> (u64, bool)
     ensures hash { result.0 ≡ fnv_bytes (seeded seed)
-        (reverse (unwrap_or (result_ok (normal_result setting.scheme_rules K.kind text.now))
-        text.now) ++ 255 ∷ []) }
-    ensures text { result.1
-        ≡ is_some (result_ok (normal_result setting.scheme_rules K.kind text.now)) }
+        (reverse (unwrap_or (result_ok (normal_result rules K.kind text.now)) text.now)
+        ++ 255 ∷ []) }
+    ensures text { result.1 ≡ is_some (result_ok (normal_result rules K.kind text.now)) }
 {
     match parsed::<K>(text) {
         Ok(value) => {
             let mut hasher = seeded(seed);
-            setting_order::hash(setting, &value, &mut hasher);
+            NormalOrder::new()
+                .scheme_rules_with(rules)
+                .hash(&value, &mut hasher);
             (hasher.finish(), true)
         }
         Err(_) => (hash_of_bytes(seed, text), false),
@@ -176,14 +178,14 @@ fn hash_by_numbers(kind: u32, options: u32, seed: u64, text: &[u8]) -> (u64, boo
     ensures hash { result.0 ≡ key_hash kind options seed text.now }
     ensures text { result.1 ≡ is_some (normal_key kind options text.now) }
 {
-    let Some(setting) = rule_setting(options) else {
+    let Some(rules) = rule_set(options) else {
         return (hash_of_bytes(seed, text), false);
     };
     match kind {
-        0 => hash::<UriKind>(setting, seed, text),
-        1 => hash::<UriRefKind>(setting, seed, text),
-        2 => hash::<IriKind>(setting, seed, text),
-        3 => hash::<IriRefKind>(setting, seed, text),
+        0 => hash::<UriKind>(rules, seed, text),
+        1 => hash::<UriRefKind>(rules, seed, text),
+        2 => hash::<IriKind>(rules, seed, text),
+        3 => hash::<IriRefKind>(rules, seed, text),
         _ => (hash_of_bytes(seed, text), false),
     }
 }

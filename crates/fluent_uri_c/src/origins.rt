@@ -19,8 +19,8 @@ use fluent_uri::component::{Authority, Scheme};
 use fluent_uri::pct_enc::Encoder;
 use itoa::Buffer;
 use std::alloc::{AllocError, Global};
+use uri_ops::scheme_rules::RuleSet;
 use uri_parts::kind::{Kind, UriKind, UriRefKind};
-use uri_setting::RuleSetting;
 
 /// Appends a port as a number, with its `:`, if there is one.
 fn push_port(port: Option<u16>, to: &mut String) -> Result<(), AllocError>
@@ -93,10 +93,7 @@ fn origin_of_normal<K: Kind>(
 fn origin_of_kind<K: Kind>(alloc: Global, text: &[u8]) -> Result<String, Rejection>
     ensures { IsReturnedAs string_bytes (origin_of_kind K.kind text.now) result }
 {
-    let setting = RuleSetting {
-        scheme_rules: false,
-    };
-    let normal = normal_form::<K>(alloc, text, setting)?;
+    let normal = normal_form::<K>(alloc, text, RuleSet::DefaultPorts)?;
     Ok(origin_of_normal(alloc, normal.borrow())?)
 }
 

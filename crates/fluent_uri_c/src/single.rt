@@ -10,7 +10,7 @@ ghost use Rattle.fluent_uri_c.specs.Spans.{ArePartsOf};
 ghost use Rattle.fluent_uri_c.specs.Values.{LeavesValue, LeavesValueOrDenied};
 
 use crate::errors::{Error, Rejection};
-use crate::numbered::{is_basic, rule_setting};
+use crate::numbered::{is_basic, rule_set};
 use crate::outcome::{Outcome, put, put_or_report, put_value_or_report, report};
 use crate::parts::{Parts, parse};
 use crate::texts::lengths_error;
@@ -45,14 +45,14 @@ pub extern "C" fn fluent_uri_normalize(
     ensures text { LeavesValue (normalize_result kind options text.now)
         out.old out.new parts.old parts.new outcome.new result }
 {
-    let Some(setting) = rule_setting(options) else {
+    let Some(rules) = rule_set(options) else {
         return report(Rejection::of(Error::InvalidArgument), outcome);
     };
     match kind {
-        0 => normalize::<UriKind>(alloc, setting, text, out, parts, outcome),
-        1 => normalize::<UriRefKind>(alloc, setting, text, out, parts, outcome),
-        2 => normalize::<IriKind>(alloc, setting, text, out, parts, outcome),
-        3 => normalize::<IriRefKind>(alloc, setting, text, out, parts, outcome),
+        0 => normalize::<UriKind>(alloc, rules, text, out, parts, outcome),
+        1 => normalize::<UriRefKind>(alloc, rules, text, out, parts, outcome),
+        2 => normalize::<IriKind>(alloc, rules, text, out, parts, outcome),
+        3 => normalize::<IriRefKind>(alloc, rules, text, out, parts, outcome),
         _ => report(Rejection::of(Error::InvalidArgument), outcome),
     }
 }
@@ -124,15 +124,15 @@ fn resolve_normalized_by_numbers(
     ensures { LeavesValue (resolve_normalized_result kind options base.now reference.now)
         out.old out.new parts.old parts.new outcome.new result }
 {
-    let Some(setting) = rule_setting(options) else {
+    let Some(rules) = rule_set(options) else {
         return report(Rejection::of(Error::InvalidArgument), outcome);
     };
     match kind {
         0 => {
-            resolve_normalized::<UriRefKind>(alloc, setting, base, reference, out, parts, outcome)
+            resolve_normalized::<UriRefKind>(alloc, rules, base, reference, out, parts, outcome)
         }
         2 => {
-            resolve_normalized::<IriRefKind>(alloc, setting, base, reference, out, parts, outcome)
+            resolve_normalized::<IriRefKind>(alloc, rules, base, reference, out, parts, outcome)
         }
         _ => report(Rejection::of(Error::InvalidArgument), outcome),
     }

@@ -24,16 +24,18 @@ ghost use Rattle.fluent_uri_c.specs.Results.{normal_resolution, resolution, utf8
 
 use crate::ascii::is_ascii;
 use crate::errors::{Error, Rejection};
+use fluent_uri::normalize::Normalizer;
+use fluent_uri::resolve::Resolver;
 use fluent_uri::roles::{BaseKind, RefKind};
 use fluent_uri::{Iri, IriRef, Reference, Uri, UriRef};
 use std::alloc::Global;
 use uri_basic::BasicResolver;
 use uri_mend::Mend;
+use uri_ops::scheme_rules::RuleSet;
 use uri_parts::core_text::Core;
 use uri_parts::kind::{IriKind, IriRefKind, Kind};
 use uri_parts::parse::parse;
 use uri_relative::Relativizer;
-use uri_setting::RuleSetting;
 
 /// Returns whether bytes that C hands over are no more than `PTRDIFF_MAX`, so that they can be
 /// there.
@@ -180,12 +182,14 @@ fn resolve_normalized_text<K: RefKind>(
     alloc: Global,
     base: &Reference<K::Base, &str>,
     reference: &Reference<K, &str>,
-    setting: RuleSetting,
+    rules: RuleSet,
 ) -> Result<Reference<K::Base, String>, Rejection>
-    ensures { IsReturnedAs reference_text (normal_resolution setting.scheme_rules K.Base.kind
+    ensures { IsReturnedAs reference_text (normal_resolution rules K.Base.kind
         (reference_text base.now) (reference_text reference.now)) result }
 {
-    match setting.resolve_normalized(alloc, &base.strip_fragment(), reference) {
+    let resolver = Resolver::with_base(base.strip_fragment());
+    let normalizer = Normalizer::new().scheme_rules_with(rules);
+    match resolver.resolve_normalized(alloc, reference, &normalizer) {
         Ok(target) => Ok(target),
         Err(error) => Err(Rejection::from(error)),
     }
@@ -228,13 +232,13 @@ pub fn normal_target_from<K: RefKind>(
     alloc: Global,
     base: &Reference<K::Base, &str>,
     reference: &[u8],
-    setting: RuleSetting,
+    rules: RuleSet,
 ) -> Result<Reference<K::Base, String>, Rejection>
-    ensures { IsReturnedAs reference_text (normal_target_from setting.scheme_rules K.Base.kind
+    ensures { IsReturnedAs reference_text (normal_target_from rules K.Base.kind
         (reference_text base.now) reference.now) result }
 {
     match parsed::<K>(reference) {
-        Ok(reference) => resolve_normalized_text(alloc, base, &reference, setting),
+        Ok(reference) => resolve_normalized_text(alloc, base, &reference, rules),
         Err(why) => Err(why.in_reference()),
     }
 }
@@ -265,13 +269,13 @@ pub fn normal_target<K: RefKind>(
     alloc: Global,
     base: &[u8],
     reference: &[u8],
-    setting: RuleSetting,
+    rules: RuleSet,
 ) -> Result<Reference<K::Base, String>, Rejection>
     ensures { IsReturnedAs reference_text (rejection_or_result (text_error K.Base.kind base.now)
-        (normal_target_from setting.scheme_rules K.Base.kind base.now reference.now)) result }
+        (normal_target_from rules K.Base.kind base.now reference.now)) result }
 {
     let base = parsed::<K::Base>(base)?;
-    normal_target_from::<K>(alloc, &base, reference, setting)
+    normal_target_from::<K>(alloc, &base, reference, rules)
 }
 
 /// Returns a reference that leads from a base to a target, both as bytes, as `reference_from` does.

@@ -11,7 +11,7 @@ ghost use Rattle.fluent_uri_c.specs.Results.{takes_memory_for_target, target_fro
 ghost use Rattle.fluent_uri_c.specs.Values.{HasPartsFirst, LeavesValue, LeavesValueOrDenied};
 
 use crate::errors::{Error, Rejection};
-use crate::normal_forms::is_own_normal_form;
+use crate::normal_forms::{is_own_normal_form, normalized};
 use crate::outcome::{Outcome, put_pieces, put_value, put_value_or_report, report};
 use crate::parts::{Parts, write_first_parts};
 use crate::texts::{self, parsed, parsed_reference};
@@ -20,30 +20,29 @@ use fluent_uri::roles::{BaseKind, RefKind};
 use std::alloc::Global;
 use uri_ops::resolve::resolve_to_pieces;
 use uri_ops::resolve::target_pieces::TargetPieces;
+use uri_ops::scheme_rules::RuleSet;
 use uri_parts::core_text::Core;
 use uri_parts::kind::Kind;
-use uri_setting::RuleSetting;
 
 /// Writes the normal form of a value, from the input if the text is found to be its own, or reports
 /// that memory is out. Returns the number of the error, or 0.
 #[inline(always)]
 fn write_normal_form<K: Kind>(
     alloc: Global,
-    setting: RuleSetting,
+    rules: RuleSet,
     value: &Reference<K, &str>,
     out: &mut [u8],
     parts: &mut [Parts],
     outcome: &mut Outcome,
 ) -> u32
-    ensures { LeavesValue
-        (Ok (normal_form_of setting.scheme_rules K.kind (reference_text value.now)))
+    ensures { LeavesValue (Ok (normal_form_of rules K.kind (reference_text value.now)))
         out.old out.new parts.old parts.new outcome.new result }
 {
-    if is_own_normal_form(setting, value) {
+    if is_own_normal_form(rules, value) {
         put_value(value, out, parts, outcome);
         return 0;
     }
-    match setting.normalize(alloc, value) {
+    match normalized(alloc, rules, value) {
         Ok(normal) => {
             put_value(&normal, out, parts, outcome);
             0
@@ -56,17 +55,17 @@ fn write_normal_form<K: Kind>(
 /// Returns the number of the error, or 0.
 pub fn normalize<K: Kind>(
     alloc: Global,
-    setting: RuleSetting,
+    rules: RuleSet,
     text: &[u8],
     out: &mut [u8],
     parts: &mut [Parts],
     outcome: &mut Outcome,
 ) -> u32
-    ensures { LeavesValue (normal_result setting.scheme_rules K.kind text.now)
+    ensures { LeavesValue (normal_result rules K.kind text.now)
         out.old out.new parts.old parts.new outcome.new result }
 {
     match parsed::<K>(text) {
-        Ok(value) => write_normal_form(alloc, setting, &value, out, parts, outcome),
+        Ok(value) => write_normal_form(alloc, rules, &value, out, parts, outcome),
         Err(why) => report(why, outcome),
     }
 }
@@ -205,7 +204,7 @@ pub fn resolve<K: RefKind>(
 /// why there is none. Returns the number of the error, or 0.
 pub fn resolve_normalized<K: RefKind>(
     alloc: Global,
-    setting: RuleSetting,
+    rules: RuleSet,
     base: &[u8],
     reference: &[u8],
     out: &mut [u8],
@@ -213,11 +212,11 @@ pub fn resolve_normalized<K: RefKind>(
     outcome: &mut Outcome,
 ) -> u32
     ensures { LeavesValue (rejection_or_result (text_error K.Base.kind base.now)
-        (normal_target_from setting.scheme_rules K.Base.kind base.now reference.now))
+        (normal_target_from rules K.Base.kind base.now reference.now))
         out.old out.new parts.old parts.new outcome.new result }
 {
     put_value_or_report(
-        texts::normal_target::<K>(alloc, base, reference, setting),
+        texts::normal_target::<K>(alloc, base, reference, rules),
         out,
         parts,
         outcome,

@@ -3,7 +3,7 @@
 #![tactic(auto, using(fluent_uri::proofs::Calling::calling))]
 
 ghost use Rattle.std.specs.Prelude.{IfOk};
-ghost use Rattle.fluent_uri.specs.Prelude.{IsNormalForm, default_port, uri, uri_text};
+ghost use Rattle.fluent_uri.specs.Prelude.{IsNormalForm, default_rules, uri, uri_text};
 
 use fluent_uri::resolve::ResolveError;
 use fluent_uri::{ParseError, Uri, UriRef};
@@ -35,7 +35,7 @@ fn target(alloc: Global, page: &Uri<&str>, link: &str) -> Result<Uri<String>, Fa
 /// Returns the normal form of a target (RFC 3986, section 6.2.2).
 fn normal_form(alloc: Global, target: &Uri<String>) -> Result<Uri<String>, AllocError>
     ensures { IfOk result (λ normal.
-        IsNormalForm uri default_port (uri_text target.now) (uri_text normal)) }
+        IsNormalForm uri default_rules (uri_text target.now) (uri_text normal)) }
 {
     target.normalize(alloc)
 }

@@ -8,7 +8,7 @@ ghost use Rattle.fluent_uri.specs.Schemes.{scheme_text};
 ghost use Rattle.fluent_uri.specs.Uris.{uri_ref_text};
 
 use fluent_uri::component::Scheme;
-use fluent_uri::normalize::{DefaultPort, SchemeDefaults};
+use fluent_uri::normalize::{DefaultPorts, SchemeRules};
 use fluent_uri::resolve::{ResolveError, Resolver};
 use fluent_uri::{IriRef, RefOf, Ri, RiMaybeRef, UriRef, WithOwned};
 use std::alloc::{AllocError, Global};
@@ -56,12 +56,17 @@ where
     owned.as_str()
 }
 
-/// A caller asks default ports of its own, or those of the library.
-pub fn port_for<P: DefaultPort>(ports: Option<&P>, scheme: Scheme<'_>) -> Option<u16> {
-    match ports {
-        Some(ports) => ports.default_port(scheme),
-        None => SchemeDefaults.default_port(scheme),
+/// A caller asks rules of its own for a default port, or those of the library.
+pub fn port_for<S: SchemeRules>(rules: Option<&S>, scheme: Scheme<'_>) -> Option<u16> {
+    match rules {
+        Some(rules) => rules.default_port(scheme),
+        None => DefaultPorts.default_port(scheme),
     }
+}
+
+/// A caller asks rules whether an authority alone may be a normal form under a scheme.
+pub fn may_be_authority_alone<S: SchemeRules>(rules: &S, scheme: Scheme<'_>) -> bool {
+    !rules.empty_path_is_root(scheme) && !rules.default_host_is_localhost(scheme)
 }
 
 /// A caller keeps a reference that is borrowed.

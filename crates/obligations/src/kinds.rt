@@ -12,7 +12,7 @@ ghost use Rattle.fluent_uri.specs.Grammar.{IsOfKind, iri, iri_ref, uri, uri_ref}
 ghost use Rattle.fluent_uri.specs.Iris.{iri_ref_text, iri_text};
 ghost use Rattle.fluent_uri.specs.Normalizers.{IsNormalForm};
 ghost use Rattle.fluent_uri.specs.Refusals.{refusal};
-ghost use Rattle.fluent_uri.specs.SchemePorts.{default_port};
+ghost use Rattle.fluent_uri.specs.SchemeRules.{default_rules};
 ghost use Rattle.fluent_uri.specs.Schemes.{scheme_text};
 ghost use Rattle.fluent_uri.specs.Target.{resolution_of_texts};
 ghost use Rattle.fluent_uri.specs.Uris.{uri_ref_text, uri_text};
@@ -205,7 +205,7 @@ pub fn remove_fragment(value: &mut IriRef<String>) -> Result<(), AllocError>
 /// A caller calls `normalize` of an IRI reference that owns its text.
 pub fn normalized(alloc: Global, value: &IriRef<String>) -> Result<IriRef<String>, AllocError>
     ensures { IfOk result (λ normal.
-        IsNormalForm iri_ref default_port (iri_ref_text value.now) (iri_ref_text normal)) }
+        IsNormalForm iri_ref default_rules (iri_ref_text value.now) (iri_ref_text normal)) }
 {
     value.normalize(alloc)
 }

@@ -1,7 +1,9 @@
 //! Normalisers and resolvers, with and without settings.
 #![tactic(auto)]
 
-use fluent_uri::normalize::{DefaultPort, NormalizeError, Normalizer};
+use fluent_uri::normalize::{
+    DefaultPorts, NormalizeError, Normalizer, RuleSet, SchemeRules, StandardRules, WithPorts,
+};
 use fluent_uri::resolve::{ResolveError, Resolver};
 use fluent_uri::{Uri, UriRef};
 use std::alloc::Global;
@@ -23,13 +25,37 @@ pub fn normal_form_without_underflow(
 }
 
 /// A caller gets the normal form of a URI by a `Normalizer` under default ports of its own.
-pub fn normal_form_under<P: DefaultPort + Drop>(
+pub fn normal_form_under<P: SchemeRules>(
     alloc: Global,
     uri: &Uri<&str>,
     ports: P,
 ) -> Result<Uri<String>, NormalizeError> {
     let normalizer = Normalizer::new().default_port_with(ports);
     normalizer.normalize(alloc, uri)
+}
+
+/// A caller gets the normal form of a URI by the rules that standards give.
+pub fn normal_form_by_standards(
+    alloc: Global,
+    uri: &Uri<&str>,
+) -> Result<Uri<String>, NormalizeError> {
+    let normalizer = Normalizer::new().scheme_rules_with(StandardRules);
+    normalizer.normalize(alloc, uri)
+}
+
+/// A caller names the type of a `Normalizer` with default ports of its own.
+pub fn with_own_ports<P: SchemeRules>(ports: P) -> Normalizer<WithPorts<P, DefaultPorts>> {
+    Normalizer::new().default_port_with(ports)
+}
+
+/// A caller makes a `Normalizer` by the set of rules that a flag chooses.
+pub fn normalizer_by_flag(standard: bool) -> Normalizer<RuleSet> {
+    let rules = if standard {
+        RuleSet::StandardRules
+    } else {
+        RuleSet::DefaultPorts
+    };
+    Normalizer::<DefaultPorts>::default().scheme_rules_with(rules)
 }
 
 /// A caller gets the targets of two references by one `Resolver`.

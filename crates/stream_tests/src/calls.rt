@@ -1,5 +1,6 @@
 //! Runs of which a call fails or is interrupted, and what the error output and the observer get.
 use crate::streams::{CAPACITY, both_outputs, with_defaults};
+use fluent_uri::normalize::RuleSet;
 use std::io::{self, BufReader, ErrorKind, Read, Write};
 use std::process::Abort;
 use test_support::equal;
@@ -45,7 +46,7 @@ impl Read for Fails {
 #[test]
 fn a_failed_read_and_a_failed_write_end_the_run(rt: HostRuntime) {
     let alloc = rt.alloc();
-    let job = with_defaults(LineCommand::Normalize(KindName::Uri, false));
+    let job = with_defaults(LineCommand::Normalize(KindName::Uri, RuleSet::DefaultPorts));
     let input: &[u8] = b"HTTP://a/\nHTTP://b/\nx";
     for at in 0..input.len() {
         let reader = BufReader::with_capacity(alloc, CAPACITY, input[..at].chain(Fails));
@@ -120,7 +121,7 @@ impl<W: Write> Write for Interrupted<W> {
 #[test]
 fn interrupted_calls_are_made_again(rt: HostRuntime) {
     let alloc = rt.alloc();
-    let job = with_defaults(LineCommand::Normalize(KindName::Uri, false));
+    let job = with_defaults(LineCommand::Normalize(KindName::Uri, RuleSet::DefaultPorts));
     let input: &[u8] = b"HTTP://a/\nHTTP://b/\nx:";
     let reader = Interrupted {
         inner: input,
@@ -158,7 +159,7 @@ const REPORTS: &[(OnError, &[u8])] = &[
 #[test]
 fn errors_are_reported_with_their_lines(rt: HostRuntime) {
     let alloc = rt.alloc();
-    let mut job = with_defaults(LineCommand::Normalize(KindName::Uri, false));
+    let mut job = with_defaults(LineCommand::Normalize(KindName::Uri, RuleSet::DefaultPorts));
     for &(errors, wanted) in REPORTS {
         job.errors = errors;
         let got = both_outputs(alloc, &job, b"a b\nx:\n\n")
@@ -187,7 +188,7 @@ impl Watch for Counts {
 #[test]
 fn each_line_is_seen(rt: HostRuntime) {
     let alloc = rt.alloc();
-    let job = with_defaults(LineCommand::Normalize(KindName::Uri, false));
+    let job = with_defaults(LineCommand::Normalize(KindName::Uri, RuleSet::DefaultPorts));
     let input: &[u8] = b"x:\na b\ny:";
     let reader = BufReader::with_capacity(alloc, CAPACITY, input).expect(&rt, "memory");
     let (mut out, mut err) = (Sink::new(Vec::new(alloc)), Sink::new(Vec::new(alloc)));

@@ -1,5 +1,6 @@
 //! What the error of a run that fails is: that of the call that failed.
 use crate::streams::{CAPACITY, with_defaults};
+use fluent_uri::normalize::RuleSet;
 use std::alloc::Global;
 use std::io::{self, BufReader, ErrorKind, Read, Write};
 use std::process::Abort;
@@ -23,7 +24,7 @@ fn ended<R: Read + Drop, W: Write>(
         Ok(reader) => reader,
         Err(error) => return (Err(Failure::Input(error)), out.into_inner()),
     };
-    let job = with_defaults(LineCommand::Normalize(KindName::Uri, false));
+    let job = with_defaults(LineCommand::Normalize(KindName::Uri, RuleSet::DefaultPorts));
     let mut err = Sink::new(Vec::new(alloc));
     let mut reader = Source::new(reader);
     let got = run(alloc, &job, &mut reader, &mut out, &mut err, &mut Unwatched);

@@ -1,6 +1,7 @@
 //! Links of pages, mended by `urilines`.
 use crate::streams::{both_outputs, with_defaults};
 use fluent_uri::Uri;
+use fluent_uri::normalize::RuleSet;
 use std::alloc::Global;
 use std::hash::RandomState;
 use std::process::Abort;
@@ -22,7 +23,7 @@ fn writes<R: Abort>(rt: &R, alloc: Global, command: Command<'_>, input: &str, ou
 #[test]
 fn lines_are_mended_first(rt: HostRuntime) {
     let alloc = rt.alloc();
-    let command = Command::Each(LineCommand::Normalize(KindName::Uri, false));
+    let command = Command::Each(LineCommand::Normalize(KindName::Uri, RuleSet::DefaultPorts));
     let output = "http://h/a%20b\nhttp://h/50%25\r\nerror: unexpected character at index 8\n";
     let input = "HTTP://h/a b\n \thttp://h/50%\r\nhttp://a b/";
     writes(&rt, alloc, command, input, output);
@@ -31,7 +32,7 @@ fn lines_are_mended_first(rt: HostRuntime) {
     let command = Command::Each(LineCommand::Query(KindName::IriRef));
     writes(&rt, alloc, command, "?a=[1]\n", "[[\"a\",\"[1]\"]]\n");
     let hasher = RandomState::new(&rt).expect(&rt, "random numbers");
-    let command = Command::Unique(KindName::Uri, false, hasher);
+    let command = Command::Unique(KindName::Uri, RuleSet::DefaultPorts, hasher);
     writes(&rt, alloc, command, "x: |\nX:%20%7c\n", "x:%20%7C\n");
 }
 
@@ -63,7 +64,7 @@ fn references_and_targets_are_mended_first(rt: HostRuntime) {
     writes(
         &rt,
         alloc,
-        Command::Links(base, false),
+        Command::Links(base, RuleSet::DefaultPorts),
         "c d\n c%20d \n",
         output,
     );

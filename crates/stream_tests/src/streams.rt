@@ -1,5 +1,6 @@
 //! The tests.
 use fluent_uri::Uri;
+use fluent_uri::normalize::RuleSet;
 use std::alloc::{AllocError, Global};
 use std::hash::RandomState;
 use std::io::{BufReader, Read};
@@ -91,7 +92,7 @@ fn input(alloc: Global, number: usize) -> Result<Vec<u8>, AllocError> {
 #[test]
 fn reads_may_end_anywhere(rt: HostRuntime) {
     let alloc = rt.alloc();
-    let job = with_defaults(LineCommand::Normalize(KindName::Uri, false));
+    let job = with_defaults(LineCommand::Normalize(KindName::Uri, RuleSet::DefaultPorts));
     for number in 0..216 {
         let input = input(alloc, number).expect(&rt, "memory");
         let bytes = input.as_slice();
@@ -129,7 +130,7 @@ const NORMALIZED: &[(&[u8], &[u8])] = &[
 #[test]
 fn writes_a_line_for_each(rt: HostRuntime) {
     let alloc = rt.alloc();
-    let job = with_defaults(LineCommand::Normalize(KindName::Uri, false));
+    let job = with_defaults(LineCommand::Normalize(KindName::Uri, RuleSet::DefaultPorts));
     for &(input, output) in NORMALIZED {
         let got = written(alloc, &job, input).ok().expect(&rt, "run");
         equal(got.1.as_slice(), output).expect(&rt, "output");
@@ -245,7 +246,7 @@ const FIELDS: &[(OnError, &[u8], &[u8])] = &[
 #[test]
 fn a_field_is_worked_on_alone(rt: HostRuntime) {
     let alloc = rt.alloc();
-    let mut job = with_defaults(LineCommand::Normalize(KindName::Uri, false));
+    let mut job = with_defaults(LineCommand::Normalize(KindName::Uri, RuleSet::DefaultPorts));
     job.field = Some(Field {
         before: 1,
         delimiter: b'|',
@@ -263,7 +264,7 @@ fn repeated_lines_are_known(rt: HostRuntime) {
     let alloc = rt.alloc();
     let hasher = RandomState::new(&rt).expect(&rt, "random numbers");
     let mut job = with_defaults(LineCommand::Parse(KindName::Uri));
-    job.command = Command::Unique(KindName::Uri, false, hasher);
+    job.command = Command::Unique(KindName::Uri, RuleSet::DefaultPorts, hasher);
     let got = both_outputs(alloc, &job, b"HTTP://h\r\nx:\nhttp://h:80\na b\nX:\n");
     let got = got.ok().expect(&rt, "run");
     equal(
@@ -272,7 +273,7 @@ fn repeated_lines_are_known(rt: HostRuntime) {
     )
     .expect(&rt, "unique");
     let base = Uri::<&str>::parse("http://a/b").expect(&rt, "base");
-    job.command = Command::Links(base, false);
+    job.command = Command::Links(base, RuleSet::DefaultPorts);
     let got = both_outputs(alloc, &job, b"c\nd\n./%63\na b\n")
         .ok()
         .expect(&rt, "run");
@@ -290,9 +291,9 @@ fn rules_of_schemes(rt: HostRuntime) {
     let hasher = RandomState::new(&rt).expect(&rt, "random numbers");
     let base = Uri::<&str>::parse("x://y").expect(&rt, "base");
     let commands = [
-        Command::Each(LineCommand::Normalize(KindName::Uri, true)),
-        Command::Unique(KindName::Uri, true, hasher),
-        Command::Links(base, true),
+        Command::Each(LineCommand::Normalize(KindName::Uri, RuleSet::StandardRules)),
+        Command::Unique(KindName::Uri, RuleSet::StandardRules, hasher),
+        Command::Links(base, RuleSet::StandardRules),
     ];
     let outputs = [
         "http://a/\nhttp://a/\nfile:///b\nhttp://a/b\n",
@@ -316,7 +317,7 @@ fn denied_memory_leaves_a_prefix(rt: HostRuntime) {
     let alloc = rt.alloc();
     let hasher = RandomState::new(&rt).expect(&rt, "random numbers");
     let mut job = with_defaults(LineCommand::Parse(KindName::Uri));
-    job.command = Command::Unique(KindName::Uri, false, hasher);
+    job.command = Command::Unique(KindName::Uri, RuleSet::DefaultPorts, hasher);
     let input: &[u8] = b"HTTP://h\nx:\na b\nhttp://h:80\ny:\n";
     let output: &[u8] = b"http://h\nx:\nerror: unexpected character at index 1\ny:\n";
     let Ok(reader) = BufReader::with_capacity(alloc, CAPACITY, input) else {

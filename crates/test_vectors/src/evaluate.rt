@@ -2,12 +2,13 @@
 
 use crate::fields::{Fields, RowError, Words};
 use crate::operation::{Kind, Operation, Order, PairOperation, SubstringOperation, ValueOperation};
-use crate::orders::{self, ByPorts, ByRules};
-use crate::settings::Always;
-use crate::{ascii_hosts, basic, conversions, encoded, mending, references, relative, rules};
+use crate::settings::RowPort;
+use crate::{
+    ascii_hosts, basic, conversions, encoded, mending, orders, references, relative, rules,
+};
 use fluent_uri::component::Scheme;
 use fluent_uri::net::{IpAddr, Ipv4Addr, Ipv6Addr};
-use fluent_uri::normalize::SchemeDefaults;
+use fluent_uri::normalize::{DefaultPorts, StandardRules};
 use fluent_uri::roles::{BaseKind, RefKind};
 use std::alloc::Global;
 use std::hash::{DefaultHasher, Hash, Hasher};
@@ -94,10 +95,10 @@ fn of_kind<K: kind::Kind>(
         ValueOperation::Mend => mending::mend::<K>(alloc, text, words),
         ValueOperation::NormalizeByRules(ask) => rules::normalize::<K>(alloc, ask, text, words),
         ValueOperation::IsNormal(Order::ByRules) => {
-            orders::is_normal::<K, _>(alloc, &ByRules::new(), text, words)
+            orders::is_normal::<K, _>(alloc, StandardRules, text, words)
         }
         ValueOperation::IsNormal(_) => {
-            orders::is_normal::<K, _>(alloc, &ByPorts::new(SchemeDefaults), text, words)
+            orders::is_normal::<K, _>(alloc, DefaultPorts, text, words)
         }
         ValueOperation::AsciiHost => ascii_hosts::ascii_host::<K>(alloc, text, words),
         _ => references::evaluate::<K>(alloc, ask, text, fields, words),
@@ -178,14 +179,12 @@ fn of_texts<K: kind::Kind>(
     words: &mut Words,
 ) -> Result<(), RowError> {
     match order {
-        Order::ByPorts => {
-            orders::compare::<K, _>(alloc, &ByPorts::new(SchemeDefaults), texts, words)
-        }
+        Order::ByPorts => orders::compare::<K, _>(alloc, DefaultPorts, texts, words),
         Order::Under => {
-            let ports = Always(fields.number()?);
-            orders::compare::<K, _>(alloc, &ByPorts::new(ports), texts, words)
+            let (scheme, port) = (None, fields.number()?);
+            orders::compare::<K, _>(alloc, RowPort { scheme, port }, texts, words)
         }
-        Order::ByRules => orders::compare::<K, _>(alloc, &ByRules::new(), texts, words),
+        Order::ByRules => orders::compare::<K, _>(alloc, StandardRules, texts, words),
     }
 }
 

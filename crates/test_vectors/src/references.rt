@@ -5,10 +5,10 @@ use crate::operation::{Setting, ValueOperation};
 use crate::parsed::{
     authority_of, say_authority, say_components, say_host, say_parse_error, say_port, say_socket,
 };
-use crate::settings::{Always, OnePort};
+use crate::settings::RowPort;
 use fluent_uri::Reference;
 use fluent_uri::component::{Authority, HostOf, Scheme};
-use fluent_uri::normalize::{DefaultPort, NormalizeError, Normalizer};
+use fluent_uri::normalize::{NormalizeError, Normalizer, SchemeRules};
 use fluent_uri::pct_enc::encoder::Encoder;
 use fluent_uri::resolve::{ResolveError, Resolver};
 use fluent_uri::roles::RefKind;
@@ -96,21 +96,20 @@ fn normalize<K: Kind>(
         }
         Setting::Other => {
             let (scheme, port) = (fields.word()?, fields.number()?);
-            if scheme == "*" {
-                let normalizer = normalizer.default_port_with(Always(port));
-                return normalized(alloc, &normalizer, value, words);
-            }
-            let scheme = Scheme::new(scheme).ok_or(RowError::NotAScheme)?;
-            let normalizer = normalizer.default_port_with(OnePort { scheme, port });
+            let scheme = match scheme {
+                "*" => None,
+                scheme => Some(Scheme::new(scheme).ok_or(RowError::NotAScheme)?),
+            };
+            let normalizer = normalizer.default_port_with(RowPort { scheme, port });
             normalized(alloc, &normalizer, value, words)
         }
     }
 }
 
 /// Appends to a row's result the normal form, and that of the normal form where it is another.
-fn normalized<K: Kind, P: DefaultPort>(
+pub(crate) fn normalized<K: Kind, S: SchemeRules>(
     alloc: Global,
-    normalizer: &Normalizer<P>,
+    normalizer: &Normalizer<S>,
     value: Reference<K, &str>,
     words: &mut Words,
 ) -> Result<(), RowError> {
@@ -124,9 +123,9 @@ fn normalized<K: Kind, P: DefaultPort>(
 }
 
 /// Appends to a row's result the normal form of a normal form where it is another.
-fn normalized_again<K: Kind, P: DefaultPort>(
+fn normalized_again<K: Kind, S: SchemeRules>(
     alloc: Global,
-    normalizer: &Normalizer<P>,
+    normalizer: &Normalizer<S>,
     normal: &Reference<K, String>,
     words: &mut Words,
 ) -> Result<(), RowError> {

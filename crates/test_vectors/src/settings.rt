@@ -1,60 +1,60 @@
-//! Default ports that a row gives, and rules of schemes.
+//! Rules of schemes that a row gives.
 
 use fluent_uri::component::Scheme;
-use fluent_uri::normalize::DefaultPort;
-use uri_rules::SchemeRules;
+use fluent_uri::normalize::SchemeRules;
 
-/// The default port of one scheme, where no other scheme has one.
+/// The default port that a row gives to one scheme, or, if it names none, to every scheme.
 #[derive(Clone, Copy)]
-pub(crate) struct OnePort<'a> {
-    pub(crate) scheme: Scheme<'a>,
+pub(crate) struct RowPort<'a> {
+    pub(crate) scheme: Option<Scheme<'a>>,
     pub(crate) port: u16,
 }
 
-impl DefaultPort for OnePort<'_> {
-    ghost use Rattle.std.specs.Prelude.{◌==◌, Some, None, if◌then◌else◌};
+impl SchemeRules for RowPort<'_> {
+    ghost use Rattle.std.specs.Prelude.{◌==◌, Some, None, true, if◌then◌else◌};
     ghost use Rattle.std.specs.Cmp.Lexicographic.{pointwise};
+    ghost use Rattle.std.specs.Option.{option_map_or};
+    ghost use Rattle.fluent_uri.specs.SchemeRules.{only_ports};
     ghost use Rattle.fluent_uri.specs.Schemes.{lowered_scheme};
 
-    ghost port_of = { λ ports scheme.
-        if pointwise ◌==◌ (lowered_scheme ports.scheme) scheme then Some ports.port else None };
+    ghost rules_of = { λ row. only_ports (λ scheme.
+        if option_map_or true (λ one. pointwise ◌==◌ (lowered_scheme one) scheme) row.scheme
+        then Some row.port else None) };
 
-    /// Returns the port that a row gives for one scheme, and none for others.
+    /// Returns the port that the row gives to the scheme, if it gives one.
     fn default_port(&self, scheme: Scheme<'_>) -> Option<u16> {
-        if self.scheme == scheme {
-            Some(self.port)
-        } else {
-            None
+        match self.scheme {
+            Some(one) => { if one == scheme { Some(self.port) } else { None } }
+            None => Some(self.port),
         }
     }
-}
 
-/// A default port that is the same for every scheme.
-#[derive(Clone, Copy, Drop)]
-pub(crate) struct Always(pub(crate) u16);
+    /// Returns `false`.
+    fn empty_path_is_root(&self, _scheme: Scheme<'_>) -> bool {
+        false
+    }
 
-impl DefaultPort for Always {
-    ghost use Rattle.std.specs.Prelude.{Some};
-
-    ghost port_of = { λ ports _. Some ports.0 };
-
-    /// Returns the port that a row gives for every scheme.
-    fn default_port(&self, _scheme: Scheme<'_>) -> Option<u16> {
-        Some(self.0)
+    /// Returns `false`.
+    fn default_host_is_localhost(&self, _scheme: Scheme<'_>) -> bool {
+        false
     }
 }
 
 /// Rules of a caller: under every scheme an empty path after an authority is `/`, and the default
-/// host is `localhost`.
+/// host is `localhost`. No scheme has a default port.
 #[derive(Clone, Copy)]
 pub(crate) struct EveryScheme;
 
 impl SchemeRules for EveryScheme {
-    ghost use Rattle.std.specs.Prelude.{true};
+    ghost use Rattle.std.specs.Prelude.{true, None};
+    ghost use Rattle.fluent_uri.specs.SchemeRules.{rules_with};
 
-    ghost roots_of = { λ _ _. true };
+    ghost rules_of = { λ _. rules_with (λ _. None) (λ _. true) (λ _. true) };
 
-    ghost locals_of = { λ _ _. true };
+    /// Returns `None`.
+    fn default_port(&self, _scheme: Scheme<'_>) -> Option<u16> {
+        None
+    }
 
     /// Returns `true`.
     fn empty_path_is_root(&self, _scheme: Scheme<'_>) -> bool {

@@ -2,7 +2,7 @@
 //!
 //! Each kind is parsed in one of them, which the others call. So LLVM inlines the parsers of URIs
 //! and of IRIs there; references are parsed by `uri_mend` too.
-use fluent_uri::normalize::{Normalizer, SchemeDefaults};
+use fluent_uri::normalize::{DefaultPorts, Normalizer, RuleSet};
 use fluent_uri::pct_enc::encoder::{Data, IPath, Path};
 use fluent_uri::pct_enc::{CowStr, EStr, EString};
 use fluent_uri::resolve::Resolver;
@@ -11,7 +11,6 @@ use std::alloc::Global;
 use uri_basic::BasicResolver;
 use uri_links::links::{Outcome, Register};
 use uri_mend::{Mend, MendError};
-use uri_setting::RuleSetting;
 
 /// A counted call: parses a text as a URI.
 #[inline(never)]
@@ -19,12 +18,12 @@ pub fn parse_uri(text: &str) -> Result<Uri<&str>, ParseError> {
     Uri::<&str>::parse(text)
 }
 
-/// A counted call: parses a text as a URI, and normalises it by the rules of its scheme if
-/// `scheme_rules` is true.
+/// A counted call: parses a text as a URI, and normalises it by these rules of schemes. `None` if
+/// either fails.
 #[inline(never)]
-pub fn normalize_by_setting(alloc: Global, text: &str, scheme_rules: bool) -> Option<Uri<String>> {
-    let setting = RuleSetting { scheme_rules };
-    setting.normalize(alloc, &parse_uri(text).ok()?).ok()
+pub fn normalize_by_rules(alloc: Global, text: &str, rules: RuleSet) -> Option<Uri<String>> {
+    let normalizer = Normalizer::new().scheme_rules_with(rules);
+    normalizer.normalize(alloc, &parse_uri(text).ok()?).ok()
 }
 
 /// A counted call: parses a text as a URI reference.
@@ -168,7 +167,7 @@ pub fn build(alloc: Global, parts: Uri<&str>) -> Option<Uri<String>> {
 /// `None` if either fails.
 #[inline(never)]
 pub fn note(
-    register: &mut Register<Normalizer<SchemeDefaults>>,
+    register: &mut Register<DefaultPorts>,
     base: &Uri<&str>,
     reference: &str,
 ) -> Option<Outcome> {

@@ -5,7 +5,7 @@
 mod calls;
 
 use crate::calls as call;
-use fluent_uri::normalize::Normalizer;
+use fluent_uri::normalize::{Normalizer, RuleSet};
 use fluent_uri::resolve::Resolver;
 use fluent_uri::{Iri, Uri, UriRef};
 use std::alloc::Global;
@@ -62,12 +62,18 @@ pub extern "C" fn bench(alloc: Global, work: u32, text: &[u8], base: &[u8], roun
         19 => length_of!(rounds, call::mend_uri_ref(alloc, text).ok()),
         20 => length_of!(rounds, call::mend_iri_ref(alloc, text).ok()),
         21 => length_of!(rounds, call::mend_copy(alloc, text)),
-        22 => length_of!(rounds, call::normalize_by_setting(alloc, text, false)),
-        23 => length_of!(rounds, call::normalize_by_setting(alloc, text, true)),
+        22 => normalize_by_rules(alloc, text, RuleSet::DefaultPorts, rounds),
+        23 => normalize_by_rules(alloc, text, RuleSet::StandardRules, rounds),
         24 => resolve(alloc, base, text, rounds),
         25 => resolve_basic(alloc, base, text, rounds),
         _ => REJECTED,
     }
+}
+
+/// Parses a text as a URI and normalises it by these rules of schemes in so many counted rounds,
+/// and returns the length of the normal form, or `REJECTED`.
+fn normalize_by_rules(alloc: Global, text: &str, rules: RuleSet, rounds: u64) -> u64 {
+    length_of!(rounds, call::normalize_by_rules(alloc, text, rules))
 }
 
 /// Resolves a URI reference against a URI in so many counted rounds, and returns the length of the

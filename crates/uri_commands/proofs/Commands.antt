@@ -1,7 +1,8 @@
 -- Which command the words make.
-use Rattle.std.proofs.Common.{◌≡◌, ◌≤◌, ◌<◌, ◌-◌, take, ℕ, eqb, List, [], ◌∷◌, false, true, drop, length, get_or, String, string_bytes, refl, sym, ap, ◌∙◌, arith, inl, inr}
+use Rattle.std.proofs.Common.{◌≡◌, ◌≤◌, ◌<◌, ◌-◌, take, ℕ, eqb, List, [], ◌∷◌, drop, length, get_or, String, string_bytes, refl, sym, ap, ◌∙◌, arith, inl, inr}
 use Rattle.std.proofs.lemmas.List.{length-drop, take_all}
 use Rattle.std.specs.Prelude.{if◌then◌else◌, Option, Some, None, MatchOption, codes}
+use Rattle.fluent_uri.specs.declared.normalize.RuleSet.TheVariants as Set
 use Rattle.uri_commands.specs.declared.command.BaseName.{BaseName}
 use Rattle.uri_commands.specs.declared.command.BaseName.TheVariants as bases
 use Rattle.uri_commands.specs.declared.kinds.KindName.{KindName}
@@ -87,12 +88,12 @@ command_named words =
     let word = get_or words 1 [] in
     let text = get_or words 2 [] in
     if eqb first 112 then Parse (kind_named word) text
-    else if eqb first 110 then Normalize false (kind_named word) text
+    else if eqb first 110 then Normalize Set.DefaultPorts (kind_named word) text
     else if eqb first 109 then Mend (kind_named word) text
     else if eqb first 114 then Resolve (base_named word) text (get_or words 3 [])
-    else if eqb first 108 then Links false word text (drop 3 words)
-    else if eqb (get_or word 0 0) 110 then Normalize true (kind_named text) (get_or words 3 [])
-    else Links true text (get_or words 3 []) (drop 4 words)
+    else if eqb first 108 then Links Set.DefaultPorts word text (drop 3 words)
+    else if eqb (get_or word 0 0) 110 then Normalize Set.StandardRules (kind_named text) (get_or words 3 [])
+    else Links Set.StandardRules text (get_or words 3 []) (drop 4 words)
 
 -- commands: the words of a command make that command
 command_named-words_of : (a : Command) → command_named (words_of a) ≡ a
@@ -101,22 +102,22 @@ command_named-words_of (Parse Uri s) = refl
 command_named-words_of (Parse UriRef s) = refl
 command_named-words_of (Parse Iri s) = refl
 command_named-words_of (Parse IriRef s) = refl
-command_named-words_of (Normalize false Uri s) = refl
-command_named-words_of (Normalize true Uri s) = refl
-command_named-words_of (Normalize false UriRef s) = refl
-command_named-words_of (Normalize true UriRef s) = refl
-command_named-words_of (Normalize false Iri s) = refl
-command_named-words_of (Normalize true Iri s) = refl
-command_named-words_of (Normalize false IriRef s) = refl
-command_named-words_of (Normalize true IriRef s) = refl
+command_named-words_of (Normalize Set.DefaultPorts Uri s) = refl
+command_named-words_of (Normalize Set.StandardRules Uri s) = refl
+command_named-words_of (Normalize Set.DefaultPorts UriRef s) = refl
+command_named-words_of (Normalize Set.StandardRules UriRef s) = refl
+command_named-words_of (Normalize Set.DefaultPorts Iri s) = refl
+command_named-words_of (Normalize Set.StandardRules Iri s) = refl
+command_named-words_of (Normalize Set.DefaultPorts IriRef s) = refl
+command_named-words_of (Normalize Set.StandardRules IriRef s) = refl
 command_named-words_of (Mend Uri s) = refl
 command_named-words_of (Mend UriRef s) = refl
 command_named-words_of (Mend Iri s) = refl
 command_named-words_of (Mend IriRef s) = refl
 command_named-words_of (Resolve bases.Uri s r) = refl
 command_named-words_of (Resolve bases.Iri s r) = refl
-command_named-words_of (Links false s r rs) = refl
-command_named-words_of (Links true s r rs) = refl
+command_named-words_of (Links Set.DefaultPorts s r rs) = refl
+command_named-words_of (Links Set.StandardRules s r rs) = refl
 
 -- commands: no two commands have the same words
 words_of_injective : (a b : Command) → words_of a ≡ words_of b → a ≡ b
@@ -134,17 +135,17 @@ words-of-no-form-are-no-command : (words : List (List ℕ)) → ¬ (AreWordsOfTe
     → (command : Command) → words ≡ words_of command → ⊥
 words-of-no-form-are-no-command words t r l n k (Parse name text) is =
     t (codes "parse", name, text, is, inl refl)
-words-of-no-form-are-no-command words t r l n k (Normalize false name text) is =
+words-of-no-form-are-no-command words t r l n k (Normalize Set.DefaultPorts name text) is =
     t (codes "normalize", name, text, is, inr (inl refl))
-words-of-no-form-are-no-command words t r l n k (Normalize true name text) is =
+words-of-no-form-are-no-command words t r l n k (Normalize Set.StandardRules name text) is =
     n (name, text, is)
 words-of-no-form-are-no-command words t r l n k (Mend name text) is =
     t (codes "mend", name, text, is, inr (inr refl))
 words-of-no-form-are-no-command words t r l n k (Resolve name base reference) is =
     r (name, base, reference, is)
-words-of-no-form-are-no-command words t r l n k (Links false base reference others) is =
+words-of-no-form-are-no-command words t r l n k (Links Set.DefaultPorts base reference others) is =
     l (base, reference, others, is)
-words-of-no-form-are-no-command words t r l n k (Links true base reference others) is =
+words-of-no-form-are-no-command words t r l n k (Links Set.StandardRules base reference others) is =
     k (base, reference, others, is)
 
 -- commands: if the words are of none of the first four forms, the last one decides whether they are

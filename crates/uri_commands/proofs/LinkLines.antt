@@ -1,25 +1,26 @@
 -- The lines of outcomes.
-use Rattle.std.proofs.Common.{◌≡◌, ◌+◌, ◌<◌, ◌++◌, ◌∷◌, ◌∙◌, ℕ, Bool, List, [], Option, length, take, get_or, sym, ap, subst, append-nil}
+use Rattle.std.proofs.Common.{◌≡◌, ◌+◌, ◌<◌, ◌++◌, ◌∷◌, ◌∙◌, ℕ, List, [], Option, length, take, get_or, sym, ap, subst, append-nil}
 use Rattle.std.proofs.KnownBytes.{Appends-trans}
 use Rattle.std.proofs.lemmas.List.{take_more}
 use Rattle.std.proofs.lemmas.List.Concat.{flat_map-append}
 use Rattle.std.specs.Io.KnownBytes.{Appends}
-use Rattle.uri_rules.specs.Rules.{Rules}
-use Rattle.uri_setting.specs.Settings.{rules_set}
+use Rattle.fluent_uri.specs.RuleSets.{rules_of_set}
+use Rattle.fluent_uri.specs.SchemeRules.{Rules}
+use Rattle.fluent_uri.specs.declared.normalize.RuleSet.{RuleSet}
 use Rattle.uri_links.specs.Outcomes.{outcomes_of}
 use Rattle.uri_links.specs.declared.links.Outcome.{Outcome}
 use Rattle.uri_commands.specs.Links.{link_lines, outcome_line, outcome_lines}
 
 -- commands: the lines that `links` prints of the outcomes are those that the references define
-pub outcome_lines-are-link_lines : (by_rules : Bool) (rules : Rules) (base word : List ℕ)
+pub outcome_lines-are-link_lines : (set : RuleSet) (rules : Rules) (base word : List ℕ)
     (none references words : List (List ℕ)) (outcomes : List Outcome) (registered : List (List ℕ))
-    → rules ≡ rules_set by_rules → base ≡ word → none ≡ [] → references ≡ words
+    → rules ≡ rules_of_set set → base ≡ word → none ≡ [] → references ≡ words
     → outcomes_of rules base none references ≡ (outcomes, registered)
-    → outcome_lines registered outcomes ≡ link_lines by_rules word words
+    → outcome_lines registered outcomes ≡ link_lines set word words
 unfolding link_lines
-outcome_lines-are-link_lines by_rules rules base word none references words outcomes registered p b
+outcome_lines-are-link_lines set rules base word none references words outcomes registered p b
     n r noted =
-    let same : outcomes_of (rules_set by_rules) word [] words ≡ (outcomes, registered) = cc in
+    let same : outcomes_of (rules_of_set set) word [] words ≡ (outcomes, registered) = cc in
     sym (ap (λ (all : List Outcome × List (List ℕ)). outcome_lines all.1 all.0) same)
 
 -- commands: after one more line of `links` is written, the lines up to n + 1 are;

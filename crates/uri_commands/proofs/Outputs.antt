@@ -1,8 +1,9 @@
 -- A command that fails since its output cannot be written.
-use Rattle.std.proofs.Common.{◌≡◌, Bool, List, ◌∷◌, ◌++◌, ℕ, true, Some, None, Result, codes, ap}
+use Rattle.std.proofs.Common.{◌≡◌, List, ◌∷◌, ◌++◌, ℕ, true, Some, None, Result, codes, ap}
 use Rattle.std.specs.Prelude.{IfErr, if◌then◌else◌}
 use Rattle.fluent_uri.specs.Components.{components}
 use Rattle.fluent_uri.specs.Grammar.{IsOfKind, uri, uri_ref}
+use Rattle.fluent_uri.specs.declared.normalize.RuleSet.{RuleSet}
 use Rattle.uri_commands.specs.Commands.{Parse, Normalize, Mend, Resolve, Links, are_of_kind, kind_of_base, kind_of_references, target_text}
 use Rattle.uri_commands.specs.Kinds.{kind_named, normal_form_of}
 use Rattle.uri_commands.specs.Lines.{component_lines}
@@ -30,15 +31,15 @@ failed-output-is-error-of-parse name text result is given =
 
 -- commands: if the output of `normalize` cannot be written, that failure is its error,
 -- as the text is of its kind
-pub failed-output-is-error-of-normalize : {A : Type 0} (by_rules : Bool) (name : KindName)
+pub failed-output-is-error-of-normalize : {A : Type 0} (set : RuleSet) (name : KindName)
     (text : List ℕ)
     (result : Result A CommandError)
     → IsOfKind (kind_named name) text
     → IfErr result (λ why. why ≡ OutputFailed)
-    → IfErr result (IsErrorOfCommand (Normalize by_rules name text))
-failed-output-is-error-of-normalize by_rules name text result is given =
-    let command = Normalize by_rules name text in
-    let lines = normal_form_of by_rules (kind_named name) text ++ codes "\n" in
+    → IfErr result (IsErrorOfCommand (Normalize set name text))
+failed-output-is-error-of-normalize set name text result is given =
+    let command = Normalize set name text in
+    let lines = normal_form_of set (kind_named name) text ++ codes "\n" in
     if_err-of-equal-error (IsErrorOfCommand command) result OutputFailed given
     (lines, ap (λ b. if b then Some lines else None) is)
 
@@ -69,13 +70,13 @@ failed-output-is-error-of-resolve name base reference target result b r t given 
 
 -- commands: if the output of `links` cannot be written, that failure is its error,
 -- as the texts are of their kinds
-pub failed-output-is-error-of-links : {A : Type 0} (by_rules : Bool) (base reference : List ℕ)
+pub failed-output-is-error-of-links : {A : Type 0} (set : RuleSet) (base reference : List ℕ)
     (others : List (List ℕ))
     (result : Result A CommandError)
     → IsOfKind uri base → are_of_kind uri_ref (reference ∷ others) ≡ true
     → IfErr result (λ why. why ≡ OutputFailed)
-    → IfErr result (IsErrorOfCommand (Links by_rules base reference others))
-failed-output-is-error-of-links by_rules base reference others result b r given =
-    let command = Links by_rules base reference others in
+    → IfErr result (IsErrorOfCommand (Links set base reference others))
+failed-output-is-error-of-links set base reference others result b r given =
+    let command = Links set base reference others in
     if_err-of-equal-error (IsErrorOfCommand command) result OutputFailed given
-    (link_lines by_rules base (reference ∷ others), cc (b, r))
+    (link_lines set base (reference ∷ others), cc (b, r))

@@ -6,8 +6,8 @@ use Rattle.uri_commands.specs.declared.command.Command.TheVariants as words
 -- the command as contracts name it, with its texts as bytes, for one that `uritool` parsed
 abbrev pub contract_command : Words → Command
 contract_command (words.Parse name text) = Parse name text.now
-contract_command (words.Normalize name text by_rules) = Normalize by_rules name text.now
+contract_command (words.Normalize name text set) = Normalize set name text.now
 contract_command (words.Mend name text) = Mend name text.now
 contract_command (words.Resolve name base reference) = Resolve name base.now reference.now
-contract_command (words.Links base reference others by_rules) =
-    Links by_rules base.now reference.now (texts others.now)
+contract_command (words.Links base reference others set) =
+    Links set base.now reference.now (texts others.now)

@@ -1,11 +1,13 @@
 -- The commands that the words of a command line make, and the output of each.
-use Rattle.std.specs.Prelude.{◌≡◌, ◌⊎◌, Bool, ℕ, ◌&&◌, List, [], ◌∷◌, ◌++◌, codes, map, String, string_bytes, Option, Some, None, option_map, if◌then◌else◌, false, true}
+use Rattle.std.specs.Prelude.{◌≡◌, ◌⊎◌, Bool, ℕ, ◌&&◌, List, [], ◌∷◌, ◌++◌, codes, map, String, string_bytes, Option, Some, None, option_map, if◌then◌else◌}
 use Rattle.std.specs.Io.KnownBytes.{Appends}
 use Rattle.std.specs.List.{list_all}
 use Rattle.std.specs.Result.{result_ok}
 use Rattle.fluent_uri.specs.Components.{components}
 use Rattle.fluent_uri.specs.Grammar.{Kind, uri, uri_ref, iri, iri_ref, is_of_kind}
 use Rattle.fluent_uri.specs.Target.{resolution_of}
+use Rattle.fluent_uri.specs.declared.normalize.RuleSet.{RuleSet}
+use Rattle.fluent_uri.specs.declared.normalize.RuleSet.TheVariants as Set
 use Rattle.uri_commands.specs.Kinds.{kind_named, normal_form_of, word_of_kind}
 use Rattle.uri_commands.specs.Lines.{component_lines}
 use Rattle.uri_commands.specs.Links.{link_lines}
@@ -32,29 +34,30 @@ word_of_base bases.Iri = codes "iri"
 
 -- A command of `uritool`, with its kind and its texts in the order of the command line.
 -- They are `parse KIND TEXT`, `normalize KIND TEXT`, `mend KIND TEXT`, `resolve uri|iri BASE REF`,
--- and `links BASE REF...` with its first reference and the others. The Bool is whether
--- `--scheme-rules` is before the command.
+-- and `links BASE REF...` with its first reference and the others. The rules of schemes are the
+-- standard ones if `--scheme-rules` is before the command, and else default ports alone.
 pub data Command : Type 0 where
   Parse : KindName → List ℕ → Command
-  Normalize : Bool → KindName → List ℕ → Command
+  Normalize : RuleSet → KindName → List ℕ → Command
   Mend : KindName → List ℕ → Command
   Resolve : BaseName → List ℕ → List ℕ → Command
-  Links : Bool → List ℕ → List ℕ → List (List ℕ) → Command
+  Links : RuleSet → List ℕ → List ℕ → List (List ℕ) → Command
 
--- the words of a command line of `uritool`, after the option `--scheme-rules` if the Bool is true
-abbrev pub with_option : Bool → List (List ℕ) → List (List ℕ)
-with_option true words = codes "--scheme-rules" ∷ words
-with_option false words = words
+-- the words of a command line of `uritool`, after the option that asks for these rules of schemes:
+-- `--scheme-rules` for the standard ones
+abbrev pub with_option : RuleSet → List (List ℕ) → List (List ℕ)
+with_option Set.DefaultPorts words = words
+with_option Set.StandardRules words = codes "--scheme-rules" ∷ words
 
 -- the words of the command line of `uritool` for a command
 abbrev pub words_of : Command → List (List ℕ)
 words_of (Parse name text) = codes "parse" ∷ word_of_kind name ∷ text ∷ []
-words_of (Normalize by_rules name text) =
-    with_option by_rules (codes "normalize" ∷ word_of_kind name ∷ text ∷ [])
+words_of (Normalize set name text) =
+    with_option set (codes "normalize" ∷ word_of_kind name ∷ text ∷ [])
 words_of (Mend name text) = codes "mend" ∷ word_of_kind name ∷ text ∷ []
 words_of (Resolve name base reference) = codes "resolve" ∷ word_of_base name ∷ base ∷ reference ∷ []
-words_of (Links by_rules base reference others) =
-    with_option by_rules (codes "links" ∷ base ∷ reference ∷ others)
+words_of (Links set base reference others) =
+    with_option set (codes "links" ∷ base ∷ reference ∷ others)
 
 -- the target of a base and a reference, in this order, if there is one (section 5.2)
 unfoldable pub target_text : List ℕ → List ℕ → Option (List ℕ)
@@ -68,9 +71,9 @@ are_of_kind kind texts = list_all (is_of_kind kind) texts
 abbrev pub output_of : Command → Option (List ℕ)
 output_of (Parse name text) =
     if is_of_kind (kind_named name) text then Some (component_lines (components text)) else None
-output_of (Normalize by_rules name text) =
+output_of (Normalize set name text) =
     if is_of_kind (kind_named name) text
-    then Some (normal_form_of by_rules (kind_named name) text ++ codes "\n")
+    then Some (normal_form_of set (kind_named name) text ++ codes "\n")
     else None
 output_of (Mend name text) =
     if can_be_mended (kind_named name) (trimmed_link text)
@@ -78,9 +81,9 @@ output_of (Mend name text) =
 output_of (Resolve name base reference) =
     if is_of_kind (kind_of_base name) base && is_of_kind (kind_of_references name) reference
     then option_map (λ target. target ++ codes "\n") (target_text base reference) else None
-output_of (Links by_rules base reference others) =
+output_of (Links set base reference others) =
     if is_of_kind uri base && are_of_kind uri_ref (reference ∷ others)
-    then Some (link_lines by_rules base (reference ∷ others)) else None
+    then Some (link_lines set base (reference ∷ others)) else None
 
 -- the bytes of the words of a command line of `uritool`
 abbrev pub texts : {Z : Type 0} → List (String Z) → List (List ℕ)
@@ -109,18 +112,18 @@ AreWordsOfResolve words = (name : BaseName) × (base : List ℕ) × (reference :
 abbrev pub AreWordsOfLinks : List (List ℕ) → Type 0
 AreWordsOfLinks words =
     (base : List ℕ) × (reference : List ℕ) × (others : List (List ℕ))
-    × (words ≡ words_of (Links false base reference others))
+    × (words ≡ words_of (Links Set.DefaultPorts base reference others))
 
 -- the words of a command line are those of the command `normalize` of `uritool`, with the option
 abbrev pub AreWordsOfRuledNormalize : List (List ℕ) → Type 0
 AreWordsOfRuledNormalize words = (name : KindName) × (text : List ℕ)
-    × (words ≡ words_of (Normalize true name text))
+    × (words ≡ words_of (Normalize Set.StandardRules name text))
 
 -- the words of a command line are those of the command `links` of `uritool`, with the option
 abbrev pub AreWordsOfRuledLinks : List (List ℕ) → Type 0
 AreWordsOfRuledLinks words =
     (base : List ℕ) × (reference : List ℕ) × (others : List (List ℕ))
-    × (words ≡ words_of (Links true base reference others))
+    × (words ≡ words_of (Links Set.StandardRules base reference others))
 
 -- the bytes of a writer, before and after, grow by the output of the command of `uritool`, which
 -- has one

@@ -1,9 +1,10 @@
 -- The four kinds by their names on a command line.
-use Rattle.std.specs.Prelude.{ℕ, Bool, List, codes}
+use Rattle.std.specs.Prelude.{ℕ, List, codes}
 use Rattle.fluent_uri.specs.Grammar.{Kind, uri, uri_ref, iri, iri_ref}
 use Rattle.fluent_uri.specs.Normal.{normal_text}
-use Rattle.uri_rules.specs.Rules.{meaning_under}
-use Rattle.uri_setting.specs.Settings.{rules_set}
+use Rattle.fluent_uri.specs.RuleSets.{rules_of_set}
+use Rattle.fluent_uri.specs.SchemeRules.{meaning_under}
+use Rattle.fluent_uri.specs.declared.normalize.RuleSet.{RuleSet}
 use Rattle.uri_commands.specs.declared.kinds.KindName.{KindName}
 use Rattle.uri_commands.specs.declared.kinds.KindName.TheVariants.{Uri, UriRef, Iri, IriRef}
 
@@ -21,7 +22,6 @@ word_of_kind UriRef = codes "uri-ref"
 word_of_kind Iri = codes "iri"
 word_of_kind IriRef = codes "iri-ref"
 
--- the normal form of a text of the kind that a program writes, where the Bool is whether it is by
--- the rules of schemes, or by their default ports alone (section 6.2.3)
-unfoldable pub normal_form_of : Bool → Kind → List ℕ → List ℕ
-normal_form_of by_rules kind text = normal_text (meaning_under kind (rules_set by_rules) text)
+-- the normal form of a text of the kind that a program writes, by a set of rules (section 6.2.3)
+unfoldable pub normal_form_of : RuleSet → Kind → List ℕ → List ℕ
+normal_form_of set kind text = normal_text (meaning_under kind (rules_of_set set) text)

@@ -1,6 +1,7 @@
 -- The output of `links`.
-use Rattle.std.specs.Prelude.{ℕ, Bool, List, [], ◌++◌, codes, decimal, flat_map, slice_get, unwrap_or}
-use Rattle.uri_setting.specs.Settings.{rules_set}
+use Rattle.std.specs.Prelude.{ℕ, List, [], ◌++◌, codes, decimal, flat_map, slice_get, unwrap_or}
+use Rattle.fluent_uri.specs.RuleSets.{rules_of_set}
+use Rattle.fluent_uri.specs.declared.normalize.RuleSet.{RuleSet}
 use Rattle.uri_links.specs.Outcomes.{outcomes_of}
 use Rattle.uri_links.specs.declared.links.Outcome.{Outcome}
 use Rattle.uri_links.specs.declared.links.Outcome.TheVariants.{New, Known, Refused}
@@ -27,9 +28,8 @@ abbrev pub outcome_lines : List (List ℕ) → List Outcome → List ℕ
 outcome_lines registered outcomes = flat_map (outcome_line registered) outcomes
 
 -- The lines that `uritool links` prints for references to a base.
--- They are noted in an empty register, by the rules of schemes if the Bool is true, and else by
--- their default ports alone.
-unfoldable pub link_lines : Bool → List ℕ → List (List ℕ) → List ℕ
-link_lines by_rules base references =
-    let noted = outcomes_of (rules_set by_rules) base [] references in
+-- They are noted in an empty register, by a set of rules.
+unfoldable pub link_lines : RuleSet → List ℕ → List (List ℕ) → List ℕ
+link_lines set base references =
+    let noted = outcomes_of (rules_of_set set) base [] references in
     outcome_lines noted.1 noted.0

@@ -72,9 +72,9 @@ IsErrorOfTarget base_kind kind base reference why = ⊥
 -- noted.
 abbrev pub IsErrorOfCommand : Command → CommandError → Type 0
 IsErrorOfCommand (Parse name text) (Text e) = IsErrorOf (kind_named name) text e
-IsErrorOfCommand (Normalize by_rules name text) (Text e) =
+IsErrorOfCommand (Normalize set name text) (Text e) =
     IsErrorOfNormalForm (kind_named name) text (Text e)
-IsErrorOfCommand (Normalize by_rules name text) OutOfMemory =
+IsErrorOfCommand (Normalize set name text) OutOfMemory =
     IsErrorOfNormalForm (kind_named name) text OutOfMemory
 IsErrorOfCommand (Mend name text) (Text e) = IsErrorOfLink (kind_named name) text (Text e)
 IsErrorOfCommand (Mend name text) OutOfMemory = IsErrorOfLink (kind_named name) text OutOfMemory
@@ -84,10 +84,10 @@ IsErrorOfCommand (Resolve name base reference) (Reference e) =
     IsErrorOfTarget (kind_of_base name) (kind_of_references name) base reference (Reference e)
 IsErrorOfCommand (Resolve name base reference) (Target e) =
     IsErrorOfTarget (kind_of_base name) (kind_of_references name) base reference (Target e)
-IsErrorOfCommand (Links by_rules base reference others) (Base e) = IsErrorOf uri base e
-IsErrorOfCommand (Links by_rules base reference others) (Reference e) =
+IsErrorOfCommand (Links set base reference others) (Base e) = IsErrorOf uri base e
+IsErrorOfCommand (Links set base reference others) (Reference e) =
     IsOfKind uri base × IsErrorOfFirst uri_ref (reference ∷ others) e
-IsErrorOfCommand (Links by_rules base reference others) OutOfMemory =
+IsErrorOfCommand (Links set base reference others) OutOfMemory =
     IsOfKind uri base × (are_of_kind uri_ref (reference ∷ others) ≡ true)
 -- the command has an output, and writing it failed
 IsErrorOfCommand command OutputFailed = (lines : List ℕ) × (output_of command ≡ Some lines)

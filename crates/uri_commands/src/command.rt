@@ -9,6 +9,7 @@ ghost use Rattle.uri_commands.specs.Asked.{contract_command};
 ghost use Rattle.uri_commands.specs.Kinds.{word_of_kind};
 
 use crate::kinds::{KindName, kind_named};
+use fluent_uri::normalize::RuleSet;
 
 /// A kind of base, by its name on the command line.
 #[derive(Clone, Copy)]
@@ -24,15 +25,15 @@ pub enum BaseName {
 pub enum Command<'a> {
     /// `parse KIND TEXT`
     Parse(KindName, &'a str),
-    /// `normalize KIND TEXT`, by the rules of schemes if the `bool` is true (`--scheme-rules`)
-    Normalize(KindName, &'a str, bool),
+    /// `normalize KIND TEXT`, by these rules of schemes (`--scheme-rules`)
+    Normalize(KindName, &'a str, RuleSet),
     /// `mend KIND TEXT`
     Mend(KindName, &'a str),
     /// `resolve uri|iri BASE REF`
     Resolve(BaseName, &'a str, &'a str),
-    /// `links BASE REF...`: the base, the first reference and the others, by the rules of schemes
-    /// if the `bool` is true (`--scheme-rules`)
-    Links(&'a str, &'a str, &'a [String], bool),
+    /// `links BASE REF...`: the base, the first reference and the others, by these rules of schemes
+    /// (`--scheme-rules`)
+    Links(&'a str, &'a str, &'a [String], RuleSet),
 }
 
 impl<'a> Command<'a> {
@@ -78,7 +79,7 @@ fn text_command<'a>(name: &str, kind: KindName, text: &'a str) -> Option<Command
 {
     match name {
         "parse" => Some(Command::Parse(kind, text)),
-        "normalize" => Some(Command::Normalize(kind, text, false)),
+        "normalize" => Some(Command::Normalize(kind, text, RuleSet::DefaultPorts)),
         "mend" => Some(Command::Mend(kind, text)),
         _ => None,
     }
@@ -105,7 +106,8 @@ fn links_from_words(words: &[String]) -> Option<Command<'_>>
 {
     match words {
         [command, base, reference, others @ ..] if command.as_str() == "links" => {
-            Some(Command::Links(base.as_str(), reference.as_str(), others, false))
+            let rules = RuleSet::DefaultPorts;
+            Some(Command::Links(base.as_str(), reference.as_str(), others, rules))
         }
         _ => None,
     }
@@ -120,7 +122,7 @@ fn ruled_normalize_from_words(words: &[String]) -> Option<Command<'_>>
         [option, command, kind, text]
             if option.as_str() == "--scheme-rules" && command.as_str() == "normalize" => {
             let kind = kind_named(kind.as_str())?;
-            Some(Command::Normalize(kind, text.as_str(), true))
+            Some(Command::Normalize(kind, text.as_str(), RuleSet::StandardRules))
         }
         _ => None,
     }
@@ -134,7 +136,8 @@ fn ruled_links_from_words(words: &[String]) -> Option<Command<'_>>
     match words {
         [option, command, base, reference, others @ ..]
             if option.as_str() == "--scheme-rules" && command.as_str() == "links" => {
-            Some(Command::Links(base.as_str(), reference.as_str(), others, true))
+            let rules = RuleSet::StandardRules;
+            Some(Command::Links(base.as_str(), reference.as_str(), others, rules))
         }
         _ => None,
     }

@@ -6,7 +6,7 @@ pub mod kinds;
 mod lines;
 mod links;
 pub mod mending;
-mod normal;
+pub mod normal;
 pub mod refusal;
 pub mod run;
 pub mod sink;

@@ -1,7 +1,7 @@
 //! The command `links BASE REF...`: the outcomes of references that are noted one after the other
 //! against a base.
 ghost use Rattle.std.specs.Prelude.{◌≡◌, ◌≢◌, ◌<◌, ◌∷◌, ◌++◌, ◌||◌, ℕ, List, IfOk, IfErr, All};
-ghost use Rattle.std.specs.Prelude.{Bool, IsTrue, length, map, not, true, false, codes};
+ghost use Rattle.std.specs.Prelude.{IsTrue, length, map, not, true, false, codes};
 ghost use Rattle.std.specs.Io.KnownBytes.{Appends};
 ghost use Rattle.fluent_uri.specs.Grammar.{IsOfKind, uri, uri_ref};
 ghost use Rattle.fluent_uri.specs.Uris.{uri_ref_text};
@@ -14,26 +14,26 @@ ghost use Rattle.uri_commands.specs.Ends.{has_output_failed};
 ghost use Rattle.uri_commands.specs.Refusals.{IsErrorOf, IsErrorOfCommand};
 ghost use Rattle.uri_commands.specs.declared.refusal.CommandError.TheVariants.{Reference};
 ghost use Rattle.fluent_uri.specs.declared.ParseError.{ParseError};
+ghost use Rattle.fluent_uri.specs.declared.normalize.RuleSet.{RuleSet};
 
 use crate::refusal::{CommandError, resolve_message};
 use crate::sink::{Sink, put_both};
+use fluent_uri::normalize::{Normalizer, RuleSet};
 use fluent_uri::{Uri, UriRef};
 use itoa::Buffer;
 use std::alloc::Global;
 use std::io::Write;
 use uri_links::links::{Outcome, Register};
-use uri_setting::RuleSetting;
 
 /// The outcomes of references, and the register that has their targets.
 #[derive(Drop)]
 pub struct NotedLinks {
-    register: Register<RuleSetting>,
+    register: Register<RuleSet>,
     outcomes: Vec<Outcome>,
 }
 
 /// Notes the first reference of `links` and the others against the base, in order, in a new
-/// register: by the rules of schemes if `scheme_rules` is true, and otherwise by their default
-/// ports alone.
+/// register: by these rules of schemes.
 ///
 /// # Errors
 ///
@@ -45,21 +45,21 @@ pub fn noted(
     base: &str,
     reference: &str,
     others: &[String],
-    scheme_rules: bool,
+    rules: RuleSet,
 ) -> Result<NotedLinks, CommandError>
     ensures base { IfOk result (λ _. IsOfKind uri base.now) }
     ensures references { IfOk result (λ _.
         are_of_kind uri_ref (reference.now ∷ texts others.now) ≡ true) }
     ensures refused { IfErr result
-        (IsErrorOfCommand (Links scheme_rules base.now reference.now (texts others.now))) }
+        (IsErrorOfCommand (Links rules base.now reference.now (texts others.now))) }
     ensures targets { IfOk result EachIdHasTarget }
     ensures lines { IfOk result (λ noted.
-        lines_in noted ≡ link_lines scheme_rules base.now (reference.now ∷ texts others.now)) }
+        lines_in noted ≡ link_lines rules base.now (reference.now ∷ texts others.now)) }
     ensures unwritten { has_output_failed result ≡ false }
 {
     let base = Uri::<&str>::parse(base).map_err(CommandError::Base)?;
     let references = parse_references(alloc, reference, others)?;
-    let mut register = Register::new(alloc, RuleSetting { scheme_rules });
+    let mut register = Register::new(alloc, Normalizer::new().scheme_rules_with(rules));
     let outcomes = register.note_all(&base, references.as_slice())?;
     Ok(NotedLinks { register, outcomes })
 }
@@ -79,8 +79,8 @@ fn parse_references<'a>(
         map uri_ref_text references.items ≡ reference.now ∷ texts others.now) }
     ensures of_kind { IfOk result (λ _.
         are_of_kind uri_ref (reference.now ∷ texts others.now) ≡ true) }
-    ensures refused { (by_rules : Bool) (base : List ℕ) → IsOfKind uri base
-        → IfErr result (IsErrorOfCommand (Links by_rules base reference.now (texts others.now))) }
+    ensures refused { (set : RuleSet) (base : List ℕ) → IsOfKind uri base
+        → IfErr result (IsErrorOfCommand (Links set base reference.now (texts others.now))) }
     ensures unwritten { has_output_failed result ≡ false }
 {
     let mut references = Vec::new(alloc);
@@ -127,7 +127,7 @@ impl NotedLinks {
 /// whole.
 fn write_outcome<O: Write>(
     out: &mut Sink<O>,
-    register: &Register<RuleSetting>,
+    register: &Register<RuleSet>,
     outcome: Outcome,
 ) -> bool
     requires { IdIsInRange (texts_of register.now) outcome }
@@ -157,7 +157,7 @@ fn write_refused<O: Write>(out: &mut Sink<O>, message: &str) -> bool
 fn write_target<O: Write>(
     out: &mut Sink<O>,
     word: &str,
-    register: &Register<RuleSetting>,
+    register: &Register<RuleSet>,
     id: usize,
 ) -> bool
     requires { id < length (texts_of register.now) }

@@ -1,6 +1,7 @@
 //! The command `normalize KIND TEXT` (RFC 3986, section 6.2).
 ghost use Rattle.std.specs.Prelude.{◌≡◌, false, IfOk, IfErr, string_bytes};
 ghost use Rattle.fluent_uri.specs.Grammar.{IsOfKind};
+ghost use Rattle.fluent_uri.specs.References.{reference_text};
 ghost use Rattle.uri_commands.specs.Commands.{Normalize};
 ghost use Rattle.uri_commands.specs.Ends.{has_output_failed};
 ghost use Rattle.uri_commands.specs.Kinds.{kind_named, normal_form_of};
@@ -11,11 +12,11 @@ use crate::kinds::KindName;
 use crate::refusal::CommandError;
 use fluent_uri::Reference;
 use fluent_uri::kind::Kind;
-use std::alloc::Global;
-use uri_setting::RuleSetting;
+use fluent_uri::normalize::{Normalizer, RuleSet};
+use std::alloc::{AllocError, Global};
 
-/// Parses the text of `normalize` as the kind, and returns its normal form: by the rules of its
-/// scheme if `scheme_rules` is true, and otherwise by its default port alone.
+/// Parses the text of `normalize` as the kind, and returns its normal form by these rules of
+/// schemes.
 ///
 /// # Errors
 ///
@@ -25,31 +26,52 @@ pub fn normalize_text(
     alloc: Global,
     kind: KindName,
     text: &str,
-    scheme_rules: bool,
+    rules: RuleSet,
 ) -> Result<String, CommandError>
     ensures of_kind { IfOk result (λ _. IsOfKind (kind_named kind) text.now) }
-    ensures refused { IfErr result (IsErrorOfCommand (Normalize scheme_rules kind text.now)) }
+    ensures refused { IfErr result (IsErrorOfCommand (Normalize rules kind text.now)) }
     ensures normal { IfOk result (λ normal. string_bytes normal
-        ≡ normal_form_of scheme_rules (kind_named kind) text.now) }
+        ≡ normal_form_of rules (kind_named kind) text.now) }
     ensures unwritten { has_output_failed result ≡ false }
 {
-    for_kind!(kind, normal_form(alloc, text, scheme_rules))
+    for_kind!(kind, parsed_normal_form(alloc, text, rules))
 }
 
 /// Parses a text as the kind, and returns its normal form.
-#[tactic(auto, using(crate::proofs::NormalForms::normal_form_is))]
-fn normal_form<K: Kind>(
+fn parsed_normal_form<K: Kind>(
     alloc: Global,
     text: &str,
-    scheme_rules: bool,
+    rules: RuleSet,
 ) -> Result<String, CommandError>
     ensures of_kind { IfOk result (λ _. IsOfKind K.kind text.now) }
     ensures refused { IfErr result (IsErrorOfNormalForm K.kind text.now) }
     ensures normal { IfOk result (λ normal. string_bytes normal
-        ≡ normal_form_of scheme_rules K.kind text.now) }
+        ≡ normal_form_of rules K.kind text.now) }
     ensures unwritten { has_output_failed result ≡ false }
 {
     let value = Reference::<K, &str>::parse(text)?;
-    let setting = RuleSetting { scheme_rules };
-    Ok(setting.normalize(alloc, &value)?.into_string())
+    Ok(normal_form(alloc, &value, rules)?.into_string())
+}
+
+/// Returns the normal form of a reference by these rules of schemes. Path underflow is never an
+/// error.
+///
+/// # Errors
+///
+/// Returns an error only if allocation fails.
+#[tactic(auto, using(crate::proofs::NormalForms::normal_form_is))]
+pub fn normal_form<K: Kind>(
+    alloc: Global,
+    value: &Reference<K, &str>,
+    rules: RuleSet,
+) -> Result<Reference<K, String>, AllocError>
+    ensures { IfOk result (λ normal. reference_text normal
+        ≡ normal_form_of rules K.kind (reference_text value.now)) }
+{
+    let normalizer = Normalizer::new().scheme_rules_with(rules);
+    match normalizer.normalize(alloc, value) {
+        Ok(normal) => Ok(normal),
+        // Underflow is allowed, so memory ran out.
+        Err(_) => Err(AllocError),
+    }
 }

@@ -27,6 +27,7 @@ use crate::sink::{Sink, put_both};
 use crate::target::target;
 use crate::usage::show_usage;
 use fluent_uri::ParseError;
+use fluent_uri::normalize::RuleSet;
 use std::alloc::Global;
 use std::io::Write;
 
@@ -143,20 +144,20 @@ fn normalize<O: Write>(
     alloc: Global,
     kind: KindName,
     text: &str,
-    scheme_rules: bool,
+    rules: RuleSet,
     out: &mut Sink<O>,
 ) -> Result<(), CommandError>
     ensures succeeded { OnOk result
         (Prints (O.contents out.old.writer) (O.contents out.new.writer)
-        (Normalize scheme_rules kind text.now)) }
-    ensures refused { IfErr result (IsErrorOfCommand (Normalize scheme_rules kind text.now)) }
-    ensures keeps { output_of (Normalize scheme_rules kind text.now) ≡ None
+        (Normalize rules kind text.now)) }
+    ensures refused { IfErr result (IsErrorOfCommand (Normalize rules kind text.now)) }
+    ensures keeps { output_of (Normalize rules kind text.now) ≡ None
         → Keeps (O.contents out.old.writer) (O.contents out.new.writer) }
     ensures kept { IfErr result (λ why.
         why ≢ OutputFailed → Keeps (O.contents out.old.writer) (O.contents out.new.writer)) }
     ensures writing { out.new.has_failed ≡ (has_output_failed result || out.old.has_failed) }
 {
-    let normal = normalize_text(alloc, kind, text, scheme_rules)?;
+    let normal = normalize_text(alloc, kind, text, rules)?;
     print_line(out, normal.as_str())
 }
 
@@ -208,20 +209,20 @@ fn links<O: Write>(
     base: &str,
     reference: &str,
     others: &[String],
-    scheme_rules: bool,
+    rules: RuleSet,
     out: &mut Sink<O>,
 ) -> Result<(), CommandError>
     ensures succeeded { OnOk result (Prints (O.contents out.old.writer) (O.contents out.new.writer)
-        (Links scheme_rules base.now reference.now (texts others.now))) }
+        (Links rules base.now reference.now (texts others.now))) }
     ensures refused { IfErr result
-        (IsErrorOfCommand (Links scheme_rules base.now reference.now (texts others.now))) }
-    ensures keeps { output_of (Links scheme_rules base.now reference.now (texts others.now)) ≡ None
+        (IsErrorOfCommand (Links rules base.now reference.now (texts others.now))) }
+    ensures keeps { output_of (Links rules base.now reference.now (texts others.now)) ≡ None
         → Keeps (O.contents out.old.writer) (O.contents out.new.writer) }
     ensures kept { IfErr result (λ why.
         why ≢ OutputFailed → Keeps (O.contents out.old.writer) (O.contents out.new.writer)) }
     ensures writing { out.new.has_failed ≡ (has_output_failed result || out.old.has_failed) }
 {
-    let noted = noted(alloc, base, reference, others, scheme_rules)?;
+    let noted = noted(alloc, base, reference, others, rules)?;
     written(noted.write_lines(out))
 }
 

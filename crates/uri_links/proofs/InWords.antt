@@ -7,7 +7,7 @@ use Rattle.fluent_uri.specs.Components.{components}
 use Rattle.fluent_uri.specs.Grammar.{uri}
 use Rattle.fluent_uri.specs.Meaning.{Meaning}
 use Rattle.fluent_uri.specs.Normal.{normal_text}
-use Rattle.uri_rules.specs.Rules.{Rules, meaning_under}
+use Rattle.fluent_uri.specs.SchemeRules.{Rules, meaning_under}
 use Rattle.fluent_uri.specs.SameMeanings.{same_meaning}
 use Rattle.fluent_uri.specs.Target.{TargetError, resolution_of}
 use Rattle.uri_links.specs.Outcomes.{outcome_of, index_of_meaning, outcome_of_lookup, outcome_of_resolution}

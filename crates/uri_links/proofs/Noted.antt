@@ -10,9 +10,9 @@ use Rattle.fluent_uri.specs.Components.{components}
 use Rattle.fluent_uri.specs.Grammar.{IsTextOf, Kind, is_of_kind, uri}
 use Rattle.fluent_uri.specs.Meaning.{Meaning}
 use Rattle.fluent_uri.specs.Normal.{normal_text}
-use Rattle.uri_rules.specs.NormalForms.{IsNormalFormUnder}
-use Rattle.uri_rules.specs.Targets.{IsNormalFormOfTargetUnder}
-use Rattle.uri_rules.specs.Rules.{Rules, meaning_under}
+use Rattle.fluent_uri.specs.Normalizers.{IsNormalForm}
+use Rattle.fluent_uri.specs.NormalTargets.{IsNormalFormOfTarget}
+use Rattle.fluent_uri.specs.SchemeRules.{Rules, meaning_under}
 use Rattle.fluent_uri.specs.Resolving.{IsErrorWithUnderflowAllowed}
 use Rattle.fluent_uri.specs.SameMeanings.{same_meaning}
 use Rattle.fluent_uri.specs.declared.resolve.ResolveError.{ResolveError}
@@ -31,9 +31,10 @@ ComparesMeanings = (m n : Meaning) → Decides (same_meaning m n) (m ≡ n)
 -- register of links: a normal target is its own normal text
 pub normal-target-is-its-own-normal-text : (kind : Kind) (rules : Rules)
     (base reference normal : List ℕ)
-    → IsNormalFormOfTargetUnder kind rules base reference normal
+    → IsNormalFormOfTarget kind rules base reference normal
     → normal_text (meaning_under kind rules normal) ≡ normal
-normal-target-is-its-own-normal-text kind rules base reference normal h = grind arith
+normal-target-is-its-own-normal-text kind rules base reference normal h =
+    ap normal_text h.1.1.meaning ∙ sym h.1.1.text.text
 
 -- register of links: a text that passes the test of a URI is one
 is_text : (text : List ℕ) → is_uri_text text ≡ true → IsTextOf uri text
@@ -43,7 +44,7 @@ is_text text e = let p = and_parts (is_utf8 text) (is_of_kind uri text) e in
 -- register of links: a normal form equals a text in normal form
 -- exactly if the two have the same meaning
 text-test-is-meaning-test : ComparesMeanings → (rules : Rules) (target normal text : List ℕ)
-    → IsNormalFormUnder uri rules target normal → IsTextOf uri text
+    → IsNormalForm uri rules target normal → IsTextOf uri text
     → normal_text (meaning_under uri rules text) ≡ text
     → bytes_eq normal text
     ≡ same_meaning (meaning_under uri rules text) (meaning_under uri rules target)
@@ -55,7 +56,7 @@ text-test-is-meaning-test same rules target normal text h of_kind own =
 
 -- register of links: two normal texts are equal exactly if the meanings are
 text-tests-are-meaning-tests : ComparesMeanings → (rules : Rules) (target normal : List ℕ)
-    (texts : List (List ℕ)) → IsNormalFormUnder uri rules target normal → AreUris texts
+    (texts : List (List ℕ)) → IsNormalForm uri rules target normal → AreUris texts
     → AreNormal rules texts
     → AllByRecursion (λ text. bytes_eq normal text
     ≡ same_meaning (meaning_under uri rules text) (meaning_under uri rules target)) texts
@@ -69,7 +70,7 @@ text-tests-are-meaning-tests same rules target normal (text ∷ texts) h uris ow
 -- register of links: looking up a normal text finds the same index as looking up its meaning
 index-by-text-is-index-by-meaning : ComparesMeanings
     → (rules : Rules) (target normal : List ℕ)
-    (texts : List (List ℕ)) → IsNormalFormUnder uri rules target normal → AreUris texts
+    (texts : List (List ℕ)) → IsNormalForm uri rules target normal → AreUris texts
     → AreNormal rules texts
     → position (bytes_eq normal) texts
     ≡ index_of_meaning rules texts (meaning_under uri rules target)
@@ -80,7 +81,7 @@ index-by-text-is-index-by-meaning same rules target normal texts h uris own =
 -- register of links: the outcome of a reference can be found by the text of its normal target
 pub noted : ComparesMeanings → (rules : Rules) (base reference normal : List ℕ)
     (texts : List (List ℕ)) (outcome : Outcome × List (List ℕ))
-    → IsNormalFormOfTargetUnder uri rules base reference normal → AreUris texts
+    → IsNormalFormOfTarget uri rules base reference normal → AreUris texts
     → AreNormal rules texts
     → outcome_of_lookup (position (bytes_eq normal) texts) texts normal ≡ outcome
     → outcome_of rules base texts reference ≡ outcome

@@ -1,7 +1,7 @@
 -- The outcomes of several references, a reference at a time.
 use Rattle.std.proofs.Common.{◌≡◌, ℕ, ◌+◌, ◌<◌, List, [], ◌∷◌, ◌++◌, length, get_or, take, map, Ok, Err, refl, sym, ap, ◌∙◌, arith, rules, OnErr, Result}
 use Rattle.std.proofs.lemmas.List.{map-append, take_more}
-use Rattle.uri_rules.specs.Rules.{Rules}
+use Rattle.fluent_uri.specs.SchemeRules.{Rules}
 use Rattle.uri_links.specs.Outcomes.{outcome_of, outcomes_of}
 use Rattle.uri_links.specs.declared.links.Outcome.{Outcome}
 

@@ -8,7 +8,7 @@ use Rattle.std.proofs.lemmas.Map.Keys.{IsDistinct-push}
 use Rattle.std.proofs.lemmas.Str.{is_utf8-from_IsUtf8}
 use Rattle.fluent_uri.specs.Grammar.{IsTextOf, uri}
 use Rattle.fluent_uri.specs.Normal.{normal_text}
-use Rattle.uri_rules.specs.Rules.{Rules, meaning_under}
+use Rattle.fluent_uri.specs.SchemeRules.{Rules, meaning_under}
 use Rattle.uri_links.specs.Registered.{AreNormal, AreUris}
 use Rattle.uri_links.proofs.Places.{position-None-no-element-passes}
 

@@ -5,7 +5,7 @@ use Rattle.fluent_uri.specs.Components.{components}
 use Rattle.fluent_uri.specs.Grammar.{uri}
 use Rattle.fluent_uri.specs.Meaning.{Meaning}
 use Rattle.fluent_uri.specs.Normal.{normal_text}
-use Rattle.uri_rules.specs.Rules.{Rules, meaning_under}
+use Rattle.fluent_uri.specs.SchemeRules.{Rules, meaning_under}
 use Rattle.fluent_uri.specs.Target.{TargetError, BaseWithFragment, InvalidReferenceAgainstOpaqueBase, resolution_of}
 use Rattle.fluent_uri.specs.declared.resolve.ResolveError.{ResolveError}
 use Rattle.fluent_uri.specs.declared.resolve.ResolveError.TheVariants as Of

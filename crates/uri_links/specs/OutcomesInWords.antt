@@ -3,7 +3,7 @@ use Rattle.std.specs.Prelude.{◌≡◌, ◌<◌, ℕ, List, Some, Ok, Err, leng
 use Rattle.fluent_uri.specs.Components.{components}
 use Rattle.fluent_uri.specs.Grammar.{uri}
 use Rattle.fluent_uri.specs.Meaning.{Meaning}
-use Rattle.uri_rules.specs.Rules.{Rules, meaning_under}
+use Rattle.fluent_uri.specs.SchemeRules.{Rules, meaning_under}
 use Rattle.fluent_uri.specs.Target.{TargetError, resolution_of}
 use Rattle.uri_links.specs.Outcomes.{resolve_error_of}
 use Rattle.uri_links.specs.declared.links.Outcome.{Outcome}

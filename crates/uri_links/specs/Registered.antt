@@ -4,7 +4,7 @@ use Rattle.std.specs.List.{IsDistinct, list_all}
 use Rattle.std.specs.Str.{is_utf8}
 use Rattle.fluent_uri.specs.Grammar.{is_of_kind, uri}
 use Rattle.fluent_uri.specs.Normal.{normal_text}
-use Rattle.uri_rules.specs.Rules.{Rules, meaning_under}
+use Rattle.fluent_uri.specs.SchemeRules.{Rules, meaning_under}
 
 -- whether a text may be in a register of links: it is valid UTF-8 and a URI
 abbrev pub is_uri_text : List ℕ → Bool

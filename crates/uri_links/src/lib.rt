@@ -4,4 +4,3 @@
 
 pub mod links;
 mod search_tree;
-pub mod targets;

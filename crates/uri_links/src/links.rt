@@ -7,12 +7,13 @@ ghost use Rattle.std.specs.List.{IsDistinct-prop};
 ghost use Rattle.fluent_uri.specs.Components.{components};
 ghost use Rattle.fluent_uri.specs.Grammar.{IsTextOf, uri, uri_ref};
 ghost use Rattle.fluent_uri.specs.Normal.{normal_text};
+ghost use Rattle.fluent_uri.specs.NormalTargets.{IsNormalFormOfTarget};
+ghost use Rattle.fluent_uri.specs.Normalizers.{scheme_rules_of};
 ghost use Rattle.fluent_uri.specs.Resolving.{IsErrorWithUnderflowAllowed};
+ghost use Rattle.fluent_uri.specs.SchemeRules.{meaning_under};
 ghost use Rattle.fluent_uri.specs.Target.{resolution_of};
 ghost use Rattle.fluent_uri.specs.Uris.{uri_ref_text};
 ghost use Rattle.fluent_uri.specs.Uris.{uri_text};
-ghost use Rattle.uri_rules.specs.Rules.{meaning_under};
-ghost use Rattle.uri_rules.specs.Targets.{IsNormalFormOfTargetUnder};
 ghost use Rattle.uri_links.specs.Outcomes.{outcome_of, outcomes_of, outcome_of_lookup};
 ghost use Rattle.uri_links.specs.OutcomesInWords.{IdIsInRange, IsOutcome};
 ghost use Rattle.uri_links.specs.Registered.{AreDistinct, AreNormal, AreUris};
@@ -20,8 +21,8 @@ ghost use Rattle.uri_links.specs.SearchTrees.{IsSearchTree, found_id, hash_of, s
 ghost use Rattle.uri_links.specs.declared.search_tree.SearchEnd.TheVariants.{Missing};
 
 use crate::search_tree::{Node, SearchEnd, add_node, hash_of, search};
-use crate::targets::TargetNormalizer;
-use fluent_uri::resolve::ResolveError;
+use fluent_uri::normalize::{Normalizer, SchemeRules};
+use fluent_uri::resolve::{ResolveError, Resolver};
 use fluent_uri::{Uri, UriRef, laws};
 use std::alloc::{AllocError, Global};
 
@@ -54,19 +55,20 @@ pub enum Outcome {
 /// | `../a/%63` | `Known(1)` | `http://x/a/c` |
 ///
 /// ```
-/// let mut register = Register::new(alloc, RuleSetting { scheme_rules });
+/// let mut register = Register::new(alloc, Normalizer::new().scheme_rules_with(rules));
 /// let outcomes = register.note_all(&base, references.as_slice())?;
 /// ```
 #[derive(Drop)]
-pub struct Register<N: TargetNormalizer> {
+pub struct Register<S: SchemeRules> {
     alloc: Global,
-    normalizer: N,
+    normalizer: Normalizer<S>,
     targets: Vec<Uri<String>>,
     nodes: Vec<Node>,
     // Each text is a URI.
     pub ghost uris: { AreUris (map uri_text targets.items) },
     // Each is its own normal text.
-    pub ghost normal: { AreNormal (N.rules_applied normalizer) (map uri_text targets.items) },
+    pub ghost normal: { AreNormal (S.rules_of (scheme_rules_of normalizer))
+        (map uri_text targets.items) },
     // No two are equal.
     pub ghost distinct: { AreDistinct
         (map uri_text targets.items) } by { IsDistinct-prop bytes_eq (map uri_text targets.items) },
@@ -94,21 +96,20 @@ fn text_of(target: &Uri<String>) -> &str
     target.as_str()
 }
 
-impl<N: TargetNormalizer> Register<N> {
+impl<S: SchemeRules> Register<S> {
     ghost use Rattle.uri_links.specs.Registers.{target_rules, texts_of};
 
-    /// Returns an empty register, which normalises targets under the normaliser's rules: default
-    /// ports alone for a `Normalizer`, and those of schemes too for a `SchemeNormalizer` (RFC 3986,
-    /// section 6.2.3).
+    /// Returns an empty register, which normalises targets under the normaliser's rules of schemes
+    /// (RFC 3986, section 6.2.3).
     ///
     /// Path underflow is never an error, whatever the normaliser's setting. The register keeps
     /// `alloc` for later calls. This call allocates nothing.
     ///
-    /// The new register's `len` is 0. With `SchemeNormalizer::new()`, the register notes
+    /// The new register's `len` is 0. If the rules are `StandardRules`, the register notes
     /// `http://a` and `http://a/` as one link.
-    pub fn new(alloc: Global, normalizer: N) -> Register<N>
+    pub fn new(alloc: Global, normalizer: Normalizer<S>) -> Register<S>
         ensures empty { texts_of result ≡ [] }
-        ensures rules { target_rules result ≡ N.rules_applied normalizer }
+        ensures rules { target_rules result ≡ S.rules_of (scheme_rules_of normalizer) }
     {
         Register {
             alloc,
@@ -178,6 +179,24 @@ impl<N: TargetNormalizer> Register<N> {
         }
     }
 
+    /// Returns the normal form of a reference's target against a base, whether or not its dot
+    /// segments underflow.
+    fn normal_target(
+        &self,
+        base: &Uri<&str>,
+        reference: &UriRef<&str>,
+    ) -> Result<Uri<String>, ResolveError>
+        ensures target { IfOk result (λ target.
+            IsNormalFormOfTarget uri (target_rules self.now)
+            (uri_text base.now) (uri_ref_text reference.now) (uri_text target)) }
+        ensures refusal { IfErr result
+            (IsErrorWithUnderflowAllowed (components (uri_text base.now))
+            (components (uri_ref_text reference.now))) }
+    {
+        let resolver = Resolver::with_base(*base);
+        resolver.resolve_normalized(self.alloc, reference, &self.normalizer)
+    }
+
     /// Returns the outcome for a normal target, and registers it if it is new.
     fn note_target(&mut self, target: Uri<String>) -> Result<Outcome, AllocError>
         requires { normal_text (meaning_under uri (target_rules self.old) (uri_text target))
@@ -231,7 +250,7 @@ impl<N: TargetNormalizer> Register<N> {
             (components (uri_ref_text reference.now))) ≡ true) }
     {
         laws::meanings_are_equal_if_their_parts_are();
-        match self.normalizer.normal_target(self.alloc, base, reference) {
+        match self.normal_target(base, reference) {
             Ok(target) => self.note_target(target),
             Err(error) => refused(error),
         }

@@ -1,6 +1,7 @@
 pub mod Paths
 pub mod Meanings
 pub mod Normal
+pub mod SchemeRules
 pub mod FromEnd
 pub mod Targeting
 pub mod AsciiForms

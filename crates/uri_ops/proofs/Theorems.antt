@@ -5,18 +5,19 @@ use Rattle.uri_ops.proofs.Paths.DotRuns.{removal-loop-empties-its-input}
 use Rattle.uri_ops.proofs.Paths.DotLaws.{removing-dots-leaves-no-dot-segment, removing-dots-keeps-absolute, removing-dots-lengthens-no-path, remove-dots-of-dotless, dotless-path-does-not-underflow, directory-is-absolute, directory-ends-in-slash, removing-dots-and-directory-swap, directory-underflows-as-path, prefix-dots-may-be-removed-first, path-underflows-as-prefix-or-remainder, base-dots-may-be-removed-before-merging, merged-path-underflows-as-base-or-remainder}
 use Rattle.uri_ops.proofs.Meanings.PortMeanings.{meaning_of-from-bare-meaning}
 use Rattle.uri_ops.proofs.Meanings.SameMeanings.{same_meaning-decides-equality}
-use Rattle.uri_ops.proofs.Normal.NormalTexts.{normal-text-is-text-of-kind, meaning_of-normal_text, normal_text-is-idempotent, same-normal-text-same-meaning}
+use Rattle.uri_ops.proofs.SchemeRules.RuledMeanings.{meaning-under-ports-alone}
+use Rattle.uri_ops.proofs.SchemeRules.RuledTexts.{normal-text-under-rules-is-text-of-kind, meaning_under-normal_text, normal_text-is-idempotent, same-normal-text-same-meaning}
 use Rattle.uri_ops.proofs.Targeting.Targets.{target-components-are-split, target-text-has-target-components}
 -- The target of a reference against a base of a kind is a text of that kind: RFC 3986, section 5.2.
 pub use Rattle.uri_ops.proofs.Targeting.TargetTexts.{target-is-of-kind-of-base}
--- Resolution respects equivalence, so resolving and normalising swap: RFC 3986, sections 5.2 and
--- 6.2.2.
-pub use Rattle.uri_ops.proofs.Targeting.Swaps.{resolving-respects-meaning}
-pub use Rattle.uri_ops.proofs.Targeting.Swaps.{normal-texts-resolve-to-same-meaning}
+-- Resolution respects equivalence under any rules of schemes, so resolving and normalising swap: RFC
+-- 3986, sections 5.2, 6.2.2 and 6.2.3.
+pub use Rattle.uri_ops.proofs.SchemeRules.RuledTargets.{resolving-respects-meaning}
+pub use Rattle.uri_ops.proofs.SchemeRules.RuledTargets.{normal-texts-resolve-to-same-meaning}
 -- A text with its characters past ASCII as octets is of the kind of URIs that goes with its kind.
 -- It is equivalent to the text: RFC 3987, section 3.1.
 pub use Rattle.uri_ops.proofs.AsciiForms.EncodedMeanings.{encoded-text-is-of-ascii_kind}
-pub use Rattle.uri_ops.proofs.AsciiForms.EncodedMeanings.{encoding-keeps-meaning_of-text}
+pub use Rattle.uri_ops.proofs.AsciiForms.EncodedMeanings.{encoding-keeps-meaning_of-text, encoding-keeps-meaning_under-text}
 -- If a base and a reference change so, the target changes so, and underflows in the same cases.
 pub use Rattle.uri_ops.proofs.AsciiForms.EncodedTargets.{resolving-and-encoding-swap}
 pub use Rattle.uri_ops.proofs.AsciiForms.EncodedTargets.{encoding-keeps-target-underflow}
@@ -74,12 +75,13 @@ pub ruleset piece_laws = (prefix-dots-may-be-removed-first, path-underflows-as-p
 pub ruleset merging_laws =
     (base-dots-may-be-removed-before-merging, merged-path-underflows-as-base-or-remainder)
 
--- A normal text has the meaning it is of, and two texts have the same normal text exactly where
--- they have the same meaning: RFC 3986, section 6.2.2.
+-- Under any rules of schemes, a normal text has the meaning it is of, and two texts have the same
+-- normal text exactly where they have the same meaning: RFC 3986, sections 6.2.2 and 6.2.3.
 pub ruleset canonical = (
   meaning_of-from-bare-meaning,
-  normal-text-is-text-of-kind,
-  meaning_of-normal_text,
+  meaning-under-ports-alone,
+  normal-text-under-rules-is-text-of-kind,
+  meaning_under-normal_text,
   normal_text-is-idempotent,
   same-normal-text-same-meaning,
 )

@@ -5,6 +5,7 @@ pub mod EncodedPlaces
 pub mod LeadingSegments
 pub mod SegmentModes
 pub mod Places
+pub mod RuledComponents
 pub mod TargetPieces
 pub mod Decodings
 pub mod Unchanged

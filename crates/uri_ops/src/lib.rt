@@ -3,7 +3,6 @@
 
 pub mod build;
 pub mod convert;
-pub mod default_port;
 #[doc(hidden)]
 pub mod laws;
 pub mod normalize;
@@ -12,4 +11,5 @@ pub mod path;
 #[doc(hidden)]
 pub mod read_back;
 pub mod resolve;
+pub mod scheme_rules;
 pub mod traits;

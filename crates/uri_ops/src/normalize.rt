@@ -1,15 +1,14 @@
-//! Normalising references (RFC 3986, section 6.2.2, and of section 6.2.3 what it says of ports; RFC
-//! 3987, section 5.3.2).
+//! Normalising references (RFC 3986, sections 6.2.2 and 6.2.3; RFC 3987, section 5.3.2).
 ghost use Rattle.std.specs.Prelude.{◌≡◌, IfOk, IfErr, true, false, string_bytes};
 ghost use Rattle.std.specs.Str.{IsUtf8};
 ghost use Rattle.uri_parts.specs.CoreTexts.{core_text};
 ghost use Rattle.uri_parts.specs.Grammar.{IsOfKind};
 ghost use Rattle.uri_parts.specs.PackedPositions.{ArePackedPositionsOf};
-ghost use Rattle.uri_parts.specs.SchemePorts.{default_port};
 ghost use Rattle.uri_ops.specs.ComponentSets.{HasComponentSets};
 ghost use Rattle.uri_ops.specs.Normalizers.{HasNormalText, IsNormalForm};
 ghost use Rattle.uri_ops.specs.Normalizers.{normalizer_allows_underflow};
-ghost use Rattle.uri_ops.specs.Normalizers.{ports_of, text_underflows};
+ghost use Rattle.uri_ops.specs.Normalizers.{scheme_rules_of, text_underflows};
+ghost use Rattle.uri_ops.specs.SchemeRules.{default_rules};
 ghost use Rattle.uri_ops.specs.declared.normalize.NormalizeError.TheVariants.{PathUnderflow};
 
 pub(crate) mod decode_unreserved;
@@ -25,14 +24,16 @@ pub(crate) mod normalized;
 pub(crate) mod octet_runs;
 pub(crate) mod octets;
 pub(crate) mod room;
+#[doc(hidden)]
+pub mod ruled_parts;
 pub(crate) mod short_components;
 #[doc(hidden)]
 pub mod unchanged;
 
-use crate::default_port::{DefaultPort, SchemeDefaults};
 use crate::normalize::normal_text::written_normal_text;
 use crate::normalize::normalized::Normalized;
 use crate::normalize::unchanged::is_found_normal;
+use crate::scheme_rules::{DefaultPorts, SchemeRules, WithPorts};
 use crate::traits::RiMaybeRef;
 use std::alloc::{AllocError, Global};
 use thiserror::Error;
@@ -55,6 +56,7 @@ pub enum NormalizeError {
 }
 
 impl From<AllocError> for NormalizeError {
+    ghost use Rattle.uri_ops.specs.SchemeRules.{default_rules};
     ghost use Rattle.uri_ops.specs.declared.normalize.NormalizeError.TheVariants.{OutOfMemory};
 
     ghost from_gives = { λ _ error. error ≡ OutOfMemory };
@@ -65,8 +67,8 @@ impl From<AllocError> for NormalizeError {
     }
 }
 
-/// What normalises values, by its settings: whether dot segments may underflow, and the default
-/// ports of schemes.
+/// What normalises values, by its settings: whether dot segments may underflow, and the rules of
+/// schemes, such as their default ports.
 ///
 /// # Examples
 ///
@@ -78,83 +80,83 @@ impl From<AllocError> for NormalizeError {
 /// normalizer.normalize(alloc, uri)
 /// ```
 #[derive(Drop)]
-pub struct Normalizer<P> {
+pub struct Normalizer<S> {
     allow_path_underflow: bool,
-    pub(crate) ports: P,
+    pub(crate) rules: S,
 }
 
 /// Returns the normal text of a text of a kind. If that is the text itself, the result
 /// is a copy.
-pub(crate) fn normalize_core<K: Kind, P: DefaultPort>(
+pub(crate) fn normalize_core<K: Kind, S: SchemeRules>(
     alloc: Global,
     core: Core<K, &str>,
-    ports: &P,
+    rules: &S,
 ) -> Result<Normalized, AllocError>
     requires { HasComponentSets K.kind }
     ensures utf8 { IsUtf8 (core_text core.entry) }
     ensures text { IfOk result (λ made.
-        HasNormalText K.kind (P.port_of ports.now) (core_text core.entry)
+        HasNormalText K.kind (S.rules_of rules.now) (core_text core.entry)
         (string_bytes made.text)) }
     ensures at { IfOk result (λ made.
         ArePackedPositionsOf (string_bytes made.text) made.positions) }
     ensures underflow { IfOk result (λ made.
         made.underflows ≡ text_underflows (core_text core.entry)) }
 {
-    if is_found_normal(core, ports) {
+    if is_found_normal(core, rules) {
         return Ok(Normalized {
             text: String::from_str(alloc, core.as_str())?,
             positions: core.packed_positions(),
             underflows: false,
         });
     }
-    written_normal_text(alloc, core, ports)
+    written_normal_text(alloc, core, rules)
 }
 
 /// Returns the normal text of a text of a kind whose components are at these positions. If the text
 /// is found unchanged, it is kept.
-pub(crate) fn normalize_string<K: Kind, P: DefaultPort>(
+pub(crate) fn normalize_string<K: Kind, S: SchemeRules>(
     alloc: Global,
     text: String,
     positions: PackedPositions,
-    ports: &P,
+    rules: &S,
 ) -> Result<Normalized, AllocError>
     requires sets { HasComponentSets K.kind }
     requires of_kind { IsOfKind K.kind (string_bytes text) }
     requires at { ArePackedPositionsOf (string_bytes text) positions }
     ensures utf8 { IsUtf8 (string_bytes text) }
     ensures text { IfOk result (λ made.
-        HasNormalText K.kind (P.port_of ports.now) (string_bytes text)
+        HasNormalText K.kind (S.rules_of rules.now) (string_bytes text)
         (string_bytes made.text)) }
     ensures at { IfOk result (λ made.
         ArePackedPositionsOf (string_bytes made.text) made.positions) }
 {
     let core = Core::<K, &str>::new(text.as_str(), positions);
-    if is_found_normal(core, ports) {
+    if is_found_normal(core, rules) {
         return Ok(Normalized {
             text,
             positions,
             underflows: false,
         });
     }
-    written_normal_text(alloc, core, ports)
+    written_normal_text(alloc, core, rules)
 }
 
-impl Normalizer<SchemeDefaults> {
-    /// Returns a normaliser with the default ports of `Scheme::default_port`, where dot segments
-    /// may underflow.
+impl Normalizer<DefaultPorts> {
+    /// Returns a normaliser with the default ports of `Scheme::default_port` and no other rules of
+    /// schemes, where dot segments may underflow.
     ///
     /// It normalises `http://a:80/../b` to `http://a/b`.
-    pub fn new() -> Normalizer<SchemeDefaults>
+    pub fn new() -> Normalizer<DefaultPorts>
         ensures { normalizer_allows_underflow result ≡ true }
     {
         Normalizer {
             allow_path_underflow: true,
-            ports: SchemeDefaults,
+            rules: DefaultPorts,
         }
     }
 }
 
-impl Default for Normalizer<SchemeDefaults> {
+impl Default for Normalizer<DefaultPorts> {
     ghost is_default = { λ normalizer. normalizer_allows_underflow normalizer ≡ true };
 
     /// Returns the normaliser that `Normalizer::new` returns.
@@ -163,7 +165,7 @@ impl Default for Normalizer<SchemeDefaults> {
     }
 }
 
-impl<P: DefaultPort> Normalizer<P> {
+impl<S: SchemeRules> Normalizer<S> {
     /// Returns the normaliser with dot segments allowed to underflow, or not. If they may, `/..` is
     /// removed where no segment is before it (RFC 3986, section 5.2.4); else it is an error.
     ///
@@ -175,17 +177,38 @@ impl<P: DefaultPort> Normalizer<P> {
     /// let normalizer = Normalizer::new().allow_path_underflow(false);
     /// normalizer.normalize(alloc, uri)
     /// ```
-    pub fn allow_path_underflow(self, value: bool) -> Normalizer<P>
+    pub fn allow_path_underflow(self, value: bool) -> Normalizer<S>
         ensures allows { normalizer_allows_underflow result ≡ value }
-        ensures ports { ports_of result ≡ ports_of self }
+        ensures rules { scheme_rules_of result ≡ scheme_rules_of self }
     {
         Normalizer {
             allow_path_underflow: value,
-            ports: self.ports,
+            rules: self.rules,
         }
     }
 
-    /// Returns the normaliser with other default ports (RFC 3986, section 6.2.3).
+    /// Returns the normaliser with other rules of schemes (RFC 3986, section 6.2.3).
+    ///
+    /// # Examples
+    ///
+    /// With `StandardRules`, `HTTP://Example.com:80` is normalised to `http://example.com/`.
+    ///
+    /// ```
+    /// let normalizer = Normalizer::new().scheme_rules_with(StandardRules);
+    /// normalizer.normalize(alloc, uri)
+    /// ```
+    pub fn scheme_rules_with<T: SchemeRules>(self, rules: T) -> Normalizer<T>
+        ensures allows { normalizer_allows_underflow result ≡ normalizer_allows_underflow self }
+        ensures rules { scheme_rules_of result ≡ rules }
+    {
+        Normalizer {
+            allow_path_underflow: self.allow_path_underflow,
+            rules,
+        }
+    }
+
+    /// Returns the normaliser with the default ports of other rules, and its own rules beside them
+    /// (RFC 3986, section 6.2.3).
     ///
     /// # Examples
     ///
@@ -196,23 +219,40 @@ impl<P: DefaultPort> Normalizer<P> {
     /// let normalizer = Normalizer::new().default_port_with(ports);
     /// normalizer.normalize(alloc, uri)
     /// ```
-    pub fn default_port_with<Q: DefaultPort>(self, ports: Q) -> Normalizer<Q>
+    pub fn default_port_with<P: SchemeRules>(self, ports: P) -> Normalizer<WithPorts<P, S>>
         ensures allows { normalizer_allows_underflow result ≡ normalizer_allows_underflow self }
-        ensures ports { ports_of result ≡ ports }
+        ensures rules { ⟦<WithPorts<P, S> as SchemeRules>⟧.rules_of (scheme_rules_of result)
+            ≡ record (S.rules_of (scheme_rules_of self)) { ports = (P.rules_of ports).ports } }
     {
-        Normalizer {
-            allow_path_underflow: self.allow_path_underflow,
+        let allow_path_underflow = self.allow_path_underflow;
+        let rules = WithPorts {
             ports,
+            rules: self.rules,
+        };
+        Normalizer {
+            allow_path_underflow,
+            rules,
         }
     }
 
     /// Returns the normal form of a value (RFC 3986, sections 6.2.2 and 6.2.3). The scheme and the
     /// host are in lower case. Each octet that encodes a decodable character is decoded, and every
     /// other octet has upper-case digits. An empty or default port is left out. If there is a
-    /// scheme, a path that begins with `/` loses its dot segments. In an IRI the formatting
+    /// scheme, a path that begins with `/` loses its dot segments. If an empty path after an
+    /// authority is `/` under the scheme by the rules, it becomes `/`; if `localhost` is the default
+    /// host of the scheme, an authority that is `localhost` becomes empty. In an IRI the formatting
     /// characters of bidirectional text, U+200E, U+200F and U+202A to U+202E, become octets,
     /// whether they were octets or characters (RFC 3987, section 4.1). Two values of a kind have
-    /// the same normal form exactly if they are equivalent.
+    /// the same normal form exactly if they are equivalent under the rules.
+    ///
+    /// With `StandardRules`:
+    ///
+    /// | Text | Normal form |
+    /// |---|---|
+    /// | `HTTP://Example.com:80` | `http://example.com/` |
+    /// | `wss://h?q` | `wss://h/?q` |
+    /// | `FILE://LocalHost/a` | `file:///a` |
+    /// | `file://u@localhost/a`, `file:/a`, `http:`, `//h` | the same |
     ///
     /// # Errors
     ///
@@ -233,7 +273,7 @@ impl<P: DefaultPort> Normalizer<P> {
         value: &R,
     ) -> Result<R::Owned, NormalizeError>
         ensures normal { IfOk result (λ normal.
-            IsNormalForm R.kind (P.port_of (ports_of self.now)) (R.text value.now)
+            IsNormalForm R.kind (S.rules_of (scheme_rules_of self.now)) (R.text value.now)
             (R.owned_text normal)) }
         ensures allowed { IfOk result (λ _.
             normalizer_allows_underflow self.now ≡ false
@@ -243,7 +283,7 @@ impl<P: DefaultPort> Normalizer<P> {
             → (normalizer_allows_underflow self.now ≡ false)
             × (text_underflows (R.text value.now) ≡ true)) }
     {
-        let made = normalize_core(alloc, value.core(), &self.ports)?;
+        let made = normalize_core(alloc, value.core(), &self.rules)?;
         if made.underflows && !self.allow_path_underflow {
             return Err(NormalizeError::PathUnderflow);
         }
@@ -251,16 +291,16 @@ impl<P: DefaultPort> Normalizer<P> {
     }
 }
 
-/// Returns the normal form of a value under the default ports of `Scheme::default_port`, where dot
-/// segments may underflow.
+/// Returns the normal form of a value under the rules of `DefaultPorts`, where dot segments may
+/// underflow.
 #[doc(hidden)]
 pub fn normalize_with_defaults<R: RiMaybeRef>(
     alloc: Global,
     value: &R,
 ) -> Result<R::Owned, AllocError>
     ensures { IfOk result (λ normal.
-        IsNormalForm R.kind default_port (R.text value.now) (R.owned_text normal)) }
+        IsNormalForm R.kind default_rules (R.text value.now) (R.owned_text normal)) }
 {
-    let made = normalize_core(alloc, value.core(), &SchemeDefaults)?;
+    let made = normalize_core(alloc, value.core(), &DefaultPorts)?;
     Ok(R::make_owned(made.text, made.positions))
 }

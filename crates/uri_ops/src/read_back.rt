@@ -11,6 +11,7 @@ pub(crate) mod normal_path;
 pub(crate) mod normal_tokens;
 pub(crate) mod octets_back;
 pub(crate) mod path_back;
+pub mod ruled_back;
 pub(crate) mod segments_back;
 
 /// A text that is read from its end. What is left of it is `unread`.

@@ -2,7 +2,7 @@
 ghost use Rattle.std.specs.Prelude.{◌≡◌, ◌++◌, IfErr, IfOk, IfSome, Ok, string_bytes, true};
 ghost use Rattle.uri_parts.specs.Grammar.{IsTextOf};
 ghost use Rattle.uri_parts.specs.PackedPositions.{ArePackedPositionsOf};
-ghost use Rattle.uri_ops.specs.Normalizers.{ports_of};
+ghost use Rattle.uri_ops.specs.Normalizers.{scheme_rules_of};
 ghost use Rattle.uri_ops.specs.NormalTargets.{IsNormalTarget, IsNormalTargetError};
 ghost use Rattle.uri_ops.specs.Resolved.{IsResolved};
 ghost use Rattle.uri_ops.specs.Resolving.{base_of, resolver_allows_underflow};
@@ -17,12 +17,12 @@ pub mod target_text;
 #[doc(hidden)]
 pub mod text_view;
 
-use crate::default_port::DefaultPort;
 use crate::normalize::{Normalizer, normalize_string};
 pub use crate::resolve::error::ResolveError;
 use crate::resolve::target_pieces::{TargetPieces, taken_pieces};
 use crate::resolve::target_text::{Target, target_text};
 use crate::resolve::text_view::TextView;
+use crate::scheme_rules::SchemeRules;
 use crate::traits::{RefOf, Ri, RiMaybeRef};
 use std::alloc::{AllocError, Global};
 
@@ -200,7 +200,7 @@ impl<R: Ri> Resolver<R> {
     }
 
     /// Returns the normal form of the target of a reference against the base: `resolve` with
-    /// underflow allowed, and then `normalize` of a normaliser with these ports (RFC 3986, sections
+    /// underflow allowed, and then `normalize` of a normaliser with these rules (RFC 3986, sections
     /// 5.2, 6.2.2 and 6.2.3). Whether either setting allows underflow makes no difference. An
     /// equivalent base and reference, such as the normal forms of both, give the same result.
     ///
@@ -217,25 +217,25 @@ impl<R: Ri> Resolver<R> {
     /// let resolver = Resolver::with_base(base);
     /// resolver.resolve_normalized(alloc, reference, &Normalizer::new())
     /// ```
-    pub fn resolve_normalized<Q: RefOf<R>, P: DefaultPort>(
+    pub fn resolve_normalized<Q: RefOf<R>, S: SchemeRules>(
         &self,
         alloc: Global,
         reference: &Q,
-        normalizer: &Normalizer<P>,
+        normalizer: &Normalizer<S>,
     ) -> Result<R::Owned, ResolveError>
         ensures normal { IfOk result (λ normal.
-            IsNormalTarget R.kind Q.kind (P.port_of (ports_of normalizer.now))
+            IsNormalTarget R.kind Q.kind (S.rules_of (scheme_rules_of normalizer.now))
             (R.text (base_of self.now)) (Q.text reference.now) (R.owned_text normal)) }
         ensures refusal { IfErr result
-            (IsNormalTargetError R.kind Q.kind (P.port_of (ports_of normalizer.now))
+            (IsNormalTargetError R.kind Q.kind (S.rules_of (scheme_rules_of normalizer.now))
             (R.text (base_of self.now)) (Q.text reference.now)) }
     {
         let target = resolve_to_text(alloc, &self.base, reference, true)?;
-        let made = normalize_string::<R::Kind, P>(
+        let made = normalize_string::<R::Kind, S>(
             alloc,
             target.text,
             target.positions,
-            &normalizer.ports,
+            &normalizer.rules,
         )?;
         Ok(R::make_owned(made.text, made.positions))
     }

@@ -6,21 +6,10 @@ use Rattle.std.specs.Cmp.Lexicographic.{slice_cmp}
 use Rattle.std.specs.Ordering.{is_eq, nat_cmp}
 use Rattle.std.specs.Str.{IsUtf8}
 use Rattle.uri_parts.specs.Grammar.{Kind, IsOfKind, IsTextOf}
-use Rattle.uri_parts.specs.Ports.{PortFunction}
 use Rattle.uri_ops.specs.ComponentSets.{HasComponentSets}
-use Rattle.uri_ops.specs.Meaning.{meaning_of}
-use Rattle.uri_ops.specs.Normal.{normal_text}
-use Rattle.uri_order.specs.NormalForms.{AreEquivalentUnder, normal_form, normal_form_under}
-use Rattle.uri_rules.specs.Rules.{Rules, meaning_under, only_ports}
-use Rattle.uri_rules.proofs.RuledMeanings.{meaning-under-ports-alone}
-use Rattle.uri_rules.proofs.RuledTexts.{same-normal-text-same-meaning-under}
-
--- general fact: what holds exactly if two values are equal holds exactly if the values that they
--- equal are
-pub holds_if_equals_are_equal : {A P : Type 0} (x y z w : A) → x ≡ z → y ≡ w → (P ↔ x ≡ y)
-    → (P ↔ z ≡ w)
-holds_if_equals_are_equal x y z w e f h =
-    (λ p. sym e ∙ h.0 p ∙ f, λ same. h.1 (e ∙ same ∙ sym f))
+use Rattle.uri_ops.specs.SchemeRules.{Rules}
+use Rattle.uri_ops.proofs.SchemeRules.RuledTexts.{same-normal-text-same-meaning}
+use Rattle.uri_order.specs.NormalForms.{AreEquivalent, normal_form}
 
 -- a text of a kind, in UTF-8, is so where it equals another text
 pub equal_text_is_of_kind : (kind : Kind) (text same : List ℕ) → text ≡ same → IsUtf8 text
@@ -28,26 +17,14 @@ pub equal_text_is_of_kind : (kind : Kind) (text same : List ℕ) → text ≡ sa
 equal_text_is_of_kind kind text same e u k =
     subst (IsTextOf kind) e (record { utf8 = u; grammar = k })
 
--- normal forms under default ports alone are those under the rules that have these ports alone
-pub forms_under_ports_alone : (kind : Kind) (ports : PortFunction)
-    → normal_form_under kind (only_ports ports) ≡ normal_form kind ports
-forms_under_ports_alone kind ports =
-    λ i text. normal_text (meaning-under-ports-alone kind ports text i)
-
--- so are meanings
-pub meanings_under_ports_alone : (kind : Kind) (ports : PortFunction)
-    → meaning_under kind (only_ports ports) ≡ meaning_of kind ports
-meanings_under_ports_alone kind ports =
-    λ i text. meaning-under-ports-alone kind ports text i
-
 -- normal forms of two texts of a kind are equal exactly if the texts are equivalent, so a test of
 -- the one is a test of the other
 pub equivalent_if_forms_are_equal : {P : Type 0} (kind : Kind) (rules : Rules)
     → HasComponentSets kind → (one other : List ℕ) → IsTextOf kind one → IsTextOf kind other
-    → (P ↔ normal_form_under kind rules one ≡ normal_form_under kind rules other)
-    → (P ↔ AreEquivalentUnder kind rules one other)
+    → (P ↔ normal_form kind rules one ≡ normal_form kind rules other)
+    → (P ↔ AreEquivalent kind rules one other)
 equivalent_if_forms_are_equal kind rules sets one other v w tested =
-    let same = same-normal-text-same-meaning-under kind rules sets one other v w in
+    let same = same-normal-text-same-meaning kind rules sets one other v w in
     (λ p. same.0 (tested.0 p), λ m. tested.1 (same.1 m))
 
 -- an order of texts that is equal is that of equal ones

@@ -1,4 +1,3 @@
 pub mod Equivalences
 pub mod InStep
-pub mod RuledParts
 pub mod TotalOrders

@@ -5,12 +5,11 @@ use Rattle.std.specs.Cmp.{IsTotalOrder, tied_itself, upto}
 use Rattle.std.specs.Cmp.Lexicographic.{on_texts}
 use Rattle.std.specs.Ordering.{is_gt, is_le, ordering_reverse}
 use Rattle.uri_parts.specs.Grammar.{IsTextOf, Kind}
-use Rattle.uri_parts.specs.Ports.{PortFunction}
 use Rattle.uri_ops.specs.ComponentSets.{HasComponentSets}
-use Rattle.uri_order.specs.NormalForms.{AreEquivalent, AreEquivalentUnder, normal_form, normal_form_under}
+use Rattle.uri_ops.specs.SchemeRules.{Rules}
+use Rattle.uri_order.specs.NormalForms.{AreEquivalent, normal_form}
 use Rattle.uri_order.specs.TotalOrders.{IsTotalOrderBy, order_by}
-use Rattle.uri_order.proofs.Equivalences.{equal_in_order_if_equal, equivalent_if_forms_are_equal, forms_under_ports_alone, meanings_under_ports_alone}
-use Rattle.uri_rules.specs.Rules.{Rules, only_ports}
+use Rattle.uri_order.proofs.Equivalences.{equal_in_order_if_equal, equivalent_if_forms_are_equal}
 
 -- total orders: what is at most another is not greater
 at-most-is-not-greater : (order : Ordering) → is_le order ≡ true → is_gt order ≡ false
@@ -45,27 +44,12 @@ forms-are-in-total-order form =
           (order_by form other one) (o.antisymm one other);
     }
 
--- total orders: two texts of a kind are equal in the order under rules exactly if they are
--- equivalent
-pub equal-in-order-if-equivalent-under : (kind : Kind) (rules : Rules) (one other : List ℕ)
+-- total orders: two texts of a kind are equal in the order exactly if they are equivalent
+pub equal-in-order-if-equivalent : (kind : Kind) (rules : Rules) (one other : List ℕ)
     → HasComponentSets kind → IsTextOf kind one → IsTextOf kind other
-    → (order_by (normal_form_under kind rules) one other ≡ Equal
-    ↔ AreEquivalentUnder kind rules one other)
-equal-in-order-if-equivalent-under kind rules one other sets v w =
+    → (order_by (normal_form kind rules) one other ≡ Equal
+    ↔ AreEquivalent kind rules one other)
+equal-in-order-if-equivalent kind rules one other sets v w =
     equivalent_if_forms_are_equal kind rules sets one other v w
-    (equal_in_order_if_equal (normal_form_under kind rules one) (normal_form_under kind rules other)
-    (order_by (normal_form_under kind rules) one other) refl)
-
--- total orders: the same under default ports alone
-pub equal-in-order-if-equivalent : (kind : Kind) (ports : PortFunction) (one other : List ℕ)
-    → HasComponentSets kind → IsTextOf kind one → IsTextOf kind other
-    → (order_by (normal_form kind ports) one other ≡ Equal ↔ AreEquivalent kind ports one other)
-equal-in-order-if-equivalent kind ports one other sets v w =
-    let same = equal-in-order-if-equivalent-under kind (only_ports ports) one other sets v w in
-    let forms = forms_under_ports_alone kind ports in
-    let meanings = meanings_under_ports_alone kind ports in (
-      λ e. sym (λ i. meanings i one) ∙ same.0 ((λ i. order_by (forms i) one other) ∙ e)
-          ∙ (λ i. meanings i other),
-      λ e. sym (λ i. order_by (forms i) one other)
-          ∙ same.1 ((λ i. meanings i one) ∙ e ∙ sym (λ i. meanings i other)),
-    )
+    (equal_in_order_if_equal (normal_form kind rules one) (normal_form kind rules other)
+    (order_by (normal_form kind rules) one other) refl)

@@ -1,6 +1,5 @@
 pub mod Ends
 pub mod HashedTexts
 pub mod NormalForms
-pub mod Ports
-pub mod RuledParts
+pub mod NormalOrders
 pub mod TotalOrders

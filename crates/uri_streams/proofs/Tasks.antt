@@ -1,13 +1,14 @@
 -- The result under a task, by its command.
-use Rattle.std.proofs.Common.{◌≡◌, ℕ, Bool, true, List, Result, Ok, Err, IfOk, refl, ap, sym, subst, ◌∙◌, Some}
+use Rattle.std.proofs.Common.{◌≡◌, ℕ, true, List, Result, Ok, Err, IfOk, refl, ap, sym, subst, ◌∙◌, Some}
 use Rattle.std.specs.Prelude.{codes, ◌++◌, if◌then◌else◌}
 use Rattle.fluent_uri.specs.Grammar.{IsOfKind, Kind, is_of_kind, uri_ref}
 use Rattle.fluent_uri.specs.Refusals.{refusal}
 use Rattle.fluent_uri.specs.declared.ParseError.{ParseError}
 use Rattle.std.proofs.lemmas.Bool.{false_from_ne_true}
 use Rattle.uri_commands.specs.Messages.{error_text}
-use Rattle.uri_rules.specs.Rules.{Rules}
-use Rattle.uri_setting.specs.Settings.{rules_set}
+use Rattle.fluent_uri.specs.RuleSets.{rules_of_set}
+use Rattle.fluent_uri.specs.SchemeRules.{Rules}
+use Rattle.fluent_uri.specs.declared.normalize.RuleSet.{RuleSet}
 use Rattle.uri_links.specs.Outcomes.{outcome_of}
 use Rattle.uri_commands.specs.Kinds.{kind_named}
 use Rattle.uri_streams.specs.Results.{LineResult, Error, normalize_result, parse_message}
@@ -49,9 +50,9 @@ pub GivesText-of-unique : {E : Type 0} (own own_new : UniqueTask) (task task_new
     → task_new ≡ tasks.Unique own_new
     → ((known : Known) → HasMet own.met known → IfOk result (λ line_result.
     (result_in line_result
-    ≡ (unique_result own.scheme_rules (kind_named own.kind) known text).0)
-    × HasMet own_new.met (unique_result own.scheme_rules (kind_named own.kind) known text).1))
-    → own_new.kind ≡ own.kind → own_new.scheme_rules ≡ own.scheme_rules
+    ≡ (unique_result own.rules (kind_named own.kind) known text).0)
+    × HasMet own_new.met (unique_result own.rules (kind_named own.kind) known text).1))
+    → own_new.kind ≡ own.kind → own_new.rules ≡ own.rules
     → GivesText task task_new text result
 GivesText-of-unique own own_new task task_new text (Err error) e e_new is k r command known
     remembers = tt
@@ -60,65 +61,65 @@ GivesText-of-unique own own_new task task_new text (Ok line_result) e e_new is k
     remembers =
     absurd (subst (λ t. Remembers t (Each command) known) e remembers)
 GivesText-of-unique own own_new task task_new text (Ok line_result) e e_new is k r
-    (Unique kind by_rules hasher) known
+    (Unique kind set hasher) known
     remembers =
-    let same = subst (λ t. Remembers t (Unique kind by_rules hasher) known) e remembers in
+    let same = subst (λ t. Remembers t (Unique kind set hasher) known) e remembers in
     let processed = is known same.2 in
-    let given : Bool → KindName → LineResult × Known =
+    let given : RuleSet → KindName → LineResult × Known =
     λ b n. unique_result b (kind_named n) known text in (
       processed.0 ∙ (λ i. (given (same.1 i) (same.0 i)).0),
-      subst (λ t. Remembers t (Unique kind by_rules hasher) (given by_rules kind).1)
+      subst (λ t. Remembers t (Unique kind set hasher) (given set kind).1)
           (sym e_new) (
             k ∙ same.0,
             r ∙ same.1,
             subst (λ b. HasMet own_new.met (given b kind).1) same.1
-                (subst (λ n. HasMet own_new.met (given own.scheme_rules n).1) same.0 processed.1),
+                (subst (λ n. HasMet own_new.met (given own.rules n).1) same.0 processed.1),
           ),
     )
 GivesText-of-unique own own_new task task_new text (Ok line_result) e e_new is k r
-    (Links base by_rules) known remembers =
-    absurd (subst (λ t. Remembers t (Links base by_rules) known) e remembers)
+    (Links base set) known remembers =
+    absurd (subst (λ t. Remembers t (Links base set) known) e remembers)
 
 -- lines: what `urilines unique` writes is decided by the normal form, or the error
-pub unique_result-of-normalize_result : (by_rules : Bool) (kind : Kind) (known : Known)
+pub unique_result-of-normalize_result : (set : RuleSet) (kind : Kind) (known : Known)
     (text : List ℕ) (line_result : LineResult)
-    → line_result ≡ normalize_result by_rules kind text → text_if_new known line_result
-    ≡ unique_result by_rules kind known text
+    → line_result ≡ normalize_result set kind text → text_if_new known line_result
+    ≡ unique_result set kind known text
 unfolding unique_result
-unique_result-of-normalize_result by_rules kind known text line_result is =
+unique_result-of-normalize_result set kind known text line_result is =
     ap (text_if_new known) is
 
 -- lines: what `urilines links` writes of a reference is the outcome that the register of links
 -- defines
-pub link_result-of-outcome : {E : Type 0} (by_rules : Bool) (base : List ℕ)
+pub link_result-of-outcome : {E : Type 0} (set : RuleSet) (base : List ℕ)
     (known known_new : Known) (text reference : List ℕ)
-    (rules : Rules) (result : Result Returned E) → rules ≡ rules_set by_rules
+    (rules : Rules) (result : Result Returned E) → rules ≡ rules_of_set set
     → is_of_kind uri_ref text ≡ true → reference ≡ text
     → IfOk result (λ line_result. (result_in line_result, known_new)
     ≡ noted_result (outcome_of rules base known reference))
     → IfOk result (λ line_result.
-    (result_in line_result, known_new) ≡ link_result by_rules base known text)
+    (result_in line_result, known_new) ≡ link_result set base known text)
 unfolding link_result
-link_result-of-outcome by_rules base known known_new text reference rules (Err error) p of_kind
+link_result-of-outcome set base known known_new text reference rules (Err error) p of_kind
     same is = tt
-link_result-of-outcome by_rules base known known_new text reference rules
+link_result-of-outcome set base known known_new text reference rules
     (Ok line_result) p of_kind same is =
     is ∙ ap (λ f. noted_result (outcome_of f base known reference)) p
-    ∙ ap (λ t. noted_result (outcome_of (rules_set by_rules) base known t)) same
-    ∙ sym (ap (λ b. if b then noted_result (outcome_of (rules_set by_rules) base known text)
+    ∙ ap (λ t. noted_result (outcome_of (rules_of_set set) base known t)) same
+    ∙ sym (ap (λ b. if b then noted_result (outcome_of (rules_of_set set) base known text)
     else (Error (codes "reference: " ++ parse_message uri_ref text), known)) of_kind)
 
 -- lines: what `urilines links` writes of a text that is no reference is the error that is defined
 -- for it
-pub link_result-of-error : (by_rules : Bool) (base : List ℕ) (known : Known) (text : List ℕ)
+pub link_result-of-error : (set : RuleSet) (base : List ℕ) (known : Known) (text : List ℕ)
     (e : ParseError)
     → ¬ (IsOfKind uri_ref text) → refusal uri_ref text ≡ Some e
-    → (Error (codes "reference: " ++ error_text e), known) ≡ link_result by_rules base known text
+    → (Error (codes "reference: " ++ error_text e), known) ≡ link_result set base known text
 unfolding link_result
-link_result-of-error by_rules base known text e not_of_kind is =
+link_result-of-error set base known text e not_of_kind is =
     ap (λ m. (Error (codes "reference: " ++ m), known))
     (error_text-is-parse_message uri_ref text e is)
-    ∙ sym (ap (λ b. if b then noted_result (outcome_of (rules_set by_rules) base known text)
+    ∙ sym (ap (λ b. if b then noted_result (outcome_of (rules_of_set set) base known text)
     else (Error (codes "reference: " ++ parse_message uri_ref text), known))
     (false_from_ne_true (is_of_kind uri_ref text) not_of_kind))
 
@@ -126,31 +127,31 @@ link_result-of-error by_rules base known text e not_of_kind is =
 pub command-of-each : (own : LineCommand) (command : Command) (known : Known)
     → Remembers (tasks.Each own) command known → Each own ≡ command
 command-of-each own (Each other) known is = ap Each is
-command-of-each own (Unique kind by_rules hasher) known is = absurd is
-command-of-each own (Links base by_rules) known is = absurd is
+command-of-each own (Unique kind set hasher) known is = absurd is
+command-of-each own (Links base set) known is = absurd is
 
 -- lines: a line without a text is an error for the task of `unique`
 pub no_text_result-of-unique : (own : UniqueTask) (command : Command) (known : Known)
     (why : NoText) → Remembers (tasks.Unique own) command known
     → Error (no_text_message why) ≡ no_text_result command why
 no_text_result-of-unique own (Each other) known why is = absurd is
-no_text_result-of-unique own (Unique kind by_rules hasher) known why is = at why
+no_text_result-of-unique own (Unique kind set hasher) known why is = at why
   where
-    at : (w : NoText) → Error (no_text_message w) ≡ no_text_result (Unique kind by_rules hasher) w
+    at : (w : NoText) → Error (no_text_message w) ≡ no_text_result (Unique kind set hasher) w
     at (TooLong most) = refl
     at (NoField before) = refl
     at (NotUtf8 index) = refl
-no_text_result-of-unique own (Links base by_rules) known why is = absurd is
+no_text_result-of-unique own (Links base set) known why is = absurd is
 
 -- lines: a line without a text is an error for the task of `links`
 pub no_text_result-of-links : (own : LinksTask) (command : Command) (known : Known)
     (why : NoText) → Remembers (tasks.Links own) command known
     → Error (no_text_message why) ≡ no_text_result command why
 no_text_result-of-links own (Each other) known why is = absurd is
-no_text_result-of-links own (Unique kind by_rules hasher) known why is = absurd is
-no_text_result-of-links own (Links base by_rules) known why is = at why
+no_text_result-of-links own (Unique kind set hasher) known why is = absurd is
+no_text_result-of-links own (Links base set) known why is = at why
   where
-    at : (w : NoText) → Error (no_text_message w) ≡ no_text_result (Links base by_rules) w
+    at : (w : NoText) → Error (no_text_message w) ≡ no_text_result (Links base set) w
     at (TooLong most) = refl
     at (NoField before) = refl
     at (NotUtf8 index) = refl

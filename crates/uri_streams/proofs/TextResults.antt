@@ -1,5 +1,5 @@
 -- What a kind's calls return is the result of a text.
-use Rattle.std.proofs.Common.{◌≡◌, ◌≢◌, ℕ, Bool, true, false, List, Result, Ok, Err, [], ◌++◌, Some, refl, ap, sym, ◌∙◌}
+use Rattle.std.proofs.Common.{◌≡◌, ◌≢◌, ℕ, true, false, List, Result, Ok, Err, [], ◌++◌, Some, refl, ap, sym, ◌∙◌}
 use Rattle.fluent_uri.specs.Components.{components}
 use Rattle.fluent_uri.specs.Grammar.{Kind, IsOfKind, is_of_kind}
 use Rattle.fluent_uri.specs.Refusals.{refusal}
@@ -15,8 +15,6 @@ use Rattle.uri_commands.specs.Kinds.{normal_form_of}
 use Rattle.uri_commands.specs.Messages.{error_text, resolve_error_text}
 use Rattle.uri_commands.specs.declared.refusal.CommandError.TheVariants.{Target}
 use Rattle.uri_ops.specs.Normalizers.{HasNormalText}
-use Rattle.uri_parts.specs.SchemePorts.{default_port}
-use Rattle.uri_rules.proofs.RuledMeanings.{meaning-under-ports-alone}
 use Rattle.uri_streams.specs.Results.{LineResult, Text, Error, parse_message, parsed_result, resolution_result, target_result}
 use Rattle.uri_streams.specs.Returned.{result_in}
 use Rattle.uri_streams.specs.declared.line_result.LineResult.{LineResult as Returned}
@@ -47,14 +45,6 @@ parsed_result-of-error subject kind text line_result e accepts is =
     ap (λ m. Error (subject ++ m)) (error_text-is-parse_message kind text e is)
     ∙ sym (ap (λ b. if b then line_result else Error (subject ++ parse_message kind text))
     (false_from_ne_true (is_of_kind kind text) (λ of_kind. cc (accepts.1 of_kind))))
-
--- lines: a text that is its own normal text under default ports is its own normal form without the
--- rules of schemes
-pub unchanged-is-normal_form : (kind : Kind) (text : List ℕ)
-    → HasNormalText kind default_port text text → text ≡ normal_form_of false kind text
-unfolding normal_form_of
-unchanged-is-normal_form kind text is =
-    is.text ∙ ap normal_text (sym (meaning-under-ports-alone kind default_port text))
 
 -- lines: what `urilines resolve` writes of a target is its text
 pub target_result-of-target : (base reference target : List ℕ) → resolution_of_texts base reference

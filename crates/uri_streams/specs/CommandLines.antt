@@ -1,5 +1,5 @@
 -- The job that a command line of `urilines` asks for.
-use Rattle.std.specs.Prelude.{◌≡◌, ◌<◌, ◌-◌, ◌⊎◌, ℕ, Bool, true, false, List, [], ◌∷◌, ◌||◌, ◌==◌, codes, nat_lt, Option, Some, None, option_map, unwrap_or}
+use Rattle.std.specs.Prelude.{◌≡◌, ◌<◌, ◌-◌, ◌⊎◌, ℕ, Bool, true, false, List, [], ◌∷◌, ◌||◌, ◌==◌, codes, nat_lt, Option, Some, None, option_map, unwrap_or, if◌then◌else◌}
 use Rattle.std.specs.Borrow.{Bor}
 use Rattle.std.specs.declared.hash.RandomState.{RandomState}
 use Rattle.uri_parts.specs.Fragments.{IsWithFragment}
@@ -8,6 +8,8 @@ use Rattle.fluent_uri.specs.Refusals.{refusal}
 use Rattle.fluent_uri.specs.Uris.{uri_text}
 use Rattle.fluent_uri.specs.Iris.{iri_text}
 use Rattle.fluent_uri.specs.declared.ParseError.{ParseError}
+use Rattle.fluent_uri.specs.declared.normalize.RuleSet.{RuleSet}
+use Rattle.fluent_uri.specs.declared.normalize.RuleSet.TheVariants as Set
 use Rattle.uri_commands.specs.Refusals.{command_error_text}
 use Rattle.uri_commands.specs.declared.refusal.CommandError.TheVariants as command_errors
 use Rattle.uri_streams.specs.declared.command.Base.{Base}
@@ -63,11 +65,16 @@ IsBaseOf line (bases.Uri base) =
 IsBaseOf line (bases.Iri base) =
     (line.kind ≡ Some kinds.Iri) × IsWordOfBase line.base (iri_text base)
 
+-- the rules of schemes that a command line of `urilines` asks for: the standard ones if
+-- `--scheme-rules` is given, and else default ports alone
+abbrev pub rules_asked : CommandLine → RuleSet
+rules_asked line = if line.scheme_rules then Set.StandardRules else Set.DefaultPorts
+
 -- the command that a command line of `urilines` asks for; the other argument is the keys that
 -- `unique` hashes with
 abbrev pub IsCommandOf : CommandLine → RandomState → Command → Type 0
-IsCommandOf line hasher (Each (Normalize kind by_rules)) =
-    (line.command ≡ names.Normalize) × (line.kind ≡ Some kind) × (line.scheme_rules ≡ by_rules)
+IsCommandOf line hasher (Each (Normalize kind set)) =
+    (line.command ≡ names.Normalize) × (line.kind ≡ Some kind) × (rules_asked line ≡ set)
 IsCommandOf line hasher (Each (Resolve base is_basic)) =
     (line.command ≡ names.Resolve) × IsBaseOf line base × (line.is_basic ≡ is_basic)
 IsCommandOf line hasher (Each (Relativize base prefers)) =
@@ -80,12 +87,12 @@ IsCommandOf line hasher (Each (Parse kind)) =
     (line.command ≡ names.Parse) × (line.kind ≡ Some kind)
 IsCommandOf line hasher (Each (Query kind)) =
     (line.command ≡ names.Query) × (line.kind ≡ Some kind)
-IsCommandOf line hasher (Unique kind by_rules keys) =
-    (line.command ≡ names.Unique) × (line.kind ≡ Some kind) × (line.scheme_rules ≡ by_rules)
+IsCommandOf line hasher (Unique kind set keys) =
+    (line.command ≡ names.Unique) × (line.kind ≡ Some kind) × (rules_asked line ≡ set)
     × (keys ≡ hasher)
-IsCommandOf line hasher (Links base by_rules) =
+IsCommandOf line hasher (Links base set) =
     (line.command ≡ names.Links) × IsWordOfBase line.base (uri_text base)
-    × (line.scheme_rules ≡ by_rules)
+    × (rules_asked line ≡ set)
 
 -- the bytes of the delimiter of a command line of `urilines`: a tab if none is given
 abbrev pub delimiter_of : CommandLine → List ℕ

@@ -6,6 +6,7 @@ use Rattle.fluent_uri.specs.Iris.{iri_text}
 use Rattle.fluent_uri.specs.Refusals.{refusal}
 use Rattle.fluent_uri.specs.Target.{TargetError, BaseWithFragment, InvalidReferenceAgainstOpaqueBase, resolution_of}
 use Rattle.fluent_uri.specs.Uris.{uri_text}
+use Rattle.fluent_uri.specs.declared.normalize.RuleSet.{RuleSet}
 use Rattle.fluent_uri.specs.declared.resolve.ResolveError.TheVariants as resolve_errors
 use Rattle.uri_basic.specs.Target.{BasicTargetError, PathStartsWithDoubleSlash, basic_resolution_of_texts}
 use Rattle.uri_commands.specs.Kinds.{kind_named, normal_form_of}
@@ -54,10 +55,10 @@ parsed_result subject kind text result =
     if is_of_kind kind text then result else Error (subject ++ parse_message kind text)
 
 -- the result of `urilines normalize` for a line: the normal form of a text of the kind, or the
--- parse error; the Bool is whether `--scheme-rules` is given
-unfoldable pub normalize_result : Bool → Kind → List ℕ → LineResult
-normalize_result by_rules kind text =
-    parsed_result [] kind text (Text (normal_form_of by_rules kind text))
+-- parse error; the set is the rules of schemes that it is by
+unfoldable pub normalize_result : RuleSet → Kind → List ℕ → LineResult
+normalize_result set kind text =
+    parsed_result [] kind text (Text (normal_form_of set kind text))
 
 -- the result of `urilines resolve` for a line whose reference has this resolution: the target, or
 -- why there is none
@@ -145,8 +146,8 @@ query_result kind text = parsed_result [] kind text (Text (query_json (component
 
 -- the result of a line under a command of `urilines` that does the same with each line
 abbrev pub command_result : LineCommand → List ℕ → LineResult
-command_result (Normalize kind by_rules) text =
-    normalize_result by_rules (kind_named kind) text
+command_result (Normalize kind set) text =
+    normalize_result set (kind_named kind) text
 command_result (Resolve base is_basic) text =
     resolve_result is_basic (reference_kind base) (base_text base) text
 command_result (Relativize base prefers) text =
@@ -158,7 +159,7 @@ command_result (Query kind) text = query_result (kind_named kind) text
 
 -- the kind of the texts that a command of `urilines` gets of lines
 abbrev pub text_kind : LineCommand → Kind
-text_kind (Normalize kind by_rules) = kind_named kind
+text_kind (Normalize kind set) = kind_named kind
 text_kind (Resolve base is_basic) = reference_kind base
 text_kind (Relativize base prefers) = target_kind base
 text_kind (Check kind is_inverted) = kind_named kind

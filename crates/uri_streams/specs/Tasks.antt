@@ -9,7 +9,8 @@ use Rattle.fluent_uri.specs.Uris.{uri_text}
 use Rattle.uri_commands.specs.Links.{text_at}
 use Rattle.uri_commands.specs.MendedLinks.{mended_link}
 use Rattle.uri_commands.specs.Messages.{resolve_error_text}
-use Rattle.uri_setting.specs.Settings.{rules_set}
+use Rattle.fluent_uri.specs.RuleSets.{rules_of_set}
+use Rattle.fluent_uri.specs.declared.normalize.RuleSet.{RuleSet}
 use Rattle.uri_links.specs.Outcomes.{outcome_of}
 use Rattle.uri_links.specs.Registers.{target_rules, texts_of}
 use Rattle.uri_links.specs.declared.links.Outcome.{Outcome}
@@ -46,10 +47,10 @@ text_if_new known other = (other, known)
 -- The result of `urilines unique` for a line: its normal form, if that is not known, and what is
 -- known after it.
 -- Two texts of a kind have one normal form exactly if they mean the same (RFC 3986, section 6.2),
--- by the rules of schemes if the Bool is true.
-unfoldable pub unique_result : Bool → Kind → Known → List ℕ → LineResult × Known
-unique_result by_rules kind known text =
-    text_if_new known (normalize_result by_rules kind text)
+-- by the rules of schemes of the set.
+unfoldable pub unique_result : RuleSet → Kind → Known → List ℕ → LineResult × Known
+unique_result set kind known text =
+    text_if_new known (normalize_result set kind text)
 
 -- the line that `urilines links` writes for a target: a word, the id and the target's text, which
 -- is known
@@ -69,20 +70,20 @@ abbrev pub noted_result : Outcome × Known → LineResult × Known
 noted_result noted = (outcome_result noted, noted.1)
 
 -- the result of `urilines links` for a base, what is known, and a line: its target is known if one
--- with its meaning is, by the rules of schemes if the Bool is true; and what is known after it
-unfoldable pub link_result : Bool → List ℕ → Known → List ℕ → LineResult × Known
-link_result by_rules base known text =
+-- with its meaning is, by the rules of schemes of the set; and what is known after it
+unfoldable pub link_result : RuleSet → List ℕ → Known → List ℕ → LineResult × Known
+link_result set base known text =
     if is_of_kind uri_ref text
-    then noted_result (outcome_of (rules_set by_rules) base known text)
+    then noted_result (outcome_of (rules_of_set set) base known text)
     else (Error (codes "reference: " ++ parse_message uri_ref text), known)
 
 -- the result of a text under a command of `urilines`, with what is known from earlier lines; and
 -- what is known after it
 abbrev pub text_result : Command → Known → List ℕ → LineResult × Known
 text_result (Each command) known text = (command_result command text, known)
-text_result (Unique kind by_rules hasher) known text =
-    unique_result by_rules (kind_named kind) known text
-text_result (Links base by_rules) known text = link_result by_rules (uri_text base) known text
+text_result (Unique kind set hasher) known text =
+    unique_result set (kind_named kind) known text
+text_result (Links base set) known text = link_result set (uri_text base) known text
 
 -- The result of a line of which a command of `urilines` gets no text.
 -- It is not of the kind, so `check` passes it if `--invert` is given, unless it is too long; it is
@@ -95,8 +96,8 @@ no_text_result command why = Error (no_text_message why)
 -- the kind of the texts that a command of `urilines` gets of lines
 abbrev pub text_kind : Command → Kind
 text_kind (Each command) = line_text_kind command
-text_kind (Unique kind by_rules hasher) = kind_named kind
-text_kind (Links base by_rules) = uri_ref
+text_kind (Unique kind set hasher) = kind_named kind
+text_kind (Links base set) = uri_ref
 
 -- the text that the command of a job gets for the text of a line: with `--mend` what that is mended
 -- to as the link of a page, for the command's kind
@@ -123,9 +124,9 @@ HasMet met known = (text : List ℕ) → contains_text met.texts text ≡ has_me
 -- the task of a run is that of the command, and remembers what is known from earlier lines
 abbrev pub Remembers : Task → Command → Known → Type 0
 Remembers (tasks.Each own) (Each command) known = own ≡ command
-Remembers (tasks.Unique own) (Unique kind by_rules hasher) known =
-    (own.kind ≡ kind) × (own.scheme_rules ≡ by_rules) × HasMet own.met known
-Remembers (tasks.Links own) (Links base by_rules) known =
+Remembers (tasks.Unique own) (Unique kind set hasher) known =
+    (own.kind ≡ kind) × (own.rules ≡ set) × HasMet own.met known
+Remembers (tasks.Links own) (Links base set) known =
     (own.base ≡ base) × (texts_of own.register ≡ known)
-    × (target_rules own.register ≡ rules_set by_rules)
+    × (target_rules own.register ≡ rules_of_set set)
 Remembers task command known = ⊥

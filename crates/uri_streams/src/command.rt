@@ -1,5 +1,6 @@
 //! What is done with the text of a line.
 
+use fluent_uri::normalize::RuleSet;
 use fluent_uri::{Iri, Uri};
 use std::hash::RandomState;
 pub use uri_commands::kinds::KindName;
@@ -18,9 +19,9 @@ pub enum Base<'a> {
 /// are.
 #[derive(Clone, Copy)]
 pub enum LineCommand<'a> {
-    /// `normalize KIND`: the normal form of the text takes its place. If the `bool` is true
-    /// (`--scheme-rules`), it is by the rules of schemes.
-    Normalize(KindName, bool),
+    /// `normalize KIND`: the normal form of the text, by these rules of schemes (`--scheme-rules`),
+    /// takes its place.
+    Normalize(KindName, RuleSet),
     /// `resolve uri|iri BASE`: the target of the text against the base takes its place. If the
     /// `bool` is true (`--basic`), it is by the basic algorithm of RFC 3986, section 5.2.
     Resolve(Base<'a>, bool),
@@ -45,12 +46,12 @@ pub enum LineCommand<'a> {
 pub enum Command<'a> {
     /// A command that does the same with each line.
     Each(LineCommand<'a>),
-    /// `unique KIND`: the normal form of a line's text takes its place the first time that its
-    /// meaning comes. If the `bool` is true (`--scheme-rules`), it is by the rules of schemes. The
-    /// normal forms that were met are kept, hashed with these keys.
-    Unique(KindName, bool, RandomState),
+    /// `unique KIND`: the normal form of a line's text, by these rules of schemes
+    /// (`--scheme-rules`), takes its place the first time that its meaning comes. The normal forms
+    /// that were met are kept, hashed with these keys.
+    Unique(KindName, RuleSet, RandomState),
     /// `links BASE`: whether the target of a line's text against the base is new, the target's id
-    /// and the target take the text's place. If the `bool` is true (`--scheme-rules`), targets are
-    /// normalised by the rules of schemes. The targets that were met are kept.
-    Links(Uri<&'a str>, bool),
+    /// and the target take the text's place. Targets are normalised by these rules of schemes
+    /// (`--scheme-rules`). The targets that were met are kept.
+    Links(Uri<&'a str>, RuleSet),
 }

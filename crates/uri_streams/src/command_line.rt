@@ -5,12 +5,13 @@ ghost use Rattle.uri_streams.specs.CommandLines.{IsBaseOf, IsCommandOf, IsErrorO
 ghost use Rattle.uri_streams.specs.CommandLines.{IsErrorOfField, IsDelimiterOf, IsErrorOfDelimiter};
 ghost use Rattle.uri_streams.specs.CommandLines.{is_in_no_text, is_only_kept, keeps_shape};
 ghost use Rattle.uri_streams.specs.CommandLines.{IsErrorOfLine, IsFieldOf, IsJobOf, IsRejectedBase};
-ghost use Rattle.uri_streams.specs.CommandLines.{IsWordOfBase, mode_of, word_of_command};
-ghost use Rattle.uri_streams.specs.CommandLines.{word_of_mode};
+ghost use Rattle.uri_streams.specs.CommandLines.{IsWordOfBase, mode_of, rules_asked};
+ghost use Rattle.uri_streams.specs.CommandLines.{word_of_command, word_of_mode};
 
 use crate::command::{Base, Command, KindName, LineCommand};
 use crate::job::{Field, Job, OnError};
 use fluent_uri::Reference;
+use fluent_uri::normalize::RuleSet;
 use fluent_uri::roles::BaseKind;
 use std::fmt::{self, Display};
 use std::hash::RandomState;
@@ -181,7 +182,7 @@ fn command<'a>(line: &CommandLine<'a>, hasher: RandomState) -> Result<Command<'a
 {
     Ok(match line.command {
         CommandName::Normalize => {
-            Command::Each(LineCommand::Normalize(kind(line)?, line.scheme_rules))
+            Command::Each(LineCommand::Normalize(kind(line)?, rules_asked(line)))
         }
         CommandName::Resolve => Command::Each(LineCommand::Resolve(base(line)?, line.is_basic)),
         CommandName::Relativize => {
@@ -191,9 +192,20 @@ fn command<'a>(line: &CommandLine<'a>, hasher: RandomState) -> Result<Command<'a
         CommandName::Mend => Command::Each(LineCommand::Mend(kind(line)?)),
         CommandName::Parse => Command::Each(LineCommand::Parse(kind(line)?)),
         CommandName::Query => Command::Each(LineCommand::Query(kind(line)?)),
-        CommandName::Unique => Command::Unique(kind(line)?, line.scheme_rules, hasher),
-        CommandName::Links => Command::Links(base_of_kind(line)?, line.scheme_rules),
+        CommandName::Unique => Command::Unique(kind(line)?, rules_asked(line), hasher),
+        CommandName::Links => Command::Links(base_of_kind(line)?, rules_asked(line)),
     })
+}
+
+/// Returns the rules of schemes that a command line asks for.
+fn rules_asked(line: &CommandLine<'_>) -> RuleSet
+    ensures { result ≡ rules_asked line.now }
+{
+    if line.scheme_rules {
+        RuleSet::StandardRules
+    } else {
+        RuleSet::DefaultPorts
+    }
 }
 
 /// Returns the kind of each line's text.

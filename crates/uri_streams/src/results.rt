@@ -11,16 +11,16 @@ use crate::json::json;
 use crate::line_result::{LineResult, refused};
 use crate::queries::query_json;
 use fluent_uri::kind::{IriKind, IriRefKind, Kind, UriKind, UriRefKind};
+use fluent_uri::normalize::RuleSet;
 use fluent_uri::{Reference, RiMaybeRef};
 use std::alloc::{AllocError, Global};
 use uri_commands::kinds::{KindName, parse_as_iri_ref};
+use uri_commands::normal::normal_form;
 use uri_commands::refusal::CommandError;
-use uri_ops::default_port::SchemeDefaults;
 use uri_ops::normalize::unchanged::is_found_normal;
-use uri_setting::RuleSetting;
 
-/// Returns the result of `urilines normalize` for a text: its normal form, by the rules of its
-/// scheme if `scheme_rules` is true, or an error if it is not of the kind.
+/// Returns the result of `urilines normalize` for a text: its normal form by these rules of
+/// schemes, or an error if it is not of the kind.
 ///
 /// # Errors
 ///
@@ -29,41 +29,40 @@ use uri_setting::RuleSetting;
 pub(crate) fn normalize<'t>(
     alloc: Global,
     kind: KindName,
-    scheme_rules: bool,
+    rules: RuleSet,
     text: &'t str,
 ) -> Result<LineResult<'t>, AllocError>
     ensures result { IfOk result (λ line_result.
-        result_in line_result ≡ normalize_result scheme_rules (kind_named kind) text.now) }
+        result_in line_result ≡ normalize_result rules (kind_named kind) text.now) }
     ensures text { IfOk result IsTextOrError }
 {
     match kind {
-        KindName::Uri => normal_form::<UriKind>(alloc, scheme_rules, text),
-        KindName::UriRef => normal_form::<UriRefKind>(alloc, scheme_rules, text),
-        KindName::Iri => normal_form::<IriKind>(alloc, scheme_rules, text),
-        KindName::IriRef => normal_form::<IriRefKind>(alloc, scheme_rules, text),
+        KindName::Uri => normal_result::<UriKind>(alloc, rules, text),
+        KindName::UriRef => normal_result::<UriRefKind>(alloc, rules, text),
+        KindName::Iri => normal_result::<IriKind>(alloc, rules, text),
+        KindName::IriRef => normal_result::<IriRefKind>(alloc, rules, text),
     }
 }
 
 /// Returns the normal form of a text of the kind as the result of its line, or an error if it is
 /// not of the kind. Most texts are their own: if that is found by one scan, the text is borrowed.
-fn normal_form<'t, K: Kind>(
+fn normal_result<'t, K: Kind>(
     alloc: Global,
-    scheme_rules: bool,
+    rules: RuleSet,
     text: &'t str,
 ) -> Result<LineResult<'t>, AllocError>
     ensures result { IfOk result (λ line_result.
-        result_in line_result ≡ normalize_result scheme_rules K.kind text.now) }
+        result_in line_result ≡ normalize_result rules K.kind text.now) }
     ensures text { IfOk result IsTextOrError }
 {
     let value = match Reference::<K, &str>::parse(text) {
         Ok(value) => value,
         Err(error) => return Ok(refused(CommandError::Text(error))),
     };
-    if !scheme_rules && is_found_normal(value.core(), &SchemeDefaults) {
+    if is_found_normal(value.core(), &rules) {
         return Ok(LineResult::Borrowed(text));
     }
-    let setting = RuleSetting { scheme_rules };
-    Ok(LineResult::Text(setting.normalize(alloc, &value)?.into_string()))
+    Ok(LineResult::Text(normal_form(alloc, &value, rules)?.into_string()))
 }
 
 /// Returns the result of `urilines check` for a text: its line as it is, or no line.

@@ -1,12 +1,13 @@
 //! A command with what it remembers of earlier lines.
-ghost use Rattle.std.specs.Prelude.{◌≡◌, [], ℕ, Bool, List, IfOk, IsTrue, string_bytes};
+ghost use Rattle.std.specs.Prelude.{◌≡◌, [], ℕ, List, IfOk, IsTrue, string_bytes};
 ghost use Rattle.std.specs.Str.{IsAscii};
 ghost use Rattle.fluent_uri.specs.Uris.{uri_ref_text, uri_text};
 ghost use Rattle.uri_commands.specs.Links.{text_at};
 ghost use Rattle.uri_commands.specs.MendedLinks.{mended_link};
 ghost use Rattle.uri_links.specs.Outcomes.{outcome_of};
 ghost use Rattle.uri_links.specs.Registers.{target_rules, texts_of};
-ghost use Rattle.uri_setting.specs.Settings.{rules_set};
+ghost use Rattle.fluent_uri.specs.RuleSets.{rules_of_set};
+ghost use Rattle.fluent_uri.specs.declared.normalize.RuleSet.{RuleSet};
 ghost use Rattle.uri_commands.specs.Kinds.{kind_named};
 ghost use Rattle.uri_streams.specs.Results.{Text};
 ghost use Rattle.uri_streams.specs.Returned.{IsResult, result_in, text_in};
@@ -23,12 +24,12 @@ use crate::mending::{mend, mended_or_trimmed, text_kind};
 use crate::met::MetTexts;
 use crate::results::{check, normalize, parse, passed_if, query};
 use crate::targets::{relativize, resolve};
+use fluent_uri::normalize::{Normalizer, RuleSet};
 use fluent_uri::{Uri, UriRef};
 use std::alloc::{AllocError, Global};
 use uri_commands::kinds::KindName;
 use uri_commands::refusal::CommandError;
 use uri_links::links::{Outcome, Register};
-use uri_setting::RuleSetting;
 
 /// A command with what it remembers of earlier lines.
 #[derive(Drop)]
@@ -46,8 +47,8 @@ pub(crate) enum Task<'a> {
 pub(crate) struct UniqueTask {
     /// The kind of each line's text.
     kind: KindName,
-    /// Whether the normal forms are by the rules of schemes.
-    scheme_rules: bool,
+    /// The rules of schemes that the normal forms are by.
+    rules: RuleSet,
     /// The normal forms that were met in earlier lines.
     met: MetTexts,
 }
@@ -58,7 +59,7 @@ pub(crate) struct LinksTask<'a> {
     /// The base that each line is resolved against.
     base: Uri<&'a str>,
     /// The targets that were met in earlier lines, each with its id.
-    register: Register<RuleSetting>,
+    register: Register<RuleSet>,
 }
 
 impl<'a> Task<'a> {
@@ -68,14 +69,14 @@ impl<'a> Task<'a> {
     {
         match command {
             Command::Each(command) => Task::Each(command),
-            Command::Unique(kind, scheme_rules, hasher) => Task::Unique(UniqueTask {
+            Command::Unique(kind, rules, hasher) => Task::Unique(UniqueTask {
                 kind,
-                scheme_rules,
+                rules,
                 met: MetTexts::new(alloc, hasher),
             }),
-            Command::Links(base, scheme_rules) => Task::Links(LinksTask {
+            Command::Links(base, rules) => Task::Links(LinksTask {
                 base,
-                register: Register::new(alloc, RuleSetting { scheme_rules }),
+                register: Register::new(alloc, Normalizer::new().scheme_rules_with(rules)),
             }),
         }
     }
@@ -184,7 +185,7 @@ impl<'a> Task<'a> {
     {
         match self {
             Task::Each(command) => match &*command {
-                LineCommand::Normalize(kind, by_rules) => normalize(alloc, *kind, *by_rules, text),
+                LineCommand::Normalize(kind, rules) => normalize(alloc, *kind, *rules, text),
                 LineCommand::Resolve(base, is_basic) => resolve(alloc, base, *is_basic, text),
                 LineCommand::Relativize(base, prefers) => relativize(alloc, base, *prefers, text),
                 LineCommand::Check(kind, is_inverted) => Ok(check(*kind, *is_inverted, text)),
@@ -231,13 +232,13 @@ impl UniqueTask {
     /// before, no line if it was, or an error.
     fn result_for<'t>(&mut self, alloc: Global, text: &'t str) -> Result<LineResult<'t>, AllocError>
         ensures output { (known : List (List ℕ)) → HasMet self.old.met known
-            → IfOk result (λ line_result. let next = unique_result self.old.scheme_rules
+            → IfOk result (λ line_result. let next = unique_result self.old.rules
             (kind_named self.old.kind) known text.now in
             (result_in line_result ≡ next.0) × HasMet self.new.met next.1) }
         ensures kind { self.new.kind ≡ self.old.kind }
-        ensures rules { self.new.scheme_rules ≡ self.old.scheme_rules }
+        ensures rules { self.new.rules ≡ self.old.rules }
     {
-        match normalize(alloc, self.kind, self.scheme_rules, text)? {
+        match normalize(alloc, self.kind, self.rules, text)? {
             LineResult::Text(normal) => text_if_new(alloc, &mut self.met, normal),
             LineResult::Borrowed(normal) => borrowed_if_new(alloc, &mut self.met, normal),
             LineResult::Error(fault) => Ok(LineResult::Error(fault)),
@@ -251,9 +252,9 @@ impl<'a> LinksTask<'a> {
     /// Returns the result of `urilines links` for a text: whether its target is new, the target's
     /// id and the target, or an error.
     fn result_for(&mut self, alloc: Global, text: &str) -> Result<LineResult<'static>, AllocError>
-        ensures output { (by_rules : Bool) → target_rules self.old.register ≡ rules_set by_rules
+        ensures output { (set : RuleSet) → target_rules self.old.register ≡ rules_of_set set
             → IfOk result (λ line_result. (result_in line_result, texts_of self.new.register)
-            ≡ link_result by_rules (uri_text self.old.base) (texts_of self.old.register) text.now) }
+            ≡ link_result set (uri_text self.old.base) (texts_of self.old.register) text.now) }
         ensures base { self.new.base ≡ self.old.base }
         ensures rules { target_rules self.new.register ≡ target_rules self.old.register }
     {
@@ -303,12 +304,12 @@ fn borrowed_if_new<'t>(
 fn link(
     alloc: Global,
     base: &Uri<&str>,
-    register: &mut Register<RuleSetting>,
+    register: &mut Register<RuleSet>,
     text: &str,
 ) -> Result<LineResult<'static>, AllocError>
-    ensures output { (by_rules : Bool) → target_rules register.old ≡ rules_set by_rules
+    ensures output { (set : RuleSet) → target_rules register.old ≡ rules_of_set set
         → IfOk result (λ line_result. (result_in line_result, texts_of register.new)
-        ≡ link_result by_rules (uri_text base.now) (texts_of register.old) text.now) }
+        ≡ link_result set (uri_text base.now) (texts_of register.old) text.now) }
     ensures rules { target_rules register.new ≡ target_rules register.old }
 {
     match UriRef::<&str>::parse(text) {
@@ -322,7 +323,7 @@ fn link(
 fn note(
     alloc: Global,
     base: &Uri<&str>,
-    register: &mut Register<RuleSetting>,
+    register: &mut Register<RuleSet>,
     reference: &UriRef<&str>,
 ) -> Result<LineResult<'static>, AllocError>
     ensures output { IfOk result (λ line_result. (result_in line_result, texts_of register.new)
@@ -337,7 +338,7 @@ fn note(
 /// Returns the result of `urilines links` for the outcome of noting a target in the register.
 fn outcome_result(
     alloc: Global,
-    register: &Register<RuleSetting>,
+    register: &Register<RuleSet>,
     outcome: Outcome,
 ) -> Result<LineResult<'static>, AllocError>
     ensures { IfOk result (λ line_result.
@@ -355,7 +356,7 @@ fn outcome_result(
 fn link_line(
     alloc: Global,
     word: &str,
-    register: &Register<RuleSetting>,
+    register: &Register<RuleSet>,
     id: usize,
 ) -> Result<LineResult<'static>, AllocError>
     ensures { IfOk result (λ line_result.
@@ -366,7 +367,7 @@ fn link_line(
 }
 
 /// Returns the text of the target with this id in the register, or an empty text if there is none.
-fn target_text(register: &Register<RuleSetting>, id: usize) -> &str
+fn target_text(register: &Register<RuleSet>, id: usize) -> &str
     ensures { result.now ≡ text_at (texts_of register.now) id }
 {
     match register.target(id) {

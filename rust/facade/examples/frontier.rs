@@ -3,7 +3,9 @@
 //! Its key is the normal form of a page's URI without the fragment, so that two spellings of a page are
 //! one page.
 
-use fluent_uri::{mend::Mend, rules::SchemeNormalizer, Uri, UriRef};
+use fluent_uri::{
+    mend::Mend, normalize::Normalizer, resolve::Resolver, rules::SchemeRules, Uri, UriRef,
+};
 use std::collections::{HashMap, VecDeque};
 
 /// The pages that were found.
@@ -17,7 +19,8 @@ impl Frontier {
     /// Adds the page that a link of a page leads to. A link that leads nowhere is an error.
     fn add(&mut self, page: &Uri<String>, href: &str) -> Result<(), Box<dyn std::error::Error>> {
         let link = UriRef::mend_link(href)?;
-        let mut target = SchemeNormalizer::new().resolve_normalized(page, &link)?;
+        let normalizer = Normalizer::new().scheme_rules_with(SchemeRules::STANDARD);
+        let mut target = Resolver::with_base(page.borrow()).resolve_normalized(&link, &normalizer)?;
         target.set_fragment(None);
         let count = self.links.entry(target.clone()).or_insert(0);
         *count += 1;

@@ -101,7 +101,7 @@ impl Scheme {
         }
     }
 
-    fn inner(&self) -> engine::Scheme<'_> {
+    pub(crate) fn inner(&self) -> engine::Scheme<'_> {
         engine::Scheme::new_or_panic(&self.text)
     }
 

@@ -24,7 +24,6 @@ impl<E: PathEncoder> engine::PathEncoder for Of<E> {}
 
 #[cfg(feature = "alloc")]
 mod calls {
-    use crate::normalize::Ports;
     use crate::proved::{
         fluent_uri::{
             roles::{BaseKind, RefKind},
@@ -37,7 +36,8 @@ mod calls {
         uri_ops::{
             convert::encoded,
             normalize::{NormalizeError, Normalizer},
-            resolve::{resolve_to_value, ResolveError},
+            resolve::{resolve_to_value, ResolveError, Resolver},
+            scheme_rules::SchemeRules,
         },
         uri_parts::{
             core_text::Core, fragment, kind::Kind, packed_positions::PackedPositions, parse::parse,
@@ -119,16 +119,11 @@ mod calls {
     }
 
     /// Normalises a text of the kind `K`.
-    pub(crate) fn normalize<K: Kind>(
+    pub(crate) fn normalize<K: Kind, S: SchemeRules>(
         (text, at): (&str, PackedPositions),
-        allow_path_underflow: bool,
-        ports: Ports,
+        normalizer: &Normalizer<S>,
     ) -> Result<Made, NormalizeError> {
-        Normalizer::new()
-            .allow_path_underflow(allow_path_underflow)
-            .default_port_with(ports)
-            .normalize(Global, &reference::<K>(text, at))
-            .map(into_made)
+        normalizer.normalize(Global, &reference::<K>(text, at)).map(into_made)
     }
 
     /// Resolves a reference of the kind `K` against a base.
@@ -144,6 +139,21 @@ mod calls {
         let base = base_of::<K::Base>(base, base_at);
         let reference = reference::<K>(text, at);
         resolve_to_value(Global, &base, &reference, allow_path_underflow).map(into_made)
+    }
+
+    /// Resolves a reference of the kind `K` against a base, and normalises the target.
+    ///
+    /// # Panics
+    ///
+    /// Panics if the base has no scheme: the default value of `Uri` has none.
+    pub(crate) fn resolve_normalized<K: RefKind, S: SchemeRules>(
+        (base, base_at): (&str, PackedPositions),
+        (text, at): (&str, PackedPositions),
+        normalizer: &Normalizer<S>,
+    ) -> Result<Made, ResolveError> {
+        let resolver = Resolver::with_base(base_of::<K::Base>(base, base_at));
+        let reference = reference::<K>(text, at);
+        resolver.resolve_normalized(Global, &reference, normalizer).map(into_made)
     }
 
     /// Returns the engine's value over a base.

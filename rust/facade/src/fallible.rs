@@ -9,7 +9,7 @@
 //! | [`Iri`] | `try_to_uri` |
 //! | [`IriRef`] | `try_to_uri_ref` |
 //! | [`Normalizer`] | `try_normalize` |
-//! | [`Resolver`] | `try_resolve` |
+//! | [`Resolver`] | `try_resolve`, `try_resolve_normalized` |
 //! | [`Builder`] | `try_build`: the other steps never abort |
 //! | [`EStr`] | `try_to_owned` |
 //! | [`EString`] | `try_encode_str`, `try_push_estr` |
@@ -46,6 +46,7 @@ use crate::{
     },
     proved::{
         rstd::{self, alloc::Global},
+        uri_ops::normalize as proved,
         uri_pct::cow::{CowSlice, DecodeError as EngineDecodeError},
     },
     reference::{Iri, IriRef, Ri, RiMaybeRef, Uri, UriRef},
@@ -86,8 +87,11 @@ macro_rules! fallible {
                 ///
                 /// Returns an error only if allocation fails.
                 pub fn try_normalize(&self) -> Result<$Ty<String>, AllocError> {
-                    match Normalizer::new().normalized(self) {
-                        Ok(normal) => Ok(normal),
+                    let normalizer = proved::Normalizer::new();
+                    match engine::normalize::<<Self as RiMaybeRef>::Kind, _>(
+                        self.parts(), &normalizer,
+                    ) {
+                        Ok((text, at)) => Ok($Ty::of(text, at)),
                         Err(NormalizeError::OutOfMemory) => Err(AllocError),
                         Err(NormalizeError::PathUnderflow) => unreachable!(),
                     }
@@ -209,7 +213,8 @@ impl Normalizer {
     where
         R: RiMaybeRef<Val: Bos<str>>,
     {
-        self.normalized(r)
+        let (text, at) = engine::normalize::<R::Kind, _>(r.parts(), &self.inner())?;
+        Ok(R::WithVal::of(text, at))
     }
 }
 
@@ -228,6 +233,24 @@ impl<R: Ri<Val: Bos<str>>> Resolver<R> {
         reference: &R::Ref<T>,
     ) -> Result<R::WithVal<String>, ResolveError> {
         self.resolved(reference)
+    }
+
+    /// Returns the normal form of the target of a reference against the base, as
+    /// `resolve_normalized` does.
+    ///
+    /// # Errors
+    ///
+    /// Returns the errors of `resolve_normalized`, and `OutOfMemory` if allocation fails.
+    ///
+    /// # Panics
+    ///
+    /// Panics if the base is the default value, which has no scheme.
+    pub fn try_resolve_normalized<T: Bos<str>>(
+        &self,
+        reference: &R::Ref<T>,
+        normalizer: &Normalizer,
+    ) -> Result<R::WithVal<String>, ResolveError> {
+        self.resolved_normal(reference, normalizer)
     }
 }
 

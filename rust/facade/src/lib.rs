@@ -53,7 +53,7 @@
 //! | [`fallible`] | each call that allocates, with an error in place of an abort |
 //! | [`relativize`] | the reference that leads from a base to a target |
 //! | [`mend`] | the least change that makes a text a reference |
-//! | [`rules`] | normal forms by the rules of schemes |
+//! | [`rules`] | the rules of schemes, for normal forms |
 //! | [`order`] | the order, equivalence and hash of normal forms, which are not made |
 //! | [`basic`] | resolving by the algorithm of RFC 3986, section 5.2, as it is printed |
 //! | [`query`] | the pairs of a query |

@@ -1,13 +1,11 @@
-//! Normalising (RFC 3986, section 6.2.2; RFC 3987, section 5.3.2).
+//! Normalising (RFC 3986, sections 6.2.2 and 6.2.3; RFC 3987, section 5.3.2).
 
 use crate::{
     component::Scheme,
-    engine::{self, out_of_memory},
-    proved::{
-        uri_ops::{default_port::DefaultPort, normalize::NormalizeError as EngineError},
-        uri_parts::scheme as parts,
-    },
+    engine::out_of_memory,
+    proved::uri_ops::normalize as proved,
     reference::RiMaybeRef,
+    rules::SchemeRules,
 };
 use alloc::string::String;
 use borrow_or_share::Bos;
@@ -33,15 +31,15 @@ pub enum NormalizeError {
 
 impl fmt::Display for NormalizeError {
     fn fmt(&self, f: &mut fmt::Formatter<'_>) -> fmt::Result {
-        fmt::Display::fmt(&EngineError::PathUnderflow, f)
+        fmt::Display::fmt(&proved::NormalizeError::PathUnderflow, f)
     }
 }
 
 #[cfg(feature = "impl-error")]
 impl core::error::Error for NormalizeError {}
 
-/// What normalises values, by its settings: whether dot segments may underflow, and the default
-/// ports of schemes.
+/// What normalises values, by its settings: whether dot segments may underflow, and the rules of
+/// schemes, such as their default ports.
 ///
 /// # Examples
 ///
@@ -57,33 +55,11 @@ impl core::error::Error for NormalizeError {}
 #[must_use]
 pub struct Normalizer {
     allow_path_underflow: bool,
-    ports: Ports,
-}
-
-/// The default ports of [`Scheme::default_port`], or those of a function of the caller's.
-#[derive(Clone, Copy)]
-pub(crate) struct Ports(Option<fn(&Scheme) -> Option<u16>>);
-
-impl Ports {
-    pub(crate) const DEFAULTS: Self = Self(None);
-
-    pub(crate) fn by(f: fn(&Scheme) -> Option<u16>) -> Self {
-        Self(Some(f))
-    }
-}
-
-impl DefaultPort for Ports {
-    fn default_port(&self, scheme: parts::Scheme<'_>) -> Option<u16> {
-        match self.0 {
-            None => scheme.default_port(),
-            Some(f) => f(Scheme::of_valid(scheme.as_str())),
-        }
-    }
+    rules: SchemeRules,
 }
 
 impl Normalizer {
-    /// Returns a normaliser with the ports of [`Scheme::default_port`], where dot segments may
-    /// underflow.
+    /// Returns a normaliser under [`SchemeRules::DEFAULT_PORTS`], where dot segments may underflow.
     ///
     /// # Examples
     ///
@@ -95,7 +71,7 @@ impl Normalizer {
     /// # Ok::<_, fluent_uri::ParseError>(())
     /// ```
     pub fn new() -> Self {
-        Self { allow_path_underflow: true, ports: Ports::DEFAULTS }
+        Self { allow_path_underflow: true, rules: SchemeRules::DEFAULT_PORTS }
     }
 
     /// Sets whether dot segments may underflow. If not, a double dot with no segment left to remove
@@ -126,12 +102,28 @@ impl Normalizer {
     /// assert_eq!(normalizer.normalize(&Uri::parse("foo://a:4673")?).unwrap(), "foo://a");
     /// # Ok::<_, fluent_uri::ParseError>(())
     /// ```
-    pub fn default_port_with(self, f: fn(&Scheme) -> Option<u16>) -> Self {
-        Self { ports: Ports::by(f), ..self }
+    pub fn default_port_with(mut self, f: fn(&Scheme) -> Option<u16>) -> Self {
+        self.rules.default_port = f;
+        self
+    }
+
+    /// Sets the rules of schemes (RFC 3986, section 6.2.3).
+    ///
+    /// # Examples
+    ///
+    /// ```
+    /// use fluent_uri::{normalize::Normalizer, rules::SchemeRules, Uri};
+    ///
+    /// let normalizer = Normalizer::new().scheme_rules_with(SchemeRules::STANDARD);
+    /// assert_eq!(normalizer.normalize(&Uri::parse("wss://A:443?q")?).unwrap(), "wss://a/?q");
+    /// # Ok::<_, fluent_uri::ParseError>(())
+    /// ```
+    pub fn scheme_rules_with(self, rules: SchemeRules) -> Self {
+        Self { rules, ..self }
     }
 
     /// Returns the normal form of a value, as [`Uri::normalize`](crate::Uri::normalize) does, by
-    /// the settings.
+    /// the settings. Two values have the same one exactly if they are equivalent under the rules.
     ///
     /// # Errors
     ///
@@ -152,18 +144,15 @@ impl Normalizer {
         R::Val: Bos<str>,
     {
         self.try_normalize(r).map_err(|error| match error {
-            EngineError::PathUnderflow => NormalizeError::PathUnderflow,
-            EngineError::OutOfMemory => out_of_memory(),
+            proved::NormalizeError::PathUnderflow => NormalizeError::PathUnderflow,
+            proved::NormalizeError::OutOfMemory => out_of_memory(),
         })
     }
 
-    pub(crate) fn normalized<R: RiMaybeRef>(&self, r: &R) -> Result<R::WithVal<String>, EngineError>
-    where
-        R::Val: Bos<str>,
-    {
-        let (text, at) =
-            engine::normalize::<R::Kind>(r.parts(), self.allow_path_underflow, self.ports)?;
-        Ok(R::WithVal::of(text, at))
+    pub(crate) fn inner(&self) -> proved::Normalizer<SchemeRules> {
+        proved::Normalizer::new()
+            .allow_path_underflow(self.allow_path_underflow)
+            .scheme_rules_with(self.rules)
     }
 }
 

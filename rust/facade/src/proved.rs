@@ -12,4 +12,3 @@ pub mod uri_parts;
 pub mod uri_pct;
 pub mod uri_query;
 pub mod uri_relative;
-pub mod uri_rules;

@@ -2,6 +2,7 @@
 
 use crate::{
     engine::{self, out_of_memory},
+    normalize::Normalizer,
     proved::uri_ops::resolve::ResolveError as EngineError,
     reference::{Ri, RiMaybeRef},
 };
@@ -146,6 +147,49 @@ where
         reference: &R::Ref<T>,
     ) -> Result<R::WithVal<String>, ResolveError> {
         self.resolved(reference).map_err(outer)
+    }
+
+    /// Returns the normal form of the target of a reference against the base: that of
+    /// [`resolve`](Self::resolve) with underflow allowed, by the rules of a normaliser. A base and a
+    /// reference that are equivalent under the rules give the same result. Whether either setting
+    /// allows underflow makes no difference.
+    ///
+    /// # Errors
+    ///
+    /// Returns the errors of `resolve_against`.
+    ///
+    /// # Panics
+    ///
+    /// Panics if the base is the default value, which has no scheme.
+    ///
+    /// # Examples
+    ///
+    /// ```
+    /// use fluent_uri::{normalize::Normalizer, resolve::Resolver, rules::SchemeRules, Uri, UriRef};
+    ///
+    /// let resolver = Resolver::with_base(Uri::parse("http://x/")?);
+    /// let normalizer = Normalizer::new().scheme_rules_with(SchemeRules::STANDARD);
+    /// let normal = resolver.resolve_normalized(&UriRef::parse("//a:80")?, &normalizer);
+    /// assert_eq!(normal.unwrap(), "http://a/");
+    /// # Ok::<_, fluent_uri::ParseError>(())
+    /// ```
+    pub fn resolve_normalized<T: Bos<str>>(
+        &self,
+        reference: &R::Ref<T>,
+        normalizer: &Normalizer,
+    ) -> Result<R::WithVal<String>, ResolveError> {
+        self.resolved_normal(reference, normalizer).map_err(outer)
+    }
+
+    pub(crate) fn resolved_normal<T: Bos<str>>(
+        &self,
+        reference: &R::Ref<T>,
+        normalizer: &Normalizer,
+    ) -> Result<R::WithVal<String>, EngineError> {
+        let parts = (self.base.parts(), reference.parts());
+        let (text, at) =
+            engine::resolve_normalized::<R::Kind, _>(parts.0, parts.1, &normalizer.inner())?;
+        Ok(R::WithVal::of(text, at))
     }
 
     pub(crate) fn resolved<T: Bos<str>>(

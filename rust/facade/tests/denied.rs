@@ -8,7 +8,7 @@ use fluent_uri::{
     fallible::AllocError,
     mend::{try_trim_link, Mend, MendError},
     normalize::Normalizer,
-    order::{NormalOrder, SchemeOrder},
+    order::NormalOrder,
     pct_enc::{
         encoder::{Data, Path, Query},
         EStr, EString,
@@ -16,7 +16,7 @@ use fluent_uri::{
     query::{next_pair, try_pairs_of, try_query_of},
     relativize::Relativizer,
     resolve::Resolver,
-    rules::SchemeNormalizer,
+    rules::SchemeRules,
     Iri, IriRef, Uri, UriRef,
 };
 use std::{
@@ -89,14 +89,17 @@ fn references() {
     deny("HTTP://A:80/%7e#f", || uri.try_to_owned());
     deny("http://a/~#f", || uri.try_normalize());
     deny("http://a/~#f", || Normalizer::new().try_normalize(&uri));
-    deny("http://a/~#f", || SchemeNormalizer::new().normalize(&uri));
+    let ruled = Normalizer::new().scheme_rules_with(SchemeRules::STANDARD);
+    deny("http://a/~#f", || ruled.try_normalize(&uri));
     deny("HTTP://A:80/%7e#other", || uri.try_with_fragment(fragment));
     deny("http://a/%C3%A9?%C3%BC", || iri.try_to_uri());
     deny("%C3%A9", || IriRef::parse("é").unwrap().try_to_uri_ref());
     let base = Uri::parse("http://a/b/c").unwrap();
     deny("http://a/b", || reference.try_resolve_against(&base));
     deny("http://a/b", || Resolver::with_base(base).try_resolve(&reference));
-    deny("http://a/b", || SchemeNormalizer::new().resolve_normalized(&base, &reference));
+    deny("http://a/b", || {
+        Resolver::with_base(base).try_resolve_normalized(&reference, &ruled)
+    });
     deny("http://a/b", || BasicResolver::with_base(base).resolve(&reference));
     let target = Uri::parse("http://a/x").unwrap();
     deny("/x", || Relativizer::with_base(base).try_relativize(&target));
@@ -157,7 +160,8 @@ fn nothing_is_requested() {
         assert!(NormalOrder::new().is_equivalent(&one, &other));
         assert!(NormalOrder::new().cmp(&one, &other).is_eq());
         assert!(!NormalOrder::new().is_normal(&one));
-        assert!(SchemeOrder::new().is_equivalent(&one, &other));
+        let order = NormalOrder::new().scheme_rules_with(SchemeRules::STANDARD);
+        assert!(order.is_equivalent(&one, &other));
         assert_eq!(one.authority().unwrap().port_to_u16(), Ok(Some(80)));
         assert_eq!(one.strip_fragment().query().unwrap(), "b");
         assert_eq!(next_pair(query, 3).unwrap().end, 5);

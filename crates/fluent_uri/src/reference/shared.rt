@@ -3,8 +3,8 @@ ghost use Rattle.std.specs.Prelude.{◌≡◌, IfOk, is_some, option_map};
 ghost use Rattle.uri_pct.specs.EncodedTexts.{text_of};
 ghost use Rattle.uri_parts.specs.Components.{components};
 ghost use Rattle.uri_parts.specs.Fragments.{IsWithFragment};
-ghost use Rattle.uri_parts.specs.SchemePorts.{default_port};
 ghost use Rattle.uri_ops.specs.Normalizers.{IsNormalForm};
+ghost use Rattle.uri_ops.specs.SchemeRules.{default_rules};
 ghost use Rattle.fluent_uri.specs.References.{reference_text};
 
 use crate::reference::Reference;
@@ -95,7 +95,7 @@ impl<K: Kind, T: AsStr> Reference<K, T> {
     /// ```
     pub fn normalize(&self, alloc: Global) -> Result<Reference<K, String>, AllocError>
         ensures { IfOk result (λ normal.
-            IsNormalForm K.kind default_port (reference_text self.now) (reference_text normal)) }
+            IsNormalForm K.kind default_rules (reference_text self.now) (reference_text normal)) }
     {
         normalize::normalize_with_defaults(alloc, self)
     }

@@ -4,19 +4,19 @@ ghost use Rattle.fluent_uri.specs.Grammar.{uri};
 ghost use Rattle.fluent_uri.specs.Meaning.{meaning_of};
 ghost use Rattle.fluent_uri.specs.Normal.{normal_text};
 ghost use Rattle.fluent_uri.specs.SchemePorts.{default_port};
+ghost use Rattle.fluent_uri.specs.SchemeRules.{default_rules, meaning_under};
+ghost use Rattle.fluent_uri.specs.StandardRules.{standard_rules};
 ghost use Rattle.fluent_uri.specs.Uris.{uri_text};
-ghost use Rattle.uri_rules.specs.Rules.{meaning_under, only_ports};
-ghost use Rattle.uri_rules.specs.Standard.{standard_rules};
 
-use fluent_uri::Uri;
-use uri_rules::laws as rule_laws;
+use fluent_uri::{Uri, laws};
 
-/// A caller whose rules are default ports alone proves that its keys are those of `normalize`.
+/// A caller that makes keys of meanings under default ports proves that they are the texts that
+/// `normalize` writes.
 pub fn key_by_ports_alone(text: &str)
-    ensures { normal_text (meaning_under uri (only_ports default_port) text.now)
+    ensures { normal_text (meaning_under uri default_rules text.now)
         ≡ normal_text (meaning_of uri default_port text.now) }
 {
-    rule_laws::default_ports_are_rules();
+    laws::default_ports_are_rules();
 }
 
 /// A caller that turns the rules of schemes on proves that what was one link stays one.
@@ -26,5 +26,5 @@ pub fn one_link_stays_one(one: Uri<&str>, other: Uri<&str>)
     ensures { meaning_under uri standard_rules (uri_text one.entry)
         ≡ meaning_under uri standard_rules (uri_text other.entry) }
 {
-    rule_laws::rules_keep_equivalence();
+    laws::rules_keep_equivalence();
 }

@@ -5,7 +5,7 @@ ghost use Rattle.fluent_uri.specs.Encoded.{encode_past_ascii};
 ghost use Rattle.fluent_uri.specs.Grammar.{iri, iri_ref};
 ghost use Rattle.fluent_uri.specs.Normalizers.{IsNormalForm};
 ghost use Rattle.fluent_uri.specs.Resolving.{IsErrorForEncoded};
-ghost use Rattle.fluent_uri.specs.SchemePorts.{default_port};
+ghost use Rattle.fluent_uri.specs.SchemeRules.{default_rules};
 ghost use Rattle.fluent_uri.specs.Iris.{iri_ref_text};
 ghost use Rattle.fluent_uri.specs.Iris.{iri_text};
 ghost use Rattle.fluent_uri.specs.Resolving.{IsTarget};
@@ -26,7 +26,7 @@ pub fn same_normal_form(
     value: &Iri<String>,
 ) -> Result<(Iri<String>, Iri<String>), AllocError>
     ensures first { IfOk result (λ both.
-        IsNormalForm iri default_port (encode_past_ascii (iri_text value.now)) (iri_text both.0)) }
+        IsNormalForm iri default_rules (encode_past_ascii (iri_text value.now)) (iri_text both.0)) }
     ensures equal { IfOk result (λ both. iri_text both.1 ≡ iri_text both.0) }
 {
     let converted = Iri::<String>::from(value.to_uri(alloc)?);
@@ -43,7 +43,7 @@ pub fn same_normal_reference(
     alloc: Global,
     reference: &IriRef<String>,
 ) -> Result<(IriRef<String>, IriRef<String>), AllocError>
-    ensures first { IfOk result (λ both. IsNormalForm iri_ref default_port
+    ensures first { IfOk result (λ both. IsNormalForm iri_ref default_rules
         (encode_past_ascii (iri_ref_text reference.now)) (iri_ref_text both.0)) }
     ensures equal { IfOk result (λ both. iri_ref_text both.1 ≡ iri_ref_text both.0) }
 {

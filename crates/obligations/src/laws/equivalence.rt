@@ -3,21 +3,20 @@ ghost use Rattle.std.specs.Prelude.{◌≡◌, Ok};
 ghost use Rattle.fluent_uri.specs.Encoded.{encode_past_ascii};
 ghost use Rattle.fluent_uri.specs.Grammar.{IsTextOf, iri, uri};
 ghost use Rattle.fluent_uri.specs.Iris.{iri_ref_text, iri_text};
-ghost use Rattle.fluent_uri.specs.Meaning.{bare_meaning_of, meaning_of};
+ghost use Rattle.fluent_uri.specs.Meaning.{bare_meaning_of};
 ghost use Rattle.fluent_uri.specs.NormalTargets.{resolved_meaning};
-ghost use Rattle.fluent_uri.specs.Ports.{PortFunction};
-ghost use Rattle.fluent_uri.specs.SchemePorts.{default_port};
+ghost use Rattle.fluent_uri.specs.SchemeRules.{Rules, default_rules, meaning_under};
 ghost use Rattle.fluent_uri.specs.Target.{resolution_of_texts};
 ghost use Rattle.fluent_uri.specs.Uris.{uri_ref_text, uri_text};
 
 use fluent_uri::{Iri, IriRef, Uri, UriRef, laws};
 
-/// A caller that compares without default ports, as keys of a cache, proves that equal keys are
-/// equivalent under any default ports.
+/// A caller that compares without rules of schemes, as keys of a cache, proves that equal keys are
+/// equivalent under any rules.
 pub fn equal_keys_are_equivalent(one: Uri<&str>, other: Uri<&str>)
     requires { bare_meaning_of uri (uri_text one) ≡ bare_meaning_of uri (uri_text other) }
-    ensures { (ports : PortFunction) → meaning_of uri ports (uri_text one.entry)
-        ≡ meaning_of uri ports (uri_text other.entry) }
+    ensures { (rules : Rules) → meaning_under uri rules (uri_text one.entry)
+        ≡ meaning_under uri rules (uri_text other.entry) }
 {
     laws::bare_meanings_determine_meanings();
 }
@@ -25,10 +24,10 @@ pub fn equal_keys_are_equivalent(one: Uri<&str>, other: Uri<&str>)
 /// A caller that moves a site to an equivalent base proves that its links lead to equivalent
 /// targets.
 pub fn same_links_after_a_move(old: Uri<&str>, new: Uri<&str>, link: UriRef<&str>)
-    requires { meaning_of uri default_port (uri_text old)
-        ≡ meaning_of uri default_port (uri_text new) }
-    ensures { resolved_meaning uri default_port (uri_text old.entry) (uri_ref_text link.entry)
-        ≡ resolved_meaning uri default_port (uri_text new.entry) (uri_ref_text link.entry) }
+    requires { meaning_under uri default_rules (uri_text old)
+        ≡ meaning_under uri default_rules (uri_text new) }
+    ensures { resolved_meaning uri default_rules (uri_text old.entry) (uri_ref_text link.entry)
+        ≡ resolved_meaning uri default_rules (uri_text new.entry) (uri_ref_text link.entry) }
 {
     let _old = old.as_str();
     let _new = new.as_str();
@@ -50,8 +49,8 @@ pub fn target_is_a_uri(base: Uri<&str>, reference: UriRef<&str>, target: &str)
 
 /// A caller that sends an IRI as a URI proves that it means the same to who gets it.
 pub fn sent_as_a_uri(address: Iri<&str>)
-    ensures { meaning_of iri default_port (encode_past_ascii (iri_text address.entry))
-        ≡ meaning_of iri default_port (iri_text address.entry) }
+    ensures { meaning_under iri default_rules (encode_past_ascii (iri_text address.entry))
+        ≡ meaning_under iri default_rules (iri_text address.entry) }
 {
     let _text = address.as_str();
     laws::four_kinds_have_component_sets();

@@ -3,12 +3,10 @@ ghost use Rattle.std.specs.Prelude.{◌≡◌, IfOk, true};
 ghost use Rattle.fluent_uri.specs.ComponentSets.{HasComponentSets};
 ghost use Rattle.fluent_uri.specs.Grammar.{IsTextOf, Kind, iri};
 ghost use Rattle.fluent_uri.specs.Iris.{iri_text};
-ghost use Rattle.fluent_uri.specs.Meaning.{meaning_of};
 ghost use Rattle.fluent_uri.specs.Normal.{normal_text};
 ghost use Rattle.fluent_uri.specs.Normalizers.{IsNormalForm};
-ghost use Rattle.fluent_uri.specs.Ports.{PortFunction};
 ghost use Rattle.fluent_uri.specs.SameMeanings.{same_meaning};
-ghost use Rattle.fluent_uri.specs.SchemePorts.{default_port};
+ghost use Rattle.fluent_uri.specs.SchemeRules.{Rules, default_rules, meaning_under};
 
 use fluent_uri::{Iri, laws};
 use std::alloc::{AllocError, Global};
@@ -23,7 +21,7 @@ pub fn same_when_normalised_twice(
     given: Iri<&str>,
 ) -> Result<(Iri<String>, Iri<String>), AllocError>
     ensures first { IfOk result (λ both.
-        IsNormalForm iri default_port (iri_text given.entry) (iri_text both.0)) }
+        IsNormalForm iri default_rules (iri_text given.entry) (iri_text both.0)) }
     ensures equal { IfOk result (λ both. iri_text both.1 ≡ iri_text both.0) }
 {
     let normal = given.normalize(alloc)?;
@@ -32,22 +30,21 @@ pub fn same_when_normalised_twice(
 }
 
 /// A caller proves that a text of any kind with sets such as those of the four kinds is equivalent
-/// to its normal text.
+/// to its normal text under any rules.
 pub fn normal_text_means_the_same(text: &str)
-    ensures { (kind : Kind) (ports : PortFunction) → HasComponentSets kind
-        → IsTextOf kind text.now
-        → meaning_of kind ports (normal_text (meaning_of kind ports text.now))
-        ≡ meaning_of kind ports text.now }
+    ensures { (kind : Kind) (rules : Rules) → HasComponentSets kind → IsTextOf kind text.now
+        → meaning_under kind rules (normal_text (meaning_under kind rules text.now))
+        ≡ meaning_under kind rules text.now }
 {
     laws::normal_texts_are_canonical();
 }
 
 /// A caller proves that texts whose meanings have equal parts have one normal text.
 pub fn normal_text_of_equal_parts(text: &str, other: &str)
-    requires { same_meaning (meaning_of iri default_port text.now)
-        (meaning_of iri default_port other.now) ≡ true }
-    ensures { normal_text (meaning_of iri default_port text.now)
-        ≡ normal_text (meaning_of iri default_port other.now) }
+    requires { same_meaning (meaning_under iri default_rules text.now)
+        (meaning_under iri default_rules other.now) ≡ true }
+    ensures { normal_text (meaning_under iri default_rules text.now)
+        ≡ normal_text (meaning_under iri default_rules other.now) }
 {
     laws::meanings_are_equal_if_their_parts_are();
 }
@@ -59,7 +56,7 @@ pub fn normal_text_of_equal_parts(text: &str, other: &str)
 /// Only if allocation fails.
 pub fn parsed_once_more(alloc: Global, given: Iri<&str>) -> Result<Iri<String>, AllocError>
     ensures { IfOk result (λ normal.
-        IsNormalForm iri default_port (iri_text given.entry) (iri_text normal)) }
+        IsNormalForm iri default_rules (iri_text given.entry) (iri_text normal)) }
 {
     match Iri::<String>::parse(given.normalize(alloc)?.into_string()) {
         Ok(normal) => Ok(normal),

@@ -6,14 +6,14 @@ ghost use Rattle.fluent_uri.specs.Iris.{iri_ref_text};
 ghost use Rattle.fluent_uri.specs.Iris.{iri_text};
 ghost use Rattle.fluent_uri.specs.NormalTargets.{IsNormalFormOfTarget};
 ghost use Rattle.fluent_uri.specs.Resolving.{IsErrorWithUnderflowAllowed};
-ghost use Rattle.fluent_uri.specs.SchemePorts.{default_port};
+ghost use Rattle.fluent_uri.specs.SchemeRules.{default_rules};
 ghost use Rattle.fluent_uri.specs.Uris.{uri_text};
 
+use fluent_uri::laws::normal_forms_have_equivalent_targets;
 use fluent_uri::normalize::Normalizer;
 use fluent_uri::resolve::{ResolveError, Resolver};
 use fluent_uri::{Iri, IriRef, Uri, UriRef};
 use std::alloc::Global;
-use uri_rules::laws::normal_forms_have_equivalent_targets;
 
 /// A caller proves that the normalised target of the normal forms of a base and a reference is that
 /// of the two, and returns it.
@@ -26,7 +26,7 @@ pub fn normal_target(
     base: Iri<&str>,
     reference: IriRef<&str>,
 ) -> Result<Iri<String>, ResolveError>
-    ensures target { IfOk result (λ normal. IsNormalFormOfTarget iri default_port
+    ensures target { IfOk result (λ normal. IsNormalFormOfTarget iri default_rules
         (iri_text base.entry) (iri_ref_text reference.entry) (iri_text normal)) }
     ensures error { IfErr result (λ error. (error ≡ ResolveError.OutOfMemory) ⊎
         IsErrorWithUnderflowAllowed (components (iri_text base.entry))
@@ -44,9 +44,9 @@ pub fn normal_target(
     Ok(target)
 }
 
-/// A caller proves that it makes no difference whether a base and a reference are normalised before
-/// they are resolved: returns the normal form of their target, and that of the target of their
-/// normal forms, which are equal.
+/// A caller proves that it makes no difference whether a base and a link are normalised before the
+/// link is resolved: returns the normal form of its target, and that of the target of their normal
+/// forms, which are equal.
 ///
 /// # Errors
 ///
@@ -54,14 +54,15 @@ pub fn normal_target(
 pub fn normalised_before(
     alloc: Global,
     base: Uri<&str>,
-    reference: UriRef<&str>,
+    link: UriRef<&str>,
 ) -> Result<(Uri<String>, Uri<String>), ResolveError>
     ensures { IfOk result (λ both. uri_text both.1 ≡ uri_text both.0) }
 {
-    let (normal_base, normal_reference) = (base.normalize(alloc)?, reference.normalize(alloc)?);
-    normal_forms_have_equivalent_targets(&base, &reference, &normal_base, &normal_reference);
-    let target = reference.resolve_against(alloc, &base)?;
-    let other = normal_reference.resolve_against(alloc, &normal_base)?;
+    let normalizer = Normalizer::new();
+    let (normal_base, normal_link) = (base.normalize(alloc)?, link.normalize(alloc)?);
+    normal_forms_have_equivalent_targets(&normalizer, &base, &link, &normal_base, &normal_link);
+    let target = link.resolve_against(alloc, &base)?;
+    let other = normal_link.resolve_against(alloc, &normal_base)?;
     Ok((target.normalize(alloc)?, other.normalize(alloc)?))
 }
 
@@ -76,7 +77,7 @@ pub fn normalised_after(
     base: Iri<&str>,
     reference: IriRef<&str>,
 ) -> Result<(Iri<String>, Iri<String>), ResolveError>
-    ensures first { IfOk result (λ both. IsNormalFormOfTarget iri default_port
+    ensures first { IfOk result (λ both. IsNormalFormOfTarget iri default_rules
         (iri_text base.entry) (iri_ref_text reference.entry) (iri_text both.0)) }
     ensures equal { IfOk result (λ both. iri_text both.1 ≡ iri_text both.0) }
 {

@@ -18,6 +18,7 @@ use Rattle.uri_ops.specs.Target.{dotless_if_absolute}
 use Rattle.uri_ops.specs.ComponentSets.{HasComponentSets}
 use Rattle.uri_parts.specs.Ports.{PortFunction}
 use Rattle.uri_ops.specs.Meaning.{authority_meaning, dotless_path, components_meaning, meaning_of}
+use Rattle.uri_ops.specs.SchemeRules.{Rules, meaning_under, under_rules}
 use Rattle.uri_ops.specs.Encoded.{encode_past_ascii, ascii_set, ascii_kind}
 use Rattle.uri_ops.proofs.Paths.PathCharacters.{lacked-delimiters-fail-test, test-of-delimiters-gives-lacks}
 use Rattle.uri_ops.proofs.Meanings.Lacking.{lacks_any-gives-lacks, lacks-gives-lacks_any}
@@ -166,3 +167,9 @@ module _ (kind : Kind) (sets : HasComponentSets kind) where
       ap (components_meaning kind ports) (components-of-encoded-text-are-encoded text w.utf8)
       ∙ encoding-keeps-components_meaning ports (components text)
       (text-has-parts-of-kind kind text w)
+
+  -- and under any rules of schemes
+  pub encoding-keeps-meaning_under-text : (rules : Rules) (text : List ℕ) → IsTextOf kind text
+      → meaning_under kind rules (encode_past_ascii text) ≡ meaning_under kind rules text
+  encoding-keeps-meaning_under-text rules text w =
+      ap (under_rules rules) (encoding-keeps-meaning_of-text rules.ports text w)

@@ -4,40 +4,39 @@ use Rattle.std.specs.Prelude.{◌↔◌}
 use Rattle.std.specs.Str.{IsUtf8}
 use Rattle.uri_parts.specs.Grammar.{Kind, IsOfKind, IsTextOf}
 use Rattle.uri_ops.specs.ComponentSets.{HasComponentSets}
-use Rattle.uri_ops.specs.Meaning.{meaning_of}
 use Rattle.uri_ops.specs.Normal.{normal_text}
 use Rattle.uri_ops.specs.Normalizers.{HasNormalText, IsNormalForm}
-use Rattle.uri_parts.specs.Ports.{PortFunction}
-use Rattle.uri_ops.proofs.Normal.NormalTexts.{normal-text-is-text-of-kind, meaning_of-normal_text, same-normal-text-same-meaning}
+use Rattle.uri_ops.specs.SchemeRules.{Rules, meaning_under}
+use Rattle.uri_ops.proofs.SchemeRules.RuledTexts.{normal-text-under-rules-is-text-of-kind, meaning_under-normal_text, same-normal-text-same-meaning}
 
 module _ (kind own : Kind) (own_kind : own ≡ kind) (sets : HasComponentSets kind)
-    (ports : PortFunction)
+    (rules : Rules)
     (given text normal : List ℕ) (same : given ≡ text) (utf8 : IsUtf8 given)
-    (grammar : IsOfKind kind text) (made : HasNormalText own ports given normal) where
+    (grammar : IsOfKind kind text) (made : HasNormalText own rules given normal) where
   source-text-is-of-kind : IsTextOf kind text
   source-text-is-of-kind = record { utf8 = subst IsUtf8 same utf8; grammar = grammar }
 
-  result-is-normal_text : normal ≡ normal_text (meaning_of kind ports text)
-  result-is-normal_text = made.text ∙ ap (λ k. normal_text (meaning_of k ports given)) own_kind
-      ∙ ap (λ t. normal_text (meaning_of kind ports t)) same
+  result-is-normal_text : normal ≡ normal_text (meaning_under kind rules text)
+  result-is-normal_text = made.text ∙ ap (λ k. normal_text (meaning_under k rules given)) own_kind
+      ∙ ap (λ t. normal_text (meaning_under kind rules t)) same
 
   pub normal-text-is-of-kind : IsTextOf kind normal
   normal-text-is-of-kind = subst (IsTextOf kind) (sym result-is-normal_text)
-      (normal-text-is-text-of-kind kind ports sets text source-text-is-of-kind)
+      (normal-text-under-rules-is-text-of-kind kind rules sets text source-text-is-of-kind)
 
-  normal-text-keeps-meaning : meaning_of kind ports normal ≡ meaning_of kind ports text
-  normal-text-keeps-meaning = ap (meaning_of kind ports) result-is-normal_text
-      ∙ meaning_of-normal_text kind ports sets text source-text-is-of-kind
+  normal-text-keeps-meaning : meaning_under kind rules normal ≡ meaning_under kind rules text
+  normal-text-keeps-meaning = ap (meaning_under kind rules) result-is-normal_text
+      ∙ meaning_under-normal_text kind rules sets text source-text-is-of-kind
 
   same-normal-text-if-same-meaning : (other : List ℕ) → IsTextOf kind other
-      → (normal ≡ normal_text (meaning_of kind ports other) ↔ meaning_of kind ports text
-      ≡ meaning_of kind ports other)
+      → (normal ≡ normal_text (meaning_under kind rules other) ↔ meaning_under kind rules text
+      ≡ meaning_under kind rules other)
   same-normal-text-if-same-meaning other w =
-      let both = same-normal-text-same-meaning kind ports sets text other
+      let both = same-normal-text-same-meaning kind rules sets text other
       source-text-is-of-kind w in
       (λ h. both.0 (sym result-is-normal_text ∙ h), λ h. result-is-normal_text ∙ both.1 h)
 
-  pub normal-text-is-normal-form : IsNormalForm kind ports text normal
+  pub normal-text-is-normal-form : IsNormalForm kind rules text normal
   normal-text-is-normal-form =
       record {
         text = record { text = result-is-normal_text };

@@ -1,6 +1,6 @@
 -- The normal text of a meaning is a text of the kind and has that meaning.
-use Rattle.std.proofs.Common.{◌≡◌, ℕ, true, List, [], ◌++◌, refl, sym, ap, ◌∙◌}
-use Rattle.std.specs.Prelude.{codes, Option, Some, None, IfSome, ◌↔◌}
+use Rattle.std.proofs.Common.{◌≡◌, ℕ, true, List, [], ◌++◌, refl, ap, ◌∙◌}
+use Rattle.std.specs.Prelude.{codes, Option, Some, None, IfSome}
 use Rattle.std.specs.Str.{IsUtf8}
 use Rattle.std.proofs.lemmas.Str.{IsUtf8-append, IsUtf8-nil}
 use Rattle.uri_parts.specs.Components.{Components, marked, components, recompose}
@@ -89,17 +89,3 @@ module _ (kind : Kind) (ports : PortFunction) (sets : HasComponentSets kind) whe
       ∙ normal-components-have-same-meaning kind sets (normal-authorities-are-authorities kind sets)
       ports (components text)
       (text-has-parts-of-kind kind text w)
-
-  pub normal_text-is-idempotent : (text : List ℕ) → IsTextOf kind text
-      → normal_text (meaning_of kind ports (normal_text (meaning_of kind ports text)))
-      ≡ normal_text (meaning_of kind ports text)
-  normal_text-is-idempotent text w = ap normal_text (meaning_of-normal_text text w)
-
-  pub same-normal-text-same-meaning : (t u : List ℕ) → IsTextOf kind t → IsTextOf kind u
-      → (normal_text (meaning_of kind ports t) ≡ normal_text (meaning_of kind ports u))
-      ↔ (meaning_of kind ports t ≡ meaning_of kind ports u)
-  same-normal-text-same-meaning t u v w = (
-    λ e. sym (meaning_of-normal_text t v) ∙ ap (meaning_of kind ports) e
-        ∙ meaning_of-normal_text u w,
-    λ e. ap normal_text e,
-  )

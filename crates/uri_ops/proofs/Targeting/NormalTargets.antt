@@ -8,14 +8,14 @@ use Rattle.std.proofs.lemmas.Bool.Decides.{nat_tests}
 use Rattle.uri_parts.specs.Components.{Components, components}
 use Rattle.uri_parts.specs.Grammar.{Kind, IsTextOf}
 use Rattle.uri_ops.specs.ComponentSets.{HasComponentSets}
-use Rattle.uri_ops.specs.Meaning.{meaning_of}
+use Rattle.uri_ops.specs.Normal.{normal_text}
 use Rattle.uri_ops.specs.NormalTargets.{HasMeaningOf, HasTargetMeaning, IsErrorUnderSetting, IsNormalFormOfTarget, IsTargetOfMeanings, IsErrorOfMeanings, IsNormalTarget, IsNormalTargetError, reference_kind, resolved_meaning}
 use Rattle.uri_ops.specs.Normalizers.{IsNormalForm}
-use Rattle.uri_parts.specs.Ports.{PortFunction}
+use Rattle.uri_ops.specs.SchemeRules.{Rules, meaning_under}
 use Rattle.uri_ops.specs.Resolving.{IsTarget, IsErrorFor, IsErrorWithUnderflowAllowed}
 use Rattle.uri_ops.specs.Target.{TargetError, BaseWithFragment, InvalidReferenceAgainstOpaqueBase, resolution_of, resolution_of_texts}
 use Rattle.uri_ops.specs.declared.resolve.error.ResolveError.{ResolveError}
-use Rattle.uri_ops.proofs.Targeting.Swaps.{resolving-respects-meaning}
+use Rattle.uri_ops.proofs.SchemeRules.RuledTargets.{resolving-respects-meaning}
 use Rattle.uri_ops.specs.declared.resolve.error.ResolveError.TheVariants as Of
 
 -- resolving: an underflow that is allowed is no error
@@ -71,11 +71,16 @@ module _ {A : Type 0} (f : List ℕ → A) where
       (equal-err-results-have-equal-errors w z (mapped y) (sym e) (ap mapped h))
 
 -- targets: a text with the same meaning has the same normal form
-pub same-meaning-same-normal-form : (kind : Kind) (ports : PortFunction)
+pub same-meaning-same-normal-form : (kind : Kind) (rules : Rules)
     (text other normal : List ℕ)
-    → meaning_of kind ports other ≡ meaning_of kind ports text → IsNormalForm kind ports text normal
-    → IsNormalForm kind ports other normal
-same-meaning-same-normal-form kind ports text other normal e h = grind (arith, nat_tests)
+    → meaning_under kind rules other ≡ meaning_under kind rules text → IsNormalForm kind rules text normal
+    → IsNormalForm kind rules other normal
+same-meaning-same-normal-form kind rules text other normal e h = record {
+  text = record { text = h.text.text ∙ ap normal_text (sym e) };
+  of_kind = h.of_kind;
+  meaning = h.meaning ∙ sym e;
+  same = λ u w. let both = h.same u w in (λ d. e ∙ both.0 d, λ d. both.1 (sym e ∙ d));
+}
 
 -- resolving: an equivalent base and reference are rejected with the same error;
 -- b, r and base, reference: their components
@@ -98,10 +103,10 @@ pub resolution-is-unique : (r : Result (List ℕ) TargetError) (t u : List ℕ) 
 resolution-is-unique r t u e f = cc
 
 -- targets: two normal forms of the target of a base and a reference are equal
-one-normal-form-of-target : (kind : Kind) (ports : PortFunction) (base reference n m : List ℕ)
-    → IsNormalFormOfTarget kind ports base reference n
-    → IsNormalFormOfTarget kind ports base reference m → n ≡ m
-one-normal-form-of-target kind ports base reference n m v w =
+one-normal-form-of-target : (kind : Kind) (rules : Rules) (base reference n m : List ℕ)
+    → IsNormalFormOfTarget kind rules base reference n
+    → IsNormalFormOfTarget kind rules base reference m → n ≡ m
+one-normal-form-of-target kind rules base reference n m v w =
     cc (resolution-is-unique (resolution_of_texts base reference) v.0 w.0 v.1.0 w.1.0)
 
 -- resolving: an error of equivalent texts is one of the others, under the same setting;
@@ -124,52 +129,52 @@ same-resolution-error-under-setting false b r base reference Of.OutOfMemory f e 
 
 module _ (kind of_reference : Kind) (sets : HasComponentSets kind)
     (needs : kind.needs_scheme ≡ true) (same : of_reference ≡ reference_kind kind)
-    (ports : PortFunction)
+    (rules : Rules)
     (base reference : List ℕ) (of_base : IsTextOf kind base)
     (of_ref : IsTextOf of_reference reference) where
-  equivalent-inputs-resolve-to-same-meaning : (b r : List ℕ) → HasMeaningOf kind ports base b
-      → HasMeaningOf of_reference ports reference r
-      → resolved_meaning kind ports b r ≡ resolved_meaning kind ports base reference
+  equivalent-inputs-resolve-to-same-meaning : (b r : List ℕ) → HasMeaningOf kind rules base b
+      → HasMeaningOf of_reference rules reference r
+      → resolved_meaning kind rules b r ≡ resolved_meaning kind rules base reference
   equivalent-inputs-resolve-to-same-meaning b r v w =
       let x = subst (λ k. IsTextOf k reference) same of_ref in
-      let y = subst (λ k. HasMeaningOf k ports reference r) same w in
-      resolving-respects-meaning kind ports sets b base r reference needs v.of_kind of_base
+      let y = subst (λ k. HasMeaningOf k rules reference r) same w in
+      resolving-respects-meaning kind rules sets b base r reference needs v.of_kind of_base
       y.of_kind x
       v.meaning y.meaning
 
-  equivalent-inputs-have-equivalent-targets : (b r target : List ℕ) → HasMeaningOf kind ports base b
-      → HasMeaningOf of_reference ports reference r
+  equivalent-inputs-have-equivalent-targets : (b r target : List ℕ) → HasMeaningOf kind rules base b
+      → HasMeaningOf of_reference rules reference r
       → resolution_of (components base) (components reference) ≡ Ok target
-      → HasTargetMeaning kind ports b r target
+      → HasTargetMeaning kind rules b r target
   equivalent-inputs-have-equivalent-targets b r target v w e =
-      let t = equal-mapped-results-have-equal-targets (meaning_of kind ports)
+      let t = equal-mapped-results-have-equal-targets (meaning_under kind rules)
       (resolution_of (components b) (components r))
       (resolution_of (components base) (components reference)) target
       (equivalent-inputs-resolve-to-same-meaning b r v w)
       e in
       (t.0, (t.1.0, t.1.1))
 
-  equivalent-inputs-have-same-target-error : (b r : List ℕ) → HasMeaningOf kind ports base b
-      → HasMeaningOf of_reference ports reference r → (z : TargetError)
+  equivalent-inputs-have-same-target-error : (b r : List ℕ) → HasMeaningOf kind rules base b
+      → HasMeaningOf of_reference rules reference r → (z : TargetError)
       → resolution_of (components base) (components reference) ≡ Err z
       → resolution_of (components b) (components r) ≡ Err z
   equivalent-inputs-have-same-target-error b r v w z e = equal-mapped-results-have-equal-errors
-      (meaning_of kind ports)
+      (meaning_under kind rules)
       (resolution_of (components b) (components r))
       (resolution_of (components base) (components reference)) z
       (equivalent-inputs-resolve-to-same-meaning b r v w) e
 
-  equivalent-inputs-resolve-alike : (b r : List ℕ) → HasMeaningOf kind ports base b
-      → HasMeaningOf of_reference ports reference r
+  equivalent-inputs-resolve-alike : (b r : List ℕ) → HasMeaningOf kind rules base b
+      → HasMeaningOf of_reference rules reference r
       → is_ok (resolution_of (components b) (components r))
       ≡ is_ok (resolution_of (components base) (components reference))
   equivalent-inputs-resolve-alike b r v w = equal-mapped-results-are-ok-alike
-      (meaning_of kind ports) (resolution_of (components b) (components r))
+      (meaning_under kind rules) (resolution_of (components b) (components r))
       (resolution_of (components base) (components reference))
       (equivalent-inputs-resolve-to-same-meaning b r v w)
 
   equivalent-inputs-have-same-resolve-error : (allowed : Bool) (b r : List ℕ) (error : ResolveError)
-      → HasMeaningOf kind ports base b → HasMeaningOf of_reference ports reference r
+      → HasMeaningOf kind rules base b → HasMeaningOf of_reference rules reference r
       → IsErrorFor allowed (components base) (components reference) error
       → IsErrorUnderSetting allowed (components b) (components r) error
   equivalent-inputs-have-same-resolve-error allowed b r error v w h =
@@ -180,24 +185,24 @@ module _ (kind of_reference : Kind) (sets : HasComponentSets kind)
 
   pub normal-form-of-target-respects-meaning : (target normal : List ℕ)
       → resolution_of (components base) (components reference) ≡ Ok target
-      → IsNormalForm kind ports target normal
-      → IsNormalTarget kind of_reference ports base reference normal
+      → IsNormalForm kind rules target normal
+      → IsNormalTarget kind of_reference rules base reference normal
   normal-form-of-target-respects-meaning target normal e h = record {
     target = (target, (e, h));
     swap = λ b r v w.
         let t = equivalent-inputs-have-equivalent-targets b r target v w e in
-        (t.0, (t.1.0, same-meaning-same-normal-form kind ports target t.0 normal t.1.1 h));
-    only = λ n w. one-normal-form-of-target kind ports base reference n normal w (target, (e, h));
+        (t.0, (t.1.0, same-meaning-same-normal-form kind rules target t.0 normal t.1.1 h));
+    only = λ n w. one-normal-form-of-target kind rules base reference n normal w (target, (e, h));
     same = λ b r n v w u.
         let t = equivalent-inputs-have-equivalent-targets b r target v w e in
-        one-normal-form-of-target kind ports b r n normal u
-        (t.0, (t.1.0, same-meaning-same-normal-form kind ports target t.0 normal t.1.1 h));
+        one-normal-form-of-target kind rules b r n normal u
+        (t.0, (t.1.0, same-meaning-same-normal-form kind rules target t.0 normal t.1.1 h));
   }
 
   -- a resolution error is the error for each equivalent base and reference
   pub refusal : (error : ResolveError)
       → IsErrorFor true (components base) (components reference) error
-      → IsNormalTargetError kind of_reference ports base reference error
+      → IsNormalTargetError kind of_reference rules base reference error
   refusal error e =
       let h = allowed-underflow-is-no-error (components base) (components reference) error e in
       record {
@@ -208,7 +213,7 @@ module _ (kind of_reference : Kind) (sets : HasComponentSets kind)
             (equivalent-inputs-resolve-alike b r v w) h;
       }
 
--- under any function of default ports
+-- under any rules
 module _ (kind of_reference : Kind) (sets : HasComponentSets kind)
     (needs : kind.needs_scheme ≡ true) (same : of_reference ≡ reference_kind kind) (allowed : Bool)
     (base reference : List ℕ) (of_base : IsTextOf kind base)
@@ -218,8 +223,8 @@ module _ (kind of_reference : Kind) (sets : HasComponentSets kind)
       → IsTargetOfMeanings kind of_reference base reference target
   target-respects-meaning target h = record {
     alike =
-        λ ports b r v w. equivalent-inputs-have-equivalent-targets kind of_reference sets needs same
-        ports base reference
+        λ rules b r v w. equivalent-inputs-have-equivalent-targets kind of_reference sets needs same
+        rules base reference
         of_base
         of_ref b r target v w h.0;
   }

@@ -1,6 +1,8 @@
--- What a reference resolves to, against a base, is a function of the meanings of both.
+-- What a reference resolves to, against a base, is a function of the meanings of both, under default
+-- ports.
 use Rattle.std.proofs.Common.{◌≡◌, ℕ, true, false, not, List, sym, ap, ◌∙◌, ◌&&◌, inr, option_map, arith}
 use Rattle.std.specs.Prelude.{codes, Option, Some, None, IfSome, Result, is_some, is_none}
+use Rattle.std.specs.Result.{result_map_both}
 use Rattle.std.proofs.lemmas.Bool.{and_cases, cond_both, not-false}
 use Rattle.std.proofs.lemmas.Bool.Decides.{nat_tests}
 use Rattle.uri_pct.specs.Tokens.{print}
@@ -9,16 +11,16 @@ use Rattle.uri_parts.specs.Components.{Components, Lacks, starts, IsAbemptyPath,
 use Rattle.uri_parts.specs.Grammar.{Kind, IsTextOf}
 use Rattle.uri_parts.proofs.Splitting.Recompose.{components-are-split-of-text, equal-to-true-is-IsTrue, components_of_parts}
 use Rattle.uri_ops.specs.Dots.{is_empty}
-use Rattle.uri_ops.specs.Target.{TargetError, is_opaque, is_opaque_rejection, dotted_target, target_of}
+use Rattle.uri_ops.specs.Target.{TargetError, is_opaque, is_opaque_rejection, dotted_target, resolution_of_texts, target_of}
 use Rattle.uri_ops.specs.ComponentSets.{HasComponentSets}
 use Rattle.uri_parts.specs.Ports.{PortFunction}
 use Rattle.uri_ops.specs.Meaning.{Meaning, components_meaning, meaning_of}
-use Rattle.uri_ops.specs.Normal.{normal_text, normal_components}
-use Rattle.uri_ops.specs.NormalTargets.{reference_kind, resolved_meaning}
+use Rattle.uri_ops.specs.Normal.{normal_components}
+use Rattle.uri_ops.specs.NormalTargets.{reference_kind}
 use Rattle.uri_ops.proofs.Targeting.Targets.{target-text-has-target-components}
 use Rattle.uri_ops.proofs.Meanings.TextParts.{ArePartsOfKind}
-use Rattle.uri_ops.proofs.Normal.NormalTexts.{text-has-parts-of-kind, normal-text-is-text-of-kind, meaning_of-normal_text}
-use Rattle.uri_ops.proofs.Targeting.JoinedMeanings.{with_scheme, reference-kind-has-component-sets, target-path-has-meaning-of-joined, joined-normal-components-have-same-meaning, normal-components-are-rejected-alike}
+use Rattle.uri_ops.proofs.Normal.NormalTexts.{text-has-parts-of-kind}
+use Rattle.uri_ops.proofs.Targeting.JoinedMeanings.{with_scheme, target-path-has-meaning-of-joined, joined-normal-components-have-same-meaning, normal-components-are-rejected-alike}
 use Rattle.uri_ops.proofs.Targeting.RefusalOrder.{result_or_target_error, map-of-result_or_error, rejected-results-are-equal}
 use Rattle.uri_pct.proofs.General.{is_some-option_map, none-is-not-some}
 use Rattle.uri_parts.proofs.TextKinds.KindSets.{with_scheme as scheme_where_needed}
@@ -51,6 +53,14 @@ base-that-is-not-opaque-has-abempty-path None path e h = inr
     (equal-to-true-is-IsTrue _ (not-false _ e))
 base-that-is-not-opaque-has-abempty-path (Some a) path e h = h.1
 
+-- resolving: what the target of a base and a reference means under default ports alone, or why there
+-- is none
+abbrev pub resolved_under_ports : Kind → PortFunction → List ℕ → List ℕ
+    → Result Meaning TargetError
+resolved_under_ports kind ports base reference =
+    result_map_both (meaning_of kind ports) (λ refusal. refusal)
+    (resolution_of_texts base reference)
+
 module _ (kind : Kind) (ports : PortFunction) (sets : HasComponentSets kind) where
   abbrev meaning : Components → Meaning
   meaning p = components_meaning kind ports p
@@ -61,10 +71,10 @@ module _ (kind : Kind) (ports : PortFunction) (sets : HasComponentSets kind) whe
       (is_opaque_rejection base r)
       (meaning (dotted_target base r))
 
-  resolved_meaning-is-resolution_meaning : (b t : List ℕ) → is_some (components b).scheme ≡ true
-      → resolved_meaning kind ports b t ≡ resolution_meaning (components b) (components t)
+  resolved_under_ports-is-resolution_meaning : (b t : List ℕ) → is_some (components b).scheme ≡ true
+      → resolved_under_ports kind ports b t ≡ resolution_meaning (components b) (components t)
   unfolding resolution_meaning result_or_target_error
-  resolved_meaning-is-resolution_meaning b t some =
+  resolved_under_ports-is-resolution_meaning b t some =
       let base = components b in
       let r = components t in
       map-of-result_or_error (meaning_of kind ports) (is_some base.fragment)
@@ -112,40 +122,24 @@ module _ (kind : Kind) (ports : PortFunction) (sets : HasComponentSets kind) whe
       (sym refused))
       base some
 
-  resolved_meaning-is-of-normal-components : (b t : List ℕ) → kind.needs_scheme ≡ true
+  resolved_under_ports-is-of-normal-components : (b t : List ℕ) → kind.needs_scheme ≡ true
       → IsTextOf kind b
       → IsTextOf (reference_kind kind) t
-      → resolved_meaning kind ports b t
+      → resolved_under_ports kind ports b t
       ≡ resolution_meaning (normal_components (meaning_of kind ports b))
       (normal_components (meaning_of (reference_kind kind) ports t))
-  resolved_meaning-is-of-normal-components b t needs v w =
+  resolved_under_ports-is-of-normal-components b t needs v w =
       let some = text-of-kind-has-needed-scheme kind b needs v in
-      resolved_meaning-is-resolution_meaning b t some
+      resolved_under_ports-is-resolution_meaning b t some
       ∙ normal-components-have-same-resolution_meaning (components t) (components b) some
       (text-has-parts-of-kind (reference_kind kind) t w)
       (text-has-parts-of-kind kind b v) (components-are-split-of-text b).authority
 
   -- meanings alone decide what comes of it
-  pub resolving-respects-meaning : (b c t u : List ℕ) → kind.needs_scheme ≡ true → IsTextOf kind b
+  pub resolving-respects-meaning_of : (b c t u : List ℕ) → kind.needs_scheme ≡ true → IsTextOf kind b
       → IsTextOf kind c → IsTextOf (reference_kind kind) t → IsTextOf (reference_kind kind) u
       → meaning_of kind ports b ≡ meaning_of kind ports c
       → meaning_of (reference_kind kind) ports t ≡ meaning_of (reference_kind kind) ports u
-      → resolved_meaning kind ports b t ≡ resolved_meaning kind ports c u
-  resolving-respects-meaning b c t u needs v w x y e f =
-      grind (arith, nat_tests, resolved_meaning-is-of-normal-components, resolution_meaning)
-
-  -- the normal texts of a base and a reference resolve to the same meaning
-  pub normal-texts-resolve-to-same-meaning : (b t : List ℕ) → kind.needs_scheme ≡ true
-      → IsTextOf kind b
-      → IsTextOf (reference_kind kind) t
-      → resolved_meaning kind ports (normal_text (meaning_of kind ports b))
-      (normal_text (meaning_of (reference_kind kind) ports t))
-      ≡ resolved_meaning kind ports b t
-  normal-texts-resolve-to-same-meaning b t needs v w =
-      let reference_sets = reference-kind-has-component-sets kind sets ports in
-      resolving-respects-meaning (normal_text (meaning_of kind ports b)) b
-      (normal_text (meaning_of (reference_kind kind) ports t)) t needs
-      (normal-text-is-text-of-kind kind ports sets b v) v
-      (normal-text-is-text-of-kind (reference_kind kind) ports reference_sets t w) w
-      (meaning_of-normal_text kind ports sets b v)
-      (meaning_of-normal_text (reference_kind kind) ports reference_sets t w)
+      → resolved_under_ports kind ports b t ≡ resolved_under_ports kind ports c u
+  resolving-respects-meaning_of b c t u needs v w x y e f =
+      grind (arith, nat_tests, resolved_under_ports-is-of-normal-components, resolution_meaning)

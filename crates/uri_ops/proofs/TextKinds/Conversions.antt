@@ -13,10 +13,11 @@ use Rattle.uri_ops.specs.declared.convert.ConvertError.TheVariants.{NoScheme, No
 use Rattle.uri_ops.specs.ComponentSets.{HasComponentSets}
 use Rattle.uri_ops.specs.Conversions.{is_past_ascii, first_past_ascii, missing_scheme_error, not_ascii_error, uri_conversion_error}
 use Rattle.uri_ops.specs.Encoded.{encode_past_ascii, ascii_kind, AreEquivalent}
-use Rattle.uri_ops.specs.Meaning.{bare_meaning_of, meaning_of}
-use Rattle.uri_parts.specs.Ports.{PortFunction, no_defaults}
+use Rattle.uri_ops.specs.Meaning.{bare_meaning_of}
+use Rattle.uri_ops.specs.SchemeRules.{Rules, meaning_under}
+use Rattle.uri_parts.specs.Ports.{no_defaults}
 use Rattle.uri_ops.proofs.AsciiForms.AsciiTexts.{texts-of-ascii-kinds-are-ascii}
-use Rattle.uri_ops.proofs.AsciiForms.EncodedMeanings.{encoded-text-is-of-ascii_kind, encoding-keeps-meaning_of-text}
+use Rattle.uri_ops.proofs.AsciiForms.EncodedMeanings.{encoded-text-is-of-ascii_kind, encoding-keeps-meaning_of-text, encoding-keeps-meaning_under-text}
 use Rattle.uri_ops.proofs.AsciiForms.EncodedPaths.{ascii-text-is-its-own-encoding}
 use Rattle.uri_ops.proofs.TextKinds.FourKinds.{iri-has-component-sets, iri_ref-has-component-sets}
 use Rattle.uri_ops.proofs.TextKinds.WiderKinds.{text-is-of-wider-kind, ascii_kind-is-within-kind}
@@ -214,10 +215,10 @@ module _ (kind : Kind) (sets : HasComponentSets kind) where
 
   encoded-text-has-same-meaning : (text encoded : List ℕ) → encoded ≡ encode_past_ascii text
       → IsUtf8 text
-      → IsOfKind kind text → (ports : PortFunction)
-      → meaning_of kind ports encoded ≡ meaning_of kind ports text
-  encoded-text-has-same-meaning text encoded e u h ports = ap (meaning_of kind ports) e
-      ∙ encoding-keeps-meaning_of-text kind sets ports text (record { utf8 = u; grammar = h })
+      → IsOfKind kind text → (rules : Rules)
+      → meaning_under kind rules encoded ≡ meaning_under kind rules text
+  encoded-text-has-same-meaning text encoded e u h rules = ap (meaning_under kind rules) e
+      ∙ encoding-keeps-meaning_under-text kind sets rules text (record { utf8 = u; grammar = h })
 
 -- conversions: an IRI whose characters past ASCII are percent-encoded
 -- is a URI (RFC 3987, section 3.1)
@@ -250,22 +251,22 @@ encoded-iri_ref-is-equivalent text encoded e u h = encoded-text-is-equivalent ir
     iri_ref-has-component-sets text
     encoded e u h
 
--- conversions: an IRI and its URI have the same meaning under any default ports
+-- conversions: an IRI and its URI have the same meaning under any rules
 pub encoded-iri-has-same-meaning : (text encoded : List ℕ) → encoded ≡ encode_past_ascii text
     → IsUtf8 text
-    → IsOfKind iri text → (ports : PortFunction)
-    → meaning_of iri ports encoded ≡ meaning_of iri ports text
-encoded-iri-has-same-meaning text encoded e u h ports = encoded-text-has-same-meaning iri
+    → IsOfKind iri text → (rules : Rules)
+    → meaning_under iri rules encoded ≡ meaning_under iri rules text
+encoded-iri-has-same-meaning text encoded e u h rules = encoded-text-has-same-meaning iri
     iri-has-component-sets text
-    encoded e u h ports
+    encoded e u h rules
 
--- conversions: an IRI reference and its URI reference have the same meaning under any default ports
+-- conversions: an IRI reference and its URI reference have the same meaning under any rules
 pub encoded-iri_ref-has-same-meaning : (text encoded : List ℕ) → encoded ≡ encode_past_ascii text
     → IsUtf8 text
-    → IsOfKind iri_ref text → (ports : PortFunction)
-    → meaning_of iri_ref ports encoded ≡ meaning_of iri_ref ports text
-encoded-iri_ref-has-same-meaning text encoded e u h ports =
-    encoded-text-has-same-meaning iri_ref iri_ref-has-component-sets text encoded e u h ports
+    → IsOfKind iri_ref text → (rules : Rules)
+    → meaning_under iri_ref rules encoded ≡ meaning_under iri_ref rules text
+encoded-iri_ref-has-same-meaning text encoded e u h rules =
+    encoded-text-has-same-meaning iri_ref iri_ref-has-component-sets text encoded e u h rules
 
 pub ruleset uri_widening = (uri_is_uri_ref, uri_ref_is_iri_ref)
 

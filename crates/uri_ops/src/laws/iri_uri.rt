@@ -7,8 +7,8 @@ ghost use Rattle.uri_parts.specs.Components.{components};
 ghost use Rattle.uri_parts.specs.Grammar.{Kind, iri, iri_ref, uri, uri_ref};
 ghost use Rattle.uri_ops.specs.ComponentSets.{HasComponentSets, IsWithin};
 ghost use Rattle.uri_ops.specs.Encoded.{ascii_kind, encode_past_ascii};
-ghost use Rattle.uri_ops.specs.Meaning.{bare_meaning_of, meaning_of};
-ghost use Rattle.uri_parts.specs.Ports.{PortFunction};
+ghost use Rattle.uri_ops.specs.Meaning.{bare_meaning_of};
+ghost use Rattle.uri_ops.specs.SchemeRules.{Rules, meaning_under};
 ghost use Rattle.uri_ops.specs.Target.{resolution_of_texts, target_underflows};
 ghost use Rattle.uri_parts.specs.Grammar.{IsTextOf};
 
@@ -25,7 +25,7 @@ pub fn texts_are_of_wider_kinds_too()
 
 /// `encode_past_ascii` turns a text of a kind of IRIs into one of the kind of URIs that goes with
 /// it (RFC 3987, section 3.1). Its characters past ASCII become octets. As an IRI it is equivalent
-/// to the text.
+/// to the text under any rules of schemes.
 ///
 /// `http://a/é` and `http://a/%C3%A9` are equivalent as IRIs.
 pub fn encoding_past_ascii_keeps_meaning()
@@ -35,9 +35,9 @@ pub fn encoding_past_ascii_keeps_meaning()
         → IsTextOf (ascii_kind kind) (encode_past_ascii text) }
     ensures bare { (kind : Kind) (text : List ℕ) → HasComponentSets kind → IsTextOf kind text
         → bare_meaning_of kind (encode_past_ascii text) ≡ bare_meaning_of kind text }
-    ensures meaning { (kind : Kind) (ports : PortFunction) (text : List ℕ) → HasComponentSets kind
+    ensures meaning { (kind : Kind) (rules : Rules) (text : List ℕ) → HasComponentSets kind
         → IsTextOf kind text
-        → meaning_of kind ports (encode_past_ascii text) ≡ meaning_of kind ports text }
+        → meaning_under kind rules (encode_past_ascii text) ≡ meaning_under kind rules text }
 {}
 
 /// If `encode_past_ascii` turns the characters past ASCII of a base and a reference into octets,

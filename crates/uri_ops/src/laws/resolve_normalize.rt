@@ -2,10 +2,9 @@
 ghost use Rattle.std.specs.Prelude.{◌≡◌, ℕ, List, true};
 ghost use Rattle.uri_parts.specs.Grammar.{Kind};
 ghost use Rattle.uri_ops.specs.ComponentSets.{HasComponentSets};
-ghost use Rattle.uri_ops.specs.Meaning.{meaning_of};
 ghost use Rattle.uri_ops.specs.Normal.{normal_text};
-ghost use Rattle.uri_parts.specs.Ports.{PortFunction};
 ghost use Rattle.uri_ops.specs.NormalTargets.{reference_kind, resolved_meaning};
+ghost use Rattle.uri_ops.specs.SchemeRules.{Rules, meaning_under};
 ghost use Rattle.uri_ops.specs.Target.{resolution_of_texts};
 ghost use Rattle.uri_parts.specs.Grammar.{IsTextOf};
 
@@ -19,21 +18,22 @@ pub fn targets_are_of_the_kind_of_their_base()
         → resolution_of_texts base reference ≡ Ok target → IsTextOf kind target }
 {}
 
-/// Resolution respects equivalence: an equivalent base and reference give an equivalent target, or
-/// the same error. The normal texts give these too.
+/// Resolution respects equivalence under any rules: an equivalent base and reference give an
+/// equivalent target, or the same error. The normal texts give these too.
 ///
-/// `%67` against `HTTP://a/b` is equivalent to `g` against `http://a/b`: `http://a/g`.
+/// `%67` against `HTTP://a/b` is equivalent to `g` against `http://a/b`: `http://a/g`. Under
+/// `StandardRules`, `?q` against `http://a` is equivalent to `?q` against `http://a/`.
 pub fn resolving_and_normalising_swap()
-    ensures alike { (kind : Kind) (ports : PortFunction) (b c r s : List ℕ) → HasComponentSets kind
+    ensures alike { (kind : Kind) (rules : Rules) (b c r s : List ℕ) → HasComponentSets kind
         → kind.needs_scheme ≡ true → IsTextOf kind b → IsTextOf kind c
         → IsTextOf (reference_kind kind) r → IsTextOf (reference_kind kind) s
-        → meaning_of kind ports b ≡ meaning_of kind ports c
-        → meaning_of (reference_kind kind) ports r ≡ meaning_of (reference_kind kind) ports s
-        → resolved_meaning kind ports b r ≡ resolved_meaning kind ports c s }
-    ensures normal_texts { (kind : Kind) (ports : PortFunction) (base reference : List ℕ)
+        → meaning_under kind rules b ≡ meaning_under kind rules c
+        → meaning_under (reference_kind kind) rules r ≡ meaning_under (reference_kind kind) rules s
+        → resolved_meaning kind rules b r ≡ resolved_meaning kind rules c s }
+    ensures normal_texts { (kind : Kind) (rules : Rules) (base reference : List ℕ)
         → HasComponentSets kind → kind.needs_scheme ≡ true → IsTextOf kind base
         → IsTextOf (reference_kind kind) reference
-        → resolved_meaning kind ports (normal_text (meaning_of kind ports base))
-        (normal_text (meaning_of (reference_kind kind) ports reference))
-        ≡ resolved_meaning kind ports base reference }
+        → resolved_meaning kind rules (normal_text (meaning_under kind rules base))
+        (normal_text (meaning_under (reference_kind kind) rules reference))
+        ≡ resolved_meaning kind rules base reference }
 {}

@@ -15,9 +15,9 @@ ghost use Rattle.uri_ops.specs.Normal.{default_port_of, normal_authority_with_de
 ghost use Rattle.uri_ops.specs.Models.Unchanged.{IsUnchangedPort};
 ghost use Rattle.uri_ops.specs.Models.Written.{authority_parts_at};
 
-use crate::default_port::DefaultPort;
 use crate::normalize::decode_unreserved::{push_decoded_component, push_decoded_host};
 use crate::normalize::literal_runs::push_lower;
+use crate::scheme_rules::SchemeRules;
 use std::alloc::AllocError;
 use uri_parts::address_text::push_ipv6_host;
 use uri_parts::component::{Authority, HostOf, Scheme};
@@ -29,19 +29,19 @@ use uri_pct::encoder::Encoder;
 /// positions.
 ///
 /// After an error, part of it may have been appended.
-pub(crate) fn push_authority<U: Encoder, R: Encoder, P: DefaultPort>(
+pub(crate) fn push_authority<U: Encoder, R: Encoder, S: SchemeRules>(
     authority: Option<Authority<'_, U, R>>,
     scheme: Option<Scheme<'_>>,
-    ports: &P,
+    rules: &S,
     out: &mut String,
 ) -> Result<Option<AuthorityPositions>, AllocError>
-    ensures text { let default = default_port_of (P.port_of ports.now)
+    ensures text { let default = default_port_of (S.rules_of rules.now).ports
         (option_map scheme_text scheme.entry) in
         (kind : Kind) → kind.userinfo ≡ U.set → kind.reg_name ≡ R.set
         → OnOk result (Pushes out.old out.new
         (normal_authority_with_delimiter kind default
         (option_map authority_text authority.entry))) }
-    ensures places { let default = default_port_of (P.port_of ports.now)
+    ensures places { let default = default_port_of (S.rules_of rules.now).ports
         (option_map scheme_text scheme.entry) in
         (kind : Kind) → kind.userinfo ≡ U.set → kind.reg_name ≡ R.set
         → IfOk result (λ places. places
@@ -59,7 +59,7 @@ pub(crate) fn push_authority<U: Encoder, R: Encoder, P: DefaultPort>(
     let host_start = out.len();
     push_host(authority, out)?;
     let host_end = out.len();
-    push_port(authority, scheme, ports, out)?;
+    push_port(authority, scheme, rules, out)?;
     Ok(Some(AuthorityPositions {
         start,
         host_start,
@@ -134,17 +134,18 @@ pub(crate) fn is_bracketed(host: &str) -> bool
 
 /// Appends the port of a normal authority, `:` and digits, unless it is empty or the scheme's
 /// default.
-fn push_port<U: Encoder, R: Encoder, P: DefaultPort>(
+fn push_port<U: Encoder, R: Encoder, S: SchemeRules>(
     authority: Authority<'_, U, R>,
     scheme: Option<Scheme<'_>>,
-    ports: &P,
+    rules: &S,
     out: &mut String,
 ) -> Result<(), AllocError>
     ensures { let p = authority_parts (authority_text authority.entry) in
-        let default = default_port_of (P.port_of ports.now) (option_map scheme_text scheme.entry) in
+        let default = default_port_of (S.rules_of rules.now).ports
+        (option_map scheme_text scheme.entry) in
         OnOk result (Pushes out.old out.new (marked (codes ":") (port_meaning default p.port) [])) }
 {
-    let Some(digits) = port_unless_default(authority, scheme, ports) else {
+    let Some(digits) = port_unless_default(authority, scheme, rules) else {
         return Ok(());
     };
     out.push(':')?;
@@ -153,12 +154,12 @@ fn push_port<U: Encoder, R: Encoder, P: DefaultPort>(
 
 /// Returns whether a normal authority has the port that this one has, if it has one: the port is
 /// neither empty nor the scheme's default.
-pub(crate) fn is_port_unchanged<U: Encoder, R: Encoder, P: DefaultPort>(
+pub(crate) fn is_port_unchanged<U: Encoder, R: Encoder, S: SchemeRules>(
     authority: Option<Authority<'_, U, R>>,
     scheme: Option<Scheme<'_>>,
-    ports: &P,
+    rules: &S,
 ) -> bool
-    ensures { let default = default_port_of (P.port_of ports.now)
+    ensures { let default = default_port_of (S.rules_of rules.now).ports
         (option_map scheme_text scheme.entry) in
         result ≡ true → IfSome (option_map authority_text authority.entry)
         (λ a. IsUnchangedPort default (authority_parts a).port) }
@@ -166,20 +167,20 @@ pub(crate) fn is_port_unchanged<U: Encoder, R: Encoder, P: DefaultPort>(
     let Some(authority) = authority else {
         return true;
     };
-    !authority.has_port() || port_unless_default(authority, scheme, ports).is_some()
+    !authority.has_port() || port_unless_default(authority, scheme, rules).is_some()
 }
 
 /// Returns the port's digits in a normal authority, unless there are none or they write the default
-/// port of the scheme. It calls `ports` only if there is a port that isn't empty. A port over 65535
+/// port of the scheme. It asks for the default port only if there is a port that isn't empty. A port over 65535
 /// is no default.
-pub(crate) fn port_unless_default<'a, U: Encoder, R: Encoder, P: DefaultPort>(
+pub(crate) fn port_unless_default<'a, U: Encoder, R: Encoder, S: SchemeRules>(
     authority: Authority<'a, U, R>,
     scheme: Option<Scheme<'_>>,
-    ports: &P,
+    rules: &S,
 ) -> Option<&'a str>
     ensures { let port = (authority_parts (authority_text authority.entry)).port in
         option_map (λ digits. digits.now) result ≡ port_meaning
-        (default_port_of (P.port_of ports.now) (option_map scheme_text scheme.entry)) port }
+        (default_port_of (S.rules_of rules.now).ports (option_map scheme_text scheme.entry)) port }
 {
     let port = authority.port()?;
     if port.is_empty() {
@@ -188,7 +189,7 @@ pub(crate) fn port_unless_default<'a, U: Encoder, R: Encoder, P: DefaultPort>(
     let Some(scheme) = scheme else {
         return Some(port.as_str());
     };
-    let Some(default) = ports.default_port(scheme) else {
+    let Some(default) = rules.default_port(scheme) else {
         return Some(port.as_str());
     };
     match authority.port_to_u16() {

@@ -24,13 +24,14 @@ ghost use Rattle.uri_ops.specs.Target.{guarded};
 ghost use Rattle.uri_ops.specs.Normalizers.{HasNormalText, text_underflows};
 ghost use Rattle.uri_ops.specs.Models.Written.{authority_parts_at};
 
-use crate::default_port::DefaultPort;
 use crate::normalize::decode_unreserved::push_decoded_component;
 use crate::normalize::decoded_paths::push_decoded_path;
 use crate::normalize::literal_runs::push_lower;
 use crate::normalize::normal_authority::push_authority;
 use crate::normalize::normalized::Normalized;
+use crate::normalize::ruled_parts::{has_root_path, ruled_authority, ruled_path};
 use crate::path::slashes::guard_path;
+use crate::scheme_rules::SchemeRules;
 use std::alloc::{AllocError, Global};
 use uri_parts::component::{Authority, Scheme};
 use uri_parts::core_text::Core;
@@ -112,27 +113,29 @@ fn push_normal_path<E: PathEncoder>(
 
 /// Returns the normal text of a value, written component by component, with its positions and
 /// whether the removal of its dot segments underflows.
-pub(crate) fn written_normal_text<K: Kind, P: DefaultPort>(
+pub(crate) fn written_normal_text<K: Kind, S: SchemeRules>(
     alloc: Global,
     core: Core<K, &str>,
-    ports: &P,
+    rules: &S,
 ) -> Result<Normalized, AllocError>
     requires { HasComponentSets K.kind }
     ensures text { IfOk result (λ made.
-        HasNormalText K.kind (P.port_of ports.now) (core_text core.entry)
+        HasNormalText K.kind (S.rules_of rules.now) (core_text core.entry)
         (string_bytes made.text)) }
     ensures at { IfOk result (λ made.
         ArePackedPositionsOf (string_bytes made.text) made.positions) }
     ensures underflow { IfOk result (λ made.
         made.underflows ≡ text_underflows (core_text core.entry)) }
 {
-    let mut text = String::with_capacity(alloc, core.as_str().len())?;
     let scheme = core.scheme();
+    let authority = ruled_authority(core, rules);
+    let path = ruled_path(core, rules);
+    // The path `/` that the rules put in place of an empty one is a byte more.
+    let added = usize::from(has_root_path(core, rules));
+    let mut text = String::with_capacity(alloc, core.as_str().len().saturating_add(added))?;
     let scheme_end = push_scheme(scheme, &mut text)?;
-    let authority = core.authority();
-    let places = push_authority(authority, scheme, ports, &mut text)?;
+    let places = push_authority(authority, scheme, rules, &mut text)?;
     let path_start = text.len();
-    let path = core.path();
     let has_authority = authority.is_some();
     let underflows = push_normal_path(scheme.is_some(), has_authority, path, &mut text)?;
     let path_end = text.len();

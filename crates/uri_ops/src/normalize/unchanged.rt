@@ -15,14 +15,16 @@ ghost use Rattle.uri_ops.specs.Models.Unchanged.{is_literal_byte, is_settled_byt
 ghost use Rattle.uri_ops.specs.Meaning.{host_meaning, meaning_of};
 ghost use Rattle.uri_ops.specs.Normal.{host_text, normal_text};
 ghost use Rattle.uri_ops.specs.Normalizers.{HasNormalText, text_underflows};
+ghost use Rattle.uri_ops.specs.SchemeRules.{meaning_under};
 
-use crate::default_port::DefaultPort;
 use crate::normalize::kept_octets::is_kept;
 use crate::normalize::normal_authority::{is_bracketed, is_port_unchanged};
+use crate::normalize::ruled_parts::{has_default_host, has_root_path, ruled_authority};
 use crate::read_back::are_equal;
 use crate::read_back::literal_back::LiteralBack;
 use crate::read_back::normal_authority::ipv6_host_of;
-use crate::read_back::normal_back::normal_back;
+use crate::read_back::ruled_back::ruled_back;
+use crate::scheme_rules::SchemeRules;
 use uri_parts::core_text::Core;
 use uri_parts::kind::Kind;
 use uri_pct::encoder::Encoder;
@@ -149,13 +151,12 @@ fn unchanged_prefix_len<K: Kind>(core: Core<K, &str>) -> usize
     0
 }
 
-/// Returns `true` only if the normal text of a value is its own. It misses a few such values. It
-/// takes less than writing the normal text, and so normalising asks no more than this.
-#[doc(hidden)]
+/// Returns `true` only if the normal text of a value under the default ports of the rules alone is
+/// its own. It misses a few such values.
 #[inline(always)]
-pub fn is_found_normal<K: Kind, P: DefaultPort>(core: Core<K, &str>, ports: &P) -> bool
-    ensures text { result ≡ true → HasNormalText K.kind (P.port_of ports.now)
-        (core_text core.entry) (core_text core.entry) }
+fn is_found_normal_by_ports<K: Kind, S: SchemeRules>(core: Core<K, &str>, rules: &S) -> bool
+    ensures text { result ≡ true → core_text core.entry
+        ≡ normal_text (meaning_of K.kind (S.rules_of rules.now).ports (core_text core.entry)) }
     ensures underflow { result ≡ true → text_underflows (core_text core.entry) ≡ false }
 {
     let start = unchanged_prefix_len(core);
@@ -169,27 +170,44 @@ pub fn is_found_normal<K: Kind, P: DefaultPort>(core: Core<K, &str>, ports: &P) 
         0
     };
     is_kept(lacks_past_ascii::<K>(), bytes, start, limit)
-        && is_port_unchanged(core.authority(), core.scheme(), ports)
+        && is_port_unchanged(core.authority(), core.scheme(), rules)
+}
+
+/// Returns `true` only if the normal text of a value is its own. It misses a few such values. It
+/// takes less than writing the normal text, and so normalising asks no more than this.
+#[doc(hidden)]
+#[inline(always)]
+pub fn is_found_normal<K: Kind, S: SchemeRules>(core: Core<K, &str>, rules: &S) -> bool
+    ensures text { result ≡ true → HasNormalText K.kind (S.rules_of rules.now)
+        (core_text core.entry) (core_text core.entry) }
+    ensures underflow { result ≡ true → text_underflows (core_text core.entry) ≡ false }
+{
+    // What `as_str` promises of the text is used by the proof.
+    let _text = core.as_str();
+    if !is_found_normal_by_ports(core, rules) {
+        return false;
+    }
+    !has_root_path(core, rules) && !has_default_host(core, rules)
 }
 
 /// Returns whether the normal text of a value, which it reads from its end, is its own.
-fn is_read_normal<K: Kind, P: DefaultPort>(core: Core<K, &str>, ports: &P) -> bool
-    ensures { (result ≡ true) ↔ (normal_text (meaning_of K.kind (P.port_of ports.now)
+fn is_read_normal<K: Kind, S: SchemeRules>(core: Core<K, &str>, rules: &S) -> bool
+    ensures { (result ≡ true) ↔ (normal_text (meaning_under K.kind (S.rules_of rules.now)
         (core_text core.entry)) ≡ core_text core.entry) }
 {
-    let authority = core.authority();
+    let authority = ruled_authority(core, rules);
     let (host, end) = ipv6_host_of(authority);
     are_equal(
-        normal_back(core, authority, core.path(), ports, &host[..end]),
+        ruled_back(core, authority, rules, &host[..end]),
         LiteralBack::copied(core.as_str().as_bytes()),
     )
 }
 
 /// Returns whether the normal text of a value is its own. Takes no memory.
 #[doc(hidden)]
-pub fn is_normal<K: Kind, P: DefaultPort>(core: Core<K, &str>, ports: &P) -> bool
-    ensures { (result ≡ true) ↔ (normal_text (meaning_of K.kind (P.port_of ports.now)
+pub fn is_normal<K: Kind, S: SchemeRules>(core: Core<K, &str>, rules: &S) -> bool
+    ensures { (result ≡ true) ↔ (normal_text (meaning_under K.kind (S.rules_of rules.now)
         (core_text core.entry)) ≡ core_text core.entry) }
 {
-    is_found_normal(core, ports) || is_read_normal(core, ports)
+    is_found_normal(core, rules) || is_read_normal(core, rules)
 }

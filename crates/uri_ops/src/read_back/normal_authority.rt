@@ -13,12 +13,12 @@ ghost use Rattle.uri_ops.specs.Normal.{default_port_of, host_text, normal_author
 ghost use Rattle.uri_ops.specs.Normal.{normal_authority_with_delimiter};
 ghost use Rattle.uri_ops.specs.FromEnd.Addresses.{ipv6_host_of, ipv6_host_text};
 
-use crate::default_port::DefaultPort;
 use crate::normalize::normal_authority::{is_bracketed, port_unless_default};
 use crate::read_back::address_text::ipv6_host;
 use crate::read_back::literal_back::LiteralBack;
 use crate::read_back::octets_back::OctetsBack;
 use crate::read_back::{Joined, ReadBack, join};
+use crate::scheme_rules::SchemeRules;
 use uri_parts::component::{Authority, HostOf, Scheme};
 use uri_pct::encoder::Encoder;
 use uri_pct::pct_enc::EStr;
@@ -114,17 +114,18 @@ fn host_back<'a, U: Encoder, R: Encoder>(
 }
 
 /// Returns the port with its `:`, or nothing if it is absent, empty or the scheme's default.
-fn port_back<'a, U: Encoder, R: Encoder, P: DefaultPort>(
+fn port_back<'a, U: Encoder, R: Encoder, S: SchemeRules>(
     authority: Authority<'a, U, R>,
     scheme: Option<Scheme<'_>>,
-    ports: &P,
+    rules: &S,
 ) -> Joined<LiteralBack<'a>, LiteralBack<'a>>
     ensures { let p = authority_parts (authority_text authority.entry) in
-        let default = default_port_of (P.port_of ports.now) (option_map scheme_text scheme.entry) in
+        let default = default_port_of (S.rules_of rules.now).ports
+        (option_map scheme_text scheme.entry) in
         ⟦<Joined<LiteralBack<'a>, LiteralBack<'a>> as ReadBack>⟧.unread result
         ≡ marked (codes ":") (port_meaning default p.port) [] }
 {
-    match port_unless_default(authority, scheme, ports) {
+    match port_unless_default(authority, scheme, rules) {
         Some(digits) => join(
             LiteralBack::copied(b":"),
             LiteralBack::copied(digits.as_bytes()),
@@ -135,14 +136,14 @@ fn port_back<'a, U: Encoder, R: Encoder, P: DefaultPort>(
 
 /// Returns the authority after its `//`, or nothing if it is absent. `address` is the host's text
 /// if it is an IPv6 address, and else empty.
-pub fn authority_back<'a, U: Encoder, R: Encoder, P: DefaultPort>(
+pub(crate) fn authority_back<'a, U: Encoder, R: Encoder, S: SchemeRules>(
     authority: Option<Authority<'a, U, R>>,
     scheme: Option<Scheme<'_>>,
-    ports: &P,
+    rules: &S,
     address: &'a [u8],
 ) -> AuthorityBack<'a>
     requires { address.now ≡ ipv6_host_of (option_map authority_text authority) }
-    ensures { let default = default_port_of (P.port_of ports.now)
+    ensures { let default = default_port_of (S.rules_of rules.now).ports
         (option_map scheme_text scheme.entry) in
         (kind : Kind) → kind.userinfo ≡ U.set → kind.reg_name ≡ R.set
         → ⟦<AuthorityBack<'a> as ReadBack>⟧.unread result
@@ -156,7 +157,7 @@ pub fn authority_back<'a, U: Encoder, R: Encoder, P: DefaultPort>(
                 part_back(b"", authority.userinfo(), b"@"),
                 join(
                     host_back(authority, address),
-                    port_back(authority, scheme, ports),
+                    port_back(authority, scheme, rules),
                 ),
             ),
         ),

@@ -11,11 +11,11 @@ ghost use Rattle.uri_ops.specs.Meaning.{components_meaning};
 ghost use Rattle.uri_ops.specs.Normal.{normal_scheme, normal_text};
 ghost use Rattle.uri_ops.specs.FromEnd.Addresses.{ipv6_host_of};
 
-use crate::default_port::DefaultPort;
 use crate::read_back::literal_back::LiteralBack;
 use crate::read_back::normal_authority::{AuthorityBack, PartBack, authority_back, part_back};
 use crate::read_back::normal_path::{NormalPathBack, normal_path_back};
 use crate::read_back::{Joined, ReadBack, join};
+use crate::scheme_rules::SchemeRules;
 use uri_parts::component::{Authority, Scheme};
 use uri_parts::core_text::Core;
 use uri_parts::kind::Kind;
@@ -46,17 +46,17 @@ fn scheme_back<'a>(scheme: Option<Scheme<'a>>) -> SchemeBack<'a>
 
 /// Returns the normal text of a value with this authority and this path in place of its own.
 /// `address` is the host's normal text if it is an IPv6 address, and else empty.
-pub fn normal_back<'a, K: Kind, P: DefaultPort>(
+pub(crate) fn normal_back<'a, K: Kind, S: SchemeRules>(
     core: Core<K, &'a str>,
     authority: Option<Authority<'a, K::UserinfoE, K::RegNameE>>,
     path: EStr<'a, K::PathE>,
-    ports: &P,
+    rules: &S,
     address: &'a [u8],
 ) -> NormalBack<'a>
     requires sets { HasComponentSets K.kind }
     requires address { address.now ≡ ipv6_host_of (option_map authority_text authority) }
     ensures { ⟦<NormalBack<'a> as ReadBack>⟧.unread result
-        ≡ normal_text (components_meaning K.kind (P.port_of ports.now)
+        ≡ normal_text (components_meaning K.kind (S.rules_of rules.now).ports
         (record (components (core_text core.entry)) {
           authority = option_map authority_text authority.entry;
           path = text_of path.entry;
@@ -66,7 +66,7 @@ pub fn normal_back<'a, K: Kind, P: DefaultPort>(
     join(
         scheme_back(scheme),
         join(
-            authority_back(authority, scheme, ports, address),
+            authority_back(authority, scheme, rules, address),
             join(
                 normal_path_back(core.has_scheme(), authority.is_some(), path),
                 join(

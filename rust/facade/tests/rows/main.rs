@@ -10,11 +10,11 @@ use fluent_uri::{
     component::{Host, Scheme},
     mend::{Mend, MendError},
     normalize::Normalizer,
-    order::{NormalOrder, SchemeOrder},
+    order::NormalOrder,
     pct_enc::{encoder::*, EStr, EString, Encoder},
     relativize::Relativizer,
     resolve::Resolver,
-    rules::{SchemeNormalizer, SchemeRules},
+    rules::SchemeRules,
     Iri, IriRef, ParseError, Uri, UriRef,
 };
 use std::{
@@ -157,17 +157,12 @@ fn set_port(scheme: &str, port: &str) {
     PORT.set((scheme.to_string(), port.parse().unwrap()));
 }
 
-struct EveryScheme;
-
-impl SchemeRules for EveryScheme {
-    fn empty_path_is_root(&self, _: &Scheme) -> bool {
-        true
-    }
-
-    fn default_host_is_localhost(&self, _: &Scheme) -> bool {
-        true
-    }
-}
+/// The rules of `normalize-by-every-rule`.
+const EVERY_RULE: SchemeRules = SchemeRules {
+    default_port: |_| None,
+    empty_path_is_root: |_| true,
+    default_host_is_localhost: |_| true,
+};
 
 /// The scheme, whether the type needs one or not.
 trait SchemeText {
@@ -252,19 +247,20 @@ fn of_value(ask: &str, kind: &str, text: &str, rest: &[String], words: &mut Word
             }
             "normalize-by-rules" | "normalize-by-rules-strict" => {
                 let strict = ask == "normalize-by-rules-strict";
-                let normalizer = SchemeNormalizer::new().allow_path_underflow(!strict);
-                words.result(normalizer.normalize(&value));
+                let normalizer = Normalizer::new().scheme_rules_with(SchemeRules::STANDARD);
+                words.result(normalizer.allow_path_underflow(!strict).normalize(&value));
             }
             "normalize-by-every-rule" => {
                 set_port("*", "80");
-                let normalizer = SchemeNormalizer::new().default_port_with(row_port);
-                words.result(normalizer.scheme_rules_with(EveryScheme).normalize(&value));
+                let normalizer = Normalizer::new().scheme_rules_with(EVERY_RULE);
+                words.result(normalizer.default_port_with(row_port).normalize(&value));
             }
             "is-normal" | "is-normal-by-rules" => {
-                let is_normal = match ask {
-                    "is-normal" => NormalOrder::new().is_normal(&value),
-                    _ => SchemeOrder::new().is_normal(&value),
+                let rules = match ask {
+                    "is-normal" => SchemeRules::DEFAULT_PORTS,
+                    _ => SchemeRules::STANDARD,
                 };
+                let is_normal = NormalOrder::new().scheme_rules_with(rules).is_normal(&value);
                 words.say(if is_normal { "yes" } else { "no" });
             }
             "strip-fragment" => {

@@ -23,7 +23,10 @@ pub fn of_pair(ask: &str, kind: &str, one: &str, other: &str, rest: &[String], w
             let order = NormalOrder::new().default_port_with(row_port);
             return of_kind!(kind, R => compare!(R, order));
         }
-        "compare-by-rules" => return of_kind!(kind, R => compare!(R, SchemeOrder::new())),
+        "compare-by-rules" => {
+            let order = NormalOrder::new().scheme_rules_with(SchemeRules::STANDARD);
+            return of_kind!(kind, R => compare!(R, order));
+        }
         "swap-as-uris" => {
             let (base, reference) = (Iri::parse(one).unwrap(), IriRef::parse(other).unwrap());
             let (base, reference) = (base.to_uri(), reference.to_uri_ref());
@@ -59,10 +62,11 @@ pub fn of_pair(ask: &str, kind: &str, one: &str, other: &str, rest: &[String], w
                 words.result(resolver.allow_path_underflow(false).resolve(&reference));
             }
             "resolve-normalized" => {
-                words.result(resolver.resolve(&reference).map(|target| target.normalize()));
+                words.result(resolver.resolve_normalized(&reference, &Normalizer::new()));
             }
             "resolve-by-rules" => {
-                words.result(SchemeNormalizer::new().resolve_normalized(&base, &reference));
+                let normalizer = Normalizer::new().scheme_rules_with(SchemeRules::STANDARD);
+                words.result(resolver.resolve_normalized(&reference, &normalizer));
             }
             "resolve-basic" => words.result(BasicResolver::with_base(base).resolve(&reference)),
             "resolve-both" => {

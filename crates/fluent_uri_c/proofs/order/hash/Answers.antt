@@ -5,14 +5,18 @@ use Rattle.std.specs.Result.{result_ok}
 use Rattle.fluent_uri.specs.References.{reference_text}
 use Rattle.fluent_uri_c.specs.Fnv.{fnv_bytes}
 use Rattle.fluent_uri_c.specs.Results.{normal_result}
-use Rattle.fluent_uri_c.proofs.Orders.{hash-of-text}
+use Rattle.fluent_uri_c.proofs.Orders.{form-by-set, hash-of-form, hash-of-text}
 use Rattle.fluent_uri_c.proofs.order.hash.Goals as goal
 
 pub returns-in-Ok-clause-hash : goal.returns-in-Ok-clause-hash
-returns-in-Ok-clause-hash g c = c.finish.ensures ∙ c.hash.ensures
-    ∙ hash-of-text c.args.setting.scheme_rules g.K.Kind.kind c.args.text.now
+returns-in-Ok-clause-hash g c = c.finish.ensures
+    ∙ hash-of-form _ _ _ _
+    (form-by-set _ c.args.rules c.scheme_rules_with.ensures g.K.Kind.kind
+    (reference_text c.in-Ok.value))
+    c.hash.ensures.text
+    ∙ hash-of-text c.args.rules g.K.Kind.kind c.args.text.now
     (reference_text c.in-Ok.value) _ c.in-Ok.ensures.rejected c.in-Ok.ensures.text
     ∙ ap (λ state. fnv_bytes state
-    (reverse (unwrap_or (result_ok (normal_result c.args.setting.scheme_rules g.K.Kind.kind
+    (reverse (unwrap_or (result_ok (normal_result c.args.rules g.K.Kind.kind
     c.args.text.now)) c.args.text.now) ++ 255 ∷ []))
     c.seeded-hasher.ensures

@@ -1,11 +1,29 @@
+use Rattle.std.proofs.Common.{◌∙◌, ap, subst}
+use Rattle.uri_parts.specs.Components.{components}
+use Rattle.uri_ops.specs.NormalTargets.{IsNormalFormOfTarget}
+use Rattle.uri_ops.specs.Resolving.{IsErrorWithUnderflowAllowed}
+use Rattle.uri_ops.specs.RuleSets.{rules_of_set}
+use Rattle.fluent_uri.specs.References.{reference_text}
 use Rattle.fluent_uri_c.proofs.Targets.{normal_resolution-of-target, normal_resolution-of-error, returned-rejection-is-of-error}
 use Rattle.fluent_uri_c.proofs.texts.resolve_normalized_text.Goals as goal
 
 pub returns-in-Ok : goal.returns-in-Ok
 returns-in-Ok g c =
-    normal_resolution-of-target _ _ _ _ _ _ c.strip_fragment.ensures c.in-Ok.ensures.normal
+    let reference = reference_text c.args.reference.now in
+    let normal = reference_text c.in-Ok.target in
+    let base = ap (λ r. reference_text r) c.with_base-resolver.ensures.base in
+    normal_resolution-of-target _ _ _ _ _ _ c.strip_fragment.ensures
+    (subst (λ set. IsNormalFormOfTarget g.K.Base.Kind.kind (rules_of_set set)
+    (reference_text c.strip_fragment.result) reference normal)
+    c.scheme_rules_with-normalizer.ensures.rules
+    (subst (λ b. IsNormalFormOfTarget g.K.Base.Kind.kind _ b reference normal) base
+    c.in-Ok.ensures.normal.target))
 
 pub returns-in-Err : goal.returns-in-Err
 returns-in-Err g c =
     returned-rejection-is-of-error _ _ c.in-Err.error c.from.ensures
-    (normal_resolution-of-error _ _ _ _ _ _ c.strip_fragment.ensures c.in-Err.ensures.refusal)
+    (normal_resolution-of-error _ _ _ _ _ _ c.strip_fragment.ensures
+    (subst (λ b. IsErrorWithUnderflowAllowed (components b)
+    (components (reference_text c.args.reference.now)) c.in-Err.error)
+    (ap (λ r. reference_text r) c.with_base-resolver.ensures.base)
+    c.in-Err.ensures.refusal.refusal))

@@ -5,6 +5,6 @@ pub returns : goal.returns
 returns g c =
     c.put_value_or_report.ensures _
     (rejection_or_result (text_error g.K.Base.Kind.kind c.args.base.now)
-    (normal_target_from c.args.setting.scheme_rules g.K.Base.Kind.kind c.args.base.now
+    (normal_target_from c.args.rules g.K.Base.Kind.kind c.args.base.now
     c.args.reference.now))
     c.normal_target.ensures

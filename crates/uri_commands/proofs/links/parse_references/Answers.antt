@@ -11,17 +11,17 @@ use Rattle.fluent_uri.proofs.Outcomes.{IfErr-of-only-error}
 
 pub returns-in_err-reference-clause-refused : goal.returns-in_err-reference-clause-refused
 returns-in_err-reference-clause-refused c =
-    λ by_rules base is.
+    λ set base is.
     let why = c.in_err-reference.ensures.refused in
     let first = first-error-is-of-this-word uri_ref c.args.reference.now c.args.others.now
     c.loop-word.word-index
     c.word-item.result _ c.loop-word-test.true c.word-item.is c.as_str.ensures.value why.0
     c.loop-word.invariant.of_kind why.2 in
     IfErr-of-only-error (IsErrorOfCommand
-    (Links by_rules base c.args.reference.now (texts c.args.others.now)))
+    (Links set base c.args.reference.now (texts c.args.others.now)))
     c.from_residual-in_err-reference.result c.in_err-reference.field-0.0
     c.from_residual-in_err-reference.ensures.1
-    (subst (IsErrorOfCommand (Links by_rules base c.args.reference.now (texts c.args.others.now)))
+    (subst (IsErrorOfCommand (Links set base c.args.reference.now (texts c.args.others.now)))
     (sym why.1)
     (is, first))
 

@@ -5,7 +5,7 @@ use Rattle.uri_commands.proofs.run.links.Goals as goal
 
 pub returns-clause-refused : goal.returns-clause-refused
 returns-clause-refused g c =
-    failed-output-is-error-of-links c.args.scheme_rules c.args.base.now c.args.reference.now
+    failed-output-is-error-of-links c.args.rules c.args.base.now c.args.reference.now
     (texts c.args.others.now) c.written.result c.in_ok-noted.ensures.base
     c.in_ok-noted.ensures.references c.written.ensures.failed
 

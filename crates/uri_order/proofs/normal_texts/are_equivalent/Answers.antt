@@ -2,10 +2,10 @@ use Rattle.std.proofs.Common.{◌≡◌, refl, sym, ap, ◌∙◌}
 use Rattle.std.proofs.lemmas.Slice.Eq.{bytes_eq-Decides}
 use Rattle.uri_parts.specs.CoreTexts.{core_text}
 use Rattle.uri_ops.proofs.TextKinds.FourKinds.{one-of-four-kinds-has-sets}
-use Rattle.uri_order.specs.NormalForms.{normal_form_under}
+use Rattle.uri_ops.specs.SchemeRules.{meaning_under}
+use Rattle.uri_order.specs.NormalForms.{normal_form}
 use Rattle.uri_order.proofs.Equivalences.{equal_text_is_of_kind, equivalent_if_forms_are_equal}
 use Rattle.uri_order.proofs.normal_texts.are_equivalent.Goals as goal
-use Rattle.uri_rules.specs.Rules.{meaning_under, rules_of}
 
 pub returns-clause-meaning : goal.returns-clause-meaning
 returns-clause-meaning g c =
@@ -13,8 +13,7 @@ returns-clause-meaning g c =
     let one = core_text c.args.one in
     let other = core_text c.args.other in
     equivalent_if_forms_are_equal kind
-    (rules_of (g.P.DefaultPort.port_of c.args.ports.now)
-    (g.S.SchemeRules.roots_of c.args.rules.now) (g.S.SchemeRules.locals_of c.args.rules.now))
+    (g.S.SchemeRules.rules_of c.args.rules.now)
     (one-of-four-kinds-has-sets kind g.met.K.Kind.known) one other
     (equal_text_is_of_kind kind c.as_str.result.now one c.as_str.ensures.text c.as_str.utf8
     c.as_str.ensures.of_kind)
@@ -32,12 +31,10 @@ same_texts g c =
 
 pub returns-then-eq-clause-text : goal.returns-then-eq-clause-text
 returns-then-eq-clause-text g c =
-    let form = normal_form_under g.K.Kind.kind (rules_of (g.P.DefaultPort.port_of c.args.ports.now)
-    (g.S.SchemeRules.roots_of c.args.rules.now) (g.S.SchemeRules.locals_of c.args.rules.now)) in
+    let form = normal_form g.K.Kind.kind (g.S.SchemeRules.rules_of c.args.rules.now) in
     (λ r. ap form (same_texts g c), λ e. refl)
 
 pub returns-then-eq-clause-meaning : goal.returns-then-eq-clause-meaning
 returns-then-eq-clause-meaning g c =
-    let meaning = meaning_under g.K.Kind.kind (rules_of (g.P.DefaultPort.port_of c.args.ports.now)
-    (g.S.SchemeRules.roots_of c.args.rules.now) (g.S.SchemeRules.locals_of c.args.rules.now)) in
+    let meaning = meaning_under g.K.Kind.kind (g.S.SchemeRules.rules_of c.args.rules.now) in
     (λ r. ap meaning (same_texts g c), λ e. refl)

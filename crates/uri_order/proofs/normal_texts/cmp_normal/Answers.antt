@@ -2,16 +2,15 @@ use Rattle.std.proofs.Common.{◌≡◌, refl, sym, ap, ◌∙◌}
 use Rattle.std.proofs.lemmas.Slice.Eq.{bytes_eq-Decides}
 use Rattle.uri_parts.specs.CoreTexts.{core_text}
 use Rattle.uri_ops.proofs.TextKinds.FourKinds.{one-of-four-kinds-has-sets}
-use Rattle.uri_order.specs.NormalForms.{normal_form_under}
+use Rattle.uri_ops.specs.SchemeRules.{meaning_under}
+use Rattle.uri_order.specs.NormalForms.{normal_form}
 use Rattle.uri_order.proofs.Equivalences.{equal_in_order_if_equal, equal_text_is_of_kind, equal_texts_are_equal_in_order, equivalent_if_forms_are_equal}
 use Rattle.uri_order.proofs.normal_texts.cmp_normal.Goals as goal
-use Rattle.uri_rules.specs.Rules.{meaning_under, rules_of}
 
 pub returns-clause-equal : goal.returns-clause-equal
 returns-clause-equal g c =
     let kind = g.K.Kind.kind in
-    let rules = rules_of (g.P.DefaultPort.port_of c.args.ports.now)
-    (g.S.SchemeRules.roots_of c.args.rules.now) (g.S.SchemeRules.locals_of c.args.rules.now) in
+    let rules = g.S.SchemeRules.rules_of c.args.rules.now in
     let one = core_text c.args.one in
     let other = core_text c.args.other in
     equivalent_if_forms_are_equal kind rules
@@ -20,7 +19,7 @@ returns-clause-equal g c =
     c.as_str.ensures.of_kind)
     (equal_text_is_of_kind kind c.as_str-2.result.now other c.as_str-2.ensures.text
     c.as_str-2.utf8 c.as_str-2.ensures.of_kind)
-    (equal_in_order_if_equal (normal_form_under kind rules one) (normal_form_under kind rules other)
+    (equal_in_order_if_equal (normal_form kind rules one) (normal_form kind rules other)
     c.cmp_texts.result c.cmp_texts.ensures)
 
 -- the values have the same text
@@ -33,12 +32,10 @@ same_texts g c =
 
 pub returns-then-eq-clause-order : goal.returns-then-eq-clause-order
 returns-then-eq-clause-order g c =
-    let form = normal_form_under g.K.Kind.kind (rules_of (g.P.DefaultPort.port_of c.args.ports.now)
-    (g.S.SchemeRules.roots_of c.args.rules.now) (g.S.SchemeRules.locals_of c.args.rules.now)) in
+    let form = normal_form g.K.Kind.kind (g.S.SchemeRules.rules_of c.args.rules.now) in
     equal_texts_are_equal_in_order _ _ (ap form (same_texts g c))
 
 pub returns-then-eq-clause-equal : goal.returns-then-eq-clause-equal
 returns-then-eq-clause-equal g c =
-    let meaning = meaning_under g.K.Kind.kind (rules_of (g.P.DefaultPort.port_of c.args.ports.now)
-    (g.S.SchemeRules.roots_of c.args.rules.now) (g.S.SchemeRules.locals_of c.args.rules.now)) in
+    let meaning = meaning_under g.K.Kind.kind (g.S.SchemeRules.rules_of c.args.rules.now) in
     (λ r. ap meaning (same_texts g c), λ e. refl)

@@ -1,6 +1,6 @@
 use Rattle.std.proofs.Common.{refl, subst}
 use Rattle.fluent_uri.specs.Grammar.{IsTextOf, uri, uri_ref}
-use Rattle.fluent_uri.specs.SchemePorts.{default_port}
+use Rattle.fluent_uri.specs.SchemeRules.{default_rules}
 use Rattle.obligations.proofs.laws.equivalence.same_links_after_a_move.Goals as goal
 
 pub returns : goal.returns
@@ -11,5 +11,5 @@ returns c =
     (record { utf8 = c.as_str-new.utf8; grammar = c.as_str-new.ensures.of_kind }) in
     let link = subst (IsTextOf uri_ref) c.as_str-link.ensures.text
     (record { utf8 = c.as_str-link.utf8; grammar = c.as_str-link.ensures.of_kind }) in
-    c.resolving_and_normalising_swap.ensures.alike uri default_port _ _ _ _
+    c.resolving_and_normalising_swap.ensures.alike uri default_rules _ _ _ _
     c.four_kinds_have_component_sets.ensures.uri refl old new link link c.requires refl

@@ -1,6 +1,6 @@
 use Rattle.std.proofs.Common.{refl}
 use Rattle.uri_parts.specs.Ports.{no_defaults}
-use Rattle.uri_ops.proofs.Theorems.{encoded-text-is-of-ascii_kind, encoding-keeps-meaning_of-text}
+use Rattle.uri_ops.proofs.Theorems.{encoded-text-is-of-ascii_kind, encoding-keeps-meaning_of-text, encoding-keeps-meaning_under-text}
 use Rattle.uri_ops.proofs.laws.iri_uri.encoding_past_ascii_keeps_meaning.Goals as goal
 
 pub returns-clause-uri : goal.returns-clause-uri
@@ -17,5 +17,5 @@ returns-clause-bare c = λ kind text sets w. encoding-keeps-meaning_of-text kind
     no_defaults text w
 
 pub returns-clause-meaning : goal.returns-clause-meaning
-returns-clause-meaning c = λ kind ports text sets w. encoding-keeps-meaning_of-text kind sets
-    ports text w
+returns-clause-meaning c = λ kind rules text sets w. encoding-keeps-meaning_under-text kind sets
+    rules text w

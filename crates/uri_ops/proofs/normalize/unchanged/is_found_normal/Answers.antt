@@ -1,74 +1,22 @@
-use Rattle.std.proofs.Common.{◌≡◌, ◌<◌, ◌≤◌, List, ℕ, true, length, arith, ap, option_map, sym, subst, ◌∙◌}
-use Rattle.std.specs.Prelude.{IfSome, is_some}
+use Rattle.std.proofs.Common.{subst, sym, ◌∙◌}
 use Rattle.std.specs.Str.{IsUtf8}
-use Rattle.std.proofs.lemmas.Bool.{both_ways}
-use Rattle.uri_parts.specs.Authority.{authority_parts}
-use Rattle.uri_parts.specs.AuthorityTexts.{authority_text}
-use Rattle.uri_parts.specs.Components.{Components, components}
+use Rattle.std.proofs.lemmas.Bool.{not-true}
 use Rattle.uri_parts.specs.CoreTexts.{core_text}
-use Rattle.uri_parts.specs.Positions.{positions_of}
-use Rattle.uri_ops.specs.Models.Unchanged.{AreUnchanged, IsKept, IsUnchangedPort, IsUnchangedPrefix, stays_at}
-use Rattle.uri_ops.specs.Normal.{default_port_of}
-use Rattle.uri_ops.specs.Normalizers.{text_underflows}
-use Rattle.uri_ops.proofs.Normal.UnchangedPaths.{path-of-text-that-stays-is-unchanged, text-that-stays-is-kept}
-use Rattle.uri_ops.proofs.Normal.UnchangedTexts.{unchanged-text-is-its-normal-text}
+use Rattle.uri_ops.proofs.SchemeRules.RuledParts.{unruled-text-is-its-normal-text}
 use Rattle.uri_ops.proofs.TextKinds.FourKinds.{one-of-four-kinds-has-sets}
 use Rattle.uri_ops.proofs.normalize.unchanged.is_found_normal.Goals as goal
-use Rattle.uri_ops.proofs.normalize.unchanged.is_found_normal.Goals.{then-has_scheme, else-has_scheme}
 
-kept : (g : _) (c : goal.After-is_port_unchanged g) → c.is_kept.result ≡ true
-    → IsKept c.lacks_past_ascii.result (core_text c.args.core)
-    × AreUnchanged (components (core_text c.args.core))
-kept g c e =
-    let text : List ℕ = core_text c.args.core in
-    let p : Components = components text in
-    let alone = c.lacks_past_ascii.result in
-    let start : ℕ = c.unchanged_prefix_len-start.result in
-    let limit : ℕ = c.if-has_scheme.limit in
-    let later : 0 < start = omega (arith, c.if-start-eq0.false) in
-    let prefix : IsUnchangedPrefix text start = c.unchanged_prefix_len-start.ensures later in
-    let stays : (k : ℕ) → start ≤ k → k < length text → stays_at alone limit text k ≡ true =
-    subst (λ t. (k : ℕ) → start ≤ k → k < length t → stays_at alone limit t k ≡ true)
-    (c.as_bytes-bytes.ensures.value ∙ c.as_str.ensures.text) (c.is_kept.ensures e) in
-    let ends : is_some p.scheme ≡ true → limit ≡ (positions_of p).path_end =
-    λ some. elim c.if-has_scheme.branch [
-      | then-has_scheme w ↦ w.limit-is ∙ ap (λ q. q.path_end) w.packed_positions.ensures
-      | else-has_scheme w ↦ absurd (both_ways _ (sym c.has_scheme.ensures ∙ w.if-has_scheme.false)
-          some)
-    ] in (
-      text-that-stays-is-kept alone text start limit later prefix.literal stays,
-      record {
-        scheme = prefix.scheme;
-        host = prefix.host;
-        path = path-of-text-that-stays-is-unchanged alone text start limit later prefix.literal
-            stays prefix.path ends;
-      },
-    )
-
-pub returns-then-is_kept-clause-text : goal.returns-then-is_kept-clause-text
-returns-then-is_kept-clause-text g c = λ e.
-    let kind = g.K.Kind.kind in
-    let text = core_text c.args.core in
-    let ports = g.P.DefaultPort.port_of c.args.ports.now in
-    let both = kept g c c.if-is_kept.true in
-    let port : IfSome (components text).authority (λ a. IsUnchangedPort
-    (default_port_of ports (components text).scheme) (authority_parts a).port) =
-    subst (λ o. IfSome o (λ a. IsUnchangedPort
-    (default_port_of ports (components text).scheme) (authority_parts a).port))
-    c.authority.ensures
-    (subst (λ s. IfSome (option_map authority_text c.authority.result)
-    (λ a. IsUnchangedPort (default_port_of ports s) (authority_parts a).port))
-    c.scheme.ensures (c.is_port_unchanged.ensures e)) in
+pub returns-then-not-has_root_path-clause-text : goal.returns-then-not-has_root_path-clause-text
+returns-then-not-has_root_path-clause-text g c = λ e.
     record {
-      text = unchanged-text-is-its-normal-text kind
-          (one-of-four-kinds-has-sets kind g.met.K.Kind.known) c.lacks_past_ascii.result
-          c.lacks_past_ascii.ensures ports text
+      text = unruled-text-is-its-normal-text g.K.Kind.kind
+          (g.S.SchemeRules.rules_of c.args.rules.now)
+          (one-of-four-kinds-has-sets g.K.Kind.kind g.met.K.Kind.known) (core_text c.args.core)
           (record {
-            utf8 = subst IsUtf8 c.as_str.ensures.text c.as_str.utf8;
+            utf8 = subst IsUtf8 c.as_str-text.ensures.text c.as_str-text.utf8;
             grammar = c.args.core.of_kind;
-          }) both.0 both.1 port;
+          }) (c.is_found_normal_by_ports.ensures.text
+          c.if-not-is_found_normal_by_ports.false)
+          (sym c.has_default_host.ensures ∙ not-true _ e)
+          (sym c.has_root_path.ensures ∙ c.if-not-has_root_path.true);
     }
-
-pub returns-then-is_kept-clause-underflow : goal.returns-then-is_kept-clause-underflow
-unfolding text_underflows
-returns-then-is_kept-clause-underflow g c = λ e. (kept g c c.if-is_kept.true).1.path.underflow

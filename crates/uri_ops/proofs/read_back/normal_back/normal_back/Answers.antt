@@ -17,7 +17,7 @@ use Rattle.uri_ops.proofs.read_back.normal_back.normal_back.Goals as goal
 pub returns : goal.returns
 returns g c =
     let kind = g.K.Kind.kind in
-    let ports = g.P.DefaultPort.port_of c.args.ports.now in
+    let ports = (g.S.SchemeRules.rules_of c.args.rules.now).ports in
     let p : Components = record (components (core_text c.args.core)) {
       authority = option_map authority_text c.args.authority;
       path = text_of c.args.path;

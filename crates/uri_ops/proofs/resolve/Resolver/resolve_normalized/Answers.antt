@@ -1,7 +1,7 @@
 use Rattle.std.proofs.Common.{◌≡◌, refl, sym, ap, subst, string_bytes}
 use Rattle.std.specs.Prelude.{is_ok}
 use Rattle.uri_parts.specs.Grammar.{IsOfKind}
-use Rattle.uri_ops.specs.Normalizers.{ports_of}
+use Rattle.uri_ops.specs.Normalizers.{scheme_rules_of}
 use Rattle.uri_ops.specs.NormalTargets.{IsNormalTarget, IsNormalTargetError}
 use Rattle.uri_ops.specs.Resolving.{base_of}
 use Rattle.uri_ops.specs.declared.resolve.error.ResolveError.TheVariants.{OutOfMemory}
@@ -12,14 +12,14 @@ use Rattle.uri_ops.proofs.resolve.Resolver.resolve_normalized.Goals as goal
 pub returns-in_err-target-clause-refusal : goal.returns-in_err-target-clause-refusal
 returns-in_err-target-clause-refusal g c =
     let kind = g.R.RiMaybeRef.kind in
-    let ports = g.P.DefaultPort.port_of (ports_of c.args.normalizer.now) in
+    let rules = g.S.SchemeRules.rules_of (scheme_rules_of c.args.normalizer.now) in
     let base = g.R.RiMaybeRef.text (base_of c.args.self.now) in
     let reference = g.Q.RiMaybeRef.text c.args.reference.now in
     if-error-from-error-and c.from_residual.result _
-    (IsNormalTargetError kind g.Q.RiMaybeRef.kind ports base reference)
-    (λ error h. subst (IsNormalTargetError kind g.Q.RiMaybeRef.kind ports base reference) (sym h)
+    (IsNormalTargetError kind g.Q.RiMaybeRef.kind rules base reference)
+    (λ error h. subst (IsNormalTargetError kind g.Q.RiMaybeRef.kind rules base reference) (sym h)
     (refusal kind g.Q.RiMaybeRef.kind g.met.R.RiMaybeRef.component_sets g.met.R.Ri.needs_scheme
-    g.met.Q.RefOf.same_tables ports base reference
+    g.met.Q.RefOf.same_tables rules base reference
     c.resolve_to_text.ensures.base c.resolve_to_text.ensures.reference c.in_err-target.field-0.0
     c.in_err-target.ensures.resolved.error))
     c.from_residual.ensures.1
@@ -32,14 +32,14 @@ normalize_string-requires-clause-of_kind g c =
 pub returns-in_err-made-clause-refusal : goal.returns-in_err-made-clause-refusal
 returns-in_err-made-clause-refusal g c =
     let kind = g.R.RiMaybeRef.kind in
-    let ports = g.P.DefaultPort.port_of (ports_of c.args.normalizer.now) in
+    let rules = g.S.SchemeRules.rules_of (scheme_rules_of c.args.normalizer.now) in
     let base = g.R.RiMaybeRef.text (base_of c.args.self.now) in
     let reference = g.Q.RiMaybeRef.text c.args.reference.now in
     if-error-from-error-and c.from_residual-in_err-made.result _
-    (IsNormalTargetError kind g.Q.RiMaybeRef.kind ports base reference)
-    (λ error h. subst (IsNormalTargetError kind g.Q.RiMaybeRef.kind ports base reference) (sym h)
+    (IsNormalTargetError kind g.Q.RiMaybeRef.kind rules base reference)
+    (λ error h. subst (IsNormalTargetError kind g.Q.RiMaybeRef.kind rules base reference) (sym h)
     (refusal kind g.Q.RiMaybeRef.kind g.met.R.RiMaybeRef.component_sets g.met.R.Ri.needs_scheme
-    g.met.Q.RefOf.same_tables ports base reference
+    g.met.Q.RefOf.same_tables rules base reference
     c.resolve_to_text.ensures.base c.resolve_to_text.ensures.reference OutOfMemory
     (ap is_ok c.in_ok-target.ensures.resolved.target.0)))
     c.from_residual-in_err-made.ensures.1
@@ -48,7 +48,7 @@ pub make_owned-requires-clause-of_kind : goal.make_owned-requires-clause-of_kind
 make_owned-requires-clause-of_kind g c =
     (normal-text-is-of-kind g.R.RiMaybeRef.kind g.R.Kind.Kind.kind
     g.met.R.RiMaybeRef.kind_is_its_own
-    g.met.R.RiMaybeRef.component_sets (g.P.DefaultPort.port_of (ports_of c.args.normalizer.now))
+    g.met.R.RiMaybeRef.component_sets (g.S.SchemeRules.rules_of (scheme_rules_of c.args.normalizer.now))
     (string_bytes c.in_ok-target.target.text) (string_bytes c.in_ok-target.target.text)
     (string_bytes c.in_ok-made.made.text)
     refl c.normalize_string.ensures.utf8 c.in_ok-target.ensures.of_kind.grammar
@@ -57,20 +57,20 @@ make_owned-requires-clause-of_kind g c =
 pub returns-clause-normal : goal.returns-clause-normal
 returns-clause-normal g c =
     let kind = g.R.RiMaybeRef.kind in
-    let ports = g.P.DefaultPort.port_of (ports_of c.args.normalizer.now) in
+    let rules = g.S.SchemeRules.rules_of (scheme_rules_of c.args.normalizer.now) in
     let base = g.R.RiMaybeRef.text (base_of c.args.self.now) in
     let reference = g.Q.RiMaybeRef.text c.args.reference.now in
     let owned : g.R.RiMaybeRef.owned_text c.make_owned.result
     ≡ string_bytes c.in_ok-made.made.text = c.make_owned.ensures in
-    subst (IsNormalTarget kind g.Q.RiMaybeRef.kind ports base reference) (sym owned)
+    subst (IsNormalTarget kind g.Q.RiMaybeRef.kind rules base reference) (sym owned)
     (normal-form-of-target-respects-meaning kind g.Q.RiMaybeRef.kind
     g.met.R.RiMaybeRef.component_sets
-    g.met.R.Ri.needs_scheme g.met.Q.RefOf.same_tables ports base reference
+    g.met.R.Ri.needs_scheme g.met.Q.RefOf.same_tables rules base reference
     c.resolve_to_text.ensures.base c.resolve_to_text.ensures.reference
     (string_bytes c.in_ok-target.target.text) (string_bytes c.in_ok-made.made.text)
     c.in_ok-target.ensures.resolved.target.0
     (normal-text-is-normal-form kind g.R.Kind.Kind.kind g.met.R.RiMaybeRef.kind_is_its_own
-    g.met.R.RiMaybeRef.component_sets ports
+    g.met.R.RiMaybeRef.component_sets rules
     (string_bytes c.in_ok-target.target.text) (string_bytes c.in_ok-target.target.text)
     (string_bytes c.in_ok-made.made.text)
     refl c.normalize_string.ensures.utf8 c.in_ok-target.ensures.of_kind.grammar

@@ -1,0 +1,6 @@
+-- What the rules of schemes make of meanings, texts and targets.
+pub mod RuledMeanings
+pub mod RuledTexts
+pub mod RuledParts
+pub mod RuledTargets
+mod RulesRows

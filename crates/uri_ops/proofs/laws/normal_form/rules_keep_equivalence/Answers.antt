@@ -1,0 +1,6 @@
+use Rattle.std.proofs.Common.{ap}
+use Rattle.uri_ops.specs.SchemeRules.{under_rules}
+use Rattle.uri_ops.proofs.laws.normal_form.rules_keep_equivalence.Goals as goal
+
+pub returns : goal.returns
+returns c = λ kind rules t u e. ap (under_rules rules) e

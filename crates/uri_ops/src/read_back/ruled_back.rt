@@ -1,0 +1,38 @@
+//! The normal text of a value under the rules of its scheme, read from its end (RFC 3986, section
+//! 6.2.3).
+ghost use Rattle.std.specs.Prelude.{◌≡◌, option_map};
+ghost use Rattle.uri_parts.specs.AuthorityTexts.{authority_text};
+ghost use Rattle.uri_parts.specs.Components.{components};
+ghost use Rattle.uri_parts.specs.CoreTexts.{core_text};
+ghost use Rattle.uri_ops.specs.FromEnd.Addresses.{ipv6_host_of};
+ghost use Rattle.uri_ops.specs.Models.RuledComponents.{ruled_components};
+ghost use Rattle.uri_ops.specs.Normal.{normal_text};
+ghost use Rattle.uri_ops.specs.SchemeRules.{meaning_under};
+
+use crate::normalize::ruled_parts::ruled_path;
+use crate::read_back::ReadBack;
+use crate::read_back::normal_back::{NormalBack, normal_back};
+use crate::scheme_rules::SchemeRules;
+use uri_parts::component::Authority;
+use uri_parts::core_text::Core;
+use uri_parts::kind::Kind;
+
+/// Returns the normal text of a value under the rules of its scheme. `authority` is what
+/// `ruled_authority` returns for it, and `address` is the normal text of its host if that is an
+/// IPv6 address, and else empty.
+pub fn ruled_back<'a, K: Kind, S: SchemeRules>(
+    core: Core<K, &'a str>,
+    authority: Option<Authority<'a, K::UserinfoE, K::RegNameE>>,
+    rules: &S,
+    address: &'a [u8],
+) -> NormalBack<'a>
+    requires authority { option_map authority_text authority
+        ≡ (ruled_components K.kind (S.rules_of rules.now) (components (core_text core))).authority }
+    requires address { address.now ≡ ipv6_host_of (option_map authority_text authority) }
+    ensures { ⟦<NormalBack<'a> as ReadBack>⟧.unread result
+        ≡ normal_text (meaning_under K.kind (S.rules_of rules.now) (core_text core.entry)) }
+{
+    // What `as_str` promises of the text is used by the proof.
+    let _text = core.as_str();
+    normal_back(core, authority, ruled_path(core, rules), rules, address)
+}

@@ -1,9 +1,0 @@
-pub mod EditedPlaces
-pub mod EditedTexts
-pub mod NormalForms
-pub mod NormalTargets
-pub mod RuledMeanings
-pub mod RuledTargets
-pub mod RuledTexts
-pub mod TargetsOfNormalForms
-mod RulesRows
