@@ -12,6 +12,7 @@ import signal
 import subprocess
 import tempfile
 
+from .copies import link_files
 from .mutant import ONLY_CLAUSE
 
 NAME = r"`([^`]+)`"
@@ -59,7 +60,7 @@ class Room:
             yield self.kept
             return
         with tempfile.TemporaryDirectory(dir=self.sources.parent) as folder:
-            shutil.copytree(self.kept, f"{folder}/kept")
+            link_files(self.kept, f"{folder}/kept")
             yield f"{folder}/kept"
 
     def check(self, functions, texts):

@@ -14,11 +14,12 @@ STORE = pathlib.Path(os.environ.get("XDG_CACHE_HOME") or pathlib.Path.home() / "
 class Passed:
     def __init__(self, rt, root, store=STORE):
         self.rt, self.root, self.store = rt, pathlib.Path(root), store
+        self.kit = [pathlib.Path(rt.KIT, it).read_bytes() for it in ("KIT-ID", "WHAT")]
         self.scripts = [it.read_bytes() for it in sorted(SCRIPTS)]
 
     def entry(self, crate):
         """The file that is there if all mutants of the crate passed as the files are now."""
-        digest = hashlib.sha256(repr((self.rt.kit_sum(), self.scripts)).encode())
+        digest = hashlib.sha256(repr((self.kit, self.scripts)).encode())
         for it in [*crate.below(), crate]:
             digest.update(repr((it.name, it.said)).encode())
             self.add(digest, it.folder, self.rt.rtlib.PARTS)

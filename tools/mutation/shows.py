@@ -13,6 +13,8 @@ import shlex
 import subprocess
 import tempfile
 
+from .copies import copy_crates
+
 COMMANDS = {"parse", "normalize", "resolve", "links", "mend"}
 PROGRAMS = {"uritool", "vectors"}
 # The expected word that no row has, so that each row says what it got.
@@ -47,8 +49,7 @@ class Copy:
 
     def __init__(self, rt, root, folder, texts=None):
         self.folder = pathlib.Path(folder, "repo")
-        rt.copy_crates(str(root), str(self.folder))
-        (self.folder / ".git").mkdir()
+        copy_crates(root, self.folder)
         for path, text in (texts or {}).items():
             (self.folder / "crates" / path).write_text(text, encoding="utf-8")
 
