@@ -1,5 +1,5 @@
 -- The order of normal forms is a total order of the texts that have them.
-use Rattle.std.proofs.Common.{◌≡◌, ◌↔◌, ◌⊎◌, ℕ, List, false, refl, sym, ap, ◌∙◌, inl, inr, Ordering, Less, Equal, Greater, true}
+use Rattle.std.proofs.Common.{◌≡◌, ◌↔◌, ◌⊎◌, ℕ, List, false, refl, sym, ap, inl, inr, Ordering, Less, Equal, Greater, true}
 use Rattle.std.proofs.lemmas.Bool.{false≢true}
 use Rattle.std.specs.Cmp.{IsTotalOrder, tied_itself, upto}
 use Rattle.std.specs.Cmp.Lexicographic.{on_texts}
