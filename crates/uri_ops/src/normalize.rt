@@ -238,12 +238,12 @@ impl<S: SchemeRules> Normalizer<S> {
     /// Returns the normal form of a value (RFC 3986, sections 6.2.2 and 6.2.3). The scheme and the
     /// host are in lower case. Each octet that encodes a decodable character is decoded, and every
     /// other octet has upper-case digits. An empty or default port is left out. If there is a
-    /// scheme, a path that begins with `/` loses its dot segments. If an empty path after an
-    /// authority is `/` under the scheme by the rules, it becomes `/`; if `localhost` is the default
-    /// host of the scheme, an authority that is `localhost` becomes empty. In an IRI the formatting
-    /// characters of bidirectional text, U+200E, U+200F and U+202A to U+202E, become octets,
-    /// whether they were octets or characters (RFC 3987, section 4.1). Two values of a kind have
-    /// the same normal form exactly if they are equivalent under the rules.
+    /// scheme, a path that begins with `/` loses its dot segments. An empty path after an authority
+    /// becomes `/`, if the rules of its scheme say so. An authority that is `localhost` becomes
+    /// empty, if that is the default host of its scheme. In an IRI the formatting characters of
+    /// bidirectional text, U+200E, U+200F and U+202A to U+202E, become octets, whether they were
+    /// octets or characters (RFC 3987, section 4.1). Two values of a kind have the same normal form
+    /// exactly if they are equivalent under the rules.
     ///
     /// With `StandardRules`:
     ///

@@ -171,8 +171,8 @@ pub(crate) fn is_port_unchanged<U: Encoder, R: Encoder, S: SchemeRules>(
 }
 
 /// Returns the port's digits in a normal authority, unless there are none or they write the default
-/// port of the scheme. It asks for the default port only if there is a port that isn't empty. A port over 65535
-/// is no default.
+/// port of the scheme. It asks the rules only if there is a port that isn't empty. A port over
+/// 65535 is no default.
 pub(crate) fn port_unless_default<'a, U: Encoder, R: Encoder, S: SchemeRules>(
     authority: Authority<'a, U, R>,
     scheme: Option<Scheme<'_>>,

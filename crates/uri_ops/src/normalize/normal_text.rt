@@ -127,15 +127,15 @@ pub(crate) fn written_normal_text<K: Kind, S: SchemeRules>(
     ensures underflow { IfOk result (λ made.
         made.underflows ≡ text_underflows (core_text core.entry)) }
 {
-    let scheme = core.scheme();
-    let authority = ruled_authority(core, rules);
-    let path = ruled_path(core, rules);
     // The path `/` that the rules put in place of an empty one is a byte more.
     let added = usize::from(has_root_path(core, rules));
     let mut text = String::with_capacity(alloc, core.as_str().len().saturating_add(added))?;
+    let scheme = core.scheme();
     let scheme_end = push_scheme(scheme, &mut text)?;
+    let authority = ruled_authority(core, rules);
     let places = push_authority(authority, scheme, rules, &mut text)?;
     let path_start = text.len();
+    let path = ruled_path(core, rules);
     let has_authority = authority.is_some();
     let underflows = push_normal_path(scheme.is_some(), has_authority, path, &mut text)?;
     let path_end = text.len();

@@ -79,8 +79,9 @@ fn drops_host<U: Encoder, R: Encoder, S: SchemeRules>(
         (option_map scheme_text scheme.entry) in
         let local = is_scheme_of (S.rules_of rules.now).locals
         (normal_scheme (option_map scheme_text scheme.entry)) in
-        (kind : Kind) → kind.userinfo ≡ U.set → kind.reg_name ≡ R.set → result
-        ≡ (local && is_localhost (authority_meaning kind default (authority_text authority.entry))) }
+        (kind : Kind) → kind.userinfo ≡ U.set → kind.reg_name ≡ R.set
+        → result ≡ (local
+        && is_localhost (authority_meaning kind default (authority_text authority.entry))) }
 {
     if !is_local(scheme, rules) {
         return false;
