@@ -1,9 +1,9 @@
 //! Targets of references against a base.
 use crate::requests::{end, tried};
 use crate::values::is_text;
+use fluent_uri::kind::RefKind;
 use fluent_uri::normalize::Normalizer;
 use fluent_uri::resolve::Resolver;
-use fluent_uri::roles::RefKind;
 use fluent_uri::{Reference, Uri, UriRef};
 use std::alloc::Global;
 use std::convert::AsStr;

@@ -94,8 +94,10 @@ pub mod component {
     pub type IHost<'a> = Host<'a, IRegName>;
 }
 
-/// The four kinds as types. A generic function over `Reference<K, T>` names the trait `Kind`.
+/// The four kinds as types. A generic function over `Reference<K, T>` names the trait `Kind`, or
+/// `BaseKind` for bases, and `RefKind` for the references that are resolved against them.
 pub mod kind {
+    pub use crate::roles::{BaseKind, RefKind};
     pub use uri_parts::kind::{IriKind, IriRefKind, Kind, UriKind, UriRefKind};
 }
 

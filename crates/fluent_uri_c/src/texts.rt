@@ -24,9 +24,9 @@ ghost use Rattle.fluent_uri_c.specs.Results.{normal_resolution, resolution, utf8
 
 use crate::ascii::is_ascii;
 use crate::errors::{Error, Rejection};
+use fluent_uri::kind::{BaseKind, RefKind};
 use fluent_uri::normalize::Normalizer;
 use fluent_uri::resolve::Resolver;
-use fluent_uri::roles::{BaseKind, RefKind};
 use fluent_uri::{Iri, IriRef, Reference, Uri, UriRef};
 use std::alloc::Global;
 use uri_basic::BasicResolver;

@@ -16,7 +16,7 @@ use crate::outcome::{Outcome, put_pieces, put_value, put_value_or_report, report
 use crate::parts::{Parts, write_first_parts};
 use crate::texts::{self, parsed, parsed_reference};
 use fluent_uri::Reference;
-use fluent_uri::roles::{BaseKind, RefKind};
+use fluent_uri::kind::{BaseKind, RefKind};
 use std::alloc::Global;
 use uri_ops::resolve::resolve_to_pieces;
 use uri_ops::resolve::target_pieces::TargetPieces;

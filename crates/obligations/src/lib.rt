@@ -9,6 +9,7 @@
 pub mod addresses;
 pub mod any_kind;
 pub mod authorities;
+pub mod bases;
 pub mod building;
 pub mod characters;
 pub mod components;

@@ -4,7 +4,7 @@ use crate::fields::{RowError, Words};
 use crate::operation::Setting;
 use crate::references::{self, parsed, say_error};
 use fluent_uri::RiMaybeRef;
-use fluent_uri::roles::RefKind;
+use fluent_uri::kind::RefKind;
 use std::alloc::Global;
 use uri_basic::{BasicResolveError, BasicResolver};
 

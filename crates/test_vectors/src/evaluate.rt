@@ -7,9 +7,9 @@ use crate::{
     ascii_hosts, basic, conversions, encoded, mending, orders, references, relative, rules,
 };
 use fluent_uri::component::Scheme;
+use fluent_uri::kind::{BaseKind, RefKind};
 use fluent_uri::net::{IpAddr, Ipv4Addr, Ipv6Addr};
 use fluent_uri::normalize::{DefaultPorts, StandardRules};
-use fluent_uri::roles::{BaseKind, RefKind};
 use std::alloc::Global;
 use std::hash::{DefaultHasher, Hash, Hasher};
 use uri_parts::kind::{self, IriKind, IriRefKind, UriKind, UriRefKind};

@@ -8,10 +8,10 @@ use crate::parsed::{
 use crate::settings::RowPort;
 use fluent_uri::Reference;
 use fluent_uri::component::{Authority, HostOf, Scheme};
+use fluent_uri::kind::RefKind;
 use fluent_uri::normalize::{NormalizeError, Normalizer, SchemeRules};
 use fluent_uri::pct_enc::encoder::Encoder;
 use fluent_uri::resolve::{ResolveError, Resolver};
-use fluent_uri::roles::RefKind;
 use std::alloc::Global;
 use std::convert::{AsStr, TryFrom};
 use std::fmt::Debug;

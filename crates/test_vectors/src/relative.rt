@@ -4,7 +4,7 @@ use crate::basic;
 use crate::fields::{RowError, Words};
 use crate::operation::Setting;
 use crate::references::{self, parsed};
-use fluent_uri::roles::{BaseKind, RefKind};
+use fluent_uri::kind::{BaseKind, RefKind};
 use std::alloc::Global;
 use uri_relative::Relativizer;
 

@@ -4,9 +4,9 @@ use crate::fields::{RowError, Words};
 use crate::operation::Rules;
 use crate::references::{normalized, parsed, say_target};
 use crate::settings::{EveryScheme, RowPort};
+use fluent_uri::kind::RefKind;
 use fluent_uri::normalize::{Normalizer, StandardRules};
 use fluent_uri::resolve::Resolver;
-use fluent_uri::roles::RefKind;
 use std::alloc::Global;
 use uri_parts::kind::Kind;
 

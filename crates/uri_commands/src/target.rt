@@ -11,8 +11,8 @@ ghost use Rattle.uri_commands.specs.Refusals.{IsErrorOfCommand};
 
 use crate::command::BaseName;
 use crate::refusal::CommandError;
+use fluent_uri::kind::RefKind;
 use fluent_uri::resolve::ResolveError;
-use fluent_uri::roles::RefKind;
 use fluent_uri::{Iri, IriRef, Reference, Uri, UriRef};
 use std::alloc::Global;
 

@@ -16,7 +16,7 @@ ghost use Rattle.uri_relative.specs.Leading.{LeadsTo, settled};
 ghost use Rattle.uri_relative.specs.Rule.{reference_components};
 
 use crate::reference::push_reference;
-use fluent_uri::roles::BaseKind;
+use fluent_uri::kind::BaseKind;
 use std::alloc::{AllocError, Global};
 use uri_ops::path::dot_segments::has_dot_segments;
 use uri_ops::path::slashes::begins_with_slash;

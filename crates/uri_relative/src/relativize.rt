@@ -4,7 +4,7 @@ ghost use Rattle.fluent_uri.specs.References.{reference_text};
 ghost use Rattle.uri_relative.specs.Relativized.{IsRelativized};
 
 use crate::relative::relative;
-use fluent_uri::roles::BaseKind;
+use fluent_uri::kind::BaseKind;
 use fluent_uri::{Reference, RiMaybeRef};
 use std::alloc::{AllocError, Global};
 use std::convert::AsStr;
