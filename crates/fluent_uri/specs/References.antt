@@ -8,3 +8,8 @@ use Rattle.fluent_uri.specs.declared.reference.Reference.{Reference}
 abbrev pub reference_text : {K T U N P Q F : _} {k u n p q f t : _}
     → Reference K T U N P Q F k u n p q f t → List ℕ
 reference_text value = core_text value.core
+
+-- the `&str` or `String` that a `Reference` holds
+abbrev pub held_text : {K T U N P Q F : _} {k u n p q f t : _}
+    → Reference K T U N P Q F k u n p q f t → T
+held_text value = value.core.text

@@ -100,12 +100,13 @@ impl<K: Kind, T: AsStr> WithOwned for Reference<K, T> {
 
 impl<K: Kind, T: AsStr> Reference<K, T> {
     ghost use Rattle.uri_parts.specs.CoreTexts.{core_text};
-    ghost use Rattle.fluent_uri.specs.References.{reference_text};
+    ghost use Rattle.fluent_uri.specs.References.{held_text, reference_text};
 
     /// Returns the reference that has this text and these positions.
     #[doc(hidden)]
     pub fn of_core(core: Core<K, T>) -> Self
-        ensures { reference_text result ≡ core_text core }
+        ensures text { reference_text result ≡ core_text core }
+        ensures held { held_text result ≡ core.text }
     {
         Reference { core }
     }

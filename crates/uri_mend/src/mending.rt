@@ -8,7 +8,7 @@ ghost use Rattle.uri_parts.specs.Errors.{IsErrorIn};
 ghost use Rattle.uri_parts.specs.Grammar.{IsOfKind, is_of_kind};
 ghost use Rattle.uri_parts.specs.PackedPositions.{ArePackedPositionsOf};
 ghost use Rattle.uri_parts.specs.Refusals.{refusal};
-ghost use Rattle.fluent_uri.specs.References.{reference_text};
+ghost use Rattle.fluent_uri.specs.References.{held_text, reference_text};
 ghost use Rattle.uri_mend.specs.declared.error.MendError.TheVariants.{OutOfMemory};
 ghost use Rattle.uri_mend.specs.Links.{IsLink};
 ghost use Rattle.uri_mend.specs.Mended.{IsMended};
@@ -244,9 +244,9 @@ fn mended_string<K: Kind>(
         (reference_text made)) }
     ensures refused { IfErr result (λ rejected.
         IsMendErrorOf K.kind (string_bytes text) rejected.0) }
-    ensures back { IfErr result (λ rejected. string_bytes rejected.1 ≡ string_bytes text) }
+    ensures back { IfErr result (λ rejected. rejected.1 ≡ text) }
     ensures kept { IsOfKind K.kind (string_bytes text)
-        → IsOkAnd result (λ made. reference_text made ≡ string_bytes text) }
+        → IsOkAnd result (λ made. held_text made ≡ text) }
 {
     let error = match parsed::<K>(text.as_str()) {
         Ok(core) => {
@@ -298,20 +298,20 @@ pub trait Mend<K: Kind> {
             IsMended K.kind text.now (reference_text made)) }
         ensures refused { IfErr result (IsMendErrorOf K.kind text.now) };
 
-    /// Returns the reference that an owned text is mended to, as `mend` does. A text of the kind is
-    /// returned as it is, whatever memory there is.
+    /// Returns the reference that an owned text is mended to, as `mend` does. That of a text of the
+    /// kind holds the same `String`, whatever memory there is.
     ///
     /// # Errors
     ///
-    /// Those of `mend`, each with the text as it was, and none for a text of the kind.
+    /// Those of `mend`, each with the `String` that was given, and none for a text of the kind.
     fn mend_owned(alloc: Global, text: String) -> Result<Reference<K, String>, (MendError, String)>
         ensures mended { IfOk result (λ made.
             IsMended K.kind (string_bytes text) (reference_text made)) }
         ensures refused { IfErr result (λ rejected.
             IsMendErrorOf K.kind (string_bytes text) rejected.0) }
-        ensures back { IfErr result (λ rejected. string_bytes rejected.1 ≡ string_bytes text) }
+        ensures back { IfErr result (λ rejected. rejected.1 ≡ text) }
         ensures kept { IsOfKind K.kind (string_bytes text)
-            → IsOkAnd result (λ made. reference_text made ≡ string_bytes text) };
+            → IsOkAnd result (λ made. held_text made ≡ text) };
 
     /// Returns the reference that a link of a page is mended to: `mend` of what `trim_link` leaves.
     ///

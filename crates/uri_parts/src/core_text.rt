@@ -1,5 +1,5 @@
 //! A text of a kind with the positions of its components: what every value of a kind holds.
-ghost use Rattle.std.specs.Prelude.{◌≡◌, ◌↔◌, [], IfErr, IfOk, IsOk, None, Some};
+ghost use Rattle.std.specs.Prelude.{◌≡◌, ◌↔◌, [], IfErr, IfOk, IsOk, MatchResult, None, Some};
 ghost use Rattle.std.specs.Prelude.{is_some, option_map, true};
 ghost use Rattle.std.specs.Result.{result_err};
 ghost use Rattle.std.specs.Str.{IsUtf8};
@@ -75,7 +75,8 @@ impl<K: Kind, T: AsStr> Core<K, T> {
     pub fn new(text: T, positions: PackedPositions) -> Self
         requires of_kind { IsOfKind K.kind (T.text text) }
         requires at { ArePackedPositionsOf (T.text text) positions }
-        ensures { core_text result ≡ T.text text }
+        ensures text { core_text result ≡ T.text text }
+        ensures held { result.text ≡ text }
     {
         Core {
             text,
@@ -95,6 +96,7 @@ impl<K: Kind, T: AsStr> Core<K, T> {
         ensures refused { IfErr result (λ refused.
             refusal K.kind (T.text text) ≡ Some refused.0) }
         ensures back { IfErr result (λ refused. T.text refused.1 ≡ T.text text) }
+        ensures held { MatchResult result (λ core. core.text ≡ text) (λ refused. refused.1 ≡ text) }
     {
         match parse::<K>(text.as_str()) {
             Ok(positions) => Ok(Core::new(text, positions)),

@@ -1,6 +1,6 @@
 //! Calls of a reference that owns its text.
-ghost use Rattle.std.specs.Prelude.{◌↔◌, ◌≡◌, IfErr, IfOk, IsOk, None, OnErr, OnOk};
-ghost use Rattle.std.specs.Prelude.{Some, option_map, string_bytes};
+ghost use Rattle.std.specs.Prelude.{◌↔◌, ◌≡◌, IfErr, IfOk, IsOk, MatchResult, None, OnErr};
+ghost use Rattle.std.specs.Prelude.{OnOk, Some, option_map, string_bytes};
 ghost use Rattle.std.specs.Result.{result_err};
 ghost use Rattle.uri_pct.specs.EncodedTexts.{text_of};
 ghost use Rattle.uri_parts.specs.AuthorityTexts.{authority_text};
@@ -9,7 +9,7 @@ ghost use Rattle.uri_parts.specs.Errors.{IsErrorIn};
 ghost use Rattle.uri_parts.specs.Fragments.{IsWithFragment};
 ghost use Rattle.uri_parts.specs.Grammar.{IsOfKind};
 ghost use Rattle.uri_parts.specs.Refusals.{refusal};
-ghost use Rattle.fluent_uri.specs.References.{reference_text};
+ghost use Rattle.fluent_uri.specs.References.{held_text, reference_text};
 
 use crate::reference::Reference;
 use std::alloc::AllocError;
@@ -39,6 +39,9 @@ impl<K: Kind> Reference<K, String> {
         ensures refused { IfErr result (λ refused.
             refusal K.kind (string_bytes text) ≡ Some refused.0) }
         ensures back { IfErr result (λ refused. string_bytes refused.1 ≡ string_bytes text) }
+        // The `String` itself, its buffer and its capacity, is held or comes back.
+        ensures held { MatchResult result (λ value. held_text value ≡ text)
+            (λ refused. refused.1 ≡ text) }
     {
         match Core::parse(text) {
             Ok(core) => Ok(Reference { core }),
@@ -108,7 +111,8 @@ impl<K: Kind> Reference<K, String> {
     /// visits.insert(normal, count)?;
     /// ```
     pub fn into_string(self) -> String
-        ensures { string_bytes result ≡ reference_text self }
+        ensures text { string_bytes result ≡ reference_text self }
+        ensures held { result ≡ held_text self }
     {
         self.core.into_string()
     }

@@ -29,7 +29,8 @@ impl<K: Kind> Core<K, String> {
 
     /// Returns the text as a `String`, without a copy.
     pub fn into_string(self) -> String
-        ensures { string_bytes result ≡ core_text self }
+        ensures text { string_bytes result ≡ core_text self }
+        ensures held { result ≡ self.text }
     {
         self.text
     }

@@ -7,5 +7,5 @@ use Rattle.uri_idna.proofs.references.copied.Goals as goal
 pub returns-clause-text : goal.returns-clause-text
 returns-clause-text g c =
     text-without-authority-stays (core_text c.args.core) c.requires
-    ∙ ap Some (sym (c.of_core.ensures ∙ c.of_text.ensures ∙ c.in_ok-text.ensures.ok
+    ∙ ap Some (sym (c.of_core.ensures.text ∙ c.of_text.ensures ∙ c.in_ok-text.ensures.ok
     ∙ c.as_str.ensures.text))

@@ -31,7 +31,7 @@ returns-clause-others g c =
     (core_text c.args.core) old host
     (record { utf8 = c.borrow-own.ensures.utf8; grammar = c.borrow-own.ensures.of_kind })
     c.requires.authority c.requires.host (reference_text c.of_core.result)
-    (c.of_core.ensures ∙ c.of_text.ensures ∙ c.in_ok-text.ensures
+    (c.of_core.ensures.text ∙ c.of_text.ensures ∙ c.in_ok-text.ensures
     ∙ ap (λ t. recompose (with_authority (components t) (with_host old host)))
     c.borrow-own.ensures.text)
 
@@ -44,6 +44,6 @@ returns-clause-text g c =
     (core_text c.args.core) old host
     (record { utf8 = c.borrow-own.ensures.utf8; grammar = c.borrow-own.ensures.of_kind })
     c.requires.authority c.requires.host (reference_text c.of_core.result)
-    (c.of_core.ensures ∙ c.of_text.ensures ∙ c.in_ok-text.ensures
+    (c.of_core.ensures.text ∙ c.of_text.ensures ∙ c.in_ok-text.ensures
     ∙ ap (λ t. recompose (with_authority (components t) (with_host old host)))
     c.borrow-own.ensures.text)

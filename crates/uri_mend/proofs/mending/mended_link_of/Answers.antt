@@ -29,4 +29,4 @@ returns-in-Ok-clause-mended g c =
     let kind = g.K.Kind.kind in
     let sets = one-of-four-kinds-has-sets kind g.met.K.Kind.known in
     equal-to-mended-text-is-mended kind sets c.args.text.now c.utf8.text _ c.requires.mendable
-    (c.of_core.ensures ∙ c.new.ensures ∙ c.in-Ok.ensures.text)
+    (c.of_core.ensures.text ∙ c.new.ensures.text ∙ c.in-Ok.ensures.text)

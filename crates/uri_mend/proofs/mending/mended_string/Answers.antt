@@ -12,4 +12,4 @@ returns-in-Ok-clause-mended g c =
     equal-to-text-of-kind-is-mended kind sets (string_bytes c.args.text)
     (IsUtf8-string_bytes c.args.text) _
     (subst (IsOfKind kind) (c.in-Ok.ensures.text ∙ c.as_str.ensures.value) c.in-Ok.core.of_kind)
-    (c.of_core.ensures ∙ c.new.ensures)
+    (c.of_core.ensures.text ∙ c.new.ensures.text)
