@@ -59,7 +59,6 @@ fn parsed_normal_form<K: Kind>(
 /// # Errors
 ///
 /// Returns an error only if allocation fails.
-#[tactic(auto, using(crate::proofs::NormalForms::normal_form_is))]
 pub fn normal_form<K: Kind>(
     alloc: Global,
     value: &Reference<K, &str>,

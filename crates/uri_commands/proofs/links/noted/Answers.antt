@@ -1,5 +1,6 @@
-use Rattle.std.proofs.Common.{rules, ◌≡◌, ◌∷◌, map}
+use Rattle.std.proofs.Common.{rules, ◌≡◌, ◌∷◌, ◌∙◌, ap, map}
 use Rattle.fluent_uri.specs.Grammar.{uri}
+use Rattle.fluent_uri.specs.RuleSets.{rules_of_set}
 use Rattle.fluent_uri.specs.Uris.{uri_ref_text, uri_text}
 use Rattle.uri_commands.specs.Commands.{Links, texts}
 use Rattle.uri_commands.specs.Refusals.{IsErrorOfCommand}
@@ -22,5 +23,6 @@ returns-clause-lines c =
     let base : uri_text c.in_ok-base.base ≡ c.args.base.now = search rules in
     let references : map uri_ref_text c.as_slice.result.now
     ≡ c.args.reference.now ∷ texts c.args.others.now = search rules in
-    outcome_lines-are-link_lines c.args.rules _ _ _ _ _ _ _ _ c.new-register.ensures.rules
-    base c.new-register.ensures.empty references c.in_ok-outcomes.ensures.noted
+    let ruled = c.new-register.ensures.rules ∙ ap rules_of_set c.scheme_rules_with.ensures.rules in
+    outcome_lines-are-link_lines c.args.rules _ _ _ _ _ _ _ _ ruled base
+    c.new-register.ensures.empty references c.in_ok-outcomes.ensures.noted
