@@ -18,7 +18,7 @@ impl SchemeRules for RowPort<'_> {
     ghost use Rattle.fluent_uri.specs.Schemes.{lowered_scheme};
 
     ghost rules_of = { λ row. only_ports (λ scheme.
-        if option_map_or true (λ one. pointwise ◌==◌ (lowered_scheme one) scheme) row.scheme
+        if option_map_or (λ one. pointwise ◌==◌ (lowered_scheme one) scheme) row.scheme true
         then Some row.port else None) };
 
     /// Returns the port that the row gives to the scheme, if it gives one.
