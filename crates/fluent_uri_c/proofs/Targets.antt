@@ -82,7 +82,7 @@ pub normal_resolution-of-target : (set : RuleSet) (kind : Kind)
 unfolding normal_resolution normal_of normal_form_of
 normal_resolution-of-target set kind base bare reference normal is found =
     ap (normal_of set kind) (resolution-of-target base bare reference found.0 is found.1.0)
-    ∙ ap Ok (sym found.1.1.text)
+    ∙ ap Ok (sym found.1.1.text.text)
 
 -- exports for C: an error of resolving is the one that the contract defines, or that memory is out
 pub normal_resolution-of-error : (set : RuleSet) (kind : Kind) (base bare reference : List ℕ)

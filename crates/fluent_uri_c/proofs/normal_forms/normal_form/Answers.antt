@@ -11,5 +11,5 @@ returns-then-is_own_normal_form g c =
 pub returns : goal.returns
 returns g c =
     normal_result-of-normal-form _ _ _ _ _ c.in_ok-value.ensures.rejected
-    c.in_ok-value.ensures.text c.in_ok-normalize.ensures
+    c.in_ok-value.ensures.text c.in_ok-normalized.ensures
     ∙ ap Ok (sym c.made.ensures)

@@ -1,6 +1,7 @@
 use Rattle.std.proofs.Common.{◌∙◌, ap, subst}
 use Rattle.uri_parts.specs.Components.{components}
 use Rattle.uri_ops.specs.NormalTargets.{IsNormalFormOfTarget}
+use Rattle.uri_ops.specs.Normalizers.{scheme_rules_of}
 use Rattle.uri_ops.specs.Resolving.{IsErrorWithUnderflowAllowed}
 use Rattle.uri_ops.specs.RuleSets.{rules_of_set}
 use Rattle.fluent_uri.specs.References.{reference_text}
@@ -9,15 +10,19 @@ use Rattle.fluent_uri_c.proofs.texts.resolve_normalized_text.Goals as goal
 
 pub returns-in-Ok : goal.returns-in-Ok
 returns-in-Ok g c =
+    let kind = g.K.Base.Kind.kind in
+    let bare = reference_text c.strip_fragment.result in
     let reference = reference_text c.args.reference.now in
     let normal = reference_text c.in-Ok.target in
-    let base = ap (λ r. reference_text r) c.with_base-resolver.ensures.base in
-    normal_resolution-of-target _ _ _ _ _ _ c.strip_fragment.ensures
-    (subst (λ set. IsNormalFormOfTarget g.K.Base.Kind.kind (rules_of_set set)
-    (reference_text c.strip_fragment.result) reference normal)
-    c.scheme_rules_with-normalizer.ensures.rules
-    (subst (λ b. IsNormalFormOfTarget g.K.Base.Kind.kind _ b reference normal) base
-    c.in-Ok.ensures.normal.target))
+    let given = scheme_rules_of c.scheme_rules_with-normalizer.result in
+    let found : IsNormalFormOfTarget kind (rules_of_set given) bare reference normal =
+    subst (λ b. IsNormalFormOfTarget kind (rules_of_set given) b reference normal)
+    (ap (λ r. reference_text r) c.with_base-resolver.ensures.base)
+    c.in-Ok.ensures.normal.target in
+    normal_resolution-of-target c.args.rules kind (reference_text c.args.base.now) bare reference
+    normal c.strip_fragment.ensures
+    (subst (λ set. IsNormalFormOfTarget kind (rules_of_set set) bare reference normal)
+    c.scheme_rules_with-normalizer.ensures.rules found)
 
 pub returns-in-Err : goal.returns-in-Err
 returns-in-Err g c =
