@@ -1,5 +1,5 @@
 -- The text and the end of a line that its end byte ends.
-use Rattle.std.proofs.Common.{◌≡◌, ◌<◌, ◌≤◌, ◌+◌, ◌-◌, ℕ, Bool, true, false, cond, List, [], ◌∷◌, refl, ap, sym, ◌∙◌, arith, drop, get_or, get_or-take, length, length-take-le, ltb-true, ltb-false, eqb-true, take, take-take, take_all}
+use Rattle.std.proofs.Common.{◌≡◌, ◌<◌, ◌≤◌, ◌-◌, ℕ, Bool, true, false, cond, List, [], ◌∷◌, refl, ap, sym, ◌∙◌, arith, drop, get_or, get_or-take, length, length-take-le, ltb-true, ltb-false, eqb-true, take, take-take, take_all}
 use mir.Val.{bool_byte}
 use Rattle.std.specs.Io.BufRead.{ends_with_byte, strip_last}
 use Rattle.std.specs.Prelude.{◌&&◌, ◌==◌, nat_lt, not}

@@ -1,4 +1,4 @@
-use Rattle.std.proofs.Common.{◌≡◌, ℕ, List, [], ap, refl, subst, sym, ◌∙◌}
+use Rattle.std.proofs.Common.{ℕ, List, [], ap, refl, subst, ◌∙◌}
 use Rattle.fluent_uri.specs.RuleSets.{rules_of_set}
 use Rattle.uri_commands.proofs.NormalForms.{normal_form_is}
 use Rattle.uri_commands.specs.Kinds.{normal_form_of}
