@@ -19,7 +19,8 @@ export LIBRARY
     does 'the random texts cannot be built' cc -std=c99 -O1 -I"$root/c/include" \
         "$root/postgres/tests/fuzz_rows.c" "$LIBRARY" -o "$work/fuzz_rows"
     "$work/fuzz_rows" 100000 1 | cut -f 4,6 > "$work/forms"
-    grep '^    ("' "$root/crates/uri_parts/src/default_ports.rt" >> "$work/forms"
+    sed -n 's/^    .*(codes \(".*", [0-9]*\))$/    (\1),/p' \
+        "$root/crates/uri_parts/specs/SchemePorts.antt" >> "$work/forms"
     rules=$(sed -n '/^rooted_schemes =/,/^$/p; /^local_schemes =/,/^$/p' \
         "$root/crates/uri_ops/specs/StandardRules.antt" | sha256sum)
     version=$(sed -n 's/^#define FLUENT_URI_NORMAL_VERSION //p' "$root/c/include/fluent_uri.h")
@@ -27,7 +28,7 @@ export LIBRARY
     [ "$now" = "$(cat "$root/databases/forms")" ] ||
         fail "normal forms are not those of databases/forms: raise normal_version of \
 crates/fluent_uri_c and FLUENT_URI_NORMAL_VERSION of the header, and write the \
-number and these digests there: ${now#* }"
+number and these digests there: ${now#* } (docs/DESIGN.md, \"What a normal form is\")"
 }
 
 of_sqlite='the extension of SQLite'

@@ -121,9 +121,9 @@ impl Scheme {
         &self.text
     }
 
-    /// Returns the default port of the scheme (RFC 3986, section 3.2.3), if it is one of the 44
-    /// with a port whose registration at IANA is permanent. The case of letters makes no
-    /// difference.
+    /// Returns the default port of the scheme (RFC 3986, section 3.2.3), if it is one of the
+    /// table below: those with a port whose registration at IANA was permanent. The case of
+    /// letters makes no difference.
     ///
     /// | Port | Schemes |
     /// |---|---|
