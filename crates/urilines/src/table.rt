@@ -1,6 +1,6 @@
 //! The commands and options of `urilines`, a row each. The parser is made from the rows, and so are
-//! the manual pages of `urilines` and `uritool`, by `tools/manual`: the comment of a row is its entry
-//! there.
+//! the manual pages of `urilines` and `uritool`, by `tools/manual`: the comment of a row is its
+//! entry there.
 
 /// The words for the four kinds.
 pub static KINDS: [&str; 4] = ["uri", "uri-ref", "iri", "iri-ref"];
