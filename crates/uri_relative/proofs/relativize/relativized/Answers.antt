@@ -30,7 +30,7 @@ returns g c =
     let reference = reference_text c.of_core.result in
     let of_base = c.core.ensures.text in
     let of_target = c.core-2.ensures.text in
-    let of_made = c.of_core.ensures ∙ c.new.ensures in
+    let of_made = c.of_core.ensures.text ∙ c.new.ensures.text in
     let leads = subst (λ b. IsReferenceTo kind prefers b (settled (core_text c.core-2.result))
     (components made)) c.of_core-base.ensures.components c.in_ok-made.ensures.leads in
     record {

@@ -35,6 +35,6 @@ returns-clause-result g c =
     let kind = g.K.Kind.kind in
     let text = c.args.text.now in
     let form : List ℕ → LineResult = λ t. Text (normal_form_of c.args.rules kind t) in
-    ap Text (c.into_string.ensures ∙ c.in_ok-normal_form.ensures)
+    ap Text (c.into_string.ensures.text ∙ c.in_ok-normal_form.ensures)
     ∙ ap form c.in-Ok.ensures.text
     ∙ parsed_result-of-kind [] kind text (form text) c.in-Ok.ensures.accepts

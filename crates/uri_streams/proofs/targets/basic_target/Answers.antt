@@ -6,7 +6,7 @@ use Rattle.uri_streams.proofs.targets.basic_target.Goals as goal
 
 pub returns-in-Ok : goal.returns-in-Ok
 returns-in-Ok g c =
-    ap Text c.into_string.ensures
+    ap Text c.into_string.ensures.text
     ∙ basic_target_result-of-target _ _ _ _ (ap reference_text c.with_base.ensures)
     c.in-Ok.ensures.target
 

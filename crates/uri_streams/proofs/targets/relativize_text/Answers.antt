@@ -12,7 +12,7 @@ returns-in_ok-reference-in-Ok g c =
     let base = reference_text c.args.base.now in
     let target = reference_text c.in-Ok.target in
     let relativizer = c.prefer_relative_path-relativizer in
-    ap Text (c.into_string.ensures ∙ c.in_ok-reference-in-Ok.ensures.text
+    ap Text (c.into_string.ensures.text ∙ c.in_ok-reference-in-Ok.ensures.text
     ∙ ap (λ b. reference_to b (reference_text relativizer.result.base) target)
     relativizer.ensures.prefers
     ∙ ap (λ b. reference_to c.args.prefers (reference_text b) target)

@@ -5,7 +5,7 @@ use Rattle.uri_streams.proofs.targets.target.Goals as goal
 
 pub returns-in-Ok : goal.returns-in-Ok
 returns-in-Ok g c =
-    ap Text c.into_string.ensures ∙ target_result-of-target _ _ _ c.in-Ok.ensures.target
+    ap Text c.into_string.ensures.text ∙ target_result-of-target _ _ _ c.in-Ok.ensures.target
 
 pub returns-in-Err : goal.returns-in-Err
 returns-in-Err g c =
