@@ -1,5 +1,5 @@
 -- The origin of a URI, in ASCII: RFC 6454, sections 4 and 6.2.
-use Rattle.std.specs.Prelude.{ℕ, ◌++◌, ◌==◌, ◌&&◌, Bool, true, false, List, [], codes, decimal, length, nat_lt, Option, Some, None, Ok, is_some, option_map, if◌then◌else◌}
+use Rattle.std.specs.Prelude.{ℕ, ◌++◌, ◌==◌, ◌&&◌, Bool, true, List, [], codes, decimal, length, nat_lt, Option, Some, None, Ok, is_some, option_map, if◌then◌else◌}
 use Rattle.std.specs.Option.{option_map_or}
 use Rattle.std.specs.Str.{str_to_ascii_lowercase}
 use Rattle.fluent_uri.specs.Authority.{AuthorityParts, authority_parts}

@@ -1,4 +1,4 @@
-use Rattle.std.proofs.Common.{◌∙◌, ap, subst}
+use Rattle.std.proofs.Common.{ap, subst}
 use Rattle.uri_parts.specs.Components.{components}
 use Rattle.uri_ops.specs.NormalTargets.{IsNormalFormOfTarget}
 use Rattle.uri_ops.specs.Normalizers.{scheme_rules_of}

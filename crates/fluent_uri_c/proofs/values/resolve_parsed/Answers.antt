@@ -1,4 +1,4 @@
-use Rattle.std.proofs.Common.{◌≡◌, Bool, List, ℕ, false, subst, sym, true}
+use Rattle.std.proofs.Common.{List, ℕ, subst, sym}
 use Rattle.fluent_uri.specs.References.{reference_text}
 use Rattle.fluent_uri_c.specs.declared.parts.Parts.{Parts}
 use Rattle.fluent_uri_c.specs.Results.{basic_resolution, resolution, resolution_by, takes_memory_for_target}
