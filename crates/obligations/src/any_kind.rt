@@ -64,9 +64,9 @@ pub fn port_for<S: SchemeRules>(rules: Option<&S>, scheme: Scheme<'_>) -> Option
     }
 }
 
-/// A caller asks rules whether an authority alone may be a normal form under a scheme.
-pub fn may_be_authority_alone<S: SchemeRules>(rules: &S, scheme: Scheme<'_>) -> bool {
-    !rules.empty_path_is_root(scheme) && !rules.default_host_is_localhost(scheme)
+/// A caller learns whether rules have more for a scheme than a default port.
+pub fn has_more_than_a_port<S: SchemeRules>(rules: &S, scheme: Scheme<'_>) -> bool {
+    rules.empty_path_is_root(scheme) || rules.default_host_is_localhost(scheme)
 }
 
 /// A caller keeps a reference that is borrowed.
