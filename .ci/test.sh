@@ -108,19 +108,19 @@ must 'the line before the last' 'test: this is tested and not proved; ./check pr
 must 'how many rows and tests' 1 "$(tr -d , < "$work/out" |
     grep -c "^test: $rows rows $functions test functions")"
 must 'a line for each thing that is done' 1 \
-    "$(grep -c '^test: conformance: [0-9]* passed, 0 failed, ' "$work/err")"
+    "$(grep -c '^test: integration_tests: [0-9]* passed, 0 failed, ' "$work/err")"
 must 'the libraries are compiled' compiled "$(grep -x compiled "$work/ran")"
-must 'each crate of tests is run once' 'alloc_failure cli_tests conformance stream_tests' \
-    "$(grep -x -e 'alloc_failure' -e '.*_tests' -e conformance "$work/ran" | sort | paste -sd ' ')"
+must 'each crate of tests is run once' 'alloc_failure integration_tests' \
+    "$(grep -x -e 'alloc_failure' -e '.*_tests' "$work/ran" | sort | paste -sd ' ')"
 must 'C and Python are not run' 1 "$(grep -c '^test: not run: C and Python, since ' "$work/out")"
 find . | sort > "$work/after"
 must 'nothing is left in the tree' '' "$(diff "$work/before" "$work/after")"
 must 'nothing is left beside it' '' "$(ls "$work/tmp")"
 
-export FAILS=conformance
+export FAILS=alloc_failure
 does 1 "$((all - 1)) passed, 1 failed"
-says 'the function that failed' 'conformance: test wrong ... FAILED'
-says 'why it failed' 'conformance:     checked: fault: what it met'
+says 'the function that failed' 'alloc_failure: test wrong ... FAILED'
+says 'why it failed' 'alloc_failure:     checked: fault: what it met'
 FAILS=vectors
 does 1 "$((all - 2)) passed, 2 failed"
 must 'the row that differs' 2 "$(grep -c ': fail normal.txt:7: expected a, got b$' "$work/out")"
@@ -128,9 +128,9 @@ FAILS=urilines
 does 1 '0 passed, 1 failed' urilines
 says 'the output that differs' 'urilines: another output than that of the file stdout:'
 unset FAILS
-count=$(cat crates/stream_tests/src/*.rt | grep -c '^#\[test\]$')
-CRASHES=stream_tests does 1 "0 passed, $count failed" stream_tests
-says 'what the compiler says' 'stream_tests: src/lib.rt:1:1: error[any]: what the compiler says'
+count=$(cat crates/integration_tests/src/*.rt | grep -c '^#\[test\]$')
+CRASHES=integration_tests does 1 "0 passed, $count failed" integration_tests
+says 'what the compiler says' 'integration_tests: src/lib.rt:1:1: error[any]: what the compiler says'
 rows=$(grep -hv '^#' crates/vectors/data/[a-z]*.txt | grep -c 'ipv6 ')
 LOST=1 does 1 "0 passed, $rows failed" 'ipv6 '
 says 'rows that were not run' "vectors: $((rows - 1)) rows were run, and not $rows"
@@ -161,7 +161,7 @@ touch crates/fluent_uri_c/src/lib.rt
 does 1 '' fluent_uri_c
 rm -r out
 
-SLOW=1 interrupted ./test conformance cli_tests
+SLOW=1 interrupted ./test integration_tests alloc_failure
 must 'the status of an interrupted run' 1 "$status"
 must 'its line' 'test: interrupted' "$(cat "$work/err")"
 must 'it prints no verdict' '' "$(cat "$work/out")"

@@ -3,6 +3,7 @@
 A check says of each function by itself whether it is proved, and a caller rests on the contract
 alone. So one check tries mutants of different functions.
 """
+import collections
 import contextlib
 import os
 import pathlib
@@ -12,9 +13,10 @@ import signal
 import subprocess
 import tempfile
 
-from .copies import link_files
 from .mutant import ONLY_CLAUSE
 
+# How many mutants share a check.
+MOST = 48
 NAME = r"`([^`]+)`"
 # What is said of an answer that names what the mutant took away: it tells nothing of the goal.
 TAKEN_AWAY = re.compile(r"has no field|is not in scope|has no `|was not admitted|was rejected")
@@ -60,7 +62,7 @@ class Room:
             yield self.kept
             return
         with tempfile.TemporaryDirectory(dir=self.sources.parent) as folder:
-            link_files(self.kept, f"{folder}/kept")
+            self.rt.linked(self.kept, f"{folder}/kept")
             yield f"{folder}/kept"
 
     def check(self, functions, texts):
@@ -99,11 +101,15 @@ class Room:
         return None
 
 
-def batches_of(room, mutants, most):
+def batches_of(room, mutants):
     """Mutants of different functions to try in one check each, and the texts that they make."""
-    left = sorted(mutants, key=lambda it: (it.tries, it.function))
+    left = list(mutants)
     while left:
-        batch, texts = next_batch(room, left, most)
+        of_each = collections.Counter(name for it in left for name in it.turned)
+        most = {it: max(of_each[name] for name in it.turned) for it in left}
+        left.sort(key=lambda it: (it.is_alone, it.tries, -most[it], it.name))
+        checks = max(*of_each.values(), -(-len(left) // MOST))
+        batch, texts = next_batch(room, left, -(-len(left) // checks))
         left = [it for it in left if it.is_rejected is None and it not in batch]
         if batch:
             yield batch, texts
@@ -114,7 +120,7 @@ def next_batch(room, left, most):
     for it in left:
         if len(batch) == most or batch and batch[0].is_alone:
             break
-        if batch and it.is_alone or it.function in (other.function for other in batch):
+        if batch and it.is_alone or any(it.turned & other.turned for other in batch):
             continue
         changed, why = room.applied(it, texts)
         if not why:
@@ -136,7 +142,7 @@ class Judge:
         unread = [it for it in lines if self.rt.unread(it, texts)]
         if lines[-1].startswith("only=") and not unread:
             for it in batch:
-                self.read_verdict(it, lines, len(batch) == 1)
+                self.read_verdict(it, lines, batch)
         elif len(batch) == 1:
             wrong = next((it for it in [*unread, *lines] if re.search(r"error|rattle:", it)), lines[-1])
             batch[0].end(False, f"the prover did not read it: {wrong}")
@@ -155,15 +161,18 @@ class Judge:
         for it in batch * (not found):
             it.again(True)
 
-    def read_verdict(self, mutant, lines, is_alone):
+    def read_verdict(self, mutant, lines, batch):
         head = f"fn {self.crate.name}::{mutant.function}: "
         said = next((it[len(head) :] for it in lines if it.startswith(head)), "the check names no such function")
         is_rejected = re.match(r"not proved|no proof", said)
-        goals = self.goals(mutant, lines)
-        wanted = {it.name for it in mutant.clauses}
-        if is_rejected and (goals == wanted or mutant.is_of_definition and is_alone):
+        if mutant.is_of_definition:
+            wanted = mutant.lemmas
+            goals = lemmas(lines).difference(*(it.lemmas for it in batch if it != mutant))
+        else:
+            wanted, goals = {it.name for it in mutant.clauses}, self.goals(mutant, lines)
+        if is_rejected and goals == wanted:
             mutant.end(True, ", ".join(sorted(goals)))
-        elif not is_alone and not (is_rejected and goals):
+        elif len(batch) > 1 and (mutant.is_of_definition or not (is_rejected and goals)):
             # (another mutant, or a full machine, may be the reason)
             mutant.again(True)
         elif not is_rejected:
@@ -190,6 +199,13 @@ class Judge:
             elif it.startswith("note: src/"):
                 notes += re.findall(r"\(`([^`]+)`\)", it)
         return {clause_of(it) for it in found}
+
+
+def lemmas(lines):
+    """The lemmas that a check rejects, but for those that rest on rejected ones."""
+    found = (re.match(r"(?:\./)?proofs/(\S+)\.antt:\d+:\d+: error: `([^`]+)`:", it)
+             for it in messages_of(lines) if not TAKEN_AWAY.search(it))
+    return {f"{it[1].replace('/', '.')}.{it[2]}" for it in found if it}
 
 
 def messages_of(lines):

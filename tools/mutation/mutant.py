@@ -39,10 +39,13 @@ class Mutant:
         self.is_edit = path.suffix == ".edit"
         self.function, self.file = self.word("function"), self.word("file")
         self.clauses = clauses_of(self.word("clause")) or []
-        # A wrong definition falls at the lemmas on it, whose callers are then not proved.
+        # A wrong definition falls at lemmas on it, by which the function is not proved.
+        self.lemmas = set(self.values("lemma"))
         self.is_of_definition = self.file.startswith("specs/")
+        # Of each of these a check tries one mutant.
+        self.turned = self.lemmas or {self.function}
         # Whether it has to be tried alone, how often it was tried, and what that came to.
-        self.is_alone, self.tries = self.is_of_definition, 0
+        self.is_alone, self.tries = False, 0
         self.is_rejected, self.why = None, ""
 
     def values(self, key):
@@ -66,6 +69,8 @@ class Mutant:
             yield "it has no line `function: `"
         if not self.clauses or not all(it.is_of(self.function) for it in self.clauses):
             yield "its line `clause: ` names no clause of its function"
+        if bool(self.lemmas) != self.is_of_definition:
+            yield "it names lemmas exactly if it turns a definition"
         if not self.values("shows") or self.shown() is None:
             yield "it has no line `shows: INPUT -> OUTPUT, turned OUTPUT`"
         elif any(output == turned for _, output, turned in self.shown()):

@@ -7,13 +7,14 @@ import hashlib
 import os
 import pathlib
 
-SCRIPTS = pathlib.Path(__file__).parent.glob("*.py")
+HERE = pathlib.Path(__file__).parent
+SCRIPTS = [*HERE.glob("*.py"), HERE.parent / "libraries.py", HERE.parent / "mutants"]
 STORE = pathlib.Path(os.environ.get("XDG_CACHE_HOME") or pathlib.Path.home() / ".cache", "fluent-uri", "mutants")
 
 
 class Passed:
-    def __init__(self, rt, root, store=STORE):
-        self.rt, self.root, self.store = rt, pathlib.Path(root), store
+    def __init__(self, rt, store=STORE):
+        self.rt, self.store = rt, store
         self.kit = [pathlib.Path(rt.KIT, it).read_bytes() for it in ("KIT-ID", "WHAT")]
         self.scripts = [it.read_bytes() for it in sorted(SCRIPTS)]
 
@@ -31,9 +32,6 @@ class Passed:
             for file in sorted(pathlib.Path(folder, part).rglob("*")):
                 if file.is_file():
                     digest.update(repr((str(file.relative_to(folder)), file.read_bytes())).encode())
-
-    def has(self, crate):
-        return self.entry(crate).exists()
 
     def keep(self, entry, summary):
         """Notes that they passed, in place of what is kept of the crate's earlier files."""

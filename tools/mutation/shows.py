@@ -13,7 +13,7 @@ import shlex
 import subprocess
 import tempfile
 
-from .copies import copy_crates
+from libraries import copy_crates
 
 COMMANDS = {"parse", "normalize", "resolve", "links", "mend"}
 PROGRAMS = {"uritool", "vectors"}
@@ -44,39 +44,38 @@ def visible(text):
     return "".join(it if it.isprintable() else f"\\u{{{ord(it):X}}}" for it in text)
 
 
-class Copy:
-    """A copy of the crates, in which a mutant may be written."""
+def outputs(rt, program, lines, texts):
+    """What a program over copies of the crates with these texts prints for each of these words."""
+    if not lines:
+        return []
+    with tempfile.TemporaryDirectory(prefix="shows-") as folder:
+        crates, given = pathlib.Path(folder, "repo", "crates"), pathlib.Path(folder, "given")
+        copy_crates(rt, crates.parent)
+        given.mkdir()
+        for path, text in texts.items():
+            (crates / path).write_text(text, encoding="utf-8")
+        for at, words in enumerate(lines):
+            is_row = program == "vectors"
+            text = f"{' '.join(map(field, words[1:]))} -> {NEVER}\n" if is_row else ""
+            (given / f"{at:03}").write_text(text, encoding="utf-8")
+            arguments = ["{}"] if is_row else words
+            (given / f"{at:03}.args").write_text("\n".join(arguments), encoding="utf-8")
+        ran = subprocess.run(
+            ["rt", "try", *LIMITS, "--cases", given], cwd=crates / program, capture_output=True,
+            stdin=subprocess.DEVNULL, encoding="utf-8", errors="replace",
+        )
+    if not re.search(r"^cases=\d+ ", ran.stderr, re.MULTILINE):
+        return [f"not made: {visible(ran.stderr[-200:])}"] * len(lines)
+    parts = re.split(r"^== (?=\d+\n)", ran.stdout, flags=re.MULTILINE)[1:]
+    said = dict(it.split("\n", 1) for it in parts)
+    return [printed(program, said.get(f"{at:03}")) for at in range(len(lines))]
 
-    def __init__(self, rt, root, folder, texts=None):
-        self.folder = pathlib.Path(folder, "repo")
-        copy_crates(root, self.folder)
-        for path, text in (texts or {}).items():
-            (self.folder / "crates" / path).write_text(text, encoding="utf-8")
 
-    def outputs(self, program, lines):
-        """What the program prints for each of these words."""
-        with tempfile.TemporaryDirectory() as given:
-            for at, words in enumerate(lines):
-                is_row = program == "vectors"
-                text = f"{' '.join(map(field, words[1:]))} -> {NEVER}\n" if is_row else ""
-                pathlib.Path(given, f"{at:03}").write_text(text, encoding="utf-8")
-                arguments = ["{}"] if is_row else words
-                pathlib.Path(given, f"{at:03}.args").write_text("\n".join(arguments), encoding="utf-8")
-            ran = subprocess.run(
-                ["rt", "try", *LIMITS, "--cases", given], cwd=self.folder / "crates" / program,
-                capture_output=True, stdin=subprocess.DEVNULL, encoding="utf-8", errors="replace",
-            )
-        if not re.search(r"^cases=\d+ ", ran.stderr, re.MULTILINE):
-            return [f"not made: {visible(ran.stderr[-200:])}"] * len(lines)
-        parts = re.split(r"^== (?=\d+\n)", ran.stdout, flags=re.MULTILINE)[1:]
-        said = dict(it.split("\n", 1) for it in parts)
-        return [self.read(program, said.get(f"{at:03}")) for at in range(len(lines))]
-
-    def read(self, program, text):
-        if text is None:
-            return STOPPED
-        got = GOT.search(text) if program == "vectors" else None
-        return got[1] if got else visible(text.rstrip("\n"))
+def printed(program, text):
+    if text is None:
+        return STOPPED
+    got = GOT.search(text) if program == "vectors" else None
+    return got[1] if got else visible(text.rstrip("\n"))
 
 
 def field(word):
@@ -86,19 +85,13 @@ def field(word):
 class Shows:
     """What the programs print for the lines of these mutants: as they are, and with each mutant."""
 
-    def __init__(self, rt, root, mutants):
-        self.rt, self.root = rt, root
+    def __init__(self, rt, mutants):
+        self.rt = rt
         self.cases = {it: cases_of(it) for it in mutants}
         self.plain = {}
-
-    def run_unchanged(self):
         for program in PROGRAMS:
             lines = [it[0] for cases in self.cases.values() for it in cases.get(program, [])]
-            self.plain[program] = dict(zip(map(tuple, lines), self.outputs(program, lines, {})))
-
-    def outputs(self, program, lines, texts):
-        with tempfile.TemporaryDirectory(prefix="shows-") as folder:
-            return Copy(self.rt, self.root, folder, texts).outputs(program, lines) if lines else []
+            self.plain[program] = dict(zip(map(tuple, lines), outputs(rt, program, lines, {})))
 
     def faults(self, mutant):
         """What the lines of a mutant say that is not printed."""
@@ -109,27 +102,23 @@ class Shows:
         told = []
         for program in PROGRAMS & self.cases[mutant].keys():
             lines = self.cases[mutant][program]
-            got = self.outputs(program, [it[0] for it in lines], texts)
+            got = outputs(self.rt, program, [it[0] for it in lines], texts)
             for (words, output, turned), one in zip(lines, got):
                 plain = self.plain[program][tuple(words)]
                 if (plain, one) != (output, turned):
                     told.append(f"`{shlex.join(words)}` prints `{plain}`, turned `{one}`")
         return told
 
-    def counts(self):
-        """How many lines a program takes, and how many not."""
-        lines = [(program, it) for cases in self.cases.values() for program, its in cases.items() for it in its]
-        return sum(program in PROGRAMS for program, _ in lines), sum(program is None for program, _ in lines)
 
-
-def show(rt, root, mutants):
+def show(rt, mutants):
     """Runs the lines of these mutants, and returns the status."""
-    shows, failed = Shows(rt, root, mutants), 0
-    shows.run_unchanged()
+    shows, failed = Shows(rt, mutants), 0
     with concurrent.futures.ThreadPoolExecutor(rt.processors()) as pool:
         for mutant, told in zip(mutants, pool.map(shows.faults, mutants)):
             failed += bool(told)
             print(*(f"shows {mutant.name}: {it}\n" for it in told), sep="", end="", flush=True)
-    ran, others = shows.counts()
-    print(f"shows: {ran} lines were run, {others} are of other calls; {failed} mutants print otherwise")
+    every = [program for it in shows.cases.values() for program, lines in it.items() for _ in lines]
+    others = every.count(None)
+    print(f"shows: {len(every) - others} lines were run, {others} are of other calls; {failed} mutants "
+          "print otherwise")
     return 1 if failed else 0

@@ -7,8 +7,8 @@ use fluent_uri::net::{Ipv4Addr, Ipv6Addr};
 use fluent_uri::pct_enc::EStr;
 use fluent_uri::pct_enc::encoder::{Encoder, IRegName, Port, RegName, Userinfo};
 use fluent_uri::{Iri, IriRef, RiMaybeRef, Uri, UriRef};
+use integration_tests::comparison::equal;
 use std::process::Abort;
-use test_support::equal;
 
 // Each is longer than the free room after those before it.
 const NAME: &str = "01234567";

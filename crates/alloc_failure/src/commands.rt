@@ -3,9 +3,9 @@
 use crate::awaits::ExpectedOutput;
 use crate::requests::{end, report, tried};
 use crate::values::holds;
+use integration_tests::comparison::equal;
 use std::alloc::Global;
 use std::process::Abort;
-use test_support::equal;
 use uri_commands::run::run;
 use uri_commands::sink::Sink;
 

@@ -4,10 +4,10 @@ use crate::values::{encoded, is_encoded, is_text, parsed};
 use fluent_uri::component::SocketTarget;
 use fluent_uri::normalize::Normalizer;
 use fluent_uri::{Iri, IriRef, Reference, UriRef};
+use integration_tests::comparison::equal;
 use std::alloc::{AllocError, Global};
 use std::convert::AsStr;
 use std::process::Abort;
-use test_support::equal;
 use uri_parts::kind::{IriKind, IriRefKind, Kind, UriKind, UriRefKind};
 
 /// Longer than what any text here has room for.

@@ -3,9 +3,9 @@ use crate::requests::{end, report};
 use crate::values::is_text;
 use fluent_uri::normalize::{Normalizer, SchemeRules, StandardRules};
 use fluent_uri::{Uri, UriRef};
+use integration_tests::comparison::equal;
 use std::alloc::AllocError;
 use std::process::Abort;
-use test_support::equal;
 use uri_links::links::{Outcome, Register};
 
 /// Checks in a test of denied memory that the register of links has these targets.

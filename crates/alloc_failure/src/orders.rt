@@ -2,8 +2,8 @@
 use crate::requests::{end, tried};
 use crate::values::{holds, parsed};
 use fluent_uri::Uri;
+use integration_tests::comparison::equal;
 use std::hash::{DefaultHasher, Hasher};
-use test_support::equal;
 use uri_order::NormalOrder;
 use uri_parts::kind::UriKind;
 

@@ -3,9 +3,9 @@ use crate::requests::{end, report, succeeds, tried};
 use crate::values::{holds, is_text};
 use fluent_uri::pct_enc::encoder::{Data, Path};
 use fluent_uri::pct_enc::{CowSlice, CowStr, DecodeError, EStr, EString};
+use integration_tests::comparison::equal;
 use std::alloc::AllocError;
 use std::process::Abort;
-use test_support::equal;
 
 /// Makes a percent-encoded path of a literal for a test of denied memory, or ends the test.
 fn path<'a, R: Abort>(rt: &R, text: &'a str) -> EStr<'a, Path> {

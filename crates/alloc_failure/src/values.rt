@@ -2,8 +2,8 @@
 use fluent_uri::Reference;
 use fluent_uri::pct_enc::EStr;
 use fluent_uri::pct_enc::encoder::Encoder;
+use integration_tests::comparison::equal;
 use std::process::Abort;
-use test_support::equal;
 use uri_parts::kind::Kind;
 
 /// Parses a literal text of any kind for a test of denied memory, or ends the test.

@@ -9,8 +9,8 @@ use fluent_uri::pct_enc::encoder::{Fragment, Path};
 use fluent_uri::pct_enc::{CowStr, EStr, EString};
 use fluent_uri::resolve::{ResolveError, Resolver};
 use fluent_uri::{ConvertError, Iri, IriRef, Reference, Uri, UriRef};
+use integration_tests::comparison::equal;
 use std::alloc::Global;
-use test_support::equal;
 use uri_links::links::{Outcome, Register};
 use uri_parts::kind::{IriKind, IriRefKind, Kind, UriKind, UriRefKind};
 

@@ -9,8 +9,8 @@ use fluent_uri::pct_enc::encoder::{Encoder, Path, Query};
 use fluent_uri::pct_enc::{EStr, EString, Table, table};
 use fluent_uri::resolve::Resolver;
 use fluent_uri::{IriRef, Uri, UriRef};
+use integration_tests::comparison::equal;
 use std::process::Abort;
-use test_support::equal;
 use uri_parts::kind::{IriKind, IriRefKind, Kind, UriKind, UriRefKind};
 
 const TEXT: &str = "s://u@h:1/a/b?q#f";

@@ -1,24 +1,7 @@
 -- The outcomes of errors in an authority.
-use Rattle.std.proofs.Common.{[], ◌≡◌, ℕ, suc, ◌+◌, ◌-◌, ◌<◌, ◌≤◌, Bool, true, false, cond, eqb, ap, List, ◌∷◌, ◌++◌, take, drop, Some, refl, sym, subst, ◌∙◌, arith, ◌&&◌, ⊎_elim, length-drop, rules, codes, nat_lt, IsUtf8, drop-drop}
-use Rattle.std.proofs.lemmas.Bool.{cases_Bool, cases_lt, cond-true, cond-false, and_left, and_right, and_from, eq-eqb, ltb-true, ltb-false, lt-ltb, le-ltb, both_ways}
-use Rattle.std.proofs.lemmas.Bool.Decides.{nat_tests}
-use Rattle.std.proofs.lemmas.Option.{same_Some}
-use Rattle.uri_pct.specs.Prefixes.{valid_prefix}
-use Rattle.uri_pct.specs.Sets.{digit_set, is_one_of}
+use Rattle.error_laws.proofs.Common.{◌≡◌, ℕ, suc, ◌+◌, ◌-◌, ◌<◌, ◌≤◌, Bool, true, false, cond, eqb, ap, List, ◌∷◌, ◌++◌, take, drop, Some, refl, sym, subst, ◌∙◌, arith, ◌&&◌, ⊎_elim, length-drop, rules, codes, nat_lt, IsUtf8, drop-drop, cases_Bool, cases_lt, cond-true, cond-false, and_left, and_right, and_from, eq-eqb, ltb-true, ltb-false, lt-ltb, le-ltb, both_ways, nat_tests, same_Some, valid_prefix, digit_set, is_one_of, ParseError, starts, Kind, OptionalParseError, ◌>>=◌, last_colon, error_from_abempty_path, error_from_host, error_from_name, error_from_authority, is_next, scan_end, text-begins-with-one-byte-alone, userinfo-stops-with-name-without-colon, scan-stops-at-stray-percent-or-goes-on, nothing-is-scanned-at-mark, empty-or-marked-for-more-marks, begins-with-mark, begins-with-no-other, text-at-mark-is-mark-and-rest, utf8_around_ascii_byte, is_unrooted, is_late_from_host, is_late_from_authority}
 use Rattle.uri_pct.proofs.ValidTexts.TokenCuts.{reserved_is_never_in_octet, valid_before_mark}
-use Rattle.uri_parts.specs.declared.error.ParseError.{ParseError}
-use Rattle.uri_parts.specs.Components.{starts}
-use Rattle.uri_parts.specs.Errors.{unexpected}
-use Rattle.uri_parts.specs.Grammar.{Kind, first_segment_set}
-use Rattle.uri_parts.specs.Refusals.{OptionalParseError, ◌>>=◌, last_colon, error_from_abempty_path, error_from_host, error_from_name, error_from_authority}
-use Rattle.uri_parts.specs.Scanning.{is_next, scan_end}
-use Rattle.uri_parts.proofs.Refusals.Names.{text-begins-with-one-byte-alone, userinfo-stops-with-name-without-colon}
-use Rattle.uri_parts.proofs.Refusals.Rooted.{scan-stops-at-stray-percent-or-goes-on, nothing-is-scanned-at-mark}
-use Rattle.uri_parts.proofs.Splitting.Cuts.{empty-or-marked-for-more-marks, begins-with-mark, begins-with-no-other}
-use Rattle.uri_parts.proofs.Refusals.Sound.{text-at-mark-is-mark-and-rest}
-use Rattle.uri_parts.proofs.TextKinds.GrammarTexts.{utf8_around_ascii_byte}
 use Rattle.error_laws.proofs.Marks.{literal-is-utf8, At}
-use Rattle.error_laws.specs.ViablePrefixes.{is_unrooted, is_late_from_host, is_late_from_authority}
 use Rattle.error_laws.proofs.HostOutcomes.{host-outcome, scan-stops-at-its-end}
 use Rattle.error_laws.proofs.KindFacts.{Facts, path-stops-with-userinfo}
 use Rattle.error_laws.proofs.Outcomes.{Any, Outcome, carry, stop, shared-mark-is-at}
@@ -58,9 +41,7 @@ module _ (kind : Kind) (f : Facts kind) (text : List ℕ) (u : IsUtf8 text) (i :
 
   userinfo-ends-at-sign : (n : ℕ) (other : List ℕ) → Alike n text other → end ≤ n
       → is_next other 64 end ≡ true → scan_end other kind.userinfo i ≡ end
-  userinfo-ends-at-sign n other w le s = scan-is-shared n text other w u kind.userinfo
-      (codes "@/?#[") f.apart.userinfo_lacks f.userinfo_marks i a le
-      (begins-with-mark 64 (codes "@/?#[") (drop end other) refl s)
+  userinfo-ends-at-sign n other w le s = search (rules, scan-is-shared, begins-with-mark)
 
   -- what is before n is userinfo
   userinfo-can-stop : (n : ℕ) → i ≤ n → IsPosition text n
@@ -85,11 +66,10 @@ module _ (kind : Kind) (f : Facts kind) (text : List ℕ) (u : IsUtf8 text) (i :
       let at_c : i + k ≡ c = omega (arith, le) in
       let long : valid_prefix kind.userinfo bs ≡ k + suc m = omega (arith, le, l) in
       let p = scanned-part-is-valid text kind.userinfo f.apart.userinfo_lacks i a in
-      let same : take (valid_prefix kind.userinfo bs) bs ≡ take k bs ++ (58 ∷ take m rest) =
-      ap (λ j. take j bs) long
-      ∙ taken-in-two-steps bs k (suc m) (omega (arith, length-drop i text, at_end.le, l, le))
-      ∙ ap (λ t. take k bs ++ take (suc m) t)
-      (drop-drop k i text ∙ ap (λ j. drop j text) at_c
+      let same : take (valid_prefix kind.userinfo bs) bs
+      ≡ take k bs ++ (58 ∷ take m rest) = ap (λ j. take j bs) long
+      ∙ taken-in-two-steps bs k (suc m) (omega (arith, length-drop i text, at_end.le, l, le)) ∙ ap
+      (λ t. take k bs ++ take (suc m) t) (drop-drop k i text ∙ ap (λ j. drop j text) at_c
       ∙ text-at-mark-is-mark-and-rest text 58 c s) in
       let v = (utf8_around_ascii_byte (take k bs) 58 (take m rest) (omega arith)
       (subst IsUtf8 same p.0)).0 in
@@ -103,15 +83,12 @@ module _ (kind : Kind) (f : Facts kind) (text : List ℕ) (u : IsUtf8 text) (i :
   -- a name and its port
   module _ (more : name < end) where
     colon-follows-name : is_next text 58 name ≡ true
-    colon-follows-name = ⊎_elim
-        (λ c. c)
-        (λ c.
-        let w = userinfo-goes-on-after-name kind f text i in
-        let z = userinfo-stops-with-name-without-colon (first_segment_set kind) kind f.apart
-        f.adjoins [] (drop name text)
-        (scan-stops-at-its-end text kind.reg_name i) c in
-        absurd (omega (arith, w, z, more)))
-        (cases_Bool (is_next text 58 name))
+    colon-follows-name = search (
+      rules,
+      userinfo-goes-on-after-name,
+      userinfo-stops-with-name-without-colon,
+      scan-stops-at-its-end,
+    )
 
     at_port : IsPosition text (name + 1)
     at_port = position-after-mark text 58 name (omega arith) colon-follows-name at_name
@@ -203,22 +180,20 @@ module _ (kind : Kind) (f : Facts kind) (text : List ℕ) (u : IsUtf8 text) (i :
       let c : ℕ = last_colon text end in
       let named : ParseError → Type 0 = λ x. Outcome text x.index false Any i error in ⊎_elim
       (λ l.
-      let k = ltb-true name c l in
+      let k = ltb-true _ c l in
       let positive : 0 < c = omega (arith, k) in
-      let within = last-colon-is-colon text end positive in
-      let below = last-colon-is-before-position text end positive in
-      subst named (same_Some (unexpected c) r (sym (cond-true _ _ _ l) ∙ e))
+      let within = last-colon-is-colon _ end positive in
+      let below = last-colon-is-before-position _ end positive in
+      subst named (same_Some _ r (sym (cond-true _ _ _ l) ∙ e))
       (userinfo-can-stop-at-colon c (omega (arith, k)) below within))
       (λ l.
       let e' = sym (cond-false _ _ _ l) ∙ e in ⊎_elim
       (grind (arith, nat_tests, same_Some, userinfo-can-stop-after-port))
       (λ p.
-      let o = abempty-path-outcome kind f text u end at_end false r
+      let o = abempty-path-outcome _ f _ u end at_end _ r
       (path-is-rooted-after-userinfo at) (sym (cond-false _ _ _ p) ∙ e') in
-      carry text r.index false _ _ end i _ _ (omega arith) o (λ other w q.
-      (tt, name-and-port-are-passed some l p r.index other w o.from q)))
-      (cases_Bool (nat_lt name end && nat_lt port end)))
-      (cases_Bool (nat_lt name c))
+      carry _ _ _ _ _ end i _ _ (omega arith) o (λ other w q.
+      (tt, name-and-port-are-passed some l p _ _ w o.from q))) (cases_Bool _)) (cases_Bool _)
 
   -- no userinfo, no host and no port
   empty-outcome : (r : ParseError) → end ≡ i → is_next text 37 i ≡ false → is_next text 64 i ≡ false
@@ -251,8 +226,7 @@ module _ (kind : Kind) (f : Facts kind) (text : List ℕ) (u : IsUtf8 text) (i :
       (host-outcome kind f text u i a late r l e) (λ other w q.
       let b = q ∙ s in
       let none = nothing-is-scanned-at-mark kind.userinfo (codes "@/?#[") f.apart.userinfo_lacks
-      f.userinfo_marks (drop i other)
-      (begins-with-mark 91 (codes "@/?#[") (drop i other) refl b) in
+      f.userinfo_marks (drop i other) (begins-with-mark 91 (codes "@/?#[") (drop i other) refl b) in
       (grind (arith, nat_tests, scan-goes-on, text-begins-with-one-byte-alone)))
 
   -- userinfo and its `@`
@@ -280,8 +254,7 @@ module _ (kind : Kind) (f : Facts kind) (text : List ℕ) (u : IsUtf8 text) (i :
       let z = nothing-is-scanned-at-mark kind.userinfo (codes "@/?#[") f.apart.userinfo_lacks
       f.userinfo_marks (drop i text)
       (begins-with-mark 91 (codes "@/?#[") (drop i text) refl b) in omega (arith, z) in ⊎_elim
-      (λ s. ⊎_elim
-      (grind (arith, nat_tests, text-begins-with-one-byte-alone))
+      (λ s. ⊎_elim (grind (arith, nat_tests, text-begins-with-one-byte-alone))
       (λ b. subst (λ x. Outcome text x.index late Any i error)
       (same_Some _ _ (sym (cond-true _ _ _ s) ∙ t)) (on_time end
       (userinfo-can-stop end (omega arith) at_end

@@ -1,29 +1,9 @@
 -- The outcomes of errors in a host and what follows it.
-use Rattle.std.proofs.Common.{◌≡◌, ℕ, ◌+◌, ◌≤◌, Bool, true, false, eqb, List, [], ◌++◌, length, take, drop, Option, Some, None, refl, sym, ap, subst, ◌∙◌, arith, ◌⊎◌, ◌&&◌, ◌||◌, ⊎_elim, inl, length-append, take_all, length-take-le, drop_at, take-append-drop, rules}
-use Rattle.std.specs.Prelude.{codes, Ok, Err, is_ok}
+use Rattle.error_laws.proofs.Common.{◌≡◌, ℕ, ◌+◌, ◌≤◌, Bool, true, false, eqb, List, [], ◌++◌, length, take, drop, Option, Some, None, refl, sym, ap, subst, ◌∙◌, arith, ◌⊎◌, ◌&&◌, ◌||◌, ⊎_elim, length-append, take_all, length-take-le, drop_at, take-append-drop, rules, codes, Ok, Err, is_ok, cases_Bool, cond-true, cond-false, and_parts, or_left, both_ways, false≢true, ltb-true, eq-eqb, not-true, not_from_false, nat_tests, drop-drop, drop_all, none-some, same_Some, IsUtf8-nil, IsUtf8-append, IsUtf8-take, IsCharBoundary-from_drop, valid_prefix, TableSet, nothing_is_scanned_after_valid_prefix, ParseError, starts, unexpected, Kind, literal, ipv6_end, cannot_begin_ipv6, closed, OptionalParseError, ◌>>=◌, error_from_port, error_from_host, ScanResult, is_next, is_at_end, scan_end, text-begins-with-one-byte-alone, userinfo-stops-with-name-without-colon, stray-percent-stops-every-set, scan-stops-at-stray-percent-or-goes-on, empty-or-marked-for-more-marks, holds_at_end, is_ipv6_end_uncounted, is_late_from_port, is_late_from_host}
 use Rattle.std.specs.Option.{option_map_or}
 use Rattle.std.specs.Str.{IsUtf8}
-use Rattle.std.proofs.lemmas.Bool.{cases_Bool, cond-true, cond-false, and_parts, or_left, both_ways, false≢true, ltb-true, eq-eqb, not-true, not_from_false}
-use Rattle.std.proofs.lemmas.Bool.Decides.{nat_tests}
-use Rattle.std.proofs.lemmas.List.{drop-drop, drop_all}
-use Rattle.std.proofs.lemmas.Option.{none-some, same_Some}
-use Rattle.std.proofs.lemmas.Str.{IsUtf8-nil, IsUtf8-append, IsUtf8-take, IsCharBoundary-from_drop}
-use Rattle.uri_pct.specs.Prefixes.{valid_prefix}
-use Rattle.uri_pct.specs.Sets.{TableSet}
-use Rattle.uri_pct.proofs.ValidTexts.Prefixes.{nothing_is_scanned_after_valid_prefix}
-use Rattle.uri_parts.specs.declared.error.ParseError.{ParseError}
-use Rattle.uri_parts.specs.Components.{starts}
-use Rattle.uri_parts.specs.Errors.{unexpected}
-use Rattle.uri_parts.specs.Grammar.{Kind}
-use Rattle.uri_parts.specs.LiteralErrors.{literal, ipv6_end, cannot_begin_ipv6, closed}
-use Rattle.uri_parts.specs.Refusals.{OptionalParseError, ◌>>=◌, error_from_port, error_from_host}
-use Rattle.uri_parts.specs.Scanning.{ScanResult, is_next, is_at_end, scan_end}
 use Rattle.uri_parts.proofs.Refusals.Complete.{cannot_begin_ipv6-has-no-end}
-use Rattle.uri_parts.proofs.Refusals.Names.{text-begins-with-one-byte-alone, userinfo-stops-with-name-without-colon}
-use Rattle.uri_parts.proofs.Refusals.Rooted.{stray-percent-stops-every-set, scan-stops-at-stray-percent-or-goes-on}
-use Rattle.uri_parts.proofs.Splitting.Cuts.{empty-or-marked-for-more-marks}
 use Rattle.error_laws.proofs.Marks.{literal-is-utf8, At}
-use Rattle.error_laws.specs.ViablePrefixes.{holds_at_end, is_ipv6_end_uncounted, is_late_from_port, is_late_from_host}
 use Rattle.error_laws.proofs.LongerTexts.{longer-text-begins-no-version, end-is-past-text}
 use Rattle.uri_parts.proofs.Refusals.Literals.{literal-without-address-is-unexpected}
 use Rattle.error_laws.proofs.KindFacts.{Facts, path-stops-with-userinfo}
@@ -68,19 +48,16 @@ module _ (kind : Kind) (f : Facts kind) (text : List ℕ) (u : IsUtf8 text) (h :
     late-name-ends-at-mark : is_late_from_port kind text k ≡ true
         → (is_next text 58 k ≡ true) ⊎ (is_next text 64 k ≡ true)
     unfolding is_late_from_port
-    late-name-ends-at-mark late = ⊎_elim
-        (λ c. inl c)
-        (search (
-          rules,
-          cond-false,
-          and_parts,
-          ltb-true,
-          not-true,
-          userinfo-stops-with-name-without-colon,
-          scan-stops-at-its-end,
-          path-stops-with-userinfo,
-        ))
-        (cases_Bool (is_next text 58 k))
+    late-name-ends-at-mark late = search (
+      rules,
+      cond-false,
+      and_parts,
+      ltb-true,
+      not-true,
+      userinfo-stops-with-name-without-colon,
+      scan-stops-at-its-end,
+      path-stops-with-userinfo,
+    )
 
     name-ends-alike : (late : Bool) → is_late_from_port kind text k ≡ late → (n : ℕ)
         (other : List ℕ) → Alike n text other → Follows late (codes ":/?#") k n other
@@ -97,8 +74,7 @@ module _ (kind : Kind) (f : Facts kind) (text : List ℕ) (u : IsUtf8 text) (h :
         → SameBracket other × (error other ≡ error_from_port kind other k)
     unfolding error_from_host
     name-is-passed late l n other w le q =
-        let none = other-byte-is-not-next n text other w late 91 (codes ":/?#") h k refl
-        (omega arith) le b q in (
+        let none = other-byte-is-not-next n _ _ w _ 91 _ h k refl (omega arith) le b q in (
           none ∙ sym b,
           cond-false _ _ _ none ∙ scan-is-passed text u kind.reg_name (codes ":@/?#[")
               f.apart.reg_name_lacks f.name_marks refl h a (error_from_port kind) n other w le
@@ -169,8 +145,7 @@ module _ (kind : Kind) (f : Facts kind) (text : List ℕ) (u : IsUtf8 text) (h :
                       lacks = c.is.lacks;
                       is = c.is.is;
                       end = omega (arith, long, size, length-append c.address (codes "]"));
-                    })
-                    ∙ end-has-no-port-error kind other (length other) (search (rules, drop_all)),
+                    }) ∙ end-has-no-port-error kind other (length other) (search (rules, drop_all)),
               ),
             ),
           );
@@ -182,17 +157,15 @@ module _ (kind : Kind) (f : Facts kind) (text : List ℕ) (u : IsUtf8 text) (h :
         → (l >>= error_from_port kind text) ≡ Some r → Outcome text r.index late SameBracket h error
     unfolding error_from_host
     counted-outcome late r (Ok k) e counted l t =
-        let o = port-outcome kind f text u k
-        (literal-ends-at-position text (h + 1) k after_bracket e) late r l t in
-        let later = (parsed-literal-is-there text (h + 1) k after_bracket.utf8 e).end in
+        let o = port-outcome _ f _ u k (literal-ends-at-position _ _ k after_bracket e) _ r l t in
+        let later = (parsed-literal-is-there _ _ k after_bracket.utf8 e).end in
         let from = o.from in
-        carry text r.index late _ _ k h _ _ (omega (arith, later)) o
+        carry _ _ _ _ _ k h _ _ (omega (arith, later)) o
         (search (rules, bracket-is-shared, cond-true, literal-is-shared, after_bracket))
-    counted-outcome late r (Err x) e counted l t =
-        subst (λ y. Outcome text y.index late SameBracket h error) (same_Some x r t)
-        (subst (λ y. Outcome text x.index y SameBracket h error) l (closed-outcome x.index
-        (subst (Closes text (h + 1) after_bracket) e
-        (literal-closes text (h + 1) after_bracket counted))))
+    counted-outcome late r (Err x) e counted l t = subst
+        (λ y. Outcome text y.index late SameBracket h error) (same_Some x r t) (subst
+        (λ y. Outcome text x.index y SameBracket h error) l (closed-outcome x.index (subst
+        (Closes text (h + 1) after_bracket) e (literal-closes text (h + 1) after_bracket counted))))
 
     -- an IPv6 address that is parsed up to the end of the text, and that no `]` closes there
     module _ (e : ℕ) (ends : ipv6_end text (h + 1) ≡ Some e) (over : is_at_end text e ≡ true)
@@ -210,15 +183,13 @@ module _ (kind : Kind) (f : Facts kind) (text : List ℕ) (u : IsUtf8 text) (h :
       literal-ends-with-text : literal text (h + 1) ≡ Err (unexpected e)
       unfolding literal
       literal-ends-with-text = cond-true _ _ _ (not_from_false _ begins)
-          ∙ ap (closed text (h + 1)) ends
-          ∙ cond-false _ _ _ (ap (starts 93) (drop_all e text past))
+          ∙ ap (closed text (h + 1)) ends ∙ cond-false _ _ _ (ap (starts 93) (drop_all e text past))
 
       closed-option-is-not-ok : (more : List ℕ) (k : ℕ) (o : Option ℕ)
           → ipv6_end (text ++ more) (h + 1) ≡ o → closed (text ++ more) (h + 1) o ≡ Ok k → ⊥
       closed-option-is-not-ok more k None o c = false≢true (ap is_ok c)
       closed-option-is-not-ok more k (Some last) o c = ⊎_elim
-          (λ b. both_ways _ unclosed
-          (ap (λ x. option_map_or (λ end. eqb end (length text)) x false)
+          (λ b. both_ways _ unclosed (ap (λ x. option_map_or (λ end. eqb end (length text)) x false)
           (ipv6-closes-with-text text more (h + 1) e last after_bracket.le ends past o b)
           ∙ eq-eqb (length text) (length text) refl))
           (λ b. false≢true (ap is_ok (sym (cond-false _ _ _ b) ∙ c)))
@@ -228,10 +199,9 @@ module _ (kind : Kind) (f : Facts kind) (text : List ℕ) (u : IsUtf8 text) (h :
           → literal (text ++ more) (h + 1) ≡ Ok k → ⊥
       unfolding literal
       longer-literal-is-not-ok more k o = ⊎_elim
-          (λ c. false≢true (ap is_ok (sym (literal-without-address-is-unexpected (text ++ more)
-          (h + 1) (longer-text-begins-no-version text more (h + 1) begins) c) ∙ o)))
-          (search (rules, closed-option-is-not-ok, cond-true, not_from_false))
-          (cases_Bool (cannot_begin_ipv6 (text ++ more) (h + 1)))
+          (λ c. false≢true (ap is_ok (sym (literal-without-address-is-unexpected _ _
+          (longer-text-begins-no-version _ _ _ begins) c) ∙ o)))
+          (search (rules, closed-option-is-not-ok, cond-true, not_from_false)) (cases_Bool _)
 
       longer-host-has-error : (other more : List ℕ) → other ≡ text ++ more
           → is_next other 91 h ≡ true → (l : ScanResult) → literal other (h + 1) ≡ l
@@ -276,8 +246,7 @@ module _ (kind : Kind) (f : Facts kind) (text : List ℕ) (u : IsUtf8 text) (h :
     bracket-outcome late r l e =
         let rest : Bool = holds_at_end (is_late_from_port kind text) (literal text (h + 1)) in
         let l' : (is_ipv6_end_uncounted text (h + 1) || rest) ≡ late = sym (cond-true _ _ _ s)
-        ∙ l in ⊎_elim
-        (search (rules, and_parts, or_left, uncounted-outcome, not-true))
+        ∙ l in ⊎_elim (search (rules, and_parts, or_left, uncounted-outcome, not-true))
         (λ x. counted-outcome late r (literal text (h + 1)) refl x
         (sym (ap (λ b. b || rest) x) ∙ l') (sym (cond-true _ _ _ s) ∙ e))
         (cases_Bool (is_ipv6_end_uncounted text (h + 1)))
@@ -286,5 +255,4 @@ module _ (kind : Kind) (f : Facts kind) (text : List ℕ) (u : IsUtf8 text) (h :
       → error text ≡ Some r → Outcome text r.index late SameBracket h error
   host-outcome late r l e = ⊎_elim
       (λ s. bracket-outcome s late r l e)
-      (λ s. name-outcome s late r l e)
-      (cases_Bool (is_next text 91 h))
+      (λ s. name-outcome s late r l e) (cases_Bool (is_next text 91 h))

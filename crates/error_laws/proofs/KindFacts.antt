@@ -1,14 +1,6 @@
 -- What the sets of the four kinds have in common, and what goes on where another stops.
-use Rattle.std.proofs.Common.{arith, ◌≡◌, ℕ, Bool, true, false, List, [], refl, ⊎_elim, rules, codes}
-use Rattle.std.proofs.lemmas.Bool.Decides.{nat_tests}
-use Rattle.uri_pct.specs.Prefixes.{valid_prefix}
-use Rattle.uri_pct.specs.Sets.{allows_past_ascii, is_one_of, is_userinfo_char, is_path_char}
-use Rattle.uri_pct.proofs.ValidTexts.Cuts.{excludes}
-use Rattle.uri_parts.specs.Components.{starts}
-use Rattle.uri_parts.specs.Grammar.{Kind, first_segment_set, kind_by_flags}
-use Rattle.uri_parts.proofs.Refusals.Rooted.{Adjoins, greater-set-goes-on-with-mark, nothing-is-scanned-at-mark}
+use Rattle.error_laws.proofs.Common.{arith, ◌≡◌, ℕ, Bool, true, false, List, [], refl, ⊎_elim, rules, codes, nat_tests, valid_prefix, allows_past_ascii, is_one_of, is_userinfo_char, is_path_char, excludes, starts, Kind, first_segment_set, kind_by_flags, Adjoins, greater-set-goes-on-with-mark, nothing-is-scanned-at-mark, begins-with-further-mark}
 use Rattle.uri_parts.proofs.Refusals.Whole.{known-kind-adjoins}
-use Rattle.uri_parts.proofs.Splitting.Cuts.{begins-with-further-mark}
 use Rattle.uri_parts.proofs.TextKinds.KindSets.{each_kind_separates_components}
 use Rattle.uri_parts.proofs.TextKinds.Separations.{SeparatesComponents, HasAllBut, greater-set-has-all-but-marks}
 
@@ -33,22 +25,20 @@ path-char-but-at-or-slash-is-userinfo-char c m e = grind (arith, nat_tests)
 -- IRI's, and with a scheme needed
 pub facts-of-four-kinds : (past needs : Bool) → Facts (kind_by_flags past needs)
 unfolding allows_past_ascii
-facts-of-four-kinds false needs =
-    search (
-      rules,
-      each_kind_separates_components,
-      known-kind-adjoins,
-      greater-set-has-all-but-marks,
-      path-char-but-at-or-slash-is-userinfo-char,
-    )
-facts-of-four-kinds true needs =
-    search (
-      rules,
-      each_kind_separates_components,
-      known-kind-adjoins,
-      greater-set-has-all-but-marks,
-      path-char-but-at-or-slash-is-userinfo-char,
-    )
+facts-of-four-kinds false needs = search (
+  rules,
+  each_kind_separates_components,
+  known-kind-adjoins,
+  greater-set-has-all-but-marks,
+  path-char-but-at-or-slash-is-userinfo-char,
+)
+facts-of-four-kinds true needs = search (
+  rules,
+  each_kind_separates_components,
+  known-kind-adjoins,
+  greater-set-has-all-but-marks,
+  path-char-but-at-or-slash-is-userinfo-char,
+)
 
 module _ (kind : Kind) (f : Facts kind) (bs : List ℕ) where
   -- a path goes on where userinfo ends with `@` or `/` alone

@@ -1,27 +1,15 @@
 -- Hosts in brackets: how what is before an error in one becomes one.
-use Rattle.std.proofs.Common.{◌≡◌, ℕ, ◌+◌, ◌<◌, ◌≤◌, true, false, eqb, List, [], ◌∷◌, ◌++◌, length, take, drop, Option, Some, None, refl, sym, ap, subst, ◌∙◌, arith, ◌&&◌, ⊎_elim, append_assoc, append-nil, length-append, take_at, length-drop, length-take-le, drop_at, inr, rules, codes, Ok, Err, nat_lt, slice_index, is_some}
+use Rattle.error_laws.proofs.Common.{◌≡◌, ℕ, ◌+◌, ◌<◌, ◌≤◌, true, false, eqb, List, [], ◌∷◌, ◌++◌, length, take, drop, Option, Some, None, refl, sym, ap, subst, ◌∙◌, arith, ◌&&◌, ⊎_elim, append_assoc, append-nil, length-append, take_at, length-drop, length-take-le, drop_at, inr, rules, codes, Ok, Err, nat_lt, slice_index, is_some, cases_Bool, cond-true, cond-false, and_parts, and_from, eqb-true, both_ways, false≢true, ltb-true, lt-ltb, and_cases, not-false, not_from_true, not_from_false, or_left, or_right, nat_tests, append_cancel_right, drop-append-le, drop_more, get_or_past, IsUtf8-append, valid_prefix, TableSet, LacksPercent, is_one_of, hexdig_set, ipv_future_set, IsValidFor, is_valid_for, tokens_from_chars, Lacks, starts, is_end, closed, literal, ipv6_end, cannot_begin_ipv6, is_next, is_at_end, scan_end, scan_to_mark, ScanResult, Holds, ipv6_end-before-bracket-ends-ipv6, ipv6_end-before-text-ends-ipv6, is_ipv6_end_uncounted}
 use Rattle.std.specs.Net.Grammar.{IsColonHex}
 use Rattle.std.specs.Option.{option_map_or}
 use Rattle.std.specs.Str.{IsUtf8, chars}
-use Rattle.std.proofs.lemmas.Bool.{cases_Bool, cond-true, cond-false, and_parts, and_from, eqb-true, both_ways, false≢true, ltb-true, lt-ltb, and_cases, not-false, not_from_true, not_from_false, or_left, or_right}
-use Rattle.std.proofs.lemmas.Bool.Decides.{nat_tests}
-use Rattle.std.proofs.lemmas.List.{append_cancel_right, drop-append-le, drop_more, get_or_past}
-use Rattle.std.proofs.lemmas.Str.{IsUtf8-append}
-use Rattle.uri_pct.specs.Prefixes.{valid_prefix}
-use Rattle.uri_pct.specs.Sets.{TableSet, LacksPercent, is_one_of, hexdig_set, ipv_future_set}
-use Rattle.uri_pct.specs.Tokens.{IsValidFor, is_valid_for, tokens_from_chars}
 use Rattle.uri_pct.proofs.ValidTexts.Appending.{valid_text_after_valid_text_is_valid}
-use Rattle.uri_parts.specs.Components.{Lacks, starts, is_end}
 use Rattle.uri_parts.specs.Hosts.{IsIpvFuture}
-use Rattle.uri_parts.specs.LiteralErrors.{closed, literal, ipv6_end, cannot_begin_ipv6}
-use Rattle.uri_parts.specs.Scanning.{is_next, is_at_end, scan_end, scan_to_mark, ScanResult}
 use Rattle.uri_parts.proofs.HostForms.Addresses.{is_address_char, is_address_text, ipv6_value-complete, ipv6-text-is-address-text}
 use Rattle.uri_parts.proofs.HostForms.Futures.{is_ipv_future-complete, version-letter-is-ascii, ipv6-text-lacks-excluded-marks, ipvfuture-text-lacks-excluded-marks}
 use Rattle.uri_parts.proofs.Parsing.Acceptance.{is_literal}
-use Rattle.uri_parts.proofs.Refusals.Sound.{Holds, ipv6_end-before-bracket-ends-ipv6, ipv6_end-before-text-ends-ipv6}
 use Rattle.uri_parts.proofs.Splitting.Recompose.{text-with-mark-is-mark-and-rest}
 use Rattle.error_laws.proofs.Marks.{literal-is-utf8, tested-ascii-is-utf8}
-use Rattle.error_laws.specs.ViablePrefixes.{is_ipv6_end_uncounted}
 use Rattle.error_laws.proofs.LongerAddresses.{ipv6-ends-within-text}
 use Rattle.error_laws.proofs.SharedPrefixes.{IsPosition, position-after-mark, scan-ends-at-position, scanned-part-is-valid, taken-in-two-steps}
 
@@ -68,10 +56,9 @@ ipvfuture-is-address : (letter : ℕ) (version address : List ℕ)
 unfolding is_literal
 ipvfuture-is-address letter version address v some h any k =
     let text : List ℕ = letter ∷ (version ++ (codes "." ++ address)) in
-    let one : IsUtf8 (letter ∷ []) = literal-is-utf8 (letter ∷ [])
-    (and_from _ _ (lt-ltb letter 128 (version-letter-is-ascii letter v)) refl) in
-    let utf8 : IsUtf8 text = IsUtf8-append (letter ∷ []) (version ++ (codes "." ++ address)) one
-    (IsUtf8-append version (codes "." ++ address) h.0
+    let one : IsUtf8 (letter ∷ []) = literal-is-utf8 _
+    (and_from _ _ (lt-ltb _ 128 (version-letter-is-ascii _ v)) refl) in
+    let utf8 : IsUtf8 text = IsUtf8-append _ _ one (IsUtf8-append version (codes "." ++ address) h.0
     (IsUtf8-append (codes ".") address (literal-is-utf8 (codes ".") refl) k.0)) in
     let is : IsIpvFuture text = record {
       letter = letter;
@@ -98,10 +85,8 @@ letter-is-ipv-future-text = refl
 valid-text-goes-on : (set : TableSet) → LacksPercent set → (x y : List ℕ)
     → IsUtf8 x × IsValidFor set x → IsUtf8 y → IsValidFor set y
     → IsUtf8 (x ++ y) × IsValidFor set (x ++ y)
-valid-text-goes-on set lacks x y h u v = (
-  IsUtf8-append x y h.0 u,
-  valid_text_after_valid_text_is_valid set lacks x y h.0 h.1 v,
-)
+valid-text-goes-on set lacks x y h u v =
+    search (rules, IsUtf8-append, valid_text_after_valid_text_is_valid)
 
 -- general fact on texts, for the error law: one that passes the test of the end is empty
 ended-text-is-empty : (xs : List ℕ) → is_end xs ≡ true → xs ≡ []
@@ -140,13 +125,11 @@ module _ (text : List ℕ) where
         address = w.address;
         segments = w.segments;
         split = append_cancel_right (drop i text) w.address (codes "]")
-            (sym (drop-append-le i text (codes "]") le) ∙ w.split
-            ∙ ap (λ t. w.address ++ t) last)
+            (sym (drop-append-le i text (codes "]") le) ∙ w.split ∙ ap (λ t. w.address ++ t) last)
             ∙ sym (append-nil w.address) ∙ ap (λ t. w.address ++ t) (sym none);
         is = w.is;
       })
-      (λ o. ipv6_end-before-text-ends-ipv6 text i end e o)
-      (cases_Bool (is_at_end text end))
+      (λ o. ipv6_end-before-text-ends-ipv6 text i end e o) (cases_Bool (is_at_end text end))
 
   module _ (i : ℕ) (a : IsPosition text i) where
     -- what is before index n goes on to an address that begins at i, and its bracket
@@ -227,9 +210,8 @@ module _ (text : List ℕ) where
         version = scanned-part-is-valid text hexdig_set refl start at_start
 
         taken-to-dot : take dot text ≡ take i text ++ (c ∷ V)
-        taken-to-dot = taken-in-two-steps text start _ at_start.le
-            ∙ ap (λ t. t ++ V) (taken-through-mark c i a.le here)
-            ∙ append_assoc (take i text) (c ∷ []) V
+        taken-to-dot = taken-in-two-steps _ _ _ at_start.le
+            ∙ ap (λ t. t ++ V) (taken-through-mark c i a.le here) ∙ append_assoc (take i text) _ V
 
         version-can-close : CanClose dot
         version-can-close = record {
@@ -241,9 +223,8 @@ module _ (text : List ℕ) where
               (sym (append_assoc (V ++ codes "1") (codes ".a") (codes "]")
               ∙ append_assoc V (codes "1") (codes ".a]")));
           is = ipvfuture-is-address c (V ++ codes "1") (codes "a") letter
-              (omega (arith, length-append V (codes "1")))
-              (valid-text-goes-on hexdig_set refl V (codes "1") version
-              (literal-is-utf8 (codes "1") refl) digit-is-hexdig-text)
+              (omega (arith, length-append V (codes "1"))) (valid-text-goes-on hexdig_set refl V
+              (codes "1") version (literal-is-utf8 (codes "1") refl) digit-is-hexdig-text)
               (omega arith) (literal-is-utf8 (codes "a") refl, letter-is-ipv-future-text);
           from = omega arith;
           within = at_dot.le;
@@ -304,5 +285,4 @@ module _ (text : List ℕ) where
         (λ v. subst Closes (sym (cond-false _ _ _ v)) no-address-can-close)
         (cases_Bool (is_one_of (codes "vV") (slice_index text i)))))
         (λ n. subst Closes (sym (cond-true _ _ _ (not_from_false _ n)))
-        (ipv6-closes (ipv6_end text i) refl late))
-        (cases_Bool (cannot_begin_ipv6 text i))
+        (ipv6-closes (ipv6_end text i) refl late)) (cases_Bool (cannot_begin_ipv6 text i))

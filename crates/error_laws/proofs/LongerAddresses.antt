@@ -1,13 +1,6 @@
 -- Where the groups of an IPv6 address end in a text that goes on, and with a `]` after it.
-use Rattle.std.proofs.Common.{◌≡◌, ◌≢◌, ℕ, zero, suc, ◌+◌, ◌-◌, ◌<◌, ◌≤◌, Bool, true, false, not, cond, eqb, List, [], ◌++◌, length, drop, ◌⊎◌, inl, inr, Option, Some, None, refl, sym, ap, subst, ◌∙◌, arith, ◌&&◌, ◌||◌, ⊎_elim, drop_at, codes, nat_lt}
+use Rattle.error_laws.proofs.Common.{◌≡◌, ◌≢◌, ℕ, zero, suc, ◌+◌, ◌-◌, ◌<◌, ◌≤◌, Bool, true, false, not, cond, eqb, List, [], ◌++◌, length, drop, ◌⊎◌, inl, inr, Option, Some, None, refl, sym, ap, subst, ◌∙◌, arith, ◌&&◌, ◌||◌, ⊎_elim, drop_at, codes, nat_lt, rules, cases_Bool, cases_lt, cond-false, both_ways, eqb-true, eq-eqb, and_parts, and_right, and_left, le-ltb, false≢true, cases_eq, drop-append-le, drop_more, drop_all, none-some, cond_some, nat_tests, starts, is_end, Groups, Groups_end, Elision, Malformed, digits_end, ipv4_end, after_ipv4, groups_from, after_elision, after_groups, ipv6_end, is_next, is_at_end}
 use Rattle.std.specs.Net.Reader.{digit_count}
-use Rattle.std.proofs.lemmas.Bool.{cases_Bool, cases_lt, cond-false, both_ways, eqb-true, eq-eqb, and_parts, and_right, and_left, le-ltb, false≢true, cases_eq}
-use Rattle.std.proofs.lemmas.List.{drop-append-le, drop_more, drop_all}
-use Rattle.std.proofs.lemmas.Option.{none-some, cond_some}
-use Rattle.std.proofs.lemmas.Bool.Decides.{nat_tests}
-use Rattle.uri_parts.specs.Components.{starts, is_end}
-use Rattle.uri_parts.specs.LiteralErrors.{Groups, Groups_end, Elision, Malformed, digits_end, ipv4_end, after_ipv4, groups_from, after_elision, after_groups, ipv6_end}
-use Rattle.uri_parts.specs.Scanning.{is_next, is_at_end}
 use Rattle.uri_parts.proofs.Refusals.GroupTurns.{groups_from-ends-without-room, dotted, text-with-mark-is-not-ended, groups_from-ends-without-group, groups_from-elides-at-two-colons, groups_from-rejects-lone-colon, groups_from-ends-with-text, groups_from-rejects-misplaced-colon, groups_from-rejects-ipv4-without-room, groups_from-goes-on-after-group}
 use Rattle.error_laws.proofs.LongerTexts.{groups_end, end_with_room, elided-address-has-room, groups-with-room-end-address, next-is-kept-in-longer-text, end-is-past-text, closing, bytes-are-no-end, empty-text-is-end, digits_end-is-kept-in-longer-text, ipv4-ends-within-text, next-before-bracket-is-kept, digits_end-is-no-earlier-in-longer-text, digits_end-is-kept-where-none-follow, digits_end-is-within-text, ipv4-is-kept-before-bracket}
 use Rattle.error_laws.proofs.SharedPrefixes.{mark-is-within-text}
@@ -19,15 +12,13 @@ module _ (text more : List ℕ) where
   -- groups that end with the text have room for a `]` after them if they have for what is after
   -- them in the longer text
   abbrev ClosesWithText : ℕ → ℕ → Groups → Groups → Type 0
-  ClosesWithText room end longer closed = (room ≢ 0)
-      × ((r e : ℕ) → longer ≡ Groups_end (suc r) e → is_next long 93 e ≡ true
-      → (k : ℕ) × (closed ≡ Groups_end (suc k) end))
+  ClosesWithText room end longer closed = (room ≢ 0) × ((r e : ℕ) → longer ≡ Groups_end (suc r) e
+      → is_next long 93 e ≡ true → (k : ℕ) × (closed ≡ Groups_end (suc k) end))
 
   -- how the groups of a text end, those of the longer text, and those of the text with a `]`
   abbrev Kept : Groups → Groups → Groups → Type 0
   Kept (Groups_end room end) longer closed = (end ≤ length text)
-      × (length text ≤ end → (closed ≡ Groups_end room end)
-      ⊎ ClosesWithText room end longer closed)
+      × (length text ≤ end → (closed ≡ Groups_end room end) ⊎ ClosesWithText room end longer closed)
   Kept (Elision room end) longer closed = (longer ≡ Elision room end)
       × (closed ≡ Elision room end) × (end ≤ length text)
   Kept Malformed longer closed = Unit {0}
@@ -58,10 +49,8 @@ module _ (text more : List ℕ) where
         digits_end-is-kept-where-none-follow text 16 4 i le (codes "]") refl ∙ d in
         kept-by _ (Groups_end n i) _ (groups_from long n is_first i) _ (Groups_end n i)
         (groups_from-ends-without-group text n room is_first i i i one_more
-        (sym (cond-false _ _ _ none)) (sym d) refl none)
-        refl
-        (groups_from-ends-without-group (closing text) n room is_first i i i one_more
-        (sym (cond-false _ _ _ c)) (sym k) refl c)
+        (sym (cond-false _ _ _ none)) (sym d) refl none) refl (groups_from-ends-without-group
+        (closing text) n room is_first i i i one_more (sym (cond-false _ _ _ c)) (sym k) refl c)
         (le, λ _. inl refl)
 
     module _ (l : i < length text) where
@@ -103,10 +92,9 @@ module _ (text more : List ℕ) where
             let elides : (m : List ℕ) → groups_from (text ++ m) n is_first i
             ≡ Elision n (group + 1) =
             λ m. groups_from-elides-at-two-colons (text ++ m) n room is_first i group group one_more
-            (group-is-kept m)
-            (sym (digits_end-is-kept-in-longer-text text 16 4 group group-is-within-text m
-            (inl (omega (arith, none, within))) ∙ none)) refl (colon-is-kept m ∙ c)
-            (next-is-kept-in-longer-text text m 58 group within ∙ d) in
+            (group-is-kept m) (sym (digits_end-is-kept-in-longer-text text 16 4 group
+            group-is-within-text m (inl (omega (arith, none, within))) ∙ none)) refl
+            (colon-is-kept m ∙ c) (next-is-kept-in-longer-text text m 58 group within ∙ d) in
             kept-by _ (Elision n (group + 1)) _ (Elision n (group + 1)) _ (Elision n (group + 1))
             (groups_from-elides-at-two-colons text n room is_first i group end one_more refl refl
             none c d)
@@ -116,10 +104,9 @@ module _ (text more : List ℕ) where
             none c d))
             (cases_Bool (is_next text 58 group)))
             (λ c. kept-by _ (Groups_end n i) _ (groups_from long n is_first i) _
-            (groups_from (closing text) n is_first i)
-            (groups_from-ends-without-group text n room is_first i group end one_more refl refl
-            none c) refl refl (omega (arith, l), λ over. absurd (omega (arith, over, l))))
-            (cases_Bool colon)
+            (groups_from (closing text) n is_first i) (groups_from-ends-without-group text n room
+            is_first i group end one_more refl refl none c) refl refl
+            (omega (arith, l), λ over. absurd (omega (arith, over, l)))) (cases_Bool colon)
 
       abbrev misplaced : Bool → Bool
       misplaced b = b && is_first || not b && not is_first
@@ -136,8 +123,7 @@ module _ (text more : List ℕ) where
 
           later-is-past-group : later ≢ group
           later-is-past-group z =
-              let le = digits_end-is-no-earlier-in-longer-text text 16 4 group group-is-within-text
-              more in some (omega (arith, le, z))
+              search (rules, digits_end-is-no-earlier-in-longer-text, group-is-within-text)
 
           -- what of the longer text ends before a `]` has its colons in place, and room left
           longer-text-has-room : (r e : ℕ) → groups_from long n is_first i ≡ Groups_end (suc r) e
@@ -145,8 +131,7 @@ module _ (text more : List ℕ) where
           longer-text-has-room r e h b = ⊎_elim
               (λ k.
               let s = ap groups_end (sym (groups_from-ends-with-text long n room is_first i group
-              later
-              one_more (group-is-kept more) refl later-is-past-group k) ∙ h) in
+              later one_more (group-is-kept more) refl later-is-past-group k) ∙ h) in
               absurd (both_ways _ (text-with-mark-is-not-ended 93 (drop e long) b)
               (ap (λ x. is_at_end long x) (sym s) ∙ (and_parts _ _ k).1)))
               (λ k. ⊎_elim
@@ -227,8 +212,7 @@ module _ (text more : List ℕ) where
               (λ (k : end < length text). and_right _ _
               (ap is_end (drop-append-le end text m (omega (arith, k))
               ∙ ap (λ t. t ++ m) (drop_more text end 0 k)) ∙ bytes-are-no-end _ _))
-              (λ (k : group + 4 ≤ end). and_left _ _ (le-ltb _ _ k))
-              end-is-within-or-four-on
+              (λ (k : group + 4 ≤ end). and_left _ _ (le-ltb _ _ k)) end-is-within-or-four-on
 
           dot-is-kept : (m : List ℕ) → (short && is_next (text ++ m) 46 end)
               ≡ (short && is_next text 46 end)
@@ -240,9 +224,8 @@ module _ (text more : List ℕ) where
               → groups_from (closing text) n is_first i
               ≡ after_ipv4 (closing text) (room - 1) o → Outcome
           outcome-of-ipv4 None e g u = kept-where-malformed _ _ _ g
-          outcome-of-ipv4 (Some last) e g u = kept-by _ (Groups_end (room - 1) last) _
-              (groups_from long n is_first i) _ (Groups_end (room - 1) last) g refl u
-              (ipv4-ends-within-text text group last group-is-within-text e, λ _. inl refl)
+          outcome-of-ipv4 (Some last) e g u =
+              search (rules, kept-by, ipv4-ends-within-text, group-is-within-text)
 
           outcome-after-group : Outcome
           outcome-after-group = ⊎_elim
@@ -317,8 +300,7 @@ module _ (text more : List ℕ) where
       → after_groups long h ≡ Some last → is_next long 93 last ≡ true
       → after_groups (closing text) u ≡ Some (length text)
   groups-close (Groups_end room at) h u k e last a past b c = grind (arith, nat_tests, cond_some)
-  groups-close (Elision room at) h u k e last a past b c =
-      ap (after_groups (closing text)) k.1
+  groups-close (Elision room at) h u k e last a past b c = ap (after_groups (closing text)) k.1
       ∙ elided-groups-close (groups_from text room true at) (groups_from long room true at)
       (groups_from (closing text) room true at) (groups-are-kept room true at k.2) e last a past
       (sym (ap (after_groups long) k.0) ∙ b) c
@@ -340,14 +322,11 @@ module _ (text more : List ℕ) where
       → length text ≤ e → ipv6_end long i ≡ Some last → is_next long 93 last ≡ true
       → ipv6_end (closing text) i ≡ Some (length text)
   unfolding ipv6_end
-  ipv6-closes-with-text i e last le a past b c = groups-close (groups_from text 8 true i)
-      (groups_from long 8 true i) (groups_from (closing text) 8 true i)
-      (groups-are-kept 8 true i le) e last a past b c
+  ipv6-closes-with-text i e last le a past b c = search (rules, groups-close, groups-are-kept)
 
 -- error law: an IPv6 address that begins within a text ends within it
 pub ipv6-ends-within-text : (text : List ℕ) (i end : ℕ) → i ≤ length text
     → ipv6_end text i ≡ Some end → end ≤ length text
 unfolding ipv6_end
-ipv6-ends-within-text text i end le e = address-ends-within-text text [] (groups_from text 8 true i)
-    (groups_from (text ++ []) 8 true i) (groups_from (closing text) 8 true i)
-    (groups-are-kept text [] 8 true i le) end e
+ipv6-ends-within-text text i end le e =
+    address-ends-within-text _ [] _ _ _ (groups-are-kept _ [] 8 _ i le) end e

@@ -1,16 +1,8 @@
 -- What is next in a text that goes on, and where digits and IPv4 addresses end in it.
-use Rattle.std.proofs.Common.{Bool, ◌≡◌, ℕ, zero, suc, ◌+◌, ◌-◌, ◌<◌, ◌≤◌, true, false, cond, eqb, List, [], ◌∷◌, ◌++◌, length, take, drop, ◌⊎◌, Option, Some, None, sym, refl, ap, ◌∙◌, arith, ◌&&◌, ⊎_elim, length-drop, length-append, ◌||◌, codes, nat_lt, nat_le, slice_range, option_and_then}
+use Rattle.error_laws.proofs.Common.{Bool, ◌≡◌, ℕ, zero, suc, ◌+◌, ◌-◌, ◌<◌, ◌≤◌, true, false, cond, eqb, List, [], ◌∷◌, ◌++◌, length, take, drop, ◌⊎◌, Option, Some, None, sym, refl, ap, ◌∙◌, arith, ⊎_elim, length-drop, length-append, ◌||◌, codes, slice_range, option_and_then, rules, cases_Bool, cases_lt, cond-true, cond-false, both_ways, ne_eqb, drop-append-le, drop_more, drop_all, take-append-le, get_or_append_left, same_Some, none-some, nat_tests, is_end, digits_end, octet_end, octets_end, ipv4_end, Groups, cannot_begin_ipv6, after_elision, Groups_end, Elision, Malformed, is_next, is_at_end}
 use Rattle.std.specs.Char.{is_digit}
 use Rattle.std.specs.Net.Reader.{digit_count}
-use Rattle.std.specs.Str.Parse.{digits_value}
-use Rattle.std.proofs.lemmas.Bool.{cases_Bool, cases_lt, cond-true, cond-false, both_ways, ne_eqb}
-use Rattle.std.proofs.lemmas.List.{drop-append-le, drop_more, drop_all, take-append-le, get_or_append_left}
 use Rattle.std.proofs.lemmas.List.Sums.{prefix_len-le-length}
-use Rattle.std.proofs.lemmas.Option.{same_Some, none-some}
-use Rattle.std.proofs.lemmas.Bool.Decides.{nat_tests}
-use Rattle.uri_parts.specs.Components.{is_end}
-use Rattle.uri_parts.specs.LiteralErrors.{digits_end, octet_end, octets_end, ipv4_end, Groups, cannot_begin_ipv6, after_elision, Groups_end, Elision, Malformed}
-use Rattle.uri_parts.specs.Scanning.{is_next, is_at_end}
 use Rattle.error_laws.proofs.SharedPrefixes.{is_next-by-byte, mark-is-within-text}
 use Rattle.uri_parts.proofs.Refusals.Literals.{version-letter-begins-no-ipv6}
 
@@ -35,8 +27,7 @@ pub end-is-past-text : (text : List ℕ) (i : ℕ) → is_at_end text i ≡ true
 end-is-past-text text i e = ⊎_elim
     (λ (l : i < length text). absurd (both_ways _ (ap is_end (drop_more text i 0 l)
     ∙ bytes-are-no-end _ _) e))
-    (λ (l : length text ≤ i). l)
-    (cases_lt i (length text))
+    (λ (l : length text ≤ i). l) (cases_lt i (length text))
 
 -- error law: where groups end
 abbrev pub groups_end : Groups → ℕ
@@ -57,9 +48,8 @@ pub elided-address-has-room : (text : List ℕ) (g : Groups) (end : ℕ)
     → (room : ℕ) × (g ≡ Groups_end (suc room) end)
 elided-address-has-room text (Groups_end zero e) end a = absurd (none-some end a)
 elided-address-has-room text (Groups_end (suc room) e) end a =
-    let s = cond-false (eqb (suc room) 0) None (Some e)
-    (ne_eqb (suc room) 0 (λ z. omega (arith, z)))
-    in (room, ap (Groups_end (suc room)) (same_Some _ _ (sym s ∙ a)))
+    let s = cond-false _ _ _ (ne_eqb (suc room) 0 (λ z. omega (arith, z))) in
+    (room, ap (Groups_end (suc room)) (same_Some _ _ (sym s ∙ a)))
 elided-address-has-room text (Elision room e) end a = absurd (none-some end a)
 elided-address-has-room text Malformed end a = absurd (none-some end a)
 
@@ -78,13 +68,7 @@ end-begins-no-ipv6 text i l = grind (arith, nat_tests, drop_all)
 pub longer-text-begins-no-version : (text more : List ℕ) (i : ℕ) → cannot_begin_ipv6 text i ≡ false
     → (is_next (text ++ more) 118 i || is_next (text ++ more) 86 i) ≡ false
 longer-text-begins-no-version text more i begins =
-    grind (
-      arith,
-      nat_tests,
-      version-letter-begins-no-ipv6,
-      next-is-kept-in-longer-text,
-      end-begins-no-ipv6,
-    )
+    search (rules, version-letter-begins-no-ipv6, next-is-kept-in-longer-text, end-begins-no-ipv6)
 
 -- error law: in a longer text no fewer digits come first
 digits-are-no-fewer-in-longer-text : (radix : ℕ) (bs more : List ℕ)
@@ -102,8 +86,7 @@ digits-within-text-are-kept radix (b ∷ bs) more l = ⊎_elim
     let e = cond-true (is_digit b radix) (1 + digit_count radix bs) 0 d in
     cond-true _ _ _ d
     ∙ ap (λ n. 1 + n) (digits-within-text-are-kept radix bs more (omega (arith, e, l))) ∙ sym e)
-    (λ d. cond-false _ _ _ d ∙ sym (cond-false _ _ _ d))
-    (cases_Bool (is_digit b radix))
+    (λ d. cond-false _ _ _ d ∙ sym (cond-false _ _ _ d)) (cases_Bool (is_digit b radix))
 
 -- error law: digits end with a text if what is after it begins with none
 digits-end-where-none-follow : (radix : ℕ) (bs more : List ℕ) → digit_count radix more ≡ 0
@@ -180,19 +163,15 @@ module _ (text : List ℕ) where
   octet-ends-within-text : (i end : ℕ) → i ≤ length text → octet_end text i ≡ Some end
       → end ≤ length text
   unfolding octet_end
-  octet-ends-within-text i end le e = ⊎_elim
-      (λ z. let l = mark-is-within-text text 48 i z in
-      omega (arith, same_Some _ _ (sym (cond-true _ _ _ z) ∙ e)))
-      (λ z. let t = sym (cond-false _ _ _ z) ∙ e in ⊎_elim
-      (λ k. omega (
-        arith,
-        same_Some _ _ (sym (cond-true _ _ _ k) ∙ t),
-        digits_end-is-within-text 10 3 i le,
-      ))
-      (λ k. absurd (none-some end (sym (cond-false _ _ _ k) ∙ t)))
-      (cases_Bool (nat_lt i (digits_end text 10 3 i)
-      && nat_le (digits_value 10 (slice_range text i (digits_end text 10 3 i))) 255)))
-      (cases_Bool (is_next text 48 i))
+  octet-ends-within-text i end le e = search (
+    rules,
+    mark-is-within-text,
+    same_Some,
+    cond-true,
+    cond-false,
+    digits_end-is-within-text,
+    none-some,
+  )
 
   octets-are-kept-before-bracket : (n i : ℕ) → i ≤ length text
       → octets_end closing n i ≡ octets_end text n i
@@ -200,17 +179,16 @@ module _ (text : List ℕ) where
   octets-are-kept-before-bracket zero i le = refl
   octets-are-kept-before-bracket (suc n) i le = ⊎_elim
       (λ d.
-      let l = mark-is-within-text text 46 i d in
+      let l = mark-is-within-text _ 46 i d in
       let within : i + 1 ≤ length text = omega arith in
       cond-true _ _ _ (next-before-bracket-is-kept 46 i refl le ∙ d)
-      ∙ ap (option_and_then (octets_end closing n)) (octet-is-kept-before-bracket (i + 1) within)
-      ∙ same-next-if-same-for-value (octets_end closing n) (octets_end text n)
-      (octet_end text (i + 1))
-      (λ end e. octets-are-kept-before-bracket n end (octet-ends-within-text (i + 1) end within e))
+      ∙ ap (option_and_then (octets_end closing n)) (octet-is-kept-before-bracket _ within)
+      ∙ same-next-if-same-for-value _ _ _
+      (λ end e. octets-are-kept-before-bracket n end (octet-ends-within-text _ end within e))
       ∙ sym (cond-true _ _ _ d))
       (λ d. cond-false _ _ _ (next-before-bracket-is-kept 46 i refl le ∙ d)
       ∙ sym (cond-false _ _ _ d))
-      (cases_Bool (is_next text 46 i))
+      (cases_Bool _)
 
   octets-end-within-text : (n i end : ℕ) → i ≤ length text → octets_end text n i ≡ Some end
       → end ≤ length text
@@ -223,8 +201,7 @@ module _ (text : List ℕ) where
       (sym (cond-true _ _ _ d) ∙ e)
       (λ m a b. octets-end-within-text n m end
       (octet-ends-within-text (i + 1) m (omega arith) a) b))
-      (λ d. absurd (none-some end (sym (cond-false _ _ _ d) ∙ e)))
-      (cases_Bool (is_next text 46 i))
+      (λ d. absurd (none-some end (sym (cond-false _ _ _ d) ∙ e))) (cases_Bool (is_next text 46 i))
 
   pub ipv4-is-kept-before-bracket : (i : ℕ) → i ≤ length text → ipv4_end closing i ≡ ipv4_end text i
   ipv4-is-kept-before-bracket i le =
@@ -234,6 +211,5 @@ module _ (text : List ℕ) where
 
   pub ipv4-ends-within-text : (i end : ℕ) → i ≤ length text → ipv4_end text i ≡ Some end
       → end ≤ length text
-  ipv4-ends-within-text i end le e = value-after-two-steps (λ k. k ≤ length text)
-      (octets_end text 3) (octet_end text i) end e
-      (λ m a b. octets-end-within-text 3 m end (octet-ends-within-text i m le a) b)
+  ipv4-ends-within-text i end le e =
+      search (rules, value-after-two-steps, octets-end-within-text, octet-ends-within-text)

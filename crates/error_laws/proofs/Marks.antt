@@ -1,15 +1,7 @@
 -- Scans that end at marks, and ASCII texts.
-use Rattle.std.proofs.Common.{◌≡◌, ℕ, true, List, [], ◌∷◌, ◌++◌, length, drop, ap, sym, ◌∙◌, zero, suc, Bool, ltb, ◌<◌, arith, IsUtf8, IsAscii}
-use Rattle.std.proofs.lemmas.Bool.{eqb-true, and_parts, ltb-true}
-use Rattle.uri_pct.specs.Prefixes.{valid_prefix}
-use Rattle.uri_pct.specs.Sets.{TableSet, LacksPercent}
-use Rattle.uri_pct.specs.Tokens.{IsValidFor, is_valid_for}
-use Rattle.uri_pct.proofs.ValidTexts.Cuts.{excludes, cut}
+use Rattle.error_laws.proofs.Common.{◌≡◌, ℕ, true, List, [], ◌∷◌, ◌++◌, length, drop, ap, sym, ◌∙◌, zero, suc, Bool, ltb, ◌<◌, arith, IsUtf8, IsAscii, eqb-true, and_parts, ltb-true, valid_prefix, TableSet, LacksPercent, IsValidFor, is_valid_for, excludes, cut, IsEmptyOrMarked, cut-at-end-of-text-without-marks, valid_text_lacks_excluded_marks, IsUtf8-from_ascii}
 use Rattle.uri_parts.proofs.Authorities.AuthorityCuts.{length-of-text-before-marks}
-use Rattle.uri_parts.proofs.Splitting.Cuts.{IsEmptyOrMarked, cut-at-end-of-text-without-marks}
-use Rattle.uri_parts.proofs.TextKinds.GrammarTexts.{valid_text_lacks_excluded_marks}
 use Rattle.std.specs.List.{list_all}
-use Rattle.std.proofs.lemmas.Str.{IsUtf8-from_ascii}
 
 -- error law: at an index of a text it ends, or one of the marks is next
 abbrev pub At : List ℕ → ℕ → List ℕ → Type 0
@@ -37,8 +29,7 @@ tested-bytes-are-ascii test ascii (b ∷ bs) e (suc i) = tested-bytes-are-ascii 
 -- error law: a text of characters that pass a test of ASCII alone is UTF-8
 pub tested-ascii-is-utf8 : (test : ℕ → Bool) → ((c : ℕ) → test c ≡ true → c < 128)
     → (bs : List ℕ) → list_all test bs ≡ true → IsUtf8 bs
-tested-ascii-is-utf8 test ascii bs e = IsUtf8-from_ascii bs
-    (tested-bytes-are-ascii test ascii bs e)
+tested-ascii-is-utf8 test ascii bs e = IsUtf8-from_ascii bs (tested-bytes-are-ascii test ascii bs e)
 
 -- error law: a byte is ASCII
 abbrev pub is_ascii_byte : ℕ → Bool

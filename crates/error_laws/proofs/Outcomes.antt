@@ -1,17 +1,6 @@
 -- What an error says of the texts that begin with what is before it: each has an error too, where
 -- the error is late, and otherwise some text has none.
-use Rattle.std.proofs.Common.{◌≡◌, ℕ, ◌<◌, ◌≤◌, Bool, true, false, List, [], ◌++◌, take, drop, Some, None, refl, sym, ap, subst, ◌∙◌, arith, ◌&&◌, ⊎_elim, length, drop_at, length-take-le, IsUtf8}
-use Rattle.std.proofs.lemmas.Bool.{cases_Bool, cases_lt, cond-true, cond-false}
-use Rattle.std.proofs.lemmas.Option.{same_Some}
-use Rattle.std.proofs.lemmas.Str.{IsUtf8-append, IsUtf8-nil, IsUtf8-take, IsCharBoundary-from_drop}
-use Rattle.std.proofs.lemmas.Bool.Decides.{nat_tests}
-use Rattle.uri_pct.specs.Sets.{TableSet, LacksPercent, digit_set, is_one_of}
-use Rattle.uri_pct.proofs.ValidTexts.Cuts.{excludes}
-use Rattle.uri_parts.specs.declared.error.ParseError.{ParseError}
-use Rattle.uri_parts.specs.Refusals.{OptionalParseError, ◌>>=◌}
-use Rattle.uri_parts.specs.Scanning.{is_next, scan_end, scan}
-use Rattle.uri_parts.proofs.Refusals.Rooted.{scan-stops-at-stray-percent-or-goes-on}
-use Rattle.uri_parts.proofs.Splitting.Cuts.{IsEmptyOrMarked, empty-or-marked-for-more-marks, begins-with-mark, begins-with-no-other}
+use Rattle.error_laws.proofs.Common.{◌≡◌, ℕ, ◌<◌, ◌≤◌, Bool, true, false, List, [], ◌++◌, take, drop, Some, None, refl, sym, ap, subst, ◌∙◌, arith, ◌&&◌, ⊎_elim, length, drop_at, length-take-le, IsUtf8, rules, cases_Bool, cases_lt, cond-true, cond-false, same_Some, IsUtf8-append, IsUtf8-nil, IsUtf8-take, IsCharBoundary-from_drop, nat_tests, TableSet, LacksPercent, digit_set, is_one_of, excludes, ParseError, OptionalParseError, ◌>>=◌, is_next, scan_end, scan, scan-stops-at-stray-percent-or-goes-on, IsEmptyOrMarked, empty-or-marked-for-more-marks, begins-with-mark, begins-with-no-other}
 use Rattle.error_laws.proofs.Marks.{At}
 use Rattle.error_laws.proofs.SharedPrefixes.{IsPosition, scan-ends-at-position, Alike, prefix-is-alike, next-is-shared, scan-is-shared, scan-goes-on-alike, digits-end-is-shared}
 
@@ -89,15 +78,8 @@ module _ (n : ℕ) (text other : List ℕ) (w : Alike n text other) where
   pub other-byte-is-not-next : (late : Bool) (mark : ℕ) (marks : List ℕ) (i k : ℕ)
       → is_one_of marks mark ≡ false → i ≤ k → k ≤ n → is_next text mark i ≡ false
       → Follows late marks k n other → is_next other mark i ≡ false
-  other-byte-is-not-next late mark marks i k m le within e h = ⊎_elim
-      (λ (l : i < n). next-is-shared n text other w mark i l ∙ e)
-      (λ (l : n ≤ i). at_end late (omega arith) l h)
-      (cases_lt i n)
-    where
-      at_end : (b : Bool) → k ≡ i → n ≤ i → Follows b marks k n other → is_next other mark i ≡ false
-      at_end true same l h = absurd (omega arith)
-      at_end false same l h = begins-with-no-other mark marks (drop i other) m
-          (subst (λ j. At marks j other) same h)
+  other-byte-is-not-next late mark marks i k m le within e h =
+      search (rules, next-is-shared, cases_lt, begins-with-no-other)
 
   -- digits end where they do in the text
   pub digits-end-alike : (late : Bool) (marks : List ℕ) (i : ℕ) → excludes digit_set marks ≡ true

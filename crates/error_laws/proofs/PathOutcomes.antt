@@ -1,23 +1,6 @@
 -- The outcomes of errors in a fragment, a query, a path and a port.
-use Rattle.std.proofs.Common.{◌≡◌, ℕ, ◌+◌, ◌<◌, ◌≤◌, Bool, true, false, cond, eqb, List, [], ◌∷◌, drop, Some, None, refl, sym, ap, subst, ◌∙◌, arith, ◌&&◌, ◌||◌, inl, ⊎_elim, inr, ◌⊎◌, length-drop, codes, Ok, IsUtf8}
-use Rattle.std.proofs.lemmas.Bool.{cases_Bool, cond-true, cond-false, and_parts, and_from, or_left, or_right, or_from, or_parts, both_ways, eq-eqb, eqb-true, ne_eqb, ltb-true, lt-ltb, not-true, not_from_false, or_cases}
-use Rattle.std.proofs.lemmas.Option.{same_Some, none-some}
-use Rattle.std.proofs.lemmas.Str.{IsUtf8-nil, IsCharBoundary-from_take}
-use Rattle.std.proofs.lemmas.Bool.Decides.{nat_tests}
-use Rattle.uri_pct.specs.Prefixes.{valid_prefix}
-use Rattle.uri_pct.specs.Sets.{TableSet, LacksPercent, digit_set, is_one_of}
-use Rattle.uri_pct.specs.Tokens.{IsValidFor}
-use Rattle.uri_pct.proofs.ValidTexts.Cuts.{excludes}
+use Rattle.error_laws.proofs.Common.{◌≡◌, ℕ, ◌+◌, ◌<◌, ◌≤◌, Bool, true, false, cond, eqb, List, [], ◌∷◌, drop, Some, None, refl, sym, ap, subst, ◌∙◌, arith, ◌&&◌, ◌||◌, inl, ⊎_elim, inr, ◌⊎◌, length-drop, codes, Ok, IsUtf8, cases_Bool, cond-true, cond-false, and_parts, and_from, or_left, or_right, or_from, or_parts, both_ways, eq-eqb, eqb-true, ne_eqb, ltb-true, lt-ltb, not-true, not_from_false, or_cases, same_Some, none-some, IsUtf8-nil, IsCharBoundary-from_take, nat_tests, valid_prefix, TableSet, LacksPercent, digit_set, is_one_of, IsValidFor, excludes, ParseError, starts, is_end, unexpected, stray_percent, Kind, OptionalParseError, ◌>>=◌, error_from_end, error_from_fragment, error_from_query, error_from_path, error_from_abempty_path, error_from_port, error_from_host, is_next, is_at_end, scan_end, scan, scan-stops-at-stray-percent-or-goes-on, IsEmptyOrMarked, empty-or-marked-for-more-marks, begins-with-no-other, is_unrooted, is_late_from_port}
 use Rattle.uri_pct.proofs.ValidTexts.LongestPrefixes.{empty_text_has_empty_valid_prefix, valid_prefix_is_longest}
-use Rattle.uri_parts.specs.declared.error.ParseError.{ParseError}
-use Rattle.uri_parts.specs.Components.{starts, is_end}
-use Rattle.uri_parts.specs.Errors.{unexpected, stray_percent}
-use Rattle.uri_parts.specs.Grammar.{Kind}
-use Rattle.uri_parts.specs.Refusals.{OptionalParseError, ◌>>=◌, error_from_end, error_from_fragment, error_from_query, error_from_path, error_from_abempty_path, error_from_port, error_from_host}
-use Rattle.uri_parts.specs.Scanning.{is_next, is_at_end, scan_end, scan}
-use Rattle.uri_parts.proofs.Refusals.Rooted.{scan-stops-at-stray-percent-or-goes-on}
-use Rattle.uri_parts.proofs.Splitting.Cuts.{IsEmptyOrMarked, empty-or-marked-for-more-marks, begins-with-no-other}
-use Rattle.error_laws.specs.ViablePrefixes.{is_unrooted, is_late_from_port}
 use Rattle.error_laws.proofs.KindFacts.{Facts}
 use Rattle.error_laws.proofs.LongerTexts.{empty-text-is-end}
 use Rattle.error_laws.proofs.Marks.{At}
@@ -107,8 +90,7 @@ module _ (kind : Kind) (f : Facts kind) (text : List ℕ) (u : IsUtf8 text) wher
         empty-or-marked-for-more-marks marks (mark ∷ marks) (drop i other)
             (λ c m. or_right _ _ m) at,
         cond-false _ _ _ (begins-with-no-other mark marks (drop i other) apart at),
-      )))
-      (cases_Bool (is_next text mark i))
+      ))) (cases_Bool (is_next text mark i))
 
   fragment-outcome : (i : ℕ) (r : ParseError) → IsPosition text i
       → error_from_fragment kind text i ≡ Some r
@@ -181,8 +163,7 @@ module _ (kind : Kind) (f : Facts kind) (text : List ℕ) (u : IsUtf8 text) wher
               (λ z. empty-or-marked-for-more-marks (codes "?#") (codes "/?#") (drop i other)
               (λ c m. or_right _ _ m) (subst (λ k. At (codes "?#") k other) (eqb-true _ _ z) at))
               (λ z. shared-mark-is-at r.index text other w 47 (codes "/?#") i refl
-              (omega (arith, z.0, from)) z.1)
-              empty_or_slash,
+              (omega (arith, z.0, from)) z.1) empty_or_slash,
           refl,
         ))
 
@@ -222,8 +203,7 @@ module _ (kind : Kind) (f : Facts kind) (text : List ℕ) (u : IsUtf8 text) wher
                       unexpected i,
                       ap (λ r. r >>= next other) (cond-false _ _ _ h)
                           ∙ cond-false _ _ _ (or_from _ _ past rootless),
-                    ))
-                    (cases_Bool (kind.path.pct_encoded && is_next other 37 stop)),
+                    )) (cases_Bool (kind.path.pct_encoded && is_next other 37 stop)),
               );
         }
 
@@ -246,8 +226,7 @@ module _ (kind : Kind) (f : Facts kind) (text : List ℕ) (u : IsUtf8 text) wher
           ap (λ r. r >>= next other) (scan-stays-at-end other kind.path i d)
               ∙ cond-true _ _ _ (or_left _ _ (eq-eqb i i refl))
               ∙ end-has-no-query-error kind other i d,
-        ))))
-        (cases_Bool (kind.path.pct_encoded && is_next text 37 end))
+        )))) (cases_Bool (kind.path.pct_encoded && is_next text 37 end))
 
     abempty-outcome-by-late : (late : Bool) (r : ParseError) → is_unrooted kind text i ≡ late
         → (scan text kind.path i >>= next text) ≡ Some r
@@ -256,8 +235,7 @@ module _ (kind : Kind) (f : Facts kind) (text : List ℕ) (u : IsUtf8 text) wher
     abempty-outcome-by-late true r l e = unrooted-path-outcome r l e
     abempty-outcome-by-late false r l e = ⊎_elim
         (λ h. rooted-path-outcome r h e)
-        (λ h. rootless-path-outcome r h l e)
-        (cases_Bool (is_rooted text end))
+        (λ h. rootless-path-outcome r h l e) (cases_Bool (is_rooted text end))
 
     pub abempty-path-outcome : (late : Bool) (r : ParseError) → is_unrooted kind text i ≡ late
         → error_from_abempty_path kind text i ≡ Some r
@@ -298,5 +276,4 @@ module _ (kind : Kind) (f : Facts kind) (text : List ℕ) (u : IsUtf8 text) wher
         ap (error_from_abempty_path kind other) (cond-false _ _ _
             (other-byte-is-not-next r.index text other w late 58 (codes "/?#") i i refl
             (omega arith) o.from s h)),
-      )))
-      (cases_Bool (is_next text 58 i))
+      ))) (cases_Bool (is_next text 58 i))

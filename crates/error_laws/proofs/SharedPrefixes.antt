@@ -1,30 +1,14 @@
 -- Positions between the characters of a text, and two texts that begin alike: what is next and what
 -- is scanned within what they share.
-use Rattle.std.proofs.Common.{◌≡◌, ℕ, ◌+◌, ◌-◌, ◌<◌, ◌≤◌, true, false, eqb, List, [], ◌∷◌, ◌++◌, ap, length, get_or, take, drop, refl, sym, subst, ◌∙◌, arith, ◌&&◌, ⊎_elim, length-append, length-drop, length-take-le, take-append-drop, take_at, drop_at, append_assoc, Ok, is_ok, codes, IsUtf8}
+use Rattle.error_laws.proofs.Common.{◌≡◌, ℕ, ◌+◌, ◌-◌, ◌<◌, ◌≤◌, true, false, eqb, List, [], ◌∷◌, ◌++◌, ap, length, get_or, take, drop, refl, sym, subst, ◌∙◌, arith, ◌&&◌, ⊎_elim, length-append, length-drop, length-take-le, take-append-drop, take_at, drop_at, append_assoc, Ok, is_ok, codes, IsUtf8, rules, cases_Bool, cond-true, cond-false, and_parts, eqb-true, and_right, false≢true, drop-drop, drop-take, take-take, get_or-take, get_or-drop, drop_more, drop_all, same_Some, IsUtf8-take, IsUtf8-drop, IsCharBoundary-from_drop, IsCharBoundary-from_take, IsCharBoundary-before_ascii, nat_tests, allows_first, valid_prefix, TableSet, LacksPercent, allows_past_ascii, digit_set, is_one_of, IsValidFor, excludes, valid_prefix_is_at_most_length, Lacks, starts, before_any, from_any, has_authority, literal, is_next, scan_end, scan, valid_prefix-at-digit-is-one-more, valid_prefix-at-other-byte-is-zero, IsEmptyOrMarked, text-is-cut-at-first-mark, cut-at-end-of-text-without-marks, begins-with-no-other, utf8_around_ascii_byte}
 use Rattle.std.specs.Result.{result_ok}
-use Rattle.std.proofs.lemmas.Bool.{cases_Bool, cond-true, cond-false, and_parts, eqb-true, and_right, false≢true}
 use Rattle.std.proofs.Math.Seq.{take-append-add}
-use Rattle.std.proofs.lemmas.List.{drop-drop, drop-take, take-take, get_or-take, get_or-drop, drop_more, drop_all}
-use Rattle.std.proofs.lemmas.Option.{same_Some}
-use Rattle.std.proofs.lemmas.Str.{IsUtf8-take, IsUtf8-drop, IsCharBoundary-from_drop, IsCharBoundary-from_take, IsCharBoundary-before_ascii}
-use Rattle.std.proofs.lemmas.Bool.Decides.{nat_tests}
-use Rattle.uri_pct.specs.Prefixes.{allows_first, valid_prefix}
-use Rattle.uri_pct.specs.Sets.{TableSet, LacksPercent, allows_past_ascii, digit_set, is_one_of}
-use Rattle.uri_pct.specs.Tokens.{IsValidFor}
-use Rattle.uri_pct.proofs.ValidTexts.Cuts.{excludes}
 use Rattle.uri_pct.proofs.ValidTexts.LongestPrefixes.{valid_prefix_ends_at_boundary, valid_prefix_is_valid}
-use Rattle.uri_pct.proofs.ValidTexts.Prefixes.{valid_prefix_is_at_most_length}
-use Rattle.uri_parts.specs.Components.{Lacks, starts, before_any, from_any, has_authority}
-use Rattle.uri_parts.specs.LiteralErrors.{literal}
 use Rattle.uri_parts.specs.Models.Literals.{literal_length}
-use Rattle.uri_parts.specs.Scanning.{is_next, scan_end, scan}
 use Rattle.uri_parts.proofs.Parsing.Acceptance.{is_literal, parses_literal}
 use Rattle.uri_parts.proofs.Parsing.ScanStops.{utf8_after_mark}
-use Rattle.uri_parts.proofs.Refusals.Names.{valid_prefix-at-digit-is-one-more, valid_prefix-at-other-byte-is-zero}
 use Rattle.uri_parts.proofs.Refusals.LiteralEnds.{literal-ends-as-parsed}
-use Rattle.uri_parts.proofs.Splitting.Cuts.{IsEmptyOrMarked, text-is-cut-at-first-mark, cut-at-end-of-text-without-marks, begins-with-no-other}
 use Rattle.uri_parts.proofs.Splitting.Recompose.{text-with-mark-is-mark-and-rest}
-use Rattle.uri_parts.proofs.TextKinds.GrammarTexts.{utf8_around_ascii_byte}
 use Rattle.error_laws.proofs.Marks.{At, valid-text-is-scanned-to-mark}
 
 -- error law: where a mark is next, the text does not end
@@ -35,11 +19,7 @@ mark-is-within-text text mark i e = grind (arith, nat_tests, drop_all)
 -- general fact on lists, for the error law: what is taken in one step is taken in two
 pub taken-in-two-steps : (text : List ℕ) (i k : ℕ) → i ≤ length text
     → take (i + k) text ≡ take i text ++ take k (drop i text)
-taken-in-two-steps text i k le =
-    let n = length-take-le i text le in
-    ap (take (i + k)) (sym (take-append-drop i text))
-    ∙ ap (λ m. take (m + k) (take i text ++ drop i text)) (sym n)
-    ∙ take-append-add (take i text) (drop i text) k
+taken-in-two-steps text i k le = search (rules, length-take-le, take-append-drop, take-append-add)
 
 -- error law: what is next at an index within a text is its byte there
 pub is_next-by-byte : (text : List ℕ) (mark i : ℕ) → i < length text
@@ -78,9 +58,8 @@ pub scan-ends-at-position : (text : List ℕ) (set : TableSet) → LacksPercent 
 scan-ends-at-position text set lacks i a =
     let bs : List ℕ = drop i text in
     record {
-      utf8 = subst IsUtf8 (drop-drop (valid_prefix set bs) i text)
-          (IsUtf8-drop bs (valid_prefix set bs) a.utf8
-          (valid_prefix_ends_at_boundary set lacks bs a.utf8));
+      utf8 = subst IsUtf8 (drop-drop (valid_prefix set bs) i _)
+          (IsUtf8-drop bs _ a.utf8 (valid_prefix_ends_at_boundary set lacks bs a.utf8));
       le = omega (arith, valid_prefix_is_at_most_length set bs, length-drop i text, a.le);
     }
 
@@ -90,11 +69,7 @@ pub scanned-part-is-valid : (text : List ℕ) (set : TableSet) → LacksPercent 
     → IsUtf8 (take (valid_prefix set (drop i text)) (drop i text))
     × IsValidFor set (take (valid_prefix set (drop i text)) (drop i text))
 scanned-part-is-valid text set lacks i a =
-    let bs : List ℕ = drop i text in (
-      IsUtf8-take bs (valid_prefix set bs) a.utf8
-          (valid_prefix_ends_at_boundary set lacks bs a.utf8),
-      valid_prefix_is_valid set lacks bs a.utf8,
-    )
+    search (rules, IsUtf8-take, valid_prefix_ends_at_boundary, valid_prefix_is_valid)
 
 -- error law: a scan goes on at its end if no `%` (37) is next there
 pub scan-goes-on : (text : List ℕ) (set : TableSet) (i end : ℕ) → scan_end text set i ≡ end
@@ -231,10 +206,9 @@ literal-is-parsed text i k u h =
     let d = cut-at-end-of-text-without-marks (codes "]") h.address (93 ∷ h.rest) h.lacks refl in
     let before : before_any (codes "]") (drop i text) ≡ h.address =
     ap (before_any (codes "]")) h.split ∙ d.0 in
-    let parsed : parses_literal (drop i text) ≡ true =
-    ap (λ t. starts 93 t && is_literal (before_any (codes "]") (drop i text)))
-    (ap (from_any (codes "]")) h.split ∙ d.1)
-    ∙ ap is_literal before ∙ h.is in
+    let parsed : parses_literal (drop i text) ≡ true = ap
+    (λ t. starts 93 t && is_literal (before_any (codes "]") (drop i text)))
+    (ap (from_any (codes "]")) h.split ∙ d.1) ∙ ap is_literal before ∙ h.is in
     let size = ap length before in
     let same : i + literal_length (drop i text) ≡ k = omega (arith, size, h.end) in
     (literal-ends-as-parsed text i u).1 ∙ cond-true _ _ _ parsed ∙ ap (λ j. Ok j) same
@@ -285,11 +259,10 @@ literal-ends-at-position text i k a e =
 pub literal-is-shared : (n : ℕ) (text other : List ℕ) → Alike n text other → IsUtf8 text → (i k : ℕ)
     → IsPosition text i → literal text i ≡ Ok k → k ≤ n → literal other i ≡ Ok k
 literal-is-shared n text other w u i k a e le =
-    let h = parsed-literal-is-there text i k a.utf8 e in
+    let h = parsed-literal-is-there _ i k a.utf8 e in
     let m : ℕ = length h.address + 1 in
     let closed : List ℕ = h.address ++ codes "]" in
-    let whole : drop i text ≡ closed ++ h.rest =
-    h.split ∙ sym (append_assoc h.address (codes "]") h.rest) in
+    let whole : drop i text ≡ closed ++ h.rest = h.split ∙ sym (append_assoc h.address _ _) in
     let same : take m (drop i other) ≡ closed =
     bytes-are-shared n text other w i m (omega (arith, h.end, le)) ∙ ap (take m) whole
     ∙ take_at closed h.rest m (length-append h.address (codes "]")) in

@@ -1,17 +1,8 @@
 -- Where userinfo, a name and a port end in one another, and the last `:` of a text.
-use Rattle.std.proofs.Common.{◌≡◌, ℕ, zero, suc, ◌+◌, ◌<◌, ◌≤◌, true, false, cond, eqb, List, ◌∷◌, drop, refl, ap, ◌∙◌, arith, ⊎_elim, drop-drop}
-use Rattle.std.proofs.lemmas.Bool.{cases_Bool, cond-true, cond-false, and_right, eq-eqb}
-use Rattle.uri_pct.specs.Prefixes.{valid_prefix_from, valid_prefix}
-use Rattle.uri_pct.specs.Sets.{digit_set}
-use Rattle.uri_pct.proofs.ValidTexts.Cuts.{valid_prefix_by_first_byte}
+use Rattle.error_laws.proofs.Common.{◌≡◌, ℕ, zero, suc, ◌+◌, ◌<◌, ◌≤◌, true, false, List, ◌∷◌, drop, refl, ap, ◌∙◌, arith, ⊎_elim, drop-drop, rules, cases_Bool, cond-true, cond-false, and_right, eq-eqb, valid_prefix_from, valid_prefix, digit_set, valid_prefix_by_first_byte, valid_prefix_of_superset_goes_on_from_subset, Kind, last_colon, error_from_port, error_from_abempty_path, error_from_host, error_from_authority, is_next, scan_end, text-at-mark-is-mark-and-rest}
 use Rattle.uri_pct.proofs.ValidTexts.MarksInTexts.{ascii_byte_has_no_continuation}
-use Rattle.uri_pct.proofs.ValidTexts.Prefixes.{valid_prefix_of_superset_goes_on_from_subset}
 use Rattle.uri_pct.proofs.ValidTexts.Validity.{ascii_first_byte_is_allowed_iff_in_set}
-use Rattle.uri_parts.specs.Grammar.{Kind}
-use Rattle.uri_parts.specs.Refusals.{◌>>=◌, last_colon, error_from_port, error_from_abempty_path, error_from_host, error_from_name, error_from_authority}
-use Rattle.uri_parts.specs.Scanning.{is_next, scan_end}
 use Rattle.uri_parts.proofs.Refusals.Colons.{last_colon_is_below_position}
-use Rattle.uri_parts.proofs.Refusals.Sound.{text-at-mark-is-mark-and-rest}
 use Rattle.error_laws.proofs.KindFacts.{Facts}
 use Rattle.error_laws.proofs.SharedPrefixes.{Alike, scan-goes-on, next-is-shared}
 
@@ -22,9 +13,8 @@ unfolding last_colon
 last-colon-is-colon text zero l = absurd (omega arith)
 last-colon-is-colon text (suc n) l = ⊎_elim
     (λ c. ap (is_next text 58) (cond-true _ _ _ c) ∙ c)
-    (λ c. let e = cond-false (is_next text 58 n) n (last_colon text n) c in
-    ap (is_next text 58) e ∙ last-colon-is-colon text n (omega (arith, e)))
-    (cases_Bool (is_next text 58 n))
+    (λ c. let e = cond-false _ n _ c in
+    ap (is_next text 58) e ∙ last-colon-is-colon _ n (omega (arith, e))) (cases_Bool _)
 
 -- error law: if there is a `:` before position n of a text, the last such one is before n
 pub last-colon-is-before-position : (text : List ℕ) (n : ℕ) → 0 < last_colon text n
@@ -40,17 +30,15 @@ pub last-colon-is-shared : (n : ℕ) (text other : List ℕ) → Alike n text ot
 unfolding last_colon
 last-colon-is-shared n text other w zero le = refl
 last-colon-is-shared n text other w (suc k) le =
-    ap (λ b. cond b k (last_colon other k)) (next-is-shared n text other w 58 k (omega arith))
-    ∙ ap (λ m. cond (is_next text 58 k) k m) (last-colon-is-shared n text other w k (omega arith))
+    search (rules, next-is-shared, last-colon-is-shared n text other w k (omega arith))
 
 module _ (kind : Kind) (f : Facts kind) (text : List ℕ) where
   pub colon-adds-to-userinfo : (bs : List ℕ)
       → valid_prefix kind.userinfo (58 ∷ bs) ≡ valid_prefix kind.userinfo bs + 1
   colon-adds-to-userinfo bs = valid_prefix_by_first_byte kind.userinfo 58 bs
-      ∙ cond-false _ _ _ (and_right _ _ refl)
-      ∙ cond-true _ _ _ (ascii_first_byte_is_allowed_iff_in_set kind.userinfo 58 bs (omega arith)
-      ∙ f.apart.colon_within)
-      ∙ ap (λ k. valid_prefix_from kind.userinfo k bs + 1)
+      ∙ cond-false _ _ _ (and_right _ _ refl) ∙ cond-true _ _ _
+      (ascii_first_byte_is_allowed_iff_in_set kind.userinfo 58 bs (omega arith)
+      ∙ f.apart.colon_within) ∙ ap (λ k. valid_prefix_from kind.userinfo k bs + 1)
       (ascii_byte_has_no_continuation 58 (omega arith))
 
   -- userinfo goes on where a name ends
@@ -60,8 +48,7 @@ module _ (kind : Kind) (f : Facts kind) (text : List ℕ) where
       let bs : List ℕ = drop i text in
       let w = valid_prefix_of_superset_goes_on_from_subset kind.reg_name kind.userinfo
       f.apart.name_within f.apart.reg_name_lacks bs in
-      let d = ap (valid_prefix kind.userinfo)
-      (drop-drop (valid_prefix kind.reg_name bs) i text) in
+      let d = ap (valid_prefix kind.userinfo) (drop-drop (valid_prefix kind.reg_name bs) i text) in
       omega (arith, w, d)
 
   -- userinfo goes on where a port ends
@@ -70,8 +57,7 @@ module _ (kind : Kind) (f : Facts kind) (text : List ℕ) where
       ≡ scan_end text kind.userinfo (scan_end text digit_set (k + 1))
   userinfo-goes-on-after-port k e =
       let bs : List ℕ = drop (k + 1) text in
-      let w = valid_prefix_of_superset_goes_on_from_subset digit_set kind.userinfo
-      f.apart.digits_within refl bs in
+      let w = valid_prefix_of_superset_goes_on_from_subset _ _ f.apart.digits_within refl bs in
       let c = ap (valid_prefix kind.userinfo) (text-at-mark-is-mark-and-rest text 58 k e)
       ∙ colon-adds-to-userinfo bs in
       let d = ap (valid_prefix kind.userinfo)
@@ -85,12 +71,4 @@ module _ (kind : Kind) (f : Facts kind) (text : List ℕ) where
       → error_from_authority kind text i ≡ error_from_abempty_path kind text i
   unfolding error_from_authority error_from_host error_from_port
   empty-authority-is-passed i none percent at bracket colon =
-      let w = userinfo-goes-on-after-name i in
-      let none_name : valid_prefix kind.reg_name (drop i text) ≡ 0 = omega (arith, w, none) in
-      ap (λ r. r >>= λ n. cond (is_next text 64 n) (error_from_host kind text (n + 1))
-      (cond (eqb n i) (error_from_host kind text i) (error_from_name kind text i n)))
-      (scan-goes-on text kind.userinfo i i (omega (arith, none)) percent)
-      ∙ cond-false _ _ _ at ∙ cond-true _ _ _ (eq-eqb i i refl) ∙ cond-false _ _ _ bracket
-      ∙ ap (λ r. r >>= error_from_port kind text)
-      (scan-goes-on text kind.reg_name i i (omega (arith, none_name)) percent)
-      ∙ ap (error_from_abempty_path kind text) (cond-false _ _ _ colon)
+      search (rules, userinfo-goes-on-after-name, scan-goes-on, cond-false, cond-true, eq-eqb)

@@ -1,28 +1,12 @@
 -- The outcomes of errors in a whole text: the law of viable prefixes, and its exceptions.
-use Rattle.std.proofs.Common.{◌≡◌, ℕ, ◌+◌, ◌<◌, ◌≤◌, Bool, true, false, cond, eqb, List, [], ◌∷◌, ◌++◌, length, get_or, take, drop, Some, None, refl, sym, ap, subst, ◌∙◌, arith, ◌&&◌, ⊎_elim, length-drop, take-append-drop, zero-add, codes, is_none, slice_index, IsUtf8, drop-drop, get_or-drop}
+use Rattle.error_laws.proofs.Common.{◌≡◌, ℕ, ◌+◌, ◌<◌, ◌≤◌, Bool, true, false, cond, eqb, List, [], ◌∷◌, ◌++◌, length, get_or, take, drop, Some, None, refl, sym, ap, subst, ◌∙◌, arith, ◌&&◌, ⊎_elim, length-drop, take-append-drop, zero-add, codes, is_none, slice_index, IsUtf8, drop-drop, get_or-drop, cases_Bool, cases_lt, cond-true, cond-false, and_parts, and_left, and_right, and_cases, both_ways, false≢true, ltb-true, lt-ltb, not-true, not-false, or_right, same_Some, IsUtf8-nil, valid_prefix, TableSet, scheme_set, excludes, valid_prefix_of_superset_goes_on_from_subset, ParseError, has_authority, starts, unexpected, stray_percent, Kind, IsTextOf, is_of_kind, first_segment_set, OptionalParseError, ◌>>=◌, refusal, error_from_path, error_from_authority, error_from_hier_part, error_from_relative_path, is_next, scan_end, scan, scan-stops-at-stray-percent-or-goes-on, nothing-is-scanned-at-mark, IsEmptyOrMarked, empty-or-marked-for-more-marks, begins-with-mark, begins-with-no-other, IsViablePrefix, begins_without_letter, has_late_error, is_late_from_authority, is_late_from_hier}
 use Rattle.std.specs.Char.{is_ascii_alphabetic}
-use Rattle.std.proofs.lemmas.Bool.{cases_Bool, cases_lt, cond-true, cond-false, and_parts, and_left, and_right, and_cases, both_ways, false≢true, ltb-true, lt-ltb, not-true, not-false, or_right}
-use Rattle.std.proofs.lemmas.Option.{same_Some}
-use Rattle.std.proofs.lemmas.Str.{IsUtf8-nil}
-use Rattle.uri_pct.specs.Prefixes.{valid_prefix}
-use Rattle.uri_pct.specs.Sets.{TableSet, scheme_set}
-use Rattle.uri_pct.proofs.ValidTexts.Cuts.{excludes}
-use Rattle.uri_pct.proofs.ValidTexts.Prefixes.{valid_prefix_of_superset_goes_on_from_subset}
-use Rattle.uri_parts.specs.declared.error.ParseError.{ParseError}
-use Rattle.uri_parts.specs.Components.{has_authority, starts}
-use Rattle.uri_parts.specs.Errors.{unexpected, stray_percent}
-use Rattle.uri_parts.specs.Grammar.{Kind, IsTextOf, is_of_kind, first_segment_set}
-use Rattle.uri_parts.specs.Refusals.{OptionalParseError, ◌>>=◌, refusal, error_from_path, error_from_authority, error_from_hier_part, error_from_relative_path}
-use Rattle.uri_parts.specs.Scanning.{is_next, scan_end, scan}
 use Rattle.uri_parts.proofs.Parsing.ScanStops.{utf8_after_slashes}
 use Rattle.uri_parts.proofs.Parsing.WholeTexts.{parses-is-is_of_kind, slashes-begin-with-no-colon, slashes-begin-with-no-scheme}
 use Rattle.uri_parts.proofs.Refusals.Accepted.{no-error-iff-text-is-parsed}
 use Rattle.uri_parts.proofs.Refusals.OnLiterals.{errors_on_literals}
-use Rattle.uri_parts.proofs.Refusals.Rooted.{scan-stops-at-stray-percent-or-goes-on, nothing-is-scanned-at-mark}
 use Rattle.uri_parts.proofs.Refusals.Whole.{parsed_error-is-refusal}
-use Rattle.uri_parts.proofs.Splitting.Cuts.{IsEmptyOrMarked, empty-or-marked-for-more-marks, begins-with-mark, begins-with-no-other}
 use Rattle.error_laws.proofs.Marks.{literal-is-utf8, At}
-use Rattle.error_laws.specs.ViablePrefixes.{IsViablePrefix, begins_without_letter, has_late_error, is_late_from_authority, is_late_from_hier}
 use Rattle.error_laws.proofs.AuthorityOutcomes.{authority-outcome}
 use Rattle.error_laws.proofs.HostOutcomes.{scan-stops-at-its-end}
 use Rattle.error_laws.proofs.KindFacts.{Facts, path-stops-with-segment}
@@ -63,9 +47,7 @@ no-slashes-alike n text other w i k le within at h =
     (λ (l : i + 1 < k). slashes-are-shared n text other w i (omega (arith, l, within)) ∙ h)
     (λ (l : k ≤ i + 1). ⊎_elim
     (λ (m : i < k). and_right _ _ (byte 1 (omega arith)))
-    (λ (m : k ≤ i). and_left _ _ (byte 0 (omega arith)))
-    (cases_lt i k))
-    (cases_lt (i + 1) k)
+    (λ (m : k ≤ i). and_left _ _ (byte 0 (omega arith))) (cases_lt i k)) (cases_lt (i + 1) k)
 
 module _ (kind : Kind) where
   -- after a scheme nothing has to follow
@@ -118,8 +100,7 @@ module _ (kind : Kind) (f : Facts kind) (text : List ℕ) (u : IsUtf8 text) wher
       (carry text r.index false _ _ end i _ _ (omega arith) o (λ other w at. (
         tt,
         cond-false _ _ _ (no-slashes-alike r.index text other w i end (omega arith) o.from at h),
-      ))))
-      (cases_Bool (has_authority (drop i text)))
+      )))) (cases_Bool (has_authority (drop i text)))
 
   -- a path without a scheme and an authority
   module _ (needs : kind.needs_scheme ≡ false) (none : has_authority text ≡ false) where
@@ -187,16 +168,14 @@ module _ (kind : Kind) (f : Facts kind) (text : List ℕ) (u : IsUtf8 text) wher
         → is_next t 58 (scan_end t scheme_set 0) ≡ false
     no-scheme-before-segment t n = ⊎_elim
         (λ c.
-        let w = valid_prefix_of_superset_goes_on_from_subset scheme_set segment
-        f.apart.scheme_within refl t in
+        let w = valid_prefix_of_superset_goes_on_from_subset _ _ f.apart.scheme_within refl t in
         let z = nothing-is-scanned-at-mark segment (codes ":/?#") f.apart.segment_lacks
         f.apart.segment_marks (drop (scan_end t scheme_set 0) t)
         (begins-with-mark 58 (codes ":/?#") (drop (scan_end t scheme_set 0) t) refl c) in
         let d = ap (λ n. valid_prefix segment (drop n t)) (zero-add (valid_prefix scheme_set t)) in
         let same : scan_end t scheme_set 0 ≡ scan_end t segment 0 = omega (arith, w, z, d) in
         absurd (both_ways _ n (ap (is_next t 58) (sym same) ∙ c)))
-        (λ c. c)
-        (cases_Bool (is_next t 58 (scan_end t scheme_set 0)))
+        (λ c. c) (cases_Bool (is_next t 58 (scan_end t scheme_set 0)))
 
     relative-outcome : (r : ParseError) → error_from_relative_path kind text segment 0 ≡ Some r
         → Outcome text r.index false Any 0 (refusal kind)
@@ -226,9 +205,8 @@ module _ (kind : Kind) (f : Facts kind) (text : List ℕ) (u : IsUtf8 text) wher
 
   -- an error at the start
   start-outcome : Outcome text 0 false Any 0 (refusal kind)
-  start-outcome = stop text 0 Any 0 (refusal kind) (codes "a:") u (omega arith) start
-      (literal-is-utf8 (codes "a:") refl)
-      (λ other w d. (tt, ap (refusal kind) d ∙ letter-and-colon-have-no-error kind))
+  start-outcome = stop _ 0 Any 0 _ _ u (omega arith) start (literal-is-utf8 _ refl)
+      (λ other w d. (tt, ap (refusal kind) d ∙ letter-and-colon-have-no-error _))
 
   scheme-is-shared : (n : ℕ) (other : List ℕ) → Alike n text other → scheme ≤ n
       → is_next other 58 scheme ≡ true → scan_end other scheme_set 0 ≡ scheme
@@ -243,16 +221,14 @@ module _ (kind : Kind) (f : Facts kind) (text : List ℕ) (u : IsUtf8 text) wher
       → Outcome text r.index late Any 0 (refusal kind)
   unfolding refusal
   scheme-outcome late r s letter l e =
-      let o = hier-part-outcome (scheme + 1) late r
-      (position-after-mark text 58 scheme (omega arith) s at_scheme) l e in
+      let o = hier-part-outcome _ _ r (position-after-mark _ 58 _ (omega arith) s at_scheme) l e in
       let from = o.from in
-      carry text r.index late _ _ (scheme + 1) 0 _ _ (omega arith) o (λ other w q.
-      let colon = next-is-shared r.index text other w 58 scheme (omega (arith, from)) ∙ s in
-      let same = scheme-is-shared r.index other w (omega (arith, from)) colon in (
+      carry _ _ _ _ _ _ 0 _ _ (omega arith) o (λ other w q.
+      let colon = next-is-shared _ _ _ w 58 _ (omega (arith, from)) ∙ s in
+      let same = scheme-is-shared _ _ w (omega (arith, from)) colon in (
         tt,
-        cond-true _ _ _ (ap (is_next other 58) same ∙ colon)
-            ∙ cond-true _ _ _ (ap is_ascii_alphabetic
-            (byte-is-shared r.index text other w 0 (omega (arith, from))) ∙ letter)
+        cond-true _ _ _ (ap (is_next other 58) same ∙ colon) ∙ cond-true _ _ _
+            (ap is_ascii_alphabetic (byte-is-shared _ _ _ w 0 (omega (arith, from))) ∙ letter)
             ∙ ap (λ k. error_from_hier_part kind other (k + 1)) same,
       ))
 
@@ -281,24 +257,20 @@ module _ (kind : Kind) (f : Facts kind) (text : List ℕ) (u : IsUtf8 text) wher
       }
   missing-scheme-outcome needs false l = ⊎_elim
       (λ (some : 0 < scheme).
-      let letter = not-false _ (⊎_elim (λ z. absurd (both_ways _ z (lt-ltb 0 scheme some)))
+      let letter = not-false _ (⊎_elim (λ z. absurd (both_ways _ z (lt-ltb 0 _ some)))
       (λ z. z) (and_cases _ _ l)) in
-      stop text scheme Any 0 (refusal kind) (codes ":") u (omega arith) at_scheme
-      (literal-is-utf8 (codes ":") refl) (λ other w d.
+      stop _ _ Any 0 _ _ u (omega arith) at_scheme (literal-is-utf8 (codes ":") refl) (λ other w d.
       let colon : is_next other 58 scheme ≡ true = ap (starts 58) d in
       let same = scheme-is-shared scheme other w (omega arith) colon in (
         tt,
-        cond-true _ _ _ (ap (is_next other 58) same ∙ colon)
-            ∙ cond-true _ _ _ (ap is_ascii_alphabetic (byte-is-shared scheme text other w 0 some)
-            ∙ letter)
-            ∙ ap (λ k. error_from_hier_part kind other (k + 1)) same
-            ∙ end-has-no-hier-part-error kind other (scheme + 1)
-            (sym (drop-drop 1 scheme other) ∙ ap (drop 1) d),
+        cond-true _ _ _ (ap (is_next other 58) same ∙ colon) ∙ cond-true _ _ _
+            (ap is_ascii_alphabetic (byte-is-shared scheme text other w 0 some) ∙ letter)
+            ∙ ap (λ k. error_from_hier_part kind other (k + 1)) same ∙ end-has-no-hier-part-error
+            kind other (scheme + 1) (sym (drop-drop 1 scheme other) ∙ ap (drop 1) d),
       )))
       (λ (none : scheme ≤ 0).
       let z : 0 ≡ scheme = omega arith in
-      subst (λ n. Outcome text n false Any 0 (refusal kind)) z start-outcome)
-      (cases_lt 0 scheme)
+      subst (λ n. Outcome text n false Any 0 (refusal kind)) z start-outcome) (cases_lt 0 scheme)
 
   refusal-outcome : (late : Bool) (r : ParseError) → has_late_error kind text ≡ late
       → refusal kind text ≡ Some r → Outcome text r.index late Any 0 (refusal kind)
@@ -343,10 +315,8 @@ module _ (kind : Kind) (f : Facts kind) (text : List ℕ) (u : IsUtf8 text) wher
   -- a text without an error is of the kind
   no-error-iff-of-kind : (t : List ℕ) → IsUtf8 t
       → is_none (refusal kind t) ≡ is_of_kind kind t
-  no-error-iff-of-kind t v =
-      ap is_none (sym (parsed_error-is-refusal kind kind (first_segment_set kind) f.known refl refl
-      t)) ∙ no-error-iff-text-is-parsed kind t (first_segment_set kind) f.apart v
-      ∙ parses-is-is_of_kind (first_segment_set kind) kind f.apart t v
+  no-error-iff-of-kind t v = ap is_none (sym (parsed_error-is-refusal _ _ _ f.known refl refl t))
+      ∙ no-error-iff-text-is-parsed _ t _ f.apart v ∙ parses-is-is_of_kind _ _ f.apart t v
 
   pub text-before-error-is-viable : (r : ParseError) → has_late_error kind text ≡ false
       → refusal kind text ≡ Some r → IsViablePrefix kind (take r.index text)
@@ -365,8 +335,7 @@ module _ (kind : Kind) (f : Facts kind) (text : List ℕ) (u : IsUtf8 text) wher
   pub late-error-begins-no-text : (r : ParseError) → has_late_error kind text ≡ true
       → refusal kind text ≡ Some r → IsViablePrefix kind (take r.index text) → ⊥
   late-error-begins-no-text r l e (more, t) =
-      let o = refusal-outcome true r l e in
+      let o = refusal-outcome _ r l e in
       let other : List ℕ = take r.index text ++ more in
-      let q = o.is other (prefix-is-alike text more r.index o.within t.utf8) in
-      both_ways (is_none (refusal kind other)) (ap is_none q.1.1)
-      (no-error-iff-of-kind other t.utf8 ∙ t.grammar)
+      let q = o.is other (prefix-is-alike _ _ _ o.within t.utf8) in
+      both_ways _ (ap is_none q.1.1) (no-error-iff-of-kind _ t.utf8 ∙ t.grammar)

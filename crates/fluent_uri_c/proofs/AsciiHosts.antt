@@ -1,23 +1,15 @@
 -- What is returned of a host in ASCII is the result that is defined.
-use Rattle.std.proofs.Common.{◌≡◌, ℕ, true, List, [], arith, inl, inr, refl, sym, ap, ◌∙◌, subst}
-use Rattle.std.specs.Prelude.{IsSomeAnd, Option, Some, None, Ok, Err, is_none, not, ok_or, option_map}
-use Rattle.std.specs.Str.{is_utf8}
-use Rattle.std.proofs.lemmas.Bool.{cond-false, cond-true, false_from_ne_true}
-use Rattle.std.proofs.lemmas.Str.{IsUtf8-from_is_utf8, is_utf8-from_IsUtf8}
+use Rattle.fluent_uri_c.proofs.Common.{◌≡◌, ℕ, true, List, [], arith, inl, inr, refl, sym, ap, ◌∙◌, subst, IsSomeAnd, Option, Some, None, Ok, Err, is_none, not, ok_or, option_map, is_utf8, cond-false, cond-true, false_from_ne_true, IsUtf8-from_is_utf8, is_utf8-from_IsUtf8, Components, components, recompose, Kind, Rejection, text_error}
 use Rattle.uri_ops.specs.Encoded.{encode_past_ascii}
 use Rattle.uri_ops.proofs.Meanings.AsciiCharacters.{ascii-bytes-are-utf8}
 use Rattle.uri_parts.specs.Authority.{authority_parts}
-use Rattle.uri_parts.specs.Components.{Components, components, recompose}
 use Rattle.uri_parts.specs.Connecting.{name_bytes}
-use Rattle.uri_parts.specs.Grammar.{Kind}
 use Rattle.uri_idna.specs.declared.error.AsciiHostError.{AsciiHostError}
 use Rattle.uri_idna.specs.declared.error.AsciiHostError.TheVariants.{InvalidName, NameNotUtf8, OutOfMemory}
 use Rattle.uri_idna.specs.AsciiHosts.{IsAsciiHostError, ascii_host, ascii_host_of, is_unencoded_ascii}
 use Rattle.uri_idna.specs.AsciiReferences.{IsAsciiHostErrorOf, ascii_components, with_authority, with_host}
 use Rattle.uri_idna.proofs.Names.{name_not_utf8_has_no_ascii_form, unencoded_ascii_name_stays}
-use Rattle.fluent_uri_c.specs.declared.errors.Rejection.{Rejection}
 use Rattle.fluent_uri_c.specs.AsciiHosts.{ascii_host_or_error, ascii_host_rejection, ascii_uri_of_kind, ascii_uri_or_error, host_or_empty, no_ascii_host, takes_memory_for_host}
-use Rattle.fluent_uri_c.specs.Results.{text_error}
 use Rattle.fluent_uri_c.proofs.HostNames.{empty_is_name}
 use Rattle.fluent_uri_c.proofs.Mends.{IsErrorOf}
 
@@ -47,8 +39,7 @@ rejected-host-has-error host error is =
     ap (λ made. ok_or made (no_ascii_host host)) is.0 ∙ ap Err is.1
 
 host-error-is-defined : (host : List ℕ) (error : AsciiHostError) → IsAsciiHostError host error
-    → IsErrorOf (takes_memory_for_host host) (ascii_host_or_error host)
-    (ascii_host_rejection error)
+    → IsErrorOf (takes_memory_for_host host) (ascii_host_or_error host) (ascii_host_rejection error)
 host-error-is-defined host NameNotUtf8 is =
     inr (rejected-host-has-error host NameNotUtf8 (name-not-utf8-is-rejected host is))
 host-error-is-defined host InvalidName is =
@@ -57,8 +48,7 @@ host-error-is-defined host OutOfMemory is =
     inl (refl, ap not (false_from_ne_true (is_unencoded_ascii host) is.1))
 
 empty-host-stays : ascii_host_or_error [] ≡ Ok []
-empty-host-stays =
-    ap (λ made. ok_or made (no_ascii_host []))
+empty-host-stays = ap (λ made. ok_or made (no_ascii_host []))
     (ap (λ kind. ascii_host_of kind []) (empty_is_name [] (omega arith))
     ∙ unencoded_ascii_name_stays [] (ascii-bytes-are-utf8 [] refl) refl)
 
@@ -118,6 +108,5 @@ pub ascii_uri-of-error : (kind : Kind) (bytes text : List ℕ) (error : AsciiHos
     (why : Rejection) → None ≡ text_error kind bytes → text ≡ bytes
     → IsAsciiHostErrorOf text error → why ≡ ascii_host_rejection error
     → IsErrorOf (is_none (text_error kind bytes)) (ascii_uri_of_kind kind bytes) why
-ascii_uri-of-error kind bytes text error why valid same is e =
-    rw (sym valid, e) (text-error-is-defined bytes error
-    (subst (λ t. IsAsciiHostErrorOf t error) same is))
+ascii_uri-of-error kind bytes text error why valid same is e = rw (sym valid, e)
+    (text-error-is-defined bytes error (subst (λ t. IsAsciiHostErrorOf t error) same is))

@@ -1,10 +1,5 @@
 -- What a batch leaves, text by text.
-use Rattle.std.proofs.Common.{◌≡◌, ◌≢◌, ℕ, zero, suc, ◌+◌, ◌<◌, List, [], ◌∷◌, ◌++◌, length, set, take, drop, refl, sym, ap, subst, ◌∙◌, arith, append_assoc, ⊎_elim, length-append}
-use Rattle.std.specs.Prelude.{Option, Some, IsSome, IsSomeAnd, slice_get, is_some}
-use Rattle.std.proofs.Math.Seq.{drop-append_seam, take-append_seam}
-use Rattle.std.proofs.lemmas.Bool.{cases_eq}
-use Rattle.std.proofs.lemmas.List.{drop-drop, drop-set-lt}
-use Rattle.fluent_uri_c.specs.Columns.{Buffers, IsColumn, bit_of, buffers, bytes_of, joined_results, number_of_bool}
+use Rattle.fluent_uri_c.proofs.Common.{◌≡◌, ◌≢◌, ℕ, zero, suc, ◌+◌, ◌<◌, List, [], ◌∷◌, ◌++◌, length, set, take, drop, refl, sym, ap, subst, ◌∙◌, arith, append_assoc, ⊎_elim, length-append, Option, Some, IsSome, IsSomeAnd, slice_get, is_some, drop-append_seam, take-append_seam, cases_eq, drop-drop, drop-set-lt, Buffers, IsColumn, bit_of, buffers, bytes_of, joined_results, number_of_bool}
 
 -- general fact on slices, for the buffers of a batch for C: what is set at an index is read there
 slice_get-set_same : {O : Type 0} → (xs : List O) (i : ℕ) (x : O) → i < length xs
@@ -31,8 +26,7 @@ pub holds-up-to-set-item : {A : Type 0} → (P : ℕ → Option A → Type 0) (a
 holds-up-to-set-item P all n here inside holds before i below = ⊎_elim
     (λ same. subst (λ k. P k (slice_get (set all n here) k)) (sym same)
     (rw (slice_get-set_same all n here inside) holds))
-    (λ apart. rw (slice_get-set_other all n i here apart) (before i (omega arith)))
-    (cases_eq i n)
+    (λ apart. rw (slice_get-set_other all n i here apart) (before i (omega arith))) (cases_eq i n)
 
 module _ (at : ℕ → Option (List ℕ)) (n position : ℕ) (bytes : List ℕ)
     (here : position ≡ length (joined_results at n)) (made : bytes ≡ bytes_of (at n)) where
@@ -58,21 +52,17 @@ module _ (at : ℕ → Option (List ℕ)) (n position : ℕ) (bytes : List ℕ)
       let prefix : take position out ≡ J =
       ap (λ k. take k out) here ∙ ap (take (length J)) before ∙ take-append_seam J R in
       let after : drop (position + length bytes) out
-      ≡ drop (length (joined_results at (n + 1))) old =
-      ap (λ k. drop (k + length bytes) out) here
+      ≡ drop (length (joined_results at (n + 1))) old = ap (λ k. drop (k + length bytes) out) here
       ∙ sym (drop-drop (length bytes) (length J) out)
       ∙ ap (λ t. drop (length bytes) (drop (length J) t)) before
-      ∙ ap (drop (length bytes)) (drop-append_seam J R)
-      ∙ drop-drop (length bytes) (length J) old
-      ∙ ap (λ k. drop k old) (ap (λ k. k + length bytes) (sym here)
-      ∙ sym joined_results-length-of-one-more) in
-      written
-      ∙ ap (λ t. t ++ (bytes ++ drop (position + length bytes) out)) prefix
+      ∙ ap (drop (length bytes)) (drop-append_seam J R) ∙ drop-drop (length bytes) (length J) old
+      ∙ ap (λ k. drop k old)
+      (ap (λ k. k + length bytes) (sym here) ∙ sym joined_results-length-of-one-more) in
+      written ∙ ap (λ t. t ++ (bytes ++ drop (position + length bytes) out)) prefix
       ∙ ap (λ t. J ++ (t ++ drop (position + length bytes) out)) made
       ∙ ap (λ t. J ++ (bytes_of (at n) ++ t)) after
-      ∙ sym (append_assoc J (bytes_of (at n)) (drop (length (joined_results at (n + 1))) old))
-      ∙ ap (λ t. t ++ drop (length (joined_results at (n + 1))) old)
-      (sym joined_results-of-one-more)
+      ∙ sym (append_assoc J (bytes_of (at n)) (drop (length (joined_results at (n + 1))) old)) ∙ ap
+      (λ t. t ++ drop (length (joined_results at (n + 1))) old) (sym joined_results-of-one-more)
 
   -- where its result ends
   pub end-of-one-more-result : (end : ℕ) → end ≡ position + length bytes → end
@@ -82,17 +72,15 @@ module _ (at : ℕ → Option (List ℕ)) (n position : ℕ) (bytes : List ℕ)
 module _ {O : Type 0} (value : O → ℕ) (at : ℕ → Option (List ℕ)) where
   -- one more is done
   pub IsColumn-of-one-more-result : (n : ℕ) (old now : Buffers O) (next bits : List ℕ)
-      (position : ℕ)
-      (bytes : List ℕ) (offset : O) → IsColumn value at n old now
+      (position : ℕ) (bytes : List ℕ) (offset : O) → IsColumn value at n old now
       → position ≡ length (joined_results at n) → bytes ≡ bytes_of (at n)
       → next ≡ take position now.bytes ++ (bytes ++ drop (position + length bytes) now.bytes)
       → n + 1 < length now.ends → value offset ≡ position + length bytes
       → bit_of bits n ≡ number_of_bool (is_some (at n))
       → ((i : ℕ) → i ≢ n → bit_of bits i ≡ bit_of now.valid i)
       → IsColumn value at (n + 1) old (buffers next (set now.ends (n + 1) offset) bits)
-  IsColumn-of-one-more-result n old now next bits position bytes offset is here made written
-      inside end bit
-      others =
+  IsColumn-of-one-more-result n old now next bits position bytes offset is here made written inside
+      end bit others =
       record {
         bytes = buffer-of-one-more-result at n position bytes here made old.bytes now.bytes next
             is.bytes written;
@@ -102,8 +90,7 @@ module _ {O : Type 0} (value : O → ℕ) (at : ℕ → Option (List ℕ)) where
             (λ k less. is.ends k (omega arith)) i (omega arith);
         valid = λ i below. ⊎_elim
             (λ e. subst (λ k. bit_of bits k ≡ number_of_bool (is_some (at k))) (sym e) bit)
-            (λ ne. others i ne ∙ is.valid i (omega arith))
-            (cases_eq i n);
+            (λ ne. others i ne ∙ is.valid i (omega arith)) (cases_eq i n);
         other_ends = drop-set-lt (n + 1 + 1) now.ends (n + 1) offset (omega arith)
             ∙ sym (drop-drop 1 (n + 1) now.ends) ∙ ap (drop 1) is.other_ends
             ∙ drop-drop 1 (n + 1) old.ends;
@@ -117,6 +104,5 @@ equal-to-Some-is-some o x e = sym (ap is_some e)
 -- batches for C: the items after one that is set are as they were
 pub later-items-unchanged : {A : Type 0} → (first all : List A) (n : ℕ) (here : A)
     → drop n all ≡ drop n first → drop (n + 1) (set all n here) ≡ drop (n + 1) first
-later-items-unchanged first all n here others =
-    drop-set-lt (n + 1) all n here (omega arith)
+later-items-unchanged first all n here others = drop-set-lt (n + 1) all n here (omega arith)
     ∙ sym (drop-drop 1 n all) ∙ ap (drop 1) others ∙ drop-drop 1 n first

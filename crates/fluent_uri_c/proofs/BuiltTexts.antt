@@ -1,20 +1,13 @@
 -- The text that is built of components has them again.
-use Rattle.std.proofs.Common.{◌≡◌, ℕ, Bool, true, false, ◌&&◌, ◌||◌, not, List, [], ◌++◌, refl, sym, ◌∙◌, subst}
-use Rattle.std.specs.Prelude.{Option, Some, None, IfSome, codes, is_none, is_some, option_map, slice_index, unwrap_or}
+use Rattle.fluent_uri_c.proofs.Common.{◌≡◌, ℕ, Bool, true, false, ◌&&◌, ◌||◌, not, List, [], ◌++◌, refl, sym, ◌∙◌, subst, Option, Some, None, IfSome, codes, is_none, is_some, option_map, slice_index, unwrap_or, IsUtf8, is_utf8, and_from, and_parts, cond-false, or_right, none-some, IsUtf8-append, IsUtf8-from_is_utf8, is_utf8-from_IsUtf8, Kind, absent_or_passes, BuilderParts, is_authority_text, is_scheme_text, is_text_for, meet_rules, Rejection, HasGivenComponents, HasValidAuthority, HasValidTail, error_of_building, given, given_authority, given_components, is_host_text, missing, path_rejection, together_rejection, in_component, rejected, first_rejection}
 use Rattle.std.specs.Char.{is_ascii_alphabetic}
-use Rattle.std.specs.Str.{IsUtf8, is_utf8}
-use Rattle.std.proofs.lemmas.Bool.{and_from, and_parts, cond-false, or_right}
-use Rattle.std.proofs.lemmas.Option.{none-some}
-use Rattle.std.proofs.lemmas.Str.{IsUtf8-append, IsUtf8-from_is_utf8, is_utf8-from_IsUtf8}
 use Rattle.fluent_uri.specs.Authority.{AuthorityParts, IsAuthorityFor, authority_parts, recompose_authority}
 use Rattle.fluent_uri.specs.Components.{marked, starts}
-use Rattle.fluent_uri.specs.Grammar.{Kind, absent_or_passes}
 use Rattle.fluent_uri.specs.Hosts.{host_kind, is_host}
 use Rattle.fluent_uri.specs.Sets.{TableSet, digit_set, scheme_set}
 use Rattle.fluent_uri.specs.Tokens.{is_valid_for}
 use Rattle.uri_parts.proofs.Theorems.{authority_parts-are-unique, is_authority_for-complete, is_host-sound}
 use Rattle.uri_ops.specs.declared.build.error.BuildError.{BuildError}
-use Rattle.uri_ops.specs.BuilderParts.{BuilderParts, is_authority_text, is_scheme_text, is_text_for, meet_rules}
 use Rattle.uri_ops.specs.Built.{build_error_of_path}
 use Rattle.uri_ops.specs.ComponentSets.{HasComponentSets}
 use Rattle.uri_ops.proofs.Builders.BuilderAuthorities.{authority-text-from-rule}
@@ -22,10 +15,6 @@ use Rattle.uri_ops.proofs.Builders.Built.{accepted-parts-have-their-text}
 use Rattle.uri_ops.proofs.Meanings.AsciiCharacters.{ascii-bytes-are-utf8}
 use Rattle.uri_ops.proofs.Meanings.AuthorityMeanings.{kind-sets-lack-authority-delimiters}
 use Rattle.fluent_uri_c.specs.declared.building.ComponentSpans.{ComponentSpans}
-use Rattle.fluent_uri_c.specs.declared.errors.Rejection.{Rejection}
-use Rattle.fluent_uri_c.specs.Building.{HasGivenComponents, HasValidAuthority, HasValidTail, error_of_building, given, given_authority, given_components, is_host_text, missing, path_rejection, together_rejection}
-use Rattle.fluent_uri_c.specs.Errors.{in_component, rejected}
-use Rattle.fluent_uri_c.specs.Results.{first_rejection}
 
 -- building for C: a component that passes its test is UTF-8, and valid for its set
 text-for-set : (set : TableSet) (x : List ℕ) → is_text_for set x ≡ true
@@ -72,8 +61,7 @@ marked-is-utf8 set before after (Some x) b a e =
 
 -- building for C: a component that passes its test is valid for its set, if it is there
 passing-is-valid : (set : TableSet) (part : Option (List ℕ))
-    → absent_or_passes part (is_text_for set) ≡ true
-    → IfSome part (λ x. is_valid_for set x ≡ true)
+    → absent_or_passes part (is_text_for set) ≡ true → IfSome part (λ x. is_valid_for set x ≡ true)
 passing-is-valid set None e = tt
 passing-is-valid set (Some x) e = (text-for-set set x e).1
 
@@ -94,12 +82,10 @@ recomposed-authority-has-its-parts kind sets user port host u h d =
     let apart = kind-sets-lack-authority-delimiters kind sets in
     let both = and_parts _ (is_host kind.reg_name host) h in
     let utf8 : IsUtf8 text = IsUtf8-append (marked [] user (codes "@"))
-    (host ++ marked (codes ":") port [])
-    (marked-is-utf8 kind.userinfo [] (codes "@") user nothing-is-utf8
-    (ascii-bytes-are-utf8 (codes "@") refl) u)
-    (IsUtf8-append host (marked (codes ":") port []) (IsUtf8-from_is_utf8 host both.0)
-    (marked-is-utf8 digit_set (codes ":") [] port (ascii-bytes-are-utf8 (codes ":") refl)
-    nothing-is-utf8 d)) in
+    (host ++ marked (codes ":") port []) (marked-is-utf8 kind.userinfo [] (codes "@") user
+    nothing-is-utf8 (ascii-bytes-are-utf8 (codes "@") refl) u) (IsUtf8-append host
+    (marked (codes ":") port []) (IsUtf8-from_is_utf8 host both.0) (marked-is-utf8 digit_set
+    (codes ":") [] port (ascii-bytes-are-utf8 (codes ":") refl) nothing-is-utf8 d)) in
     let grammar : IsAuthorityFor kind.userinfo kind.reg_name text p = record {
       whole = refl;
       userinfo = passing-is-valid kind.userinfo user u;

@@ -1,22 +1,12 @@
 -- Where a component ends whose characters are those of a set, and its error there.
-use Rattle.std.proofs.Common.{◌≡◌, ℕ, ◌<◌, ◌≤◌, true, false, ◌&&◌, List, length, refl, sym, ap, ◌∙◌, arith, zero-add}
-use Rattle.std.specs.Prelude.{Some, None, IsTrue}
-use Rattle.std.specs.Str.{IsUtf8}
-use Rattle.std.proofs.lemmas.Bool.{and_from, and_right, eq-eqb, ne_eqb}
-use Rattle.std.proofs.lemmas.List.{drop_all}
-use Rattle.std.proofs.lemmas.Str.{is_utf8-from_IsUtf8}
+use Rattle.fluent_uri_c.proofs.Common.{◌≡◌, ℕ, ◌<◌, ◌≤◌, true, false, ◌&&◌, List, length, refl, sym, ap, ◌∙◌, arith, zero-add, Some, None, IsTrue, IsUtf8, and_from, and_right, eq-eqb, ne_eqb, drop_all, is_utf8-from_IsUtf8, LacksPercent, TableSet, starts, is_text_for, parse_rejection, IsPossibleUtf8, component_error, component_refusal, is_possible_length}
 use Rattle.uri_pct.specs.Delimiters.{percent_sign}
 use Rattle.uri_pct.specs.Prefixes.{valid_prefix}
-use Rattle.uri_pct.specs.Sets.{LacksPercent, TableSet}
 use Rattle.uri_pct.proofs.ValidTexts.Cuts.{is_valid_for_is_scanned_to_end}
 use Rattle.uri_pct.proofs.ValidTexts.Prefixes.{valid_prefix_is_at_most_length}
-use Rattle.uri_parts.specs.Components.{starts}
 use Rattle.uri_parts.specs.Errors.{unexpected}
 use Rattle.uri_parts.specs.Scanning.{is_next, scan_end}
 use Rattle.uri_parts.proofs.Parsing.NextBytes.{text_ends_where_position_is_length}
-use Rattle.uri_ops.specs.BuilderParts.{is_text_for}
-use Rattle.fluent_uri_c.specs.Errors.{parse_rejection}
-use Rattle.fluent_uri_c.specs.Results.{IsPossibleUtf8, component_error, component_refusal, is_possible_length}
 use Rattle.fluent_uri_c.proofs.ValidBytes.{utf8_error-of-utf8}
 
 -- components for C: a text, and where a scan by the set ends in it
@@ -55,9 +45,8 @@ module _ (set : TableSet) (text : List ℕ) (end : ℕ) (is : IsScanned set text
   -- components for C: a text that is scanned to its end has no error
   pub scanned-text-has-no-error : end ≡ length text → component_error set text ≡ None
   scanned-text-has-no-error whole =
-      let percent : (set.pct_encoded && is_next text percent_sign end) ≡ false =
-      and_right set.pct_encoded _
-      (ap (starts percent_sign) (drop_all end text (omega (arith, whole)))) in
+      let percent : (set.pct_encoded && is_next text percent_sign end) ≡ false = and_right
+      set.pct_encoded _ (ap (starts percent_sign) (drop_all end text (omega (arith, whole)))) in
       let left = text_ends_where_position_is_length end text (omega (arith, whole))
       ∙ eq-eqb end (length text) whole in
       let none : component_refusal set text ≡ None = rw (sym is.here, percent, left) refl in

@@ -1,16 +1,8 @@
 -- A component, mended from left to right: what a scan passes stays, and the character where it
 -- stops becomes octets.
-use Rattle.std.proofs.Common.{◌≡◌, ℕ, ◌+◌, ◌-◌, ◌<◌, ◌≤◌, true, List, ◌++◌, length, take, drop, map, sym, ap, ◌∙◌, arith, ⊎_elim, append_assoc, length-append, length-drop}
-use Rattle.std.specs.Prelude.{encode_utf8, slice_range}
-use Rattle.std.specs.Str.{IsUtf8, IsCharBoundary}
-use Rattle.std.proofs.lemmas.Bool.{cases_lt}
-use Rattle.std.proofs.lemmas.List.{drop-drop, take_at}
+use Rattle.fluent_uri_c.proofs.Common.{◌≡◌, ℕ, ◌+◌, ◌-◌, ◌<◌, ◌≤◌, true, List, ◌++◌, length, take, drop, map, sym, ap, ◌∙◌, arith, ⊎_elim, append_assoc, length-append, length-drop, encode_utf8, slice_range, IsUtf8, IsCharBoundary, cases_lt, drop-drop, take_at, IsUtf8-drop, TableSet, LacksPercent, Octet, print, mended}
 use Rattle.std.proofs.lemmas.List.Edits.{between_none}
-use Rattle.std.proofs.lemmas.Str.{IsUtf8-drop}
 use Rattle.uri_pct.specs.Prefixes.{valid_prefix}
-use Rattle.uri_pct.specs.Sets.{TableSet, LacksPercent}
-use Rattle.uri_pct.specs.Tokens.{Octet, print}
-use Rattle.uri_mend.specs.MendedParts.{mended}
 use Rattle.uri_mend.proofs.ComponentProgress.{nothing-is-scanned-after-scan}
 use Rattle.uri_mend.proofs.MendedSteps.{scanned-prefix-is-kept, unscanned-char-is-encoded}
 
@@ -53,9 +45,8 @@ module _ (set : TableSet) (lacks : LacksPercent set) (octets : set.pct_encoded �
       → next ≤ length text → valid_prefix set (drop end text) ≡ 0
       → drop end text ≡ encode_utf8 c ++ drop next text
       → mended set (drop end text) ≡ octets_between text end next ++ mended set (drop next text)
-  char-after-run-becomes-octets end next c at order inside stop joined =
-      unscanned-char-is-encoded set lacks octets (drop end text) (drop next text) c
-      (IsUtf8-drop text end u at) joined stop
+  char-after-run-becomes-octets end next c at order inside stop joined = unscanned-char-is-encoded
+      set lacks octets (drop end text) (drop next text) c (IsUtf8-drop text end u at) joined stop
       ∙ ap (λ bytes. print (map Octet bytes) ++ mended set (drop next text))
       (sym (char-is-part-of-text text end next c order inside joined))
 
@@ -64,13 +55,10 @@ module _ (set : TableSet) (lacks : LacksPercent set) (octets : set.pct_encoded �
       → IsCharBoundary text end → IsCharBoundary text next
       → end ≡ done + valid_prefix set (drop done text) → end ≤ next
       → (end < length text → (c : ℕ) × (drop end text ≡ encode_utf8 c ++ drop next text))
-      → (length text ≤ end → next ≡ end)
-      → mended set (drop done text)
+      → (length text ≤ end → next ≡ end) → mended set (drop done text)
       ≡ slice_range text done end ++ (octets_between text end next ++ mended set (drop next text))
   mended-rest-by-run-and-char done end next from at to here order char last =
-      scanned-run-stays done end from here
-      ∙ ap (λ t. slice_range text done end ++ t)
-      (⊎_elim
+      scanned-run-stays done end from here ∙ ap (λ t. slice_range text done end ++ t) (⊎_elim
       (λ (more : end < length text).
       let found = char more in
       char-after-run-becomes-octets end next found.0 at order to.0
@@ -88,7 +76,5 @@ pub text-grows-by-run-and-octets : (old mid new run octets rest left whole : Lis
     → old ++ left ≡ whole → new ++ rest ≡ whole
 text-grows-by-run-and-octets old mid new run octets rest left whole first second step before =
     ap (λ t. t ++ rest) (second ∙ ap (λ t. t ++ octets) first)
-    ∙ append_assoc (old ++ run) octets rest
-    ∙ append_assoc old run (octets ++ rest)
-    ∙ ap (λ t. old ++ t) (sym step)
-    ∙ before
+    ∙ append_assoc (old ++ run) octets rest ∙ append_assoc old run (octets ++ rest)
+    ∙ ap (λ t. old ++ t) (sym step) ∙ before

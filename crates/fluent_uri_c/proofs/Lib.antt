@@ -1,3 +1,4 @@
+pub mod Common
 mod AsciiBlocks
 mod AsciiHosts
 mod Batches

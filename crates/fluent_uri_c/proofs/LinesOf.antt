@@ -1,14 +1,7 @@
 -- The lines of an input, as a batch takes them one by one.
-use Rattle.std.proofs.Common.{◌≡◌, ℕ, ◌+◌, ◌-◌, ◌<◌, ◌≤◌, List, [], ◌∷◌, length, take, drop, get_or, refl, sym, ap, ◌∙◌, arith, length-drop, ⊎_elim, add-zero, not}
-use Rattle.std.specs.Prelude.{Some, slice_get, slice_range}
-use Rattle.std.specs.List.{position_or_len}
-use Rattle.std.proofs.Math.Seq.{take-length}
-use Rattle.std.proofs.lemmas.Bool.{cases_lt}
-use Rattle.std.proofs.lemmas.List.{drop-drop, get_or-drop}
+use Rattle.fluent_uri_c.proofs.Common.{◌≡◌, ℕ, ◌+◌, ◌-◌, ◌<◌, ◌≤◌, List, [], ◌∷◌, length, take, drop, get_or, refl, sym, ap, ◌∙◌, arith, length-drop, ⊎_elim, add-zero, not, Some, slice_get, slice_range, position_or_len, take-length, cases_lt, drop-drop, get_or-drop, slice_get_read, is_newline, lines_of}
 use Rattle.std.proofs.lemmas.List.Splits.{slice_split_first, slice_split_none}
 use Rattle.std.proofs.lemmas.List.Sums.{fails_before_first, prefix_len-le-length}
-use Rattle.std.proofs.lemmas.Option.{slice_get_read}
-use Rattle.fluent_uri_c.specs.Lines.{is_newline, lines_of}
 
 -- general fact on lists, for lines for C: what is left of a list from an item on
 drop-at-item : {A : Type 0} (items more : List A) (n : ℕ) (item : A) → drop n items ≡ item ∷ more
@@ -33,8 +26,7 @@ line_length-le rest = prefix_len-le-length (λ byte. not (is_newline byte)) rest
 
 -- lines for C: what is left of an input, if it has no newline, is its last line
 last_line : (rest : List ℕ) → length rest ≤ line_length rest → lines_of rest ≡ rest ∷ []
-last_line rest past =
-    slice_split_none is_newline rest
+last_line rest past = slice_split_none is_newline rest
     (λ k d inside. fails_before_first is_newline rest k d (omega arith))
 
 -- lines for C: a line of an input, from one position to another, and what is after it; so many

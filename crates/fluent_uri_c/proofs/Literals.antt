@@ -1,15 +1,7 @@
 -- The test of a host in brackets.
-use Rattle.std.proofs.Common.{◌≡◌, ℕ, true, false, List, ◌∷◌, ◌++◌, refl, sym, ap, ◌∙◌, ◌&&◌, ◌||◌, [], drop, eqb, length, not}
-use Rattle.std.specs.Prelude.{bytes_eq, codes, is_some, nat_lt}
-use Rattle.std.specs.List.{prefix_len}
+use Rattle.fluent_uri_c.proofs.Common.{◌≡◌, ℕ, true, false, List, ◌∷◌, ◌++◌, refl, sym, ap, ◌∙◌, ◌&&◌, ◌||◌, [], drop, eqb, length, not, bytes_eq, codes, is_some, nat_lt, prefix_len, eq-eqb, eqb-true, false≢true, append_cancel_left, take-append-drop, TableSet, hexdig_set, is_one_of, is_valid_for, before_any, from_any, starts, ipv6_value, is_future_address, is_host, is_ipv_future}
 use Rattle.std.proofs.Math.Bool.{or-false}
-use Rattle.std.proofs.lemmas.Bool.{eq-eqb, eqb-true, false≢true}
-use Rattle.std.proofs.lemmas.List.{append_cancel_left, take-append-drop}
 use Rattle.std.proofs.lemmas.Slice.Eq.{bytes_eq-Decides}
-use Rattle.uri_pct.specs.Sets.{TableSet, hexdig_set, is_one_of}
-use Rattle.uri_pct.specs.Tokens.{is_valid_for}
-use Rattle.uri_parts.specs.Components.{before_any, from_any, starts}
-use Rattle.uri_parts.specs.Hosts.{ipv6_value, is_future_address, is_host, is_ipv_future}
 use Rattle.uri_ops.proofs.Paths.DotBytes.{tests-that-imply-each-other-are-equal}
 
 -- hosts for C: what follows the same text is compared by itself
@@ -53,8 +45,7 @@ equality-is-symmetric a b = tests-that-imply-each-other-are-equal (eqb a b) (eqb
 
 -- hosts for C: a byte is one of two letters if it is the one or the other
 version-letter-is-one-of-two : (c : ℕ) → is_one_of (codes "vV") c ≡ (eqb c 118 || eqb c 86)
-version-letter-is-one-of-two c =
-    ap (λ v. v || (eqb 86 c || false)) (equality-is-symmetric 118 c)
+version-letter-is-one-of-two c = ap (λ v. v || (eqb 86 c || false)) (equality-is-symmetric 118 c)
     ∙ ap (λ w. eqb c 118 || (w || false)) (equality-is-symmetric 86 c)
     ∙ ap (λ t. eqb c 118 || t) (or-false (eqb c 86))
 
@@ -66,8 +57,6 @@ pub ipv_future_by_its_cut : (text : List ℕ)
     && is_future_address (from_any (codes ".") (drop 1 text))))
 unfolding is_ipv_future
 ipv_future_by_its_cut [] = refl
-ipv_future_by_its_cut (c ∷ rest) =
-    ap (λ t. t && ((nat_lt 0 (length (before_any (codes ".") rest))
+ipv_future_by_its_cut (c ∷ rest) = ap (λ t. t && ((nat_lt 0 (length (before_any (codes ".") rest))
     && is_valid_for hexdig_set (before_any (codes ".") rest))
-    && is_future_address (from_any (codes ".") rest)))
-    (version-letter-is-one-of-two c)
+    && is_future_address (from_any (codes ".") rest))) (version-letter-is-one-of-two c)

@@ -1,21 +1,14 @@
 -- Exports for C: the order of keys of tables, which are normal forms.
-use Rattle.std.proofs.Common.{◌≡◌, ◌↔◌, ◌⊎◌, inl, inr, ℕ, Bool, true, List, [], ◌∷◌, ◌++◌, refl, sym, ap, ◌∙◌, Option, Some, None, Ok, Ordering, Equal, reverse}
+use Rattle.fluent_uri_c.proofs.Common.{◌≡◌, ◌↔◌, ◌⊎◌, inl, inr, ℕ, Bool, true, List, [], ◌∷◌, ◌++◌, refl, sym, ap, ◌∙◌, Option, Some, None, Ok, Ordering, Equal, reverse, flat_map, fold, result_ok, Kind, rules_of_set, RuleSet, fnv_bytes, fnv_write, normal_form_of, normal_result, rejection_or_result, text_error}
 use Rattle.std.proofs.lemmas.Map.Text.{is_eq-slice_cmp}
 use Rattle.std.proofs.lemmas.Slice.Eq.{bytes_eq-Decides}
 use Rattle.std.specs.Cmp.{Equal-is}
 use Rattle.std.specs.Hash as fed
-use Rattle.std.specs.List.{flat_map, fold}
 use Rattle.std.specs.Option.{unwrap_or}
-use Rattle.std.specs.Result.{result_ok}
-use Rattle.uri_parts.specs.Grammar.{Kind}
-use Rattle.uri_ops.specs.RuleSets.{rules_of_set}
-use Rattle.uri_ops.specs.declared.scheme_rules.RuleSet.{RuleSet}
 use Rattle.uri_order.specs.HashedTexts.{hashed_text}
 use Rattle.uri_order.specs.NormalForms.{normal_form}
 use Rattle.fluent_uri_c.specs.declared.fnv.Fnv.{Fnv}
-use Rattle.fluent_uri_c.specs.Fnv.{fnv_bytes, fnv_write}
 use Rattle.fluent_uri_c.specs.Orders.{AreOneKey, byte_order, key_order, normal_key, order_of_keys}
-use Rattle.fluent_uri_c.specs.Results.{normal_form_of, normal_result, rejection_or_result, text_error}
 
 -- exports for C: a normal form by the rules of an order is one by the set that these are
 pub form-by-set : (given set : RuleSet) → given ≡ set → (kind : Kind) (text : List ℕ)
@@ -37,23 +30,20 @@ normal_result-of-text set kind bytes text none same =
     ∙ ap (λ t. Ok (normal_form_of set kind t)) (sym same)
 
 -- exports for C: two keys in order
-keys-in-order : (one other one_key other_key : Option (List ℕ)) (order : Ordering)
-    → one ≡ one_key → other ≡ other_key
-    → order_of_keys one_key other_key order ≡ order_of_keys one other order
+keys-in-order : (one other one_key other_key : Option (List ℕ)) (order : Ordering) → one ≡ one_key
+    → other ≡ other_key → order_of_keys one_key other_key order ≡ order_of_keys one other order
 keys-in-order one other one_key other_key order e f =
     ap (λ key. order_of_keys key other_key order) (sym e)
     ∙ ap (λ key. order_of_keys one key order) (sym f)
 
 -- exports for C: the order of two texts of the kind is that of their normal forms
 pub order-of-two-texts : (set : RuleSet) (kind : Kind) (one other first second : List ℕ)
-    (order : Ordering) → None ≡ text_error kind one → first ≡ one
-    → None ≡ text_error kind other → second ≡ other
-    → byte_order (normal_form_of set kind first) (normal_form_of set kind second)
+    (order : Ordering) → None ≡ text_error kind one → first ≡ one → None ≡ text_error kind other
+    → second ≡ other → byte_order (normal_form_of set kind first) (normal_form_of set kind second)
     ≡ order_of_keys (result_ok (normal_result set kind one))
     (result_ok (normal_result set kind other)) order
 order-of-two-texts set kind one other first second order none same no_other same_other =
-    keys-in-order _ _ _ _ order
-    (ap result_ok (normal_result-of-text set kind one first none same))
+    keys-in-order _ _ _ _ order (ap result_ok (normal_result-of-text set kind one first none same))
     (ap result_ok (normal_result-of-text set kind other second no_other same_other))
 
 -- exports for C: bytes are equal in their order exactly if they are the same
@@ -93,8 +83,7 @@ same-keys None None raw raw_other =
 
 -- exports for C: keys are in order as one key exactly if they are one
 pub equal-keys-are-one : (kind options : ℕ) (one other : List ℕ) (order : Ordering)
-    → order ≡ key_order kind options one other
-    → (order ≡ Equal) ↔ AreOneKey kind options one other
+    → order ≡ key_order kind options one other → (order ≡ Equal) ↔ AreOneKey kind options one other
 equal-keys-are-one kind options one other order e =
     let same = same-keys (normal_key kind options one) (normal_key kind options other) one other in
     (λ equal. same.0 (sym e ∙ equal), λ h. e ∙ same.1 h)
@@ -121,15 +110,13 @@ hasher-of-bytes hasher (b ∷ bytes) = hasher-of-bytes (fnv_write hasher (b ∷ 
 pub hash-of-form : (form same : List ℕ) (old new : Fnv) → form ≡ same
     → new ≡ fold fnv_write old (hashed_text form)
     → new.state ≡ fnv_bytes old.state (reverse same ++ 255 ∷ [])
-hash-of-form form same old new e h =
-    ap (λ hasher. hasher.state) h ∙ hasher-of-bytes old (reverse form)
-    ∙ ap (λ t. fnv_bytes old.state (reverse t ++ 255 ∷ [])) e
+hash-of-form form same old new e h = ap (λ hasher. hasher.state) h
+    ∙ hasher-of-bytes old (reverse form) ∙ ap (λ t. fnv_bytes old.state (reverse t ++ 255 ∷ [])) e
 
 -- exports for C: the hash of a text of the kind is that of its normal form
 pub hash-of-text : (set : RuleSet) (kind : Kind) (bytes text : List ℕ) (state : ℕ)
     → None ≡ text_error kind bytes → text ≡ bytes
-    → fnv_bytes state (reverse (normal_form_of set kind text) ++ 255 ∷ [])
-    ≡ fnv_bytes state
+    → fnv_bytes state (reverse (normal_form_of set kind text) ++ 255 ∷ []) ≡ fnv_bytes state
     (reverse (unwrap_or (result_ok (normal_result set kind bytes)) bytes) ++ 255 ∷ [])
 hash-of-text set kind bytes text state none same =
     ap (λ r. fnv_bytes state (reverse (unwrap_or (result_ok r) bytes) ++ 255 ∷ []))

@@ -1,31 +1,17 @@
 -- No call is defined to return that memory is out: that comes from a denied request alone.
-use Rattle.std.proofs.Common.{◌≡◌, ℕ, Bool, true, false, List, refl, sym, ap, subst, ◌∙◌, inl, inr}
-use Rattle.std.specs.Prelude.{◌==◌, Option, Some, None, Result, Ok, Err, IsTrue, ◌⊎◌, if◌then◌else◌, nat_lt, option_map, length}
-use Rattle.std.specs.Result.{result_map_both}
+use Rattle.fluent_uri_c.proofs.Common.{◌≡◌, ℕ, Bool, true, false, List, refl, sym, ap, subst, ◌∙◌, inl, inr, ◌==◌, Option, Some, None, Result, Ok, Err, IsTrue, ◌⊎◌, if◌then◌else◌, nat_lt, option_map, length, result_map_both, both_ways, components, Kind, reference_kind, RuleSet, Rejection, error_of_kind, in_reference, number_of, parse_rejection, rejected, rejected_at, base_numbered, iri_numbered, kind_numbered, mend_link_result, mend_result, unmendable_error, basic_choice, path_preference, rules_choice, relativize_result, IsReturnedOrDenied, Returned, second_text_error, with_base, basic_resolution, component_error, component_refusal, decode_result, encode_result, error_of_basic_target, error_of_target, resolution_by, first_rejection, is_out_of_memory, is_possible_length, length_error, normal_form_of, normal_resolution, normalize_result, rejection_or_result, resolution, resolve_result, resolve_normalized_result, text_error, to_uri_result, utf8_error, with_valid_number}
 use Rattle.std.specs.Str.Lossy.{utf8_valid_len}
-use Rattle.std.proofs.lemmas.Bool.{both_ways}
 use Rattle.uri_parts.specs.declared.error.ParseError.{ParseError}
 use Rattle.uri_parts.specs.declared.error.ParseErrorKind.{ParseErrorKind}
 use Rattle.uri_parts.specs.declared.error.ParseErrorKind.TheVariants.{InvalidPctEncodedOctet, UnexpectedChar, InvalidIpv6Addr}
-use Rattle.uri_parts.specs.Components.{components}
-use Rattle.uri_parts.specs.Grammar.{Kind}
 use Rattle.uri_parts.specs.Refusals.{refusal}
-use Rattle.uri_ops.specs.NormalTargets.{reference_kind}
 use Rattle.uri_ops.specs.Target as Target
 use Rattle.uri_relative.specs.Leading.{without_fragment}
 use Rattle.uri_relative.specs.Rule.{reference_to}
 use Rattle.uri_basic.specs.Target as Basic
 use Rattle.uri_mend.specs.Mending.{can_be_mended, mended_text}
 use Rattle.uri_mend.specs.Trimming.{trimmed_link}
-use Rattle.uri_ops.specs.declared.scheme_rules.RuleSet.{RuleSet}
 use Rattle.fluent_uri_c.specs.declared.errors.Error.TheVariants.{OutOfMemory, InvalidArgument, NotUtf8}
-use Rattle.fluent_uri_c.specs.declared.errors.Rejection.{Rejection}
-use Rattle.fluent_uri_c.specs.Errors.{error_of_kind, in_reference, number_of, parse_rejection, rejected, rejected_at}
-use Rattle.fluent_uri_c.specs.Kinds.{base_numbered, iri_numbered, kind_numbered}
-use Rattle.fluent_uri_c.specs.Mends.{mend_link_result, mend_result, unmendable_error}
-use Rattle.fluent_uri_c.specs.Options.{basic_choice, path_preference, rules_choice}
-use Rattle.fluent_uri_c.specs.Relatives.{relativize_result}
-use Rattle.fluent_uri_c.specs.Results.{IsReturnedOrDenied, Returned, second_text_error, with_base, basic_resolution, component_error, component_refusal, decode_result, encode_result, error_of_basic_target, error_of_target, resolution_by, first_rejection, is_out_of_memory, is_possible_length, length_error, normal_form_of, normal_resolution, normalize_result, rejection_or_result, resolution, resolve_result, resolve_normalized_result, text_error, to_uri_result, utf8_error, with_valid_number}
 use Rattle.fluent_uri_c.specs.Sets.{decoding_set, encoding_set}
 
 -- exports for C: whether a rejection, if there is one, is that memory is out
@@ -49,8 +35,7 @@ of_in_reference None p = refl
 of_in_reference (Some why) p = p
 
 of_valid_number : {A : Type 0} → (o : Option A) (f : A → Returned)
-    → ((a : A) → is_out_of_memory (f a) ≡ false)
-    → is_out_of_memory (with_valid_number o f) ≡ false
+    → ((a : A) → is_out_of_memory (f a) ≡ false) → is_out_of_memory (with_valid_number o f) ≡ false
 of_valid_number None f h = refl
 of_valid_number (Some a) f h = h a
 
@@ -113,9 +98,8 @@ of_target_error (Err Target.InvalidReferenceAgainstOpaqueBase) = refl
 
 of_resolution : (base reference : List ℕ) → is_out_of_memory (resolution base reference) ≡ false
 unfolding resolution
-of_resolution base reference =
-    of_target_error (Target.resolution_of (without_fragment (components base))
-    (components reference))
+of_resolution base reference = of_target_error
+    (Target.resolution_of (without_fragment (components base)) (components reference))
 
 of_basic_target_error : (r : Result (List ℕ) Basic.BasicTargetError)
     → is_out_of_memory (result_map_both (λ target. target) error_of_basic_target r) ≡ false
@@ -190,9 +174,8 @@ relativize_result-is-other n options base target = of_valid_number (path_prefere
 pub decode_result-is-other : (n : ℕ) (text : List ℕ)
     → is_out_of_memory (decode_result n text) ≡ false
 decode_result-is-other n text = of_valid_number (decoding_set n) _
-    (λ set. of_rejection_or_result (component_error set text) _
-    (of_first_rejection (utf8_error text) _ (of_utf8_error text)
-    (of_parse_error (component_refusal set text))) refl)
+    (λ set. of_rejection_or_result (component_error set text) _ (of_first_rejection
+    (utf8_error text) _ (of_utf8_error text) (of_parse_error (component_refusal set text))) refl)
 
 -- exports for C: encoding is not defined to return that memory is out
 pub encode_result-is-other : (n : ℕ) (bytes : List ℕ)
@@ -203,9 +186,8 @@ encode_result-is-other n bytes = of_valid_number (encoding_set n) _
 -- exports for C: mending is not defined to return that memory is out
 pub mend_result-is-other : (n : ℕ) (text : List ℕ) → is_out_of_memory (mend_result n text) ≡ false
 mend_result-is-other n text = of_valid_number (kind_numbered n) _
-    (λ kind. of_rejection_or_result
-    (first_rejection (utf8_error text) (unmendable_error kind text)) (Ok (mended_text kind text))
-    (of_mending kind text text) refl)
+    (λ kind. of_rejection_or_result (first_rejection (utf8_error text) (unmendable_error kind text))
+    (Ok (mended_text kind text)) (of_mending kind text text) refl)
 
 -- exports for C: mending a link is not defined to return that memory is out
 pub mend_link_result-is-other : (n : ℕ) (text : List ℕ)

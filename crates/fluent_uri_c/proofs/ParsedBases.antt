@@ -1,26 +1,14 @@
 -- What a call returns by a base that is parsed is what it returns for the base's bytes.
-use Rattle.std.proofs.Common.{◌≡◌, ℕ, Bool, List, refl, sym, ap, ◌∙◌}
-use Rattle.std.specs.Prelude.{Option, Some, None, Err, unwrap_or}
-use Rattle.fluent_uri.specs.Grammar.{Kind, iri, uri}
-use Rattle.fluent_uri.specs.References.{reference_text}
-use Rattle.uri_ops.specs.declared.scheme_rules.RuleSet.{RuleSet}
+use Rattle.fluent_uri_c.proofs.Common.{◌≡◌, ℕ, Bool, List, refl, sym, ap, ◌∙◌, Option, Some, None, Err, unwrap_or, Kind, iri, uri, reference_text, RuleSet, Rejection, base_numbered, basic_choice, path_preference, rules_choice, reference_from, relativize_result, Returned, normal_target_from, rejection_or_result, resolve_normalized_result, resolve_result, target_from, text_error, with_base, with_valid_number, parse_error}
 use Rattle.fluent_uri_c.specs.declared.bases.Base.{Base}
 use Rattle.fluent_uri_c.specs.declared.bases.Base.TheVariants.{Iri, Rejected, Uri}
-use Rattle.fluent_uri_c.specs.declared.errors.Rejection.{Rejection}
 use Rattle.fluent_uri_c.specs.Bases.{IsBaseOf, IsParsedBase, by_base, normal_target_by, reference_by, target_by}
-use Rattle.fluent_uri_c.specs.Kinds.{base_numbered}
-use Rattle.fluent_uri_c.specs.Options.{basic_choice, path_preference, rules_choice}
-use Rattle.fluent_uri_c.specs.Relatives.{reference_from, relativize_result}
-use Rattle.fluent_uri_c.specs.Results.{Returned, normal_target_from, rejection_or_result, resolve_normalized_result, resolve_result, target_from, text_error, with_base, with_valid_number}
-use Rattle.fluent_uri_c.specs.Spans.{parse_error}
 
 of_parsed_base : (result : Kind → List ℕ → Returned) (n : ℕ) (bytes text : List ℕ) (kind : Kind)
-    → IsParsedBase n bytes kind text
-    → result kind text ≡ with_base n bytes (λ k. result k bytes)
-of_parsed_base result n bytes text kind is =
-    ap (result kind) is.same
-    ∙ ap (λ o. rejection_or_result o (result kind bytes)) is.valid
-    ∙ ap (λ o. with_valid_number o (λ k. rejection_or_result (text_error k bytes) (result k bytes)))
+    → IsParsedBase n bytes kind text → result kind text ≡ with_base n bytes (λ k. result k bytes)
+of_parsed_base result n bytes text kind is = ap (result kind) is.same
+    ∙ ap (λ o. rejection_or_result o (result kind bytes)) is.valid ∙ ap
+    (λ o. with_valid_number o (λ k. rejection_or_result (text_error k bytes) (result k bytes)))
     (sym is.number)
 
 of_rejected_base : (kind : Option Kind) (bytes : List ℕ) (why : Rejection)
@@ -33,10 +21,8 @@ of_rejected_base (Some kind) bytes why result e =
 -- exports for C: what a call returns by a base is its result for the bytes of that base
 of_base : (result : Kind → List ℕ → Returned) (n : ℕ) (bytes : List ℕ) (base : Base)
     → IsBaseOf n bytes base → by_base result base ≡ with_base n bytes (λ k. result k bytes)
-of_base result n bytes (Uri base) is =
-    of_parsed_base result n bytes (reference_text base) uri is
-of_base result n bytes (Iri base) is =
-    of_parsed_base result n bytes (reference_text base) iri is
+of_base result n bytes (Uri base) is = of_parsed_base result n bytes (reference_text base) uri is
+of_base result n bytes (Iri base) is = of_parsed_base result n bytes (reference_text base) iri is
 of_base result n bytes (Rejected why) is =
     of_rejected_base (base_numbered n) bytes why (λ k. result k bytes) is
 

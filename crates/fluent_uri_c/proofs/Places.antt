@@ -1,24 +1,14 @@
 -- The components of a text, and the parts of its authority, at their offsets.
-use Rattle.std.proofs.Common.{◌≡◌, ◌∙◌, ◌+◌, ◌-◌, ◌<◌, ◌≤◌, ℕ, true, List, length, take, drop, refl, ap, arith, inl, inr, subst, sym}
-use Rattle.std.specs.Prelude.{Option, Some, None, IfSome, option_map, slice_range}
-use Rattle.std.specs.Str.{IsUtf8}
-use Rattle.std.proofs.lemmas.List.{drop-drop, take-take, take_rest}
-use Rattle.std.proofs.lemmas.Option.{none-some, same_Some}
+use Rattle.fluent_uri_c.proofs.Common.{◌≡◌, ◌∙◌, ◌+◌, ◌-◌, ◌<◌, ◌≤◌, ℕ, true, List, length, take, drop, refl, ap, arith, inl, inr, subst, sym, Option, Some, None, IfSome, option_map, slice_range, IsUtf8, drop-drop, take-take, take_rest, none-some, same_Some, Positions, components, Kind, IsOfKind, authority_is_at_positions, Parts, AreSpansOf, IsSpan, absent, authority_host_number, authority_start, fragment_start, host_of, host_start, path_start, port_of, port_start, query_start, userinfo_of}
 use Rattle.std.proofs.lemmas.Slice.{between_is}
-use Rattle.uri_parts.specs.declared.positions.Positions.{Positions}
 use Rattle.uri_parts.specs.declared.positions.AuthorityPositions.{AuthorityPositions}
 use Rattle.uri_parts.specs.Authority.{authority_parts, is_authority_for}
-use Rattle.uri_parts.specs.Components.{components}
-use Rattle.uri_parts.specs.Grammar.{Kind, IsOfKind}
 use Rattle.uri_parts.specs.Positions.{ArePositionsOf, authority_at, delimited_length, host_start_of, host_end_of}
 use Rattle.uri_parts.proofs.Authorities.AuthorityPlaces.{host_is_at_positions, port_follows_host, port_is_after_host, userinfo_is_before_host}
-use Rattle.uri_parts.proofs.Splitting.ComponentPositions.{authority_is_at_positions}
 use Rattle.uri_parts.proofs.Splitting.Places.{IsComponentAt}
 use Rattle.uri_parts.proofs.TextKinds.ComponentRules.{authority-of-text-of-kind-is-valid}
 use Rattle.uri_ops.proofs.Meanings.TextParts.{components-of-utf8-are-utf8}
-use Rattle.fluent_uri_c.specs.declared.parts.Parts.{Parts}
 use Rattle.fluent_uri_c.specs.declared.parts.Span.{Span}
-use Rattle.fluent_uri_c.specs.Spans.{AreSpansOf, IsSpan, absent, authority_host_number, authority_start, fragment_start, host_of, host_start, path_start, port_of, port_start, query_start, userinfo_of}
 
 -- parts for C: a component at its positions is the span from start to end
 pub IsSpan-of-positions : (text : List ℕ) (begin start end : ℕ) (part : Option (List ℕ))
@@ -44,9 +34,8 @@ start_of_authority (Some authority) n a found =
 -- parts for C: where an authority of a text begins is after its scheme
 pub authority-start-of-positions : (text : List ℕ) (p : Positions) (a : AuthorityPositions)
     → ArePositionsOf text p → p.authority ≡ Some a → a.start ≡ authority_start text
-authority-start-of-positions text p a at here =
-    start_of_authority (components text).authority (authority_start text) a
-    (sym (ap (λ (q : Positions). q.authority) at) ∙ here)
+authority-start-of-positions text p a at here = start_of_authority (components text).authority
+    (authority_start text) a (sym (ap (λ (q : Positions). q.authority) at) ∙ here)
 
 -- parts for C: what is between two offsets of a part is in the text at that distance from its start
 within : (text part : List ℕ) (start end : ℕ) → slice_range text start end ≡ part
@@ -57,12 +46,9 @@ within text part start end at ends i j inside =
     let n : (start + j) - (start + i) ≡ j - i = omega arith in
     let m : end - start ≡ length part = omega arith in
     let whole : take (length part) rest ≡ part = ap (λ k. take k rest) (sym m) ∙ at in
-    ap (λ k. take k (drop (start + i) text)) n
-    ∙ ap (take (j - i)) (sym (drop-drop i start text))
-    ∙ between_is rest i j
-    ∙ ap (drop i) (sym (take-take j (length part) rest inside))
-    ∙ sym (between_is (take (length part) rest) i j)
-    ∙ ap (λ p. slice_range p i j) whole
+    ap (λ k. take k (drop (start + i) text)) n ∙ ap (take (j - i)) (sym (drop-drop i start text))
+    ∙ between_is rest i j ∙ ap (drop i) (sym (take-take j (length part) rest inside))
+    ∙ sym (between_is (take (length part) rest) i j) ∙ ap (λ p. slice_range p i j) whole
 
 -- parts for C: a component of no length, with its delimiter, is absent
 component-without-length-is-absent : (part : Option (List ℕ)) → delimited_length 1 part ≡ 0
@@ -139,8 +125,7 @@ module _ (kind : Kind) (text : List ℕ) (p : Positions) (a : AuthorityPositions
 
   -- a part that the authority lacks
   absent-span : (f : Option (List ℕ) → Option (List ℕ)) (begin : ℕ)
-      → f (Some inside.authority) ≡ None
-      → IsSpan text begin (f (components text).authority) absent
+      → f (Some inside.authority) ≡ None → IsSpan text begin (f (components text).authority) absent
   absent-span f begin none =
       IsSpan-of-absent text begin (f (components text).authority) (ap f inside.is ∙ none)
 
@@ -196,9 +181,8 @@ module _ (kind : Kind) (text : List ℕ) (p : Positions) (a : AuthorityPositions
         ap (λ o. delimited_length 1 (host_of o)) inside.is,
       ) in
       part-span port_of (n + 1) (length inside.authority) (a.host_end + 1) a.end (port_start text)
-      (drop (n + 1) inside.authority) after.is (take_rest inside.authority (n + 1))
-      begins (omega (arith, host_ends)) ends
-      (omega (arith, after.inside)) (omega arith)
+      (drop (n + 1) inside.authority) after.is (take_rest inside.authority (n + 1)) begins
+      (omega (arith, host_ends)) ends (omega (arith, after.inside)) (omega arith)
 
   pub port-span-if-absent : a.end ≤ a.host_end
       → IsSpan text (port_start text) (port_of (components text).authority) absent

@@ -1,12 +1,9 @@
 -- The next pair of a query, as C gets it.
-use Rattle.std.proofs.Common.{ℕ, ◌<◌, ◌≤◌, List, refl, sym, subst, ◌∙◌, arith, ⊎_elim, length, ◌+◌}
-use Rattle.std.specs.Prelude.{Some, slice_range}
-use Rattle.std.proofs.lemmas.Bool.{cases_lt, cond-false, cond-true, le-ltb, lt-ltb}
+use Rattle.fluent_uri_c.proofs.Common.{ℕ, ◌<◌, ◌≤◌, List, refl, sym, subst, ◌∙◌, arith, ⊎_elim, length, ◌+◌, Some, slice_range, cases_lt, cond-false, cond-true, le-ltb, lt-ltb, IsSpan}
 use Rattle.uri_query.specs.declared.places.PairPlace.{PairPlace}
 use Rattle.uri_query.specs.Places.{IsNextPair, pair_at, value_of_pair}
 use Rattle.fluent_uri_c.specs.declared.queries.Pair.{Pair}
 use Rattle.fluent_uri_c.specs.Pairs.{LeavesPair, value_span}
-use Rattle.fluent_uri_c.specs.Spans.{IsSpan}
 
 module _ (query : List ℕ) (from : ℕ) (place : PairPlace) (next : IsNextPair query from place) where
   -- pairs for C: the value of the next pair is at its span
@@ -29,11 +26,10 @@ module _ (query : List ℕ) (from : ℕ) (place : PairPlace) (next : IsNextPair 
       (cases_lt place.name_end place.end)
 
   -- pairs for C: the next pair is the one that is reported
-  pub next-pair-is-reported : (old : Pair)
-      → LeavesPair query from place.end old (record {
-        name = record { start = place.start; end = place.name_end };
-        value = value_span place;
-      }) 1
+  pub next-pair-is-reported : (old : Pair) → LeavesPair query from place.end old (record {
+    name = record { start = place.start; end = place.name_end };
+    value = value_span place;
+  }) 1
   next-pair-is-reported old = record {
     number = λ _. omega arith;
     pair = λ _. record {

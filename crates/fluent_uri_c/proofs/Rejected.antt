@@ -1,14 +1,7 @@
 -- The parts of bytes that are rejected.
-use Rattle.std.proofs.Common.{◌≡◌, ℕ, List, sym, ap, ◌∙◌, arith}
-use Rattle.std.specs.Prelude.{Some, IsSomeAnd}
-use Rattle.fluent_uri.specs.Grammar.{Kind}
+use Rattle.fluent_uri_c.proofs.Common.{◌≡◌, ℕ, List, sym, ap, ◌∙◌, arith, Some, IsSomeAnd, Kind, Rejection, Parts, number_of, IsPossibleText, text_error, ArePartsOf, rejected_parts}
 use Rattle.fluent_uri_c.specs.declared.errors.Error.{Error}
 use Rattle.fluent_uri_c.specs.declared.errors.Error.TheVariants as Of
-use Rattle.fluent_uri_c.specs.declared.errors.Rejection.{Rejection}
-use Rattle.fluent_uri_c.specs.declared.parts.Parts.{Parts}
-use Rattle.fluent_uri_c.specs.Errors.{number_of}
-use Rattle.fluent_uri_c.specs.Results.{IsPossibleText, text_error}
-use Rattle.fluent_uri_c.specs.Spans.{ArePartsOf, rejected_parts}
 
 -- exports for C: no error has the number 0, which means success
 number_of-is-not-zero : (error : Error) → number_of error ≡ 0 → ⊥
@@ -30,9 +23,8 @@ number_of-is-not-zero Of.NameNotUtf8 e = omega arith
 number_of-is-not-zero Of.InvalidName e = omega arith
 
 -- exports for C: rejected bytes have the parts of their rejection
-rejected-parts-of-some : (o : _) (why : Rejection) (parts : Parts) → Some why ≡ o → parts
-    ≡ rejected_parts why
-    → IsSomeAnd o (λ it. parts ≡ rejected_parts it)
+rejected-parts-of-some : (o : _) (why : Rejection) (parts : Parts) → Some why ≡ o
+    → parts ≡ rejected_parts why → IsSomeAnd o (λ it. parts ≡ rejected_parts it)
 rejected-parts-of-some o why parts e h = rw (← e) h
 
 -- exports for C: what is written of rejected bytes is the error and its index

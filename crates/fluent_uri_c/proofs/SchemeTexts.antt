@@ -1,10 +1,5 @@
 -- The text of a scheme, by whether it is UTF-8.
-use Rattle.std.proofs.Common.{◌≡◌, ℕ, false, ◌&&◌, List, ap}
-use Rattle.std.specs.Str.{IsUtf8, is_utf8}
-use Rattle.std.proofs.lemmas.Bool.{and_parts, false_from_ne_true}
-use Rattle.std.proofs.lemmas.Str.{IsUtf8-from_is_utf8, is_utf8-from_IsUtf8}
-use Rattle.fluent_uri.specs.Grammar.{is_scheme}
-use Rattle.uri_ops.specs.BuilderParts.{is_scheme_text}
+use Rattle.fluent_uri_c.proofs.Common.{◌≡◌, ℕ, false, ◌&&◌, List, ap, IsUtf8, is_utf8, and_parts, false_from_ne_true, IsUtf8-from_is_utf8, is_utf8-from_IsUtf8, is_scheme, is_scheme_text}
 
 -- default ports for C: of a text in UTF-8 the rule of a scheme says whether it is one
 pub in_utf8 : (text : List ℕ) → IsUtf8 text → is_scheme_text text ≡ is_scheme text

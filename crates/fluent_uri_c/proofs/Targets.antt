@@ -1,17 +1,9 @@
 -- What resolving returns is the result that is defined.
-use Rattle.std.proofs.Common.{◌≡◌, ◌⊎◌, ℕ, Bool, false, List, inl, inr, refl, sym, ap, ◌∙◌, subst}
-use Rattle.std.specs.Prelude.{Result, Ok, Err, None, IsOk, IsTrue}
-use Rattle.std.specs.Result.{result_map_both}
-use Rattle.std.proofs.lemmas.Bool.{false≢true}
-use Rattle.uri_parts.specs.Components.{Components, components}
+use Rattle.fluent_uri_c.proofs.Common.{◌≡◌, ◌⊎◌, ℕ, Bool, false, List, inl, inr, refl, sym, ap, ◌∙◌, subst, Result, Ok, Err, None, IsOk, IsTrue, result_map_both, false≢true, Components, components, Kind, IsNormalFormOfTarget, rules_of_set, RuleSet, Rejection, basic_resolve_rejection, rejected, resolve_rejection, IsReturnedAs, IsTargetReturned, Returned, basic_resolution, error_of_basic_target, error_of_target, normal_form_of, normal_resolution, normal_result, resolution, resolution_by, rejection_or_result, takes_memory_for_target, text_error}
 use Rattle.uri_parts.specs.Fragments.{IsWithFragment}
-use Rattle.uri_parts.specs.Grammar.{Kind}
 use Rattle.uri_ops.specs.declared.resolve.error.ResolveError.{ResolveError}
 use Rattle.uri_ops.specs.declared.resolve.error.ResolveError.TheVariants as Of
-use Rattle.uri_ops.specs.NormalTargets.{IsNormalFormOfTarget}
 use Rattle.uri_ops.specs.Resolving.{IsErrorWithUnderflowAllowed}
-use Rattle.uri_ops.specs.RuleSets.{rules_of_set}
-use Rattle.uri_ops.specs.declared.scheme_rules.RuleSet.{RuleSet}
 use Rattle.uri_ops.specs.Target as Target
 use Rattle.uri_relative.specs.Leading.{without_fragment}
 use Rattle.uri_basic.specs.declared.error.BasicResolveError.{BasicResolveError}
@@ -19,9 +11,6 @@ use Rattle.uri_basic.specs.declared.error.BasicResolveError.TheVariants as OfBas
 use Rattle.uri_basic.specs.Resolving.{IsBasicError}
 use Rattle.uri_basic.specs.Target as Basic
 use Rattle.fluent_uri_c.specs.declared.errors.Error.TheVariants.{OutOfMemory}
-use Rattle.fluent_uri_c.specs.declared.errors.Rejection.{Rejection}
-use Rattle.fluent_uri_c.specs.Errors.{basic_resolve_rejection, rejected, resolve_rejection}
-use Rattle.fluent_uri_c.specs.Results.{IsReturnedAs, IsTargetReturned, Returned, basic_resolution, error_of_basic_target, error_of_target, normal_form_of, normal_resolution, normal_result, resolution, resolution_by, rejection_or_result, takes_memory_for_target, text_error}
 
 -- exports for C: the result of resolving: a target, or the rejection
 returned_of : Result (List ℕ) Target.TargetError → Returned
@@ -30,11 +19,9 @@ returned_of r = result_map_both (λ target. target) error_of_target r
 -- exports for C: what resolving against the base without its fragment (bare) returns is the target
 -- that the export's contract defines
 pub resolution-of-target : (base bare reference target : List ℕ) → IsWithFragment base None bare
-    → Target.resolution_of_texts bare reference ≡ Ok target
-    → resolution base reference ≡ Ok target
+    → Target.resolution_of_texts bare reference ≡ Ok target → resolution base reference ≡ Ok target
 unfolding resolution returned_of
-resolution-of-target base bare reference target is e =
-    ap returned_of
+resolution-of-target base bare reference target is e = ap returned_of
     (subst (λ b. Target.resolution_of b (components reference) ≡ Ok target) is.parts e)
 
 -- exports for C: mapping a result keeps whether there is a value
@@ -105,13 +92,11 @@ returned-rejection-is-of-error returned why error e h = rw e h
 
 -- exports for C: what normalising returns is the normal form that the contract defines
 pub normal_result-of-normal-form : (set : RuleSet) (kind : Kind) (bytes text normal : List ℕ)
-    → None ≡ text_error kind bytes
-    → text ≡ bytes → normal ≡ normal_form_of set kind text
+    → None ≡ text_error kind bytes → text ≡ bytes → normal ≡ normal_form_of set kind text
     → normal_result set kind bytes ≡ Ok normal
 normal_result-of-normal-form set kind bytes text normal none same is =
     ap (λ o. rejection_or_result o (Ok (normal_form_of set kind bytes))) (sym none)
-    ∙ ap (λ t. Ok (normal_form_of set kind t)) (sym same)
-    ∙ ap Ok (sym is)
+    ∙ ap (λ t. Ok (normal_form_of set kind t)) (sym same) ∙ ap Ok (sym is)
 
 -- exports for C: a text that is its own normal form is what normalising returns
 pub normal_result-of-own-form : (set : RuleSet) (kind : Kind) (bytes text form : List ℕ)
@@ -165,8 +150,7 @@ basic_resolution-of-error base given reference why error same e h =
     rw e (basic_of-error (components base) (components reference) error
     (subst (λ b. IsBasicError (components b) (components reference) error) same h))
 
-ok-takes-memory : (returned : Returned) → IsOk returned
-    → IsTrue (takes_memory_for_target returned)
+ok-takes-memory : (returned : Returned) → IsOk returned → IsTrue (takes_memory_for_target returned)
 ok-takes-memory (Ok target) h = refl
 ok-takes-memory (Err why) h = absurd (false≢true h)
 

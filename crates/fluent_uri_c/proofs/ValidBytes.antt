@@ -1,11 +1,6 @@
 -- Bytes that are UTF-8 have no error.
-use Rattle.std.proofs.Common.{◌≡◌, ℕ, List, length, sym, arith}
-use Rattle.std.specs.Prelude.{None, IsTrue}
-use Rattle.std.specs.Str.{IsUtf8}
+use Rattle.fluent_uri_c.proofs.Common.{◌≡◌, ℕ, List, length, sym, arith, None, IsTrue, IsUtf8, cond-false, le-ltb, utf8_valid_len-IsUtf8, is_possible_length, utf8_error}
 use Rattle.std.specs.Str.Lossy.{utf8_valid_len}
-use Rattle.std.proofs.lemmas.Bool.{cond-false, le-ltb}
-use Rattle.std.proofs.lemmas.Str.{utf8_valid_len-IsUtf8}
-use Rattle.fluent_uri_c.specs.Results.{is_possible_length, utf8_error}
 
 -- exports for C: UTF-8 of a possible length has no index of ill-formed bytes
 pub utf8_error-of-utf8 : (bytes : List ℕ) → IsUtf8 bytes → IsTrue (is_possible_length bytes)

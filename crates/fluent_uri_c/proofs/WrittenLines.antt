@@ -1,20 +1,7 @@
 -- What is written of lines, and what a batch of them leaves.
-use Rattle.std.proofs.Common.{◌≡◌, ◌≢◌, ℕ, zero, suc, ◌+◌, ◌<◌, ◌≤◌, List, [], ◌∷◌, ◌++◌, length, take, drop, refl, sym, ap, ◌∙◌, arith, append_assoc, length-append, true, false, Bool, ◌⊎◌, inl, inr}
-use Rattle.std.specs.Prelude.{Some, None, IsSome, IsTrue, cond, slice_get, nat_lt}
-use Rattle.std.specs.List.{position, position_or_len}
-use Rattle.std.specs.Result.{result_ok}
-use Rattle.std.proofs.Math.Seq.{drop-append_seam, take-append_seam}
-use Rattle.std.proofs.lemmas.Bool.{and_from, false≢true, ltb-false}
-use Rattle.std.proofs.lemmas.List.{drop-drop, length-take-le}
-use Rattle.std.proofs.lemmas.Option.{none-some, same_Some}
-use Rattle.fluent_uri_c.specs.Columns.{bytes_of, joined_results}
+use Rattle.fluent_uri_c.proofs.Common.{◌≡◌, ◌≢◌, ℕ, zero, suc, ◌+◌, ◌<◌, ◌≤◌, List, [], ◌∷◌, ◌++◌, length, take, drop, refl, sym, ap, ◌∙◌, arith, append_assoc, length-append, true, false, Bool, ◌⊎◌, inl, inr, Some, None, IsSome, IsTrue, cond, slice_get, nat_lt, position, position_or_len, result_ok, drop-append_seam, take-append_seam, and_from, false≢true, ltb-false, drop-drop, length-take-le, none-some, same_Some, bytes_of, joined_results, kind_numbered, rules_choice, outcome_of_batch, HasConsumed, IsFullAt, LeavesLines, LineBuffers, TakesMemoryAt, is_newline, lines_of, newline, error_number_at, number_returned, written_at, is_possible_length, normalize_result}
 use Rattle.fluent_uri_c.specs.declared.outcome.Outcome.{Outcome}
 use Rattle.fluent_uri_c.specs.Endings.{EndsAt}
-use Rattle.fluent_uri_c.specs.Kinds.{kind_numbered}
-use Rattle.fluent_uri_c.specs.Options.{rules_choice}
-use Rattle.fluent_uri_c.specs.Outcomes.{outcome_of_batch}
-use Rattle.fluent_uri_c.specs.Lines.{HasConsumed, IsFullAt, LeavesLines, LineBuffers, TakesMemoryAt, is_newline, lines_of, newline, error_number_at, number_returned, written_at}
-use Rattle.fluent_uri_c.specs.Results.{is_possible_length, normalize_result}
 
 -- lines for C: a value that is there only if b is true is that value
 cond_some : (b : Bool) (n k : ℕ) → Some k ≡ cond b (Some n) None → k ≡ n
@@ -63,9 +50,7 @@ two-writes-are-one out one two bytes more at end ends inside first second =
     ∙ ap (λ l. drop n (drop (length P) l)) whole ∙ ap (drop n) (drop-append_seam P R)
     ∙ drop-drop n (at + length bytes) out
     ∙ ap (λ k. drop k out) (omega (arith, length-append bytes more)) in
-    second
-    ∙ ap (λ l. l ++ (more ++ drop (end + n) one)) before
-    ∙ ap (λ l. P ++ (more ++ l)) after
+    second ∙ ap (λ l. l ++ (more ++ drop (end + n) one)) before ∙ ap (λ l. P ++ (more ++ l)) after
     ∙ append_assoc (take at out) bytes _
     ∙ ap (λ l. take at out ++ l) (sym (append_assoc bytes more _))
 
@@ -116,21 +101,18 @@ consumed-after-last-line input done end last all = record {
 -- lines for C: normalising a batch of lines leaves the buffers that its contract defines;
 -- done: how many were processed
 pub leaves_lines : (kind options : ℕ) (input : List ℕ) (old new : LineBuffers) (outcome : Outcome)
-    (number which needed done at consumed returned : ℕ) → kind ≤ 3
-    → (options ≡ 0) ⊎ (options ≡ 2)
+    (number which needed done at consumed returned : ℕ) → kind ≤ 3 → (options ≡ 0) ⊎ (options ≡ 2)
     → IsTrue (is_possible_length input) → returned ≡ number
     → outcome ≡ outcome_of_batch number which needed done at consumed
-    → (number ≢ 10 → (which ≡ 0) × (needed ≡ 0))
-    → new.bytes ≡ joined_results (written_at kind options input) done
+    → (number ≢ 10 → (which ≡ 0) × (needed ≡ 0)) → new.bytes
+    ≡ joined_results (written_at kind options input) done
     ++ drop (length (joined_results (written_at kind options input) done)) old.bytes
     → at ≡ length (joined_results (written_at kind options input) done)
     → ((i : ℕ) → i < done → slice_get new.errors i ≡ error_number_at kind options input i)
-    → drop done new.errors ≡ drop done old.errors
-    → EndsAt (length (lines_of input)) (slice_get (lines_of input))
-    (TakesMemoryAt kind options input)
+    → drop done new.errors ≡ drop done old.errors → EndsAt (length (lines_of input))
+    (slice_get (lines_of input)) (TakesMemoryAt kind options input)
     (IsFullAt kind options input old.bytes old.errors which needed) done number
-    → HasConsumed input done consumed
-    → LeavesLines kind options input old new outcome returned
+    → HasConsumed input done consumed → LeavesLines kind options input old new outcome returned
 leaves_lines kind options input old new outcome number which needed done at consumed returned valid
     chosen possible same is full bytes total errors others end left =
     let is_valid = and_from _ _

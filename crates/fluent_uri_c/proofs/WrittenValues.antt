@@ -1,11 +1,6 @@
 -- What a call leaves that writes a value.
-use Rattle.std.proofs.Common.{◌≡◌, ◌+◌, ◌≤◌, ◌++◌, ◌∙◌, ℕ, Bool, List, Ok, ap, arith, drop, length, length-append, refl, subst, sym, take}
-use Rattle.std.proofs.lemmas.Bool.{cond-false, le-ltb}
-use Rattle.std.proofs.lemmas.List.{take_at}
+use Rattle.fluent_uri_c.proofs.Common.{◌≡◌, ◌+◌, ◌≤◌, ◌++◌, ◌∙◌, ℕ, Bool, List, Ok, ap, arith, drop, length, length-append, refl, subst, sym, take, cond-false, le-ltb, take_at, Parts, outcome_of_text, written, HasPartsFirst, LeavesValueOrDenied}
 use Rattle.fluent_uri_c.specs.declared.outcome.Outcome.{Outcome}
-use Rattle.fluent_uri_c.specs.declared.parts.Parts.{Parts}
-use Rattle.fluent_uri_c.specs.Outcomes.{outcome_of_text, written}
-use Rattle.fluent_uri_c.specs.Values.{HasPartsFirst, LeavesValueOrDenied}
 use Rattle.fluent_uri_c.proofs.WrittenLines.{two-writes-are-one}
 
 -- exports for C: a call that writes a value leaves the result that the value's text is
@@ -37,19 +32,16 @@ module _ (old mid new prefix suffix : List ℕ) (fits : length prefix + length s
   text = prefix ++ suffix
 
   text-begins-buffer : new ≡ text ++ drop (length text) old
-  text-begins-buffer = two-writes-are-one old mid new prefix suffix 0 (length prefix)
-      (omega arith) (omega arith) first second
-      ∙ ap (λ n. text ++ drop n old) (omega arith)
+  text-begins-buffer = two-writes-are-one old mid new prefix suffix 0 (length prefix) (omega arith)
+      (omega arith) first second ∙ ap (λ n. text ++ drop n old) (omega arith)
 
   -- they are written as the text that they make
   pub pieces-are-written : new ≡ written text old
-  pieces-are-written = text-begins-buffer
-      ∙ sym (cond-false _ _ _ (le-ltb (length old) (length text)
-      (omega (arith, fits, length-append prefix suffix))))
+  pieces-are-written = text-begins-buffer ∙ sym (cond-false _ _ _
+      (le-ltb (length old) (length text) (omega (arith, fits, length-append prefix suffix))))
 
   -- which the buffer begins with
   pub pieces-are-prefix-of-buffer : take (length prefix + length suffix) new ≡ text
-  pieces-are-prefix-of-buffer =
-      ap (take (length prefix + length suffix)) text-begins-buffer
+  pieces-are-prefix-of-buffer = ap (take (length prefix + length suffix)) text-begins-buffer
       ∙ take_at text (drop (length text) old) (length prefix + length suffix)
       (length-append prefix suffix)

@@ -1,11 +1,6 @@
 -- The rules dec-octet and IPv4address.
-use Rattle.std.proofs.Common.{◌≡◌, ℕ, zero, suc, List, [], ◌∷◌, ◌++◌, refl, sym, ap, subst, ◌∙◌, inl, inr, ⊎_elim, arith, ◌≤◌, ◌<◌, ◌+◌, ◌*◌, ◌-◌, ◌/◌, ◌%◌, append_assoc, rules, codes, decimal}
-use Rattle.std.specs.Net.Grammar.{IsDotted}
+use Rattle.uri_abnf.proofs.Common.{◌≡◌, ℕ, zero, suc, List, [], ◌∷◌, ◌++◌, refl, sym, ap, subst, ◌∙◌, inl, inr, ⊎_elim, arith, ◌≤◌, ◌<◌, ◌+◌, ◌*◌, ◌-◌, ◌/◌, ◌%◌, append_assoc, rules, codes, decimal, IsDotted, cases_lt, Abnf, Has, lit, times, ◌⋅◌, ◌⋯◌, dec-octet, IPv4address, DIGIT}
 use Rattle.std.proofs.lemmas.Fmt.{decimal_digit, decimal_step}
-use Rattle.std.proofs.lemmas.Bool.{cases_lt}
-use Rattle.uri_abnf.specs.Abnf.{Abnf, Has, lit, times, ◌⋅◌, ◌⋯◌}
-use Rattle.uri_abnf.specs.Rfc3986.{dec-octet, IPv4address}
-use Rattle.uri_abnf.specs.Rfc5234.{DIGIT}
 use Rattle.uri_abnf.proofs.Texts.{letterless-has}
 
 two-digits : (n : ℕ) → 10 ≤ n → n < 100 → decimal n ≡ (48 + n / 10) ∷ (48 + n % 10) ∷ []
@@ -24,22 +19,14 @@ record IsOctetText (t : List ℕ) : Type 0 where
   whole : t ≡ decimal n
 
 one-gives : (a : ℕ) → 48 ≤ a → a ≤ 57 → IsOctetText (a ∷ [])
-one-gives a p q = record {
-  n = a - 48;
-  below = omega arith;
-  whole = grind (arith, decimal_digit);
-}
+one-gives a p q = record { n = a - 48; below = omega arith; whole = grind (arith, decimal_digit) }
 
 two-gives : (a b : ℕ) → 49 ≤ a → a ≤ 57 → 48 ≤ b → b ≤ 57 → IsOctetText (a ∷ b ∷ [])
 two-gives a b p q r s =
     let n : ℕ = 10 * (a - 48) + (b - 48) in
     let e : 48 + n / 10 ≡ a = omega arith in
     let f : 48 + n % 10 ≡ b = omega arith in
-    record {
-      n = n;
-      below = omega arith;
-      whole = grind (arith, two-digits);
-    }
+    record { n = n; below = omega arith; whole = grind (arith, two-digits) }
 
 three-gives : (a b c : ℕ) → 49 ≤ a → a ≤ 50 → 48 ≤ b → b ≤ 57 → 48 ≤ c → c ≤ 57
     → 100 * (a - 48) + (10 * (b - 48) + (c - 48)) < 256 → IsOctetText (a ∷ b ∷ c ∷ [])
@@ -48,11 +35,7 @@ three-gives a b c p q r s u v h =
     let e : 48 + (n / 10) / 10 ≡ a = omega arith in
     let f : 48 + (n / 10) % 10 ≡ b = omega arith in
     let g : 48 + n % 10 ≡ c = omega arith in
-    record {
-      n = n;
-      below = h;
-      whole = grind (arith, three-digits);
-    }
+    record { n = n; below = h; whole = grind (arith, three-digits) }
 
 record IsTwoDigits (t : List ℕ) : Type 0 where
   a : ℕ
@@ -154,13 +137,7 @@ ipv4-gives t (
   r1,
   e1,
   h1,
-  (
-    p1,
-    s1,
-    f1,
-    d1,
-    (x2, r2, e2, h2, (p2, s2, f2, d2, (x3, r3, e3, h3, (p3, x4, f3, d3, h4)))),
-  ),
+  (p1, s1, f1, d1, (x2, r2, e2, h2, (p2, s2, f2, d2, (x3, r3, e3, h3, (p3, x4, f3, d3, h4))))),
 ) =
     let o1 = octet-gives x1 h1 in
     let o2 = octet-gives x2 h2 in

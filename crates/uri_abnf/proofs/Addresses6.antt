@@ -1,15 +1,8 @@
 -- The rule IPv6address.
-use Rattle.std.proofs.Common.{◌≡◌, ℕ, zero, suc, Bool, true, false, List, [], ◌∷◌, ◌++◌, refl, sym, ap, subst, ◌∙◌, inl, inr, ⊎_elim, arith, ◌≤◌, ◌<◌, ◌+◌, append_assoc, append-nil, length, codes}
-use Rattle.std.specs.Char.{digit_value, is_ascii_hexdigit}
+use Rattle.uri_abnf.proofs.Common.{◌≡◌, ℕ, zero, suc, Bool, true, false, List, [], ◌∷◌, ◌++◌, refl, sym, ap, subst, ◌∙◌, inl, inr, ⊎_elim, arith, ◌≤◌, ◌<◌, ◌+◌, append_assoc, append-nil, length, codes, digit_value, is_ascii_hexdigit, IsDotted, IsGroup, IsGroups, IsGroupsAfter, IsColonHex, false≢true, nat_tests, Abnf, Has, IsPower, opt, times, upto, lit, ◌⋅◌, h16, ls32, IPv6address, HEXDIG}
 use Rattle.std.specs.Str.Parse.{AllDigits, digits_value}
 use Rattle.std.specs.Net.Addr.{segments_of}
-use Rattle.std.specs.Net.Grammar.{IsDotted, IsGroup, IsGroups, IsGroupsAfter, IsColonHex}
-use Rattle.std.proofs.lemmas.Bool.{false≢true}
-use Rattle.std.proofs.lemmas.Bool.Decides.{nat_tests}
 use Rattle.uri_pct.proofs.ValidTexts.Allowed.{hexdigit_value_is_below_16}
-use Rattle.uri_abnf.specs.Abnf.{Abnf, Has, IsPower, opt, times, upto, lit, ◌⋅◌}
-use Rattle.uri_abnf.specs.Rfc3986.{h16, ls32, IPv6address}
-use Rattle.uri_abnf.specs.Rfc5234.{HEXDIG}
 use Rattle.uri_abnf.proofs.Elements.{hexdig-has, hexdig-is-had}
 use Rattle.uri_abnf.proofs.Addresses4.{ipv4-gives, ipv4-is-had}
 use Rattle.uri_abnf.proofs.Texts.{letterless-has}
@@ -67,8 +60,7 @@ record IsStep (last : Abnf) (n : ℕ) (t : List ℕ) : Type 0 where
   shape : IsShape last n rest
 
 shape-of-last : (last : Abnf) (t : List ℕ) → IsShape last 0 t → Has last t
-shape-of-last last t s =
-    subst (Has last) (sym (s.whole ∙ ap (λ r. r ++ s.y) s.groups)) s.ending
+shape-of-last last t s = subst (Has last) (sym (s.whole ∙ ap (λ r. r ++ s.y) s.groups)) s.ending
 
 last-is-shape : (last : Abnf) (t : List ℕ) → Has last t → IsShape last 0 t
 last-is-shape last t h = record { x = []; y = t; whole = refl; groups = refl; ending = h }
@@ -136,9 +128,8 @@ tails-give : (n : ℕ) (lead t : List ℕ) → IsShape ls32 n t → AreGroups tr
 tails-give zero lead t s = ls32-gives lead t (shape-of-last ls32 t s)
 tails-give (suc n) lead t s =
     let k = shape-step ls32 n t s.x s.y s.whole s.groups s.ending in
-    subst (AreGroups true lead (suc (suc (suc n)))) (sym k.whole)
-    (group-then true lead (suc (suc n)) k.g k.rest k.group
-    (tails-give n (codes ":") k.rest k.shape))
+    subst (AreGroups true lead (suc (suc (suc n)))) (sym k.whole) (group-then true lead
+    (suc (suc n)) k.g k.rest k.group (tails-give n (codes ":") k.rest k.shape))
 
 -- the text after the lead has a property
 record IsAfter (lead : List ℕ) (P : List ℕ → Type 0) (t : List ℕ) : Type 0 where
@@ -156,19 +147,16 @@ after-group last lead t g rest s n e i k = record {
 }
 
 after-last-group : (lead t g rest : List ℕ) (s : ℕ) → t ≡ (lead ++ g) ++ rest → rest ≡ []
-    → IsGroup g s
-    → IsAfter lead (Has h16) t
+    → IsGroup g s → IsAfter lead (Has h16) t
 after-last-group lead t g rest s e n i = grind (arith, nat_tests, append-nil, group-is-had)
 
-head-shape : (lead t : List ℕ) (s : ℕ) (segments : List ℕ) → IsGroupsAfter false lead t
-    (s ∷ segments)
-    → IsAfter lead (IsShape h16 (length segments)) t
+head-shape : (lead t : List ℕ) (s : ℕ) (segments : List ℕ)
+    → IsGroupsAfter false lead t (s ∷ segments) → IsAfter lead (IsShape h16 (length segments)) t
 head-shape lead t s [] (inl (g, rest, e, i, r)) =
     let k = after-last-group lead t g rest s e r i in
     record { r = k.r; whole = k.whole; holds = last-is-shape h16 k.r k.holds }
-head-shape lead t s (s2 ∷ segments) (inl (g, rest, e, i, r)) =
-    after-group h16 lead t g rest s (length segments) e i
-    (head-shape (codes ":") rest s2 segments r)
+head-shape lead t s (s2 ∷ segments) (inl (g, rest, e, i, r)) = after-group h16 lead t g rest s
+    (length segments) e i (head-shape (codes ":") rest s2 segments r)
 head-shape lead t s segments (inr (last, octets, no_ipv4, e, d, f)) = absurd (false≢true no_ipv4)
 
 one-tail : (lead t : List ℕ) (s : ℕ) → IsGroupsAfter true lead t (s ∷ []) → IsAfter lead (Has h16) t
@@ -188,9 +176,8 @@ tail-shape lead t s s2 [] (inl (g, rest, e, i, r)) =
       holds = last-is-shape ls32 (g ++ (58 ∷ k.r))
           (inl (g, 58 ∷ k.r, refl, group-is-had g s i, (codes ":", k.r, refl, refl, k.holds)));
     }
-tail-shape lead t s s2 (s3 ∷ segments) (inl (g, rest, e, i, r)) =
-    after-group ls32 lead t g rest s (length segments) e i
-    (tail-shape (codes ":") rest s2 s3 segments r)
+tail-shape lead t s s2 (s3 ∷ segments) (inl (g, rest, e, i, r)) = after-group ls32 lead t g rest s
+    (length segments) e i (tail-shape (codes ":") rest s2 s3 segments r)
 tail-shape lead t s s2 segments (inr (last, octets, yes_ipv4, e, d, f)) =
     let v = ap segments_of d.value in
     let n : segments ≡ [] = cc (f, v) in
@@ -277,8 +264,7 @@ pub ipv6-gives : (t : List ℕ) → Has IPv6address t → (segments : List ℕ) 
 unfolding IPv6address
 ipv6-gives t (inl (inl (inl (inl (inl (inl (inl (inl h)))))))) = six-and-last t h
 ipv6-gives t (inl (inl (inl (inl (inl (inl (inl (inr (c, y, e, d, b))))))))) =
-    elide 0 7 (omega arith) t [] c y e d (no-head 0)
-    (tails-give 5 [] y (times-is-shape ls32 5 y b))
+    elide 0 7 (omega arith) t [] c y e d (no-head 0) (tails-give 5 [] y (times-is-shape ls32 5 y b))
 ipv6-gives t (inl (inl (inl (inl (inl (inl (inr h))))))) =
     elided-gives (opt h16) (times 4 g16 ⋅ ls32) 1 6 (omega arith) one-gives-head
     (λ y b. tails-give 4 [] y (times-is-shape ls32 4 y b)) t h
@@ -288,9 +274,8 @@ ipv6-gives t (inl (inl (inl (inl (inl (inr h)))))) =
 ipv6-gives t (inl (inl (inl (inl (inr h))))) =
     elided-gives (opt (upto 2 g16 ⋅ h16)) (times 2 g16 ⋅ ls32) 3 4 (omega arith) (upto-gives-head 2)
     (λ y b. tails-give 2 [] y (times-is-shape ls32 2 y b)) t h
-ipv6-gives t (inl (inl (inl (inr h)))) =
-    elided-gives (opt (upto 3 g16 ⋅ h16)) (h16 ⋅ lit ":" ⋅ ls32) 4 3 (omega arith)
-    (upto-gives-head 3)
+ipv6-gives t (inl (inl (inl (inr h)))) = elided-gives (opt (upto 3 g16 ⋅ h16))
+    (h16 ⋅ lit ":" ⋅ ls32) 4 3 (omega arith) (upto-gives-head 3)
     (λ y b. tails-give 1 [] y (once y b)) t h
 ipv6-gives t (inl (inl (inr h))) =
     elided-gives (opt (upto 4 g16 ⋅ h16)) ls32 5 2 (omega arith) (upto-gives-head 4)
@@ -329,14 +314,7 @@ shape-once t s =
       58 ∷ k.rest,
       k.whole,
       k.group,
-      (
-        codes ":",
-        k.rest,
-        refl,
-        refl,
-        shape-of-last ls32 k.rest
-            k.shape,
-      ),
+      (codes ":", k.rest, refl, refl, shape-of-last ls32 k.rest k.shape),
     )
 
 elided-is-had : (A B : Abnf) (t x y : List ℕ) → t ≡ (x ++ codes "::") ++ y → Has A x → Has B y
@@ -377,9 +355,8 @@ module _ (t x y head : List ℕ) (e : t ≡ (x ++ codes "::") ++ y)
       (shape-is-times ls32 2 y (subst (IsShape ls32 2) (sym k.whole) k.holds)))))))
   elided-had (s ∷ s2 ∷ s3 ∷ s4 ∷ s5 ∷ []) g l =
       let k = tail-shape [] y s s2 (s3 ∷ s4 ∷ s5 ∷ []) g in
-      inl (inl (inl (inl (inl (inr (elided-is-had (opt (upto 1 g16 ⋅ h16))
-      (times 3 g16 ⋅ ls32) t x y e
-      (head-is-had 1 x head heads (omega arith))
+      inl (inl (inl (inl (inl (inr (elided-is-had (opt (upto 1 g16 ⋅ h16)) (times 3 g16 ⋅ ls32) t x
+      y e (head-is-had 1 x head heads (omega arith))
       (shape-is-times ls32 3 y (subst (IsShape ls32 3) (sym k.whole) k.holds))))))))
   elided-had (s ∷ s2 ∷ s3 ∷ s4 ∷ s5 ∷ s6 ∷ []) g l =
       let k = tail-shape [] y s s2 (s3 ∷ s4 ∷ s5 ∷ s6 ∷ []) g in
@@ -406,9 +383,8 @@ whole-had t (s ∷ []) g n = absurd (omega arith)
 whole-had t (s ∷ s2 ∷ segments) g n =
     let k = tail-shape [] t s s2 segments g in
     let six : length segments ≡ 6 = omega arith in
-    inl (inl (inl (inl (inl (inl (inl (inl (shape-is-times ls32 6 t
-    (subst (λ m. IsShape ls32 m t) six
-    (subst (IsShape ls32 (length segments)) (sym k.whole) k.holds))))))))))
+    inl (inl (inl (inl (inl (inl (inl (inl (shape-is-times ls32 6 t (subst (λ m. IsShape ls32 m t)
+    six (subst (IsShape ls32 (length segments)) (sym k.whole) k.holds))))))))))
 
 pub ipv6-is-had : (t segments : List ℕ) → IsColonHex t segments → Has IPv6address t
 ipv6-is-had t segments (inl h) = whole-had t segments h.0 h.1

@@ -1,14 +1,7 @@
 -- Expressions of ASCII characters only: their texts are their own characters.
-use Rattle.std.proofs.Common.{◌≡◌, ℕ, zero, suc, Bool, true, List, [], ◌∷◌, ◌++◌, refl, sym, ap, subst, ◌∙◌, inl, inr, arith, ◌<◌, ◌&&◌, nat_lt, map, get_or, drop}
-use Rattle.std.specs.List.{list_all}
-use Rattle.std.specs.Char.{to_ascii_lowercase}
-use Rattle.std.specs.Str.{chars, encode_utf8_all, all_scalars}
-use Rattle.std.proofs.lemmas.Bool.{and_parts, ltb-true}
-use Rattle.std.proofs.lemmas.Bool.Decides.{nat_tests}
-use Rattle.std.proofs.lemmas.Str.{encodes-append, chars-encodes, encodes-chars, encode_ascii}
+use Rattle.uri_abnf.proofs.Common.{◌≡◌, ℕ, zero, suc, Bool, true, List, [], ◌∷◌, ◌++◌, refl, sym, ap, subst, ◌∙◌, inl, inr, arith, ◌<◌, ◌&&◌, nat_lt, map, get_or, drop, list_all, to_ascii_lowercase, chars, encode_utf8_all, all_scalars, and_parts, ltb-true, nat_tests, encodes-append, chars-encodes, encodes-chars, encode_ascii, Abnf, Rule, Literal, Range, Sequence, Either, Repeat, Optional, Has, IsPower, IsOf}
 use Rattle.std.proofs.Math.Utf8.{low_scalar}
 use Rattle.uri_pct.proofs.UnreservedDecoding.Printing.{scalars-append}
-use Rattle.uri_abnf.specs.Abnf.{Abnf, Rule, Literal, Range, Sequence, Either, Repeat, Optional, Has, IsPower, IsOf}
 
 abbrev pub ascii_only : Abnf → Bool
 ascii_only (Rule name a) = ascii_only a

@@ -1,16 +1,6 @@
 -- The rules on authorities: RFC 3986, section 3.2.
-use Rattle.std.proofs.Common.{ℕ, List, [], ◌++◌, refl, sym, ap, subst, ◌∙◌, arith, codes, IsUtf8}
-use Rattle.uri_pct.specs.Sets.{digit_set}
-use Rattle.uri_pct.proofs.General.{IfSome-weaken}
-use Rattle.uri_parts.specs.Authority.{AuthorityParts, IsAuthorityFor}
-use Rattle.uri_parts.specs.Components.{Lacks, marked}
-use Rattle.uri_parts.specs.Grammar.{Kind}
-use Rattle.uri_parts.proofs.TextKinds.GrammarTexts.{valid_text_lacks_excluded_marks}
+use Rattle.uri_abnf.proofs.Common.{ℕ, List, [], ◌++◌, refl, sym, ap, subst, ◌∙◌, arith, codes, IsUtf8, digit_set, IfSome-weaken, AuthorityParts, IsAuthorityFor, Lacks, marked, Kind, valid_text_lacks_excluded_marks, Abnf, IsOf, any, opt, lit, ◌⋅◌, Rules, IsAuthorityDerived, port, DIGIT}
 use Rattle.uri_ops.proofs.Meanings.AuthorityMeanings.{authority-parts-are-utf8, authority-text-lacks-its-ends}
-use Rattle.uri_abnf.specs.Abnf.{Abnf, IsOf, any, opt, lit, ◌⋅◌}
-use Rattle.uri_abnf.specs.Derivations.{Rules, IsAuthorityDerived}
-use Rattle.uri_abnf.specs.Rfc3986.{port}
-use Rattle.uri_abnf.specs.Rfc5234.{DIGIT}
 use Rattle.uri_abnf.proofs.Delimited.{after-gives, after-is-had, before-gives, before-is-had}
 use Rattle.uri_abnf.proofs.Hosts.{host-gives, host-is-had, host-lacks}
 use Rattle.uri_abnf.proofs.Rules.{Fit, IsRuleOf}
@@ -53,12 +43,11 @@ module _ (r : Rules) (kind : Kind) (w : Fit r kind) where
 
   pub derived-is-authority : (t : List ℕ) (p : AuthorityParts) → IsAuthorityDerived r t p
       → IsOf r.authority t
-  derived-is-authority t p d = subst (IsOf r.authority) d.whole
-      (same-text {g = shape} (λ cs. (w.made.authority cs).1)
-      (cut-is-had (opt (r.userinfo ⋅ lit "@")) (r.host ⋅ opt (lit ":" ⋅ port)) _ _
-      (before-is-had (codes "@") at-mark r.userinfo p.userinfo d.userinfo)
-      (cut-is-had r.host (opt (lit ":" ⋅ port)) _ _ d.host
-      (after-is-had (codes ":") colon-mark port p.port d.port))))
+  derived-is-authority t p d = subst (IsOf r.authority) d.whole (same-text {g = shape}
+      (λ cs. (w.made.authority cs).1) (cut-is-had (opt (r.userinfo ⋅ lit "@"))
+      (r.host ⋅ opt (lit ":" ⋅ port)) _ _
+      (before-is-had (codes "@") at-mark r.userinfo p.userinfo d.userinfo) (cut-is-had r.host
+      (opt (lit ":" ⋅ port)) _ _ d.host (after-is-had (codes ":") colon-mark port p.port d.port))))
 
   pub derived-authority-follows : (t : List ℕ) (p : AuthorityParts) → IsAuthorityDerived r t p
       → IsAuthorityFor kind.userinfo kind.reg_name t p
@@ -88,5 +77,4 @@ module _ (r : Rules) (kind : Kind) (w : Fit r kind) where
       let h = host-gives r kind w p.host d.host in
       subst (Lacks (codes "/?#")) d.whole (authority-text-lacks-its-ends p
       (IfSome-weaken p.userinfo _ _ userinfo-lacks d.userinfo)
-      (host-lacks r kind w p.host h.0 d.host.utf8 h.1)
-      (IfSome-weaken p.port _ _ port-lacks d.port))
+      (host-lacks r kind w p.host h.0 d.host.utf8 h.1) (IfSome-weaken p.port _ _ port-lacks d.port))

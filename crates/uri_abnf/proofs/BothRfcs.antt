@@ -1,11 +1,5 @@
 -- The rules of both RFCs fit the sets of the kinds.
-use Rattle.std.proofs.Common.{◌≡◌, ℕ, Bool, true, refl, sym, arith, ◌∙◌}
-use Rattle.std.proofs.lemmas.Bool.Decides.{nat_tests}
-use Rattle.uri_pct.specs.Sets.{userinfo_set, reg_name_set, path_set, query_set, fragment_set, iuserinfo_set, ireg_name_set, ipath_set, iquery_set, ifragment_set, pchar_set, segment_nz_nc_set, isegment_nz_nc_set, international}
-use Rattle.uri_parts.specs.Grammar.{Kind, uri, iri}
-use Rattle.uri_abnf.specs.Abnf.{lit, ◌∣◌}
-use Rattle.uri_abnf.specs.Derivations.{uri_rules, iri_rules}
-use Rattle.uri_abnf.specs.Rfc3986.{unreserved, sub-delims, pct-encoded, pchar}
+use Rattle.uri_abnf.proofs.Common.{◌≡◌, ℕ, Bool, true, refl, sym, arith, ◌∙◌, nat_tests, userinfo_set, reg_name_set, path_set, query_set, fragment_set, iuserinfo_set, ireg_name_set, ipath_set, iquery_set, ifragment_set, pchar_set, segment_nz_nc_set, isegment_nz_nc_set, international, Kind, uri, iri, lit, ◌∣◌, uri_rules, iri_rules, unreserved, sub-delims, pct-encoded, pchar}
 use Rattle.uri_abnf.specs.Rfc3986 as R
 use Rattle.uri_abnf.specs.Rfc3987.{iunreserved, ipchar, iprivate}
 use Rattle.uri_abnf.specs.Rfc3987 as I

@@ -1,7 +1,5 @@
 -- A component that may be absent, with its delimiter.
-use Rattle.std.proofs.Common.{◌≡◌, ℕ, List, [], ◌++◌, sym, ap, subst, ◌∙◌, ⊎_elim, append-nil, Option, None, Some, IfSome}
-use Rattle.uri_parts.specs.Components.{marked}
-use Rattle.uri_abnf.specs.Abnf.{Abnf, Literal, IsOf, opt, ◌⋅◌}
+use Rattle.uri_abnf.proofs.Common.{◌≡◌, ℕ, List, [], ◌++◌, sym, ap, subst, ◌∙◌, ⊎_elim, append-nil, Option, None, Some, IfSome, marked, Abnf, Literal, IsOf, opt, ◌⋅◌}
 use Rattle.uri_abnf.proofs.Texts.{IsMark, cut-gives, cut-is-had, opt-gives, opt-is-had, opt-has-nothing, mark-gives, mark-is-had}
 
 module _ (mark : List ℕ) (is : IsMark mark) (g : Abnf) where
@@ -27,8 +25,7 @@ module _ (mark : List ℕ) (is : IsMark mark) (g : Abnf) where
         whole = append-nil (mark ++ k.y)
             ∙ sym (k.whole ∙ ap (λ r. r ++ k.y) (mark-gives mark is k.x k.first));
         is_of = k.second;
-      })
-      (opt-gives (Literal mark ⋅ g) t l)
+      }) (opt-gives (Literal mark ⋅ g) t l)
 
   pub after-is-had : (o : Option (List ℕ)) → IfSome o (IsOf g)
       → IsOf (opt (Literal mark ⋅ g)) (marked mark o [])
@@ -45,8 +42,7 @@ module _ (mark : List ℕ) (is : IsMark mark) (g : Abnf) where
         part = Some k.x;
         whole = sym (k.whole ∙ ap (λ r. k.x ++ r) (mark-gives mark is k.y k.second));
         is_of = k.first;
-      })
-      (opt-gives (g ⋅ Literal mark) t l)
+      }) (opt-gives (g ⋅ Literal mark) t l)
 
   pub before-is-had : (o : Option (List ℕ)) → IfSome o (IsOf g)
       → IsOf (opt (g ⋅ Literal mark)) (marked [] o mark)

@@ -1,12 +1,6 @@
 -- References are derived from their components: RFC 3986, sections 3 and 4.
-use Rattle.std.proofs.Common.{◌≡◌, ℕ, List, [], ◌++◌, refl, sym, ap, subst, ◌∙◌, ⊎_elim, append_assoc, append-nil, arith, Option, None, Some, codes, IfSome, IsSome, is_some}
-use Rattle.std.proofs.lemmas.Bool.{cases_Bool, false≢true}
-use Rattle.uri_pct.proofs.General.{None-from-not-is_some}
-use Rattle.uri_parts.specs.Components.{Components, marked}
+use Rattle.uri_abnf.proofs.Common.{◌≡◌, ℕ, List, [], ◌++◌, refl, sym, ap, subst, ◌∙◌, ⊎_elim, append_assoc, append-nil, arith, Option, None, Some, codes, IfSome, IsSome, is_some, cases_Bool, false≢true, None-from-not-is_some, Components, marked, Abnf, IsOf, lit, opt, ◌⋅◌, ◌∣◌, Rules, IsDerived, path_rule, unrooted_path_rule, scheme}
 use Rattle.uri_parts.proofs.Splitting.Marks.{query_text}
-use Rattle.uri_abnf.specs.Abnf.{Abnf, IsOf, lit, opt, ◌⋅◌, ◌∣◌}
-use Rattle.uri_abnf.specs.Derivations.{Rules, IsDerived, path_rule, unrooted_path_rule}
-use Rattle.uri_abnf.specs.Rfc3986.{scheme}
 use Rattle.uri_abnf.proofs.Delimited.{after-gives, after-is-had}
 use Rattle.uri_abnf.proofs.Rules.{AreMade, tail, hierarchy, after_colon, relative}
 use Rattle.uri_abnf.proofs.Texts.{cut-gives, cut-is-had, either-gives, left-is-had, right-is-had, mark-gives, mark-is-had, slashes-mark, colon-mark, same-text, question-mark, hash-mark}
@@ -56,12 +50,11 @@ module _ (r : Rules) where
       → IfSome a (IsOf r.authority) → IsOf (path_rule r other a) path
       → IsOf (hierarchy r other) (marked (codes "//") a [] ++ path)
   hierarchy-is-had other None path h l = grind (arith, left-is-had, right-is-had, either-gives)
-  hierarchy-is-had other (Some x) path h l =
-      left-is-had _ r.path_empty _ (left-is-had _ other _ (left-is-had _ r.path_absolute _
-      (cut-is-had (lit "//") (r.authority ⋅ r.path_abempty) (codes "//") ((x ++ []) ++ path)
-      (mark-is-had (codes "//") slashes-mark)
-      (cut-is-had r.authority r.path_abempty (x ++ []) path
-      (subst (IsOf r.authority) (sym (append-nil x)) h) l))))
+  hierarchy-is-had other (Some x) path h l = left-is-had _ r.path_empty _ (left-is-had _ other _
+      (left-is-had _ r.path_absolute _ (cut-is-had (lit "//") (r.authority ⋅ r.path_abempty)
+      (codes "//") ((x ++ []) ++ path) (mark-is-had (codes "//") slashes-mark) (cut-is-had
+      r.authority r.path_abempty (x ++ []) path (subst (IsOf r.authority) (sym (append-nil x)) h)
+      l))))
 
   -- the text is derived as a query and a fragment, each if there is one
   record IsTail (t : List ℕ) : Type 0 where
@@ -126,15 +119,13 @@ module _ (r : Rules) where
 
   with-scheme-is-had : (rest : Abnf) (o a : Option (List ℕ)) (path end : List ℕ) → IsSome o
       → IfSome o (IsOf scheme) → IfSome a (IsOf r.authority)
-      → IsOf (path_rule r (unrooted_path_rule r o) a) path → IsOf rest end
-      → IsOf (after_colon r rest)
-      (marked [] o (codes ":") ++ (marked (codes "//") a [] ++ (path ++ end)))
+      → IsOf (path_rule r (unrooted_path_rule r o) a) path → IsOf rest end → IsOf
+      (after_colon r rest) (marked [] o (codes ":") ++ (marked (codes "//") a [] ++ (path ++ end)))
   with-scheme-is-had rest None a path end some s h l e = absurd (false≢true some)
   with-scheme-is-had rest (Some x) a path end some s h l e = subst (IsOf (after_colon r rest))
-      (grind (arith, append_assoc))
-      (cut-is-had scheme (lit ":" ⋅ hierarchy r r.path_rootless ⋅ rest) x _ s
-      (cut-is-had (lit ":") (hierarchy r r.path_rootless ⋅ rest) (codes ":") _
-      (mark-is-had (codes ":") colon-mark)
+      (grind (arith, append_assoc)) (cut-is-had scheme
+      (lit ":" ⋅ hierarchy r r.path_rootless ⋅ rest) x _ s (cut-is-had (lit ":")
+      (hierarchy r r.path_rootless ⋅ rest) (codes ":") _ (mark-is-had (codes ":") colon-mark)
       (cut-is-had (hierarchy r r.path_rootless) rest (marked (codes "//") a [] ++ path) end
       (hierarchy-is-had r.path_rootless a path h l) e)))
 
@@ -236,8 +227,7 @@ module _ (r : Rules) (made : AreMade r) where
 
   pub derived-is-reference : (t : List ℕ) (p : Components) → IsDerived r t p → IsOf r.reference t
   derived-is-reference t p d = same-text {g = r.with_scheme ∣ relative r}
-      (λ cs. (made.reference cs).1)
-      (⊎_elim
+      (λ cs. (made.reference cs).1) (⊎_elim
       (λ some. left-is-had r.with_scheme (relative r) t (derived-is-with-scheme t p d some))
       (λ none. right-is-had r.with_scheme (relative r) t
       (derived-is-relative t p d (None-from-not-is_some p.scheme none)))
@@ -255,10 +245,8 @@ module _ (r : Rules) (made : AreMade r) where
 
   pub derived-is-absolute : (t : List ℕ) (p : Components) → IsDerived r t p → IsSome p.scheme
       → p.fragment ≡ None → IsOf r.absolute t
-  derived-is-absolute t p d some none = subst (IsOf r.absolute)
-      (grind arith)
-      (same-text {g = after_colon r (opt (lit "?" ⋅ r.query))} (λ cs. (made.absolute cs).1)
-      (with-scheme-is-had r (opt (lit "?" ⋅ r.query)) p.scheme p.authority p.path _ some d.scheme
-      d.authority d.path
+  derived-is-absolute t p d some none = subst (IsOf r.absolute) (grind arith) (same-text
+      {g = after_colon r (opt (lit "?" ⋅ r.query))} (λ cs. (made.absolute cs).1) (with-scheme-is-had
+      r (opt (lit "?" ⋅ r.query)) p.scheme p.authority p.path _ some d.scheme d.authority d.path
       (subst (IsOf (opt (lit "?" ⋅ r.query))) (sym (append-nil _))
       (after-is-had (codes "?") question-mark r.query p.query d.query))))

@@ -1,12 +1,6 @@
 -- Expressions of one character or one percent-encoded octet.
-use Rattle.std.proofs.Common.{◌≡◌, ℕ, Bool, true, false, List, [], ◌∷◌, refl, sym, ap, subst, ◌∙◌, rules, ◌||◌, inl, inr, ⊎_elim, arith, ◌≤◌, ◌⊎◌, ◌==◌, map}
-use Rattle.std.specs.Char.{to_ascii_lowercase, is_ascii_hexdigit}
+use Rattle.uri_abnf.proofs.Common.{◌≡◌, ℕ, Bool, true, false, List, [], ◌∷◌, refl, sym, ap, subst, ◌∙◌, rules, ◌||◌, inl, inr, ⊎_elim, arith, ◌≤◌, ◌⊎◌, ◌==◌, map, to_ascii_lowercase, is_ascii_hexdigit, or_cases, eqb-true, false≢true, nat_tests, Abnf, Rule, Literal, Range, Sequence, Either, Repeat, Optional, Has, pct-encoded, HEXDIG, DIGIT}
 use Rattle.std.specs.Int.{is_in_range}
-use Rattle.std.proofs.lemmas.Bool.{or_cases, eqb-true, false≢true}
-use Rattle.std.proofs.lemmas.Bool.Decides.{nat_tests}
-use Rattle.uri_abnf.specs.Abnf.{Abnf, Rule, Literal, Range, Sequence, Either, Repeat, Optional, Has}
-use Rattle.uri_abnf.specs.Rfc3986.{pct-encoded}
-use Rattle.uri_abnf.specs.Rfc5234.{HEXDIG, DIGIT}
 
 -- the expression has the one character c
 abbrev pub has_char : Abnf → ℕ → Bool

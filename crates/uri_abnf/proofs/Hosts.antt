@@ -1,21 +1,10 @@
 -- The rules on hosts: RFC 3986, section 3.2.2.
-use Rattle.std.proofs.Common.{◌≡◌, ℕ, true, List, [], ◌∷◌, ◌++◌, refl, sym, ap, subst, ◌∙◌, ⊎_elim, arith, ◌<◌, codes, IsUtf8, chars}
-use Rattle.std.specs.Net.Grammar.{IsColonHex, IsDotted}
-use Rattle.std.proofs.lemmas.Bool.{or_right, cond-false}
-use Rattle.std.proofs.lemmas.Bool.Decides.{nat_tests}
-use Rattle.uri_pct.specs.Sets.{is_one_of, hexdig_set, ipv_future_set}
-use Rattle.uri_parts.specs.Components.{Lacks}
-use Rattle.uri_parts.specs.Grammar.{Kind}
+use Rattle.uri_abnf.proofs.Common.{◌≡◌, ℕ, true, List, [], ◌∷◌, ◌++◌, refl, sym, ap, subst, ◌∙◌, ⊎_elim, arith, ◌<◌, codes, IsUtf8, chars, IsColonHex, IsDotted, or_right, cond-false, nat_tests, is_one_of, hexdig_set, ipv_future_set, Lacks, Kind, valid_text_lacks_excluded_marks, utf8_around_ascii_byte, Abnf, IsOf, some, lit, ◌⋅◌, ◌∣◌, Rules, dec-octet, h16, ls32, unreserved, sub-delims, IPvFuture, IPv6address, IP-literal, IPv4address, DIGIT, HEXDIG}
 use Rattle.uri_parts.specs.Hosts.{HostKind, Ipv4, Ipv6, IpvFuture, RegName, IsHost, IsIpvFuture, bracketed, is_host, host_kind}
 use Rattle.uri_parts.proofs.Authorities.Authority.{names_exclude_delimiters}
 use Rattle.uri_parts.proofs.HostForms.Hosts.{is_host-sound, address-in-brackets-is-utf8, lacking_text_does_not_begin_with}
 use Rattle.uri_parts.proofs.HostForms.Futures.{ipv4-text-lacks-name-marks, ipv6-text-lacks-excluded-marks, ipvfuture-text-lacks-excluded-marks}
-use Rattle.uri_parts.proofs.TextKinds.GrammarTexts.{valid_text_lacks_excluded_marks, utf8_around_ascii_byte}
 use Rattle.uri_ops.proofs.Meanings.HostMeanings.{bracketed-address-lacks-delimiters}
-use Rattle.uri_abnf.specs.Abnf.{Abnf, IsOf, some, lit, ◌⋅◌, ◌∣◌}
-use Rattle.uri_abnf.specs.Derivations.{Rules}
-use Rattle.uri_abnf.specs.Rfc3986.{dec-octet, h16, ls32, unreserved, sub-delims, IPvFuture, IPv6address, IP-literal, IPv4address}
-use Rattle.uri_abnf.specs.Rfc5234.{DIGIT, HEXDIG}
 use Rattle.uri_abnf.proofs.Addresses4.{ipv4-gives, ipv4-is-had}
 use Rattle.uri_abnf.proofs.Addresses6.{ipv6-gives, ipv6-is-had}
 use Rattle.uri_abnf.proofs.AsciiTexts.{ascii_only, ascii-text-gives, ascii-text-is-had}
@@ -54,10 +43,7 @@ future-gives t l =
       whole = grind (arith, nat_tests);
       is_v = p.0;
       version_digits = (version.1, any-is-valid HEXDIG hexdig_set hexdig-set j.x version.0);
-      address_chars = (
-        address.1,
-        any-is-valid future-char ipv_future_set future-set i.y address.0,
-      );
+      address_chars = (address.1, any-is-valid future-char ipv_future_set future-set i.y address.0);
     }
 
 pub future-is-had : (t : List ℕ) → IsUtf8 t → IsIpvFuture t → IsOf IPvFuture t
@@ -71,14 +57,13 @@ future-is-had t u f =
     let version = valid-is-any HEXDIG hexdig_set hexdig-set f.version apart.0 f.version_digits.1 in
     let address = valid-is-any future-char ipv_future_set future-set f.address apart.1
     f.address_chars.1 in
-    subst (IsOf IPvFuture) (sym f.whole)
-    (rule-is-had (cut-is-had (lit "v") (some HEXDIG ⋅ lit "." ⋅ some future-char) (f.letter ∷ [])
+    subst (IsOf IPvFuture) (sym f.whole) (rule-is-had (cut-is-had (lit "v")
+    (some HEXDIG ⋅ lit "." ⋅ some future-char) (f.letter ∷ [])
     (f.version ++ (codes "." ++ f.address))
-    (ascii-char-is-had (lit "v") f.letter p.1 (char-is-had (lit "v") f.letter p.0))
-    (cut-is-had (some HEXDIG) (lit "." ⋅ some future-char) f.version (codes "." ++ f.address)
-    (any-is-some HEXDIG hexdig_set hexdig-set f.version version f.version_digits.0)
-    (cut-is-had (lit ".") (some future-char) (codes ".") f.address
-    (mark-is-had (codes ".") dot-mark)
+    (ascii-char-is-had (lit "v") f.letter p.1 (char-is-had (lit "v") f.letter p.0)) (cut-is-had
+    (some HEXDIG) (lit "." ⋅ some future-char) f.version (codes "." ++ f.address)
+    (any-is-some HEXDIG hexdig_set hexdig-set f.version version f.version_digits.0) (cut-is-had
+    (lit ".") (some future-char) (codes ".") f.address (mark-is-had (codes ".") dot-mark)
     (any-is-some future-char ipv_future_set future-set f.address address f.address_chars.0)))))
 
 ipv4-is-ascii : ascii_only IPv4address ≡ true
@@ -93,8 +78,7 @@ pub ipv4-text-gives : (t : List ℕ) → IsOf IPv4address t → (octets : List �
 ipv4-text-gives t l = ipv4-gives t (ascii-text-gives IPv4address ipv4-is-ascii t l)
 
 pub ipv4-text-is-had : (t octets : List ℕ) → IsDotted t octets → IsOf IPv4address t
-ipv4-text-is-had t octets d =
-    ascii-text-is-had IPv4address ipv4-is-ascii t (ipv4-is-had t octets d)
+ipv4-text-is-had t octets d = ascii-text-is-had IPv4address ipv4-is-ascii t (ipv4-is-had t octets d)
 
 pub ipv6-text-gives : (t : List ℕ) → IsOf IPv6address t
     → (segments : List ℕ) × IsColonHex t segments
@@ -118,9 +102,8 @@ literal-gives t l =
     let k = cut-gives (lit "[") ((IPv6address ∣ IPvFuture) ⋅ lit "]") t (rule-gives l) in
     let j = cut-gives (IPv6address ∣ IPvFuture) (lit "]") k.y k.second in
     let e : t ≡ bracketed j.x = k.whole
-    ∙ ap (λ r. r ++ k.y) (mark-gives (codes "[") open-mark k.x k.first)
-    ∙ ap (λ r. codes "[" ++ r) (j.whole ∙ ap (λ r. j.x ++ r)
-    (mark-gives (codes "]") close-mark j.y j.second)) in
+    ∙ ap (λ r. r ++ k.y) (mark-gives (codes "[") open-mark k.x k.first) ∙ ap (λ r. codes "[" ++ r)
+    (j.whole ∙ ap (λ r. j.x ++ r) (mark-gives (codes "]") close-mark j.y j.second)) in
     ⊎_elim
     (λ a.
     let s = ipv6-text-gives j.x a in
@@ -131,11 +114,10 @@ literal-gives t l =
 bracketed-is-had : (t address : List ℕ) → t ≡ bracketed address
     → IsOf (IPv6address ∣ IPvFuture) address → IsOf IP-literal t
 unfolding IP-literal
-bracketed-is-had t address e l = subst (IsOf IP-literal) (sym e)
-    (rule-is-had (cut-is-had (lit "[") ((IPv6address ∣ IPvFuture) ⋅ lit "]") (codes "[")
-    (address ++ codes "]") (mark-is-had (codes "[") open-mark)
-    (cut-is-had (IPv6address ∣ IPvFuture) (lit "]") address (codes "]") l
-    (mark-is-had (codes "]") close-mark))))
+bracketed-is-had t address e l = subst (IsOf IP-literal) (sym e) (rule-is-had (cut-is-had (lit "[")
+    ((IPv6address ∣ IPvFuture) ⋅ lit "]") (codes "[") (address ++ codes "]")
+    (mark-is-had (codes "[") open-mark) (cut-is-had (IPv6address ∣ IPvFuture) (lit "]") address
+    (codes "]") l (mark-is-had (codes "]") close-mark))))
 
 literal-is-had : (t : List ℕ) (h : HostKind) → IsUtf8 t → IsLiteral t h → IsOf IP-literal t
 literal-is-had t (Ipv6 segments) u (address, e, a) = bracketed-is-had t address e
@@ -168,8 +150,7 @@ module _ (r : Rules) (kind : Kind) (w : Fit r kind) where
       (λ a. let s = literal-gives t a in (s.0, literal-is-host t s.0 s.1))
       (λ b. let s = ipv4-text-gives t b in (Ipv4 s.0, s.1))
       (either-gives IP-literal IPv4address t ab))
-      (λ c. name-gives t c)
-      (either-gives (IP-literal ∣ IPv4address) r.reg_name t
+      (λ c. name-gives t c) (either-gives (IP-literal ∣ IPv4address) r.reg_name t
       (same-text (λ cs. (w.made.host cs).0) l))
 
   alternative-is-had : (t : List ℕ) (h : HostKind) → IsUtf8 t → IsHost kind.reg_name t h
@@ -192,9 +173,8 @@ module _ (r : Rules) (kind : Kind) (w : Fit r kind) where
       (bracketed-address-lacks-delimiters address
       (ipv6-text-lacks-excluded-marks (codes "/?#") refl address segments a))
   host-lacks t IpvFuture u (address, e, a) = subst (Lacks (codes "/?#")) (sym e)
-      (bracketed-address-lacks-delimiters address
-      (ipvfuture-text-lacks-excluded-marks (codes "/?#") refl address
-      (address-in-brackets-is-utf8 address (subst IsUtf8 e u)) a))
+      (bracketed-address-lacks-delimiters address (ipvfuture-text-lacks-excluded-marks (codes "/?#")
+      refl address (address-in-brackets-is-utf8 address (subst IsUtf8 e u)) a))
   host-lacks t (Ipv4 octets) u d = ipv4-text-lacks-name-marks (codes "/?#") refl t octets d
   host-lacks t RegName u v = valid_text_lacks_excluded_marks kind.reg_name (codes "/?#")
       w.apart.names_percent w.reg_name_marks t u v.0

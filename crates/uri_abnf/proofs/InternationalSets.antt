@@ -1,12 +1,7 @@
 -- The sets of the expressions of one character or octet in RFC 3987, section 2.2: those of
 -- RFC 3986, with more characters past ASCII.
-use Rattle.std.proofs.Common.{◌≡◌, ℕ, Bool, true, false, refl, rules, arith, ap, ◌∙◌, ◌||◌, if◌then◌else◌, nat_lt}
-use Rattle.std.proofs.lemmas.Bool.Decides.{nat_tests}
-use Rattle.uri_pct.specs.Sets.{TableSet, allows_past_ascii, is_ucschar, is_iprivate, international, pchar_set, iuserinfo_set, ireg_name_set, ipath_set, iquery_set, ifragment_set, isegment_nz_nc_set}
-use Rattle.uri_abnf.specs.Abnf.{Abnf, lit, ◌∣◌}
-use Rattle.uri_abnf.specs.Rfc3986.{unreserved, sub-delims, pct-encoded, pchar}
+use Rattle.uri_abnf.proofs.Common.{◌≡◌, ℕ, Bool, true, false, refl, rules, arith, ap, ◌∙◌, ◌||◌, if◌then◌else◌, nat_lt, nat_tests, TableSet, allows_past_ascii, is_ucschar, is_iprivate, international, pchar_set, iuserinfo_set, ireg_name_set, ipath_set, iquery_set, ifragment_set, isegment_nz_nc_set, Abnf, lit, ◌∣◌, unreserved, sub-delims, pct-encoded, pchar, ALPHA, DIGIT}
 use Rattle.uri_abnf.specs.Rfc3987.{ucschar, iprivate, iunreserved, ipchar}
-use Rattle.uri_abnf.specs.Rfc5234.{ALPHA, DIGIT}
 use Rattle.uri_abnf.proofs.Elements.{has_char}
 use Rattle.uri_abnf.proofs.Sets as Sets
 use Rattle.uri_abnf.proofs.Tokens.{IsSetOf}
@@ -58,9 +53,7 @@ module _ (set : TableSet) (ucs : set.ucschar ≡ true) (private : set.iprivate �
 
   iunreserved-widens : Widens (allows_past_ascii set) unreserved iunreserved
   unfolding iunreserved unreserved ucschar is_ucschar
-  iunreserved-widens = record {
-    chars = λ c. ap (λ b. has_char unreserved c || b) (only-ucschar c);
-  }
+  iunreserved-widens = record { chars = λ c. ap (λ b. has_char unreserved c || b) (only-ucschar c) }
 
   ireg-name-widens : Widens (allows_past_ascii set) (unreserved ∣ pct-encoded ∣ sub-delims)
       (iunreserved ∣ pct-encoded ∣ sub-delims)

@@ -1,19 +1,10 @@
 -- What is derived by the rules is what the kinds ask of a text and its components.
-use Rattle.std.proofs.Common.{◌≡◌, ℕ, false, List, [], ◌++◌, refl, sym, subst, inl, inr, ⊎_elim, ◌<◌, length, arith, ◌⊎◌, ◌↔◌, Option, None, Some, codes, IfSome, IfNone, IsSome, IsUtf8}
-use Rattle.std.proofs.lemmas.Bool.{and_parts}
-use Rattle.uri_pct.specs.Sets.{scheme_set}
-use Rattle.uri_pct.proofs.General.{IfSome-weaken}
-use Rattle.uri_parts.specs.Components.{Components, IsSplitOf, Lacks, marked, IsAbemptyPath, components, has_authority, has_scheme}
-use Rattle.uri_parts.specs.Grammar.{Kind, has_colon_in_first_segment}
+use Rattle.uri_abnf.proofs.Common.{◌≡◌, ℕ, false, List, [], ◌++◌, refl, sym, subst, inl, inr, ⊎_elim, ◌<◌, length, arith, ◌⊎◌, ◌↔◌, Option, None, Some, codes, IfSome, IfNone, IsSome, IsUtf8, and_parts, scheme_set, IfSome-weaken, Components, IsSplitOf, Lacks, marked, IsAbemptyPath, components, has_authority, has_scheme, Kind, has_colon_in_first_segment, valid_text_lacks_excluded_marks, IsOf, Rules, IsDerived, path_rule, unrooted_path_rule, scheme}
 use Rattle.uri_parts.specs.GrammarInWords.{HasAuthorityParts, FollowsRules}
 use Rattle.uri_parts.proofs.Splitting.Cuts.{IsEmptyOrMarked}
 use Rattle.uri_parts.proofs.Splitting.Splits.{only-split-is-components}
-use Rattle.uri_parts.proofs.TextKinds.GrammarTexts.{valid_text_lacks_excluded_marks}
 use Rattle.uri_ops.proofs.Meanings.ComponentEnds.{no_scheme}
 use Rattle.uri_ops.proofs.Meanings.TextParts.{AreUtf8, components-of-utf8-are-utf8}
-use Rattle.uri_abnf.specs.Abnf.{IsOf}
-use Rattle.uri_abnf.specs.Derivations.{Rules, IsDerived, path_rule, unrooted_path_rule}
-use Rattle.uri_abnf.specs.Rfc3986.{scheme}
 use Rattle.uri_abnf.proofs.Authorities.{authority-derives, derived-is-authority, authority-lacks, derived-authority-follows, following-authority-derives}
 use Rattle.uri_abnf.proofs.Derivations.{reference-derives, derived-is-reference}
 use Rattle.uri_abnf.proofs.Rules.{Fit, IsText}
@@ -56,10 +47,8 @@ module _ (r : Rules) (kind : Kind) (w : Fit r kind) where
       w.path_marks p v.0 v.1
 
   no-scheme : (s a : Option (List ℕ)) (path tail : List ℕ) → IsPathOf s a path
-      → IsEmptyOrMarked (codes "?#") tail
-      → IfNone s (has_scheme (marked [] s (codes ":")
-      ++ (marked (codes "//") a [] ++ (path ++ tail)))
-      ≡ false)
+      → IsEmptyOrMarked (codes "?#") tail → IfNone s
+      (has_scheme (marked [] s (codes ":") ++ (marked (codes "//") a [] ++ (path ++ tail))) ≡ false)
   no-scheme (Some y) a path tail p e = tt
   no-scheme None (Some x) path tail p e = refl
   no-scheme None None path tail p e = grind (arith, no_scheme)
@@ -84,9 +73,8 @@ module _ (r : Rules) (kind : Kind) (w : Fit r kind) where
   derived-components-are-unique t p d = only-split-is-components t p (derived-is-split t p d)
 
   reference-rule : (s a : Option (List ℕ)) (path : List ℕ) → IsSome s ⊎ (kind.needs_scheme ≡ false)
-      → IsPathOf s a path
-      → IsSome s ⊎ ((kind.needs_scheme ≡ false)
-      × (IsSome a ⊎ (has_colon_in_first_segment path ≡ false)))
+      → IsPathOf s a path → IsSome s
+      ⊎ ((kind.needs_scheme ≡ false) × (IsSome a ⊎ (has_colon_in_first_segment path ≡ false)))
   reference-rule s a path n p = ⊎_elim (λ e. inl e) (λ c. ⊎_elim (λ e. inl e) (λ e. inr (e, c)) n)
       p.no_colon
 
@@ -100,8 +88,7 @@ module _ (r : Rules) (kind : Kind) (w : Fit r kind) where
         authority = IfSome-weaken p.authority _ (HasAuthorityParts kind)
             (λ a l.
             let k = authority-derives r kind w a l in
-            (k.0, derived-authority-follows r kind w a k.0 k.1))
-            d.authority;
+            (k.0, derived-authority-follows r kind w a k.0 k.1)) d.authority;
         path = path.text.1;
         query = IfSome-weaken p.query _ _ (λ q l. ((w.query q).0 l).1) d.query;
         fragment = IfSome-weaken p.fragment _ _ (λ f l. ((w.fragment f).0 l).1) d.fragment;

@@ -1,13 +1,8 @@
 -- The texts of the kinds are the languages of the start rules, and their components are derived.
-use Rattle.std.proofs.Common.{◌≡◌, ℕ, Bool, true, false, List, refl, sym, subst, ◌∙◌, inl, inr, ⊎_elim, arith, ◌↔◌, ◌⊎◌, IsSome, None, IsUtf8}
-use Rattle.std.proofs.lemmas.Bool.{and_parts, false≢true}
-use Rattle.uri_parts.specs.Components.{Components, components}
-use Rattle.uri_parts.specs.Grammar.{Kind, IsOfKind, IsTextOf, kind_by_flags, uri, uri_ref, iri, iri_ref}
+use Rattle.uri_abnf.proofs.Common.{◌≡◌, ℕ, Bool, true, false, List, refl, sym, subst, ◌∙◌, inl, inr, ⊎_elim, arith, ◌↔◌, ◌⊎◌, IsSome, None, IsUtf8, and_parts, false≢true, Components, components, Kind, IsOfKind, IsTextOf, kind_by_flags, uri, uri_ref, iri, iri_ref, Has, IsOf, Rules, IsDerived, start_rule, uri_rules, iri_rules}
 use Rattle.uri_parts.specs.GrammarInWords.{IsInGrammar}
 use Rattle.uri_parts.proofs.Splitting.Splits.{only-split-is-components}
 use Rattle.uri_ops.proofs.TextKinds.GrammarTexts.{uris-are-texts-of-grammar, uri_refs-are-texts-of-grammar, iris-are-texts-of-grammar, iri_refs-are-texts-of-grammar}
-use Rattle.uri_abnf.specs.Abnf.{Has, IsOf}
-use Rattle.uri_abnf.specs.Derivations.{Rules, IsDerived, start_rule, uri_rules, iri_rules}
 use Rattle.uri_abnf.specs.Rfc3986 as R
 use Rattle.uri_abnf.specs.Rfc3987 as I
 use Rattle.uri_abnf.specs.Rfc5234 as Core
@@ -20,8 +15,7 @@ use Rattle.uri_abnf.proofs.Rules.{Fit}
 module _ (r : Rules) (kind : Kind) (w : Fit r kind)
     (grammar : (t : List ℕ) → IsUtf8 t → (IsOfKind kind t ↔ IsInGrammar kind t)) where
   text-is-derived : (t : List ℕ) → IsTextOf kind t
-      → IsDerived r t (components t)
-      × (IsSome (components t).scheme ⊎ (kind.needs_scheme ≡ false))
+      → IsDerived r t (components t) × (IsSome (components t).scheme ⊎ (kind.needs_scheme ≡ false))
   text-is-derived t l =
       let k = (grammar t l.utf8).0 l.grammar in
       let same = sym (only-split-is-components t k.0 k.1.split) in (
@@ -115,15 +109,13 @@ uri-reference-characters-are-language t = (
 )
 
 -- each kind is the language of its start rule
-kind-is-language : (international needs : Bool) (t : List ℕ)
-    → (IsTextOf (kind_by_flags international needs) t
-    ↔ IsOf (start_rule (kind_by_flags international needs)) t)
+kind-is-language : (international needs : Bool) (t : List ℕ) → (IsTextOf
+    (kind_by_flags international needs) t ↔ IsOf (start_rule (kind_by_flags international needs)) t)
 kind-is-language false false = uri-references-are-language
 kind-is-language false true = uris-are-language
 kind-is-language true false = iri-references-are-language
 kind-is-language true true = iris-are-language
 
-pub texts-of-kind-are-of-rule : (international needs : Bool) (t : List ℕ) → IsUtf8 t
-    → (IsOfKind (kind_by_flags international needs) t
-    ↔ IsOf (start_rule (kind_by_flags international needs)) t)
+pub texts-of-kind-are-of-rule : (international needs : Bool) (t : List ℕ) → IsUtf8 t → (IsOfKind
+    (kind_by_flags international needs) t ↔ IsOf (start_rule (kind_by_flags international needs)) t)
 texts-of-kind-are-of-rule international needs t u = grind (arith, kind-is-language)

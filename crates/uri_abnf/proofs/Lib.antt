@@ -1,3 +1,4 @@
+pub mod Common
 pub mod Elements
 pub mod Texts
 pub mod Tokens

@@ -1,18 +1,10 @@
 -- The rules that parts of references are of: authorities, hosts, and the texts of a set.
-use Rattle.std.proofs.Common.{◌≡◌, ℕ, true, false, List, [], ◌∷◌, refl, sym, subst, ◌∙◌, arith, rules, ◌↔◌, IsUtf8}
-use Rattle.std.proofs.lemmas.Bool.Decides.{nat_tests}
-use Rattle.uri_pct.specs.Sets.{TableSet, is_unreserved, is_reserved}
+use Rattle.uri_abnf.proofs.Common.{◌≡◌, ℕ, true, false, List, [], ◌∷◌, refl, sym, subst, ◌∙◌, arith, rules, ◌↔◌, IsUtf8, nat_tests, TableSet, is_unreserved, is_reserved, AuthorityParts, authority_parts, Kind, is_scheme, is_authority, Abnf, Has, IsOf, Rules, IsAuthorityDerived, scheme, reserved, gen-delims, sub-delims, unreserved, IPv4address, IPv6address, IPvFuture, ALPHA, DIGIT}
 use Rattle.uri_pct.specs.DecodeUnreserved.{is_decodable}
-use Rattle.uri_parts.specs.Authority.{AuthorityParts, authority_parts}
-use Rattle.uri_parts.specs.Grammar.{Kind, is_scheme, is_authority}
 use Rattle.uri_parts.specs.Hosts.{IsHost, Ipv4, Ipv6, IpvFuture, RegName, bracketed}
 use Rattle.uri_parts.proofs.Authorities.Authority.{is_authority_for-sound, is_authority_for-complete, authority_parts-are-unique}
 use Rattle.uri_parts.proofs.HostForms.Hosts.{address-in-brackets-is-utf8}
 use Rattle.uri_ops.proofs.Meanings.HostMeanings.{bracketed-utf8-is-utf8}
-use Rattle.uri_abnf.specs.Abnf.{Abnf, Has, IsOf}
-use Rattle.uri_abnf.specs.Derivations.{Rules, IsAuthorityDerived}
-use Rattle.uri_abnf.specs.Rfc3986.{scheme, reserved, gen-delims, sub-delims, unreserved, IPv4address, IPv6address, IPvFuture}
-use Rattle.uri_abnf.specs.Rfc5234.{ALPHA, DIGIT}
 use Rattle.uri_abnf.proofs.Authorities.{authority-derives, derived-is-authority, derived-authority-follows, following-authority-derives}
 use Rattle.uri_abnf.proofs.Elements.{IsElement, has_char, has_octets, class-has, char-is-had}
 use Rattle.uri_abnf.proofs.Hosts.{ipv4-text-gives, ipv4-text-is-had, ipv6-text-gives, ipv6-text-is-had, future-gives, future-is-had}
@@ -58,10 +50,7 @@ module _ (r : Rules) (kind : Kind) (w : Fit r kind) where
   pub names-are-of-rule : (t : List ℕ)
       → ((IsUtf8 t × IsHost kind.reg_name t RegName) ↔ (IsOf r.reg_name t × ¬ (IsOf IPv4address t)))
   names-are-of-rule t = (
-    λ v. (
-      (w.reg_name t).1 (v.0, v.1.0),
-      λ l. let d = ipv4-text-gives t l in v.1.1 d.0 d.1,
-    ),
+    λ v. ((w.reg_name t).1 (v.0, v.1.0), λ l. let d = ipv4-text-gives t l in v.1.1 d.0 d.1),
     λ v.
         let name = (w.reg_name t).0 v.0 in
         (name.0, (name.1, λ octets d. v.1 (ipv4-text-is-had t octets d))),

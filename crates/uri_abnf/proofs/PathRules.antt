@@ -1,19 +1,8 @@
 -- The rules on paths are what the kinds ask of a path: RFC 3986, section 3.3.
-use Rattle.std.proofs.Common.{◌≡◌, ℕ, zero, suc, true, false, List, [], ◌∷◌, ◌++◌, refl, sym, ap, subst, ◌∙◌, inl, inr, ⊎_elim, arith, ◌<◌, length, ◌⊎◌, ◌↔◌, ◌==◌, codes, IsTrue}
-use Rattle.std.specs.List.{list_any}
-use Rattle.std.specs.Str.{IsUtf8, chars, encode_utf8_all}
-use Rattle.std.proofs.lemmas.Bool.{false≢true, eqb-true}
-use Rattle.std.proofs.lemmas.Bool.Decides.{nat_tests}
-use Rattle.std.proofs.lemmas.Str.{encodes-chars, IsUtf8-nil}
+use Rattle.uri_abnf.proofs.Common.{◌≡◌, ℕ, zero, suc, true, false, List, [], ◌∷◌, ◌++◌, refl, sym, ap, subst, ◌∙◌, inl, inr, ⊎_elim, arith, ◌<◌, length, ◌⊎◌, ◌↔◌, ◌==◌, codes, IsTrue, list_any, IsUtf8, chars, encode_utf8_all, false≢true, eqb-true, nat_tests, encodes-chars, IsUtf8-nil, TableSet, is_one_of, IsValidFor, Lacks, IsAbemptyPath, has_authority, starts, has_colon_in_first_segment, valid_text_lacks_excluded_marks, Abnf, Has, IsOf, any, some, opt, times, lit, ◌⋅◌, ◌∣◌}
 use Rattle.std.proofs.lemmas.List.Folds.{list_any-append}
-use Rattle.uri_pct.specs.Sets.{TableSet, is_one_of}
-use Rattle.uri_pct.specs.Tokens.{IsValidFor}
 use Rattle.uri_pct.proofs.ValidTexts.Cuts.{excludes}
-use Rattle.uri_parts.specs.Components.{Lacks, IsAbemptyPath, has_authority, starts}
-use Rattle.uri_parts.specs.Grammar.{has_colon_in_first_segment}
 use Rattle.uri_parts.proofs.Splitting.Cuts.{IsEmptyOrMarked, cut-at-end-of-text-without-marks}
-use Rattle.uri_parts.proofs.TextKinds.GrammarTexts.{valid_text_lacks_excluded_marks}
-use Rattle.uri_abnf.specs.Abnf.{Abnf, Has, IsOf, any, some, opt, times, lit, ◌⋅◌, ◌∣◌}
 use Rattle.uri_abnf.proofs.Elements.{has_char, has_octets}
 use Rattle.uri_abnf.proofs.Paths.{segments, path-is-segments, segment-is-path, segments-are-path}
 use Rattle.uri_abnf.proofs.Texts.{IsCut, cut-gives, cut-is-had, either-gives, left-is-had, right-is-had, opt-gives, opt-is-had, opt-has-nothing, mark-gives, mark-is-had, slash-mark, text-of-no-chars, letterless-has, times-0-gives, times-0-has-nothing}
@@ -149,8 +138,7 @@ module _ (path : TableSet) (w : PathSets path) where
       (λ r.
       let k = path-is-cut t v in
       let n = rooted-has-no-segment t k.x k.y r k.whole (segment-lacks k.x k.first) in
-      subst (IsOf more) (sym (k.whole ∙ ap (λ z. z ++ k.y) n)) k.second)
-      h
+      subst (IsOf more) (sym (k.whole ∙ ap (λ z. z ++ k.y) n)) k.second) h
 
   rootless-tokens : (cs : List ℕ) → Has rootless cs → Tokens (w.pc ∣ lit "/") cs
   rootless-tokens cs (x, y, e, h, k) = subst (Tokens (w.pc ∣ lit "/")) (sym e) (tokens-append _ x y
@@ -204,8 +192,7 @@ module _ (path : TableSet) (w : PathSets path) where
   path-gives t l = ⊎_elim
       (λ ab. ⊎_elim (λ a. let p = absolute-gives t a in (p.0, p.1)) (λ b. rootless-gives t b)
       (either-gives absolute rootless t ab))
-      (λ c. empty-gives t c)
-      (either-gives (absolute ∣ rootless) empty t l)
+      (λ c. empty-gives t c) (either-gives (absolute ∣ rootless) empty t l)
 
   -- a path of segments after slashes that does not begin with `//`
   absolute-is-had : (t : List ℕ) → IsOf more t → 0 < length t → has_authority t ≡ false
@@ -241,10 +228,9 @@ module _ (path : TableSet) (w : PathSets path) where
       (λ n. left-is-had _ empty t (left-is-had absolute rootless t
       (absolute-is-had t (subst (IsOf more) (sym same) k.second) n h)))
       (empty-or-not t))
-      (λ e. left-is-had _ empty t (right-is-had absolute rootless t
-      (subst (IsOf rootless) (sym k.whole) (cut-is-had (some w.pc) more k.x k.y
-      (any-is-some w.pc w.segment w.of_pc k.x k.first e) k.second))))
-      (empty-or-not k.x)
+      (λ e. left-is-had _ empty t (right-is-had absolute rootless t (subst (IsOf rootless)
+      (sym k.whole) (cut-is-had (some w.pc) more k.x k.y
+      (any-is-some w.pc w.segment w.of_pc k.x k.first e) k.second)))) (empty-or-not k.x)
 
   first-is-segment : (s : List ℕ) → IsOf (some w.nc) s → IsOf (some w.pc) s
   first-is-segment s l =
@@ -260,8 +246,7 @@ module _ (path : TableSet) (w : PathSets path) where
   more-is-marked : (m : List ℕ) → IsOf more m → IsEmptyOrMarked (codes "/") m
   more-is-marked m l = ⊎_elim
       (λ e. subst (IsEmptyOrMarked (codes "/")) (sym e) tt)
-      (λ k. subst (IsEmptyOrMarked (codes "/")) (sym k.2) refl)
-      (more-begins m l.utf8 l.has)
+      (λ k. subst (IsEmptyOrMarked (codes "/")) (sym k.2) refl) (more-begins m l.utf8 l.has)
 
   -- the first segment of a path ends at its first slash
   colon-is-in-first : (t s m : List ℕ) → t ≡ s ++ m → Lacks (codes "/?#") s → IsOf more m
@@ -279,9 +264,7 @@ module _ (path : TableSet) (w : PathSets path) where
   noscheme-has-no-colon t l =
       let k = cut-gives (some w.nc) more t l in
       let lacks = first-lacks k.x k.first in
-      colon-is-in-first t k.x k.y k.whole
-      (grind (arith, nat_tests))
-      k.second
+      colon-is-in-first t k.x k.y k.whole (grind (arith, nat_tests)) k.second
       ∙ lacking-has-no-colon k.x lacks
 
   narrower : (cs : List ℕ) → list_any (λ c. c == 58) (encode_utf8_all cs) ≡ false → Tokens w.pc cs
@@ -318,8 +301,7 @@ module _ (path : TableSet) (w : PathSets path) where
       (λ a. let p = absolute-gives t a in (p.0, p.1, slash-has-no-colon t p.2))
       (λ b.
       let p = rootless-gives t (noscheme-is-rootless t b) in
-      (p.0, p.1, noscheme-has-no-colon t b))
-      (either-gives absolute noscheme t ab))
+      (p.0, p.1, noscheme-has-no-colon t b)) (either-gives absolute noscheme t ab))
       (λ c.
       let p = empty-gives t c in
       (p.0, p.1, ap has_colon_in_first_segment (times-0-gives w.pc t c)))
@@ -342,15 +324,11 @@ module _ (path : TableSet) (w : PathSets path) where
       (λ abc. ⊎_elim
       (λ ab. ⊎_elim (λ a. (abempty-gives t a).0) (λ b. (absolute-gives t b).0)
       (either-gives more absolute t ab))
-      (λ c. (rootless-gives t (noscheme-is-rootless t c)).0)
-      (either-gives _ noscheme t abc))
-      (λ d. (rootless-gives t d).0)
-      (either-gives _ rootless t abcd))
-      (λ e. (empty-gives t e).0)
-      (either-gives _ empty t l)
+      (λ c. (rootless-gives t (noscheme-is-rootless t c)).0) (either-gives _ noscheme t abc))
+      (λ d. (rootless-gives t d).0) (either-gives _ rootless t abcd))
+      (λ e. (empty-gives t e).0) (either-gives _ empty t l)
 
-  any-path-is-had : (t : List ℕ) → IsPath t
-      → IsOf (more ∣ absolute ∣ noscheme ∣ rootless ∣ empty) t
+  any-path-is-had : (t : List ℕ) → IsPath t → IsOf (more ∣ absolute ∣ noscheme ∣ rootless ∣ empty) t
   any-path-is-had t v =
       let k = path-is-cut t v in
       left-is-had _ empty t (⊎_elim

@@ -1,9 +1,5 @@
 -- Paths as characters: segments, each after a slash.
-use Rattle.std.proofs.Common.{◌≡◌, ℕ, zero, suc, Bool, true, false, List, [], ◌∷◌, ◌++◌, refl, sym, ap, subst, ◌∙◌, inl, ⊎_elim, arith, ◌||◌, ◌==◌, codes}
-use Rattle.std.specs.Char.{to_ascii_lowercase}
-use Rattle.std.proofs.lemmas.Bool.{or_cases, or_left, or_right, eqb-true, false≢true}
-use Rattle.uri_pct.specs.Sets.{TableSet}
-use Rattle.uri_abnf.specs.Abnf.{Abnf, Has, IsPower, any, lit, ◌⋅◌, ◌∣◌}
+use Rattle.uri_abnf.proofs.Common.{◌≡◌, ℕ, zero, suc, Bool, true, false, List, [], ◌∷◌, ◌++◌, refl, sym, ap, subst, ◌∙◌, inl, ⊎_elim, arith, ◌||◌, ◌==◌, codes, to_ascii_lowercase, or_cases, or_left, or_right, eqb-true, false≢true, TableSet, Abnf, Has, IsPower, any, lit, ◌⋅◌, ◌∣◌}
 use Rattle.uri_abnf.proofs.Elements.{has_char}
 use Rattle.uri_abnf.proofs.Texts.{letterless-has}
 use Rattle.uri_abnf.proofs.Tokens.{Tokens, none, char, octet, IsSetOf, tokens-append, tokens-widen, any-gives-tokens, tokens-are-any}
@@ -69,8 +65,7 @@ module _ (pc : Abnf) (set : TableSet) (w : IsSetOf pc set) where
   }
   path-is-cut-at-slashes _ (char {c} {t} p q) = ⊎_elim
       (λ e. char-then c t e (path-is-cut-at-slashes t q))
-      (λ e. slash-then c t e (path-is-cut-at-slashes t q))
-      (or_cases (has_char pc c) _ p)
+      (λ e. slash-then c t e (path-is-cut-at-slashes t q)) (or_cases (has_char pc c) _ p)
   path-is-cut-at-slashes _ (octet {p} {h} {l} {t} o e a b q) =
       let k = path-is-cut-at-slashes t q in
       record {
@@ -93,10 +88,9 @@ module _ (pc : Abnf) (set : TableSet) (w : IsSetOf pc set) where
   power-is-path zero cs e = subst (Tokens (pc ∣ lit "/")) (sym e) none
   power-is-path (suc n) cs (x, y, e, (a, b, f, h, k), q) =
       let slash = letterless-has (codes "/") a (inl (omega arith), tt) h in
-      subst (Tokens (pc ∣ lit "/"))
-      (sym (e ∙ ap (λ r. r ++ y) (f ∙ ap (λ r. r ++ b) slash)))
-      (char (or_right _ _ refl) (tokens-append _ b y
-      (segment-is-path b (any-gives-tokens pc set w b k)) (power-is-path n y q)))
+      subst (Tokens (pc ∣ lit "/")) (sym (e ∙ ap (λ r. r ++ y) (f ∙ ap (λ r. r ++ b) slash))) (char
+      (or_right _ _ refl) (tokens-append _ b y (segment-is-path b (any-gives-tokens pc set w b k))
+      (power-is-path n y q)))
 
   pub segments-are-path : (cs : List ℕ) → Has (segments pc) cs → Tokens (pc ∣ lit "/") cs
   segments-are-path cs (n, l, m, p) = power-is-path n cs p

@@ -1,14 +1,6 @@
 -- How the rules of both RFCs are made of one another, and what their components are.
-use Rattle.std.proofs.Common.{◌≡◌, ℕ, true, false, List, arith, ◌↔◌, codes, IsUtf8}
-use Rattle.uri_pct.specs.Sets.{TableSet, LacksPercent}
-use Rattle.uri_pct.specs.Tokens.{IsValidFor}
+use Rattle.uri_abnf.proofs.Common.{◌≡◌, ℕ, true, false, List, arith, ◌↔◌, codes, IsUtf8, TableSet, LacksPercent, IsValidFor, LackAuthorityDelimiters, IsAbemptyPath, has_authority, Kind, has_colon_in_first_segment, Abnf, Has, IsOf, any, lit, opt, ◌⋅◌, ◌∣◌, Rules, scheme, port, IP-literal, IPv4address}
 use Rattle.uri_pct.proofs.ValidTexts.Cuts.{excludes}
-use Rattle.uri_parts.specs.Authority.{LackAuthorityDelimiters}
-use Rattle.uri_parts.specs.Components.{IsAbemptyPath, has_authority}
-use Rattle.uri_parts.specs.Grammar.{Kind, has_colon_in_first_segment}
-use Rattle.uri_abnf.specs.Abnf.{Abnf, Has, IsOf, any, lit, opt, ◌⋅◌, ◌∣◌}
-use Rattle.uri_abnf.specs.Derivations.{Rules}
-use Rattle.uri_abnf.specs.Rfc3986.{scheme, port, IP-literal, IPv4address}
 use Rattle.uri_abnf.proofs.Texts.{same-text}
 use Rattle.uri_abnf.proofs.Tokens.{IsSetOf, any-is-valid, valid-is-any}
 
@@ -22,8 +14,7 @@ tail r = opt (lit "?" ⋅ r.query) ⋅ opt (lit "#" ⋅ r.fragment)
 
 -- `"//" authority path-abempty / path-absolute / .. / path-empty`
 abbrev pub hierarchy : Rules → Abnf → Abnf
-hierarchy r other =
-    lit "//" ⋅ r.authority ⋅ r.path_abempty ∣ r.path_absolute ∣ other ∣ r.path_empty
+hierarchy r other = lit "//" ⋅ r.authority ⋅ r.path_abempty ∣ r.path_absolute ∣ other ∣ r.path_empty
 
 -- `scheme ":" hier-part ..`
 abbrev pub after_colon : Rules → Abnf → Abnf

@@ -1,17 +1,6 @@
 -- The rule on schemes: RFC 3986, section 3.1.
-use Rattle.std.proofs.Common.{◌≡◌, ℕ, true, false, List, [], ◌∷◌, ◌++◌, refl, sym, ap, subst, ◌∙◌, arith, ◌<◌, append-nil, length, slice_index}
-use Rattle.std.specs.Char.{is_ascii_alphabetic, encode_utf8}
-use Rattle.std.specs.Str.{IsUtf8, chars, encode_utf8_all}
-use Rattle.std.proofs.lemmas.Bool.{and_parts, and_from, or_left, false≢true}
-use Rattle.std.proofs.lemmas.Bool.Decides.{nat_tests}
-use Rattle.std.proofs.lemmas.Str.{encodes-chars, encode_ascii, chars_past_char}
+use Rattle.uri_abnf.proofs.Common.{◌≡◌, ℕ, true, false, List, [], ◌∷◌, ◌++◌, refl, sym, ap, subst, ◌∙◌, arith, ◌<◌, append-nil, length, slice_index, is_ascii_alphabetic, encode_utf8, IsUtf8, chars, encode_utf8_all, and_parts, and_from, or_left, false≢true, nat_tests, encodes-chars, encode_ascii, chars_past_char, scheme_set, is_scheme, utf8_around_ascii_byte, Abnf, Has, IsOf, any, lit, ◌∣◌, scheme, ALPHA, DIGIT}
 use Rattle.std.proofs.Math.Utf8.{low_scalar}
-use Rattle.uri_pct.specs.Sets.{scheme_set}
-use Rattle.uri_parts.specs.Grammar.{is_scheme}
-use Rattle.uri_parts.proofs.TextKinds.GrammarTexts.{utf8_around_ascii_byte}
-use Rattle.uri_abnf.specs.Abnf.{Abnf, Has, IsOf, any, lit, ◌∣◌}
-use Rattle.uri_abnf.specs.Rfc3986.{scheme}
-use Rattle.uri_abnf.specs.Rfc5234.{ALPHA, DIGIT}
 use Rattle.uri_abnf.proofs.Elements.{IsElement, has_char, has_octets, class-has, char-is-had}
 use Rattle.uri_abnf.proofs.Sets.{scheme-set}
 use Rattle.uri_abnf.proofs.Texts.{cut-gives, cut-is-had, rule-gives, rule-is-had}

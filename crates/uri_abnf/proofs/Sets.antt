@@ -1,10 +1,5 @@
 -- The sets of the expressions of one character or octet in RFC 3986, appendix A.
-use Rattle.std.proofs.Common.{◌≡◌, ℕ, refl, rules, arith}
-use Rattle.std.proofs.lemmas.Bool.Decides.{nat_tests}
-use Rattle.uri_pct.specs.Sets.{allows, allows_past_ascii, userinfo_set, reg_name_set, pchar_set, path_set, query_set, segment_nz_nc_set, scheme_set, digit_set, hexdig_set, ipv_future_set}
-use Rattle.uri_abnf.specs.Abnf.{lit, ◌∣◌}
-use Rattle.uri_abnf.specs.Rfc3986.{unreserved, sub-delims, pct-encoded, pchar}
-use Rattle.uri_abnf.specs.Rfc5234.{ALPHA, DIGIT, HEXDIG}
+use Rattle.uri_abnf.proofs.Common.{◌≡◌, ℕ, refl, rules, arith, nat_tests, allows, allows_past_ascii, userinfo_set, reg_name_set, pchar_set, path_set, query_set, segment_nz_nc_set, scheme_set, digit_set, hexdig_set, ipv_future_set, lit, ◌∣◌, unreserved, sub-delims, pct-encoded, pchar, ALPHA, DIGIT, HEXDIG}
 use Rattle.uri_abnf.proofs.Elements.{has_char}
 use Rattle.uri_abnf.proofs.Tokens.{IsSetOf}
 
@@ -19,8 +14,7 @@ reg-name-set = record {
   element = search rules;
   chars = reg-name-chars;
   octets = refl;
-  lacks =
-      refl;
+  lacks = refl;
 }
 
 userinfo-chars : (c : ℕ) → has_char (unreserved ∣ pct-encoded ∣ sub-delims ∣ lit ":") c
@@ -34,8 +28,7 @@ userinfo-set = record {
   element = search rules;
   chars = userinfo-chars;
   octets = refl;
-  lacks =
-      refl;
+  lacks = refl;
 }
 
 pchar-chars : (c : ℕ) → has_char pchar c ≡ allows pchar_set c

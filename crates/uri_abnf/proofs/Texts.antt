@@ -1,12 +1,6 @@
 -- The languages of expressions over texts in UTF-8.
-use Rattle.std.proofs.Common.{◌≡◌, ℕ, zero, suc, true, List, [], ◌∷◌, ◌++◌, refl, sym, ap, ◌∙◌, inl, inr, ⊎_elim, arith, ◌<◌, ◌⊎◌, map, codes, get_or, drop}
-use Rattle.std.specs.Char.{to_ascii_lowercase}
-use Rattle.std.specs.Str.{IsUtf8, chars, encode_utf8_all, all_scalars}
-use Rattle.std.proofs.lemmas.Bool.{and_parts, and_from}
-use Rattle.std.proofs.lemmas.Bool.Decides.{nat_tests}
-use Rattle.std.proofs.lemmas.Str.{encodes-append, chars-append, chars-encodes, encodes-chars, scalars-chars, IsUtf8-append, IsUtf8-nil}
+use Rattle.uri_abnf.proofs.Common.{◌≡◌, ℕ, zero, suc, true, List, [], ◌∷◌, ◌++◌, refl, sym, ap, ◌∙◌, inl, inr, ⊎_elim, arith, ◌<◌, ◌⊎◌, map, codes, get_or, drop, to_ascii_lowercase, IsUtf8, chars, encode_utf8_all, all_scalars, and_parts, and_from, nat_tests, encodes-append, chars-append, chars-encodes, encodes-chars, scalars-chars, IsUtf8-append, IsUtf8-nil, Abnf, Rule, Literal, Has, IsOf, ◌⋅◌, ◌∣◌, opt, times}
 use Prim.Native.String.{String}
-use Rattle.uri_abnf.specs.Abnf.{Abnf, Rule, Literal, Has, IsOf, ◌⋅◌, ◌∣◌, opt, times}
 
 -- characters that are cut are the characters of texts that are cut
 pub record IsCut (a b : Abnf) (text : List ℕ) : Type 0 where

@@ -1,13 +1,6 @@
 -- Texts of the characters and percent-encoded octets that an expression has.
-use Rattle.std.proofs.Common.{◌≡◌, ℕ, zero, suc, true, false, List, [], ◌∷◌, ◌++◌, refl, sym, ap, subst, ◌∙◌, eq-eqb, ⊎_elim, arith, ◌≤◌, ◌<◌, length, ◌==◌}
-use Rattle.std.specs.List.{list_all}
-use Rattle.std.specs.Char.{is_ascii_hexdigit}
-use Rattle.std.specs.Str.{IsUtf8, chars}
-use Rattle.std.proofs.lemmas.Bool.{cases_Bool, cond-true, cond-false, and_parts, and_from, eqb-true, false_from_ne_true, false≢true}
-use Rattle.uri_pct.specs.Sets.{TableSet, allows, LacksPercent}
-use Rattle.uri_pct.specs.Tokens.{tokens_from_chars, allows_token, is_pct_encoded, IsValidFor, is_valid_for}
+use Rattle.uri_abnf.proofs.Common.{◌≡◌, ℕ, zero, suc, true, false, List, [], ◌∷◌, ◌++◌, refl, sym, ap, subst, ◌∙◌, eq-eqb, ⊎_elim, arith, ◌≤◌, ◌<◌, length, ◌==◌, list_all, is_ascii_hexdigit, IsUtf8, chars, cases_Bool, cond-true, cond-false, and_parts, and_from, eqb-true, false_from_ne_true, false≢true, TableSet, allows, LacksPercent, tokens_from_chars, allows_token, is_pct_encoded, IsValidFor, is_valid_for, Abnf, Has, IsPower, IsOf, any, some}
 use Rattle.uri_pct.proofs.UnreservedDecoding.Printing.{char_but_percent_is_its_own_token}
-use Rattle.uri_abnf.specs.Abnf.{Abnf, Has, IsPower, IsOf, any, some}
 use Rattle.uri_abnf.proofs.Elements.{IsElement, has_char, has_octets, element-gives, char-is-had, octet-is-had, element-has-octet}
 use Rattle.uri_abnf.proofs.Texts.{text-of-no-chars}
 
@@ -80,8 +73,7 @@ module _ (g : Abnf) (set : TableSet) (w : IsSetOf g set) where
       (and_from _ _ a (tokens-are-allowed t r))
   tokens-are-allowed _ (octet {p} {h} {l} {t} o e a b r) =
       let pct = and_from _ _ (eq-eqb p 37 e) (and_from _ _ a b) in
-      subst (λ ts. list_all (allows_token set) ts ≡ true)
-      (sym (cond-true _ _ _ pct))
+      subst (λ ts. list_all (allows_token set) ts ≡ true) (sym (cond-true _ _ _ pct))
       (and_from set.pct_encoded _ (sym w.octets ∙ o) (tokens-are-allowed t r))
 
   allowed-char : (c : ℕ) → allows set c ≡ true → (t : List ℕ) → Tokens g t → Tokens g (c ∷ t)

@@ -1,15 +1,7 @@
 -- The loop of section 5.2.4: each pass shortens the input buffer, so that the loop empties it.
-use Rattle.std.proofs.Common.{◌≡◌, ℕ, zero, suc, ◌<◌, ◌≤◌, true, false, not, List, [], ◌∷◌, rules, ◌++◌, length, drop, refl, sym, ap, ◌∙◌, arith, ⊎_elim}
-use Rattle.std.specs.Prelude.{◌==◌, codes, bytes_eq}
-use Rattle.std.proofs.lemmas.Bool.{cases_Bool, cond-true, cond-false, cond_both, false≢true, not_from_false}
+use Rattle.uri_basic.proofs.Common.{◌≡◌, ℕ, zero, suc, ◌<◌, ◌≤◌, true, false, not, List, [], ◌∷◌, rules, ◌++◌, length, drop, refl, sym, ap, ◌∙◌, arith, ⊎_elim, ◌==◌, codes, bytes_eq, cases_Bool, cond-true, cond-false, cond_both, false≢true, not_from_false, length-drop, length-take, nil_from_length, bytes_eq-Decides, is_one_of, from_any, starts, is_empty, Buffers, after_first_segment, has_prefix, output_of, run, step}
 use Rattle.std.proofs.lemmas.Bool.Decides.{nat_tests}
-use Rattle.std.proofs.lemmas.List.{length-drop, length-take, nil_from_length}
-use Rattle.std.proofs.lemmas.Slice.Eq.{bytes_eq-Decides}
-use Rattle.uri_pct.specs.Sets.{is_one_of}
-use Rattle.uri_parts.specs.Components.{from_any, starts}
-use Rattle.uri_ops.specs.Dots.{is_empty}
 use Rattle.uri_ops.proofs.Paths.DotRuns.{not-empty-has-length}
-use Rattle.uri_basic.specs.Removal.{Buffers, after_first_segment, has_prefix, output_of, run, step}
 
 -- removing dot segments: two texts that pass the test of equality have equal lengths
 equal-bytes-have-equal-lengths : (a b : List ℕ) → bytes_eq a b ≡ true → length a ≡ length b
@@ -25,8 +17,7 @@ segment-end-is-slash : (c : ℕ) → is_one_of (codes "/") c ≡ (c == 47)
 segment-end-is-slash c = grind (arith, nat_tests)
 
 -- paths: a byte that is not `/` (47) ends no segment
-pub other-byte-ends-no-segment : (c : ℕ) → (c == 47) ≡ false
-    → not (is_one_of (codes "/") c) ≡ true
+pub other-byte-ends-no-segment : (c : ℕ) → (c == 47) ≡ false → not (is_one_of (codes "/") c) ≡ true
 other-byte-ends-no-segment c e = not_from_false _ (segment-end-is-slash c ∙ e)
 
 -- removing dot segments: without its first segment, which begins with no `/`, a buffer is shorter
@@ -75,11 +66,9 @@ more-passes-change-nothing : (n m : ℕ) (b : Buffers) → length b.input ≤ n 
     → run n b ≡ run m b
 unfolding run
 more-passes-change-nothing zero zero b h k = refl
-more-passes-change-nothing zero (suc m) b h k =
-    sym (cond-true (is_empty b.input) b (run m (step b))
+more-passes-change-nothing zero (suc m) b h k = sym (cond-true (is_empty b.input) b (run m (step b))
     (ap is_empty (nil_from_length b.input (omega arith))))
-more-passes-change-nothing (suc n) zero b h k =
-    cond-true (is_empty b.input) b (run n (step b))
+more-passes-change-nothing (suc n) zero b h k = cond-true (is_empty b.input) b (run n (step b))
     (ap is_empty (nil_from_length b.input (omega arith)))
 more-passes-change-nothing (suc n) (suc m) b h k = ⊎_elim
     (λ e. cond-true (is_empty b.input) b (run n (step b)) e

@@ -1,15 +1,6 @@
 -- Whether a path has dot segments with percent-encoded dots, or without: RFC 3986, section 3.3.
-use Rattle.std.proofs.Common.{◌≡◌, ℕ, Bool, true, false, not, List, [], ◌∷◌, ◌++◌, ◌&&◌, refl, sym, ap, ◌∙◌, ◌||◌, drop, rules}
-use Rattle.std.specs.Prelude.{codes}
-use Rattle.std.specs.List.{list_all, list_any}
-use Rattle.std.proofs.lemmas.Bool.{and_left, and_parts, not-true, or_from, or_parts}
-use Rattle.std.proofs.lemmas.List.Folds.{list_any-append}
-use Rattle.uri_ops.specs.Dots.{IsAbsolute, directory, is_dot_segment, lacks_dot_segments, segments, up_to_last_slash}
-use Rattle.uri_ops.proofs.Paths.DotLaws.{appended-segments-lack-slashes, path-after-slash-appends-its-segments, property-of-absolute-path-by-segments, segments-of-dotless-path-are-dotless}
-use Rattle.uri_ops.proofs.Paths.Segments.{AllPass, is_dotless, pop, popped-segments-pass-test}
-use Rattle.uri_ops.proofs.Paths.SlashedSegments.{before_last_slash-of-slashed-is-popped, lacks_slash, segments-of-slashed-segments, segments-of-text-lack-slashes, slashed, slashed-of-append, slashed-of-push, slashed-of-segments-is-text-after-slash}
+use Rattle.uri_basic.proofs.Common.{◌≡◌, ℕ, Bool, true, false, not, List, [], ◌∷◌, ◌++◌, ◌&&◌, refl, sym, ap, ◌∙◌, ◌||◌, drop, rules, codes, list_all, list_any, and_left, and_parts, not-true, or_from, or_parts, list_any-append, IsAbsolute, directory, is_dot_segment, lacks_dot_segments, segments, up_to_last_slash, appended-segments-lack-slashes, path-after-slash-appends-its-segments, property-of-absolute-path-by-segments, segments-of-dotless-path-are-dotless, AllPass, is_dotless, pop, popped-segments-pass-test, before_last_slash-of-slashed-is-popped, lacks_slash, segments-of-slashed-segments, segments-of-text-lack-slashes, slashed, slashed-of-append, slashed-of-push, slashed-of-segments-is-text-after-slash, has_encoded_dot_segment, has_literal_dot_segment, is_literal_dot_segment}
 use Rattle.uri_relative.proofs.Climbs.{directory-of-dotless-segments}
-use Rattle.uri_basic.specs.Deviations.{has_encoded_dot_segment, has_literal_dot_segment, is_literal_dot_segment}
 
 -- dot segments: a segment is one, and a dot of it is percent-encoded
 abbrev is_encoded : List ℕ → Bool
@@ -22,14 +13,12 @@ segments-at-slash x y =
     let other = slashed-of-segments-is-text-after-slash y in
     let whole : (47 ∷ x) ++ (47 ∷ y) ≡ slashed (segments x ++ segments y) =
     sym (slashed-of-append (segments x) (segments y) ∙ (λ i. one i ++ other i)) in
-    ap (drop 1) (ap segments whole
-    ∙ segments-of-slashed-segments (segments x ++ segments y)
+    ap (drop 1) (ap segments whole ∙ segments-of-slashed-segments (segments x ++ segments y)
     (appended-segments-lack-slashes (segments x) y (segments-of-text-lack-slashes x)))
 
 -- paths: a segment of two texts with a `/` between them passes a test if one of them has such
 passing-segment-at-slash : (p : List ℕ → Bool) (x y : List ℕ)
-    → list_any p (segments (x ++ 47 ∷ y))
-    ≡ (list_any p (segments x) || list_any p (segments y))
+    → list_any p (segments (x ++ 47 ∷ y)) ≡ (list_any p (segments x) || list_any p (segments y))
 passing-segment-at-slash p x y =
     ap (list_any p) (segments-at-slash x y) ∙ list_any-append p (segments x) (segments y)
 

@@ -1,22 +1,8 @@
 -- What holds of a path without its dot segments, by its segments.
-use Rattle.std.proofs.Common.{◌≡◌, ℕ, Bool, true, false, not, List, [], ◌∷◌, ◌++◌, drop, refl, sym, ap, subst, ◌∙◌, append_assoc, cond, inl, inr, ⊎_elim, rules}
-use Rattle.std.specs.Prelude.{codes, ◌==◌}
-use Rattle.std.specs.List.{list_all}
-use Rattle.std.proofs.lemmas.Bool.{and_from, and_parts, cases_Bool, cond-true, cond-false, cond_both, eqb-true, false≢true, or_cases, or_parts}
-use Rattle.std.proofs.lemmas.List.{append-nil}
-use Rattle.std.proofs.lemmas.List.Folds.{list_all-append}
-use Rattle.uri_pct.specs.Sets.{TableSet, is_one_of}
-use Rattle.uri_parts.specs.Components.{IsAbemptyPath, Lacks}
-use Rattle.uri_ops.specs.Dots.{IsAbsolute, before_last_slash, has_slash, is_empty, last_segment, segments}
+use Rattle.uri_basic.proofs.Common.{◌≡◌, ℕ, Bool, true, false, not, List, [], ◌∷◌, ◌++◌, drop, refl, sym, ap, subst, ◌∙◌, append_assoc, cond, inl, inr, ⊎_elim, rules, codes, ◌==◌, list_all, and_from, and_parts, cases_Bool, cond-true, cond-false, cond_both, eqb-true, false≢true, or_cases, or_parts, append-nil, list_all-append, TableSet, is_one_of, IsAbemptyPath, Lacks, IsAbsolute, before_last_slash, has_slash, is_empty, last_segment, segments, lacked-delimiters-fail-test, test-of-delimiters-gives-lacks, before_last_slash-passes-test, AllPass, segments-pass-true-test, NoSlashes, segments-of-text-are-not-none, slashed, segments-of-text-lack-slashes, first-segment-and-rest-lack-slashes, slashed-of-segments-is-text-after-slash, appended-absolute-path-is-absolute, eq_true_from_IsTrue, IsDirectoryOrNothing, after_segment, parent, remove_dot_segments}
 use Rattle.uri_ops.proofs.Meanings.AllowedParts.{empty-text-is-set-text, is_set_text}
 use Rattle.uri_ops.proofs.Paths.DecodedPaths.{set-text-splits, set-texts-join-at-slash, joined-segments-of-set-text-are-set-texts}
-use Rattle.uri_ops.proofs.Paths.PathCharacters.{lacked-delimiters-fail-test, test-of-delimiters-gives-lacks, before_last_slash-passes-test}
-use Rattle.uri_ops.proofs.Paths.Segments.{AllPass, is_none, segments-pass-true-test}
-use Rattle.uri_ops.proofs.Paths.SlashedSegments.{NoSlashes, segments-of-text-are-not-none, slashed, segments-of-text-lack-slashes, first-segment-and-rest-lack-slashes, slashed-of-segments-is-text-after-slash}
-use Rattle.uri_ops.proofs.Targeting.Targets.{appended-absolute-path-is-absolute}
-use Rattle.uri_pct.proofs.General.{eq_true_from_IsTrue}
-use Rattle.uri_basic.specs.Models.Directories.{IsDirectoryOrNothing, after_segment, parent}
-use Rattle.uri_basic.specs.Removal.{remove_dot_segments}
+use Rattle.uri_ops.proofs.Paths.Segments.{is_none}
 use Rattle.uri_basic.proofs.Segments.{after-segment-keeps, kept_of, path-left-by-segments, path-left-of-path, parent-is-directory}
 
 -- paths: what holds of a text with these segments
@@ -48,14 +34,12 @@ removal-by-segments s rest lack =
 kept-segments-keep : (Q R : List ℕ → Type 0) (test : List ℕ → Bool)
     → ((kept s : List ℕ) → Q kept → test s ≡ true → Q (kept ++ (s ++ codes "/")))
     → ((kept s : List ℕ) → Q kept → test s ≡ true → R (kept ++ s))
-    → ((kept : List ℕ) → Q kept → Q (parent kept))
-    → ((kept : List ℕ) → Q kept → R kept)
+    → ((kept : List ℕ) → Q kept → Q (parent kept)) → ((kept : List ℕ) → Q kept → R kept)
     → (kept s : List ℕ) (rest : List (List ℕ)) → Q kept → AllPass test (s ∷ rest)
     → R (kept_of kept s rest)
 unfolding kept_of
-kept-segments-keep Q R test more last up end kept s [] h pass =
-    after-segment-keeps R kept s s (end kept h) (end (parent kept) (up kept h))
-    (last kept s h (and_parts (test s) true pass).0)
+kept-segments-keep Q R test more last up end kept s [] h pass = after-segment-keeps R kept s s
+    (end kept h) (end (parent kept) (up kept h)) (last kept s h (and_parts (test s) true pass).0)
 kept-segments-keep Q R test more last up end kept s (t ∷ rest) h pass =
     let p = and_parts (test s) (list_all test (t ∷ rest)) pass in
     kept-segments-keep Q R test more last up end (after_segment kept s (s ++ codes "/")) t rest
@@ -78,8 +62,7 @@ bytes-of-parent-pass p slash kept e =
 bytes-of-segments-pass : (p : ℕ → Bool) (s : List ℕ) (rest : List (List ℕ))
     → list_all p (s ++ slashed rest) ≡ true → AllPass (list_all p) (s ∷ rest)
 unfolding slashed
-bytes-of-segments-pass p s [] e =
-    and_from _ _ (ap (list_all p) (sym (append-nil s)) ∙ e) refl
+bytes-of-segments-pass p s [] e = and_from _ _ (ap (list_all p) (sym (append-nil s)) ∙ e) refl
 bytes-of-segments-pass p s (t ∷ rest) e =
     let f = and_parts (list_all p s) _ (sym (list_all-append p s (slashed (t ∷ rest))) ∙ e) in
     and_from _ _ f.0
@@ -205,8 +188,7 @@ root-is-kept t rest = refl
 -- removing dot segments: what is kept after a directory that begins with `/` does so too
 kept-of-absolute-is-absolute : (kept s : List ℕ) (rest : List (List ℕ)) → IsAbsolute kept
     → IsAbsolute (kept_of kept s rest)
-kept-of-absolute-is-absolute kept s rest h =
-    kept-segments-keep IsAbsolute IsAbsolute (λ t. true)
+kept-of-absolute-is-absolute kept s rest h = kept-segments-keep IsAbsolute IsAbsolute (λ t. true)
     (λ k t a e. appended-absolute-path-is-absolute k (t ++ codes "/") a)
     (λ k t a e. appended-absolute-path-is-absolute k t a)
     parent-of-absolute-is-absolute (λ k a. a) kept s rest h (segments-pass-true-test (s ∷ rest))

@@ -1,3 +1,4 @@
+pub mod Common
 pub mod Buffers
 pub mod Steps
 pub mod Segments

@@ -1,18 +1,5 @@
 -- Which targets of the basic algorithm have a segment `.` or `..`: RFC 3986, sections 5.2.2, 5.2.4.
-use Rattle.std.proofs.Common.{◌≡◌, ℕ, true, false, not, List, [], ◌∷◌, ◌++◌, refl, sym, ap, ◌∙◌, append_assoc, inl, ⊎_elim, rules}
-use Rattle.std.specs.Prelude.{Ok, bytes_eq, codes, is_some}
-use Rattle.std.specs.List.{list_any}
-use Rattle.std.proofs.lemmas.Bool.{and_from, and_parts, both_ways, cases_Bool, cond_both, or_from, or_parts}
-use Rattle.std.proofs.lemmas.List.{append-nil}
-use Rattle.uri_pct.proofs.General.{not_some_is_none, some_is_not_none}
-use Rattle.uri_parts.specs.Components.{Components, components, recompose}
-use Rattle.uri_ops.specs.Dots.{before_last_slash, has_slash, last_segment}
-use Rattle.uri_ops.proofs.Paths.LastSlashes.{before_last_slash-of-slashless-is-empty}
-use Rattle.uri_ops.proofs.Paths.SlashedSegments.{NoSlashes, first-segment-and-rest-lack-slashes, segments-of-joined-segments, slashed}
-use Rattle.uri_basic.specs.Deviations.{has_literal_dot_segment, is_literal_dot_segment, takes_base_path}
-use Rattle.uri_basic.specs.Models.Directories.{IsDirectoryOrNothing, after_segment, parent}
-use Rattle.uri_basic.specs.Removal.{remove_dot_segments}
-use Rattle.uri_basic.specs.Target.{basic_resolution_of_texts, is_ambiguous, target}
+use Rattle.uri_basic.proofs.Common.{◌≡◌, ℕ, true, false, not, List, [], ◌∷◌, ◌++◌, refl, sym, ap, ◌∙◌, append_assoc, inl, ⊎_elim, rules, Ok, bytes_eq, codes, is_some, list_any, and_from, and_parts, both_ways, cases_Bool, cond_both, or_from, or_parts, append-nil, not_some_is_none, some_is_not_none, Components, components, recompose, before_last_slash, has_slash, last_segment, before_last_slash-of-slashless-is-empty, NoSlashes, first-segment-and-rest-lack-slashes, segments-of-joined-segments, slashed, has_literal_dot_segment, is_literal_dot_segment, takes_base_path, IsDirectoryOrNothing, after_segment, parent, remove_dot_segments, basic_resolution_of_texts, is_ambiguous, target}
 use Rattle.uri_basic.proofs.DotSegments.{literal-dots-at-slash}
 use Rattle.uri_basic.proofs.Kept.{property-of-path-by-segments, removal-by-segments, text-is-cut-at-last-slash}
 use Rattle.uri_basic.proofs.Segments.{directory-after-segment, kept_of}
@@ -52,8 +39,7 @@ no-literal-dot-in-other-segment : (s : List ℕ) → has_slash s ≡ false
     → has_literal_dot_segment s ≡ false
 unfolding slashed
 no-literal-dot-in-other-segment s lacks single double =
-    ap has_literal_dot_segment (sym (append-nil s))
-    ∙ ap (list_any is_literal_dot_segment)
+    ap has_literal_dot_segment (sym (append-nil s)) ∙ ap (list_any is_literal_dot_segment)
     (segments-of-joined-segments s [] (and_from _ _ (ap not lacks) refl))
     ∙ or_from _ _ (or_from _ _ single double) refl
 
@@ -71,8 +57,7 @@ no-literal-dot-is-kept : (kept s : List ℕ) (rest : List (List ℕ)) → IsDire
     → has_literal_dot_segment kept ≡ false → NoSlashes (s ∷ rest)
     → has_literal_dot_segment (kept_of kept s rest) ≡ false
 unfolding kept_of
-no-literal-dot-is-kept kept s [] closed e lack =
-    no-literal-dot-after-segment kept s s e
+no-literal-dot-is-kept kept s [] closed e lack = no-literal-dot-after-segment kept s s e
     (λ single double. no-literal-dot-after-directory kept s closed e
     (no-literal-dot-in-other-segment s (first-segment-and-rest-lack-slashes s [] lack).0
     single double))
@@ -107,8 +92,7 @@ target-has-taken-path base r takes =
 
 -- targets: only a reference that takes the base's path leads to a target with a segment `.` or `..`
 pub target-with-literal-dot-has-base-path : (base target reference : List ℕ)
-    → is_some (components base).scheme ≡ true
-    → basic_resolution_of_texts base reference ≡ Ok target
+    → is_some (components base).scheme ≡ true → basic_resolution_of_texts base reference ≡ Ok target
     → has_literal_dot_segment (components target).path ≡ true
     → (takes_base_path (components reference) ≡ true)
     × ((components target).path ≡ (components base).path)

@@ -1,17 +1,6 @@
 -- Where the last segment of a path begins, by its positions.
-use Rattle.std.proofs.Common.{◌≡◌, ℕ, zero, suc, ◌+◌, ◌-◌, ◌<◌, ◌≤◌, false, ◌⊎◌, List, [], ◌∷◌, ◌++◌, length, take, drop, get_or, refl, sym, ap, subst, ◌∙◌, arith, append_assoc, eqb, inl, inr, not, ⊎_elim, drop-cons, rules}
-use Rattle.std.specs.Prelude.{codes, ◌==◌, slice_range}
+use Rattle.uri_basic.proofs.Common.{◌≡◌, ℕ, zero, suc, ◌+◌, ◌-◌, ◌<◌, ◌≤◌, false, ◌⊎◌, List, [], ◌∷◌, ◌++◌, length, take, drop, get_or, refl, sym, ap, subst, ◌∙◌, arith, append_assoc, eqb, inl, inr, not, ⊎_elim, drop-cons, rules, codes, ◌==◌, slice_range, cases_Bool, cond-true, cond-false, ne_eqb, or_from, eq-eqb, eqb-true, not-false, not_from_true, append-nil, get_or_append_left, length-take-le, take-append-drop, drop_all, drop_at, get_or-take, length-take, take_more, get_or-drop, length-append, length-drop, take-append-le, take_at, IsCharBoundary-after_ascii, IsCharBoundary-from_take, IsCharBoundary, IsUtf8, IsLongestRun, EndsInSlash, before_last_slash, has_slash, up_to_last_slash, before_last_slash-of-slashless-is-empty, before_last_slash-of-slashless-tail, slash-in-suffix-is-in-append, IsDirectoryOrNothing, after_segment, parent, path_left, remove_dot_segments}
 use Rattle.std.proofs.Math.Seq.{take-add}
-use Rattle.std.proofs.lemmas.Bool.{cases_Bool, cond-true, cond-false, ne_eqb, or_from, eq-eqb, eqb-true, not-false, not_from_true}
-use Rattle.std.proofs.lemmas.List.{append-nil, get_or_append_left, length-take-le, take-append-drop, drop_all, drop_at, get_or-take, length-take, take_more, get_or-drop, length-append, length-drop, take-append-le, take_at}
-use Rattle.std.proofs.lemmas.Str.{IsCharBoundary-after_ascii, IsCharBoundary-from_take}
-use Rattle.std.specs.Str.{IsCharBoundary, IsUtf8}
-use Rattle.uri_pct.specs.Models.ByteRuns.{IsLongestRun}
-use Rattle.uri_ops.specs.Dots.{EndsInSlash, before_last_slash, has_slash, up_to_last_slash}
-use Rattle.uri_ops.proofs.Paths.LastSlashes.{before_last_slash-of-slashless-is-empty, before_last_slash-of-slashless-tail}
-use Rattle.uri_ops.proofs.Paths.SlashedSegments.{slash-in-suffix-is-in-append}
-use Rattle.uri_basic.specs.Models.Directories.{IsDirectoryOrNothing, after_segment, parent, path_left}
-use Rattle.uri_basic.specs.Removal.{remove_dot_segments}
 use Rattle.uri_basic.proofs.Segments.{parent-of-directory, parent-of-nothing, path-left-after-last-segment, path-left-of-path}
 
 -- paths: a text has no `/` (47) if none of its bytes is one
@@ -31,8 +20,7 @@ suffix-has-no-slash text i h = search (rules, no-byte-is-slash, length-drop, get
 -- paths: a text that is cut at its last `/`
 up-to-last-slash-of-cut-text : (x y : List ℕ) → has_slash y ≡ false
     → up_to_last_slash (x ++ 47 ∷ y) ≡ x ++ codes "/"
-up-to-last-slash-of-cut-text x y e =
-    cond-true _ _ _ (slash-in-suffix-is-in-append x (47 ∷ y) refl)
+up-to-last-slash-of-cut-text x y e = cond-true _ _ _ (slash-in-suffix-is-in-append x (47 ∷ y) refl)
     ∙ ap (λ t. t ++ codes "/") (before_last_slash-of-slashless-tail x y e)
 
 -- paths: a text is cut at a `/`
@@ -43,8 +31,7 @@ cut-at-slash text j within e = cc (take-append-drop j text, drop-cons text j 0 w
 -- paths: a text up to a position is the text up to its last `/`, if none is from there on, and one
 -- is before it or it is the start
 pub prefix-is-up-to-last-slash : (text : List ℕ) (i : ℕ) → i ≤ length text
-    → has_slash (drop i text) ≡ false
-    → (i ≡ 0) ⊎ ((0 < i) × (get_or text (i - 1) 0 ≡ 47))
+    → has_slash (drop i text) ≡ false → (i ≡ 0) ⊎ ((0 < i) × (get_or text (i - 1) 0 ≡ 47))
     → take i text ≡ up_to_last_slash text
 prefix-is-up-to-last-slash text i within none (inl e) =
     cc (cond-false _ _ _ (ap (λ n. has_slash (drop n text)) (sym e) ∙ none))
@@ -53,8 +40,7 @@ prefix-is-up-to-last-slash text i within none (inr at) =
     let next : suc j ≡ i = omega (arith, at.0) in
     let cut : text ≡ take j text ++ 47 ∷ drop i text =
     cc (cut-at-slash text j (omega (arith, at.0, within)) at.1) in
-    let long : length (take j text ++ codes "/") ≡ i =
-    length-append (take j text) (codes "/")
+    let long : length (take j text ++ codes "/") ≡ i = length-append (take j text) (codes "/")
     ∙ omega (arith, length-take-le j text (omega (arith, at.0, within)), at.0) in
     ap (take i) (cut ∙ sym (append_assoc (take j text) (codes "/") (drop i text)))
     ∙ take_at (take j text ++ codes "/") (drop i text) i long
@@ -84,10 +70,8 @@ parent-by-prefix d n ends within before =
     let up : parent d ≡ before_last_slash p ++ codes "/" =
     cc (parent-of-directory ends.0, before_last_slash-of-slashless-tail ends.0 [] refl) in
     let long : length (take n d) ≡ n = length-take-le n d (omega (arith, within)) in
-    ⊎_elim
-    (search (rules, cond-true, length-append))
-    (search (rules, before_last_slash-of-slashless-is-empty, cond-false))
-    (cases_Bool (has_slash p))
+    ⊎_elim (search (rules, cond-true, length-append))
+    (search (rules, before_last_slash-of-slashless-is-empty, cond-false)) (cases_Bool (has_slash p))
 
 -- removing dot segments: where nothing is kept, nothing is removed
 pub nothing-to-pop : (text : List ℕ) (start : ℕ) → start ≡ length text
@@ -100,8 +84,7 @@ pub something-kept-is-directory : (text : List ℕ) (start : ℕ) → start ≤ 
     → EndsInSlash (drop start text)
 something-kept-is-directory text start within some closed = ⊎_elim
     (λ n. absurd (some (omega (arith, within, ap length n, length-drop start text))))
-    (λ d. d)
-    closed
+    (λ d. d) closed
 
 -- removing dot segments: of a directory with one segment `/` is left
 pub pop-of-only-segment : (text : List ℕ) (start n : ℕ) → EndsInSlash (drop start text)
@@ -129,13 +112,11 @@ replaced-suffix text new kept start within e =
 pub position-of-last-segment-is-boundary : (text : List ℕ) (start n : ℕ) → IsUtf8 text
     → IsUtf8 (take start text) → start ≤ length text → n < length (drop start text)
     → (0 < n → get_or (drop start text) (n - 1) 0 ≡ 47) → IsCharBoundary text (start + n)
-position-of-last-segment-is-boundary text start zero whole prefix within inside slash =
-    subst (IsCharBoundary text) (omega arith)
-    (IsCharBoundary-from_take text start whole within prefix)
+position-of-last-segment-is-boundary text start zero whole prefix within inside slash = subst
+    (IsCharBoundary text) (omega arith) (IsCharBoundary-from_take text start whole within prefix)
 position-of-last-segment-is-boundary text start (suc n) whole prefix within inside slash =
     let long : suc n < length text - start = omega (arith, inside, length-drop start text) in
-    let at : get_or text (start + n) 0 ≡ 47 =
-    sym (get_or-drop start text n 0)
+    let at : get_or text (start + n) 0 ≡ 47 = sym (get_or-drop start text n 0)
     ∙ ap (λ k. get_or (drop start text) k 0) (omega arith) ∙ slash (omega arith) in
     subst (IsCharBoundary text) (omega arith)
     (IsCharBoundary-after_ascii text (start + n) whole (omega (arith, long)) (omega (arith, at)))
@@ -148,8 +129,7 @@ pub record IsFoundSegment (path : List ℕ) (done end : ℕ) : Type 0 where
   pub joined : take done path ++ (slice_range path done end ++ codes "/") ≡ take (end + 1) path
 
 -- paths: a run of bytes that are no `/` (47) has none
-run-lacks-slash : (path : List ℕ) (done end : ℕ)
-    → IsLongestRun (λ b. not (eqb b 47)) path done end
+run-lacks-slash : (path : List ℕ) (done end : ℕ) → IsLongestRun (λ b. not (eqb b 47)) path done end
     → has_slash (take (end - done) (drop done path)) ≡ false
 run-lacks-slash path done end run =
     search (rules, no-byte-is-slash, length-take, get_or-drop, get_or-take, not_from_true, eq-eqb)
@@ -164,8 +144,7 @@ run-is-segment path done end run within =
     let count : (end + 1) - done ≡ (end - done) + 1 = omega (arith, from) in
     let inside : end - done < length (drop done path) =
     omega (arith, from, within, length-drop done path) in
-    let at : get_or (drop done path) (end - done) 0 ≡ 47 =
-    get_or-drop done path (end - done) 0
+    let at : get_or (drop done path) (end - done) 0 ≡ 47 = get_or-drop done path (end - done) 0
     ∙ ap (λ k. get_or path k 0) (omega (arith, from)) ∙ byte in
     let piece : slice_range path done (end + 1) ≡ slice_range path done end ++ codes "/" =
     cc (take_more (drop done path) (end - done) 0 inside) in
@@ -186,30 +165,25 @@ rest-after-run-lacks-slash path done end run none =
     search (rules, suffix-has-no-slash, not_from_true, eq-eqb)
 
 -- removing dot segments: what is appended for a path is the path without its dot segments
-pub appended-path-is-without-dots : (old new whole last : List ℕ) (start : ℕ)
-    → start ≡ length old → take start new ≡ take start old
-    → IsDirectoryOrNothing (drop start new) → has_slash last ≡ false
-    → ((rest : List ℕ) → path_left (drop start new) rest
-    ≡ path_left (drop start old) (whole ++ rest))
+pub appended-path-is-without-dots : (old new whole last : List ℕ) (start : ℕ) → start ≡ length old
+    → take start new ≡ take start old → IsDirectoryOrNothing (drop start new)
+    → has_slash last ≡ false → ((rest : List ℕ)
+    → path_left (drop start new) rest ≡ path_left (drop start old) (whole ++ rest))
     → take start new ++ after_segment (drop start new) last last
     ≡ old ++ remove_dot_segments (whole ++ last)
 appended-path-is-without-dots old new whole last start at before closed lacks left =
     let none : drop start old ≡ [] = drop_all start old (omega (arith, at)) in
     ap (λ t. t ++ after_segment (drop start new) last last)
-    (cc (append-nil (take start old), take-append-drop start old))
-    ∙ ap (λ t. old ++ t)
+    (cc (append-nil (take start old), take-append-drop start old)) ∙ ap (λ t. old ++ t)
     (sym (path-left-after-last-segment (drop start new) last closed lacks) ∙ left last
     ∙ ap (λ k. path_left k (whole ++ last)) none ∙ path-left-of-path (whole ++ last))
 
 -- removing dot segments: all of a text is its prefix, in UTF-8
 pub whole-prefix-is-utf8 : (text : List ℕ) (start : ℕ) → start ≡ length text → IsUtf8 text
     → IsUtf8 (take start text)
-whole-prefix-is-utf8 text start at whole =
-    subst IsUtf8
-    (sym (sym (append-nil (take start text))
+whole-prefix-is-utf8 text start at whole = subst IsUtf8 (sym (sym (append-nil (take start text))
     ∙ ap (λ t. take start text ++ t) (sym (drop_all start text (omega (arith, at))))
-    ∙ take-append-drop start text))
-    whole
+    ∙ take-append-drop start text)) whole
 
 -- paths: a slice from a position on is all that is after it
 pub slice-to-end : (text bytes : List ℕ) (start : ℕ) → bytes ≡ text
@@ -219,5 +193,4 @@ slice-to-end text bytes start e =
     drop_all (length bytes - start) (drop start bytes) (omega (arith, length-drop start bytes)) in
     sym (append-nil (take (length bytes - start) (drop start bytes)))
     ∙ ap (λ t. take (length bytes - start) (drop start bytes) ++ t) (sym none)
-    ∙ take-append-drop (length bytes - start) (drop start bytes)
-    ∙ ap (drop start) e
+    ∙ take-append-drop (length bytes - start) (drop start bytes) ∙ ap (drop start) e

@@ -1,30 +1,13 @@
 -- The paths of relativized references: how they are parsed, and what they lead to.
-use Rattle.std.proofs.Common.{◌≡◌, ℕ, zero, suc, ◌-◌, ◌<◌, Bool, true, false, not, cond, eqb, List, [], ◌∷◌, ◌++◌, ◌&&◌, ◌||◌, take, drop, refl, sym, ap, ◌∙◌, inr, ⊎_elim, arith, append_assoc, true≢false, rules}
-use Rattle.std.specs.Prelude.{None, Option, codes, is_none, is_some, nat_lt}
-use Rattle.std.specs.List.{list_all}
-use Rattle.std.proofs.lemmas.Bool.{and_from, and_parts, and_right, cond-false, cond-true, cond_both, eq-eqb, eqb-true, false≢true, ltb-true, or_cases, or_left, or_parts}
-use Rattle.std.proofs.lemmas.List.{take-append-drop}
-use Rattle.std.proofs.lemmas.List.Folds.{list_all-append}
-use Rattle.uri_pct.proofs.General.{eq_true_from_IsTrue}
+use Rattle.uri_basic.proofs.Common.{◌≡◌, ℕ, zero, suc, ◌-◌, ◌<◌, Bool, true, false, not, cond, eqb, List, [], ◌∷◌, ◌++◌, ◌&&◌, ◌||◌, take, drop, refl, sym, ap, ◌∙◌, inr, ⊎_elim, arith, append_assoc, true≢false, rules, None, Option, codes, is_none, is_some, nat_lt, list_all, and_from, and_parts, and_right, cond-false, cond-true, cond_both, eq-eqb, eqb-true, false≢true, ltb-true, or_cases, or_left, or_parts, take-append-drop, list_all-append, eq_true_from_IsTrue, is_one_of, Components, IsAbemptyPath, Lacks, has_authority, starts, has_colon_in_first_segment, IsAbsolute, directory, is_empty, lacks_dot_segments, or_slash, up_to_last_slash, guarded, is_opaque, directory-is-absolute, remove-dots-of-dotless, lacked-delimiters-fail-test, test-of-delimiters-gives-lacks, appended-absolute-path-is-absolute, has_encoded_dot_segment, remove_dot_segments, merge}
 use Rattle.uri_pct.specs.Delimiters.{slash}
-use Rattle.uri_pct.specs.Sets.{is_one_of}
-use Rattle.uri_parts.specs.Components.{Components, IsAbemptyPath, Lacks, has_authority, starts}
-use Rattle.uri_parts.specs.Grammar.{has_colon_in_first_segment}
 use Rattle.uri_parts.proofs.Splitting.Marks.{cons_is_not_nil}
-use Rattle.uri_ops.specs.Dots.{IsAbsolute, directory, is_empty, lacks_dot_segments, or_slash, up_to_last_slash}
 use Rattle.uri_ops.specs.Dots as Dots
-use Rattle.uri_ops.specs.Target.{guarded, is_opaque}
-use Rattle.uri_ops.proofs.Paths.DotLaws.{directory-is-absolute, remove-dots-of-dotless}
-use Rattle.uri_ops.proofs.Paths.PathCharacters.{lacked-delimiters-fail-test, test-of-delimiters-gives-lacks}
 use Rattle.uri_ops.proofs.Paths.TakenSegments.{absolute-path-is-slash-and-rest}
-use Rattle.uri_ops.proofs.Targeting.Targets.{appended-absolute-path-is-absolute}
 use Rattle.uri_relative.specs.Relative.{IsSharedPrefix, double_dots, needs_leading_dot, relative_path, slashes}
 use Rattle.uri_relative.specs.Rule.{path_from_base, shared_directory_len, shortest_or_preferred_path}
 use Rattle.uri_relative.proofs.Climbs.{merged-relative-path-leads-to-path, remove_dot_segments-follows-dots}
 use Rattle.uri_relative.proofs.Ways.{guard-counts-as-no-segment, rootless-path-has-no-authority}
-use Rattle.uri_basic.specs.Deviations.{has_encoded_dot_segment}
-use Rattle.uri_basic.specs.Removal.{remove_dot_segments}
-use Rattle.uri_basic.specs.Target.{merge}
 use Rattle.uri_basic.proofs.DotSegments.{directory-of-dotless-path-is-up-to-last-slash, dotless-path-has-no-encoded-dot, dotless-path-has-no-literal-dot, encoded-dots-after-directory, encoded-dots-at-slash}
 use Rattle.uri_basic.proofs.SameRemovals.{removal-of-path-without-dots, same-removal}
 use Rattle.uri_basic.proofs.SameTargets.{base-with-empty-path-has-authority}
@@ -43,8 +26,7 @@ property-of-rest-holds-after-double-dots P up (suc n) rest h =
 property-of-rest-holds-of-relative-path : (P : List ℕ → Type 0) → P (codes ".") → P (codes "..")
     → ((t : List ℕ) → P t → P (codes "./" ++ t)) → ((t : List ℕ) → P t → P (codes "../" ++ t))
     → (n : ℕ) (rest : List ℕ) → P rest → P (relative_path n rest)
-property-of-rest-holds-of-relative-path P dot double stay up n rest h =
-    cond_both (eqb n 0) _ _ P
+property-of-rest-holds-of-relative-path P dot double stay up n rest h = cond_both (eqb n 0) _ _ P
     (λ _. cond_both (is_empty rest) _ _ P (λ _. dot)
     (λ _. cond_both (needs_leading_dot rest) _ _ P (λ _. stay rest h) (λ _. h)))
     (λ _. cond_both (is_empty rest) _ _ P
@@ -76,8 +58,7 @@ some-double-dots-are-relative (suc n) rest e =
 -- relativized paths: each is relative
 relative-path-is-relative : (n : ℕ) (rest : List ℕ) → IsRelativePath (relative_path n rest)
 relative-path-is-relative n rest =
-    cond_both (eqb n 0) _ _ IsRelativePath
-    (search (rules, cond_both, or_parts))
+    cond_both (eqb n 0) _ _ IsRelativePath (search (rules, cond_both, or_parts))
     (λ e. cond_both (is_empty rest) _ _ IsRelativePath
     (λ _. double-dots-and-last-are-relative (n - 1))
     (λ _. some-double-dots-are-relative n rest e))
@@ -116,8 +97,7 @@ absolute-paths-share-a-directory : (base path : List ℕ) → IsAbsolute base �
     → 0 < shared_directory_len base path
 unfolding shared_directory_len
 absolute-paths-share-a-directory [] path h k = absurd (false≢true (eq_true_from_IsTrue _ h))
-absolute-paths-share-a-directory (a ∷ base) [] h k =
-    absurd (false≢true (eq_true_from_IsTrue _ k))
+absolute-paths-share-a-directory (a ∷ base) [] h k = absurd (false≢true (eq_true_from_IsTrue _ k))
 absolute-paths-share-a-directory (a ∷ base) (b ∷ path) h k =
     search (rules, eq_true_from_IsTrue, eqb-true, cond-true, and_from, eq-eqb, or_left)
 
@@ -159,8 +139,7 @@ rooted-path-leads-to-path base rest true e w =
           (lacked-delimiters-fail-test (codes "?#") (47 ∷ rest) w.lacks);
       leads = sym (same-removal (codes "/." ++ (47 ∷ rest)) refl literal)
           ∙ guard-counts-as-no-segment Dots.remove_dot_segments remove_dot_segments-follows-dots
-          (47 ∷ rest) refl
-          ∙ remove-dots-of-dotless (47 ∷ rest) refl w.dotless;
+          (47 ∷ rest) refl ∙ remove-dots-of-dotless (47 ∷ rest) refl w.dotless;
     }
 rooted-path-leads-to-path base rest false e w =
     search (rules, removal-of-path-without-dots, dotless-path-has-no-literal-dot)
@@ -232,12 +211,10 @@ relative-path-leads-to-path base path opaque rooted dotless w =
       no_authority = rootless-path-has-no-authority way r.rootless;
       no_scheme = r.no_scheme;
       lacks = test-of-delimiters-gives-lacks (codes "?#") way lacking;
-      leads = cond-false _ _ _ r.rootless
-          ∙ ap remove_dot_segments
-          (path-is-merged-after-directory base.authority base.path way opaque rooted dotless)
-          ∙ sym (same-removal (directory given ++ way)
-          (appended-absolute-path-is-absolute (directory given) way
-          (directory-is-absolute given (inr absolute)))
+      leads = cond-false _ _ _ r.rootless ∙ ap remove_dot_segments
+          (path-is-merged-after-directory base.authority base.path way opaque rooted dotless) ∙ sym
+          (same-removal (directory given ++ way) (appended-absolute-path-is-absolute
+          (directory given) way (directory-is-absolute given (inr absolute)))
           (encoded-dots-after-directory given way absolute given_dotless encoded))
           ∙ merged-relative-path-leads-to-path n given path absolute given_dotless w.absolute
           w.dotless s;

@@ -1,21 +1,10 @@
 -- What the references of `relativize` lead to by the basic algorithm: RFC 3986, section 5.2.
-use Rattle.std.proofs.Common.{◌≡◌, ℕ, Bool, true, false, not, cond, List, [], ◌++◌, ◌&&◌, refl, sym, ap, ◌∙◌, subst, ⊎_elim, rules}
-use Rattle.std.specs.Prelude.{IfNone, IfSome, None, Ok, Option, Some, bytes_eq, codes, is_none, is_some}
+use Rattle.uri_basic.proofs.Common.{◌≡◌, ℕ, Bool, true, false, not, cond, List, [], ◌++◌, ◌&&◌, refl, sym, ap, ◌∙◌, subst, ⊎_elim, rules, IfNone, IfSome, None, Ok, Option, Some, bytes_eq, codes, is_none, is_some, and_parts, both_ways, cases_Bool, cond-false, cond-true, cond_both, false≢true, not-false, bytes_eq-Decides, eq_true_from_IsTrue, Components, IsSplitOf, Lacks, components, has_scheme, recompose, starts, components-are-split-of-text, equal-to-true-is-IsTrue, recompose-components, IsAbsolute, lacks_dot_segments, with_final_path, guarded, is_opaque, removing-dots-keeps-absolute, removing-dots-leaves-no-dot-segment, test-of-delimiters-gives-lacks, has_literal_dot_segment, basic_resolution, basic_resolution_of_texts, target}
 use Rattle.std.specs.Option.{option_eq}
-use Rattle.std.proofs.lemmas.Bool.{and_parts, both_ways, cases_Bool, cond-false, cond-true, cond_both, false≢true, not-false}
-use Rattle.std.proofs.lemmas.Slice.Eq.{bytes_eq-Decides}
-use Rattle.uri_pct.proofs.General.{eq_true_from_IsTrue}
 use Rattle.uri_pct.specs.Delimiters.{slash}
-use Rattle.uri_parts.specs.Components.{Components, IsSplitOf, Lacks, components, has_scheme, recompose, starts}
-use Rattle.uri_parts.proofs.Splitting.Recompose.{components-are-split-of-text, equal-to-true-is-IsTrue, recompose-components}
 use Rattle.uri_parts.proofs.Splitting.Splits.{only-split-is-components}
-use Rattle.uri_ops.specs.Dots.{IsAbsolute, lacks_dot_segments}
 use Rattle.uri_ops.specs.Dots as Dots
-use Rattle.uri_ops.specs.Resolving.{with_final_path}
-use Rattle.uri_ops.specs.Target.{guarded, is_opaque}
 use Rattle.uri_ops.proofs.Meanings.ComponentEnds.{no_scheme}
-use Rattle.uri_ops.proofs.Paths.DotLaws.{removing-dots-keeps-absolute, removing-dots-leaves-no-dot-segment}
-use Rattle.uri_ops.proofs.Paths.PathCharacters.{test-of-delimiters-gives-lacks}
 use Rattle.uri_ops.proofs.Paths.TakenSegments.{absolute-path-is-slash-and-rest}
 use Rattle.uri_relative.specs.Forms.{from_authority}
 use Rattle.uri_relative.specs.Leading.{settled}
@@ -24,8 +13,6 @@ use Rattle.uri_relative.proofs.Forms.{path-and-query-are-split}
 use Rattle.uri_ops.proofs.Targeting.TargetCases.{settled-text-has-settled-components}
 use Rattle.uri_relative.proofs.RootedTargets.{base-that-is-not-opaque-is-rooted}
 use Rattle.uri_relative.proofs.Settled.{dotless-target-is-settled, final-path-is-idempotent, rootless-target-is-settled}
-use Rattle.uri_basic.specs.Deviations.{has_literal_dot_segment}
-use Rattle.uri_basic.specs.Target.{basic_resolution, basic_resolution_of_texts, target}
 use Rattle.uri_basic.proofs.DotSegments.{dotless-path-has-no-literal-dot}
 use Rattle.uri_basic.proofs.RelativePaths.{IsFinalPath, LeadsByPath, chosen-path-leads-to-path}
 use Rattle.uri_basic.proofs.SameRemovals.{removal-of-path-without-dots}
@@ -49,8 +36,7 @@ record IsPlainTarget (t : Components) : Type 0 where
 -- targets to relativize: the guard `/.` of an absolute path is a segment `.`
 guard-is-literal-dot-segment : (path : List ℕ) → IsAbsolute path
     → has_literal_dot_segment (codes "/." ++ path) ≡ true
-guard-is-literal-dot-segment path h =
-    subst (λ p. has_literal_dot_segment (codes "/." ++ p) ≡ true)
+guard-is-literal-dot-segment path h = subst (λ p. has_literal_dot_segment (codes "/." ++ p) ≡ true)
     (sym (absolute-path-is-slash-and-rest path h)) refl
 
 -- targets to relativize: a path that is guarded to one without a segment `.` has no guard; o: the
@@ -64,11 +50,9 @@ guarded-path-without-dots-is-the-path o path whole h g literal =
 -- targets to relativize: a path that begins with `/` is its own path without dot segments
 plain-path-is-without-dots : (t : Components) → IsPlainTarget t → IsAbsolute t.path
     → Dots.remove_dot_segments t.path ≡ t.path
-plain-path-is-without-dots t w h =
-    guarded-path-without-dots-is-the-path t.authority (Dots.remove_dot_segments t.path) t.path
-    (removing-dots-keeps-absolute t.path h)
-    (cc (cond-true _ _ _ (eq_true_from_IsTrue _ h)))
-    w.literal
+plain-path-is-without-dots t w h = guarded-path-without-dots-is-the-path t.authority
+    (Dots.remove_dot_segments t.path) t.path (removing-dots-keeps-absolute t.path h)
+    (cc (cond-true _ _ _ (eq_true_from_IsTrue _ h))) w.literal
 
 -- targets to relativize: a path that begins with `/` has no dot segment
 plain-path-is-final : (t : Components) → IsPlainTarget t → IsAbsolute t.path → IsFinalPath t.path
@@ -124,23 +108,14 @@ pathless-form-is-split : (t : Components) (query : Option (List ℕ))
     → IfSome query (λ q. Lacks (codes "#") q)
     → IsSplitOf (recompose (record t { scheme = None; authority = None; path = []; query = query }))
     (record t { scheme = None; authority = None; path = []; query = query })
-pathless-form-is-split t query q =
-    path-and-query-are-split t [] query (test-of-delimiters-gives-lacks (codes "?#") [] refl) q
-    refl refl
+pathless-form-is-split t query q = path-and-query-are-split t [] query
+    (test-of-delimiters-gives-lacks (codes "?#") [] refl) q refl refl
 
 -- relativized references: the target of one with a path, by the path that it begins with
 target-of-path-by-case : (base t : Components) (rooted : Bool) (one other : List ℕ)
     → cond rooted
-    (let c : Components = record base {
-      path = one;
-      query = t.query;
-      fragment = t.fragment;
-    } in c)
-    (let c : Components = record base {
-      path = other;
-      query = t.query;
-      fragment = t.fragment;
-    } in c)
+    (let c : Components = record base { path = one; query = t.query; fragment = t.fragment } in c)
+    (let c : Components = record base { path = other; query = t.query; fragment = t.fragment } in c)
     ≡ record base { path = cond rooted one other; query = t.query; fragment = t.fragment }
 target-of-path-by-case base t true one other = refl
 target-of-path-by-case base t false one other = refl
@@ -193,12 +168,10 @@ module _ (prefers : Bool) (base : List ℕ) (t : Components) (w : IsPlainTarget 
   path-leads s a opaque h =
       let path = shortest_or_preferred_path prefers (components base).path
       (Dots.remove_dot_segments t.path) in
-      let by : LeadsByPath (components base) t.path path =
-      subst (λ p. LeadsByPath (components base) t.path
-      (shortest_or_preferred_path prefers (components base).path p))
-      (sym (plain-path-is-without-dots t w h))
-      (chosen-path-leads-to-path prefers (components base) t.path opaque
-      (base-that-is-not-opaque-is-rooted base opaque) (plain-path-is-final t w h)) in
+      let by : LeadsByPath (components base) t.path path = subst (λ p. LeadsByPath (components base)
+      t.path (shortest_or_preferred_path prefers (components base).path p))
+      (sym (plain-path-is-without-dots t w h)) (chosen-path-leads-to-path prefers (components base)
+      t.path opaque (base-that-is-not-opaque-is-rooted base opaque) (plain-path-is-final t w h)) in
       search (
         rules,
         text-of-leading-reference-leads,
@@ -211,8 +184,7 @@ module _ (prefers : Bool) (base : List ℕ) (t : Components) (w : IsPlainTarget 
   made-reference-leads =
       let b = components base in
       cond_both (not (has_same_scheme b t)) _ _ Leads (λ _. target-leads)
-      (λ same. let s = components-that-pass-test-are-equal b.scheme t.scheme
-      (not-false _ same) in
+      (λ same. let s = components-that-pass-test-are-equal b.scheme t.scheme (not-false _ same) in
       cond_both (has_same_authority_and_path b t && has_same_query b t) _ _ Leads
       (λ e. let both = and_parts (has_same_authority_and_path b t) _ e in
       let place = and_parts (has_same_authority b t) _ both.0 in
@@ -273,12 +245,10 @@ reference-to-settled-target-leads prefers base target some literal =
 
 -- relativized references: by the basic algorithm they lead to targets without dot segments
 pub reference-to-target-without-dots-leads : (prefers : Bool) (base target : List ℕ)
-    → is_some (components target).scheme ≡ true
-    → lacks_dot_segments (components target).path ≡ true
+    → is_some (components target).scheme ≡ true → lacks_dot_segments (components target).path ≡ true
     → basic_resolution_of_texts base (reference_to prefers base target) ≡ Ok target
 reference-to-target-without-dots-leads prefers base target some dotless =
     let same = target-without-dots-is-settled target dotless in
     reference-to-settled-target-leads prefers base target some
     (cc (dotless-path-has-no-literal-dot (components target).path dotless))
-    ∙ ap (λ c. Ok (recompose c)) same
-    ∙ ap (λ x. Ok x) (recompose-components target)
+    ∙ ap (λ c. Ok (recompose c)) same ∙ ap (λ x. Ok x) (recompose-components target)

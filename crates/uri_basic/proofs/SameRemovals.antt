@@ -1,18 +1,6 @@
 -- Where removing dot segments of section 5.2.4 is removing those of `Resolver`, or changes nothing.
-use Rattle.std.proofs.Common.{◌≡◌, ℕ, false, not, List, [], ◌∷◌, ◌++◌, refl, sym, ap, ◌∙◌, ◌&&◌, append_assoc, ⊎_elim, rules}
-use Rattle.std.specs.Prelude.{bytes_eq, codes}
-use Rattle.std.specs.List.{list_any}
-use Rattle.std.proofs.lemmas.Bool.{cases_Bool, and_cases, both_ways, not_from_false, or_from, or_parts}
-use Rattle.std.proofs.lemmas.List.{append-nil}
-use Rattle.std.proofs.lemmas.Slice.Eq.{bytes_eq-Decides}
-use Rattle.uri_ops.specs.Dots.{IsAbsolute, is_dot_segment, is_double_dot, is_single_dot}
+use Rattle.uri_basic.proofs.Common.{◌≡◌, ℕ, false, not, List, [], ◌∷◌, ◌++◌, refl, sym, ap, ◌∙◌, ◌&&◌, append_assoc, ⊎_elim, rules, bytes_eq, codes, list_any, cases_Bool, and_cases, both_ways, not_from_false, or_from, or_parts, append-nil, bytes_eq-Decides, IsAbsolute, is_dot_segment, is_double_dot, is_single_dot, property-of-absolute-path-by-segments, closing, dotless_of, end_of, next_output, pop, step_of, next_output-passes-test, steps, NoSlashes, before_last_slash-of-slashed-is-popped, first-segment-and-rest-lack-slashes, lacks_slash, remove-dots-by-segments, segments-of-joined-segments, slashed, segments-of-slashed-segments, slashed-of-push, has_encoded_dot_segment, has_literal_dot_segment, is_literal_dot_segment, after_segment, remove_dot_segments}
 use Rattle.uri_ops.specs.Dots as Dots
-use Rattle.uri_ops.proofs.Paths.DotLaws.{property-of-absolute-path-by-segments}
-use Rattle.uri_ops.proofs.Paths.Segments.{closing, dotless_of, end_of, next_output, pop, step_of, next_output-passes-test, steps}
-use Rattle.uri_ops.proofs.Paths.SlashedSegments.{NoSlashes, before_last_slash-of-slashed-is-popped, first-segment-and-rest-lack-slashes, lacks_slash, remove-dots-by-segments, segments-of-joined-segments, slashed, segments-of-slashed-segments, slashed-of-push}
-use Rattle.uri_basic.specs.Deviations.{has_encoded_dot_segment, has_literal_dot_segment, is_literal_dot_segment}
-use Rattle.uri_basic.specs.Models.Directories.{after_segment}
-use Rattle.uri_basic.specs.Removal.{remove_dot_segments}
 use Rattle.uri_basic.proofs.Kept.{property-of-path-by-segments, removal-by-segments, root-is-kept}
 use Rattle.uri_basic.proofs.Segments.{after-segment-by-test, kept_of, parent-of-directory}
 
@@ -50,8 +38,7 @@ directory-by-segments out s lack literal =
     (cases_Bool (bytes_eq s (codes ".")))
 
 -- dot segments: the end that a last segment leaves
-end-of-segment : (s : List ℕ)
-    → (end_of (is_dot_segment (codes ".")) ≡ [] ∷ [])
+end-of-segment : (s : List ℕ) → (end_of (is_dot_segment (codes ".")) ≡ [] ∷ [])
     × (end_of (is_dot_segment (codes "..")) ≡ [] ∷ [])
     × (is_dot_segment s ≡ false → end_of (is_dot_segment s) ≡ [])
 end-of-segment s = (refl, refl, λ e. ap end_of e)
@@ -65,8 +52,7 @@ path-by-segments out s lack literal =
     let after = after-segment-by-test (slashed out ++ codes "/") s s in
     let leaves = segment-leaves out s in
     let ends = end-of-segment s in
-    ⊎_elim
-    (search (rules, bytes_eq-Decides, slashed-of-push, step_of, end_of))
+    ⊎_elim (search (rules, bytes_eq-Decides, slashed-of-push, step_of, end_of))
     (λ single. ⊎_elim
     (λ e.
     let same = (bytes_eq-Decides s (codes "..")).0 e in
@@ -102,9 +88,8 @@ same-removal-of-segments : (s : List ℕ) (rest : List (List ℕ)) → NoSlashes
 unfolding slashed dotless_of
 same-removal-of-segments s rest lack literal =
     let test = λ (t : List ℕ). is_dot_segment t && not (is_literal_dot_segment t) in
-    remove-dots-by-segments (s ∷ rest) lack
-    ∙ sym (removal-by-segments [] (s ∷ rest) lack ∙ root-is-kept s rest
-    ∙ kept-is-what-is-left [] s rest refl lack
+    remove-dots-by-segments (s ∷ rest) lack ∙ sym (removal-by-segments [] (s ∷ rest) lack
+    ∙ root-is-kept s rest ∙ kept-is-what-is-left [] s rest refl lack
     (ap (list_any test) (sym (segments-of-slashed-segments (s ∷ rest) lack)) ∙ literal))
 
 -- removing dot segments: a path that begins with `/` and has no encoded dot segment
@@ -112,8 +97,7 @@ pub same-removal : (path : List ℕ) → IsAbsolute path → has_encoded_dot_seg
     → Dots.remove_dot_segments path ≡ remove_dot_segments path
 same-removal = property-of-absolute-path-by-segments
     (λ path. has_encoded_dot_segment path ≡ false
-    → Dots.remove_dot_segments path ≡ remove_dot_segments path)
-    same-removal-of-segments
+    → Dots.remove_dot_segments path ≡ remove_dot_segments path) same-removal-of-segments
 
 -- removing dot segments: segments that are not `.` or `..` are all kept
 kept-segments-stay : (kept s : List ℕ) (rest : List (List ℕ))

@@ -1,20 +1,8 @@
 -- Where nothing deviates, the basic algorithm and `Resolver` have the same target.
-use Rattle.std.proofs.Common.{◌≡◌, ℕ, true, false, not, List, [], refl, sym, ap, subst, rules, ◌∙◌, ◌&&◌, ⊎_elim}
-use Rattle.std.specs.Prelude.{None, Ok, Option, Some, is_none, is_some}
-use Rattle.std.proofs.lemmas.Bool.{and_from, and_right, cases_Bool, cond-true, cond-false, and_left, false≢true, not_from_false}
-use Rattle.uri_parts.specs.Components.{Components, components, has_authority, recompose, starts}
-use Rattle.uri_parts.proofs.Splitting.Recompose.{equal-to-true-is-IsTrue}
-use Rattle.uri_ops.specs.Dots.{directory, is_double_dot, is_empty, last_segment}
-use Rattle.uri_ops.specs.Target.{dotless_if_absolute, dotted_target, guarded, is_opaque, merged, resolution_of, target_of}
-use Rattle.uri_ops.proofs.Paths.DotLaws.{remove-dots-of-dotless}
+use Rattle.uri_basic.proofs.Common.{◌≡◌, ℕ, true, false, not, List, [], refl, sym, ap, subst, rules, ◌∙◌, ◌&&◌, ⊎_elim, None, Ok, Option, Some, is_none, is_some, and_from, and_right, cases_Bool, cond-true, cond-false, and_left, false≢true, not_from_false, Components, components, has_authority, recompose, starts, equal-to-true-is-IsTrue, directory, is_double_dot, is_empty, last_segment, dotless_if_absolute, dotted_target, guarded, is_opaque, merged, resolution_of, target_of, remove-dots-of-dotless, merging-base-is-not-opaque, not_some_is_none, some_is_not_none, NothingDeviates, has_encoded_dot_segment, has_literal_dot_segment, is_merged, takes_base_path, remove_dot_segments, basic_resolution, basic_resolution_of_texts, is_ambiguous, merge, target}
 use Rattle.uri_ops.proofs.Paths.DotRuns.{empty-text-is-nil}
-use Rattle.uri_ops.proofs.Targeting.Swaps.{merging-base-is-not-opaque}
-use Rattle.uri_pct.proofs.General.{not_some_is_none, some_is_not_none}
 use Rattle.uri_ops.proofs.Targeting.NormalTargets.{resolution-is-unique}
-use Rattle.uri_basic.specs.Deviations.{NothingDeviates, has_encoded_dot_segment, has_literal_dot_segment, is_merged, takes_base_path}
 use Rattle.uri_relative.specs.Leading.{LeadsTo, settled, without_fragment}
-use Rattle.uri_basic.specs.Removal.{remove_dot_segments}
-use Rattle.uri_basic.specs.Target.{basic_resolution, basic_resolution_of_texts, is_ambiguous, merge, target}
 use Rattle.uri_basic.proofs.SameRemovals.{removal-of-path-without-dots, same-removal}
 
 -- targets: the path without its dot segments is the same if nothing deviates
@@ -51,8 +39,7 @@ same-merged-path : (base : Components) (path : List ℕ) → is_opaque base ≡ 
 unfolding directory
 same-merged-path base path opaque last = ⊎_elim
     (search (rules, base-with-empty-path-has-authority, empty-text-is-nil, cond-true, and_from))
-    (search (rules, cond-false, and_right))
-    (cases_Bool (is_empty base.path))
+    (search (rules, cond-false, and_right)) (cases_Bool (is_empty base.path))
 
 -- targets: where nothing deviates, the target is that of `Resolver`
 same-targets : (base r : Components) → NothingDeviates base r → target_of base r ≡ target base r
@@ -88,9 +75,7 @@ same-targets base r n =
     (⊎_elim
     (λ h. cond-true _ _ _ h
     ∙ remove-dots-of-dotless base.path (equal-to-true-is-IsTrue _ h) (n.base_path takes h))
-    (λ h. cond-false _ _ _ h)
-    (cases_Bool (starts 47 base.path)))
-    refl n.unguarded)
+    (λ h. cond-false _ _ _ h) (cases_Bool (starts 47 base.path))) refl n.unguarded)
     (λ e.
     let own : takes_base_path r ≡ false = and_right (is_none r.scheme && is_none r.authority) _ e in
     ⊎_elim
@@ -110,8 +95,7 @@ same-targets base r n =
     let d : dotted_target base r
     ≡ record base { path = merged base.path r.path; query = r.query; fragment = r.fragment } =
     cond-false _ _ _ s ∙ cond-false _ _ _ a ∙ cond-false _ _ _ e ∙ cond-false _ _ _ f in
-    let paths : merged base.path r.path ≡ merge base r.path =
-    same-merged-path base r.path
+    let paths : merged base.path r.path ≡ merge base r.path = same-merged-path base r.path
     (merging-base-is-not-opaque base r n.taken (not_some_is_none r.scheme s) e) (n.last joins) in
     same-target base r
     (record base { path = merged base.path r.path; query = r.query; fragment = r.fragment }) _ d
@@ -139,5 +123,4 @@ pub leading-reference-resolves : (base target reference : List ℕ) → LeadsTo 
 leading-reference-resolves base target reference leads nothing =
     let same = same-resolutions (without_fragment (components base)) (components reference)
     nothing in
-    same.1
-    ∙ ap (λ t. Ok t) (resolution-is-unique _ _ _ same.0 leads.leads)
+    same.1 ∙ ap (λ t. Ok t) (resolution-is-unique _ _ _ same.0 leads.leads)

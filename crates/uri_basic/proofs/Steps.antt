@@ -1,12 +1,5 @@
 -- One segment of a path in the loop of section 5.2.4.
-use Rattle.std.proofs.Common.{◌≡◌, ℕ, suc, Bool, true, false, not, List, [], ◌∷◌, ◌++◌, take, drop, refl, sym, ap, ◌∙◌, ◌&&◌, arith, rules}
-use Rattle.std.specs.Prelude.{codes, bytes_eq, ◌==◌}
-use Rattle.std.specs.List.{prefix_len}
-use Rattle.std.proofs.lemmas.Bool.{cond-true, cond-false, and_left, and_right, false≢true, or_parts, or_from}
-use Rattle.uri_pct.specs.Sets.{is_one_of}
-use Rattle.uri_parts.specs.Components.{before_any, from_any}
-use Rattle.uri_ops.specs.Dots.{has_slash}
-use Rattle.uri_basic.specs.Removal.{has_prefix, output_of, step}
+use Rattle.uri_basic.proofs.Common.{◌≡◌, ℕ, suc, Bool, true, false, not, List, [], ◌∷◌, ◌++◌, take, drop, refl, sym, ap, ◌∙◌, ◌&&◌, arith, rules, codes, bytes_eq, ◌==◌, prefix_len, cond-true, cond-false, and_left, and_right, false≢true, or_parts, or_from, is_one_of, before_any, from_any, has_slash, has_prefix, output_of, step}
 use Rattle.uri_basic.proofs.Buffers.{other-byte-ends-no-segment, output-after-step}
 
 -- dot segments: the text begins with no dot segment, whether a `/` or its end is after that
@@ -80,15 +73,16 @@ last-segment-is-text (c ∷ s) e =
     )
 
 -- removing dot segments: a buffer with a `/` (47) before no dot segment loses a segment (step 2E)
-step-moves-rooted-segment : (text output : List ℕ) → BeginsWithNoDots text
-    → step (record { input = 47 ∷ text; output = output })
-    ≡ record {
-      input = from_any (codes "/") text;
-      output = output ++ (codes "/" ++ before_any (codes "/") text);
-    }
-step-moves-rooted-segment text output f =
-    cond-false _ _ _ f.single_slash ∙ cond-false _ _ _ f.single ∙ cond-false _ _ _ f.double_slash
-    ∙ cond-false _ _ _ f.double
+step-moves-rooted-segment : (text output : List ℕ) → BeginsWithNoDots text → step (record {
+  input =
+      47 ∷ text;
+  output = output;
+}) ≡ record {
+  input = from_any (codes "/") text;
+  output = output ++ (codes "/" ++ before_any (codes "/") text);
+}
+step-moves-rooted-segment text output f = cond-false _ _ _ f.single_slash
+    ∙ cond-false _ _ _ f.single ∙ cond-false _ _ _ f.double_slash ∙ cond-false _ _ _ f.double
 
 -- removing dot segments: a buffer that begins with no `/` and no dot segment loses a segment, too
 step-moves-rootless-segment : (c : ℕ) (text output : List ℕ) → (c == 47) ≡ false

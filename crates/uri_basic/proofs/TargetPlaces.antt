@@ -1,22 +1,10 @@
 -- Where the components of a target are.
-use Rattle.std.proofs.Common.{◌≡◌, ℕ, ◌+◌, ◌-◌, ◌≤◌, true, false, List, [], ◌++◌, length, rules, sym, ap, arith, option_map, unwrap_or}
-use Rattle.std.specs.Prelude.{Err, IfOk, None, Ok, Option, Result, Some, codes, is_some}
-use Rattle.std.specs.Str.{IsUtf8}
-use Rattle.std.proofs.lemmas.Bool.{both_ways, cond_both, false≢true}
-use Rattle.std.proofs.lemmas.List.{length-append}
-use Rattle.uri_parts.specs.Components.{Components, components, marked, recompose, starts}
-use Rattle.uri_parts.specs.Grammar.{IsOfKind, Kind}
-use Rattle.uri_parts.specs.PackedPositions.{ArePackedPositionsOf, packed}
-use Rattle.uri_parts.specs.Positions.{authority_at, delimited_length, host_end_of, positions_of}
+use Rattle.uri_basic.proofs.Common.{◌≡◌, ℕ, ◌+◌, ◌-◌, ◌≤◌, true, false, List, [], ◌++◌, length, rules, sym, ap, arith, option_map, unwrap_or, Err, IfOk, None, Ok, Option, Result, Some, codes, is_some, IsUtf8, both_ways, cond_both, false≢true, length-append, Components, components, marked, recompose, starts, IsOfKind, Kind, ArePackedPositionsOf, packed, authority_at, delimited_length, host_end_of, positions_of, recompose-components, is_empty, text-of-kind-has-needed-scheme, basic_resolution_of_texts, is_ambiguous, target}
 use Rattle.uri_parts.specs.declared.packed_positions.PackedPositions.{PackedPositions}
 use Rattle.uri_parts.specs.declared.positions.AuthorityPositions.{AuthorityPositions}
-use Rattle.uri_parts.proofs.Splitting.Recompose.{recompose-components}
-use Rattle.uri_ops.specs.Dots.{is_empty}
 use Rattle.uri_ops.specs.Models.Places.{before_path}
 use Rattle.uri_ops.proofs.Normal.WrittenPlaces.{length-before_path-is-path_start, length-with-delimiter-after}
-use Rattle.uri_ops.proofs.Targeting.Swaps.{text-of-kind-has-needed-scheme}
 use Rattle.uri_basic.specs.Models.Pieces.{ArePlacesToHost, after_path}
-use Rattle.uri_basic.specs.Target.{basic_resolution_of_texts, is_ambiguous, target}
 use Rattle.uri_basic.proofs.Targets.{basic-target-has-its-components, result-by-test}
 
 -- general fact on results, for targets: what follows from two facts of a value
@@ -63,8 +51,7 @@ host_end_after scheme authority = unwrap_or (option_map (λ (a : AuthorityPositi
 
 -- targets: positions up to the host are those of scheme and authority
 places-by-prefix : (scheme authority : Option (List ℕ)) (t : Components) (places : PackedPositions)
-    → HasPrefix scheme authority t
-    → places.scheme_end ≡ unwrap_or (option_map length scheme) 0
+    → HasPrefix scheme authority t → places.scheme_end ≡ unwrap_or (option_map length scheme) 0
     → places.host_start ≡ host_start_after scheme authority
     → places.host_end ≡ host_end_after scheme authority → ArePlacesToHost t places
 places-by-prefix scheme authority t places p s start end = search (rules, unwrap_or, option_map)
@@ -77,11 +64,9 @@ places-of-base b r places at s a = search (rules, places-by-prefix, prefix-of-ba
 
 -- targets: an authority without a scheme, after a scheme, is further on by this
 moved-host : (scheme none authority : Option (List ℕ)) → is_some none ≡ false
-    → is_some authority ≡ true
-    → (host_start_after scheme authority
+    → is_some authority ≡ true → (host_start_after scheme authority
     ≡ delimited_length 1 scheme + host_start_after none authority)
-    × (host_end_after scheme authority
-    ≡ delimited_length 1 scheme + host_end_after none authority)
+    × (host_end_after scheme authority ≡ delimited_length 1 scheme + host_end_after none authority)
 moved-host scheme (Some s) authority e f = absurd (false≢true (sym e))
 moved-host scheme None None e f = absurd (false≢true f)
 moved-host scheme None (Some a) e f = (omega arith, omega arith)
@@ -89,9 +74,8 @@ moved-host scheme None (Some a) e f = (omega arith, omega arith)
 -- targets: the base's scheme and the moved host are the target's positions up to the host
 pub places-of-authority : (b r : Components) (own from made : PackedPositions) (scheme : List ℕ)
     → own ≡ packed (positions_of r) → from ≡ packed (positions_of b)
-    → scheme ≡ marked [] b.scheme (codes ":")
-    → is_some r.scheme ≡ false → is_some r.authority ≡ true
-    → made.scheme_end ≡ from.scheme_end
+    → scheme ≡ marked [] b.scheme (codes ":") → is_some r.scheme ≡ false
+    → is_some r.authority ≡ true → made.scheme_end ≡ from.scheme_end
     → made.host_start ≡ length scheme + own.host_start
     → made.host_end ≡ length scheme + own.host_end → ArePlacesToHost (target b r) made
 places-of-authority b r own from made scheme at base is s a ends starts stops =

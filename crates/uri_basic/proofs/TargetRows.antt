@@ -1,11 +1,5 @@
 -- The examples of RFC 3986, section 5.4, by computation.
-use Rattle.std.proofs.Common.{◌≡◌, ℕ, List, refl, Ok, Err, rules}
-use Rattle.std.specs.Prelude.{codes}
-use Rattle.uri_parts.specs.Components.{components}
-use Rattle.uri_ops.specs.Dots.{directory}
-use Rattle.uri_basic.specs.Deviations.{NothingDeviates}
-use Rattle.uri_basic.specs.Removal.{remove_dot_segments, output_of, run}
-use Rattle.uri_basic.specs.Target.{basic_resolution_of_texts, PathStartsWithDoubleSlash}
+use Rattle.uri_basic.proofs.Common.{◌≡◌, ℕ, List, refl, Ok, Err, rules, codes, components, directory, NothingDeviates, remove_dot_segments, output_of, run, basic_resolution_of_texts, PathStartsWithDoubleSlash}
 
 -- examples of targets: the reference resolves to the target against the base of section 5.4
 IsTargetOf : List ℕ → List ℕ → Type 0
@@ -13,13 +7,11 @@ IsTargetOf reference target =
     basic_resolution_of_texts (codes "http://a/b/c/d;p?q") reference ≡ Ok target
 
 -- examples of targets: the normal examples (section 5.4.1)
-normal-examples :
-    IsTargetOf (codes "g:h") (codes "g:h")
+normal-examples : IsTargetOf (codes "g:h") (codes "g:h")
     × IsTargetOf (codes "g") (codes "http://a/b/c/g")
     × IsTargetOf (codes "./g") (codes "http://a/b/c/g")
     × IsTargetOf (codes "g/") (codes "http://a/b/c/g/")
-    × IsTargetOf (codes "/g") (codes "http://a/g")
-    × IsTargetOf (codes "//g") (codes "http://g")
+    × IsTargetOf (codes "/g") (codes "http://a/g") × IsTargetOf (codes "//g") (codes "http://g")
     × IsTargetOf (codes "?y") (codes "http://a/b/c/d;p?y")
     × IsTargetOf (codes "g?y") (codes "http://a/b/c/g?y")
     × IsTargetOf (codes "#s") (codes "http://a/b/c/d;p?q#s")
@@ -31,8 +23,7 @@ normal-examples :
     × IsTargetOf (codes "") (codes "http://a/b/c/d;p?q")
     × IsTargetOf (codes ".") (codes "http://a/b/c/")
     × IsTargetOf (codes "./") (codes "http://a/b/c/")
-    × IsTargetOf (codes "..") (codes "http://a/b/")
-    × IsTargetOf (codes "../") (codes "http://a/b/")
+    × IsTargetOf (codes "..") (codes "http://a/b/") × IsTargetOf (codes "../") (codes "http://a/b/")
     × IsTargetOf (codes "../g") (codes "http://a/b/g")
     × IsTargetOf (codes "../..") (codes "http://a/")
     × IsTargetOf (codes "../../") (codes "http://a/")
@@ -41,8 +32,7 @@ unfolding IsTargetOf remove_dot_segments output_of run
 normal-examples = search rules
 
 -- examples of targets: the abnormal examples, for strict parsers (section 5.4.2)
-abnormal-examples :
-    IsTargetOf (codes "../../../g") (codes "http://a/g")
+abnormal-examples : IsTargetOf (codes "../../../g") (codes "http://a/g")
     × IsTargetOf (codes "../../../../g") (codes "http://a/g")
     × IsTargetOf (codes "/./g") (codes "http://a/g")
     × IsTargetOf (codes "/../g") (codes "http://a/g")
@@ -65,8 +55,7 @@ unfolding IsTargetOf remove_dot_segments output_of run
 abnormal-examples = search rules
 
 -- examples of targets: the two paths of section 5.2.4
-removals :
-    (remove_dot_segments (codes "/a/b/c/./../../g") ≡ codes "/a/g")
+removals : (remove_dot_segments (codes "/a/b/c/./../../g") ≡ codes "/a/g")
     × (remove_dot_segments (codes "mid/content=5/../6") ≡ codes "mid/6")
 unfolding remove_dot_segments output_of run
 removals = (refl, refl)
@@ -76,8 +65,7 @@ removals = (refl, refl)
 IsBasicTarget : List ℕ → List ℕ → List ℕ → Type 0
 IsBasicTarget base reference target = basic_resolution_of_texts base reference ≡ Ok target
 
-deviating-examples :
-    IsBasicTarget (codes "foo:bar") (codes "g") (codes "foo:g")
+deviating-examples : IsBasicTarget (codes "foo:bar") (codes "g") (codes "foo:g")
     × IsBasicTarget (codes "http://a/b") (codes "%2E%2E/g") (codes "http://a/%2E%2E/g")
     × IsBasicTarget (codes "http://a/b/..") (codes "g") (codes "http://a/b/g")
     × IsBasicTarget (codes "http://a/./b") (codes "?q") (codes "http://a/./b?q")

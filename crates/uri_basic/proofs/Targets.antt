@@ -1,28 +1,13 @@
 -- The text of a target has the components that were put into it, and is of its base's kind.
-use Rattle.std.proofs.Common.{◌≡◌, ℕ, ◌<◌, List, [], ◌∷◌, ◌++◌, refl, sym, ap, ◌∙◌, ◌&&◌, ◌↔◌, inr, Bool, true, false, cond, length, subst, ⊎_elim, rules, append_assoc}
-use Rattle.std.specs.Prelude.{codes, Option, Some, None, Ok, Err, IfSome, IfNone, is_some, is_none}
-use Rattle.std.specs.Str.{IsUtf8}
-use Rattle.std.specs.List.{list_all}
-use Rattle.std.proofs.lemmas.Bool.{cond_both, cond-false, cond-true, cases_Bool, false≢true, and_from, and_parts, or_left, or_right}
+use Rattle.uri_basic.proofs.Common.{◌≡◌, ℕ, ◌<◌, List, [], ◌∷◌, ◌++◌, refl, sym, ap, ◌∙◌, ◌&&◌, ◌↔◌, inr, Bool, true, false, cond, length, subst, ⊎_elim, rules, append_assoc, codes, Option, Some, None, Ok, Err, IfSome, IfNone, is_some, is_none, IsUtf8, list_all, cond_both, cond-false, cond-true, cases_Bool, false≢true, and_from, and_parts, or_left, or_right, is_one_of, Components, IsSplitOf, Lacks, IsAbemptyPath, components, has_authority, recompose, starts, IsOfKind, IsTextOf, Kind, components-are-split-of-text, equal-to-true-is-IsTrue, IsAbsolute, before_last_slash, has_slash, is_empty, last_segment, up_to_last_slash, lacked-delimiters-fail-test, test-of-delimiters-gives-lacks, before_last_slash-passes-test, text-of-kind-has-needed-scheme, appended-absolute-path-is-absolute, option-that-is-some-has-no-none, authority-property-implies-other-if-some, eq_true_from_IsTrue, output_of, remove_dot_segments, run, basic_resolution_of_texts, is_ambiguous, merge, target, PathStartsWithDoubleSlash}
 use Rattle.std.proofs.lemmas.List.Elements.{All-append}
-use Rattle.uri_pct.specs.Sets.{is_one_of}
-use Rattle.uri_parts.specs.Components.{Components, IsSplitOf, Lacks, IsAbemptyPath, components, has_authority, recompose, starts}
-use Rattle.uri_parts.specs.Grammar.{IsOfKind, IsTextOf, Kind}
-use Rattle.uri_parts.proofs.Splitting.Recompose.{components-are-split-of-text, equal-to-true-is-IsTrue}
 use Rattle.uri_parts.proofs.Splitting.Splits.{only-split-is-components}
 use Rattle.uri_ops.specs.ComponentSets.{HasComponentSets}
-use Rattle.uri_ops.specs.Dots.{IsAbsolute, before_last_slash, has_slash, is_empty, last_segment, up_to_last_slash}
 use Rattle.uri_ops.specs.NormalTargets.{reference_kind}
 use Rattle.uri_ops.proofs.Meanings.AllowedParts.{empty-text-is-set-text, is_set_text}
 use Rattle.uri_ops.proofs.Meanings.TextParts.{ArePartsOfKind, components-of-kind-meet-grammar}
 use Rattle.uri_ops.proofs.Normal.NormalTexts.{recomposed-components-are-utf8, text-has-parts-of-kind}
 use Rattle.uri_ops.proofs.Paths.DecodedPaths.{set-text-splits, set-texts-join-at-slash}
-use Rattle.uri_ops.proofs.Paths.PathCharacters.{lacked-delimiters-fail-test, test-of-delimiters-gives-lacks, before_last_slash-passes-test}
-use Rattle.uri_ops.proofs.Targeting.Swaps.{text-of-kind-has-needed-scheme}
-use Rattle.uri_ops.proofs.Targeting.Targets.{appended-absolute-path-is-absolute, option-that-is-some-has-no-none, authority-property-implies-other-if-some}
-use Rattle.uri_pct.proofs.General.{eq_true_from_IsTrue}
-use Rattle.uri_basic.specs.Removal.{output_of, remove_dot_segments, run}
-use Rattle.uri_basic.specs.Target.{basic_resolution_of_texts, is_ambiguous, merge, target, PathStartsWithDoubleSlash}
 use Rattle.uri_basic.proofs.Kept.{bytes-of-append-pass, removal-adds-no-delimiter, removal-keeps-absolute, removal-keeps-set-text, text-is-cut-at-last-slash}
 
 -- targets: components with a scheme are split off again when their text is parsed, unless the path
@@ -54,10 +39,8 @@ up-to-last-slash-is-absolute (c ∷ rest) h =
 -- targets: the merged path after an authority begins with `/`
 merged-path-is-absolute : (base : Components) (path : List ℕ) → is_some base.authority ≡ true
     → IsAbemptyPath base.path → IsAbsolute (merge base path)
-merged-path-is-absolute base path some h = ⊎_elim
-    (search (rules, cond-true, and_from))
-    (search (rules, cond_both, appended-absolute-path-is-absolute, up-to-last-slash-is-absolute))
-    h
+merged-path-is-absolute base path some h = ⊎_elim (search (rules, cond-true, and_from))
+    (search (rules, cond_both, appended-absolute-path-is-absolute, up-to-last-slash-is-absolute)) h
 
 -- paths: the bytes up to the last `/` pass a test that `/` (47) and all pass
 bytes-up-to-last-slash-pass : (p : ℕ → Bool) → p 47 ≡ true → (path : List ℕ)
@@ -68,9 +51,8 @@ bytes-up-to-last-slash-pass p slash path e =
 -- targets: the merged path has no delimiter that neither path has
 merge-adds-no-delimiter : (base : Components) (path : List ℕ) → Lacks (codes "?#") base.path
     → Lacks (codes "?#") path → Lacks (codes "?#") (merge base path)
-merge-adds-no-delimiter base path h k =
-    cond_both (is_some base.authority && is_empty base.path) (codes "/" ++ path)
-    (up_to_last_slash base.path ++ path) (Lacks (codes "?#"))
+merge-adds-no-delimiter base path h k = cond_both (is_some base.authority && is_empty base.path)
+    (codes "/" ++ path) (up_to_last_slash base.path ++ path) (Lacks (codes "?#"))
     (λ _. All-append (λ c. is_one_of (codes "?#") c ≡ false) (codes "/") path
     (test-of-delimiters-gives-lacks (codes "?#") (codes "/") refl) k)
     (λ _. All-append (λ c. is_one_of (codes "?#") c ≡ false) (up_to_last_slash base.path) path
@@ -168,9 +150,8 @@ module _ (kind : Kind) (sets : HasComponentSets kind) where
   merged-path-is-set-text : (base : Components) (path : List ℕ)
       → is_set_text kind.path base.path ≡ true → is_set_text kind.path path ≡ true
       → is_set_text kind.path (merge base path) ≡ true
-  merged-path-is-set-text base path e f =
-      cond_both (is_some base.authority && is_empty base.path) (codes "/" ++ path)
-      (up_to_last_slash base.path ++ path) (λ t. is_set_text kind.path t ≡ true)
+  merged-path-is-set-text base path e f = cond_both (is_some base.authority && is_empty base.path)
+      (codes "/" ++ path) (up_to_last_slash base.path ++ path) (λ t. is_set_text kind.path t ≡ true)
       (λ _. set-texts-join-at-slash kind.path sets.slash [] path
       (empty-text-is-set-text kind.path) f)
       (λ _. ⊎_elim
@@ -187,8 +168,7 @@ module _ (kind : Kind) (sets : HasComponentSets kind) where
   target-has-parts-of-kind : (base r : Components) → is_some base.scheme ≡ true
       → ArePartsOfKind kind base → ArePartsOfKind (reference_kind kind) r
       → ArePartsOfKind kind (target base r)
-  target-has-parts-of-kind base r some b p =
-      cond_both (is_some r.scheme) _ _ (ArePartsOfKind kind)
+  target-has-parts-of-kind base r some b p = cond_both (is_some r.scheme) _ _ (ArePartsOfKind kind)
       (λ h. record {
         scheme = p.scheme;
         authority = p.authority;
@@ -262,9 +242,8 @@ result-by-test false text other e = (refl, cc)
 -- code holds of the base and of the reference, in two steps
 pub basic-result-is-of-kind : (kind of_reference : Kind) → HasComponentSets kind
     → kind.needs_scheme ≡ true → of_reference ≡ reference_kind kind
-    → (b r held_base held_reference base reference : List ℕ)
-    → b ≡ held_base → r ≡ held_reference → held_base ≡ base → held_reference ≡ reference
-    → IsUtf8 held_base → IsUtf8 held_reference
+    → (b r held_base held_reference base reference : List ℕ) → b ≡ held_base → r ≡ held_reference
+    → held_base ≡ base → held_reference ≡ reference → IsUtf8 held_base → IsUtf8 held_reference
     → IsOfKind kind base → IsOfKind of_reference reference → (text : List ℕ)
     → basic_resolution_of_texts b r ≡ Ok text → IsTextOf kind text
 basic-result-is-of-kind kind of_reference sets needs tables b r held_base held_reference base

@@ -1,11 +1,6 @@
 -- What a writer holds after texts of which the last may not be whole.
-use Rattle.std.proofs.Common.{◌≡◌, ◌+◌, ◌<◌, ◌≤◌, ◌++◌, ℕ, Bool, true, false, List, [], refl, ap, sym, ◌∙◌, subst, length, Option, Some, None, arith, take, take_all, ltb-true, ltb-false}
-use Rattle.std.specs.Prelude.{nat_lt, OnOk, Result, Ok, Err}
-use Rattle.std.proofs.lemmas.List.{take-append-le}
+use Rattle.uri_commands.proofs.Common.{◌≡◌, ◌+◌, ◌<◌, ◌≤◌, ◌++◌, ℕ, Bool, true, false, List, [], refl, ap, sym, ◌∙◌, subst, length, Option, Some, None, arith, take, take_all, ltb-true, ltb-false, nat_lt, OnOk, Result, Ok, Err, take-append-le, Appends, Keeps, Appends-kept, Appends-nil, Appends-trans, AppendsPrefix}
 use Rattle.std.proofs.Math.Seq.{take-append-add}
-use Rattle.std.specs.Io.KnownBytes.{Appends, Keeps}
-use Rattle.std.proofs.KnownBytes.{Appends-kept, Appends-nil, Appends-trans}
-use Rattle.uri_commands.specs.Prefixes.{AppendsPrefix}
 use Rattle.uri_commands.proofs.Prefixes.{AppendsPrefix-of-appended-then-kept, AppendsPrefix-of-appended}
 
 -- writers: a prefix of a text is one of a longer text; a, b: what is held before and
@@ -43,8 +38,7 @@ AppendsPrefix-of-kept a b text kept = AppendsPrefix-of-appended-then-kept a a b 
 -- writers: a write after a failure that kept what was held leaves a prefix appended;
 -- a, b, c: what is held
 pub AppendsPrefix-after-Keeps : (a b c : Option (List ℕ)) (text : List ℕ) → Keeps a b
-    → AppendsPrefix b c text
-    → AppendsPrefix a c text
+    → AppendsPrefix b c text → AppendsPrefix a c text
 AppendsPrefix-after-Keeps None b c text k p = (0, tt)
 AppendsPrefix-after-Keeps (Some xs) None c text k p = absurd k
 AppendsPrefix-after-Keeps (Some xs) (Some ys) None text k p = absurd p.1

@@ -1,8 +1,6 @@
 -- What an interrupted call of a writer says.
-use Rattle.std.proofs.Common.{Option, Some, None}
-use Rattle.std.specs.Prelude.{Ok, Err, IfSome}
+use Rattle.uri_commands.proofs.Common.{Option, Some, None, Ok, Err, IfSome, Call, Flushed, IsFailedFlush, IsFailedWrite, IsInterruptedFlush, IsInterruptedWrite, Wrote}
 use Rattle.std.specs.declared.io.Error.{Error}
-use Rattle.uri_commands.specs.Sinks.{Call, Flushed, IsFailedFlush, IsFailedWrite, IsInterruptedFlush, IsInterruptedWrite, Wrote}
 
 -- writers: after a write that was interrupted too often any error may be kept
 pub any-error-after-interrupted-write : (kept : Option Error) (last : Option Call)

@@ -1,18 +1,13 @@
 -- Which command the words make.
-use Rattle.std.proofs.Common.{◌≡◌, ◌≤◌, ◌<◌, ◌-◌, take, ℕ, eqb, List, [], ◌∷◌, drop, length, get_or, String, string_bytes, refl, sym, ap, ◌∙◌, arith, inl, inr}
-use Rattle.std.proofs.lemmas.List.{length-drop, take_all}
-use Rattle.std.specs.Prelude.{if◌then◌else◌, Option, Some, None, MatchOption, codes}
+use Rattle.uri_commands.proofs.Common.{◌≡◌, ◌≤◌, ◌<◌, ◌-◌, take, ℕ, eqb, List, [], ◌∷◌, drop, length, get_or, String, string_bytes, refl, sym, ap, ◌∙◌, arith, inl, inr, length-drop, take_all, if◌then◌else◌, Option, Some, None, MatchOption, codes, KindName, Command, Parse, Normalize, Mend, Resolve, Links, output_of, texts, words_of, AreWordsOfLinks, AreWordsOfResolve, AreWordsOfTextCommand, AreWordsOfRuledLinks, AreWordsOfRuledNormalize, IsCommand}
 use Rattle.fluent_uri.specs.declared.normalize.RuleSet.TheVariants as Set
 use Rattle.uri_commands.specs.declared.command.BaseName.{BaseName}
 use Rattle.uri_commands.specs.declared.command.BaseName.TheVariants as bases
-use Rattle.uri_commands.specs.declared.kinds.KindName.{KindName}
 use Rattle.uri_commands.specs.declared.kinds.KindName.TheVariants.{Uri, UriRef, Iri, IriRef}
-use Rattle.uri_commands.specs.Commands.{Command, Parse, Normalize, Mend, Resolve, Links, output_of, texts, words_of, AreWordsOfLinks, AreWordsOfResolve, AreWordsOfTextCommand, AreWordsOfRuledLinks, AreWordsOfRuledNormalize, IsCommand}
 
 -- commands: the first three words are those that were taken, and the rest follows
 bytes-of-three-and-rest : {Z : Type 0} (words : List (String Z)) (a b c : String Z)
-    → 3 ≤ length words
-    → a ≡ get_or words 0 a → b ≡ get_or words 1 b → c ≡ get_or words 2 c
+    → 3 ≤ length words → a ≡ get_or words 0 a → b ≡ get_or words 1 b → c ≡ get_or words 2 c
     → texts words ≡ string_bytes a ∷ string_bytes b ∷ string_bytes c ∷ texts (drop 3 words)
 bytes-of-three-and-rest [] a b c least x y z = absurd (omega arith)
 bytes-of-three-and-rest (u ∷ []) a b c least x y z = absurd (omega arith)
@@ -21,10 +16,8 @@ bytes-of-three-and-rest (u ∷ v ∷ w ∷ rest) a b c least x y z = cc
 
 -- commands: the bytes of three words of a command line and of those after them
 pub bytes-of-three-and-others : {Z : Type 0} (words : List (String Z)) (a b c : String Z)
-    → 3 ≤ length words
-    → a ≡ get_or words 0 a → b ≡ get_or words 1 b → c ≡ get_or words 2 c
-    → texts words
-    ≡ string_bytes a ∷ string_bytes b ∷ string_bytes c
+    → 3 ≤ length words → a ≡ get_or words 0 a → b ≡ get_or words 1 b → c ≡ get_or words 2 c
+    → texts words ≡ string_bytes a ∷ string_bytes b ∷ string_bytes c
     ∷ texts (take (length words - 3) (drop 3 words))
 bytes-of-three-and-others words a b c least x y z =
     let rest : take (length words - 3) (drop 3 words) ≡ drop 3 words =
@@ -34,11 +27,9 @@ bytes-of-three-and-others words a b c least x y z =
 
 -- commands: the bytes of four words of a command line and of those after them
 pub bytes-of-four-and-others : {Z : Type 0} (words : List (String Z)) (a b c d : String Z)
-    → 4 ≤ length words
-    → a ≡ get_or words 0 a → b ≡ get_or words 1 b → c ≡ get_or words 2 c → d ≡ get_or words 3 d
-    → texts words
-    ≡ string_bytes a ∷ string_bytes b ∷ string_bytes c ∷ string_bytes d
-    ∷ texts (take (length words - 4) (drop 4 words))
+    → 4 ≤ length words → a ≡ get_or words 0 a → b ≡ get_or words 1 b → c ≡ get_or words 2 c
+    → d ≡ get_or words 3 d → texts words ≡ string_bytes a ∷ string_bytes b ∷ string_bytes c
+    ∷ string_bytes d ∷ texts (take (length words - 4) (drop 4 words))
 bytes-of-four-and-others words a b c d least x y z w =
     let rest : take (length words - 4) (drop 4 words) ≡ drop 4 words =
     take_all (length words - 4) (drop 4 words) (omega (arith, length-drop 4 words)) in
@@ -59,9 +50,8 @@ bytes-of-four-and-others words a b c d least x y z w =
 
 -- commands: the bytes of four words of a command line
 pub bytes-of-four-words : {Z : Type 0} (words : List (String Z)) (a b c d : String Z)
-    → 4 ≤ length words
-    → length words < 5
-    → a ≡ get_or words 0 a → b ≡ get_or words 1 b → c ≡ get_or words 2 c → d ≡ get_or words 3 d
+    → 4 ≤ length words → length words < 5 → a ≡ get_or words 0 a → b ≡ get_or words 1 b
+    → c ≡ get_or words 2 c → d ≡ get_or words 3 d
     → texts words ≡ string_bytes a ∷ string_bytes b ∷ string_bytes c ∷ string_bytes d ∷ []
 bytes-of-four-words [] a b c d least below x y z w = absurd (omega arith)
 bytes-of-four-words (u ∷ []) a b c d least below x y z w = absurd (omega arith)
@@ -87,13 +77,12 @@ command_named words =
     let first = get_or (get_or words 0 []) 0 0 in
     let word = get_or words 1 [] in
     let text = get_or words 2 [] in
-    if eqb first 112 then Parse (kind_named word) text
-    else if eqb first 110 then Normalize Set.DefaultPorts (kind_named word) text
-    else if eqb first 109 then Mend (kind_named word) text
-    else if eqb first 114 then Resolve (base_named word) text (get_or words 3 [])
-    else if eqb first 108 then Links Set.DefaultPorts word text (drop 3 words)
-    else if eqb (get_or word 0 0) 110 then Normalize Set.StandardRules (kind_named text) (get_or words 3 [])
-    else Links Set.StandardRules text (get_or words 3 []) (drop 4 words)
+    if eqb first 112 then Parse (kind_named word) text else if eqb first 110 then Normalize
+    Set.DefaultPorts (kind_named word) text else if eqb first 109 then Mend (kind_named word) text
+    else if eqb first 114 then Resolve (base_named word) text (get_or words 3 []) else if eqb first
+    108 then Links Set.DefaultPorts word text (drop 3 words) else if eqb (get_or word 0 0) 110 then
+    Normalize Set.StandardRules (kind_named text) (get_or words 3 []) else Links Set.StandardRules
+    text (get_or words 3 []) (drop 4 words)
 
 -- commands: the words of a command make that command
 command_named-words_of : (a : Command) → command_named (words_of a) ≡ a
@@ -130,9 +119,8 @@ same-words-same-output a b same = ap output_of (words_of_injective a b same)
 
 -- commands: words of none of the five forms are no command
 words-of-no-form-are-no-command : (words : List (List ℕ)) → ¬ (AreWordsOfTextCommand words)
-    → ¬ (AreWordsOfResolve words) → ¬ (AreWordsOfLinks words)
-    → ¬ (AreWordsOfRuledNormalize words) → ¬ (AreWordsOfRuledLinks words)
-    → (command : Command) → words ≡ words_of command → ⊥
+    → ¬ (AreWordsOfResolve words) → ¬ (AreWordsOfLinks words) → ¬ (AreWordsOfRuledNormalize words)
+    → ¬ (AreWordsOfRuledLinks words) → (command : Command) → words ≡ words_of command → ⊥
 words-of-no-form-are-no-command words t r l n k (Parse name text) is =
     t (codes "parse", name, text, is, inl refl)
 words-of-no-form-are-no-command words t r l n k (Normalize Set.DefaultPorts name text) is =
@@ -152,8 +140,7 @@ words-of-no-form-are-no-command words t r l n k (Links Set.StandardRules base re
 -- a command
 pub last-form-decides : {C : Type 0} (words : List (List ℕ)) (result : Option C) (P : C → Type 0)
     → ¬ (AreWordsOfTextCommand words) → ¬ (AreWordsOfResolve words) → ¬ (AreWordsOfLinks words)
-    → ¬ (AreWordsOfRuledNormalize words)
-    → MatchOption result (¬ (AreWordsOfRuledLinks words)) P
+    → ¬ (AreWordsOfRuledNormalize words) → MatchOption result (¬ (AreWordsOfRuledLinks words)) P
     → MatchOption result (¬ (IsCommand words)) P
 last-form-decides words (Some command) P t r l n h = h
 last-form-decides words None P t r l n h =

@@ -1,11 +1,14 @@
+pub mod Common
 pub mod Commands
 pub mod NormalForms
 pub mod Targets
 pub mod Prefixes
 pub mod Calls
 pub mod Appended
+pub mod WrittenTexts
 pub mod Refusals
 pub mod Outputs
 pub mod LinkLines
 pub mod LinkWords
 pub mod MendedLinks
+pub mod Offered

@@ -1,15 +1,9 @@
 -- The lines of outcomes.
-use Rattle.std.proofs.Common.{◌≡◌, ◌+◌, ◌<◌, ◌++◌, ◌∷◌, ◌∙◌, ℕ, List, [], Option, length, take, get_or, sym, ap, subst, append-nil}
-use Rattle.std.proofs.KnownBytes.{Appends-trans}
-use Rattle.std.proofs.lemmas.List.{take_more}
+use Rattle.uri_commands.proofs.Common.{◌≡◌, ◌+◌, ◌<◌, ◌++◌, ◌∷◌, ◌∙◌, ℕ, List, [], Option, length, take, get_or, sym, ap, subst, append-nil, Appends-trans, take_more, Appends, rules_of_set, RuleSet, link_lines, outcome_line, outcome_lines}
 use Rattle.std.proofs.lemmas.List.Concat.{flat_map-append}
-use Rattle.std.specs.Io.KnownBytes.{Appends}
-use Rattle.fluent_uri.specs.RuleSets.{rules_of_set}
 use Rattle.fluent_uri.specs.SchemeRules.{Rules}
-use Rattle.fluent_uri.specs.declared.normalize.RuleSet.{RuleSet}
 use Rattle.uri_links.specs.Outcomes.{outcomes_of}
 use Rattle.uri_links.specs.declared.links.Outcome.{Outcome}
-use Rattle.uri_commands.specs.Links.{link_lines, outcome_line, outcome_lines}
 
 -- commands: the lines that `links` prints of the outcomes are those that the references define
 pub outcome_lines-are-link_lines : (set : RuleSet) (rules : Rules) (base word : List ℕ)
@@ -26,18 +20,16 @@ outcome_lines-are-link_lines set rules base word none references words outcomes 
 -- commands: after one more line of `links` is written, the lines up to n + 1 are;
 -- a, b, c: what the writer holds
 pub outcome_lines-of-one-more : (registered : List (List ℕ)) (outcomes : List Outcome) (n : ℕ)
-    (outcome : Outcome) (a b c : Option (List ℕ))
-    → n < length outcomes → outcome ≡ get_or outcomes n outcome
-    → Appends a b (outcome_lines registered (take n outcomes))
+    (outcome : Outcome) (a b c : Option (List ℕ)) → n < length outcomes
+    → outcome ≡ get_or outcomes n outcome → Appends a b (outcome_lines registered (take n outcomes))
     → Appends b c (outcome_line registered outcome)
     → Appends a c (outcome_lines registered (take (n + 1) outcomes))
 outcome_lines-of-one-more registered outcomes n outcome a b c h e before now =
     let more : outcome_lines registered (take (n + 1) outcomes)
-    ≡ outcome_lines registered (take n outcomes) ++ outcome_line registered outcome =
-    ap (outcome_lines registered) (take_more outcomes n outcome h)
+    ≡ outcome_lines registered (take n outcomes) ++ outcome_line registered outcome = ap
+    (outcome_lines registered) (take_more outcomes n outcome h)
     ∙ flat_map-append (outcome_line registered) (take n outcomes) (get_or outcomes n outcome ∷ [])
     ∙ ap (λ o. outcome_lines registered (take n outcomes) ++ (outcome_line registered o ++ []))
-    (sym e)
-    ∙ ap (λ l. outcome_lines registered (take n outcomes) ++ l)
+    (sym e) ∙ ap (λ l. outcome_lines registered (take n outcomes) ++ l)
     (append-nil (outcome_line registered outcome)) in
     subst (Appends a c) (sym more) (Appends-trans a b c _ _ before now)

@@ -1,14 +1,6 @@
 -- What a call of `uri_mend` returned is what a link is mended to.
-use Rattle.std.proofs.Common.{◌≡◌, List, Result, sym, subst, true, ℕ}
-use Rattle.std.specs.Prelude.{IfErr, IfOk}
+use Rattle.uri_commands.proofs.Common.{◌≡◌, List, Result, sym, subst, true, ℕ, IfErr, IfOk, Kind, Mend, kind_named, IsErrorOfCommand, IsErrorOfLink, KindName, CommandError, Text, Base, Reference, Target, OutOfMemory, OutputFailed}
 use Rattle.std.proofs.lemmas.Result.{IfErr-weaker, IfOk-weaker}
-use Rattle.fluent_uri.specs.Grammar.{Kind}
-use Rattle.uri_commands.specs.Commands.{Mend}
-use Rattle.uri_commands.specs.Kinds.{kind_named}
-use Rattle.uri_commands.specs.Refusals.{IsErrorOfCommand, IsErrorOfLink}
-use Rattle.uri_commands.specs.declared.kinds.KindName.{KindName}
-use Rattle.uri_commands.specs.declared.refusal.CommandError.{CommandError}
-use Rattle.uri_commands.specs.declared.refusal.CommandError.TheVariants.{Text, Base, Reference, Target, OutOfMemory, OutputFailed}
 use Rattle.uri_mend.specs.Mended.{IsMended}
 use Rattle.uri_mend.specs.Mending.{can_be_mended, mended_text}
 use Rattle.uri_mend.specs.Trimming.{trimmed_link}

@@ -1,22 +1,11 @@
 -- The normal form that `normalize` returns is the one that is printed.
-use Rattle.std.proofs.Common.{◌≡◌, sym, subst, ℕ, List, Result}
-use Rattle.std.specs.Prelude.{IfErr}
+use Rattle.uri_commands.proofs.Common.{◌≡◌, sym, subst, ℕ, List, Result, IfErr, Kind, rules_of_set, RuleSet, Normalize, kind_named, normal_form_of, IsErrorOfCommand, IsErrorOfNormalForm, KindName, CommandError, Text, Base, Reference, Target, OutOfMemory, OutputFailed}
 use Rattle.std.proofs.lemmas.Result.{IfErr-weaker}
-use Rattle.fluent_uri.specs.Grammar.{Kind}
 use Rattle.fluent_uri.specs.Normalizers.{HasNormalText}
-use Rattle.fluent_uri.specs.RuleSets.{rules_of_set}
-use Rattle.fluent_uri.specs.declared.normalize.RuleSet.{RuleSet}
-use Rattle.uri_commands.specs.Commands.{Normalize}
-use Rattle.uri_commands.specs.Kinds.{kind_named, normal_form_of}
-use Rattle.uri_commands.specs.Refusals.{IsErrorOfCommand, IsErrorOfNormalForm}
-use Rattle.uri_commands.specs.declared.kinds.KindName.{KindName}
-use Rattle.uri_commands.specs.declared.refusal.CommandError.{CommandError}
-use Rattle.uri_commands.specs.declared.refusal.CommandError.TheVariants.{Text, Base, Reference, Target, OutOfMemory, OutputFailed}
 
 -- commands: the normal text of a text is the normal form that is written
 pub normal_form_is : (set : RuleSet) (kind : Kind) (text normal : List ℕ)
-    → HasNormalText kind (rules_of_set set) text normal
-    → normal ≡ normal_form_of set kind text
+    → HasNormalText kind (rules_of_set set) text normal → normal ≡ normal_form_of set kind text
 unfolding normal_form_of
 normal_form_is set kind text normal is = is.text
 

@@ -1,29 +1,17 @@
 -- A command that fails since its output cannot be written.
-use Rattle.std.proofs.Common.{◌≡◌, List, ◌∷◌, ◌++◌, ℕ, true, Some, None, Result, codes, ap}
-use Rattle.std.specs.Prelude.{IfErr, if◌then◌else◌}
+use Rattle.uri_commands.proofs.Common.{◌≡◌, List, ◌∷◌, ◌++◌, ℕ, true, Some, None, Result, codes, ap, IfErr, if◌then◌else◌, IsOfKind, uri, uri_ref, RuleSet, Parse, Normalize, Mend, Resolve, Links, are_of_kind, kind_of_base, kind_of_references, target_text, kind_named, normal_form_of, link_lines, IsErrorOfCommand, KindName, CommandError, OutputFailed}
 use Rattle.fluent_uri.specs.Components.{components}
-use Rattle.fluent_uri.specs.Grammar.{IsOfKind, uri, uri_ref}
-use Rattle.fluent_uri.specs.declared.normalize.RuleSet.{RuleSet}
-use Rattle.uri_commands.specs.Commands.{Parse, Normalize, Mend, Resolve, Links, are_of_kind, kind_of_base, kind_of_references, target_text}
-use Rattle.uri_commands.specs.Kinds.{kind_named, normal_form_of}
 use Rattle.uri_commands.specs.Lines.{component_lines}
-use Rattle.uri_commands.specs.Links.{link_lines}
 use Rattle.uri_mend.specs.Mending.{can_be_mended, mended_text}
 use Rattle.uri_mend.specs.Trimming.{trimmed_link}
-use Rattle.uri_commands.specs.Refusals.{IsErrorOfCommand}
 use Rattle.uri_commands.specs.declared.command.BaseName.{BaseName}
-use Rattle.uri_commands.specs.declared.kinds.KindName.{KindName}
-use Rattle.uri_commands.specs.declared.refusal.CommandError.{CommandError}
-use Rattle.uri_commands.specs.declared.refusal.CommandError.TheVariants.{OutputFailed}
 use Rattle.uri_commands.proofs.Refusals.{if_err-of-equal-error}
 
 -- commands: if the output of `parse` cannot be written, that failure is its error,
 -- as the text is of its kind
 pub failed-output-is-error-of-parse : {A : Type 0} (name : KindName) (text : List ℕ)
-    (result : Result A CommandError)
-    → IsOfKind (kind_named name) text
-    → IfErr result (λ why. why ≡ OutputFailed)
-    → IfErr result (IsErrorOfCommand (Parse name text))
+    (result : Result A CommandError) → IsOfKind (kind_named name) text
+    → IfErr result (λ why. why ≡ OutputFailed) → IfErr result (IsErrorOfCommand (Parse name text))
 failed-output-is-error-of-parse name text result is given =
     let lines = component_lines (components text) in
     if_err-of-equal-error (IsErrorOfCommand (Parse name text)) result OutputFailed given
@@ -32,9 +20,7 @@ failed-output-is-error-of-parse name text result is given =
 -- commands: if the output of `normalize` cannot be written, that failure is its error,
 -- as the text is of its kind
 pub failed-output-is-error-of-normalize : {A : Type 0} (set : RuleSet) (name : KindName)
-    (text : List ℕ)
-    (result : Result A CommandError)
-    → IsOfKind (kind_named name) text
+    (text : List ℕ) (result : Result A CommandError) → IsOfKind (kind_named name) text
     → IfErr result (λ why. why ≡ OutputFailed)
     → IfErr result (IsErrorOfCommand (Normalize set name text))
 failed-output-is-error-of-normalize set name text result is given =
@@ -46,10 +32,8 @@ failed-output-is-error-of-normalize set name text result is given =
 -- commands: if the output of `mend` cannot be written, that failure is its error,
 -- as the link was mended
 pub failed-output-is-error-of-mend : {A : Type 0} (name : KindName) (text : List ℕ)
-    (result : Result A CommandError)
-    → can_be_mended (kind_named name) (trimmed_link text) ≡ true
-    → IfErr result (λ why. why ≡ OutputFailed)
-    → IfErr result (IsErrorOfCommand (Mend name text))
+    (result : Result A CommandError) → can_be_mended (kind_named name) (trimmed_link text) ≡ true
+    → IfErr result (λ why. why ≡ OutputFailed) → IfErr result (IsErrorOfCommand (Mend name text))
 failed-output-is-error-of-mend name text result is given =
     let lines = mended_text (kind_named name) (trimmed_link text) ++ codes "\n" in
     if_err-of-equal-error (IsErrorOfCommand (Mend name text)) result OutputFailed given
@@ -58,11 +42,9 @@ failed-output-is-error-of-mend name text result is given =
 -- commands: if the output of `resolve` cannot be written, that failure is its error, as the texts
 -- are of their kinds and have a target
 pub failed-output-is-error-of-resolve : {A : Type 0} (name : BaseName)
-    (base reference target : List ℕ)
-    (result : Result A CommandError)
+    (base reference target : List ℕ) (result : Result A CommandError)
     → IsOfKind (kind_of_base name) base → IsOfKind (kind_of_references name) reference
-    → target_text base reference ≡ Some target
-    → IfErr result (λ why. why ≡ OutputFailed)
+    → target_text base reference ≡ Some target → IfErr result (λ why. why ≡ OutputFailed)
     → IfErr result (IsErrorOfCommand (Resolve name base reference))
 failed-output-is-error-of-resolve name base reference target result b r t given =
     if_err-of-equal-error (IsErrorOfCommand (Resolve name base reference)) result OutputFailed given
@@ -71,10 +53,8 @@ failed-output-is-error-of-resolve name base reference target result b r t given 
 -- commands: if the output of `links` cannot be written, that failure is its error,
 -- as the texts are of their kinds
 pub failed-output-is-error-of-links : {A : Type 0} (set : RuleSet) (base reference : List ℕ)
-    (others : List (List ℕ))
-    (result : Result A CommandError)
-    → IsOfKind uri base → are_of_kind uri_ref (reference ∷ others) ≡ true
-    → IfErr result (λ why. why ≡ OutputFailed)
+    (others : List (List ℕ)) (result : Result A CommandError) → IsOfKind uri base
+    → are_of_kind uri_ref (reference ∷ others) ≡ true → IfErr result (λ why. why ≡ OutputFailed)
     → IfErr result (IsErrorOfCommand (Links set base reference others))
 failed-output-is-error-of-links set base reference others result b r given =
     let command = Links set base reference others in

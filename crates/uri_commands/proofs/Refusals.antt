@@ -1,12 +1,8 @@
 -- The error that is returned for a text that is not of its kind.
-use Rattle.std.proofs.Common.{◌≡◌, ◌↔◌, ◌++◌, List, ℕ, Result, Ok, Err, Some, sym, ap, ◌∙◌, append_assoc, codes, subst}
-use Rattle.std.specs.Prelude.{IsOk, IfErr, MatchResult, is_ok}
+use Rattle.uri_commands.proofs.Common.{◌≡◌, ◌↔◌, ◌++◌, List, ℕ, Result, Ok, Err, Some, sym, ap, ◌∙◌, append_assoc, codes, subst, IsOk, IfErr, MatchResult, is_ok, Kind, IsOfKind, IsErrorOf, command_error_text, error_line, CommandError}
 use Rattle.std.specs.Result.{IsErrAnd}
-use Rattle.fluent_uri.specs.Grammar.{Kind, IsOfKind}
 use Rattle.fluent_uri.specs.Refusals.{refusal}
 use Rattle.fluent_uri.specs.declared.ParseError.{ParseError}
-use Rattle.uri_commands.specs.Refusals.{IsErrorOf, command_error_text, error_line}
-use Rattle.uri_commands.specs.declared.refusal.CommandError.{CommandError}
 use Rattle.fluent_uri.proofs.Outcomes.{IfErr-of-only-error}
 
 -- general fact on errors: what holds of e holds of an error that can only be e;
@@ -20,19 +16,15 @@ if_err-of-equal-error P (Err x) e is p = subst P (sym is) p
 -- `named` what the words name
 pub parse-error-is-of-text : {A B : Type 0} (P : B → Type 0) (shown : ParseError → B)
     (named kind : Kind) (text : List ℕ) (result : Result A B) (e : ParseError)
-    → ((x : ParseError) → IsErrorOf named text x → P (shown x))
-    → named ≡ kind → refusal kind text ≡ Some e
-    → IsErrAnd result (λ x. x ≡ shown e) → IfErr result P
-parse-error-is-of-text P shown named kind text result e is same error given =
-    IfErr-of-only-error P result (shown e) given
-    (is e (subst (λ k. IsErrorOf k text e) (sym same) error))
+    → ((x : ParseError) → IsErrorOf named text x → P (shown x)) → named ≡ kind
+    → refusal kind text ≡ Some e → IsErrAnd result (λ x. x ≡ shown e) → IfErr result P
+parse-error-is-of-text P shown named kind text result e is same error given = IfErr-of-only-error P
+    result (shown e) given (is e (subst (λ k. IsErrorOf k text e) (sym same) error))
 
 -- commands: the error of a text that map_err made of a parse error is the one that is returned
 pub mapped-parse-error-is-of-text : {A B C : Type 0} (P : B → Type 0) (shown : ParseError → B)
-    (kind : Kind)
-    (text : List ℕ) (parsed : Result A ParseError) (mapped : Result A B) (result : Result C B)
-    (why : B)
-    → ((e : ParseError) → IsErrorOf kind text e → P (shown e))
+    (kind : Kind) (text : List ℕ) (parsed : Result A ParseError) (mapped : Result A B)
+    (result : Result C B) (why : B) → ((e : ParseError) → IsErrorOf kind text e → P (shown e))
     → IfErr parsed (λ e. refusal kind text ≡ Some e)
     → MatchResult parsed (λ x. mapped ≡ Ok x) (λ e. IsErrAnd mapped (λ y. y ≡ shown e))
     → mapped ≡ Err why → IsErrAnd result (λ y. y ≡ why) → IfErr result P
@@ -40,14 +32,12 @@ mapped-parse-error-is-of-text P shown kind text (Ok x) mapped result why is erro
     cc (sym cases ∙ was)
 mapped-parse-error-is-of-text P shown kind text (Err e) mapped result why is error cases was given =
     let same : why ≡ shown e = subst (λ m. IsErrAnd m (λ y. y ≡ shown e)) was cases in
-    IfErr-of-only-error P result why given
-    (subst P (sym same) (is e error))
+    IfErr-of-only-error P result why given (subst P (sym same) (is e error))
 
 -- commands: a text that was parsed, and its value mapped, is of its kind
 pub mapped-ok-is-of-kind : {A B E : Type 0} (kind : Kind) (text : List ℕ) (parsed : Result A E)
-    (mapped : Result A B) (value : A)
-    → (IsOk parsed ↔ IsOfKind kind text) → is_ok mapped ≡ is_ok parsed → mapped ≡ Ok value
-    → IsOfKind kind text
+    (mapped : Result A B) (value : A) → (IsOk parsed ↔ IsOfKind kind text)
+    → is_ok mapped ≡ is_ok parsed → mapped ≡ Ok value → IsOfKind kind text
 mapped-ok-is-of-kind kind text parsed mapped value accepts variant was =
     accepts.0 (sym variant ∙ ap is_ok was)
 

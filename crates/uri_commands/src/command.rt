@@ -9,6 +9,7 @@ ghost use Rattle.uri_commands.specs.Asked.{contract_command};
 ghost use Rattle.uri_commands.specs.Kinds.{word_of_kind};
 
 use crate::kinds::{KindName, kind_named};
+use crate::table::{LINKS, MEND, NORMALIZE, PARSE, RESOLVE};
 use fluent_uri::normalize::RuleSet;
 
 /// A kind of base, by its name on the command line.
@@ -78,9 +79,11 @@ fn text_command<'a>(name: &str, kind: KindName, text: &'a str) -> Option<Command
         (λ c. name.now ∷ word_of_kind kind ∷ text.now ∷ [] ≡ words_of (contract_command c)) }
 {
     match name {
-        "parse" => Some(Command::Parse(kind, text)),
-        "normalize" => Some(Command::Normalize(kind, text, RuleSet::DefaultPorts)),
-        "mend" => Some(Command::Mend(kind, text)),
+        _ if name == PARSE.name => Some(Command::Parse(kind, text)),
+        _ if name == NORMALIZE.name => {
+            Some(Command::Normalize(kind, text, RuleSet::DefaultPorts))
+        }
+        _ if name == MEND.name => Some(Command::Mend(kind, text)),
         _ => None,
     }
 }
@@ -91,7 +94,7 @@ fn resolve_from_words(words: &[String]) -> Option<Command<'_>>
         (λ c. texts words.now ≡ words_of (contract_command c)) }
 {
     match words {
-        [command, kind, base, reference] if command.as_str() == "resolve" => {
+        [command, kind, base, reference] if command.as_str() == RESOLVE.name => {
             let kind = base_named(kind.as_str())?;
             Some(Command::Resolve(kind, base.as_str(), reference.as_str()))
         }
@@ -105,7 +108,7 @@ fn links_from_words(words: &[String]) -> Option<Command<'_>>
         (λ c. texts words.now ≡ words_of (contract_command c)) }
 {
     match words {
-        [command, base, reference, others @ ..] if command.as_str() == "links" => {
+        [command, base, reference, others @ ..] if command.as_str() == LINKS.name => {
             let rules = RuleSet::DefaultPorts;
             Some(Command::Links(base.as_str(), reference.as_str(), others, rules))
         }
@@ -120,7 +123,7 @@ fn ruled_normalize_from_words(words: &[String]) -> Option<Command<'_>>
 {
     match words {
         [option, command, kind, text]
-            if option.as_str() == "--scheme-rules" && command.as_str() == "normalize" => {
+            if option.as_str() == "--scheme-rules" && command.as_str() == NORMALIZE.name => {
             let kind = kind_named(kind.as_str())?;
             Some(Command::Normalize(kind, text.as_str(), RuleSet::StandardRules))
         }
@@ -135,7 +138,7 @@ fn ruled_links_from_words(words: &[String]) -> Option<Command<'_>>
 {
     match words {
         [option, command, base, reference, others @ ..]
-            if option.as_str() == "--scheme-rules" && command.as_str() == "links" => {
+            if option.as_str() == "--scheme-rules" && command.as_str() == LINKS.name => {
             let rules = RuleSet::StandardRules;
             Some(Command::Links(base.as_str(), reference.as_str(), others, rules))
         }

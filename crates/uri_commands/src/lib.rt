@@ -10,5 +10,6 @@ pub mod normal;
 pub mod refusal;
 pub mod run;
 pub mod sink;
+pub mod table;
 mod target;
 mod usage;

@@ -256,7 +256,7 @@ fn write_rest<W: Traced>(writer: &mut W, first: io::Result<usize>, bytes: &[u8])
     ensures cause { IfSome (W.last_call writer.old) (λ call. call ≡ Wrote first)
         → IfErr result (λ error. IfSome (W.last_call writer.new) (IsFailedWrite (Some error))) }
 {
-    let taken = settled(first, bytes)?;
+    let taken = bytes_taken(first, bytes)?;
     write_whole(writer, &bytes[taken..])
 }
 
@@ -271,7 +271,7 @@ fn write_retrying<W: Traced>(writer: &mut W, bytes: &[u8]) -> io::Result<usize>
 {
     for tries in 0..u64::MAX {
         let outcome = writer.write_some(bytes);
-        let taken = settled(outcome, bytes)?;
+        let taken = bytes_taken(outcome, bytes)?;
         if taken > 0 {
             return Ok(taken);
         }
@@ -282,7 +282,7 @@ fn write_retrying<W: Traced>(writer: &mut W, bytes: &[u8]) -> io::Result<usize>
 /// Returns how many bytes a write took, from what it returned: 0 if it was interrupted.
 ///
 /// To take none without an interruption is the error `WriteZero`.
-fn settled(outcome: io::Result<usize>, bytes: &[u8]) -> io::Result<usize>
+fn bytes_taken(outcome: io::Result<usize>, bytes: &[u8]) -> io::Result<usize>
     requires { WritesAtMost outcome bytes.now }
     ensures bound { WritesAtMost result bytes.now }
     ensures bytes { (held : Option (List ℕ)) → (held_new : Option (List ℕ))

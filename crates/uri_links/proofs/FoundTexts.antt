@@ -1,15 +1,9 @@
 -- Which texts a search tree finds after one more was added.
-use Rattle.std.proofs.Common.{◌≡◌, ◌+◌, ◌<◌, ◌≤◌, ◌++◌, ◌∷◌, ℕ, zero, suc, Bool, true, false, List, [], length, get_or, nat_eq, ap, arith, refl, sym, ◌∙◌, length-append, add-one, subst, Option, Some, None, true≢false, position, bytes_eq}
+use Rattle.uri_links.proofs.Common.{◌≡◌, ◌+◌, ◌<◌, ◌≤◌, ◌++◌, ◌∷◌, ℕ, zero, suc, Bool, true, false, List, [], length, get_or, nat_eq, ap, arith, refl, sym, ◌∙◌, length-append, add-one, subst, Option, Some, None, true≢false, position, bytes_eq, nat_tests, get_or_append_left, position-Some, any_passes_from_place, child, descends_right, next_node, node_at, search_from, search, ChildrenFollow, with_node_added, leaf, FindsEach, hash_of, IsSearchTree, found_id, Node}
 use Rattle.std.proofs.Math.Seq.{get_or-append_seam}
-use Rattle.std.proofs.lemmas.Bool.Decides.{nat_tests}
-use Rattle.std.proofs.lemmas.List.{get_or_append_left}
 use Rattle.std.proofs.lemmas.Slice.Eq.{bytes_eq-Decides}
-use Rattle.std.proofs.lemmas.List.Quantifiers.{position-Some}
-use Rattle.std.proofs.lemmas.Map.Keys.{any_passes_from_place}
 use Rattle.std.proofs.lemmas.Option.{slice_get-get_or}
 use Rattle.uri_links.proofs.Places.{position-None-no-element-passes}
-use Rattle.uri_links.specs.SearchTrees.{child, descends_right, next_node, node_at, search_from, search, ChildrenFollow, with_node_added, leaf, FindsEach, hash_of, IsSearchTree, found_id}
-use Rattle.uri_links.specs.declared.search_tree.Node.{Node}
 use Rattle.uri_links.specs.declared.search_tree.SearchEnd.{SearchEnd}
 use Rattle.uri_links.specs.declared.search_tree.SearchEnd.TheVariants.{Found, Missing}
 use Rattle.uri_links.proofs.Searches.{search_from-found-here, search_from-ends-here, search_from-descends, found-text-is-equal, as-many-nodes-as-texts, found-index-in-range, next-node-in-range}
@@ -24,17 +18,16 @@ module _ (nodes : List Node) (texts : List (List ℕ)) (text : List ℕ)
       → (parent < length nodes) × (child (node_at nodes parent) right ≡ 0)
   unfolding search_from
   search-ends-at-free-side zero id depth parent right l m e = absurd (omega arith)
-  search-ends-at-free-side (suc steps) id depth parent right l m e =
-      grind (
-        arith,
-        nat_tests,
-        search_from-found-here,
-        search_from-ends-here,
-        position-None-no-element-passes,
-        next-node-in-range,
-        search_from-descends,
-        search-ends-at-free-side steps (next_node nodes text id depth) (depth + 1) parent right,
-      )
+  search-ends-at-free-side (suc steps) id depth parent right l m e = grind (
+    arith,
+    nat_tests,
+    search_from-found-here,
+    search_from-ends-here,
+    position-None-no-element-passes,
+    next-node-in-range,
+    search_from-descends,
+    search-ends-at-free-side steps (next_node nodes text id depth) (depth + 1) parent right,
+  )
 
 module _ (nodes : List Node) (hash parent : ℕ) (right : Bool) (texts : List (List ℕ))
     (text : List ℕ) (many : length nodes ≡ length texts) (follow : ChildrenFollow nodes)
@@ -57,18 +50,17 @@ module _ (nodes : List Node) (hash parent : ℕ) (right : Bool) (texts : List (L
       → search_from (suc steps) after texts_after other id depth ≡ Found at
   unfolding search_from
   found-texts-stay-found other zero id depth at l e = absurd (cc)
-  found-texts-stay-found other (suc steps) id depth at l e =
-      grind (
-        arith,
-        nat_tests,
-        search_from-found-here,
-        old-text-at-index,
-        search_from-ends-here,
-        other-children-unchanged,
-        search_from-descends,
-        next-node-in-range,
-        found-texts-stay-found other steps (next_node nodes other id depth) (depth + 1) at,
-      )
+  found-texts-stay-found other (suc steps) id depth at l e = grind (
+    arith,
+    nat_tests,
+    search_from-found-here,
+    old-text-at-index,
+    search_from-ends-here,
+    other-children-unchanged,
+    search_from-descends,
+    next-node-in-range,
+    found-texts-stay-found other steps (next_node nodes other id depth) (depth + 1) at,
+  )
 
   -- a search that missed the text at the new node's side finds the new node
   new-text-is-found : (steps id depth : ℕ) → id < length nodes → length nodes ≤ id + steps
@@ -115,21 +107,19 @@ module _ (nodes : List Node) (hash parent : ℕ) (right : Bool) (texts : List (L
       ]) refl
 
   -- each text is found
-  grown-tree-finds-each-text : FindsEach nodes texts → search nodes texts text
-      ≡ Missing parent right
-      → FindsEach after texts_after
-  grown-tree-finds-each-text finds e id l =
-      grind (
-        arith,
-        nat_tests,
-        length_grown,
-        add-one,
-        length-append,
-        new-text-is-last,
-        new-text-is-found,
-        old-text-at-index,
-        found-texts-stay-found,
-      )
+  grown-tree-finds-each-text : FindsEach nodes texts
+      → search nodes texts text ≡ Missing parent right → FindsEach after texts_after
+  grown-tree-finds-each-text finds e id l = grind (
+    arith,
+    nat_tests,
+    length_grown,
+    add-one,
+    length-append,
+    new-text-is-last,
+    new-text-is-found,
+    old-text-at-index,
+    found-texts-stay-found,
+  )
 
 -- register of links: a list of length 0 is empty
 no_texts : (texts : List (List ℕ)) → 0 ≡ length texts → texts ≡ []
@@ -150,10 +140,9 @@ single-node-is-search-tree hash text h =
 
 -- register of links: a search tree to which a text is added is one of all the texts
 grown-tree-is-search-tree : (nodes : List Node) (hash parent : ℕ) (right : Bool)
-    (texts : List (List ℕ))
-    (text : List ℕ) → IsSearchTree nodes texts → search nodes texts text ≡ Missing parent right
-    → hash ≡ hash_of text → IsSearchTree (with_node_added nodes hash parent right)
-    (texts ++ text ∷ [])
+    (texts : List (List ℕ)) (text : List ℕ) → IsSearchTree nodes texts
+    → search nodes texts text ≡ Missing parent right → hash ≡ hash_of text
+    → IsSearchTree (with_node_added nodes hash parent right) (texts ++ text ∷ [])
 unfolding search_from
 grown-tree-is-search-tree [] hash parent right texts text is e h =
     let position-None-no-element-passes = no_texts texts
@@ -164,8 +153,7 @@ grown-tree-is-search-tree [] hash parent right texts text is e h =
 grown-tree-is-search-tree (node ∷ nodes) hash parent right texts text is e h =
     let first : 0 < length (node ∷ nodes) = omega arith in
     let ends = search-ends-at-free-side (node ∷ nodes) texts text is.children
-    (length (node ∷ nodes)) 0 0 parent right first
-    (omega arith) e in
+    (length (node ∷ nodes)) 0 0 parent right first (omega arith) e in
     record {
       hashes = hashes_grown (node ∷ nodes) hash parent right texts text is.hashes h;
       children = children_follow (node ∷ nodes) hash parent right ends.0 is.children;
@@ -188,8 +176,7 @@ search-tree-after-adding nodes nodes_after hash parent right texts texts_after t
 
 -- register of links: a search in the tree finds the position of a text
 pub search-finds-position : (nodes : List Node) (texts : List (List ℕ)) → IsSearchTree nodes texts
-    → (text : List ℕ)
-    → found_id (search nodes texts text) ≡ position (bytes_eq text) texts
+    → (text : List ℕ) → found_id (search nodes texts text) ≡ position (bytes_eq text) texts
 search-finds-position nodes texts is text = by_position (position (bytes_eq text) texts) refl where
   by_position : (at : Option ℕ) → position (bytes_eq text) texts ≡ at
       → found_id (search nodes texts text) ≡ at
@@ -223,7 +210,6 @@ missing-parent-in-range [] texts is text parent right e = let first : 0
     ≡ parent = cc in omega (arith, first)
 missing-parent-in-range (node ∷ nodes) texts is text parent right e =
     let ends = search-ends-at-free-side (node ∷ nodes) texts text is.children
-    (length (node ∷ nodes)) 0 0 parent
-    right (omega arith) (omega arith) e in
+    (length (node ∷ nodes)) 0 0 parent right (omega arith) (omega arith) e in
     let within = ends.0 in
     omega (arith, within)

@@ -1,10 +1,6 @@
 -- A tree with one more node.
-use Rattle.std.proofs.Common.{◌≡◌, ◌≢◌, ◌+◌, ◌<◌, ◌⊎◌, inl, inr, ◌++◌, ◌∷◌, ℕ, Bool, true, false, List, [], length, nat_eq, ap, arith, refl, sym, ◌∙◌, length-append, length-set, subst}
+use Rattle.uri_links.proofs.Common.{◌≡◌, ◌≢◌, ◌+◌, ◌<◌, ◌⊎◌, inl, inr, ◌++◌, ◌∷◌, ℕ, Bool, true, false, List, [], length, nat_eq, ap, arith, refl, sym, ◌∙◌, length-append, length-set, subst, map-append, get_or-set_same, get_or-set_other, get_or_append_left, nat_tests, child, node_at, ChildrenFollow, with_node_added, leaf, with_child, HaveHashes, hash_of, Node}
 use Rattle.std.proofs.Math.Seq.{map-set_same, get_or-append_seam}
-use Rattle.std.proofs.lemmas.List.{map-append, get_or-set_same, get_or-set_other, get_or_append_left}
-use Rattle.std.proofs.lemmas.Bool.Decides.{nat_tests}
-use Rattle.uri_links.specs.SearchTrees.{child, node_at, ChildrenFollow, with_node_added, leaf, with_child, HaveHashes, hash_of}
-use Rattle.uri_links.specs.declared.search_tree.Node.{Node}
 
 -- register of links: a child that is put on a side is there
 child-of-with_child : (node : Node) (side : Bool) (id : ℕ) → child (with_child node side id) side
@@ -81,8 +77,7 @@ module _ (nodes : List Node) (hash parent : ℕ) (right : Bool) where
     child-of-parent-follows : ChildrenFollow nodes → (id : ℕ) (side : Bool) → id ≡ parent
         → (child (with_child (node_at nodes parent) right (length nodes)) side ≡ length nodes)
         ⊎ (child (with_child (node_at nodes parent) right (length nodes)) side
-        ≡ child (node_at nodes parent) side)
-        → IsChild (length nodes + 1) id
+        ≡ child (node_at nodes parent) side) → IsChild (length nodes + 1) id
         (child (node_at (with_node_added nodes hash parent right) id) side)
     child-of-parent-follows follow id side same (inl e) some =
         grind (arith, nat_tests, node_at-of-parent)

@@ -1,3 +1,4 @@
+pub mod Common
 pub mod Places
 mod Searches
 mod GrownTrees

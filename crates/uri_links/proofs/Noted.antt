@@ -1,25 +1,17 @@
 -- The outcome of a reference, from the text of its normal target.
-use Rattle.std.proofs.Common.{◌≡◌, ℕ, true, List, [], ◌∷◌, refl, sym, ap, ◌∙◌, arith, rules, Decides, bytes_eq}
-use Rattle.std.specs.List.{AllByRecursion, list_all, position}
+use Rattle.uri_links.proofs.Common.{◌≡◌, ℕ, true, List, [], ◌∷◌, refl, sym, ap, ◌∙◌, arith, rules, Decides, bytes_eq, AllByRecursion, list_all, position, same_from_decides, Decides-like, components, IsTextOf, Kind, is_of_kind, uri, normal_text, Rules, meaning_under, outcome_of, index_of_meaning, outcome_of_lookup, outcome_of_resolution, Outcome}
 use Rattle.std.specs.Str.{is_utf8}
-use Rattle.std.proofs.lemmas.Bool.Decides.{same_from_decides, Decides-like}
 use Rattle.std.proofs.lemmas.Bool.{and_parts}
 use Rattle.std.proofs.lemmas.Slice.Eq.{bytes_eq-Decides}
 use Rattle.std.proofs.lemmas.Str.{IsUtf8-from_is_utf8}
-use Rattle.fluent_uri.specs.Components.{components}
-use Rattle.fluent_uri.specs.Grammar.{IsTextOf, Kind, is_of_kind, uri}
 use Rattle.fluent_uri.specs.Meaning.{Meaning}
-use Rattle.fluent_uri.specs.Normal.{normal_text}
 use Rattle.fluent_uri.specs.Normalizers.{IsNormalForm}
 use Rattle.fluent_uri.specs.NormalTargets.{IsNormalFormOfTarget}
-use Rattle.fluent_uri.specs.SchemeRules.{Rules, meaning_under}
 use Rattle.fluent_uri.specs.Resolving.{IsErrorWithUnderflowAllowed}
 use Rattle.fluent_uri.specs.SameMeanings.{same_meaning}
 use Rattle.fluent_uri.specs.declared.resolve.ResolveError.{ResolveError}
 use Rattle.fluent_uri.specs.declared.resolve.ResolveError.TheVariants as Of
-use Rattle.uri_links.specs.Outcomes.{outcome_of, index_of_meaning, outcome_of_lookup, outcome_of_resolution}
 use Rattle.uri_links.specs.Registered.{AreNormal, AreUris, is_uri_text}
-use Rattle.uri_links.specs.declared.links.Outcome.{Outcome}
 use Rattle.uri_links.specs.declared.links.Outcome.TheVariants.{Refused}
 use Rattle.uri_links.proofs.Places.{position-of-equal-tests}
 
@@ -30,8 +22,7 @@ ComparesMeanings = (m n : Meaning) → Decides (same_meaning m n) (m ≡ n)
 
 -- register of links: a normal target is its own normal text
 pub normal-target-is-its-own-normal-text : (kind : Kind) (rules : Rules)
-    (base reference normal : List ℕ)
-    → IsNormalFormOfTarget kind rules base reference normal
+    (base reference normal : List ℕ) → IsNormalFormOfTarget kind rules base reference normal
     → normal_text (meaning_under kind rules normal) ≡ normal
 normal-target-is-its-own-normal-text kind rules base reference normal h =
     ap normal_text h.1.1.meaning ∙ sym h.1.1.text.text
@@ -45,8 +36,7 @@ is_text text e = let p = and_parts (is_utf8 text) (is_of_kind uri text) e in
 -- exactly if the two have the same meaning
 text-test-is-meaning-test : ComparesMeanings → (rules : Rules) (target normal text : List ℕ)
     → IsNormalForm uri rules target normal → IsTextOf uri text
-    → normal_text (meaning_under uri rules text) ≡ text
-    → bytes_eq normal text
+    → normal_text (meaning_under uri rules text) ≡ text → bytes_eq normal text
     ≡ same_meaning (meaning_under uri rules text) (meaning_under uri rules target)
 text-test-is-meaning-test same rules target normal text h of_kind own =
     let both = h.same text of_kind in
@@ -69,9 +59,8 @@ text-tests-are-meaning-tests same rules target normal (text ∷ texts) h uris ow
 
 -- register of links: looking up a normal text finds the same index as looking up its meaning
 index-by-text-is-index-by-meaning : ComparesMeanings
-    → (rules : Rules) (target normal : List ℕ)
-    (texts : List (List ℕ)) → IsNormalForm uri rules target normal → AreUris texts
-    → AreNormal rules texts
+    → (rules : Rules) (target normal : List ℕ) (texts : List (List ℕ))
+    → IsNormalForm uri rules target normal → AreUris texts → AreNormal rules texts
     → position (bytes_eq normal) texts
     ≡ index_of_meaning rules texts (meaning_under uri rules target)
 index-by-text-is-index-by-meaning same rules target normal texts h uris own =
@@ -81,8 +70,7 @@ index-by-text-is-index-by-meaning same rules target normal texts h uris own =
 -- register of links: the outcome of a reference can be found by the text of its normal target
 pub noted : ComparesMeanings → (rules : Rules) (base reference normal : List ℕ)
     (texts : List (List ℕ)) (outcome : Outcome × List (List ℕ))
-    → IsNormalFormOfTarget uri rules base reference normal → AreUris texts
-    → AreNormal rules texts
+    → IsNormalFormOfTarget uri rules base reference normal → AreUris texts → AreNormal rules texts
     → outcome_of_lookup (position (bytes_eq normal) texts) texts normal ≡ outcome
     → outcome_of rules base texts reference ≡ outcome
 unfolding outcome_of
@@ -90,12 +78,10 @@ noted same rules base reference normal texts outcome h uris own e =
     grind (arith, index-by-text-is-index-by-meaning)
 
 -- register of links: the outcome of a reference that has no target is `Refused`
-pub outcome_of-without-target : (rules : Rules) (base reference : List ℕ)
-    (texts : List (List ℕ))
+pub outcome_of-without-target : (rules : Rules) (base reference : List ℕ) (texts : List (List ℕ))
     (error : ResolveError)
     → IsErrorWithUnderflowAllowed (components base) (components reference) error
-    → (error ≡ Of.OutOfMemory → ⊥)
-    → outcome_of rules base texts reference ≡ (Refused error, texts)
+    → (error ≡ Of.OutOfMemory → ⊥) → outcome_of rules base texts reference ≡ (Refused error, texts)
 unfolding outcome_of
 outcome_of-without-target rules base reference texts Of.BaseWithFragment h m = ap
     (outcome_of_resolution rules texts) h

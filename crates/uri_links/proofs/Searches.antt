@@ -1,9 +1,5 @@
 -- A search, a step at a time.
-use Rattle.std.proofs.Common.{◌≡◌, ◌+◌, ◌<◌, ℕ, zero, suc, Bool, true, false, cond, List, [], ◌∷◌, length, get_or, nat_eq, ap, arith, sym, ◌∙◌, map, subst, bytes_eq}
-use Rattle.std.proofs.lemmas.Bool.Decides.{nat_tests}
-use Rattle.std.proofs.lemmas.List.{get_or-map, length-map}
-use Rattle.uri_links.specs.SearchTrees.{descends_right, next_node, search_from, ChildrenFollow, HaveHashes, hash_of, search}
-use Rattle.uri_links.specs.declared.search_tree.Node.{Node}
+use Rattle.uri_links.proofs.Common.{◌≡◌, ◌+◌, ◌<◌, ℕ, zero, suc, Bool, true, false, cond, List, [], ◌∷◌, length, get_or, nat_eq, ap, arith, sym, ◌∙◌, map, subst, bytes_eq, nat_tests, get_or-map, length-map, descends_right, next_node, search_from, ChildrenFollow, HaveHashes, hash_of, search, Node}
 use Rattle.uri_links.specs.declared.search_tree.SearchEnd.{SearchEnd}
 use Rattle.uri_links.specs.declared.search_tree.SearchEnd.TheVariants.{Found, Missing}
 
@@ -39,12 +35,11 @@ module _ (nodes : List Node) (texts : List (List ℕ)) (text : List ℕ) where
       → bytes_eq text (get_or texts at []) ≡ true
   unfolding search_from
   found-text-is-equal zero id depth at e = cc
-  found-text-is-equal (suc steps) id depth at e =
-      grind (
-        arith,
-        nat_tests,
-        found-text-is-equal steps (next_node nodes text id depth) (depth + 1) at,
-      )
+  found-text-is-equal (suc steps) id depth at e = grind (
+    arith,
+    nat_tests,
+    found-text-is-equal steps (next_node nodes text id depth) (depth + 1) at,
+  )
 
   -- the same for a number of steps that is not 0
   pub search_from-found-here-at : (steps fewer id depth : ℕ) → steps ≡ suc fewer
@@ -76,9 +71,8 @@ next-node-in-range nodes follow text id depth l e =
 
 -- register of links: the index at which a search in the tree finds a text is that of a node
 search_from-found-in-range : (nodes : List Node) (texts : List (List ℕ)) (text : List ℕ)
-    → ChildrenFollow nodes
-    → (steps id depth at : ℕ) → search_from steps nodes texts text id depth ≡ Found at
-    → id < length nodes → at < length nodes
+    → ChildrenFollow nodes → (steps id depth at : ℕ)
+    → search_from steps nodes texts text id depth ≡ Found at → id < length nodes → at < length nodes
 unfolding search_from
 search_from-found-in-range nodes texts text follow zero id depth at e l = absurd (cc)
 search_from-found-in-range nodes texts text follow (suc steps) id depth at e l =
@@ -93,13 +87,11 @@ search_from-found-in-range nodes texts text follow (suc steps) id depth at e l =
 
 -- register of links: what the search tree finds for a text is the index of a node
 pub found-index-in-range : (nodes : List Node) (texts : List (List ℕ)) (text : List ℕ)
-    → ChildrenFollow nodes
-    → (at : ℕ) → search nodes texts text ≡ Found at → at < length nodes
+    → ChildrenFollow nodes → (at : ℕ) → search nodes texts text ≡ Found at → at < length nodes
 unfolding search_from
 found-index-in-range [] texts text tree at e = absurd (cc)
-found-index-in-range (node ∷ nodes) texts text tree at e =
-    search_from-found-in-range (node ∷ nodes) texts text tree (length (node ∷ nodes)) 0 0 at e
-    (omega arith)
+found-index-in-range (node ∷ nodes) texts text tree at e = search_from-found-in-range (node ∷ nodes)
+    texts text tree (length (node ∷ nodes)) 0 0 at e (omega arith)
 
 -- register of links: its search tree has as many nodes as there are texts
 pub as-many-nodes-as-texts : (nodes : List Node) (texts : List (List ℕ)) → HaveHashes nodes texts
@@ -116,8 +108,7 @@ get_or-of-mapped text_of items id item l e = get_or-map text_of items id item []
 
 -- register of links: the hash of a node of the search tree is that of its text
 pub node-hash-is-text-hash : (nodes : List Node) (texts : List (List ℕ)) → HaveHashes nodes texts
-    → (id : ℕ)
-    (d : Node) (e : List ℕ) → id < length nodes
+    → (id : ℕ) (d : Node) (e : List ℕ) → id < length nodes
     → (get_or nodes id d).hash ≡ hash_of (get_or texts id e)
 node-hash-is-text-hash nodes texts h id d e l =
     sym (get_or-map (λ (node : Node). node.hash) nodes id d 0 l)

@@ -1,14 +1,8 @@
 -- One more text of a register.
-use Rattle.std.proofs.Common.{◌≡◌, ℕ, List, [], ◌∷◌, ◌++◌, None, sym, subst, ◌∙◌, arith, rules, bytes_eq}
-use Rattle.std.specs.List.{IsDistinct, position}
+use Rattle.uri_links.proofs.Common.{◌≡◌, ℕ, List, [], ◌∷◌, ◌++◌, None, sym, subst, ◌∙◌, arith, rules, bytes_eq, IsDistinct, position, map-append, IsDistinct-push, IsTextOf, uri, normal_text, Rules, meaning_under}
 use Rattle.std.proofs.lemmas.Cmp.{nat_list_eq_equiv}
-use Rattle.std.proofs.lemmas.List.{map-append}
 use Rattle.std.proofs.lemmas.List.Folds.{list_all-append}
-use Rattle.std.proofs.lemmas.Map.Keys.{IsDistinct-push}
 use Rattle.std.proofs.lemmas.Str.{is_utf8-from_IsUtf8}
-use Rattle.fluent_uri.specs.Grammar.{IsTextOf, uri}
-use Rattle.fluent_uri.specs.Normal.{normal_text}
-use Rattle.fluent_uri.specs.SchemeRules.{Rules, meaning_under}
 use Rattle.uri_links.specs.Registered.{AreNormal, AreUris}
 use Rattle.uri_links.proofs.Places.{position-None-no-element-passes}
 
@@ -18,9 +12,8 @@ unfolding IsDistinct
 no-texts-are-distinct texts e = rw e tt
 
 -- register of links: normal texts and one more are normal texts
-normal-append : (rules : Rules) (texts : List (List ℕ)) (text : List ℕ)
-    → AreNormal rules texts → normal_text (meaning_under uri rules text) ≡ text
-    → AreNormal rules (texts ++ text ∷ [])
+normal-append : (rules : Rules) (texts : List (List ℕ)) (text : List ℕ) → AreNormal rules texts
+    → normal_text (meaning_under uri rules text) ≡ text → AreNormal rules (texts ++ text ∷ [])
 normal-append rules texts text h e = map-append _ texts (text ∷ []) ∙ (λ i. h i ++ e i ∷ [])
 
 -- register of links: URIs and one more are URIs
@@ -44,7 +37,5 @@ normal-after-adding rules texts after text a h e =
 pub distinct-after-adding : (texts after : List (List ℕ)) (text : List ℕ) → after
     ≡ texts ++ text ∷ []
     → IsDistinct bytes_eq texts → position (bytes_eq text) texts ≡ None → IsDistinct bytes_eq after
-distinct-after-adding texts after text a h e =
-    subst (IsDistinct bytes_eq) (sym a)
-    (IsDistinct-push nat_list_eq_equiv texts text h
-    (position-None-no-element-passes (bytes_eq text) texts e))
+distinct-after-adding texts after text a h e = subst (IsDistinct bytes_eq) (sym a) (IsDistinct-push
+    nat_list_eq_equiv texts text h (position-None-no-element-passes (bytes_eq text) texts e))

@@ -1,11 +1,5 @@
 -- Bytes that are written to positions of a buffer.
-use Rattle.std.proofs.Common.{◌≡◌, ℕ, zero, suc, ◌+◌, ◌*◌, ◌≤◌, List, [], ◌∷◌, ◌++◌, length, take, drop, map, ap, refl, sym, ◌∙◌, append_assoc, arith}
-use Rattle.std.specs.Simd.Lanes.{put_chunk}
-use Rattle.std.proofs.Math.Seq.{take-add, take-append-add, take-nil}
-use Rattle.std.proofs.lemmas.List.{length-take-le, map-append, take-append-le, take-take}
-use Rattle.std.proofs.lemmas.Simd.{put_chunk_is}
-use Rattle.uri_pct.specs.Tokens.{Octet, print, text_of_token}
-use Rattle.uri_pct.proofs.EncodedTexts.Encodings.{print-append}
+use Rattle.uri_mend.proofs.Common.{◌≡◌, ℕ, zero, suc, ◌+◌, ◌*◌, ◌≤◌, List, [], ◌∷◌, ◌++◌, length, take, drop, map, ap, refl, sym, ◌∙◌, append_assoc, arith, put_chunk, take-add, take-append-add, take-nil, length-take-le, map-append, take-append-le, take-take, put_chunk_is, Octet, print, text_of_token, print-append}
 
 -- buffers: of a block that is written at a position, the first n bytes follow what is before it
 pub prefix-of-placed-block : (at n : ℕ) (out block : List ℕ) → at + length block ≤ length out
@@ -25,9 +19,8 @@ pub octets-of-more-bytes : (n m : ℕ) (bytes out : List ℕ)
 octets-of-more-bytes n m bytes out =
     let first = take n bytes in
     let second = take m (drop n bytes) in
-    append_assoc out (print (map Octet first)) (print (map Octet second))
-    ∙ ap (λ t. out ++ t) (sym (ap (λ l. print (map Octet l)) (take-add n m bytes)
-    ∙ ap print (map-append Octet first second)
+    append_assoc out (print (map Octet first)) (print (map Octet second)) ∙ ap (λ t. out ++ t) (sym
+    (ap (λ l. print (map Octet l)) (take-add n m bytes) ∙ ap print (map-append Octet first second)
     ∙ print-append (map Octet first) (map Octet second)))
 
 -- octets: the first octets of bytes are those of the first bytes
@@ -43,14 +36,12 @@ octets-of-first-bytes (suc n) (b ∷ bytes) =
 
 -- octets: where those of n bytes are written, so are those of fewer
 pub octets-of-fewer-bytes : (m n start : ℕ) (bytes before out : List ℕ) → m ≤ n
-    → length before ≡ start
-    → take (start + 3 * n) out ≡ before ++ print (map Octet (take n bytes))
+    → length before ≡ start → take (start + 3 * n) out ≡ before ++ print (map Octet (take n bytes))
     → take (start + 3 * m) out ≡ before ++ print (map Octet (take m bytes))
 octets-of-fewer-bytes m n start bytes before out few size written =
     let all : List ℕ = print (map Octet (take n bytes)) in
     sym (take-take (start + 3 * m) (start + 3 * n) out (omega arith))
-    ∙ ap (take (start + 3 * m)) written
-    ∙ ap (λ k. take (k + 3 * m) (before ++ all)) (sym size)
-    ∙ take-append-add before all (3 * m)
-    ∙ ap (λ t. before ++ t) (octets-of-first-bytes m (take n bytes)
+    ∙ ap (take (start + 3 * m)) written ∙ ap (λ k. take (k + 3 * m) (before ++ all)) (sym size)
+    ∙ take-append-add before all (3 * m) ∙ ap (λ t. before ++ t)
+    (octets-of-first-bytes m (take n bytes)
     ∙ ap (λ t. print (map Octet t)) (take-take m n bytes few))

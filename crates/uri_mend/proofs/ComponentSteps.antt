@@ -1,23 +1,8 @@
 -- A component within a text, mended from left to right: what a scan passes stays, and the character
 -- where it stops becomes octets, up to the first of the marks that end the component.
-use Rattle.std.proofs.Common.{◌≡◌, ℕ, ◌+◌, ◌<◌, ◌≤◌, true, false, not, eqb, List, [], ◌∷◌, ◌++◌, ◌&&◌, length, take, drop, map, get_or, refl, sym, ap, subst, ◌∙◌, arith, ⊎_elim, ltb, length-drop}
-use Rattle.std.specs.Char.{encode_utf8, is_ascii_hexdigit}
-use Rattle.std.specs.List.{list_all}
-use Rattle.std.specs.Str.{IsUtf8, IsCharBoundary}
-use Rattle.std.proofs.lemmas.Bool.{and_from, and_parts, cases_Bool, cases_lt, leb-true, ltb-true, not-true, not_from_false}
-use Rattle.std.proofs.lemmas.List.{drop-append-le, get_or-drop, get_or-take, length-take-le, take-append-le, take-take}
+use Rattle.uri_mend.proofs.Common.{◌≡◌, ℕ, ◌+◌, ◌<◌, ◌≤◌, true, false, not, eqb, List, [], ◌∷◌, ◌++◌, ◌&&◌, length, take, drop, map, get_or, refl, sym, ap, subst, ◌∙◌, arith, ⊎_elim, ltb, length-drop, encode_utf8, is_ascii_hexdigit, list_all, IsUtf8, IsCharBoundary, and_from, and_parts, cases_Bool, cases_lt, leb-true, ltb-true, not-true, not_from_false, drop-append-le, get_or-drop, get_or-take, length-take-le, take-append-le, take-take, IsUtf8-take, valid_prefix, TableSet, LacksPercent, is_one_of, IsValidFor, Octet, print, HasEncoding, char_has_encoding, is_no_ascii_byte, excludes, valid_prefix-ends-by-mark, AreAscii, first_mark_is_at_boundary, length_before_marks, test_holds_of_each, before_any, from_any, before_any-past-other, from_any-past-other, cut-at-end-of-text-without-marks, text-is-cut-at-first-mark, mended}
 use Rattle.std.proofs.lemmas.List.Sums.{prefix_len-le-length}
-use Rattle.std.proofs.lemmas.Str.{IsUtf8-take}
-use Rattle.uri_pct.specs.Prefixes.{valid_prefix}
-use Rattle.uri_pct.specs.Sets.{TableSet, LacksPercent, is_one_of}
-use Rattle.uri_pct.specs.Tokens.{IsValidFor, Octet, print}
-use Rattle.uri_pct.proofs.Unicode.Characters.{HasEncoding, char_has_encoding, is_no_ascii_byte}
-use Rattle.uri_pct.proofs.ValidTexts.Cuts.{excludes, valid_prefix-ends-by-mark}
 use Rattle.uri_pct.proofs.ValidTexts.LongestPrefixes.{valid_prefix_ends_at_boundary, valid_prefix_is_longest, valid_prefix_is_valid}
-use Rattle.uri_pct.proofs.ValidTexts.MarksInTexts.{AreAscii, first_mark_is_at_boundary, length_before_marks, test_holds_of_each}
-use Rattle.uri_parts.specs.Components.{before_any, from_any}
-use Rattle.uri_parts.proofs.Splitting.Cuts.{before_any-past-other, from_any-past-other, cut-at-end-of-text-without-marks, text-is-cut-at-first-mark}
-use Rattle.uri_mend.specs.MendedParts.{mended}
 use Rattle.uri_mend.proofs.MendedSteps.{scanned-prefix-is-kept, unscanned-char-is-encoded}
 
 -- general fact on texts, for components: a boundary of a text is one of its prefix
@@ -44,13 +29,11 @@ boundary-of-prefix m n text end before at = ⊎_elim
       λ inside past. subst (λ b. 192 ≤ b) same
           (at.1 (omega (arith, size)) (subst (λ b. 128 ≤ b) (sym same) past)),
     ))
-    (λ (l : m ≤ n). let e : m ≡ n = omega arith in subst (IsCharBoundary text) e end)
-    (cases_lt n m)
+    (λ (l : m ≤ n). let e : m ≡ n = omega arith in subst (IsCharBoundary text) e end) (cases_lt n m)
 
 module _ (marks : List ℕ) where
   -- bytes that are no marks are before the first mark of what follows them
-  other-bytes-are-before-mark : (xs ys : List ℕ)
-      → list_all (λ b. not (is_one_of marks b)) xs ≡ true
+  other-bytes-are-before-mark : (xs ys : List ℕ) → list_all (λ b. not (is_one_of marks b)) xs ≡ true
       → (before_any marks (xs ++ ys) ≡ xs ++ before_any marks ys)
       × (from_any marks (xs ++ ys) ≡ from_any marks ys)
   other-bytes-are-before-mark [] ys e = (refl, refl)
@@ -81,8 +64,7 @@ module _ (marks : List ℕ) where
   char-without-mark : AreAscii marks → (c : ℕ) → (w : HasEncoding c)
       → is_one_of marks w.first ≡ false
       → list_all (λ b. not (is_one_of marks b)) (encode_utf8 c) ≡ true
-  char-without-mark ascii c w other =
-      ap (list_all (λ b. not (is_one_of marks b))) w.joined
+  char-without-mark ascii c w other = ap (list_all (λ b. not (is_one_of marks b))) w.joined
       ∙ and_from _ _ (not_from_false _ other) (bytes-past-ascii-are-other ascii w.more w.high)
 
 module _ (marks : List ℕ) (set : TableSet) (lacks : LacksPercent set)
@@ -115,14 +97,12 @@ module _ (marks : List ℕ) (set : TableSet) (lacks : LacksPercent set)
       (subst (IsValidFor set) (sym (take-take n m rest few))
       (valid_prefix_is_valid set lacks rest u)) in
       let second : k ≤ n = valid_prefix_is_longest set lacks rest k u
-      (boundary-of-prefix m k rest end within at)
-      (subst (IsValidFor set) (take-take k m rest within)
-      (valid_prefix_is_valid set lacks (before_any marks rest) v)) in
+      (boundary-of-prefix m k rest end within at) (subst (IsValidFor set)
+      (take-take k m rest within) (valid_prefix_is_valid set lacks (before_any marks rest) v)) in
       omega (arith, first, second)
 
   -- what is scanned stays, and what is after it is mended
-  pub scanned-component-stays : (rest : List ℕ) → IsUtf8 rest
-      → (mended set (before_any marks rest)
+  pub scanned-component-stays : (rest : List ℕ) → IsUtf8 rest → (mended set (before_any marks rest)
       ≡ take (valid_prefix set rest) rest
       ++ mended set (before_any marks (drop (valid_prefix set rest) rest)))
       × (from_any marks rest ≡ from_any marks (drop (valid_prefix set rest) rest))
@@ -144,9 +124,8 @@ module _ (marks : List ℕ) (set : TableSet) (lacks : LacksPercent set)
       let parts = cut-at-end-of-text-without-marks marks (drop n before) from
       (λ k d l. subst (λ b. is_one_of marks b ≡ false) (sym (get_or-drop n before k d))
       (cut.lacks (n + k) d (omega (arith, length-drop n before, l)))) cut.begins in (
-        scanned-prefix-is-kept set lacks octets before (component-is-utf8 rest u)
-            ∙ ap (λ j. take j before ++ mended set (drop j before))
-            (component-is-scanned-as-text rest u)
+        scanned-prefix-is-kept set lacks octets before (component-is-utf8 rest u) ∙ ap
+            (λ j. take j before ++ mended set (drop j before)) (component-is-scanned-as-text rest u)
             ∙ ap (λ t. t ++ mended set (drop n before)) (sym kept)
             ∙ ap (λ t. take n rest ++ mended set t) (sym (ap (before_any marks) left ∙ parts.0)),
         sym (ap (from_any marks) left ∙ parts.1),
@@ -155,8 +134,7 @@ module _ (marks : List ℕ) (set : TableSet) (lacks : LacksPercent set)
   -- the character where a scan stops becomes octets, if it does not begin with a mark
   pub component-char-is-encoded : (c : ℕ) (rest suffix : List ℕ) → IsUtf8 rest
       → rest ≡ encode_utf8 c ++ suffix → valid_prefix set rest ≡ 0
-      → is_one_of marks (get_or rest 0 0) ≡ false
-      → (mended set (before_any marks rest)
+      → is_one_of marks (get_or rest 0 0) ≡ false → (mended set (before_any marks rest)
       ≡ print (map Octet (encode_utf8 c)) ++ mended set (before_any marks suffix))
       × (from_any marks rest ≡ from_any marks suffix)
   component-char-is-encoded c rest suffix u e stop other =

@@ -1,29 +1,10 @@
 -- The character where a scan stops, and those after it that a set lacks, become octets.
-use Rattle.std.proofs.Common.{◌≡◌, ℕ, suc, ◌+◌, ◌-◌, ◌<◌, ◌≤◌, true, false, not, eqb, ltb, List, [], ◌∷◌, ◌++◌, ◌&&◌, ◌||◌, length, take, drop, map, get_or, refl, sym, ap, subst, ◌∙◌, arith, ⊎_elim, append_assoc, length-append, length-drop}
-use Rattle.std.specs.Char.{encode_utf8, is_ascii_hexdigit, len_utf8}
-use Rattle.std.specs.Prelude.{nat_le}
-use Rattle.std.specs.Str.{IsUtf8, IsCharBoundary, chars, encode_utf8_all}
-use Rattle.std.proofs.Math.Seq.{take-append-add}
-use Rattle.std.proofs.lemmas.Bool.{agree_below_at, and_left, and_parts, and_right, both_ways, cases_Bool, cases_lt, cond-false, eqb-true, leb-true, ne_eqb, not-true, or_cases, or_left, or_right}
-use Rattle.std.proofs.lemmas.Bool.Decides.{nat_tests}
-use Rattle.std.proofs.lemmas.List.{drop-drop, drop_at, drop_more, get_or-drop, length-take-le, map-append, take-append-drop}
-use Rattle.std.proofs.lemmas.Str.{IsCharBoundary-after_ascii, IsCharBoundary-before_ascii, IsCharBoundary-past_char, IsUtf8-between, IsUtf8-drop, encode_ascii, encodes-chars, len_utf8_ascii, length-encode}
-use Rattle.uri_pct.specs.Masks.{has_bit}
+use Rattle.uri_mend.proofs.Common.{◌≡◌, ℕ, suc, ◌+◌, ◌-◌, ◌<◌, ◌≤◌, true, false, not, eqb, ltb, List, [], ◌∷◌, ◌++◌, ◌&&◌, ◌||◌, length, take, drop, map, get_or, refl, sym, ap, subst, ◌∙◌, arith, ⊎_elim, append_assoc, length-append, length-drop, encode_utf8, is_ascii_hexdigit, len_utf8, nat_le, IsUtf8, IsCharBoundary, chars, encode_utf8_all, take-append-add, agree_below_at, and_left, and_parts, and_right, both_ways, cases_Bool, cases_lt, cond-false, eqb-true, leb-true, ne_eqb, not-true, or_cases, or_left, or_right, nat_tests, drop-drop, drop_at, drop_more, get_or-drop, length-take-le, map-append, take-append-drop, IsCharBoundary-after_ascii, IsCharBoundary-before_ascii, IsCharBoundary-past_char, IsUtf8-between, IsUtf8-drop, encode_ascii, encodes-chars, len_utf8_ascii, length-encode, has_bit, valid_prefix, TableSet, LacksPercent, is_one_of, Octet, print, print-append, char_has_encoding, test_holds_of_each, before_any, from_any, NEVER_HIGH, NEVER_LOW, mended, IsEncodedBetween, IsLackedRun, are_marks, is_never, lacks_marks}
 use Rattle.uri_pct.specs.Models.ByteRuns.{is_char_byte}
 use Rattle.uri_pct.specs.Models.Scans.{may_begin_octet_or_past_ascii}
-use Rattle.uri_pct.specs.Prefixes.{valid_prefix}
-use Rattle.uri_pct.specs.Sets.{TableSet, LacksPercent, is_one_of}
 use Rattle.uri_pct.specs.Texts.{has_hex_digits_after}
-use Rattle.uri_pct.specs.Tokens.{Octet, print}
-use Rattle.uri_pct.proofs.EncodedTexts.Encodings.{print-append}
 use Rattle.uri_pct.proofs.TableSets.Constants.{past_ascii_is_no_hexdigit}
-use Rattle.uri_pct.proofs.Unicode.Characters.{char_has_encoding}
-use Rattle.uri_pct.proofs.ValidTexts.MarksInTexts.{test_holds_of_each}
 use Rattle.uri_pct.proofs.ValidTexts.PrefixSteps.{valid_prefix_stops_at_ascii_outside_set, valid_prefix_stops_at_stray_percent, valid_prefix_stops_where_none_may_begin}
-use Rattle.uri_parts.specs.Components.{before_any, from_any}
-use Rattle.uri_mend.specs.declared.component.TheConstants.{NEVER_HIGH, NEVER_LOW}
-use Rattle.uri_mend.specs.MendedParts.{mended}
-use Rattle.uri_mend.specs.Progress.{IsEncodedBetween, IsLackedRun, are_marks, is_never, lacks_marks}
 use Rattle.uri_mend.proofs.ComponentSteps.{component-char-is-encoded}
 
 -- runs: a byte of a run that is found by lanes is past ASCII, or one that no component may have
@@ -43,9 +24,8 @@ byte-of-run-is-never b e = ⊎_elim
 pub boundary-after-char : (text : List ℕ) (start c len : ℕ) → IsUtf8 text
     → IsCharBoundary text start → drop start text ≡ encode_utf8 c ++ drop (start + len_utf8 c) text
     → len ≡ len_utf8 c → IsCharBoundary text (start + len)
-boundary-after-char text start c len u at joined size =
-    subst (λ n. IsCharBoundary text (start + n)) (sym size)
-    (IsCharBoundary-past_char text (drop (start + len_utf8 c) text) start c at.0
+boundary-after-char text start c len u at joined size = subst (λ n. IsCharBoundary text (start + n))
+    (sym size) (IsCharBoundary-past_char text (drop (start + len_utf8 c) text) start c at.0
     (IsUtf8-drop text start u at) joined)
 
 -- octets: those of two texts, one after the other
@@ -74,13 +54,11 @@ never-is-no-hexdigit b e = ⊎_elim
     (λ (h : b < 128).
     let bit : has_bit NEVER_LOW NEVER_HIGH b ≡ true = ⊎_elim
     (λ l. absurd (let d = leb-true 128 b l in omega arith))
-    (λ l. l)
-    (or_cases (nat_le 128 b) (has_bit NEVER_LOW NEVER_HIGH b) e) in
+    (λ l. l) (or_cases (nat_le 128 b) (has_bit NEVER_LOW NEVER_HIGH b) e) in
     sym (ap (λ t. t && is_ascii_hexdigit b) bit)
     ∙ agree_below_at (λ c. has_bit NEVER_LOW NEVER_HIGH c && is_ascii_hexdigit c) (λ c. false) 128 b
     refl h)
-    (λ (h : 128 ≤ b). past_ascii_is_no_hexdigit b h)
-    (cases_lt b 128)
+    (λ (h : 128 ≤ b). past_ascii_is_no_hexdigit b h) (cases_lt b 128)
 
 -- runs: what a scan of a set stops at
 module _ (set : TableSet) (lacks : LacksPercent set)
@@ -126,8 +104,7 @@ module _ (set : TableSet) (lacks : LacksPercent set)
         (λ (d : k + 1 < end). d)
         (λ (d : end ≤ k + 1).
         let last : k ≡ end - 1 = omega arith in
-        absurd (other (sym (ap (λ n. get_or text n 0) last) ∙ p)))
-        (cases_lt (k + 1) end));
+        absurd (other (sym (ap (λ n. get_or text n 0) last) ∙ p))) (cases_lt (k + 1) end));
   }
 
   -- the set lacks the run without the `%` at its end
@@ -170,8 +147,7 @@ module _ (marks : List ℕ) (set : TableSet) (lacks : LacksPercent set)
   never-is-no-mark b e = ⊎_elim
       (λ m. absurd (both_ways _ (not-true _ (test_holds_of_each (λ mark. not (is_never mark)) marks
       (and_parts (lacks_marks set marks) _ are).1 b m)) e))
-      (λ m. m)
-      (cases_Bool (is_one_of marks b))
+      (λ m. m) (cases_Bool (is_one_of marks b))
 
   module _ (text : List ℕ) (u : IsUtf8 text) (end : ℕ) where
     -- characters at which a scan stops are mended to their octets
@@ -198,9 +174,8 @@ module _ (marks : List ℕ) (set : TableSet) (lacks : LacksPercent set)
         let inside : start < end = omega (arith, size, both, some) in
         let whole : drop start text ≡ encode_utf8 c ++ (rest ++ drop end text) =
         split ∙ append_assoc (encode_utf8 c) rest (drop end text) in
-        let later : drop (start + len) text ≡ rest ++ drop end text =
-        sym (drop-drop len start text) ∙ ap (drop len) whole
-        ∙ drop_at (encode_utf8 c) (rest ++ drop end text) len long in
+        let later : drop (start + len) text ≡ rest ++ drop end text = sym (drop-drop len start text)
+        ∙ ap (drop len) whole ∙ drop_at (encode_utf8 c) (rest ++ drop end text) len long in
         let v = IsUtf8-drop text start u at in
         let begins : get_or (drop start text) 0 0 ≡ get_or text start 0 =
         get_or-drop start text 0 0 ∙ ap (λ k. get_or text k 0) (omega arith) in
@@ -210,8 +185,7 @@ module _ (marks : List ℕ) (set : TableSet) (lacks : LacksPercent set)
         (ap (is_one_of marks) begins
         ∙ never-is-no-mark (get_or text start 0) (never start (omega arith) inside)) in
         let next = stopped-chars-are-encoded cs (start + len) (omega (arith, size, both, long))
-        later
-        (IsCharBoundary-past_char text (rest ++ drop end text) start c at.0 v whole)
+        later (IsCharBoundary-past_char text (rest ++ drop end text) start c at.0 v whole)
         (λ k a b. never k (omega (arith, a)) b) (λ k a b. stops k (omega (arith, a)) b) in (
           step.0 ∙ ap (λ t. print (map Octet (encode_utf8 c)) ++ t) next.0
               ∙ sym (append_assoc (print (map Octet (encode_utf8 c))) (print (map Octet rest))
@@ -239,8 +213,7 @@ module _ (set : TableSet) (lacks : LacksPercent set) (octets : set.pct_encoded �
       let split : drop next text ≡ encode_utf8_all (chars part) ++ drop end text =
       sym (take-append-drop (end - next) (drop next text)) ∙ ap (λ t. part ++ t) suffix
       ∙ ap (λ t. t ++ drop end text) (sym back) in
-      let long : length part ≡ end - next =
-      length-take-le (end - next) (drop next text)
+      let long : length part ≡ end - next = length-take-le (end - next) (drop next text)
       (omega (arith, length-drop next text, run.boundary.0)) in
       let step = stopped-chars-are-encoded marks set lacks octets are text u end (chars part) next
       (omega (arith, ap length back, long, run.from)) split at run.never run.stops in (

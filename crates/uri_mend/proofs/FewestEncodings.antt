@@ -1,22 +1,8 @@
 -- Mending percent-encodes no more than it must: each other reference that percent-encodes
 -- characters of the text percent-encodes those that mending does. And mended components decode to
 -- what they did.
-use Rattle.std.proofs.Common.{◌≡◌, ℕ, true, false, List, [], ◌∷◌, ◌++◌, map, refl, sym, ap, subst, ◌∙◌, ⊎_elim, inl, inr}
-use Rattle.std.specs.Prelude.{Option, Some, None, IfSome, option_map}
-use Rattle.std.specs.Char.{encode_utf8}
-use Rattle.std.specs.List.{list_all, flat_map}
-use Rattle.std.specs.Str.{IsUtf8}
-use Rattle.std.proofs.lemmas.Bool.{cases_Bool, cond-true, cond-false, and_parts, both_ways}
-use Rattle.std.proofs.lemmas.List.Folds.{list_all-append}
-use Rattle.uri_pct.specs.Sets.{TableSet, LacksPercent, allows}
-use Rattle.uri_pct.specs.Tokens.{Token, Char, Octet, allows_token, tokens, is_valid_for}
-use Rattle.uri_parts.specs.Components.{components}
-use Rattle.uri_parts.specs.Grammar.{Kind, IsTextOf}
-use Rattle.uri_ops.specs.ComponentSets.{HasComponentSets}
+use Rattle.uri_mend.proofs.Common.{◌≡◌, ℕ, true, false, List, [], ◌∷◌, ◌++◌, map, refl, sym, ap, subst, ◌∙◌, ⊎_elim, inl, inr, Option, Some, None, IfSome, option_map, encode_utf8, list_all, flat_map, IsUtf8, cases_Bool, cond-true, cond-false, and_parts, both_ways, list_all-append, TableSet, LacksPercent, allows, Token, Char, Octet, allows_token, tokens, is_valid_for, components, Kind, IsTextOf, HasComponentSets, components-of-utf8-are-utf8, grammar-gives-components-of-kind, mend_token, mended, link_components, mended_components}
 use Rattle.uri_ops.proofs.Meanings.AllowedParts.{is_set_text, set-text-is-valid}
-use Rattle.uri_ops.proofs.Meanings.TextParts.{components-of-utf8-are-utf8, grammar-gives-components-of-kind}
-use Rattle.uri_mend.specs.MendedParts.{mend_token, mended}
-use Rattle.uri_mend.specs.Mending.{link_components, mended_components}
 use Rattle.uri_mend.specs.Encodings.{decoded, DecodeAlike, IsTokenOrItsOctets, AreEncodedAs, IsPartEncodedAs, AreComponentsEncodedAs}
 use Rattle.uri_mend.proofs.MendedTokens.{tokens-of-mended-text, mended-text-decodes-alike}
 use Rattle.uri_mend.proofs.MendedReferences.{link-components-are-mendable}
@@ -26,8 +12,7 @@ mended-token-is-token-or-its-octets : (set : TableSet) (t : Token)
     → IsTokenOrItsOctets t (mend_token set t)
 mended-token-is-token-or-its-octets set (Char c) = ⊎_elim
     (λ e. inl (cond-true _ _ _ e))
-    (λ e. inr (cond-false _ _ _ e))
-    (cases_Bool (allows set c))
+    (λ e. inr (cond-false _ _ _ e)) (cases_Bool (allows set c))
 mended-token-is-token-or-its-octets set (Octet value) = refl
 
 -- fewest encodings: tokens become tokens with some characters percent-encoded
@@ -72,8 +57,7 @@ lacked-char-is-encoded : (set : TableSet) (c : ℕ) (first : List Token)
 lacked-char-is-encoded set c first h e lacked = ⊎_elim
     (λ same. absurd (both_ways _ lacked
     (and_parts (allows set c) true (sym (ap (list_all (allows_token set)) same) ∙ e)).0))
-    (λ same. same)
-    h
+    (λ same. same) h
 
 -- fewest encodings: one more token, of which the encoding is allowed
 one-more-token-is-encoded : (set : TableSet) (t : Token) (first ts us : List Token)
@@ -93,9 +77,8 @@ one-more-token-is-encoded set (Char c) first ts us h e rest = ⊎_elim
     (cases_Bool (allows set c))
 
 -- fewest encodings: allowed tokens that are an encoding of some are one of what these become
-allowed-encoding-encodes-mended-tokens : (set : TableSet) (ts us : List Token)
-    → AreEncodedAs ts us → list_all (allows_token set) us ≡ true
-    → AreEncodedAs (flat_map (mend_token set) ts) us
+allowed-encoding-encodes-mended-tokens : (set : TableSet) (ts us : List Token) → AreEncodedAs ts us
+    → list_all (allows_token set) us ≡ true → AreEncodedAs (flat_map (mend_token set) ts) us
 unfolding AreEncodedAs
 allowed-encoding-encodes-mended-tokens set [] us h e = h
 allowed-encoding-encodes-mended-tokens set (t ∷ ts) us h e =
@@ -111,9 +94,8 @@ allowed-encoding-encodes-mended-tokens set (t ∷ ts) us h e =
 -- fewest encodings: a mended text is an encoding of the text
 mended-text-is-encoded : (set : TableSet) (text : List ℕ) → LacksPercent set → IsUtf8 text
     → AreEncodedAs (tokens text) (tokens (mended set text))
-mended-text-is-encoded set text lacks u =
-    subst (AreEncodedAs (tokens text)) (sym (tokens-of-mended-text set text lacks u))
-    (mended-tokens-are-encoded set (tokens text))
+mended-text-is-encoded set text lacks u = subst (AreEncodedAs (tokens text))
+    (sym (tokens-of-mended-text set text lacks u)) (mended-tokens-are-encoded set (tokens text))
 
 -- fewest encodings: each valid encoding of a text is an encoding of the mended text
 valid-encoding-encodes-mended-text : (set : TableSet) (text other : List ℕ) → LacksPercent set

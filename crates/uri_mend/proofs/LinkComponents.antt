@@ -1,15 +1,7 @@
 -- The components of a text that is no reference, perhaps: its scheme is one, and without a scheme
 -- and an authority its first segment has no `:`.
-use Rattle.std.proofs.Common.{◌≡◌, ℕ, Bool, true, false, not, eqb, List, [], ◌∷◌, ◌++◌, refl, sym, ap, subst, ◌∙◌, ⊎_elim, ◌&&◌, lit<, arith}
-use Rattle.std.specs.Prelude.{codes, IfSome, IfNone}
-use Rattle.std.specs.Str.{IsUtf8, encode_utf8_all}
-use Rattle.std.proofs.lemmas.Bool.{cases_Bool, cond-true, cond-false, and_parts, both_ways, not-false, eqb-true}
-use Rattle.std.proofs.lemmas.Str.{IsUtf8-append, encode_ascii}
-use Rattle.uri_parts.specs.Components.{components, starts, before_any, from_any, when, has_scheme, has_authority, after_scheme, after_authority}
-use Rattle.uri_parts.specs.Grammar.{is_scheme, has_colon_in_first_segment}
-use Rattle.uri_parts.proofs.Splitting.Cuts.{from_any-at-mark, before_any-at-mark}
+use Rattle.uri_mend.proofs.Common.{◌≡◌, ℕ, Bool, true, false, not, eqb, List, [], ◌∷◌, ◌++◌, refl, sym, ap, subst, ◌∙◌, ⊎_elim, ◌&&◌, lit<, arith, codes, IfSome, IfNone, IsUtf8, encode_utf8_all, cases_Bool, cond-true, cond-false, and_parts, both_ways, not-false, eqb-true, IsUtf8-append, encode_ascii, components, starts, before_any, from_any, when, has_scheme, has_authority, after_scheme, after_authority, is_scheme, has_colon_in_first_segment, from_any-at-mark, before_any-at-mark, has_false_scheme, with_dot_segment, link_components}
 use Rattle.uri_parts.proofs.Splitting.Relative.{colon_in_first_segment-is-at-start}
-use Rattle.uri_mend.specs.Mending.{has_false_scheme, with_dot_segment, link_components}
 
 -- links: a text with a false scheme gets `./`
 pub false-scheme-gets-dot-segment : (text : List ℕ) → has_false_scheme text ≡ true
@@ -61,8 +53,7 @@ no-false-scheme-means-no-leading-colon [] e = refl
 no-false-scheme-means-no-leading-colon (c ∷ text) e = ⊎_elim
     (λ h. absurd (both_ways _ e (ap (λ n. has_false_scheme (n ∷ text)) (eqb-true c 58 h)
     ∙ leading-colon-ends-false-scheme text)))
-    (λ h. h)
-    (cases_Bool (eqb c 58))
+    (λ h. h) (cases_Bool (eqb c 58))
 
 -- links: what may be absent, if the test is true, has the property
 present-text-has-property : (test : Bool) (text : List ℕ) (P : List ℕ → Type 0)
@@ -111,8 +102,7 @@ pub no-colon-in-schemeless-link : (text : List ℕ)
     → IfNone (link_components text).scheme (IfNone (link_components text).authority
     (has_colon_in_first_segment (link_components text).path ≡ false))
 unfolding link_components
-no-colon-in-schemeless-link text =
-    no-colon-in-schemeless-path (with_dot_segment text) (⊎_elim
+no-colon-in-schemeless-link text = no-colon-in-schemeless-path (with_dot_segment text) (⊎_elim
     (λ e. ap (starts 58) (false-scheme-gets-dot-segment text e))
     (λ e. ap (starts 58) (no-false-scheme-gets-nothing text e)
     ∙ no-false-scheme-means-no-leading-colon text e)

@@ -1,42 +1,24 @@
 -- A text, cut before its path, and the pieces of the text that it is mended to.
-use Rattle.std.proofs.Common.{◌≡◌, ℕ, true, false, not, List, [], ◌∷◌, ◌++◌, length, take, drop, refl, sym, ap, subst, ◌∙◌, arith, append_assoc, ◌&&◌, lit<, ◌≤◌, ◌-◌, length-append}
-use Rattle.std.specs.Str.{IsUtf8, IsCharBoundary}
-use Rattle.std.proofs.Math.Seq.{take-append_seam}
-use Rattle.std.proofs.lemmas.Str.{IsCharBoundary-from_drop, IsCharBoundary-at_seam}
-use Rattle.uri_parts.specs.Components.{has_authority, components, recompose, marked, starts, when, before_any, from_any, after_scheme, after_authority, after_query}
+use Rattle.uri_mend.proofs.Common.{◌≡◌, ℕ, true, false, not, List, [], ◌∷◌, ◌++◌, length, take, drop, refl, sym, ap, subst, ◌∙◌, arith, append_assoc, ◌&&◌, lit<, ◌≤◌, ◌-◌, length-append, IsUtf8, IsCharBoundary, take-append_seam, IsCharBoundary-from_drop, IsCharBoundary-at_seam, has_authority, components, recompose, marked, starts, when, before_any, from_any, after_scheme, after_authority, after_query, codes, cond-true, cond-false, and_parts, both_ways, or_left, allows, Kind, before_any-past-other, from_any-past-other, recompose-components, HasComponentSets, before_path, mended, has_false_scheme, link_components, mended_components, mended_text, mended_query, mended_fragment, mended_tail, IsMendedByPieces, IsPathMendedByPieces, query_of_tail}
 use Rattle.uri_parts.proofs.Parsing.ScanStops.{utf8_after_slashes}
-use Rattle.std.specs.Prelude.{codes}
-use Rattle.std.proofs.lemmas.Bool.{cond-true, cond-false, and_parts, both_ways, or_left}
-use Rattle.uri_pct.specs.Sets.{allows}
-use Rattle.uri_parts.specs.Grammar.{Kind}
-use Rattle.uri_parts.proofs.Splitting.Cuts.{before_any-past-other, from_any-past-other}
-use Rattle.uri_parts.proofs.Splitting.Recompose.{recompose-components}
-use Rattle.uri_ops.specs.ComponentSets.{HasComponentSets}
-use Rattle.uri_ops.specs.Models.Places.{before_path}
-use Rattle.uri_mend.specs.MendedParts.{mended}
-use Rattle.uri_mend.specs.Mending.{has_false_scheme, link_components, mended_components, mended_text}
-use Rattle.uri_mend.specs.Tails.{mended_query, mended_fragment, mended_tail, IsMendedByPieces, IsPathMendedByPieces, query_of_tail}
 use Rattle.uri_mend.proofs.MendedMarks.{allowed-ascii-before-text-stays}
 use Rattle.uri_mend.proofs.LinkComponents.{false-scheme-gets-dot-segment, no-false-scheme-gets-nothing}
 
 -- links: what follows a path, as the components have it
 end_text : List ℕ → List ℕ
-end_text end =
-    marked (codes "?") (when (starts 63 end) (before_any (codes "#") (drop 1 end))) []
+end_text end = marked (codes "?") (when (starts 63 end) (before_any (codes "#") (drop 1 end))) []
     ++ marked (codes "#") (when (starts 35 (after_query end)) (drop 1 (after_query end))) []
 
 -- links: the path before its end in a text after `./`
 path-after-dot-segment : (text : List ℕ)
     → before_any (codes "?#") (46 ∷ 47 ∷ text) ≡ 46 ∷ 47 ∷ before_any (codes "?#") text
-path-after-dot-segment text =
-    before_any-past-other (codes "?#") 46 (47 ∷ text) refl
+path-after-dot-segment text = before_any-past-other (codes "?#") 46 (47 ∷ text) refl
     ∙ ap (λ t. 46 ∷ t) (before_any-past-other (codes "?#") 47 text refl)
 
 -- links: what follows the path in a text after `./`
 end-after-dot-segment : (text : List ℕ)
     → from_any (codes "?#") (46 ∷ 47 ∷ text) ≡ from_any (codes "?#") text
-end-after-dot-segment text =
-    from_any-past-other (codes "?#") 46 (47 ∷ text) refl
+end-after-dot-segment text = from_any-past-other (codes "?#") 46 (47 ∷ text) refl
     ∙ from_any-past-other (codes "?#") 47 text refl
 
 -- links: a path and what follows it, as the components have them, are what was cut
@@ -48,9 +30,8 @@ path-and-end-are-tail tail =
     ++ end_text (from_any (codes "?#") (46 ∷ 47 ∷ tail)) ≡ 46 ∷ 47 ∷ tail =
     recompose-components (46 ∷ 47 ∷ tail) in
     ap (drop 2) (sym (ap (λ p. p ++ end_text (from_any (codes "?#") (46 ∷ 47 ∷ tail)))
-    (path-after-dot-segment tail)
-    ∙ ap (λ e. (46 ∷ 47 ∷ before_any (codes "?#") tail) ++ end_text e) (end-after-dot-segment tail))
-    ∙ whole)
+    (path-after-dot-segment tail) ∙ ap (λ e. (46 ∷ 47 ∷ before_any (codes "?#") tail) ++ end_text e)
+    (end-after-dot-segment tail)) ∙ whole)
 
 -- links: what is before the path, and what follows the authority, are the text
 pub text-is-cut-before-path : (text : List ℕ)
@@ -61,8 +42,7 @@ text-is-cut-before-path text =
     let s = marked [] p.scheme (codes ":") in
     let a = marked (codes "//") p.authority [] in
     let tail = after_authority (after_scheme text) in
-    sym (append_assoc s a tail
-    ∙ ap (λ t. s ++ (a ++ t)) (sym (path-and-end-are-tail tail))
+    sym (append_assoc s a tail ∙ ap (λ t. s ++ (a ++ t)) (sym (path-and-end-are-tail tail))
     ∙ recompose-components text)
 
 -- links: in components without a false scheme the text is mended by its pieces
@@ -98,8 +78,7 @@ dot-segment-stays : (kind : Kind) → HasComponentSets kind → (path : List ℕ
 dot-segment-stays kind sets path =
     let dot : allows kind.path 46 ≡ true = sets.path.unreserved.ascii 46 refl in
     allowed-ascii-before-text-stays kind.path 46 (47 ∷ path) (lit< tt) refl dot
-    ∙ ap (λ t. 46 ∷ t)
-    (allowed-ascii-before-text-stays kind.path 47 path (lit< tt) refl sets.slash)
+    ∙ ap (λ t. 46 ∷ t) (allowed-ascii-before-text-stays kind.path 47 path (lit< tt) refl sets.slash)
 
 -- links: a text with a false scheme is mended after `./`
 pub text-with-false-scheme-is-mended : (text : List ℕ) → has_false_scheme text ≡ true
@@ -109,12 +88,11 @@ text-with-false-scheme-is-mended text e kind sets =
     let end : List ℕ → List ℕ = λ t. mended_query kind.query t
     ++ mended_fragment kind.fragment (after_query t) in
     ap (λ t. recompose (mended_components kind (components t)))
-    (false-scheme-gets-dot-segment text e)
-    ∙ ap (λ t. mended kind.path t ++ end (from_any (codes "?#") (46 ∷ 47 ∷ text)))
-    (path-after-dot-segment text)
-    ∙ ap (λ t. t ++ end (from_any (codes "?#") (46 ∷ 47 ∷ text)))
-    (dot-segment-stays kind sets (before_any (codes "?#") text))
-    ∙ ap (λ t. (46 ∷ 47 ∷ mended kind.path (before_any (codes "?#") text)) ++ end t)
+    (false-scheme-gets-dot-segment text e) ∙ ap
+    (λ t. mended kind.path t ++ end (from_any (codes "?#") (46 ∷ 47 ∷ text)))
+    (path-after-dot-segment text) ∙ ap (λ t. t ++ end (from_any (codes "?#") (46 ∷ 47 ∷ text)))
+    (dot-segment-stays kind sets (before_any (codes "?#") text)) ∙ ap
+    (λ t. (46 ∷ 47 ∷ mended kind.path (before_any (codes "?#") text)) ++ end t)
     (end-after-dot-segment text)
 
 -- links: the text before a `:` that is first is no scheme
@@ -124,8 +102,7 @@ unfolding has_false_scheme
 has_false_scheme-by-mark text e = Rattle.std.proofs.lemmas.Bool.and_left _ _ e
 
 -- links: what is before the first `:` decides whether there is a false scheme
-pub has_false_scheme-by-scheme : (text : List ℕ)
-    → starts 58 (from_any (codes ":/?#") text) ≡ true
+pub has_false_scheme-by-scheme : (text : List ℕ) → starts 58 (from_any (codes ":/?#") text) ≡ true
     → has_false_scheme text
     ≡ not (Rattle.uri_parts.specs.Grammar.is_scheme (before_any (codes ":/?#") text))
 unfolding has_false_scheme
@@ -195,6 +172,5 @@ pub query-with-false-scheme : (text : List ℕ) → has_false_scheme text ≡ tr
     → (link_components text).query ≡ query_of_tail text
 unfolding link_components
 query-with-false-scheme text e =
-    ap (λ t. (components t).query) (false-scheme-gets-dot-segment text e)
-    ∙ ap (λ end. when (starts 63 end) (before_any (codes "#") (drop 1 end)))
-    (end-after-dot-segment text)
+    ap (λ t. (components t).query) (false-scheme-gets-dot-segment text e) ∙ ap
+    (λ end. when (starts 63 end) (before_any (codes "#") (drop 1 end))) (end-after-dot-segment text)

@@ -1,27 +1,9 @@
 -- A text whose prefix shows where its path begins: the prefix has its scheme and its authority.
-use Rattle.std.proofs.Common.{◌≡◌, ℕ, ◌+◌, ◌-◌, ◌<◌, ◌≤◌, Bool, true, false, not, List, [], ◌∷◌, ◌++◌, ◌||◌, ◌&&◌, length, take, drop, refl, sym, ap, subst, ◌∙◌, arith, ⊎_elim, length-append}
-use Rattle.std.specs.List.{list_any}
-use Rattle.std.specs.Prelude.{codes, IfSome, None, Option, Some, is_some, option_map, unwrap_or}
-use Rattle.std.specs.Str.{IsCharBoundary, IsUtf8}
-use Rattle.std.proofs.Math.Seq.{drop-append_seam, take-append_seam}
-use Rattle.std.proofs.lemmas.Bool.{and_parts, both_ways, cases_Bool, cond-true, cond-false, eqb-true}
-use Rattle.std.proofs.lemmas.List.{drop-append-le, length-take-le}
-use Rattle.std.proofs.lemmas.Str.{IsCharBoundary-at_seam}
-use Rattle.uri_pct.specs.Sets.{is_one_of}
-use Rattle.uri_parts.specs.Components.{Components, components, after_authority, after_scheme, before_any, from_any, has_authority, has_scheme, marked, recompose, starts, when}
-use Rattle.uri_parts.specs.Grammar.{Kind, IsOfKind, is_scheme}
-use Rattle.uri_parts.specs.PackedPositions.{ArePackedPositionsOf, packed}
+use Rattle.uri_mend.proofs.Common.{◌≡◌, ℕ, ◌+◌, ◌-◌, ◌<◌, ◌≤◌, Bool, true, false, not, List, [], ◌∷◌, ◌++◌, ◌||◌, ◌&&◌, length, take, drop, refl, sym, ap, subst, ◌∙◌, arith, ⊎_elim, length-append, list_any, codes, IfSome, None, Option, Some, is_some, option_map, unwrap_or, IsCharBoundary, IsUtf8, drop-append_seam, take-append_seam, and_parts, both_ways, cases_Bool, cond-true, cond-false, eqb-true, drop-append-le, length-take-le, IsCharBoundary-at_seam, is_one_of, Components, components, after_authority, after_scheme, before_any, from_any, has_authority, has_scheme, marked, recompose, starts, when, Kind, IsOfKind, is_scheme, ArePackedPositionsOf, packed, before_any-at-mark, before_any-past-other, from_any-at-mark, from_any-past-other, only-split-is-components, before_path, IsLink, with_ends_at, can_be_mended, has_false_scheme, link_components, IsMendedByPieces, IsPathMendedByPieces, dot_segment_if, mended_path, mended_tail, query_of_tail, Link}
 use Rattle.uri_parts.specs.Positions.{authority_at, delimited_length, positions_of}
 use Rattle.uri_parts.specs.declared.packed_positions.PackedPositions.{PackedPositions}
 use Rattle.uri_parts.specs.declared.positions.AuthorityPositions.{AuthorityPositions}
 use Rattle.uri_parts.proofs.Parsing.WholeTexts.{utf8_after_scheme, utf8_after_authority}
-use Rattle.uri_parts.proofs.Splitting.Cuts.{before_any-at-mark, before_any-past-other, from_any-at-mark, from_any-past-other}
-use Rattle.uri_parts.proofs.Splitting.Splits.{only-split-is-components}
-use Rattle.uri_ops.specs.Models.Places.{before_path}
-use Rattle.uri_mend.specs.Links.{IsLink, with_ends_at}
-use Rattle.uri_mend.specs.Mending.{can_be_mended, has_false_scheme, link_components}
-use Rattle.uri_mend.specs.Tails.{IsMendedByPieces, IsPathMendedByPieces, dot_segment_if, mended_path, mended_tail, query_of_tail}
-use Rattle.uri_mend.specs.declared.link.Link.{Link}
 use Rattle.uri_mend.proofs.LinkComponents.{link-components-without-false-scheme}
 use Rattle.uri_mend.proofs.LinkPieces.{path-without-false-scheme, prefix-without-false-scheme, query-without-false-scheme, text-is-cut-before-path, text-without-false-scheme-is-mended}
 use Rattle.uri_mend.proofs.MendedPositions.{length-before-path}
@@ -55,8 +37,7 @@ cut-at-mark-of-prefix marks (c ∷ p) s some = ⊎_elim
           ∙ sym (before_any-past-other marks c p m);
       from = from_any-past-other marks c (p ++ s) m ∙ rest.from
           ∙ ap (λ t. t ++ s) (sym (from_any-past-other marks c p m));
-    })
-    (cases_Bool (is_one_of marks c))
+    }) (cases_Bool (is_one_of marks c))
 
 -- prefixes: what a text with something before it begins with
 starts-of-prefix : (mark : ℕ) (p s : List ℕ) → is_some_text p ≡ true
@@ -95,11 +76,10 @@ module _ (p s : List ℕ) (shows : ShowsPath p) where
   cut-at-scheme = cut-at-mark-of-prefix (codes ":/?#") p s shows.mark
 
   scheme-is-that-of-prefix : has_scheme (p ++ s) ≡ has_scheme p
-  scheme-is-that-of-prefix =
-      ap (λ t. starts 58 t && not (starts 58 (p ++ s))) cut-at-scheme.from
+  scheme-is-that-of-prefix = ap (λ t. starts 58 t && not (starts 58 (p ++ s))) cut-at-scheme.from
       ∙ ap (λ t. t && not (starts 58 (p ++ s)))
-      (starts-of-prefix 58 (from_any (codes ":/?#") p) s shows.mark)
-      ∙ ap (λ t. starts 58 (from_any (codes ":/?#") p) && not t)
+      (starts-of-prefix 58 (from_any (codes ":/?#") p) s shows.mark) ∙ ap
+      (λ t. starts 58 (from_any (codes ":/?#") p) && not t)
       (starts-of-prefix 58 p s (text-with-mark-is-some (codes ":/?#") p shows.mark))
 
   rest-is-that-of-prefix : after_scheme (p ++ s) ≡ after_scheme p ++ s
@@ -117,9 +97,8 @@ module _ (p s : List ℕ) (shows : ShowsPath p) where
 
   false-scheme-is-that-of-prefix : has_false_scheme (p ++ s) ≡ has_false_scheme p
   unfolding has_false_scheme
-  false-scheme-is-that-of-prefix =
-      ap (λ t. starts 58 t && not (is_scheme (before_any (codes ":/?#") (p ++ s))))
-      cut-at-scheme.from
+  false-scheme-is-that-of-prefix = ap
+      (λ t. starts 58 t && not (is_scheme (before_any (codes ":/?#") (p ++ s)))) cut-at-scheme.from
       ∙ ap (λ t. t && not (is_scheme (before_any (codes ":/?#") (p ++ s))))
       (starts-of-prefix 58 (from_any (codes ":/?#") p) s shows.mark)
       ∙ ap (λ t. starts 58 (from_any (codes ":/?#") p) && not (is_scheme t)) cut-at-scheme.before
@@ -144,8 +123,7 @@ module _ (p s : List ℕ) (shows : ShowsPath p) where
       : (components (p ++ s)).authority ≡ (components p).authority
   authority-of-text-is-that-of-prefix = ⊎_elim
       (λ e. ap (λ t. when t (before_any (codes "/?#") (drop 2 (after_scheme (p ++ s)))))
-      authority-is-that-of-prefix
-      ∙ ap (λ t. when (has_authority (after_scheme p)) t)
+      authority-is-that-of-prefix ∙ ap (λ t. when (has_authority (after_scheme p)) t)
       (ap (before_any (codes "/?#")) bytes-of-authority
       ∙ (cut-at-mark-of-prefix (codes "/?#") (drop 2 (after_scheme p)) s (shows.ended e)).before))
       (λ e. ap (λ t. when t (before_any (codes "/?#") (drop 2 (after_scheme (p ++ s)))))
@@ -211,11 +189,9 @@ no-host-is-at-zero p before e none = ap (λ (x : PackedPositions). x.host_start)
 
 -- prefixes: when a text of these positions shows where its path begins
 positions-show-path : (p : List ℕ) (before : PackedPositions) → ArePackedPositionsOf p before
-    → before.path_start < length p
-    → (before.host_start ≡ 0 → 2 ≤ length p - before.path_start)
+    → before.path_start < length p → (before.host_start ≡ 0 → 2 ≤ length p - before.path_start)
     → (before.host_start ≡ 0 → before.scheme_end ≡ 0
-    → is_some_text (from_any (codes ":/?#") p) ≡ true)
-    → ShowsPath p
+    → is_some_text (from_any (codes ":/?#") p) ≡ true) → ShowsPath p
 positions-show-path p before e some two mark =
     let size = length-of-tail p before e in
     record {
@@ -233,12 +209,10 @@ positions-show-path p before e some two mark =
           let whole : length (after_authority (after_scheme p)) ≡ length (after_scheme p) =
           ap length (cond-false _ _ _ a) in
           let l = two (no-host-is-at-zero p before e a) in
-          omega (arith, l, whole, size))
-          (cases_Bool (has_authority (after_scheme p)));
+          omega (arith, l, whole, size)) (cases_Bool (has_authority (after_scheme p)));
       ended = λ a. text-with-length-is-some _ (
-          let cut : length (after_authority (after_scheme p))
-          ≡ length (from_any (codes "/?#") (drop 2 (after_scheme p))) =
-          ap length (cond-true _ _ _ a) in
+          let cut : length (after_authority (after_scheme p)) ≡ length
+          (from_any (codes "/?#") (drop 2 (after_scheme p))) = ap length (cond-true _ _ _ a) in
           omega (arith, cut, size, some));
     }
 
@@ -305,8 +279,7 @@ link-of-prefix text p s before u e at none shows =
       before = λ path_end query_end.
           ap (λ (x : PackedPositions). with_ends_at x path_end query_end) at
           ∙ positions-by-scheme-and-authority (components p) (link_components text) path_end
-          query_end
-          (sym (ap (λ (x : Components). x.scheme) link ∙ scheme))
+          query_end (sym (ap (λ (x : Components). x.scheme) link ∙ scheme))
           (sym (ap (λ (x : Components). x.authority) link ∙ authority));
     }
 
@@ -318,19 +291,17 @@ text-with-prefix-can-be-mended kind text p s e none shows h =
     (ap has_false_scheme e ∙ false-scheme-is-that-of-prefix p s shows ∙ none) in
     ⊎_elim
     (λ can. can)
-    (λ can. absurd (no_text_of_kind_has_rejected_scheme_and_authority kind text p can h
-    (sym (ap (λ (x : Components). x.scheme) link ∙ ap (λ t. (components t).scheme) e
-    ∙ scheme-of-text-is-that-of-prefix p s shows))
-    (sym (ap (λ (x : Components). x.authority) link ∙ ap (λ t. (components t).authority) e
-    ∙ authority-of-text-is-that-of-prefix p s shows))))
+    (λ can. absurd (no_text_of_kind_has_rejected_scheme_and_authority kind text p can h (sym
+    (ap (λ (x : Components). x.scheme) link ∙ ap (λ t. (components t).scheme) e
+    ∙ scheme-of-text-is-that-of-prefix p s shows)) (sym (ap (λ (x : Components). x.authority) link
+    ∙ ap (λ t. (components t).authority) e ∙ authority-of-text-is-that-of-prefix p s shows))))
     (cases_Bool (can_be_mended kind text))
 
 -- prefixes: when a prefix of a text, of these positions, shows where its path begins
-pub prefix-shows-path : (text : List ℕ) (index : ℕ) (before : PackedPositions)
-    → index ≤ length text → ArePackedPositionsOf (take index text) before
-    → before.path_start < index → (before.host_start ≡ 0 → 2 ≤ index - before.path_start)
-    → (before.host_start ≡ 0 → before.scheme_end ≡ 0
-    → list_any (is_one_of (codes ":/?#")) (take index text) ≡ true)
+pub prefix-shows-path : (text : List ℕ) (index : ℕ) (before : PackedPositions) → index ≤ length text
+    → ArePackedPositionsOf (take index text) before → before.path_start < index
+    → (before.host_start ≡ 0 → 2 ≤ index - before.path_start) → (before.host_start ≡ 0
+    → before.scheme_end ≡ 0 → list_any (is_one_of (codes ":/?#")) (take index text) ≡ true)
     → ShowsPath (take index text)
 prefix-shows-path text index before inside at some two mark =
     let size : length (take index text) ≡ index = length-take-le index text inside in

@@ -1,28 +1,14 @@
 -- The positions in a mended text: those of what is before the path, and two ends.
-use Rattle.std.proofs.Common.{◌≡◌, ℕ, ◌+◌, List, [], ◌++◌, drop, length, refl, sym, ap, ◌∙◌, arith, length-append}
-use Rattle.std.specs.Prelude.{codes, Option, Some, None, option_map, unwrap_or}
-use Rattle.std.specs.Str.{IsUtf8}
-use Rattle.std.proofs.lemmas.List.{append-nil, length-take-le}
-use Rattle.uri_parts.specs.Components.{Components, components, from_any, marked}
-use Rattle.uri_parts.specs.Grammar.{Kind}
-use Rattle.uri_parts.specs.PackedPositions.{ArePackedPositionsOf, packed}
+use Rattle.uri_mend.proofs.Common.{◌≡◌, ℕ, ◌+◌, List, [], ◌++◌, drop, length, refl, sym, ap, ◌∙◌, arith, length-append, codes, Option, Some, None, option_map, unwrap_or, IsUtf8, append-nil, length-take-le, Components, components, from_any, marked, Kind, ArePackedPositionsOf, packed, HasComponentSets, before_path, IsLink, with_ends_at, mended, link_components, mended_components, mended_text, dot_segment_if, mended_path, mended_query, Link}
 use Rattle.uri_parts.specs.Positions.{before_fragment, delimited_length, positions_of}
-use Rattle.uri_ops.specs.ComponentSets.{HasComponentSets}
-use Rattle.uri_ops.specs.Models.Places.{before_path}
-use Rattle.uri_mend.specs.Links.{IsLink, with_ends_at}
-use Rattle.uri_mend.specs.MendedParts.{mended}
-use Rattle.uri_mend.specs.Mending.{link_components, mended_components, mended_text}
-use Rattle.uri_mend.specs.Tails.{dot_segment_if, mended_path, mended_query}
-use Rattle.uri_mend.specs.declared.link.Link.{Link}
 use Rattle.uri_mend.proofs.MendedReferences.{components-of-mended-text}
 
 -- positions: the length of a component with the delimiters beside it
 length-of-delimited : (before after : List ℕ) (o : Option (List ℕ))
     → length (marked before o after) ≡ delimited_length (length before + length after) o
 length-of-delimited before after None = refl
-length-of-delimited before after (Some x) =
-    length-append (before ++ x) after ∙ ap (λ n. n + length after) (length-append before x)
-    ∙ omega arith
+length-of-delimited before after (Some x) = length-append (before ++ x) after
+    ∙ ap (λ n. n + length after) (length-append before x) ∙ omega arith
 
 -- positions: what is before the path is as long as the path's position says
 pub length-before-path : (p : Components)
@@ -37,8 +23,7 @@ length-before-path p =
 query-end-after : (n : ℕ) (o : Option (List ℕ))
     → n + length (marked (codes "?") o []) ≡ unwrap_or (option_map (λ q. n + 1 + length q) o) n
 query-end-after n None = omega arith
-query-end-after n (Some q) =
-    ap (λ t. n + length t) (append-nil (codes "?" ++ q)) ∙ omega arith
+query-end-after n (Some q) = ap (λ t. n + length t) (append-nil (codes "?" ++ q)) ∙ omega arith
 
 -- positions: with the ends of path and query, those of a prefix are those of the whole
 ends-complete-positions : (kind : Kind) (p : Components) (path_end query_end : ℕ)
@@ -49,19 +34,17 @@ ends-complete-positions : (kind : Kind) (p : Components) (path_end query_end : �
     ≡ packed (positions_of (mended_components kind p))
 ends-complete-positions kind p path_end query_end e f =
     let q = mended_components kind p in
-    let last : query_end ≡ before_fragment (positions_of q) =
-    f ∙ query-end-after path_end q.query
+    let last : query_end ≡ before_fragment (positions_of q) = f ∙ query-end-after path_end q.query
     ∙ ap (λ n. unwrap_or (option_map (λ x. n + 1 + length x) q.query) n) e in
     λ i. record (packed (positions_of q)) { path_end = e i; query_end = last i }
 
 -- positions: those of a mended text are those of what is before its path, and where path and query
 -- end
-pub positions-of-mended-text : (kind : Kind) → HasComponentSets kind → (text made : List ℕ)
-    (link : Link) (path_end query_end : ℕ) → IsUtf8 text → IsLink text link
-    → made ≡ mended_text kind text
-    → path_end ≡ link.path_start + length (dot_segment_if link.has_false_scheme)
-    + length (mended_path kind (drop link.path_start text))
-    → query_end ≡ path_end
+pub positions-of-mended-text : (kind : Kind) → HasComponentSets kind
+    → (text made : List ℕ) (link : Link) (path_end query_end : ℕ) → IsUtf8 text → IsLink text link
+    → made ≡ mended_text kind text → path_end ≡ link.path_start
+    + length (dot_segment_if link.has_false_scheme)
+    + length (mended_path kind (drop link.path_start text)) → query_end ≡ path_end
     + length (mended_query kind.query (from_any (codes "?#") (drop link.path_start text)))
     → ArePackedPositionsOf made (with_ends_at link.before path_end query_end)
 positions-of-mended-text kind sets text made link path_end query_end u h same ends last =

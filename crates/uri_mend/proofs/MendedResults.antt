@@ -1,21 +1,8 @@
 -- The reference that a text is mended to has all that is said of one.
-use Rattle.std.proofs.Common.{◌≡◌, ◌+◌, length, true, false, refl, sym, ap, ◌∙◌, subst, List, ℕ, ◌≤◌, arith, length-append}
-use Rattle.std.proofs.lemmas.List.{length-take-le}
-use Rattle.std.specs.Prelude.{Bool, IfSome, None, Option, Some, [], ◌++◌, ◌-◌, drop, option_map, take}
-use Rattle.std.specs.Str.{IsUtf8}
-use Rattle.uri_pct.specs.Sets.{LacksPercent, TableSet}
-use Rattle.uri_parts.specs.Components.{Components, components}
-use Rattle.uri_parts.specs.Grammar.{Kind, IsOfKind, components_meet_rules}
-use Rattle.uri_ops.specs.ComponentSets.{HasComponentSets}
-use Rattle.uri_ops.proofs.Meanings.TextParts.{components-of-utf8-are-utf8, grammar-gives-components-of-kind}
+use Rattle.uri_mend.proofs.Common.{◌≡◌, ◌+◌, length, true, false, refl, sym, ap, ◌∙◌, subst, List, ℕ, ◌≤◌, arith, length-append, length-take-le, Bool, IfSome, None, Option, Some, [], ◌++◌, ◌-◌, drop, option_map, take, IsUtf8, LacksPercent, TableSet, Components, components, Kind, IsOfKind, components_meet_rules, HasComponentSets, components-of-utf8-are-utf8, grammar-gives-components-of-kind, IsLink, mended, dot_segment_if, mended_tail, Link, can_be_mended, has_false_scheme, link_components, mended_components, mended_text, with_dot_segment}
 use Rattle.uri_ops.proofs.Normal.NormalTexts.{recomposed-components-are-utf8}
-use Rattle.uri_mend.specs.Links.{IsLink}
-use Rattle.uri_mend.specs.MendedParts.{mended}
-use Rattle.uri_mend.specs.Tails.{dot_segment_if, mended_tail}
-use Rattle.uri_mend.specs.declared.link.Link.{Link}
 use Rattle.uri_mend.specs.Encodings.{AreComponentsEncodedAs, DecodeAlike}
 use Rattle.uri_mend.specs.Mended.{IsMended}
-use Rattle.uri_mend.specs.Mending.{can_be_mended, has_false_scheme, link_components, mended_components, mended_text, with_dot_segment}
 use Rattle.uri_mend.proofs.FewestEncodings.{mended-components-are-encoded, mended-components-decode-alike, mended-components-encode-fewest}
 use Rattle.uri_mend.proofs.LinkComponents.{false-scheme-gets-dot-segment, link-components-without-false-scheme, with_dot_segment-is-utf8}
 use Rattle.uri_mend.proofs.MendedTokens.{mended-text-is-utf8}
@@ -33,8 +20,7 @@ mended-part-is-utf8 set (Some x) lacks h = mended-text-is-utf8 set x lacks h
 pieces-in-order : (dot : Bool) (prefix tail : List ℕ) → (dot ≡ true → prefix ≡ [])
     → (dot_segment_if dot ++ prefix) ++ tail ≡ prefix ++ (dot_segment_if dot ++ tail)
 pieces-in-order false prefix tail alone = refl
-pieces-in-order true prefix tail alone =
-    ap (λ t. (dot_segment_if true ++ t) ++ tail) (alone refl)
+pieces-in-order true prefix tail alone = ap (λ t. (dot_segment_if true ++ t) ++ tail) (alone refl)
     ∙ ap (λ t. t ++ (dot_segment_if true ++ tail)) (sym (alone refl))
 
 -- mending: nothing is before a path that begins with the text
@@ -43,29 +29,24 @@ nothing-before-start text start e = ap (λ n. take n text) e
 
 -- mending: a text is mended as its pieces, in this order
 pub pieces-are-mended-text : (kind : Kind) → HasComponentSets kind → (text : List ℕ) (link : Link)
-    → IsLink text link
-    → (dot_segment_if link.has_false_scheme ++ take link.path_start text)
+    → IsLink text link → (dot_segment_if link.has_false_scheme ++ take link.path_start text)
     ++ mended_tail kind (drop link.path_start text) ≡ mended_text kind text
-pieces-are-mended-text kind sets text link h =
-    pieces-in-order link.has_false_scheme (take link.path_start text)
-    (mended_tail kind (drop link.path_start text))
-    (λ e. nothing-before-start text link.path_start (h.alone e))
-    ∙ sym (h.pieces kind sets)
+pieces-are-mended-text kind sets text link h = pieces-in-order link.has_false_scheme
+    (take link.path_start text) (mended_tail kind (drop link.path_start text))
+    (λ e. nothing-before-start text link.path_start (h.alone e)) ∙ sym (h.pieces kind sets)
 
 -- mending: what is written before a text is mended from a position on
 pub start-of-mended-text : (text out : List ℕ) (at n : ℕ) (dot : Bool)
     → take at out ≡ dot_segment_if dot
     → take at out ++ take (n - 0) (drop 0 text) ≡ dot_segment_if dot ++ take n text
-start-of-mended-text text out at n dot e =
-    ap (λ t. t ++ take (n - 0) (drop 0 text)) e
+start-of-mended-text text out at n dot e = ap (λ t. t ++ take (n - 0) (drop 0 text)) e
     ∙ ap (λ k. dot_segment_if dot ++ take k text) (omega arith)
 
 -- mending: how long is what is written before a position
 pub length-of-start : (text : List ℕ) (n : ℕ) (dot : Bool) → n ≤ length text
     → length (dot_segment_if dot ++ take n text) ≡ n + length (dot_segment_if dot)
 length-of-start text n dot inside =
-    length-append (dot_segment_if dot) (take n text)
-    ∙ omega (arith, length-take-le n text inside)
+    length-append (dot_segment_if dot) (take n text) ∙ omega (arith, length-take-le n text inside)
 
 module _ (kind : Kind) (sets : HasComponentSets kind) (text : List ℕ) (u : IsUtf8 text) where
   -- mending: the components of the mended text

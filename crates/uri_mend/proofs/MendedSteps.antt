@@ -1,22 +1,8 @@
 -- A mended component, from left to right: what a scan passes stays, and the character where it
 -- stops becomes octets.
-use Rattle.std.proofs.Common.{◌≡◌, ℕ, ◌+◌, true, false, cond, eqb, List, [], ◌∷◌, ◌++◌, length, take, drop, map, refl, sym, ap, subst, ◌∙◌, arith, ⊎_elim, append_assoc, ◌&&◌}
-use Rattle.std.specs.Char.{encode_utf8, len_utf8, is_ascii_hexdigit}
-use Rattle.std.specs.Str.{chars, encode_utf8_all, all_scalars, IsUtf8}
-use Rattle.std.proofs.Math.Seq.{take-append-add, drop-append-add}
-use Rattle.std.proofs.lemmas.Bool.{cases_Bool, cond-true, cond-false, and_parts, and_from, eqb-true, and_right}
-use Rattle.std.proofs.lemmas.List.{append-nil, take_all, drop_all}
-use Rattle.std.proofs.lemmas.Str.{length-encode, chars_past_char, chars-encodes, encode_ascii, len_utf8_bounds, chars-nil, encodes-chars, scalars-chars}
-use Rattle.uri_pct.specs.Sets.{TableSet, LacksPercent, allows}
-use Rattle.uri_pct.specs.Prefixes.{valid_prefix, valid_prefix_from, begins_with_hex_digits}
+use Rattle.uri_mend.proofs.Common.{◌≡◌, ℕ, ◌+◌, true, false, cond, eqb, List, [], ◌∷◌, ◌++◌, length, take, drop, map, refl, sym, ap, subst, ◌∙◌, arith, ⊎_elim, append_assoc, ◌&&◌, encode_utf8, len_utf8, is_ascii_hexdigit, chars, encode_utf8_all, all_scalars, IsUtf8, take-append-add, drop-append-add, cases_Bool, cond-true, cond-false, and_parts, and_from, eqb-true, and_right, append-nil, take_all, drop_all, length-encode, chars_past_char, chars-encodes, encode_ascii, len_utf8_bounds, chars-nil, encodes-chars, scalars-chars, TableSet, LacksPercent, allows, valid_prefix, valid_prefix_from, begins_with_hex_digits, Octet, print, is_pct_encoded, is_valid_for, encode_char, allowed_char_is_printed_literally, disallowed_char_is_encoded_as_octets, hexdigit_is_ascii, encoded_chars_begin_with_same_hex_digits, is_valid_for_is_scanned_to_end, valid_prefix_by_first_byte, mended_from_chars, mended}
 use Rattle.uri_pct.specs.Texts.{has_hex_digits_after}
-use Rattle.uri_pct.specs.Tokens.{Octet, print, is_pct_encoded, is_valid_for}
-use Rattle.uri_pct.specs.Encoding.{encode_char}
-use Rattle.uri_pct.proofs.EncodedTexts.Encodings.{allowed_char_is_printed_literally, disallowed_char_is_encoded_as_octets}
-use Rattle.uri_pct.proofs.Unicode.Characters.{hexdigit_is_ascii, encoded_chars_begin_with_same_hex_digits}
-use Rattle.uri_pct.proofs.ValidTexts.Cuts.{is_valid_for_is_scanned_to_end, valid_prefix_by_first_byte}
 use Rattle.uri_pct.proofs.ValidTexts.PrefixSteps.{valid_prefix_by_first_char, valid_prefix_passes_octet}
-use Rattle.uri_mend.specs.MendedParts.{mended_from_chars, mended}
 
 -- mended components: a first character that begins no octet is mended by itself
 pub mended-by-first-of-chars : (set : TableSet) (c : ℕ) (cs : List ℕ)
@@ -86,16 +72,14 @@ module _ (set : TableSet) (lacks : LacksPercent set) (octets : set.pct_encoded �
       (λ is.
       let text = encode_utf8_all cs in
       let at : c ≡ 37 = eqb-true c 37 is in
-      let none : begins_with_hex_digits text ≡ false =
-      encoded_chars_begin_with_same_hex_digits cs
+      let none : begins_with_hex_digits text ≡ false = encoded_chars_begin_with_same_hex_digits cs
       ∙ sym (ap (λ t. t && begins_with_hex_digits cs) is) ∙ e in
       ap (λ t. valid_prefix set (t ++ text)) (encode_ascii c (omega arith))
       ∙ valid_prefix_by_first_byte set c text
       ∙ cond-true _ _ _ (and_from _ _ octets is) ∙ cond-false _ _ _ none
       ∙ sym (cond-false _ _ _ (ap (allows set) at ∙ lacks)))
       (λ is. valid_prefix_by_first_char set (encode_utf8_all (c ∷ cs)) (encode_utf8_all cs) c
-      (c ∷ cs, (s, refl)) refl (and_right _ _ is))
-      (cases_Bool (eqb c 37))
+      (c ∷ cs, (s, refl)) refl (and_right _ _ is)) (cases_Bool (eqb c 37))
 
   -- an octet before what is kept is kept too
   kept-after-octet : (c high low : ℕ) (cs : List ℕ) (n : ℕ) → all_scalars cs ≡ true
@@ -112,31 +96,28 @@ module _ (set : TableSet) (lacks : LacksPercent set) (octets : set.pct_encoded �
       let back : drop (n + 3) (c ∷ high ∷ low ∷ text) ≡ drop n text =
       ap (λ k. drop k (c ∷ high ∷ low ∷ text)) (omega arith)
       ∙ drop-append-add (c ∷ high ∷ low ∷ []) text n in
-      mended-text-of-chars set (c ∷ high ∷ low ∷ cs) all
-      ∙ subst P (sym (octet-text-of-chars c high low cs e))
-      (mended-by-first-octet set c high low cs e
-      ∙ ap (λ x. c ∷ high ∷ low ∷ x) (sym (mended-text-of-chars set cs s) ∙ kept)
-      ∙ sym (ap (λ x. x ++ mended set (drop (n + 3) (c ∷ high ∷ low ∷ text))) prefix
+      mended-text-of-chars set (c ∷ high ∷ low ∷ cs) all ∙ subst P
+      (sym (octet-text-of-chars c high low cs e)) (mended-by-first-octet set c high low cs e
+      ∙ ap (λ x. c ∷ high ∷ low ∷ x) (sym (mended-text-of-chars set cs s) ∙ kept) ∙ sym
+      (ap (λ x. x ++ mended set (drop (n + 3) (c ∷ high ∷ low ∷ text))) prefix
       ∙ ap (λ x. (c ∷ high ∷ low ∷ take n text) ++ mended set x) back))
 
   -- an allowed character before what is kept is kept too
   kept-after-allowed-char : (c : ℕ) (cs : List ℕ) (n : ℕ) → all_scalars (c ∷ cs) ≡ true
       → (eqb c 37 && begins_with_hex_digits cs) ≡ false → allows set c ≡ true
-      → IsKept set (encode_utf8_all cs) n
-      → IsKept set (encode_utf8_all (c ∷ cs)) (n + len_utf8 c)
+      → IsKept set (encode_utf8_all cs) n → IsKept set (encode_utf8_all (c ∷ cs)) (n + len_utf8 c)
   kept-after-allowed-char c cs n s e allowed kept =
       let rest = encode_utf8_all cs in
       let text : List ℕ = encode_utf8 c ++ rest in
       let size : n + len_utf8 c ≡ length (encode_utf8 c) + n = omega (arith, length-encode c) in
       let suffix = mended set (drop n rest) in
-      mended-text-of-chars set (c ∷ cs) s
-      ∙ mended-by-first-of-chars set c cs e
+      mended-text-of-chars set (c ∷ cs) s ∙ mended-by-first-of-chars set c cs e
       ∙ ap (λ x. x ++ mended_from_chars set cs) (allowed_char_is_printed_literally set c allowed)
       ∙ ap (λ x. encode_utf8 c ++ x)
       (sym (mended-text-of-chars set cs (and_parts _ (all_scalars cs) s).1) ∙ kept)
       ∙ sym (append_assoc (encode_utf8 c) (take n rest) suffix)
-      ∙ ap (λ x. x ++ suffix) (sym (take-append-add (encode_utf8 c) rest n))
-      ∙ ap (λ x. take (length (encode_utf8 c) + n) text ++ mended set x)
+      ∙ ap (λ x. x ++ suffix) (sym (take-append-add (encode_utf8 c) rest n)) ∙ ap
+      (λ x. take (length (encode_utf8 c) + n) text ++ mended set x)
       (sym (drop-append-add (encode_utf8 c) rest n))
       ∙ ap (λ k. take k text ++ mended set (drop k text)) (sym size)
 
@@ -159,9 +140,8 @@ module _ (set : TableSet) (lacks : LacksPercent set) (octets : set.pct_encoded �
       → IsKept set (encode_utf8_all cs) (valid_prefix set (encode_utf8_all cs))
   unfolding valid_prefix_from begins_with_hex_digits is_pct_encoded
   scanned-prefix-of-chars-is-kept [] s = no-bytes-are-kept set []
-  scanned-prefix-of-chars-is-kept (c ∷ []) s =
-      first-of-chars-kept-or-unscanned c [] s (and_right _ _ refl)
-      (scanned-prefix-of-chars-is-kept [] refl)
+  scanned-prefix-of-chars-is-kept (c ∷ []) s = first-of-chars-kept-or-unscanned c [] s
+      (and_right _ _ refl) (scanned-prefix-of-chars-is-kept [] refl)
   scanned-prefix-of-chars-is-kept (c ∷ d ∷ []) s =
       first-of-chars-kept-or-unscanned c (d ∷ []) s (and_right _ _ (and_right _ _ refl))
       (scanned-prefix-of-chars-is-kept (d ∷ []) (and_parts _ _ s).1)
@@ -170,18 +150,16 @@ module _ (set : TableSet) (lacks : LacksPercent set) (octets : set.pct_encoded �
       let q = and_parts _ _ p.1 in
       let r = and_parts _ (all_scalars cs) q.1 in
       ⊎_elim
-      (λ is. subst (IsKept set (encode_utf8_all (c ∷ high ∷ low ∷ cs)))
-      (sym (ap (valid_prefix set) (octet-text-of-chars c high low cs is)
-      ∙ scan-passes-octet c high low (encode_utf8_all cs) is))
-      (kept-after-octet c high low cs (valid_prefix set (encode_utf8_all cs)) r.1 s is
-      (scanned-prefix-of-chars-is-kept cs r.1)))
+      (λ is. subst (IsKept set (encode_utf8_all (c ∷ high ∷ low ∷ cs))) (sym
+      (ap (valid_prefix set) (octet-text-of-chars c high low cs is)
+      ∙ scan-passes-octet c high low (encode_utf8_all cs) is)) (kept-after-octet c high low cs
+      (valid_prefix set (encode_utf8_all cs)) r.1 s is (scanned-prefix-of-chars-is-kept cs r.1)))
       (λ is. first-of-chars-kept-or-unscanned c (high ∷ low ∷ cs) s is
       (scanned-prefix-of-chars-is-kept (high ∷ low ∷ cs) p.1))
       (cases_Bool (is_pct_encoded c high low))
 
   -- what is scanned of a text stays as it is
-  pub scanned-prefix-is-kept : (text : List ℕ) → IsUtf8 text
-      → mended set text
+  pub scanned-prefix-is-kept : (text : List ℕ) → IsUtf8 text → mended set text
       ≡ take (valid_prefix set text) text ++ mended set (drop (valid_prefix set text) text)
   scanned-prefix-is-kept text u =
       let P : List ℕ → Type 0 = λ t. IsKept set t (valid_prefix set t) in
@@ -194,16 +172,14 @@ module _ (set : TableSet) (lacks : LacksPercent set) (octets : set.pct_encoded �
   valid-text-is-its-own-mended-text text u valid =
       let whole : valid_prefix set text ≡ length text =
       eqb-true _ _ (sym (is_valid_for_is_scanned_to_end set text lacks u) ∙ valid) in
-      scanned-prefix-is-kept text u
-      ∙ ap (λ n. take n text ++ mended set (drop n text)) whole
+      scanned-prefix-is-kept text u ∙ ap (λ n. take n text ++ mended set (drop n text)) whole
       ∙ ap (λ t. t ++ mended set (drop (length text) text)) (take_all _ text (omega arith))
       ∙ ap (λ t. text ++ mended set t) (drop_all (length text) text (omega arith))
       ∙ ap (λ cs. text ++ mended_from_chars set cs) chars-nil ∙ append-nil text
 
   -- a first character becomes octets where a scan stops at once
   char-before-chars-is-encoded : (c : ℕ) (cs : List ℕ) → all_scalars (c ∷ cs) ≡ true
-      → valid_prefix set (encode_utf8_all (c ∷ cs)) ≡ 0
-      → mended_from_chars set (c ∷ cs)
+      → valid_prefix set (encode_utf8_all (c ∷ cs)) ≡ 0 → mended_from_chars set (c ∷ cs)
       ≡ print (map Octet (encode_utf8 c)) ++ mended_from_chars set cs
   char-before-chars-is-encoded c cs s none = ⊎_elim
       (λ is.
@@ -237,7 +213,5 @@ module _ (set : TableSet) (lacks : LacksPercent set) (octets : set.pct_encoded �
       let first = chars_past_char text rest c u e in
       let same : encode_utf8_all (c ∷ cs) ≡ text =
       ap encode_utf8_all (sym first) ∙ encodes-chars text u in
-      ap (mended_from_chars set) first
-      ∙ char-before-chars-is-encoded c cs
-      (ap all_scalars (sym first) ∙ scalars-chars text u)
-      (ap (valid_prefix set) same ∙ none)
+      ap (mended_from_chars set) first ∙ char-before-chars-is-encoded c cs
+      (ap all_scalars (sym first) ∙ scalars-chars text u) (ap (valid_prefix set) same ∙ none)

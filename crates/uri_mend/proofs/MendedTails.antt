@@ -1,15 +1,6 @@
 -- What follows an authority, mended component by component.
-use Rattle.std.proofs.Common.{◌≡◌, ℕ, ◌+◌, ◌-◌, ◌<◌, ◌≤◌, true, List, [], ◌∷◌, ◌++◌, length, take, drop, get_or, refl, sym, ap, ◌∙◌, arith, append_assoc, length-append, length-drop}
-use Rattle.std.specs.Prelude.{codes, option_map}
-use Rattle.std.proofs.lemmas.List.{append-nil, drop_more, length-take-le}
-use Rattle.uri_pct.specs.Sets.{TableSet}
-use Rattle.uri_parts.specs.Components.{after_query, before_any, from_any, marked, starts, when}
-use Rattle.uri_parts.specs.Grammar.{Kind}
-use Rattle.uri_parts.proofs.Splitting.Cuts.{cut-at-end-of-text-without-marks}
-use Rattle.uri_mend.specs.MendedParts.{mended}
-use Rattle.uri_mend.specs.Progress.{IsProgress, mended_so_far}
+use Rattle.uri_mend.proofs.Common.{◌≡◌, ℕ, ◌+◌, ◌-◌, ◌<◌, ◌≤◌, true, List, [], ◌∷◌, ◌++◌, length, take, drop, get_or, refl, sym, ap, ◌∙◌, arith, append_assoc, length-append, length-drop, codes, option_map, append-nil, drop_more, length-take-le, TableSet, after_query, before_any, from_any, marked, starts, when, Kind, cut-at-end-of-text-without-marks, mended, IsProgress, mended_so_far, mended_fragment, mended_query, mended_tail}
 use Rattle.uri_mend.specs.declared.component.Progress.{Progress}
-use Rattle.uri_mend.specs.Tails.{mended_fragment, mended_query, mended_tail}
 use Rattle.uri_mend.proofs.ComponentProgress.{run-goes-on}
 
 -- tails: a run that goes on by the character mark
@@ -33,8 +24,7 @@ query-is-mended set out new end e written =
 
 -- tails: no character ends a component without marks
 text-without-marks-is-whole : (text : List ℕ) → before_any [] text ≡ text
-text-without-marks-is-whole text =
-    ap (before_any []) (sym (append-nil text))
+text-without-marks-is-whole text = ap (before_any []) (sym (append-nil text))
     ∙ (cut-at-end-of-text-without-marks [] text [] (λ k d l. refl) tt).0
 
 -- tails: a fragment is mended after its `#`
@@ -61,9 +51,8 @@ parts-are-mended-tail kind tail end rest a b c d e r first second third =
     let fragment = mended_fragment kind.fragment rest in
     third ∙ ap (λ t. t ++ fragment) (second ∙ ap (λ t. t ++ query) first)
     ∙ append_assoc (a ++ path) query fragment ∙ append_assoc a path (query ++ fragment)
-    ∙ ap (λ t. a ++ (path ++ (query ++ mended_fragment kind.fragment t))) r
-    ∙ ap (λ t. a ++ (path ++ (mended_query kind.query t
-    ++ mended_fragment kind.fragment (after_query t)))) e
+    ∙ ap (λ t. a ++ (path ++ (query ++ mended_fragment kind.fragment t))) r ∙ ap (λ t.
+    a ++ (path ++ (mended_query kind.query t ++ mended_fragment kind.fragment (after_query t)))) e
 
 -- tails: how long is what a text is mended to so far
 pub length-of-mended-so-far : (text out : List ℕ) (p : Progress) → IsProgress text out p

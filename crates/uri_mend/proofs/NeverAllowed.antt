@@ -1,14 +1,6 @@
 -- The characters that no path, query or fragment of the four kinds may have, and the marks that end
 -- these.
-use Rattle.std.proofs.Common.{◌≡◌, ℕ, ◌<◌, ◌≤◌, Bool, true, false, refl, sym, ap, subst, ◌∙◌, ◌&&◌, ⊎_elim}
-use Rattle.std.specs.Prelude.{codes}
-use Rattle.std.proofs.lemmas.Bool.{agree_below_at, and_left, cases_lt}
-use Rattle.uri_pct.specs.Masks.{has_bit}
-use Rattle.uri_pct.specs.Sets.{TableSet, is_path_char, is_query_char}
-use Rattle.uri_pct.proofs.TableSets.Masks.{has_bit_past_ascii_is_false}
-use Rattle.uri_parts.specs.Grammar.{Kind, kind_by_flags}
-use Rattle.uri_mend.specs.declared.component.TheConstants.{NEVER_HIGH, NEVER_LOW}
-use Rattle.uri_mend.specs.Progress.{are_marks}
+use Rattle.uri_mend.proofs.Common.{◌≡◌, ℕ, ◌<◌, ◌≤◌, Bool, true, false, refl, sym, ap, subst, ◌∙◌, ◌&&◌, ⊎_elim, codes, agree_below_at, and_left, cases_lt, has_bit, TableSet, is_path_char, is_query_char, has_bit_past_ascii_is_false, Kind, kind_by_flags, NEVER_HIGH, NEVER_LOW, are_marks}
 
 -- sets: the set lacks the characters that no component may have
 abbrev pub LacksNever : TableSet → Type 0
@@ -21,8 +13,7 @@ fails-for-never : (test : ℕ → Bool) → ((b : ℕ) → b < 128
 fails-for-never test below b bit = ⊎_elim
     (λ (h : b < 128). sym (ap (λ t. t && test b) bit) ∙ below b h)
     (λ (h : 128 ≤ b). absurd (Rattle.std.proofs.lemmas.Bool.both_ways _
-    (has_bit_past_ascii_is_false NEVER_LOW NEVER_HIGH b h) bit))
-    (cases_lt b 128)
+    (has_bit_past_ascii_is_false NEVER_LOW NEVER_HIGH b h) bit)) (cases_lt b 128)
 
 -- sets: no such character may be in a path
 never-is-no-path-char : (b : ℕ) → has_bit NEVER_LOW NEVER_HIGH b ≡ true → is_path_char b ≡ false

@@ -1,17 +1,7 @@
 -- Links of pages without their white space.
-use Rattle.std.proofs.Common.{◌≡◌, ℕ, true, false, List, [], ◌∷◌, ◌++◌, drop, refl, sym, ap, ◌∙◌, ⊎_elim, append_assoc, arith, length, subst, ◌<◌}
-use Rattle.std.specs.Char.{is_ascii_whitespace}
-use Rattle.std.specs.List.{list_any, prefix_len}
-use Rattle.std.specs.Str.{IsCharBoundary, IsTrimAscii, IsUtf8}
-use Rattle.std.proofs.lemmas.Bool.{cases_Bool, cond-true, cond-false, not_from_true, not_from_false, or_parts}
-use Rattle.std.proofs.lemmas.Str.{IsCharBoundary-after_ascii}
+use Rattle.uri_mend.proofs.Common.{◌≡◌, ℕ, true, false, List, [], ◌∷◌, ◌++◌, drop, refl, sym, ap, ◌∙◌, ⊎_elim, append_assoc, arith, length, subst, ◌<◌, is_ascii_whitespace, list_any, prefix_len, IsCharBoundary, IsTrimAscii, IsUtf8, cases_Bool, cond-true, cond-false, not_from_true, not_from_false, or_parts, IsCharBoundary-after_ascii, is_one_of, AreAscii-by-test, before_any, from_any, before_any-at-mark, before_any-past-other, from_any-at-mark, from_any-past-other, IsEmptyOrMarked, text-is-cut-at-first-mark, tab_and_newlines, without_any, without_outer_space}
 use Rattle.std.proofs.lemmas.Str.Ascii.{trim_ascii_is}
-use Rattle.uri_pct.specs.Sets.{is_one_of}
-use Rattle.uri_pct.proofs.ValidTexts.MarksInTexts.{AreAscii-by-test}
-use Rattle.uri_parts.specs.Components.{before_any, from_any}
 use Rattle.uri_parts.proofs.Parsing.ScanStops.{utf8_from_marks}
-use Rattle.uri_parts.proofs.Splitting.Cuts.{before_any-at-mark, before_any-past-other, from_any-at-mark, from_any-past-other, IsEmptyOrMarked, text-is-cut-at-first-mark}
-use Rattle.uri_mend.specs.Trimming.{tab_and_newlines, without_any, without_outer_space}
 
 -- trimming: a text without these characters is what is before the first of them, and what is after
 -- it without them
@@ -24,12 +14,11 @@ text-without-marks-by-cut marks (c ∷ rest) = ⊎_elim
     ∙ ap (λ b. b ++ without_any marks (drop 1 (from_any marks (c ∷ rest))))
     (sym (before_any-at-mark marks c rest is)))
     (λ is. cond-true _ _ _ (not_from_false _ is)
-    ∙ ap (λ t. c ∷ t) (text-without-marks-by-cut marks rest)
-    ∙ ap (λ f. (c ∷ before_any marks rest) ++ without_any marks (drop 1 f))
-    (sym (from_any-past-other marks c rest is))
-    ∙ ap (λ b. b ++ without_any marks (drop 1 (from_any marks (c ∷ rest))))
-    (sym (before_any-past-other marks c rest is)))
-    (cases_Bool (is_one_of marks c))
+    ∙ ap (λ t. c ∷ t) (text-without-marks-by-cut marks rest) ∙ ap
+    (λ f. (c ∷ before_any marks rest) ++ without_any marks (drop 1 f))
+    (sym (from_any-past-other marks c rest is)) ∙ ap
+    (λ b. b ++ without_any marks (drop 1 (from_any marks (c ∷ rest))))
+    (sym (before_any-past-other marks c rest is))) (cases_Bool (is_one_of marks c))
 
 -- trimming: a text that has none of these characters is unchanged without them
 pub text-without-marks-is-unchanged : (marks text : List ℕ)

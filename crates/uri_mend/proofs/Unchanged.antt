@@ -1,24 +1,9 @@
 -- What mending leaves as it is: a text of the kind; and what it refuses: a scheme and an authority
 -- that begin no text of the kind.
-use Rattle.std.proofs.Common.{◌≡◌, ℕ, Bool, true, false, not, List, [], ◌∷◌, ◌++◌, refl, sym, ap, ◌∙◌, ⊎_elim, ◌&&◌, ◌||◌, arith, inl, eqb, drop}
-use Rattle.std.specs.Prelude.{codes, Option, Some, None, IfSome, IfNone, is_some, option_map}
-use Rattle.std.specs.Str.{IsUtf8}
-use Rattle.std.proofs.lemmas.Bool.{cases_Bool, cond-false, and_parts, and_from, both_ways, and_left, and_right, eqb-true}
-use Rattle.std.proofs.lemmas.List.{append-nil}
-use Rattle.uri_pct.specs.Sets.{TableSet, LacksPercent}
-use Rattle.uri_pct.specs.Tokens.{is_valid_for}
+use Rattle.uri_mend.proofs.Common.{◌≡◌, ℕ, Bool, true, false, not, List, [], ◌∷◌, ◌++◌, refl, sym, ap, ◌∙◌, ⊎_elim, ◌&&◌, ◌||◌, arith, inl, eqb, drop, codes, Option, Some, None, IfSome, IfNone, is_some, option_map, IsUtf8, cases_Bool, cond-false, and_parts, and_from, both_ways, and_left, and_right, eqb-true, append-nil, TableSet, LacksPercent, is_valid_for, Components, components, recompose, marked, starts, Lacks, IsSplitOf, IsAbemptyPath, has_scheme, has_authority, from_any, before_any, after_scheme, after_authority, when, Kind, IsOfKind, is_of_kind, absent_or_passes, is_scheme, is_authority, has_colon_in_first_segment, components_meet_rules, recompose-components, only-split-is-components, HasComponentSets, before_path, components-of-utf8-are-utf8, grammar-gives-components-of-kind, mended, has_false_scheme, link_components, mended_components, mended_text, can_be_mended}
 use Rattle.uri_pct.proofs.ValidTexts.EStrs.{empty_text_is_valid}
-use Rattle.uri_parts.specs.Components.{Components, components, recompose, marked, starts, Lacks, IsSplitOf, IsAbemptyPath, has_scheme, has_authority, from_any, before_any, after_scheme, after_authority, when}
-use Rattle.uri_parts.specs.Grammar.{Kind, IsOfKind, is_of_kind, absent_or_passes, is_scheme, is_authority, has_colon_in_first_segment, components_meet_rules}
-use Rattle.uri_parts.proofs.Splitting.Recompose.{recompose-components}
 use Rattle.uri_parts.proofs.Splitting.Relative.{colon_in_first_segment-is-at-start}
-use Rattle.uri_parts.proofs.Splitting.Splits.{only-split-is-components}
-use Rattle.uri_ops.specs.ComponentSets.{HasComponentSets}
-use Rattle.uri_ops.specs.Models.Places.{before_path}
 use Rattle.uri_ops.proofs.Meanings.AllowedParts.{is_set_text, set-text-is-valid, set-text-is-utf8}
-use Rattle.uri_ops.proofs.Meanings.TextParts.{components-of-utf8-are-utf8, grammar-gives-components-of-kind}
-use Rattle.uri_mend.specs.MendedParts.{mended}
-use Rattle.uri_mend.specs.Mending.{has_false_scheme, link_components, mended_components, mended_text, can_be_mended}
 use Rattle.uri_mend.proofs.MendedSteps.{valid-text-is-its-own-mended-text}
 use Rattle.uri_mend.proofs.LinkComponents.{no-false-scheme-gets-nothing}
 use Rattle.uri_mend.proofs.MendedReferences.{AreMendable, no-scheme-is-found, part-with-property-passes, link-components-are-mendable}
@@ -101,10 +86,9 @@ unfolding can_be_mended
 prefix-is-of-kind-iff-mendable kind text u =
     let p = link_components text in
     let m = link-components-are-mendable text u in
-    ap (is_of_kind kind) (sym (prefix-components-are-text-before-path p))
-    ∙ ap (components_meet_rules kind) (only-split-is-components (recompose (prefix_components p))
-    (prefix_components p) (prefix-components-are-split p m))
-    ∙ prefix-rules kind p m
+    ap (is_of_kind kind) (sym (prefix-components-are-text-before-path p)) ∙ ap
+    (components_meet_rules kind) (only-split-is-components (recompose (prefix_components p))
+    (prefix_components p) (prefix-components-are-split p m)) ∙ prefix-rules kind p m
 
 -- general fact on booleans, for mending: without a scheme and an authority, the rule is on the `:`
 rule-on-colons : (s n a c : Bool) → (s || (not n && (a || not c))) ≡ true → s ≡ false → a ≡ false
@@ -123,8 +107,7 @@ rule-on-schemes false n r h = (and_parts (not n) r h).0
 -- mending: a text that begins with `:` has no authority
 colon-first-is-no-authority : (text : List ℕ) → starts 58 text ≡ true → has_authority text ≡ false
 colon-first-is-no-authority [] e = refl
-colon-first-is-no-authority (c ∷ text) e =
-    and_left _ _ (ap (λ n. eqb n 47) (eqb-true c 58 e))
+colon-first-is-no-authority (c ∷ text) e = and_left _ _ (ap (λ n. eqb n 47) (eqb-true c 58 e))
 
 -- mending: no text of a kind begins with `:`
 text-of-kind-has-no-leading-colon : (kind : Kind) (text : List ℕ) → IsOfKind kind text
@@ -146,8 +129,7 @@ text-of-kind-has-no-leading-colon kind text h = ⊎_elim
     ∙ colon_in_first_segment-is-at-start text none ∙ first in
     absurd (both_ways _ (rule-on-colons (is_some p.scheme) kind.needs_scheme (is_some p.authority)
     (has_colon_in_first_segment p.path) (and_parts _ _ h).1 s a) colon))
-    (λ first. first)
-    (cases_Bool (starts 58 text))
+    (λ first. first) (cases_Bool (starts 58 text))
 
 -- mending: the scheme of a text of a kind is one
 scheme-of-text-of-kind-is-one : (kind : Kind) (text : List ℕ) → IsOfKind kind text
@@ -164,8 +146,7 @@ unfolding has_false_scheme
 text-of-kind-has-no-false-scheme kind text h = ⊎_elim
     (λ e. and_right _ _ (ap not (scheme-of-text-of-kind-is-one kind text h
     (and_from _ _ e (ap not (text-of-kind-has-no-leading-colon kind text h))))))
-    (λ e. and_left _ _ e)
-    (cases_Bool (starts 58 (from_any (codes ":/?#") text)))
+    (λ e. and_left _ _ e) (cases_Bool (starts 58 (from_any (codes ":/?#") text)))
 
 -- mending: the components of a text of a kind are found
 link-components-of-text-of-kind : (kind : Kind) (text : List ℕ) → IsOfKind kind text
@@ -179,9 +160,8 @@ valid-part-stays : (set : TableSet) (o : Option (List ℕ)) → LacksPercent set
     → set.pct_encoded ≡ true → IfSome o (λ x. is_set_text set x ≡ true)
     → option_map (mended set) o ≡ o
 valid-part-stays set None lacks octets h = refl
-valid-part-stays set (Some x) lacks octets h = ap Some
-    (valid-text-is-its-own-mended-text set lacks octets x (set-text-is-utf8 set x h)
-    (set-text-is-valid set x h))
+valid-part-stays set (Some x) lacks octets h = ap Some (valid-text-is-its-own-mended-text set lacks
+    octets x (set-text-is-utf8 set x h) (set-text-is-valid set x h))
 
 -- general fact on records, for mending: components are equal if path, query and fragment are
 equal-ends-make-equal-components : (p : Components) {path : List ℕ}
@@ -209,9 +189,8 @@ module _ (kind : Kind) (sets : HasComponentSets kind) where
   components-of-kind-stay text u h =
       let p = components text in
       let parts = grammar-gives-components-of-kind kind p (components-of-utf8-are-utf8 text u) h in
-      equal-ends-make-equal-components p
-      (valid-text-is-its-own-mended-text kind.path sets.path.percent sets.path.octets p.path
-      (set-text-is-utf8 kind.path p.path parts.path)
+      equal-ends-make-equal-components p (valid-text-is-its-own-mended-text kind.path
+      sets.path.percent sets.path.octets p.path (set-text-is-utf8 kind.path p.path parts.path)
       (set-text-is-valid kind.path p.path parts.path))
       (valid-part-stays kind.query p.query sets.query.percent sets.query.octets parts.query)
       (valid-part-stays kind.fragment p.fragment sets.fragment.percent sets.fragment.octets

@@ -1,4 +1,5 @@
--- Normal texts that are read from their ends, a byte at a time.
+-- Normal texts that are read from their ends, in blocks.
+pub mod Blocks
 pub mod LastDecodables
 pub mod LastOctets
 pub mod LastTokens

@@ -2,5 +2,6 @@
 pub mod RuledMeanings
 pub mod RuledTexts
 pub mod RuledParts
+pub mod RuledCopies
 pub mod RuledTargets
 mod RulesRows

@@ -11,4 +11,5 @@ pub mod JoinedPieces
 pub mod TextViews
 pub mod TargetPieces
 pub mod CopiedTargets
+pub mod FoundTargets
 pub mod TargetCases

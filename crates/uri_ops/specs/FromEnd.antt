@@ -1,5 +1,6 @@
--- Normal texts that are read from their ends, a byte at a time.
+-- Normal texts that are read from their ends, in blocks.
 pub mod Addresses
+pub mod Blocks
 pub mod Held
 pub mod LastTokens
 pub mod Literals

@@ -7,6 +7,7 @@ pub mod SegmentModes
 pub mod Places
 pub mod RuledComponents
 pub mod TargetPieces
+pub mod FoundTargets
 pub mod Decodings
 pub mod Unchanged
 pub mod Written

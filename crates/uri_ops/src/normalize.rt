@@ -24,6 +24,7 @@ pub(crate) mod normalized;
 pub(crate) mod octet_runs;
 pub(crate) mod octets;
 pub(crate) mod room;
+pub(crate) mod ruled_copies;
 #[doc(hidden)]
 pub mod ruled_parts;
 pub(crate) mod short_components;
@@ -32,7 +33,9 @@ pub mod unchanged;
 
 use crate::normalize::normal_text::written_normal_text;
 use crate::normalize::normalized::Normalized;
-use crate::normalize::unchanged::is_found_normal;
+use crate::normalize::ruled_copies::ruled_copy;
+use crate::normalize::ruled_parts::{has_default_host, has_root_path};
+use crate::normalize::unchanged::is_found_normal_by_ports;
 use crate::scheme_rules::{DefaultPorts, SchemeRules, WithPorts};
 use crate::traits::RiMaybeRef;
 use std::alloc::{AllocError, Global};
@@ -102,7 +105,12 @@ pub(crate) fn normalize_core<K: Kind, S: SchemeRules>(
     ensures underflow { IfOk result (λ made.
         made.underflows ≡ text_underflows (core_text core.entry)) }
 {
-    if is_found_normal(core, rules) {
+    if is_found_normal_by_ports(core, rules) {
+        let adds_root = has_root_path(core, rules);
+        let drops_host = has_default_host(core, rules);
+        if adds_root || drops_host {
+            return ruled_copy(alloc, core, rules, drops_host, adds_root);
+        }
         return Ok(Normalized {
             text: String::from_str(alloc, core.as_str())?,
             positions: core.packed_positions(),
@@ -131,7 +139,12 @@ pub(crate) fn normalize_string<K: Kind, S: SchemeRules>(
         ArePackedPositionsOf (string_bytes made.text) made.positions) }
 {
     let core = Core::<K, &str>::new(text.as_str(), positions);
-    if is_found_normal(core, rules) {
+    if is_found_normal_by_ports(core, rules) {
+        let adds_root = has_root_path(core, rules);
+        let drops_host = has_default_host(core, rules);
+        if adds_root || drops_host {
+            return ruled_copy(alloc, core, rules, drops_host, adds_root);
+        }
         return Ok(Normalized {
             text,
             positions,

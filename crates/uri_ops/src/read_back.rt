@@ -1,5 +1,7 @@
-//! Texts that are read from their end, a byte at a time, without memory.
-ghost use Rattle.std.specs.Prelude.{◌≡◌, ◌↔◌, ◌++◌, ◌∷◌, ℕ, List, [], None, IfSome, true};
+//! Texts that are read from their end, a byte or a block at a time, without memory.
+ghost use Rattle.std.specs.Prelude.{◌≡◌, ◌↔◌, ◌+◌, ◌≤◌, ◌<◌, ◌++◌, ◌∷◌, ℕ, List, [], None, IfSome, drop};
+ghost use Rattle.std.specs.Prelude.{length, true};
+ghost use Rattle.uri_ops.specs.FromEnd.Blocks.{IsLastBlock};
 
 pub(crate) mod address_text;
 pub(crate) mod held;
@@ -14,6 +16,9 @@ pub(crate) mod path_back;
 pub mod ruled_back;
 pub(crate) mod segments_back;
 
+/// How many bytes a block has.
+pub const BLOCK: usize = 1024;
+
 /// A text that is read from its end. What is left of it is `unread`.
 pub trait ReadBack: Copy + Drop {
     ghost unread: { Self → List ℕ };
@@ -23,6 +28,15 @@ pub trait ReadBack: Copy + Drop {
         ensures some { IfSome result (λ byte. unread self.old ≡ unread self.new ++ byte ∷ []) }
         ensures none { result ≡ None → unread self.old ≡ [] }
         ensures end { result ≡ None → unread self.new ≡ [] };
+
+    /// Takes the last bytes that are left of the text and puts them into the block before `end`,
+    /// until the block is full or nothing is left. Returns where they begin.
+    fn read_back(&mut self, block: &mut [u8; BLOCK], end: usize) -> usize
+        requires { end ≤ 1024 }
+        ensures text { unread self.old ++ drop end block.old
+            ≡ unread self.new ++ drop result block.new }
+        ensures within { result ≤ end }
+        ensures end { 0 < result → unread self.new ≡ [] };
 }
 
 /// Two texts, one after the other.
@@ -43,6 +57,17 @@ impl<A: ReadBack, B: ReadBack> ReadBack for Joined<A, B> {
             None => self.front.next_back(),
         }
     }
+
+    /// Takes the last bytes of the second text, and then of the first if nothing is left of the
+    /// second.
+    #[inline(always)]
+    fn read_back(&mut self, block: &mut [u8; BLOCK], end: usize) -> usize {
+        let start = self.back.read_back(block, end);
+        if start == 0 {
+            return 0;
+        }
+        self.front.read_back(block, start)
+    }
 }
 
 /// Returns the first text followed by the second.
@@ -53,17 +78,34 @@ pub fn join<A: ReadBack, B: ReadBack>(front: A, back: B) -> Joined<A, B>
     Joined { front, back }
 }
 
+/// Takes the last bytes that are left of a text and puts them at the end of the block, until the
+/// block is full or nothing is left. Returns where they begin.
+#[inline(always)]
+pub fn take_last_block<A: ReadBack>(text: &mut A, block: &mut [u8; BLOCK]) -> usize
+    ensures block { IsLastBlock 1024 (A.unread text.old) (A.unread text.new)
+        (drop result block.new) }
+    ensures length { length (drop result block.new) + result ≡ 1024 }
+{
+    text.read_back(block, BLOCK)
+}
+
 /// Returns whether two texts are equal.
 pub fn are_equal<A: ReadBack, B: ReadBack>(one: A, other: B) -> bool
     ensures { (result ≡ true) ↔ (A.unread one ≡ B.unread other) }
 {
     let mut one = one;
     let mut other = other;
-    while let Some(byte) = one.next_back() {
-        match other.next_back() {
-            Some(found) if found == byte => {}
-            _ => return false,
+    let mut block = [0; BLOCK];
+    let mut other_block = [0; BLOCK];
+    loop {
+        let start = take_last_block(&mut one, &mut block);
+        let other_start = take_last_block(&mut other, &mut other_block);
+        let is_same = block[start..] == other_block[other_start..];
+        if !is_same {
+            return false;
+        }
+        if start > 0 {
+            return true;
         }
     }
-    other.next_back().is_none()
 }

@@ -9,6 +9,8 @@ ghost use Rattle.uri_ops.specs.Resolving.{base_of, resolver_allows_underflow};
 
 pub(crate) mod dotted_target;
 pub(crate) mod error;
+#[doc(hidden)]
+pub mod found_target;
 pub(crate) mod target_case;
 #[doc(hidden)]
 pub mod target_pieces;
@@ -19,7 +21,8 @@ pub mod text_view;
 
 use crate::normalize::{Normalizer, normalize_string};
 pub use crate::resolve::error::ResolveError;
-use crate::resolve::target_pieces::{TargetPieces, taken_pieces};
+use crate::resolve::found_target::taken_pieces;
+use crate::resolve::target_pieces::TargetPieces;
 use crate::resolve::target_text::{Target, target_text};
 use crate::resolve::text_view::TextView;
 use crate::scheme_rules::SchemeRules;

@@ -1,8 +1,9 @@
 -- Two texts that are read from their ends in step, and their order.
-use Rattle.std.proofs.Common.{◌≡◌, ℕ, suc, ◌<◌, List, [], ◌∷◌, ◌++◌, length, take, Ordering, Less, Equal, Greater, refl, sym, ap, ◌∙◌, arith, append_assoc}
-use Rattle.std.proofs.lemmas.List.{append-nil}
+use Rattle.std.proofs.Common.{◌≡◌, ℕ, suc, ◌+◌, ◌-◌, ◌<◌, List, [], ◌∷◌, ◌++◌, length, take, drop, Ordering, Less, Equal, Greater, refl, sym, ap, ◌∙◌, arith, append_assoc}
+use Rattle.std.proofs.lemmas.List.{append-nil, take_all}
 use Rattle.std.specs.Cmp.Lexicographic.{slice_cmp}
 use Rattle.std.specs.Ordering.{ordering_then, nat_cmp}
+use Rattle.uri_ops.specs.FromEnd.Blocks.{IsLastBlock}
 
 -- the texts `one` and `other` are read down to what is left of each, and the order is that of what
 -- was read, which is as long in both
@@ -62,3 +63,20 @@ order_of_longer_text (x ∷ xs) [] h = refl
 order_of_longer_text (x ∷ xs) (y ∷ ys) h =
     ap (ordering_then (nat_cmp x y)) (order_of_longer_text xs ys (omega arith))
     ∙ then_assoc (nat_cmp x y) (slice_cmp nat_cmp (take (length ys) xs) ys) Greater
+
+-- a text that ends with its last block is that block
+pub last_block_is_all : (size : ℕ) (text left block : List ℕ) → IsLastBlock size text left block
+    → length block < size → text ≡ block
+last_block_is_all size text left block a short = a.whole ∙ ap (λ t. t ++ block) (a.last short)
+
+-- the order of two blocks is that of the bytes that they have from a position on
+pub order_of_blocks : (start found : ℕ) (block other : List ℕ) (order : Ordering)
+    → length (drop start block) + start ≡ 1024 → length (drop found other) + found ≡ 1024
+    → order ≡ slice_cmp nat_cmp (take (1024 - start) (drop start block))
+    (take (1024 - found) (drop found other))
+    → order ≡ slice_cmp nat_cmp (drop start block) (drop found other)
+order_of_blocks start found block other order m n e =
+    e ∙ ap (λ t. slice_cmp nat_cmp t (take (1024 - found) (drop found other)))
+    (take_all (1024 - start) (drop start block) (omega (arith, m)))
+    ∙ ap (λ t. slice_cmp nat_cmp (drop start block) t)
+    (take_all (1024 - found) (drop found other) (omega (arith, n)))

@@ -1,3 +1,4 @@
 pub mod Equivalences
+pub mod Hashes
 pub mod InStep
 pub mod TotalOrders

@@ -39,6 +39,15 @@ struct BeforePath {
     host_end: usize,
 }
 
+/// What comes before a path that the text begins with.
+const NOTHING: BeforePath = BeforePath {
+    path_start: 0,
+    padding: Padding::BYTE,
+    scheme_end: 0,
+    host_start: 0,
+    host_end: 0,
+};
+
 /// Parses the rest of a path, the query and the fragment after it, and then the end of the text.
 #[tactic(auto, unfolding(crate::proofs::Steps::tail))]
 #[inline(always)]
@@ -195,6 +204,7 @@ fn pass_after_slashes<K: Kind>(cursor: &mut Cursor<'_>) -> Result<BeforePath, Pa
 
 /// Parses what comes before a path in a text that has no scheme, from the characters on that might
 /// have been one: an authority, or else the first segment, which has no `:`.
+/// Neither an empty text nor a `/` after these characters needs a scan.
 #[tactic(auto, unfolding(crate::proofs::Steps::beginning))]
 #[inline(always)]
 fn pass_schemeless<K: Kind>(cursor: &mut Cursor<'_>) -> Result<BeforePath, ParseError>
@@ -212,21 +222,20 @@ fn pass_schemeless<K: Kind>(cursor: &mut Cursor<'_>) -> Result<BeforePath, Parse
         if cursor.skip_slashes() {
             return pass_after_slashes::<K>(cursor);
         }
+        if cursor.is_at_end() {
+            return Ok(NOTHING);
+        }
         if is_unexpected::<K>(cursor) {
             return Err(cursor.unexpected());
         }
+    } else if cursor.next_is(b'/') {
+        return Ok(NOTHING);
     }
     cursor.pass(&K::tables().segment_nz_nc)?;
     if cursor.next_is(b':') {
         return Err(cursor.unexpected());
     }
-    Ok(BeforePath {
-        path_start: 0,
-        padding: Padding::BYTE,
-        scheme_end: 0,
-        host_start: 0,
-        host_end: 0,
-    })
+    Ok(NOTHING)
 }
 
 /// Parses what comes before a path, from the beginning of the text on.

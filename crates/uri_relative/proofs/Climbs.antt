@@ -1,18 +1,8 @@
 -- Where a path of `../` leads to.
-use Rattle.std.proofs.Common.{◌≡◌, ℕ, zero, suc, ◌+◌, ◌-◌, Bool, true, false, cond, eqb, List, [], ◌∷◌, ◌++◌, length, take, drop, refl, sym, ap, subst, ◌∙◌, arith, append_assoc, inl, inr, ◌||◌, codes, append-nil, take-append-drop}
+use Rattle.uri_relative.proofs.Common.{◌≡◌, ℕ, zero, suc, ◌+◌, ◌-◌, Bool, true, false, cond, eqb, List, [], ◌∷◌, ◌++◌, length, take, drop, refl, sym, ap, subst, ◌∙◌, arith, append_assoc, inl, inr, ◌||◌, codes, append-nil, take-append-drop, list_all-append, and_parts, false≢true, nat_tests, IsAbemptyPath, is_empty, IsAbsolute, EndsInSlash, lacks_dot_segments, segments, remove_dot_segments, underflows, directory, pop, pop-undoes-push, pushed-segments-are-not-none, AllPass, is_dotless, step_of, next_output, parent-of-dotless-is-pop, slashed, NoSlashes, lacks_slash, segments-of-slashed-segments, segments-of-text-are-not-none, directory-by-segments, path-after-slash-appends-its-segments, appended-segments-lack-slashes, property-of-path-to-slash-by-segments, property-of-absolute-path-by-segments, segments-of-dotless-path-are-dotless, remove-dots-of-dotless, dotless-path-does-not-underflow, empty-text-is-nil, removing-dots-after-directory, underflow-after-directory, double_dots, slashes, relative_path, relative_from, IsSharedPrefix}
 use Rattle.std.proofs.lemmas.List.Splits.{length-slice_split}
-use Rattle.std.proofs.lemmas.List.Folds.{list_all-append}
-use Rattle.std.proofs.lemmas.Bool.{and_parts, false≢true}
-use Rattle.std.proofs.lemmas.Bool.Decides.{nat_tests}
-use Rattle.uri_parts.specs.Components.{IsAbemptyPath}
-use Rattle.uri_ops.specs.Dots.{is_empty, IsAbsolute, EndsInSlash, lacks_dot_segments, segments, remove_dot_segments, underflows, directory}
-use Rattle.uri_ops.proofs.Paths.Segments.{pop, pop-undoes-push, is_none, pushed-segments-are-not-none, AllPass, is_dotless, step_of, next_output, parent-of-dotless-is-pop}
-use Rattle.uri_ops.proofs.Paths.SlashedSegments.{slashed, NoSlashes, lacks_slash, segments-of-slashed-segments, segments-of-text-are-not-none, directory-by-segments}
+use Rattle.uri_ops.proofs.Paths.Segments.{is_none}
 use Rattle.uri_ops.proofs.Paths.Underflows.{underflows_at}
-use Rattle.uri_ops.proofs.Paths.DotLaws.{path-after-slash-appends-its-segments, appended-segments-lack-slashes, property-of-path-to-slash-by-segments, property-of-absolute-path-by-segments, segments-of-dotless-path-are-dotless, remove-dots-of-dotless, dotless-path-does-not-underflow}
-use Rattle.uri_ops.proofs.Paths.DotRuns.{empty-text-is-nil}
-use Rattle.uri_ops.proofs.Paths.TakenSegments.{removing-dots-after-directory, underflow-after-directory}
-use Rattle.uri_relative.specs.Relative.{double_dots, slashes, relative_path, relative_from, IsSharedPrefix}
 
 -- relativized paths: one `../` more, before or after the others
 double-dot-moves-past-others : (n : ℕ) (q : List ℕ) → double_dots n ++ (codes "../" ++ q)
@@ -142,9 +132,8 @@ slashes-count-segments text =
 
 -- relativized paths: a path below a directory has the directory's segments first
 pub path-below-directory-has-its-segments-first : (xs zs : List (List ℕ)) (last below : List ℕ)
-    → NoSlashes xs
-    → NoSlashes (zs ++ last ∷ [])
-    → slashed (zs ++ last ∷ []) ≡ dir xs ++ below → zs ≡ xs ++ pop (segments below)
+    → NoSlashes xs → NoSlashes (zs ++ last ∷ []) → slashed (zs ++ last ∷ []) ≡ dir xs ++ below
+    → zs ≡ xs ++ pop (segments below)
 path-below-directory-has-its-segments-first xs zs last below lack_xs lack_zs e =
     let same : zs ++ last ∷ [] ≡ xs ++ segments below =
     equal-lists-have-equal-tails _ _ (sym (segments-of-slashed-segments (zs ++ last ∷ []) lack_zs)
@@ -170,8 +159,7 @@ directory-of-dotless-segments s rest lack dotless =
 
 -- relativized paths: a directory at the start of an absolute path is absolute
 prefix-of-absolute-path-is-absolute : (prefix below : List ℕ) → EndsInSlash prefix
-    → IsAbsolute (prefix ++ below)
-    → IsAbsolute prefix
+    → IsAbsolute (prefix ++ below) → IsAbsolute prefix
 prefix-of-absolute-path-is-absolute [] below closed h = absurd
     (text-with-slash-is-not-empty closed.0 closed.1)
 prefix-of-absolute-path-is-absolute (c ∷ prefix) below closed h = h
@@ -187,17 +175,15 @@ module _ {X : Type 0} (f : List ℕ → X) (by : FollowsDotsFromDirectory f) whe
       let e = pushed-segment-joins-the-rest xs ys y in
       let dotless' = subst (AllPass is_dotless) (sym e) dotless in
       let lack' = subst NoSlashes (sym e) lack in
-      ap (λ s. f (dir s ++ (double_dots (suc (length ys)) ++ q))) (sym e)
-      ∙ ap (λ t. f (dir ((xs ++ y ∷ []) ++ ys) ++ t))
-      (sym (double-dot-moves-past-others (length ys) q))
-      ∙ double-dots-lead-up ys (xs ++ y ∷ []) (codes "../" ++ q) dotless' lack'
-      ∙ by.up xs y (47 ∷ q) (prefix-all-pass is_dotless (xs ++ y ∷ []) ys dotless')
+      ap (λ s. f (dir s ++ (double_dots (suc (length ys)) ++ q))) (sym e) ∙ ap
+      (λ t. f (dir ((xs ++ y ∷ []) ++ ys) ++ t)) (sym (double-dot-moves-past-others (length ys) q))
+      ∙ double-dots-lead-up ys (xs ++ y ∷ []) (codes "../" ++ q) dotless' lack' ∙ by.up xs y
+      (47 ∷ q) (prefix-all-pass is_dotless (xs ++ y ∷ []) ys dotless')
       (prefix-all-pass lacks_slash (xs ++ y ∷ []) ys lack') (inr refl)
 
   -- a relative path without `../` leads from a directory to the rest
   path-without-double-dots-leads-to-rest : (xs : List (List ℕ)) (rest : List ℕ)
-      (none misread : Bool) → (none ≡ true → rest ≡ [])
-      → AllPass is_dotless xs → NoSlashes xs
+      (none misread : Bool) → (none ≡ true → rest ≡ []) → AllPass is_dotless xs → NoSlashes xs
       → f (dir xs ++ cond none (codes ".") (cond misread (codes "./" ++ rest) rest))
       ≡ f (dir xs ++ rest)
   path-without-double-dots-leads-to-rest xs rest true misread h dotless lack =
@@ -207,11 +193,9 @@ module _ {X : Type 0} (f : List ℕ → X) (by : FollowsDotsFromDirectory f) whe
   path-without-double-dots-leads-to-rest xs rest false false h dotless lack = refl
 
   path-with-double-dots-leads-up : (ys xs : List (List ℕ)) (y rest : List ℕ) (none : Bool)
-      → (none ≡ true → rest ≡ [])
-      → AllPass is_dotless (xs ++ y ∷ ys) → NoSlashes (xs ++ y ∷ ys)
-      → f (dir (xs ++ y ∷ ys)
-      ++ cond none (double_dots (length ys) ++ codes "..") (double_dots (suc (length ys)) ++ rest))
-      ≡ f (dir xs ++ rest)
+      → (none ≡ true → rest ≡ []) → AllPass is_dotless (xs ++ y ∷ ys) → NoSlashes (xs ++ y ∷ ys) → f
+      (dir (xs ++ y ∷ ys) ++ cond none (double_dots (length ys) ++ codes "..")
+      (double_dots (suc (length ys)) ++ rest)) ≡ f (dir xs ++ rest)
   path-with-double-dots-leads-up ys xs y rest false h dotless lack = double-dots-lead-up
       (y ∷ ys) xs rest dotless lack
   path-with-double-dots-leads-up ys xs y rest true h dotless lack =
@@ -221,8 +205,7 @@ module _ {X : Type 0} (f : List ℕ → X) (by : FollowsDotsFromDirectory f) whe
       grind (arith, nat_tests, double-dots-lead-up, prefix-all-pass)
 
   relative-path-leads-from-directory : (ys xs : List (List ℕ)) (rest : List ℕ)
-      → AllPass is_dotless (xs ++ ys)
-      → NoSlashes (xs ++ ys)
+      → AllPass is_dotless (xs ++ ys) → NoSlashes (xs ++ ys)
       → f (dir (xs ++ ys) ++ relative_path (length ys) rest) ≡ f (dir xs ++ rest)
   relative-path-leads-from-directory [] xs rest dotless lack =
       let e = append-nil xs in
@@ -234,8 +217,7 @@ module _ {X : Type 0} (f : List ℕ → X) (by : FollowsDotsFromDirectory f) whe
 
   -- from the directory of a path to one above it
   relative-path-leads-to-directory-above : (xs zs : List (List ℕ)) (last below rest : List ℕ)
-      → NoSlashes xs
-      → NoSlashes (zs ++ last ∷ []) → AllPass is_dotless (zs ++ last ∷ [])
+      → NoSlashes xs → NoSlashes (zs ++ last ∷ []) → AllPass is_dotless (zs ++ last ∷ [])
       → slashed (zs ++ last ∷ []) ≡ dir xs ++ below
       → f (dir zs ++ relative_path (slashes below) rest) ≡ f (dir xs ++ rest)
   relative-path-leads-to-directory-above xs zs last below rest lack_xs lack_zs dotless e =
@@ -248,17 +230,15 @@ module _ {X : Type 0} (f : List ℕ → X) (by : FollowsDotsFromDirectory f) whe
       (subst NoSlashes z (prefix-all-pass lacks_slash zs (last ∷ []) lack_zs))
 
   relative-path-leads-from-segments : (xs : List (List ℕ)) (s : List ℕ) (segs : List (List ℕ))
-      (below rest : List ℕ)
-      → NoSlashes xs → NoSlashes (s ∷ segs) → AllPass is_dotless (s ∷ segs)
+      (below rest : List ℕ) → NoSlashes xs → NoSlashes (s ∷ segs) → AllPass is_dotless (s ∷ segs)
       → slashed (s ∷ segs) ≡ dir xs ++ below
       → f (directory (slashed (s ∷ segs)) ++ relative_path (slashes below) rest)
       ≡ f (dir xs ++ rest)
   relative-path-leads-from-segments xs s segs below rest lack_xs lack dotless e =
       let l = segments-are-all-but-last-and-last s segs in
       ap (λ t. f (t ++ relative_path (slashes below) rest))
-      (directory-of-dotless-segments s segs lack dotless)
-      ∙ relative-path-leads-to-directory-above xs (pop (s ∷ segs)) l.0 below rest lack_xs
-      (subst NoSlashes l.1 lack)
+      (directory-of-dotless-segments s segs lack dotless) ∙ relative-path-leads-to-directory-above
+      xs (pop (s ∷ segs)) l.0 below rest lack_xs (subst NoSlashes l.1 lack)
       (subst (AllPass is_dotless) l.1 dotless) (ap slashed (sym l.1) ∙ e)
 
   relative-path-leads-from-prefix : (base prefix below rest : List ℕ) → IsAbsolute base
@@ -281,12 +261,10 @@ module _ {X : Type 0} (f : List ℕ → X) (by : FollowsDotsFromDirectory f) whe
       → IsSharedPrefix n base path → f (directory base ++ relative_from n base path) ≡ f path
   relative-path-leads-over-shared-prefix n base path absolute dotless s =
       let whole = take-append-drop n base in
-      relative-path-leads-from-prefix base (take n base) (drop n base)
-      (drop n path) absolute dotless
-      (prefix-of-absolute-path-is-absolute (take n base) (drop n base) s.closed
+      relative-path-leads-from-prefix base (take n base) (drop n base) (drop n path) absolute
+      dotless (prefix-of-absolute-path-is-absolute (take n base) (drop n base) s.closed
       (subst IsAbsolute (sym whole) absolute)) s.closed (sym whole)
-      ∙ ap (λ t. f (t ++ drop n path)) s.same
-      ∙ ap f (take-append-drop n path)
+      ∙ ap (λ t. f (t ++ drop n path)) s.same ∙ ap f (take-append-drop n path)
 
 -- relativized paths: one that is merged with the base's, and without its dot segments, is the path
 pub merged-relative-path-leads-to-path : (n : ℕ) (base path : List ℕ) → IsAbsolute base
@@ -295,15 +273,12 @@ pub merged-relative-path-leads-to-path : (n : ℕ) (base path : List ℕ) → Is
     → remove_dot_segments (directory base ++ relative_from n base path) ≡ path
 merged-relative-path-leads-to-path n base path base_absolute base_dotless absolute dotless s =
     relative-path-leads-over-shared-prefix remove_dot_segments remove_dot_segments-follows-dots n
-    base path base_absolute base_dotless s
-    ∙ remove-dots-of-dotless path absolute dotless
+    base path base_absolute base_dotless s ∙ remove-dots-of-dotless path absolute dotless
 
 -- relativized paths: one that is merged with the base's has no `..` too many
 pub merged-relative-path-does-not-underflow : (n : ℕ) (base path : List ℕ) → IsAbsolute base
     → lacks_dot_segments base ≡ true → IsAbsolute path → lacks_dot_segments path ≡ true
-    → IsSharedPrefix n base path
-    → underflows (directory base ++ relative_from n base path) ≡ false
+    → IsSharedPrefix n base path → underflows (directory base ++ relative_from n base path) ≡ false
 merged-relative-path-does-not-underflow n base path base_absolute base_dotless absolute dotless s =
     relative-path-leads-over-shared-prefix underflows underflows-follows-dots n base path
-    base_absolute base_dotless s
-    ∙ dotless-path-does-not-underflow path absolute dotless
+    base_absolute base_dotless s ∙ dotless-path-does-not-underflow path absolute dotless

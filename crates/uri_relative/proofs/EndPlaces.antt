@@ -1,12 +1,8 @@
 -- The positions of the components after a scheme, and of a query and a fragment.
-use Rattle.std.proofs.Common.{◌≡◌, ℕ, ◌+◌, ◌-◌, ◌≤◌, List, [], length, refl, sym, ap, ◌∙◌, arith, length-append, option_map, subst, codes, true, false, is_some, IfSome, Option, Some, None}
-use Rattle.std.proofs.lemmas.Bool.{false≢true}
+use Rattle.uri_relative.proofs.Common.{◌≡◌, ℕ, ◌+◌, ◌-◌, ◌≤◌, List, [], length, refl, sym, ap, ◌∙◌, arith, length-append, option_map, subst, codes, true, false, is_some, IfSome, Option, Some, None, false≢true, nat_tests, Components, marked, authority_at, delimited_length, positions_of}
 use Rattle.std.proofs.lemmas.Option.{none-some, same_Some}
-use Rattle.std.proofs.lemmas.Bool.Decides.{nat_tests}
 use Rattle.uri_parts.specs.declared.positions.AuthorityPositions.{AuthorityPositions}
 use Rattle.uri_parts.specs.declared.positions.Positions.{Positions}
-use Rattle.uri_parts.specs.Components.{Components, marked}
-use Rattle.uri_parts.specs.Positions.{authority_at, delimited_length, positions_of}
 
 -- relativized references: an authority's positions are all from n on
 pub record AuthorityBeginsAfter (n : ℕ) (places : AuthorityPositions) : Type 0 where
@@ -25,8 +21,7 @@ authority-begins-after-scheme n (Some a) places e = grind (arith, nat_tests, sam
 -- relativized references: the positions of an authority, moved back by n, are those in a text
 -- without the bytes before its `//`
 pub authority-positions-without-scheme : (n : ℕ) (authority : Option (List ℕ))
-    (places moved : AuthorityPositions)
-    → Some places ≡ option_map (authority_at (n + 2)) authority
+    (places moved : AuthorityPositions) → Some places ≡ option_map (authority_at (n + 2)) authority
     → moved.start ≡ places.start - n → moved.host_start ≡ places.host_start - n
     → moved.host_end ≡ places.host_end - n → moved.end ≡ places.end - n
     → Some moved ≡ option_map (authority_at 2) authority
@@ -44,9 +39,8 @@ authority-positions-of-components t n places m e =
     sym e ∙ ap (λ k. option_map (authority_at (k + 2)) t.authority) (sym m)
 
 -- relativized references: without an authority there are no positions of one, wherever it would be
-absent-authority-has-no-positions : (n m : ℕ) (authority : Option (List ℕ)) → None
-    ≡ option_map (authority_at n) authority
-    → None ≡ option_map (authority_at m) authority
+absent-authority-has-no-positions : (n m : ℕ) (authority : Option (List ℕ))
+    → None ≡ option_map (authority_at n) authority → None ≡ option_map (authority_at m) authority
 absent-authority-has-no-positions n m None e = refl
 absent-authority-has-no-positions n m (Some a) e = absurd (none-some (authority_at n a) e)
 

@@ -1,28 +1,12 @@
 -- The forms of references that lead to a target: RFC 3986, sections 4.2 and 5.2.2.
-use Rattle.std.proofs.Common.{◌≡◌, ℕ, ◌+◌, ◌≤◌, ◌<◌, Bool, true, false, not, List, [], ◌++◌, ◌&&◌, ◌||◌, ◌∷◌, length, refl, sym, ap, ◌∙◌, subst, arith, rules, codes, Option, None, Some, IfSome, IfNone, is_some, length-append}
-use Rattle.std.proofs.Math.Bool.{and-false}
-use Rattle.std.proofs.lemmas.Bool.{and_from, and_parts, both_ways, cond_both, or_left, cond-false, cond-true, false≢true}
-use Rattle.std.proofs.lemmas.Str.{IsUtf8-nil}
-use Rattle.std.proofs.lemmas.Bool.Decides.{nat_tests}
-use Rattle.uri_pct.specs.Delimiters.{slash}
-use Rattle.uri_parts.specs.Components.{Components, IsAbemptyPath, IsSplitOf, Lacks, marked, has_authority, has_scheme, recompose, starts}
-use Rattle.uri_parts.specs.Grammar.{Kind, components_meet_rules, has_colon_in_first_segment, absent_or_passes, is_authority, is_scheme}
-use Rattle.uri_pct.specs.Sets.{TableSet, allows}
+use Rattle.uri_relative.proofs.Common.{◌≡◌, ℕ, ◌+◌, ◌≤◌, ◌<◌, Bool, true, false, not, List, [], ◌++◌, ◌&&◌, ◌||◌, ◌∷◌, length, refl, sym, ap, ◌∙◌, subst, arith, rules, codes, Option, None, Some, IfSome, IfNone, is_some, length-append, and-false, and_from, and_parts, both_ways, cond_both, or_left, cond-false, cond-true, false≢true, IsUtf8-nil, nat_tests, slash, Components, IsAbemptyPath, IsSplitOf, Lacks, marked, has_authority, has_scheme, recompose, starts, Kind, components_meet_rules, has_colon_in_first_segment, absent_or_passes, is_authority, is_scheme, TableSet, allows, IsAbsolute, lacks_dot_segments, underflows_if_absolute, guarded, is_opaque, is_fragment_only, dotted_target, validity-splits-at-slash, absolute-path-is-slash-and-rest, IsDotlessTargetOf, IsReferenceTo, IsUnguarded, NeedsPath, after_path, from_authority, IsRelativeTo, needs_authority, IsPathTo, IsShortestPath, Shortest}
 use Rattle.uri_pct.specs.Tokens.{is_valid_for}
 use Rattle.uri_pct.proofs.ValidTexts.EStrs.{empty_text_is_valid}
 use Rattle.uri_parts.proofs.Splitting.Marks.{IsEmptyOrMarked-query_text}
-use Rattle.uri_ops.specs.Dots.{IsAbsolute, lacks_dot_segments}
 use Rattle.uri_ops.specs.NormalTargets.{reference_kind}
-use Rattle.uri_ops.specs.Target.{underflows_if_absolute, guarded, is_opaque, is_fragment_only, dotted_target}
 use Rattle.uri_ops.proofs.Meanings.ComponentEnds.{no_scheme}
-use Rattle.uri_ops.proofs.Meanings.AllowedParts.{validity-splits-at-slash}
 use Rattle.uri_ops.proofs.Meanings.AsciiCharacters.{ascii-bytes-are-utf8}
 use Rattle.uri_ops.proofs.Paths.PathCharacters.{lacked-delimiters-fail-test, test-of-delimiters-gives-lacks}
-use Rattle.uri_ops.proofs.Paths.TakenSegments.{absolute-path-is-slash-and-rest}
-use Rattle.uri_relative.specs.Forms.{IsDotlessTargetOf, IsReferenceTo, IsUnguarded, NeedsPath, after_path, from_authority}
-use Rattle.uri_relative.specs.Leading.{IsRelativeTo, needs_authority}
-use Rattle.uri_relative.specs.Relative.{IsPathTo}
-use Rattle.uri_relative.specs.Shortest.{IsShortestPath, Shortest}
 use Rattle.uri_relative.proofs.References.{target_of-fragment-form, target_of-authority-form, target_of-path-form, path-form-does-not-underflow, target_of-query-form, target_of-whole-target}
 use Rattle.uri_relative.proofs.Settled.{settled-target-does-not-underflow}
 use Rattle.uri_relative.proofs.ShortestForms.{fragment-form-is-shortest, path-form-is-shortest, query-form-is-shortest}
@@ -72,9 +56,8 @@ property-holds-without-guard : (P : List ℕ → Type 0) (a : Option (List ℕ))
 property-holds-without-guard P a path whole e back h = grind arith
 
 -- targets to relativize: a path before a guard is added has neither `?` nor `#`, as the target's
-path-without-guard-lacks-marks : (t : Components) (path : List ℕ) → guarded t.authority path
-    ≡ t.path
-    → Lacks (codes "?#") t.path → Lacks (codes "?#") path
+path-without-guard-lacks-marks : (t : Components) (path : List ℕ)
+    → guarded t.authority path ≡ t.path → Lacks (codes "?#") t.path → Lacks (codes "?#") path
 path-without-guard-lacks-marks t path e h =
     property-holds-without-guard (Lacks (codes "?#")) t.authority path t.path e
     (λ k. test-of-delimiters-gives-lacks (codes "?#") path
@@ -82,14 +65,12 @@ path-without-guard-lacks-marks t path e h =
 
 -- targets to relativize: a path that is valid with the guard `/.` is valid without
 path-after-guard-is-valid : (set : TableSet) (rest : List ℕ)
-    → is_valid_for set (codes "/." ++ 47 ∷ rest) ≡ true
-    → is_valid_for set (47 ∷ rest) ≡ true
+    → is_valid_for set (codes "/." ++ 47 ∷ rest) ≡ true → is_valid_for set (47 ∷ rest) ≡ true
 path-after-guard-is-valid set rest e =
     let p = and_parts (is_valid_for set (codes "/.")) (allows set 47 && is_valid_for set rest)
     (sym (validity-splits-at-slash set (codes "/.") rest (ascii-bytes-are-utf8 (codes "/.") refl))
     ∙ e) in
-    validity-splits-at-slash set [] rest IsUtf8-nil
-    ∙ and_from _ _ (empty_text_is_valid set) p.1
+    validity-splits-at-slash set [] rest IsUtf8-nil ∙ and_from _ _ (empty_text_is_valid set) p.1
 
 -- targets to relativize: a path before a guard is added is valid, as the target's
 path-without-guard-is-valid : (set : TableSet) (t : Components) (path : List ℕ) → IsAbsolute path
@@ -119,10 +100,8 @@ path-and-query-are-split t path query lacks q e f =
 
 module _ (kind : Kind) (prefers : Bool) (base t : Components) (w : IsDotlessTargetOf kind t) where
   -- the whole target
-  pub whole : IsRelativeTo base t t
-      → (prefers ≡ false → lacks_dot_segments base.path ≡ true
-      → Shortest kind base t (length (recompose t)))
-      → IsReferenceTo kind prefers base t t
+  pub whole : IsRelativeTo base t t → (prefers ≡ false → lacks_dot_segments base.path ≡ true
+      → Shortest kind base t (length (recompose t))) → IsReferenceTo kind prefers base t t
   whole relative least = record {
     split = w.split;
     meets = reference-components-meet-rules kind t (components-of-kind-meet-rules kind t w.meets)
@@ -197,8 +176,7 @@ module _ (kind : Kind) (prefers : Bool) (base t : Components) (w : IsDotlessTarg
         split = path-and-query-are-split t way t.query
             (p.lacks (path-without-guard-lacks-marks t path u.guards w.split.path))
             w.split.query p.no_scheme p.no_authority;
-        meets = path-and-query-meet-rules way t.query
-            (p.valid kind.path w.sets.path w.sets.slash
+        meets = path-and-query-meet-rules way t.query (p.valid kind.path w.sets.path w.sets.slash
             (path-without-guard-is-valid kind.path t path u.absolute u.guards m.path)) m.query
             p.no_scheme;
         leads = target_of-path-form base t path way s a rooted u.guards p;
@@ -214,10 +192,8 @@ module _ (kind : Kind) (prefers : Bool) (base t : Components) (w : IsDotlessTarg
             (omega (
               arith,
               path-and-tail-are-no-longer-than-target way most,
-              length-append way
-                  (after_path t),
-            ))
-            (least e dotless) _ (omega (arith, length-append way (after_path t)));
+              length-append way (after_path t),
+            )) (least e dotless) _ (omega (arith, length-append way (after_path t)));
       }
 
   -- `?` and on, where the target has a query
@@ -232,8 +208,7 @@ module _ (kind : Kind) (prefers : Bool) (base t : Components) (w : IsDotlessTarg
       record {
         split = path-and-query-are-split t [] t.query
             (test-of-delimiters-gives-lacks (codes "?#") [] refl) w.split.query refl refl;
-        meets = path-and-query-meet-rules [] t.query (empty_text_is_valid kind.path)
-            m.query refl;
+        meets = path-and-query-meet-rules [] t.query (empty_text_is_valid kind.path) m.query refl;
         leads = target_of-query-form base t s a p some w.settled;
         taken = ap (λ b. b && not (is_fragment_only r)) opaque;
         below = ap underflows_if_absolute p ∙ settled-target-does-not-underflow t w.settled;

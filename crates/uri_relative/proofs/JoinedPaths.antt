@@ -1,15 +1,6 @@
 -- When the path of a target begins with `/`: RFC 3986, sections 5.2.2 and 5.2.3.
-use Rattle.std.proofs.Common.{◌≡◌, ℕ, true, false, List, arith, Option}
-use Rattle.std.proofs.lemmas.Bool.Decides.{nat_tests}
-use Rattle.uri_pct.proofs.General.{eq_true_from_IsTrue}
-use Rattle.uri_pct.specs.Delimiters.{slash}
-use Rattle.uri_parts.specs.Components.{IsAbemptyPath, starts}
-use Rattle.uri_parts.proofs.Splitting.Recompose.{equal-to-true-is-IsTrue}
-use Rattle.uri_ops.specs.Dots.{IsAbsolute, is_empty}
-use Rattle.uri_ops.specs.Target.{dotless_if_absolute, guarded}
+use Rattle.uri_relative.proofs.Common.{◌≡◌, ℕ, true, false, List, arith, Option, nat_tests, eq_true_from_IsTrue, slash, IsAbemptyPath, starts, equal-to-true-is-IsTrue, IsAbsolute, is_empty, dotless_if_absolute, guarded, removing-dots-keeps-leading-slash, joined_path}
 use Rattle.uri_ops.proofs.Paths.MergedPaths.{merged-path-is-absolute}
-use Rattle.uri_ops.proofs.Paths.PathMeanings.{removing-dots-keeps-leading-slash}
-use Rattle.uri_relative.specs.Relative.{joined_path}
 
 -- targets to relativize: a path without its dot segments, and guarded, begins with `/` where it
 -- did; a: the authority
@@ -27,7 +18,6 @@ path-joined-to-absolute-is-absolute base way rooted h =
 -- relativized references: a path that is not empty, and is joined to one that is empty or begins
 -- with `/`, is absolute
 pub nonempty-joined-path-is-absolute : (base way : List ℕ) → IsAbemptyPath base
-    → is_empty way ≡ false
-    → IsAbsolute (joined_path base way)
+    → is_empty way ≡ false → IsAbsolute (joined_path base way)
 nonempty-joined-path-is-absolute base way rooted e =
     grind (arith, nat_tests, equal-to-true-is-IsTrue, merged-path-is-absolute)

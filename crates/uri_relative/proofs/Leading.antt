@@ -1,22 +1,8 @@
 -- References that lead to a target: RFC 3986, section 5.2.
-use Rattle.std.proofs.Common.{◌≡◌, ℕ, Bool, true, false, not, List, ◌++◌, ◌&&◌, ◌||◌, sym, ap, ◌∙◌, append_assoc, subst, arith, Ok, is_some, IsUtf8}
-use Rattle.std.proofs.Math.Bool.{and-false}
-use Rattle.std.proofs.lemmas.Bool.{cond-false}
-use Rattle.std.proofs.lemmas.Bool.Decides.{nat_tests}
-use Rattle.uri_parts.specs.Components.{Components, IsSplitOf, components, recompose}
-use Rattle.uri_parts.specs.Grammar.{Kind, IsOfKind}
-use Rattle.uri_parts.proofs.Splitting.Recompose.{components-are-split-of-text, recompose-components}
+use Rattle.uri_relative.proofs.Common.{◌≡◌, ℕ, Bool, true, false, not, List, ◌++◌, ◌&&◌, ◌||◌, sym, ap, ◌∙◌, append_assoc, subst, arith, Ok, is_some, IsUtf8, and-false, cond-false, nat_tests, Components, IsSplitOf, components, recompose, Kind, IsOfKind, components-are-split-of-text, recompose-components, kind-that-needs-scheme-has-one, with_final_path, dotless_if_absolute, is_fragment_only, is_opaque, resolution_of, target_of, set-text-from-utf8, set-text-is-valid, path-without-dots-is-set-text, guarded-set-text-is-set-text, settled-text-has-settled-components, IsDotlessTargetOf, IsReferenceTo, LeadsBackToTarget, IsNoLonger, IsRelativeTo, LeadsTo, without_fragment, settled}
 use Rattle.uri_parts.proofs.Splitting.Splits.{only-split-is-components}
-use Rattle.uri_parts.proofs.TextKinds.KindSets.{kind-that-needs-scheme-has-one}
 use Rattle.uri_ops.specs.ComponentSets.{HasComponentSets}
-use Rattle.uri_ops.specs.Resolving.{with_final_path}
-use Rattle.uri_ops.specs.Target.{dotless_if_absolute, is_fragment_only, is_opaque, resolution_of, target_of}
-use Rattle.uri_ops.proofs.Meanings.AllowedParts.{set-text-from-utf8, set-text-is-valid}
 use Rattle.uri_ops.proofs.Meanings.TextParts.{components-of-utf8-are-utf8}
-use Rattle.uri_ops.proofs.Paths.PathMeanings.{path-without-dots-is-set-text, guarded-set-text-is-set-text}
-use Rattle.uri_ops.proofs.Targeting.TargetCases.{settled-text-has-settled-components}
-use Rattle.uri_relative.specs.Forms.{IsDotlessTargetOf, IsReferenceTo}
-use Rattle.uri_relative.specs.Leading.{LeadsBackToTarget, IsNoLonger, IsRelativeTo, LeadsTo, without_fragment, settled}
 use Rattle.uri_relative.proofs.Forms.{components-of-kind-meet-rules}
 use Rattle.uri_relative.proofs.Returning.{reference-leads-back-to-resolved-target}
 use Rattle.uri_relative.proofs.Settled.{final-path-is-idempotent}
@@ -68,8 +54,7 @@ reference-text-leads-to-target kind prefers base target reference e w = record {
 -- relativized references: a path and then its query and fragment are appended; old, mid, new: the
 -- text before, between and after
 pub pushed-path-and-tail-are-appended : (old mid new way tail tail' : List ℕ) → mid ≡ old ++ way
-    → new ≡ mid ++ tail
-    → tail ≡ tail' → new ≡ old ++ (way ++ tail')
+    → new ≡ mid ++ tail → tail ≡ tail' → new ≡ old ++ (way ++ tail')
 pushed-path-and-tail-are-appended old mid new way tail tail' e f h =
     f ∙ ap (λ t. t ++ tail) e ∙ append_assoc old way tail ∙ ap (λ t. old ++ (way ++ t)) h
 
@@ -111,48 +96,41 @@ reference-text-is-reference kind prefers base target r made text w e f =
 -- relativized references: the reference made leads to the target; primed texts are those of the
 -- call's clause
 pub reference-leads-to-target : (kind : Kind) (prefers : Bool)
-    (base target made base' target' made' : List ℕ)
-    → kind.needs_scheme ≡ true → IsOfKind kind target → base ≡ base' → target ≡ target'
-    → made' ≡ made
+    (base target made base' target' made' : List ℕ) → kind.needs_scheme ≡ true
+    → IsOfKind kind target → base ≡ base' → target ≡ target' → made' ≡ made
     → IsReferenceTo kind prefers (components base) (settled target) (components made)
     → LeadsTo base' target' made'
 reference-leads-to-target kind prefers base target made base' target' made' needs of_kind e f h w =
-    subst (λ x. LeadsTo x target' made') e (subst (λ x. LeadsTo base x made') f
-    (subst (LeadsTo base target) (sym h)
-    (reference-text-leads-to-target kind prefers base target made
+    subst (λ x. LeadsTo x target' made') e (subst (λ x. LeadsTo base x made') f (subst
+    (LeadsTo base target) (sym h) (reference-text-leads-to-target kind prefers base target made
     (kind-that-needs-scheme-has-one kind target needs of_kind) w)))
 
 -- relativized references: if a reference resolves to the target against the base, so does the one
 -- made; primed texts are those of the call's clause
 pub reference-leads-back-to-target : (kind : Kind) (prefers : Bool)
-    (base target made base' target' made' : List ℕ)
-    → kind.needs_scheme ≡ true → IsOfKind kind base → IsOfKind kind target → base ≡ base'
-    → target ≡ target' → made' ≡ made
+    (base target made base' target' made' : List ℕ) → kind.needs_scheme ≡ true → IsOfKind kind base
+    → IsOfKind kind target → base ≡ base' → target ≡ target' → made' ≡ made
     → IsReferenceTo kind prefers (components base) (settled target) (components made)
     → LeadsBackToTarget base' target' made'
 reference-leads-back-to-target kind prefers base target made base' target' made' needs of_base
     of_kind e f h w =
     λ reference resolves. reference-leads-back-to-resolved-target base' reference target' made'
     (subst (λ x. is_some (components x).scheme ≡ true) e
-    (kind-that-needs-scheme-has-one kind base needs of_base))
-    resolves
-    (reference-leads-to-target kind prefers base target made base' target' made' needs
-    of_kind e f h w)
+    (kind-that-needs-scheme-has-one kind base needs of_base)) resolves (reference-leads-to-target
+    kind prefers base target made base' target' made' needs of_kind e f h w)
 
 -- relativized references: the reference made is no longer than the target, if relative ones are not
 -- preferred; primed texts are those of the call's clause
 pub reference-is-no-longer-than-target : (kind : Kind) (prefers : Bool) (base : Components)
     (target made target' made' : List ℕ) → prefers ≡ false → target ≡ target' → made' ≡ made
-    → IsReferenceTo kind prefers base (settled target) (components made)
-    → IsNoLonger target' made'
+    → IsReferenceTo kind prefers base (settled target) (components made) → IsNoLonger target' made'
 reference-is-no-longer-than-target kind prefers base target made target' made' e f h w =
     grind (arith, nat_tests, recompose-components, settled-text-is-no-longer)
 
 -- relativized references: the reference made is relative where the contract says so; primed texts
 -- are those of the call's clause
 pub reference-is-relative : (kind : Kind) (prefers : Bool)
-    (base target made base' target' made' : List ℕ)
-    → base ≡ base' → target ≡ target' → made' ≡ made
+    (base target made base' target' made' : List ℕ) → base ≡ base' → target ≡ target' → made' ≡ made
     → IsReferenceTo kind prefers (components base) (settled target) (components made)
     → IsRelativeTo (components base') (settled target') (components made')
 reference-is-relative kind prefers base target made base' target' made' e f h w =

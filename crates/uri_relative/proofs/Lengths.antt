@@ -1,12 +1,8 @@
 -- How long the two paths are that lead to a path.
-use Rattle.std.proofs.Common.{◌≡◌, ℕ, zero, suc, ◌+◌, ◌*◌, ◌<◌, ◌≤◌, ◌/◌, Bool, true, false, List, [], ◌∷◌, ◌++◌, length, refl, sym, ap, ◌∙◌, arith, codes, length-append}
-use Rattle.std.proofs.lemmas.Bool.{false≢true, leb-true}
+use Rattle.uri_relative.proofs.Common.{◌≡◌, ℕ, zero, suc, ◌+◌, ◌*◌, ◌<◌, ◌≤◌, ◌/◌, Bool, true, false, List, [], ◌∷◌, ◌++◌, length, refl, sym, ap, ◌∙◌, arith, codes, length-append, false≢true, leb-true, nat_tests, is_empty, double_dots, relative_path}
 use Rattle.std.proofs.lemmas.Nat.{div-add-mod', mod_below}
-use Rattle.std.proofs.lemmas.Bool.Decides.{nat_tests}
 use mir.Val.{bool_byte}
 use lib.Dec.{leb}
-use Rattle.uri_ops.specs.Dots.{is_empty}
-use Rattle.uri_relative.specs.Relative.{double_dots, relative_path}
 use Rattle.uri_relative.proofs.Climbs.{relative_path-of-some-climbs}
 
 -- lengths of relativized paths: n `../` have 3 * n bytes
@@ -40,9 +36,8 @@ empty-text-has-length-zero (c ∷ rest) e = absurd (false≢true e)
 
 -- lengths of relativized paths: by the code's test, a division by 3, one that goes up is no longer
 -- than the path from the root
-pub relative-path-fits-by-division : (n prefix : ℕ) (rest : List ℕ) (none : Bool) → 0 < n → none
-    ≡ is_empty rest
-    → leb n ((prefix + bool_byte none) / 3) ≡ true
+pub relative-path-fits-by-division : (n prefix : ℕ) (rest : List ℕ) (none : Bool) → 0 < n
+    → none ≡ is_empty rest → leb n ((prefix + bool_byte none) / 3) ≡ true
     → length (relative_path n rest) ≤ prefix + length rest
 relative-path-fits-by-division zero prefix rest none some e h = absurd (omega (arith, some))
 relative-path-fits-by-division (suc m) prefix rest true some e h =
@@ -53,18 +48,16 @@ relative-path-fits-by-division (suc m) prefix rest false some e h =
 -- relativized paths: one that goes up n times is longer than a path from the root, if n exceeds a
 -- third of the shared prefix; none: whether the rest is empty
 pub relative-path-is-longer-by-division : (n prefix : ℕ) (rest : List ℕ) (none : Bool) → 0 < n
-    → none ≡ is_empty rest
-    → leb n ((prefix + bool_byte none) / 3) ≡ false
+    → none ≡ is_empty rest → leb n ((prefix + bool_byte none) / 3) ≡ false
     → prefix + length rest < length (relative_path n rest)
 relative-path-is-longer-by-division zero prefix rest none some e h = absurd (omega (arith, some))
-relative-path-is-longer-by-division (suc m) prefix rest true some e h =
-    grind (
-      arith,
-      nat_tests,
-      div-add-mod',
-      mod_below,
-      length-of-path-up-to-nothing,
-      empty-text-has-length-zero,
-    )
+relative-path-is-longer-by-division (suc m) prefix rest true some e h = grind (
+  arith,
+  nat_tests,
+  div-add-mod',
+  mod_below,
+  length-of-path-up-to-nothing,
+  empty-text-has-length-zero,
+)
 relative-path-is-longer-by-division (suc m) prefix rest false some e h =
     grind (arith, nat_tests, div-add-mod', mod_below, length-of-path-up-to-some)

@@ -1,3 +1,4 @@
+pub mod Common
 pub mod Climbs
 pub mod Prefixes
 pub mod Ways

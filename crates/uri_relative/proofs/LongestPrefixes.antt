@@ -1,9 +1,7 @@
 -- Of the prefixes that two paths share, the longest one makes the shortest relative path.
-use Rattle.std.proofs.Common.{◌≡◌, ℕ, zero, suc, ◌+◌, ◌*◌, ◌<◌, ◌≤◌, Bool, true, false, cond, eqb, List, [], ◌∷◌, ◌++◌, length, take, drop, get_or, refl, sym, ap, ◌∙◌, arith, ⊎_elim, length-append, ◌⊎◌, codes}
+use Rattle.uri_relative.proofs.Common.{◌≡◌, ℕ, zero, suc, ◌+◌, ◌*◌, ◌<◌, ◌≤◌, Bool, true, false, cond, eqb, List, [], ◌∷◌, ◌++◌, length, take, drop, get_or, refl, sym, ap, ◌∙◌, arith, ⊎_elim, length-append, ◌⊎◌, codes, is_empty, relative_from, relative_path, slashes}
 use Rattle.std.proofs.lemmas.List.Recursion.{is_count_by}
 use Rattle.std.proofs.lemmas.List.{drop-append-le, drop_more, length-take-le, take-append-drop}
-use Rattle.uri_ops.specs.Dots.{is_empty}
-use Rattle.uri_relative.specs.Relative.{relative_from, relative_path, slashes}
 use Rattle.uri_relative.proofs.Lengths.{length-of-path-up-to-some, length-of-path-up-to-nothing}
 
 -- lengths of relativized paths: one without `../` is two bytes longer than its rest at most; none,
@@ -64,10 +62,9 @@ text-from-before-slash-is-split : (text : List ℕ) (last m : ℕ) → last < le
     → get_or text last 0 ≡ 47
     → m ≤ last → drop m text ≡ drop m (take last text) ++ 47 ∷ drop (last + 1) text
 text-from-before-slash-is-split text last m h e least =
-    ap (drop m) (sym (take-append-drop last text))
-    ∙ drop-append-le m (take last text) (drop last text)
-    (omega (arith, least, length-take-le last text (omega (arith, h))))
-    ∙ ap (λ t. drop m (take last text) ++ t)
+    ap (drop m) (sym (take-append-drop last text)) ∙ drop-append-le m (take last text)
+    (drop last text) (omega (arith, least, length-take-le last text (omega (arith, h)))) ∙ ap
+    (λ t. drop m (take last text) ++ t)
     (drop_more text last 0 h ∙ ap (λ c. c ∷ drop (last + 1) text) e)
 
 -- relativized paths: a text with a `/` (47) is not empty
@@ -76,18 +73,16 @@ text-with-slash-is-nonempty [] b = refl
 text-with-slash-is-nonempty (c ∷ a) b = refl
 
 -- relativized paths: one that begins later is no longer: it goes up fewer times, and has less left
-later-prefix-gives-shorter-path : (a b u v : List ℕ)
-    → length (relative_path (slashes b) v)
+later-prefix-gives-shorter-path : (a b u v : List ℕ) → length (relative_path (slashes b) v)
     ≤ length (relative_path (slashes (a ++ 47 ∷ b)) (u ++ 47 ∷ v))
-later-prefix-gives-shorter-path a b u v =
-    omega (
-      arith,
-      length-of-relative-path-is-bounded (slashes b) v,
-      ap (λ k. length (relative_path k (u ++ 47 ∷ v))) (slash-between-adds-one-to-slashes a b),
-      length-of-path-up-to-some (slashes a + slashes b) (u ++ 47 ∷ v)
-          (text-with-slash-is-nonempty u v),
-      length-append u (47 ∷ v),
-    )
+later-prefix-gives-shorter-path a b u v = omega (
+  arith,
+  length-of-relative-path-is-bounded (slashes b) v,
+  ap (λ k. length (relative_path k (u ++ 47 ∷ v))) (slash-between-adds-one-to-slashes a b),
+  length-of-path-up-to-some (slashes a + slashes b) (u ++ 47 ∷ v)
+      (text-with-slash-is-nonempty u v),
+  length-append u (47 ∷ v),
+)
 
 -- general fact on numbers, for positions in relativized paths: one up to last + 1 is that, or less
 position-is-last-or-before : (m last : ℕ) → m ≤ last + 1 → (m ≡ last + 1) ⊎ (m ≤ last)
@@ -95,8 +90,7 @@ position-is-last-or-before m last h = grind arith
 
 -- relativized paths: one from the last shared slash is no longer than one from an earlier place m
 pub longer-shared-prefix-gives-shorter-path : (base path : List ℕ) (last m : ℕ) → last < length base
-    → last < length path
-    → get_or base last 0 ≡ 47 → get_or path last 0 ≡ 47 → m ≤ last + 1
+    → last < length path → get_or base last 0 ≡ 47 → get_or path last 0 ≡ 47 → m ≤ last + 1
     → length (relative_from (last + 1) base path) ≤ length (relative_from m base path)
 longer-shared-prefix-gives-shorter-path base path last m in_base in_path base_at path_at h = ⊎_elim
     (λ e. omega (arith, ap (λ k. length (relative_from k base path)) e))
@@ -108,7 +102,5 @@ longer-shared-prefix-gives-shorter-path base path last m in_base in_path base_at
           ∷ drop (last + 1) base)) t))
           (text-from-before-slash-is-split path last m in_path path_at least),
       later-prefix-gives-shorter-path (drop m (take last base)) (drop (last + 1) base)
-          (drop m (take last path))
-          (drop (last + 1) path),
-    ))
-    (position-is-last-or-before m last h)
+          (drop m (take last path)) (drop (last + 1) path),
+    )) (position-is-last-or-before m last h)

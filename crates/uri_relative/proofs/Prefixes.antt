@@ -1,16 +1,10 @@
 -- The prefix that two paths share.
-use Rattle.std.proofs.Common.{◌≡◌, ℕ, zero, suc, ◌+◌, ◌<◌, ◌≤◌, List, [], ◌∷◌, ◌++◌, length, take, get_or, refl, sym, ap, ◌∙◌, arith, append_assoc, length-append, ◌-◌, ◌⊎◌, ⊎_elim, drop, false, subst, codes, ◌==◌}
-use Rattle.std.proofs.lemmas.Bool.{false≢true}
+use Rattle.uri_relative.proofs.Common.{◌≡◌, ℕ, zero, suc, ◌+◌, ◌<◌, ◌≤◌, List, [], ◌∷◌, ◌++◌, length, take, get_or, refl, sym, ap, ◌∙◌, arith, append_assoc, length-append, ◌-◌, ◌⊎◌, ⊎_elim, drop, false, subst, codes, ◌==◌, false≢true, list_any_at, nat_tests, EndsInSlash, IsAbsolute, has_slash, absolute-path-is-slash-and-rest, IsLongestPrefix, IsSharedPrefix, double_dots}
 use Rattle.std.proofs.lemmas.List.{append-nil, get_or-drop, get_or-take, length-drop, length-take-le, take-take, take_more}
-use Rattle.std.proofs.lemmas.List.Folds.{list_any_at}
 use Rattle.std.proofs.Math.Seq.{get_or-append_seam}
-use Rattle.std.proofs.lemmas.Bool.Decides.{nat_tests}
-use Rattle.uri_ops.specs.Dots.{EndsInSlash, IsAbsolute, has_slash}
 use Rattle.uri_ops.specs.Models.Places.{IsSlashOrStart}
 use Rattle.uri_ops.proofs.Paths.LastSlashes.{slash-position-is-of-slash}
 use Rattle.uri_ops.proofs.Paths.PushedPaths.{prefix-of-absolute-path-is-absolute}
-use Rattle.uri_ops.proofs.Paths.TakenSegments.{absolute-path-is-slash-and-rest}
-use Rattle.uri_relative.specs.Relative.{IsLongestPrefix, IsSharedPrefix, double_dots}
 
 -- relativized paths: a shorter prefix of a shared one is shared
 shorter-prefix-is-shared-too : (m n : ℕ) (a b : List ℕ) → m ≤ n → take n a ≡ take n b
@@ -37,8 +31,7 @@ shared-prefix-has-same-bytes n i a b h e =
 
 -- relativized paths: a slash (47) of the base before the end n of the shared prefix is in the path
 pub shared-prefix-has-same-slash : (base path : List ℕ) (last n : ℕ) → last < n
-    → get_or base last 0 ≡ 47
-    → take n base ≡ take n path → get_or path last 0 ≡ 47
+    → get_or base last 0 ≡ 47 → take n base ≡ take n path → get_or path last 0 ≡ 47
 shared-prefix-has-same-slash base path last n h e same = sym
     (shared-prefix-has-same-bytes n last base path h same) ∙ e
 
@@ -57,8 +50,7 @@ absolute-paths-share-a-byte base path (suc n) h k most = omega arith
 
 -- relativized paths: the last byte of a shared prefix is `/` (47)
 prefix-to-slash-has-slash-last : (text : List ℕ) (m : ℕ) → m ≤ length text
-    → EndsInSlash (take m text)
-    → (0 < m) × (get_or text (m - 1) 0 ≡ 47)
+    → EndsInSlash (take m text) → (0 < m) × (get_or text (m - 1) 0 ≡ 47)
 prefix-to-slash-has-slash-last text m h closed =
     let prefix = closed.0 in
     let n : m ≡ length prefix + 1 = omega (
@@ -79,8 +71,7 @@ at-most-or-greater m n = grind arith
 pub prefix-to-last-shared-slash-is-longest : (base path : List ℕ) (last n : ℕ) → last < n
     → take n base ≡ take n path
     → (n < length base → n < length path → get_or base n 0 ≡ get_or path n 0 → ⊥)
-    → ((k : ℕ) → last < k → k < n → get_or base k 0 ≡ 47 → ⊥)
-    → IsLongestPrefix (last + 1) base path
+    → ((k : ℕ) → last < k → k < n → get_or base k 0 ≡ 47 → ⊥) → IsLongestPrefix (last + 1) base path
 prefix-to-last-shared-slash-is-longest base path last n h same most none =
     λ m in_base in_path shared.
     let c = prefix-to-slash-has-slash-last base m in_base shared.closed in
@@ -133,9 +124,8 @@ double-dot-before-or-after-others (suc n) = ap (λ t. codes "../" ++ t)
 
 -- relativized paths: one more `../` is appended; old, before, new: the text before all, before the
 -- last and after it
-pub one-more-double-dot-is-pushed : (old before new : List ℕ) (n : ℕ) → before
-    ≡ old ++ double_dots n
-    → new ≡ before ++ codes "../" → new ≡ old ++ double_dots (n + 1)
+pub one-more-double-dot-is-pushed : (old before new : List ℕ) (n : ℕ)
+    → before ≡ old ++ double_dots n → new ≡ before ++ codes "../" → new ≡ old ++ double_dots (n + 1)
 unfolding double_dots
 one-more-double-dot-is-pushed old before new n e f =
     grind (arith, append_assoc, double-dot-before-or-after-others)

@@ -1,17 +1,8 @@
 -- Each path that is joined to a base's and leads to a path: where it leads, and how short one is
 -- that leads there, where the base's path has no dot segment.
-use Rattle.std.proofs.Common.{◌≡◌, ◌⊎◌, ℕ, suc, ◌+◌, ◌*◌, ◌<◌, ◌≤◌, Bool, true, false, not, cond, eqb, List, [], ◌∷◌, ◌++◌, ◌||◌, length, take, drop, refl, sym, ap, subst, ◌∙◌, arith, append_assoc, inl, inr, ⊎_elim, codes}
+use Rattle.uri_relative.proofs.Common.{◌≡◌, ◌⊎◌, ℕ, suc, ◌+◌, ◌*◌, ◌<◌, ◌≤◌, Bool, true, false, not, cond, eqb, List, [], ◌∷◌, ◌++◌, ◌||◌, length, take, drop, refl, sym, ap, subst, ◌∙◌, arith, append_assoc, inl, inr, ⊎_elim, codes, cond-true, false≢true, not_from_false, or_parts, is_one_of, starts, has_colon_in_first_segment, has_slash, is_empty, remove_dot_segments, segments, path-after-slash-appends-its-segments, not-empty-has-length, AllPass, appended-segments-pass-test, dotless_of-append, is_dotless, steps-of-dotless-append-all, NoSlashes, first-segment-and-rest-lack-slashes, is_one_of-slash-is-equality, lacks_slash, remove-dots-by-segments, segments-of-text-lack-slashes, segments-of-text-are-not-none, slashed, slashed-of-append, slashed-of-push, slashed-of-segments-is-text-after-slash, needs_leading_dot, relative_path}
 use Rattle.std.specs.List.{list_any, prefix_len}
-use Rattle.std.proofs.lemmas.Bool.{cond-true, false≢true, not_from_false, or_parts}
-use Rattle.uri_pct.specs.Sets.{is_one_of}
-use Rattle.uri_parts.specs.Components.{starts}
-use Rattle.uri_parts.specs.Grammar.{has_colon_in_first_segment}
-use Rattle.uri_ops.specs.Dots.{has_slash, is_empty, remove_dot_segments, segments}
-use Rattle.uri_ops.proofs.Paths.DotLaws.{path-after-slash-appends-its-segments}
-use Rattle.uri_ops.proofs.Paths.DotRuns.{not-empty-has-length}
-use Rattle.uri_ops.proofs.Paths.Segments.{AllPass, appended-segments-pass-test, dotless_of-append, is_none, is_dotless, steps-of-dotless-append-all}
-use Rattle.uri_ops.proofs.Paths.SlashedSegments.{NoSlashes, first-segment-and-rest-lack-slashes, is_one_of-slash-is-equality, lacks_slash, remove-dots-by-segments, segments-of-text-lack-slashes, segments-of-text-are-not-none, slashed, slashed-of-append, slashed-of-push, slashed-of-segments-is-text-after-slash}
-use Rattle.uri_relative.specs.Relative.{needs_leading_dot, relative_path}
+use Rattle.uri_ops.proofs.Paths.Segments.{is_none}
 use Rattle.uri_relative.proofs.Climbs.{dir}
 use Rattle.uri_relative.proofs.Lengths.{length-of-path-up-to-some, length-of-path-up-to-nothing}
 use Rattle.uri_relative.proofs.Shrinking.{segments_left}
@@ -34,10 +25,9 @@ colon-is-in-first-segment-alone (c ∷ s) rest e =
 -- relativized paths: if a text is parsed as a path, it needs no `./`, nor does one with the same
 -- first segment
 same-first-segment-needs-no-leading-dot : (s : List ℕ) (segs tail : List (List ℕ))
-    → has_slash s ≡ false
-    → is_empty (s ++ slashed segs) ≡ false → starts 47 (s ++ slashed segs) ≡ false
-    → has_colon_in_first_segment (s ++ slashed segs) ≡ false → needs_leading_dot (s ++ slashed tail)
-    ≡ false
+    → has_slash s ≡ false → is_empty (s ++ slashed segs) ≡ false
+    → starts 47 (s ++ slashed segs) ≡ false → has_colon_in_first_segment (s ++ slashed segs) ≡ false
+    → needs_leading_dot (s ++ slashed tail) ≡ false
 unfolding slashed
 same-first-segment-needs-no-leading-dot [] [] tail free some rootless colon = absurd
     (false≢true (sym some))
@@ -97,9 +87,8 @@ no-byte-is-spare-for-some-rest spare d ds up (inr h) some =
 
 -- lengths of relativized paths: there is room for a `./` if the rest below a directory needs one
 room-for-leading-dot-or-not-needed : (s d : List ℕ) (segs ds : List (List ℕ)) (enough : Type 0)
-    → has_slash s ≡ false
-    → is_empty (s ++ slashed segs) ≡ false → starts 47 (s ++ slashed segs) ≡ false
-    → has_colon_in_first_segment (s ++ slashed segs) ≡ false
+    → has_slash s ≡ false → is_empty (s ++ slashed segs) ≡ false
+    → starts 47 (s ++ slashed segs) ≡ false → has_colon_in_first_segment (s ++ slashed segs) ≡ false
     → (0 < 0) ⊎ ((d ∷ ds ≡ [] ∷ []) ⊎ (BeginWithSameSegment (s ∷ segs) (d ∷ ds) ⊎ enough))
     → is_empty (d ++ slashed ds) ≡ false → needs_leading_dot (d ++ slashed ds) ≡ true → enough
 unfolding slashed BeginWithSameSegment
@@ -115,8 +104,7 @@ room-for-leading-dot-or-not-needed s d segs ds enough free some rootless colon
 
 -- relativized paths: the segments that are left are a directory (of prefix) and a rest below it
 pub segments-left-are-directory-and-rest : (left prefix : List (List ℕ)) (d : List ℕ)
-    (ds : List (List ℕ))
-    → left ≡ prefix ++ d ∷ ds → slashed left ≡ dir prefix ++ (d ++ slashed ds)
+    (ds : List (List ℕ)) → left ≡ prefix ++ d ∷ ds → slashed left ≡ dir prefix ++ (d ++ slashed ds)
 segments-left-are-directory-and-rest left prefix d ds e =
     ap slashed e ∙ slashed-of-append prefix (d ∷ ds)
     ∙ ap (λ t. slashed prefix ++ t) (joined-segments-begin-with-slash d ds)
@@ -126,21 +114,19 @@ segments-left-are-directory-and-rest left prefix d ds e =
 -- relativized paths: one that is no longer leads to what is left of segments, which share a prefix
 -- with a directory (output)
 parts-are-reached-by-short-path : (output left segs prefix up down : List (List ℕ)) (s : List ℕ)
-    (spare : ℕ)
-    → has_slash s ≡ false → is_empty (s ++ slashed segs) ≡ false
+    (spare : ℕ) → has_slash s ≡ false → is_empty (s ++ slashed segs) ≡ false
     → starts 47 (s ++ slashed segs) ≡ false → has_colon_in_first_segment (s ++ slashed segs) ≡ false
     → output ≡ prefix ++ up → left ≡ prefix ++ down → spare ≤ 1 → 0 < length down
     → (spare ≡ 0) ⊎ ((down ≡ [] ∷ []) × (0 < length up))
-    → 3 * length up + length (slashed down) ≤ length (slashed (s ∷ segs)) + spare
-    → (0 < length up) ⊎ ((down ≡ [] ∷ []) ⊎ (BeginWithSameSegment (s ∷ segs) down
+    → 3 * length up + length (slashed down) ≤ length (slashed (s ∷ segs)) + spare → (0 < length up)
+    ⊎ ((down ≡ [] ∷ []) ⊎ (BeginWithSameSegment (s ∷ segs) down
     ⊎ (3 * length up + length (slashed down) + 2 ≤ length (slashed (s ∷ segs)) + spare)))
     → IsReachedByShortPath output (s ++ slashed segs) (slashed left)
 parts-are-reached-by-short-path output left segs prefix up [] s spare free some rootless colon e f
     few down why cost
     first = absurd (omega (arith, down))
 parts-are-reached-by-short-path output left segs prefix [] (d ∷ ds) s spare free some rootless colon
-    e f few down why
-    cost first =
+    e f few down why cost first =
     let x = s ++ slashed segs in
     let rest = d ++ slashed ds in
     let n : length (slashed (d ∷ ds))
@@ -165,8 +151,7 @@ parts-are-reached-by-short-path output left segs prefix [] (d ∷ ds) s spare fr
           ));
     }
 parts-are-reached-by-short-path output left segs prefix (u ∷ us) (d ∷ ds) s spare free some rootless
-    colon e f few down
-    why cost first =
+    colon e f few down why cost first =
     let x = s ++ slashed segs in
     let rest = d ++ slashed ds in
     let n : length (slashed (d ∷ ds))
@@ -180,41 +165,35 @@ parts-are-reached-by-short-path output left segs prefix (u ∷ us) (d ∷ ds) s 
       output_is = e;
       path_is = segments-left-are-directory-and-rest left prefix d ds f;
       short = path-with-double-dots-is-no-longer (length us) rest x spare few
-          (no-byte-is-spare-for-some-rest spare d ds (u ∷ us) why)
-          (omega (arith, n, m, cost));
+          (no-byte-is-spare-for-some-rest spare d ds (u ∷ us) why) (omega (arith, n, m, cost));
     }
 
 -- relativized paths: one that is no longer leads from a directory (output) to what is left of it
 -- and the segments
 segments-are-reached-by-short-path : (output segs : List (List ℕ)) (s : List ℕ)
-    → has_slash s ≡ false
-    → is_empty (s ++ slashed segs) ≡ false → starts 47 (s ++ slashed segs) ≡ false
-    → has_colon_in_first_segment (s ++ slashed segs) ≡ false
+    → has_slash s ≡ false → is_empty (s ++ slashed segs) ≡ false
+    → starts 47 (s ++ slashed segs) ≡ false → has_colon_in_first_segment (s ++ slashed segs) ≡ false
     → IsReachedByShortPath output (s ++ slashed segs) (slashed (segments_left output (s ∷ segs)))
 segments-are-reached-by-short-path output segs s free some rootless colon =
     let w = segments-share-directory-prefix s segs output in
-    parts-are-reached-by-short-path output (segments_left output (s ∷ segs)) segs w.prefix
-    w.up w.down s
-    w.spare free some
-    rootless colon w.output_is w.left_is w.few w.some w.why w.cost w.first
+    parts-are-reached-by-short-path output (segments_left output (s ∷ segs)) segs w.prefix w.up
+    w.down s w.spare free some rootless colon w.output_is w.left_is w.few w.some w.why w.cost
+    w.first
 
 -- relativized paths: removing dot segments after a directory (output) leaves what its segments and
 -- the path's leave
 removal-after-directory-leaves-segments : (output segs : List (List ℕ)) (s : List ℕ)
-    → AllPass is_dotless output
-    → NoSlashes output → NoSlashes (s ∷ segs)
+    → AllPass is_dotless output → NoSlashes output → NoSlashes (s ∷ segs)
     → remove_dot_segments (slashed (output ++ s ∷ segs)) ≡ slashed (segments_left output (s ∷ segs))
 unfolding segments_left
-removal-after-directory-leaves-segments output segs s dotless lack lacks =
-    remove-dots-by-segments (output ++ s ∷ segs)
-    (appended-segments-pass-test lacks_slash output (s ∷ segs) lack lacks)
+removal-after-directory-leaves-segments output segs s dotless lack lacks = remove-dots-by-segments
+    (output ++ s ∷ segs) (appended-segments-pass-test lacks_slash output (s ∷ segs) lack lacks)
     ∙ ap slashed (grind (arith, dotless_of-append, steps-of-dotless-append-all))
 
 -- relativized paths: one that is no longer leads from a directory (output) to where a path x leads
 text-by-segments-is-reached-by-short-path : (output segs : List (List ℕ)) (s x : List ℕ)
-    → AllPass is_dotless output
-    → NoSlashes output → segments x ≡ s ∷ segs → is_empty x ≡ false → starts 47 x ≡ false
-    → has_colon_in_first_segment x ≡ false
+    → AllPass is_dotless output → NoSlashes output → segments x ≡ s ∷ segs → is_empty x ≡ false
+    → starts 47 x ≡ false → has_colon_in_first_segment x ≡ false
     → IsReachedByShortPath output x (remove_dot_segments (dir output ++ x))
 unfolding slashed
 text-by-segments-is-reached-by-short-path output segs s x dotless lack e some rootless colon =

@@ -1,21 +1,11 @@
 -- The forms of a reference by what it leads to: with a scheme, with an authority, or a path. RFC
 -- 3986, sections 4.2 and 5.2.2.
-use Rattle.std.proofs.Common.{◌≡◌, ℕ, ◌+◌, ◌≤◌, Bool, true, false, cond, List, [], length, refl, arith, ⊎_elim, length-append, codes, Option, is_some}
-use Rattle.std.proofs.lemmas.Bool.{cases_Bool}
-use Rattle.std.proofs.lemmas.Bool.Decides.{nat_tests}
-use Rattle.uri_parts.specs.Components.{Components, marked, recompose}
-use Rattle.uri_parts.specs.Grammar.{Kind}
-use Rattle.uri_ops.specs.Dots.{is_empty}
-use Rattle.uri_ops.specs.Target.{dotless_if_absolute, guarded, query_or, target_of}
-use Rattle.uri_relative.specs.Forms.{after_path}
-use Rattle.uri_relative.specs.Relative.{joined_path}
-use Rattle.uri_relative.specs.Shortest.{IsReferenceFrom}
+use Rattle.uri_relative.proofs.Common.{◌≡◌, ℕ, ◌+◌, ◌≤◌, Bool, true, false, cond, List, [], length, refl, arith, ⊎_elim, length-append, codes, Option, is_some, cases_Bool, nat_tests, Components, marked, recompose, Kind, is_empty, dotless_if_absolute, guarded, query_or, target_of, after_path, joined_path, IsReferenceFrom}
 use Rattle.uri_relative.proofs.Shrinking.{target-is-no-longer-with-final-path, length-of-recompose}
 
 -- forms of references, for relativizing: one (o) with a scheme is no shorter than the target t
 pub reference-with-scheme-is-no-shorter : (kind : Kind) (b t o : Components)
-    → IsReferenceFrom kind b t o
-    → is_some o.scheme ≡ true
+    → IsReferenceFrom kind b t o → is_some o.scheme ≡ true
     → length (recompose t) ≤ length (recompose o)
 reference-with-scheme-is-no-shorter kind b t o l e =
     grind (arith, nat_tests, target-is-no-longer-with-final-path)
@@ -51,11 +41,7 @@ components-joined-field-by-field : (b : Components) (empty rooted : Bool) (p m :
     → cond empty (let c : Components = record b { query = q; fragment = f } in c)
     (cond rooted (let c : Components = record b { path = p; query = r; fragment = f } in c)
     (let c : Components = record b { path = m; query = r; fragment = f } in c))
-    ≡ record b {
-      path = cond empty b.path (cond rooted p m);
-      query = cond empty q r;
-      fragment = f;
-    }
+    ≡ record b { path = cond empty b.path (cond rooted p m); query = cond empty q r; fragment = f }
 components-joined-field-by-field b true rooted p m q r f = refl
 components-joined-field-by-field b false true p m q r f = refl
 components-joined-field-by-field b false false p m q r f = refl
@@ -63,19 +49,16 @@ components-joined-field-by-field b false false p m q r f = refl
 -- forms of references, for relativizing: one (o) without a scheme and an authority leads to t by
 -- its path, query and fragment
 pub reference-without-authority-is-path-form : (b t o : Components) → target_of b o ≡ t
-    → is_some o.scheme ≡ false
-    → is_some o.authority ≡ false → IsPathForm b t o
+    → is_some o.scheme ≡ false → is_some o.authority ≡ false → IsPathForm b t o
 reference-without-authority-is-path-form b t o leads none none' =
     grind (arith, nat_tests, components-joined-field-by-field)
 
 -- forms of references, for relativizing: one (o) has a scheme, or an authority alone, or neither
 pub reference-is-of-one-form : (kind : Kind) (b t o : Components) (P : Type 0)
-    → IsReferenceFrom kind b t o
-    → (is_some o.scheme ≡ true → P)
+    → IsReferenceFrom kind b t o → (is_some o.scheme ≡ true → P)
     → (is_some o.scheme ≡ false → is_some o.authority ≡ true → ByAuthority b t o → P)
     → (is_some o.scheme ≡ false → is_some o.authority ≡ false → IsPathForm b t o → P) → P
-reference-is-of-one-form kind b t o P l scheme authority path = ⊎_elim
-    scheme
+reference-is-of-one-form kind b t o P l scheme authority path = ⊎_elim scheme
     (λ e. ⊎_elim
     (λ f. authority e f (reference-with-authority-lacks-only-scheme kind b t o l e f))
     (λ f. path e f (reference-without-authority-is-path-form b t o l.leads e f))

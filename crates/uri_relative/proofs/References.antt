@@ -1,15 +1,6 @@
 -- What the references of each form resolve to: RFC 3986, section 5.2.2.
-use Rattle.std.proofs.Common.{◌≡◌, ℕ, Bool, true, false, List, [], ◌&&◌, refl, sym, ap, ◌∙◌, ⊎_elim, arith, Option, None, is_some}
-use Rattle.std.proofs.lemmas.Bool.{cases_Bool, cond-true, cond-false}
-use Rattle.std.proofs.lemmas.Bool.Decides.{nat_tests}
-use Rattle.uri_pct.proofs.General.{eq_true_from_IsTrue}
-use Rattle.uri_pct.specs.Delimiters.{slash}
-use Rattle.uri_parts.specs.Components.{Components, IsAbemptyPath, starts}
-use Rattle.uri_ops.specs.Dots.{remove_dot_segments, underflows}
-use Rattle.uri_ops.specs.Target.{dotless_if_absolute, underflows_if_absolute, guarded, dotted_target, merged, target_of, target_underflows}
-use Rattle.uri_ops.specs.Resolving.{with_final_path}
+use Rattle.uri_relative.proofs.Common.{◌≡◌, ℕ, Bool, true, false, List, [], ◌&&◌, refl, sym, ap, ◌∙◌, ⊎_elim, arith, Option, None, is_some, cases_Bool, cond-true, cond-false, nat_tests, eq_true_from_IsTrue, slash, Components, IsAbemptyPath, starts, remove_dot_segments, underflows, dotless_if_absolute, underflows_if_absolute, guarded, dotted_target, merged, target_of, target_underflows, with_final_path, IsPathTo, joined_path}
 use Rattle.uri_ops.proofs.Paths.MergedPaths.{merged-path-is-absolute}
-use Rattle.uri_relative.specs.Relative.{IsPathTo, joined_path}
 
 -- general fact on records, for relativized references: components are equal if each is
 equal-parts-make-equal-components : (c d : Components) → c.scheme ≡ d.scheme → c.authority
@@ -34,8 +25,7 @@ pub target_of-path-form : (b t : Components) (path way : List ℕ) → b.scheme 
 target_of-path-form b t path way s a rooted g w =
     let r : Components = record t { scheme = None; authority = None; path = way } in
     let whole : guarded b.authority path ≡ t.path = ap (λ x. guarded x path) a ∙ g in
-    ⊎_elim
-    (grind (arith, equal-parts-make-equal-components, joined-path-is-target-path))
+    ⊎_elim (grind (arith, equal-parts-make-equal-components, joined-path-is-target-path))
     (λ h. let m = merged b.path way in
     let c : Components = record b { path = m; query = t.query; fragment = t.fragment } in
     let j : dotted_target b r ≡ c = cond-false _ _ _ w.some ∙ cond-false _ _ _ h in

@@ -1,18 +1,11 @@
 -- A target leads back to the reference that it was resolved from, or to another that leads there.
-use Rattle.std.proofs.Common.{◌≡◌, ℕ, Bool, true, false, List, refl, sym, ap, ◌∙◌, arith, None, Ok, is_some}
-use Rattle.uri_pct.proofs.General.{None-from-not-is_some}
-use Rattle.uri_parts.specs.Components.{Components, components, recompose}
-use Rattle.uri_ops.specs.Target.{is_opaque_rejection, resolution_of_texts, target_of}
-use Rattle.uri_ops.proofs.Targeting.RefusalOrder.{ok-result-has-no-opaque-rejection, result_or_target_error}
-use Rattle.uri_ops.proofs.Targeting.Targets.{target-text-has-target-components}
-use Rattle.uri_relative.specs.Leading.{LeadsTo, without_fragment, settled}
+use Rattle.uri_relative.proofs.Common.{◌≡◌, ℕ, Bool, true, false, List, refl, sym, ap, ◌∙◌, arith, None, Ok, is_some, None-from-not-is_some, Components, components, recompose, is_opaque_rejection, resolution_of_texts, target_of, ok-result-has-no-opaque-rejection, result_or_target_error, target-text-has-target-components, LeadsTo, without_fragment, settled}
 use Rattle.uri_relative.proofs.Settled.{final-path-is-idempotent}
 
 -- relativized references: where base and reference resolve, the base has no fragment; fragment,
 -- opaque: whether it has one, is opaque
 outcome-without-error-has-no-fragment : (fragment opaque : Bool) (x y : List ℕ)
-    → result_or_target_error fragment opaque x ≡ Ok y
-    → fragment ≡ false
+    → result_or_target_error fragment opaque x ≡ Ok y → fragment ≡ false
 unfolding result_or_target_error
 outcome-without-error-has-no-fragment true opaque x y e = cc
 outcome-without-error-has-no-fragment false opaque x y e = refl
@@ -25,16 +18,14 @@ components-without-fragment-stay c e = ap (λ f. let b : Components = record c {
 -- relativized references: where base and reference resolve, the base has no fragment, and the
 -- result is their target
 outcome-is-target-of-base-without-fragment : (base reference target : List ℕ)
-    → resolution_of_texts base reference ≡ Ok target
-    → (is_some (components base).fragment ≡ false)
+    → resolution_of_texts base reference ≡ Ok target → (is_some (components base).fragment ≡ false)
     × (recompose (target_of (components base) (components reference)) ≡ target)
 unfolding result_or_target_error
 outcome-is-target-of-base-without-fragment base reference target e =
     let b = components base in
     let r = components reference in (
       outcome-without-error-has-no-fragment (is_some b.fragment) (is_opaque_rejection b r)
-          (recompose (target_of b r)) target
-          e,
+          (recompose (target_of b r)) target e,
       (ok-result-has-no-opaque-rejection (is_some b.fragment) (is_opaque_rejection b r)
           (recompose (target_of b r)) target
           e).1,

@@ -1,17 +1,6 @@
 -- Which targets need an authority in their reference, and which bases have a rooted path: RFC 3986,
 -- section 5.2.2.
-use Rattle.std.proofs.Common.{◌≡◌, ◌≢◌, ℕ, Bool, true, false, List, [], ◌&&◌, refl, sym, ap, ◌∙◌, inl, inr, ⊎_elim, arith, codes, Option, None, Some, IfSome, is_some, is_none}
-use Rattle.std.proofs.lemmas.Bool.{both_ways, cases_Bool, false≢true, not-false}
-use Rattle.std.proofs.lemmas.Bool.Decides.{nat_tests}
-use Rattle.uri_pct.specs.Delimiters.{slash}
-use Rattle.uri_parts.specs.Components.{Components, IsAbemptyPath, Lacks, components, starts}
-use Rattle.uri_parts.specs.Grammar.{Kind}
-use Rattle.uri_pct.proofs.General.{not_some_is_none, eq_true_from_IsTrue}
-use Rattle.uri_parts.proofs.Splitting.Recompose.{components-are-split-of-text, equal-to-true-is-IsTrue}
-use Rattle.uri_ops.specs.Target.{is_opaque}
-use Rattle.uri_ops.proofs.Paths.DotRuns.{empty-text-is-nil}
-use Rattle.uri_relative.specs.Forms.{IsDotlessTargetOf, NeedsPath}
-use Rattle.uri_relative.specs.Leading.{needs_authority}
+use Rattle.uri_relative.proofs.Common.{◌≡◌, ◌≢◌, ℕ, Bool, true, false, List, [], ◌&&◌, refl, sym, ap, ◌∙◌, inl, inr, ⊎_elim, arith, codes, Option, None, Some, IfSome, is_some, is_none, both_ways, cases_Bool, false≢true, not-false, nat_tests, slash, Components, IsAbemptyPath, Lacks, components, starts, Kind, not_some_is_none, eq_true_from_IsTrue, components-are-split-of-text, equal-to-true-is-IsTrue, is_opaque, empty-text-is-nil, IsDotlessTargetOf, NeedsPath, needs_authority}
 
 -- targets to relativize: a path after an authority that does not begin with `/` is empty
 abempty-path-without-slash-is-empty : (path : List ℕ) → IsAbemptyPath path → starts slash path
@@ -36,9 +25,8 @@ rootless-path-without-authority-needs-one base t none e = grind (arith, not_some
 -- targets to relativize: one with an empty path, if the base has another, needs a reference with a
 -- scheme or an authority
 empty-path-after-authority-needs-authority : (base t : Components) → NeedsPath base t
-    → base.authority ≡ t.authority
-    → is_opaque base ≡ false → is_some t.authority ≡ true → t.path ≡ []
-    → needs_authority base t ≡ true
+    → base.authority ≡ t.authority → is_opaque base ≡ false → is_some t.authority ≡ true
+    → t.path ≡ [] → needs_authority base t ≡ true
 empty-path-after-authority-needs-authority base t n a opaque some e =
     grind (arith, nat_tests, empty-text-is-nil, base-has-query-that-target-lacks)
 
@@ -51,9 +39,8 @@ path-after-authority-is-abempty (Some a) path e h = h.1
 -- targets to relativize: one without a leading `/` in its path needs a reference with a scheme or
 -- an authority
 pub rootless-target-needs-authority : (kind : Kind) (base t : Components) → IsDotlessTargetOf kind t
-    → NeedsPath base t
-    → base.authority ≡ t.authority → is_opaque base ≡ false → starts slash t.path ≡ false
-    → needs_authority base t ≡ true
+    → NeedsPath base t → base.authority ≡ t.authority → is_opaque base ≡ false
+    → starts slash t.path ≡ false → needs_authority base t ≡ true
 rootless-target-needs-authority kind base t w n a opaque e = ⊎_elim
     (λ some. empty-path-after-authority-needs-authority base t n a opaque some
     (abempty-path-without-slash-is-empty t.path

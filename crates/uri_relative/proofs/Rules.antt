@@ -1,17 +1,7 @@
 -- Which reference is chosen.
-use Rattle.std.proofs.Common.{◌≡◌, ℕ, ◌<◌, ◌≤◌, Bool, true, false, not, ◌&&◌, List, [], length, ◌+◌, drop, refl, sym, ap, ◌∙◌, arith, Option, None, Some, bytes_eq, is_none, is_some, Decides}
+use Rattle.uri_relative.proofs.Common.{◌≡◌, ℕ, ◌<◌, ◌≤◌, Bool, true, false, not, ◌&&◌, List, [], length, ◌+◌, drop, refl, sym, ap, ◌∙◌, arith, Option, None, Some, bytes_eq, is_none, is_some, Decides, and_from, and_left, and_parts, and_right, both_ways, cond-false, cond-true, false_from_ne_true, lt-leb, not_from_true, or_from, Decides-like, slash, Components, starts, lacks_dot_segments, or_slash, remove_dot_segments, guarded, is_opaque, remove-dots-of-dotless, IsUnguarded, NeedsPath, from_authority, IsLongestPrefix, IsSharedPrefix, relative_from, relative_path, slashes, has_same_authority, has_same_query, has_same_scheme, path_from_base, reference_components, shortest_or_preferred_path, has_same_authority_and_path, shared_directory_len}
 use Rattle.std.specs.Option.{option_eq}
-use Rattle.std.proofs.lemmas.Bool.{and_from, and_left, and_parts, and_right, both_ways, cond-false, cond-true, false_from_ne_true, lt-leb, not_from_true, or_from}
-use Rattle.std.proofs.lemmas.Bool.Decides.{Decides-like}
 use Rattle.std.proofs.lemmas.Slice.Eq.{bytes_eq-Decides}
-use Rattle.uri_pct.specs.Delimiters.{slash}
-use Rattle.uri_parts.specs.Components.{Components, starts}
-use Rattle.uri_ops.specs.Dots.{lacks_dot_segments, or_slash, remove_dot_segments}
-use Rattle.uri_ops.specs.Target.{guarded, is_opaque}
-use Rattle.uri_ops.proofs.Paths.DotLaws.{remove-dots-of-dotless}
-use Rattle.uri_relative.specs.Forms.{IsUnguarded, NeedsPath, from_authority}
-use Rattle.uri_relative.specs.Relative.{IsLongestPrefix, IsSharedPrefix, relative_from, relative_path, slashes}
-use Rattle.uri_relative.specs.Rule.{has_same_authority, has_same_query, has_same_scheme, path_from_base, reference_components, shortest_or_preferred_path, has_same_authority_and_path, shared_directory_len}
 use Rattle.uri_relative.proofs.Climbs.{remove_dot_segments-follows-dots}
 use Rattle.uri_relative.proofs.SharedLengths.{longest-shared-prefix-has-shared_directory_len}
 use Rattle.uri_relative.proofs.Ways.{guard-counts-as-no-segment}
@@ -43,11 +33,10 @@ relative-path-if-no-longer prefers base path dotless h = grind arith
 -- relativized references: the path that is relative to the base's, by the shared prefix that the
 -- code finds
 pub relative-path-by-longest-prefix : (given base path bytes others rest : List ℕ)
-    (last double_dots : ℕ)
-    → base ≡ or_slash given → bytes ≡ base → others ≡ path → last < length bytes
-    → IsSharedPrefix (last + 1) bytes others → IsLongestPrefix (last + 1) bytes others
-    → double_dots ≡ slashes (drop (last + 1) base) → rest ≡ drop (last + 1) path
-    → relative_path double_dots rest ≡ path_from_base given path
+    (last double_dots : ℕ) → base ≡ or_slash given → bytes ≡ base → others ≡ path
+    → last < length bytes → IsSharedPrefix (last + 1) bytes others
+    → IsLongestPrefix (last + 1) bytes others → double_dots ≡ slashes (drop (last + 1) base)
+    → rest ≡ drop (last + 1) path → relative_path double_dots rest ≡ path_from_base given path
 relative-path-by-longest-prefix given base path bytes others rest last double_dots root e f h shared
     longest g k =
     ap (λ m. relative_path m rest) g
@@ -84,8 +73,7 @@ module _ (prefers : Bool) (base t : Components) where
       ((option-test-decides-equality base.scheme t.scheme).1 s)
 
   equal-authority-and-path-pass-test : base.authority ≡ t.authority → base.path ≡ t.path
-      → has_same_authority_and_path base t
-      ≡ true
+      → has_same_authority_and_path base t ≡ true
   equal-authority-and-path-pass-test a p =
       grind (arith, option-test-decides-equality, bytes_eq-Decides)
 
@@ -94,8 +82,7 @@ module _ (prefers : Bool) (base t : Components) where
   other_query other = grind (arith, refuted-test-is-false, option-test-decides-equality)
 
   target-that-needs-path-differs : NeedsPath base t
-      → (has_same_authority_and_path base t && has_same_query base t)
-      ≡ false
+      → (has_same_authority_and_path base t && has_same_query base t) ≡ false
   target-that-needs-path-differs n = false_from_ne_true _ (λ e.
       let both = and_parts (has_same_authority_and_path base t) _ e in
       let place = and_parts (has_same_authority base t) _ both.0 in
@@ -127,14 +114,12 @@ module _ (prefers : Bool) (base t : Components) where
       → record t { scheme = None; authority = None; path = []; query = None }
       ≡ reference_components prefers base t
   unfolding reference_components
-  rule-gives-fragment-for-same-query s a p q =
-      sym (cond-false _ _ _ (equal-schemes-pass-test s)
+  rule-gives-fragment-for-same-query s a p q = sym (cond-false _ _ _ (equal-schemes-pass-test s)
       ∙ cond-true _ _ _ (and_from _ _ (equal-authority-and-path-pass-test a p)
       ((option-test-decides-equality base.query t.query).1 q)))
 
   pub rule-gives-target-for-opaque-base : base.scheme ≡ t.scheme → NeedsPath base t
-      → is_opaque base ≡ true
-      → t ≡ reference_components prefers base t
+      → is_opaque base ≡ true → t ≡ reference_components prefers base t
   unfolding reference_components
   rule-gives-target-for-opaque-base s n opaque =
       grind (arith, equal-schemes-pass-test, target-that-needs-path-differs)
@@ -170,10 +155,8 @@ module _ (prefers : Bool) (base t : Components) where
       ≡ reference_components prefers base t
   unfolding reference_components
   rule-gives-path-for-same-authority s a n opaque absolute way e =
-      ap (λ w. record t { scheme = None; authority = None; path = w }) e
-      ∙ sym (cond-false _ _ _ (equal-schemes-pass-test s)
-      ∙ cond-false _ _ _ (target-that-needs-path-differs n)
-      ∙ cond-false _ _ _ opaque
-      ∙ cond-false _ _ _ (target-that-needs-path-has-no-query-form n opaque)
-      ∙ cond-true _ _ _
+      ap (λ w. record t { scheme = None; authority = None; path = w }) e ∙ sym
+      (cond-false _ _ _ (equal-schemes-pass-test s)
+      ∙ cond-false _ _ _ (target-that-needs-path-differs n) ∙ cond-false _ _ _ opaque
+      ∙ cond-false _ _ _ (target-that-needs-path-has-no-query-form n opaque) ∙ cond-true _ _ _
       (and_from _ _ ((option-test-decides-equality base.authority t.authority).1 a) absolute))

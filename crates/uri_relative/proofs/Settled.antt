@@ -1,19 +1,5 @@
 -- Targets of which no dot segment is left to remove: RFC 3986, section 5.2.2.
-use Rattle.std.proofs.Common.{◌≡◌, ℕ, Bool, true, false, cond, List, [], ◌∷◌, ◌++◌, ◌&&◌, arith, drop, eqb, refl, sym, ap, ◌∙◌, ⊎_elim, codes, Option, None, Some, IfNone, is_some, is_none, IsCharBoundary, IsUtf8}
-use Rattle.std.proofs.Math.Bool.{and-false}
-use Rattle.std.proofs.lemmas.Bool.{and_parts, cases_Bool, cond-true, cond-false, false_from_ne_true, false≢true}
-use Rattle.std.proofs.lemmas.Bool.Decides.{nat_tests}
-use Rattle.uri_pct.proofs.General.{eq_true_from_IsTrue}
-use Rattle.uri_pct.specs.Delimiters.{slash}
-use Rattle.uri_parts.specs.Components.{Components, starts, has_authority}
-use Rattle.uri_parts.proofs.Splitting.Recompose.{equal-to-true-is-IsTrue}
-use Rattle.uri_ops.specs.Dots.{IsAbsolute, lacks_dot_segments, remove_dot_segments, underflows}
-use Rattle.uri_ops.specs.Resolving.{with_final_path}
-use Rattle.uri_ops.specs.Target.{dotless_if_absolute, underflows_if_absolute, guarded}
-use Rattle.uri_ops.proofs.Paths.DotLaws.{removing-dots-keeps-absolute, removing-dots-leaves-no-dot-segment, remove-dots-of-dotless, dotless-path-does-not-underflow}
-use Rattle.uri_ops.proofs.Paths.PathMeanings.{two-slashes-begin-with-slash, guard-is-removed-as-dot-segment, dotless_if_absolute-is-idempotent}
-use Rattle.uri_ops.proofs.Paths.TakenSegments.{absolute-path-is-slash-and-rest}
-use Rattle.uri_relative.specs.Forms.{IsUnguarded, is_guarded}
+use Rattle.uri_relative.proofs.Common.{◌≡◌, ℕ, Bool, true, false, cond, List, [], ◌∷◌, ◌++◌, ◌&&◌, arith, drop, eqb, refl, sym, ap, ◌∙◌, ⊎_elim, codes, Option, None, Some, IfNone, is_some, is_none, IsCharBoundary, IsUtf8, and-false, and_parts, cases_Bool, cond-true, cond-false, false_from_ne_true, false≢true, nat_tests, eq_true_from_IsTrue, slash, Components, starts, has_authority, equal-to-true-is-IsTrue, IsAbsolute, lacks_dot_segments, remove_dot_segments, underflows, with_final_path, dotless_if_absolute, underflows_if_absolute, guarded, removing-dots-keeps-absolute, removing-dots-leaves-no-dot-segment, remove-dots-of-dotless, dotless-path-does-not-underflow, two-slashes-begin-with-slash, guard-is-removed-as-dot-segment, dotless_if_absolute-is-idempotent, absolute-path-is-slash-and-rest, IsUnguarded, is_guarded}
 use Rattle.uri_relative.proofs.Climbs.{underflows-follows-dots}
 use Rattle.uri_relative.proofs.Ways.{guard-counts-as-no-segment, rootless-path-has-no-authority}
 
@@ -55,9 +41,8 @@ finished-absolute-path-does-not-underflow : (a : Option (List ℕ)) (path : List
 finished-absolute-path-does-not-underflow a path h =
     let q = remove_dot_segments path in
     let clean : dotless_if_absolute path ≡ q = cond-true _ _ _ (eq_true_from_IsTrue _ h) in
-    ap (λ t. underflows_if_absolute (guarded a t)) clean
-    ∙ guarded-path-does-not-underflow q (is_none a && has_authority q)
-    (removing-dots-keeps-absolute path h)
+    ap (λ t. underflows_if_absolute (guarded a t)) clean ∙ guarded-path-does-not-underflow q
+    (is_none a && has_authority q) (removing-dots-keeps-absolute path h)
     (dotless-path-does-not-underflow q (removing-dots-keeps-absolute path h)
     (removing-dots-leaves-no-dot-segment path h))
 
@@ -76,8 +61,7 @@ settled-target-does-not-underflow t done = grind (arith, finished-path-does-not-
 -- targets to relativize: a path after an authority, or without `//` at its start, needs no guard;
 -- a: the authority
 pub path-without-slashes-needs-no-guard : (a : Option (List ℕ)) (path : List ℕ)
-    → IfNone a (has_authority path ≡ false)
-    → guarded a path ≡ path
+    → IfNone a (has_authority path ≡ false) → guarded a path ≡ path
 path-without-slashes-needs-no-guard None path e = cond-false _ _ _ e
 path-without-slashes-needs-no-guard (Some a) path e = refl
 
@@ -128,8 +112,7 @@ path-after-authority-gets-no-guard (Some a) path e = refl
 
 -- targets to relativize: the path after an authority has no guard `/.` to leave out
 pub path-after-authority-is-unguarded : (t : Components) → is_some t.authority ≡ true
-    → IsAbsolute t.path
-    → with_final_path t ≡ t → IsUnguarded t t.path
+    → IsAbsolute t.path → with_final_path t ≡ t → IsUnguarded t t.path
 path-after-authority-is-unguarded t some h done =
     let q = remove_dot_segments t.path in
     let e : q ≡ t.path = sym (path-after-authority-gets-no-guard t.authority q some)
@@ -149,8 +132,7 @@ guard-is-dot-segment rest = refl
 -- targets to relativize: the guard `/.` is a dot segment
 guarded-path-has-dot-segment : (rest : List ℕ) → has_authority rest ≡ true
     → lacks_dot_segments (codes "/." ++ rest) ≡ false
-guarded-path-has-dot-segment rest e =
-    ap (λ t. lacks_dot_segments (codes "/." ++ t))
+guarded-path-has-dot-segment rest e = ap (λ t. lacks_dot_segments (codes "/." ++ t))
     (absolute-path-is-slash-and-rest rest
     (equal-to-true-is-IsTrue _ (two-slashes-begin-with-slash rest e)))
     ∙ guard-is-dot-segment (drop 1 rest)
@@ -170,18 +152,16 @@ path-after-guard-is-unguarded t rest none h done whole double =
 -- targets to relativize: without an authority, a path that does not begin with the guard `/.` has
 -- none to leave out
 path-without-guard-is-itself-unguarded : (t : Components) → is_some t.authority ≡ false
-    → IsAbsolute t.path
-    → with_final_path t ≡ t
+    → IsAbsolute t.path → with_final_path t ≡ t
     → ((rest : List ℕ) → t.path ≡ codes "/." ++ rest → has_authority rest ≡ false)
     → IsUnguarded t t.path
-path-without-guard-is-itself-unguarded t none h done other =
-    grind (
-      arith,
-      nat_tests,
-      guard-is-that-without-authority,
-      guarded-dotless-path-is-the-path,
-      path-without-dots-is-unguarded,
-    )
+path-without-guard-is-itself-unguarded t none h done other = grind (
+  arith,
+  nat_tests,
+  guard-is-that-without-authority,
+  guarded-dotless-path-is-the-path,
+  path-without-dots-is-unguarded,
+)
 
 -- targets to relativize: a path that begins with `/.//` is a guard and a path that begins with `//`
 guarded-path-is-guard-and-path : (path : List ℕ) → is_guarded path ≡ true
@@ -207,11 +187,9 @@ path-without-guard-is-unguarded t none h done e =
 -- targets to relativize: without an authority, a path that begins with no guard `/.` is its own
 -- path without one
 pub path-that-needs-no-guard-is-unguarded : (t : Components) → is_some t.authority ≡ false
-    → IsAbsolute t.path
-    → with_final_path t ≡ t → is_guarded t.path ≡ false → IsUnguarded t t.path
-path-that-needs-no-guard-is-unguarded t none h done e =
-    path-without-guard-is-itself-unguarded t none h done
-    (grind (arith, false_from_ne_true, guard-before-slashes-is-guarded))
+    → IsAbsolute t.path → with_final_path t ≡ t → is_guarded t.path ≡ false → IsUnguarded t t.path
+path-that-needs-no-guard-is-unguarded t none h done e = path-without-guard-is-itself-unguarded t
+    none h done (grind (arith, false_from_ne_true, guard-before-slashes-is-guarded))
 
 -- targets to relativize: a character begins after the guard `/.` of a path
 pub guard-ends-at-character : (path : List ℕ) → IsUtf8 path → is_guarded path ≡ true

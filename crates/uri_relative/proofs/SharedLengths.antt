@@ -1,10 +1,5 @@
 -- The length of the longest prefix that two paths share and that ends in `/`.
-use Rattle.std.proofs.Common.{◌≡◌, ℕ, zero, suc, ◌<◌, ◌≤◌, true, ◌&&◌, ◌||◌, eqb, List, [], ◌∷◌, ◌++◌, length, take, refl, ap, ◌∙◌, arith, ◌⊎◌, ⊎_elim, inl, inr, length-append, codes, nat_lt, length-take-le}
-use Rattle.std.proofs.lemmas.Bool.{and_from, and_parts, cond-true, cond_both, eq-eqb, eqb-true, lt-ltb, or_right}
-use Rattle.std.proofs.lemmas.Bool.Decides.{nat_tests}
-use Rattle.uri_ops.specs.Dots.{EndsInSlash}
-use Rattle.uri_relative.specs.Relative.{IsLongestPrefix, IsSharedPrefix}
-use Rattle.uri_relative.specs.Rule.{shared_directory_len}
+use Rattle.uri_relative.proofs.Common.{◌≡◌, ℕ, zero, suc, ◌<◌, ◌≤◌, true, ◌&&◌, ◌||◌, eqb, List, [], ◌∷◌, ◌++◌, length, take, refl, ap, ◌∙◌, arith, ◌⊎◌, ⊎_elim, inl, inr, length-append, codes, nat_lt, length-take-le, and_from, and_parts, cond-true, cond_both, eq-eqb, eqb-true, lt-ltb, or_right, nat_tests, EndsInSlash, IsLongestPrefix, IsSharedPrefix, shared_directory_len}
 
 -- relativized paths: base and path share their first n bytes, which end in `/` and are within both
 record IsShared (n : ℕ) (base path : List ℕ) : Type 0 where
@@ -52,8 +47,7 @@ prefix-to-slash-without-first-byte a rest (c ∷ prefix) e = grind (arith, lengt
 
 -- relativized paths: a shared prefix that ends in `/` is no longer than `shared_directory_len`
 shared-prefix-is-within-shared_directory_len : (base path : List ℕ) (m : ℕ) → m ≤ length base
-    → IsSharedPrefix m base path
-    → m ≤ shared_directory_len base path
+    → IsSharedPrefix m base path → m ≤ shared_directory_len base path
 unfolding shared_directory_len
 shared-prefix-is-within-shared_directory_len base path zero h s = omega arith
 shared-prefix-is-within-shared_directory_len [] path (suc m) h s = absurd (omega (arith, h))
@@ -69,8 +63,7 @@ shared-prefix-is-within-shared_directory_len (a ∷ base) (b ∷ path) (suc m) h
     let more : (eqb a 47 || nat_lt 0 n) ≡ true
     → shared_directory_len (a ∷ base) (b ∷ path) ≡ suc n =
     λ k. cond-true _ _ _ (and_from _ _ (eq-eqb a b e) k) in
-    ⊎_elim
-    (grind arith)
+    ⊎_elim (grind arith)
     (λ longer.
     let ih = shared-prefix-is-within-shared_directory_len base path m within
     (record { same = rest; closed = longer.1 }) in

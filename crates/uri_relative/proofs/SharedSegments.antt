@@ -1,13 +1,6 @@
 -- What the segments of a path make of a directory, against the segments that they share: RFC 3986,
 -- section 5.2.4.
-use Rattle.std.proofs.Common.{◌≡◌, ◌⊎◌, ℕ, ◌+◌, ◌*◌, ◌<◌, ◌≤◌, Bool, true, false, List, [], ◌∷◌, ◌++◌, ◌||◌, length, refl, sym, ap, ◌∙◌, arith, append_assoc, inl, inr, length-append, append-nil}
-use Rattle.std.proofs.Math.Bool.{and-false}
-use Rattle.std.proofs.lemmas.Bool.{false≢true}
-use Rattle.std.proofs.lemmas.Bool.Decides.{nat_tests}
-use Rattle.uri_ops.specs.Dots.{is_double_dot, is_single_dot}
-use Rattle.uri_ops.proofs.Paths.DotRuns.{single-dot-is-not-empty}
-use Rattle.uri_ops.proofs.Paths.Segments.{closing, end_of, pop, pop-undoes-push, step_of, steps, next_output}
-use Rattle.uri_ops.proofs.Paths.SlashedSegments.{slashed}
+use Rattle.uri_relative.proofs.Common.{◌≡◌, ◌⊎◌, ℕ, ◌+◌, ◌*◌, ◌<◌, ◌≤◌, Bool, true, false, List, [], ◌∷◌, ◌++◌, ◌||◌, length, refl, sym, ap, ◌∙◌, arith, append_assoc, inl, inr, length-append, append-nil, and-false, false≢true, nat_tests, is_double_dot, is_single_dot, single-dot-is-not-empty, closing, end_of, pop, pop-undoes-push, step_of, steps, next_output, slashed}
 use Rattle.uri_relative.proofs.Climbs.{segments-are-all-but-last-and-last}
 use Rattle.uri_relative.proofs.Shrinking.{segments_left, length-of-first-segment-and-rest, no-segments-have-length-zero}
 
@@ -46,9 +39,8 @@ double-dot-segment-has-two-bytes (c ∷ d ∷ s) e = omega arith
 -- relativized paths: what the last segment makes of a directory shares a prefix with it; single,
 -- double: whether it is `.`, or `..`
 last-segment-shares-directory-prefix : (single double : Bool) (s : List ℕ) (output : List (List ℕ))
-    → (single ≡ true → 0 < length s) → (double ≡ true → 1 < length s)
-    → SharesDirectoryPrefix output (next_output single double output s ++ end_of (single || double))
-    (s ∷ [])
+    → (single ≡ true → 0 < length s) → (double ≡ true → 1 < length s) → SharesDirectoryPrefix output
+    (next_output single double output s ++ end_of (single || double)) (s ∷ [])
 unfolding next_output pop BeginWithSameSegment
 last-segment-shares-directory-prefix true double s output one two = record {
   prefix = output;
@@ -124,9 +116,8 @@ last-segment-shares-directory-prefix false false s output one two = record {
 }
 
 -- relativized paths: without a segment to go up no byte is spare
-no-byte-is-spare-without-climb : (spare : ℕ) (down : List (List ℕ)) → (spare ≡ 0)
-    ⊎ ((down ≡ [] ∷ []) × (0 < 0))
-    → spare ≡ 0
+no-byte-is-spare-without-climb : (spare : ℕ) (down : List (List ℕ))
+    → (spare ≡ 0) ⊎ ((down ≡ [] ∷ []) × (0 < 0)) → spare ≡ 0
 no-byte-is-spare-without-climb spare down (inl e) = e
 no-byte-is-spare-without-climb spare down (inr h) = absurd (omega (arith, h.1))
 
@@ -171,9 +162,8 @@ pushed-segment-shares-directory-prefix s output left segs prefix (u ∷ us) down
       prefix = prefix;
       up = pop (u ∷ us);
       down = down;
-      output_is = sym (pop-undoes-push output s)
-          ∙ ap pop (e ∙ ap (λ t. prefix ++ t) l.1
-          ∙ sym (append_assoc prefix (pop (u ∷ us)) (l.0 ∷ [])))
+      output_is = sym (pop-undoes-push output s) ∙ ap pop
+          (e ∙ ap (λ t. prefix ++ t) l.1 ∙ sym (append_assoc prefix (pop (u ∷ us)) (l.0 ∷ [])))
           ∙ pop-undoes-push (prefix ++ pop (u ∷ us)) l.0;
       left_is = f;
       spare = 0;
@@ -215,19 +205,16 @@ next-segment-shares-directory-prefix false true s (o ∷ output) left segs one t
     )
 next-segment-shares-directory-prefix false false s output left segs one two w =
     pushed-segment-shares-directory-prefix s output left segs w.prefix w.up w.down w.spare
-    w.output_is w.left_is w.few
-    w.some w.why w.cost
+    w.output_is w.left_is w.few w.some w.why w.cost
 
 -- relativized paths: what the segments leave of a directory shares a prefix with it; output: the
 -- directory's segments
 pub segments-share-directory-prefix : (s : List ℕ) (rest output : List (List ℕ))
     → SharesDirectoryPrefix output (segments_left output (s ∷ rest)) (s ∷ rest)
 unfolding segments_left steps step_of closing
-segments-share-directory-prefix s [] output =
-    last-segment-shares-directory-prefix (is_single_dot s) (is_double_dot s) s output
-    (single-dot-is-not-empty s) (double-dot-segment-has-two-bytes s)
-segments-share-directory-prefix s (t ∷ rest) output =
-    next-segment-shares-directory-prefix (is_single_dot s) (is_double_dot s) s output
-    (segments_left (step_of output s) (t ∷ rest)) (t ∷ rest) (single-dot-is-not-empty s)
-    (double-dot-segment-has-two-bytes s)
+segments-share-directory-prefix s [] output = last-segment-shares-directory-prefix (is_single_dot s)
+    (is_double_dot s) s output (single-dot-is-not-empty s) (double-dot-segment-has-two-bytes s)
+segments-share-directory-prefix s (t ∷ rest) output = next-segment-shares-directory-prefix
+    (is_single_dot s) (is_double_dot s) s output (segments_left (step_of output s) (t ∷ rest))
+    (t ∷ rest) (single-dot-is-not-empty s) (double-dot-segment-has-two-bytes s)
     (segments-share-directory-prefix t rest (step_of output s))

@@ -1,19 +1,6 @@
 -- No reference that leads to a target is shorter than the one that is written, where the base's
 -- path has no dot segment: RFC 3986, sections 4.2 and 5.2.2.
-use Rattle.std.proofs.Common.{◌≡◌, ℕ, ◌+◌, ◌≤◌, Bool, true, false, not, List, [], ◌&&◌, ◌||◌, length, refl, sym, ap, ◌∙◌, arith, ⊎_elim, length-append, codes, Option, None, Some, IfNone, is_none, is_some}
-use Rattle.std.proofs.lemmas.Bool.{and_parts, both_ways, cases_Bool, cond-false, cond-true, false≢true, not-true}
-use Rattle.std.proofs.lemmas.Bool.Decides.{nat_tests}
-use Rattle.uri_pct.proofs.General.{eq_true_from_IsTrue, none-is-not-some}
-use Rattle.uri_pct.specs.Delimiters.{slash}
-use Rattle.uri_parts.specs.Components.{Components, IsAbemptyPath, has_authority, marked, recompose, starts}
-use Rattle.uri_parts.specs.Grammar.{Kind, has_colon_in_first_segment}
-use Rattle.uri_ops.specs.Dots.{IsAbsolute, is_empty, lacks_dot_segments, remove_dot_segments}
-use Rattle.uri_ops.specs.Target.{dotless_if_absolute, guarded, is_fragment_only, is_opaque}
-use Rattle.uri_ops.proofs.Paths.DotLaws.{remove-dots-of-dotless}
-use Rattle.uri_ops.proofs.Paths.PathMeanings.{guard-is-removed-as-dot-segment, dotless_if_absolute-is-idempotent}
-use Rattle.uri_relative.specs.Forms.{IsUnguarded, NeedsPath, after_path, from_authority}
-use Rattle.uri_relative.specs.Relative.{joined_path}
-use Rattle.uri_relative.specs.Shortest.{Shortest}
+use Rattle.uri_relative.proofs.Common.{◌≡◌, ℕ, ◌+◌, ◌≤◌, Bool, true, false, not, List, [], ◌&&◌, ◌||◌, length, refl, sym, ap, ◌∙◌, arith, ⊎_elim, length-append, codes, Option, None, Some, IfNone, is_none, is_some, and_parts, both_ways, cases_Bool, cond-false, cond-true, false≢true, not-true, nat_tests, eq_true_from_IsTrue, none-is-not-some, slash, Components, IsAbemptyPath, has_authority, marked, recompose, starts, Kind, has_colon_in_first_segment, IsAbsolute, is_empty, lacks_dot_segments, remove_dot_segments, dotless_if_absolute, guarded, is_fragment_only, is_opaque, remove-dots-of-dotless, guard-is-removed-as-dot-segment, dotless_if_absolute-is-idempotent, IsUnguarded, NeedsPath, after_path, from_authority, joined_path, Shortest}
 use Rattle.uri_relative.proofs.JoinedPaths.{target-path-stays-absolute, nonempty-joined-path-is-absolute}
 use Rattle.uri_relative.proofs.Settled.{finish-keeps-rootless-path, path-without-slashes-needs-no-guard}
 use Rattle.uri_relative.proofs.Shrinking.{length-of-recompose, no-slashes-without-authority}
@@ -31,22 +18,19 @@ module _ (kind : Kind) (b t : Components) where
   -- `#` and on
   pub fragment-form-is-shortest : (n : ℕ) → n ≤ length (marked (codes "#") t.fragment [])
       → Shortest kind b t n
-  fragment-form-is-shortest n h o l =
-      reference-is-of-one-form kind b t o _ l
-      (grind (
-        arith,
-        reference-with-scheme-is-no-shorter,
-        length-of-recompose,
-        length-of-query-and-fragment,
-      ))
+  fragment-form-is-shortest n h o l = reference-is-of-one-form kind b t o _ l (grind (
+    arith,
+    reference-with-scheme-is-no-shorter,
+    length-of-recompose,
+    length-of-query-and-fragment,
+  ))
       (λ _ _ w. omega (arith, h, w.short, length-of-recompose t, length-of-query-and-fragment t))
       (grind (arith, length-of-recompose, length-of-query-and-fragment))
 
   -- `?` and on
   pub query-form-is-shortest : (n : ℕ) → n ≤ length (after_path t) → (b.query ≡ t.query → ⊥)
       → Shortest kind b t n
-  query-form-is-shortest n h other o l =
-      reference-is-of-one-form kind b t o _ l
+  query-form-is-shortest n h other o l = reference-is-of-one-form kind b t o _ l
       (grind (arith, reference-with-scheme-is-no-shorter, length-of-recompose))
       (λ _ _ w. omega (arith, h, w.short, length-of-recompose t))
       (λ _ _ w. path-form-has-end-or-inherits-query b t o w _ (λ _ _ same. absurd (other same))
@@ -77,8 +61,7 @@ module _ (kind : Kind) (b t : Components) where
       (λ e f _. let p = fragment-only-reference-lacks-other-parts o
       (accepted-reference-passes-second-test (is_opaque b) (is_some o.scheme) (is_fragment_only o)
       opaque e l.taken) in
-      absurd (part-is-not-both-present-and-absent o.authority f p.0))
-      (grind (
+      absurd (part-is-not-both-present-and-absent o.authority f p.0)) (grind (
         arith,
         fragment-only-reference-lacks-other-parts,
         accepted-reference-passes-second-test,
@@ -89,15 +72,13 @@ module _ (kind : Kind) (b t : Components) where
 
   -- no reference without a path leads to a target that needs a path, if the paths are equal
   empty-path-form-misses-target : (o : Components) → IsPathForm b t o → NeedsPath b t
-      → is_opaque b ≡ false
-      → is_empty o.path ≡ true → b.path ≡ t.path → ⊥
+      → is_opaque b ≡ false → is_empty o.path ≡ true → b.path ≡ t.path → ⊥
   empty-path-form-misses-target o w n opaque empty same =
       grind (arith, path-form-has-end-or-inherits-query, part-is-not-both-present-and-absent)
 
   -- a target whose path doesn't begin with `/` takes an authority, or all
   path-form-misses-rootless-target : (o : Components) → IsPathForm b t o → IsAbemptyPath b.path
-      → NeedsPath b t
-      → is_opaque b ≡ false → starts slash t.path ≡ false → ⊥
+      → NeedsPath b t → is_opaque b ≡ false → starts slash t.path ≡ false → ⊥
   path-form-misses-rootless-target o w rooted n opaque e = ⊎_elim
       (λ empty. ⊎_elim
       (λ none. empty-path-form-misses-target o w n opaque empty
@@ -155,8 +136,7 @@ module _ (kind : Kind) (b t : Components) where
 
   -- the path form is shortest if no path is shorter that leads from the base's to the target's
   equal-guarded-paths-are-equal-unguarded : (a : Option (List ℕ)) (p q : List ℕ) → IsAbsolute p
-      → IsAbsolute q
-      → lacks_dot_segments q ≡ true → guarded a (dotless_if_absolute p) ≡ guarded a q
+      → IsAbsolute q → lacks_dot_segments q ≡ true → guarded a (dotless_if_absolute p) ≡ guarded a q
       → remove_dot_segments p ≡ q
   equal-guarded-paths-are-equal-unguarded a p q h k dotless e =
       let twice : dotless_if_absolute (guarded a (dotless_if_absolute p)) ≡ remove_dot_segments p =
@@ -180,13 +160,11 @@ module _ (kind : Kind) (b t : Components) where
 
   pub path-form-is-shortest : (path : List ℕ) (n : ℕ) → IsAbemptyPath b.path → is_opaque b ≡ false
       → lacks_dot_segments b.path ≡ true → IfNone b.authority (has_authority b.path ≡ false)
-      → NeedsPath b t → starts slash t.path ≡ true → IsUnguarded t path
-      → n ≤ length t.path + 2
-      → n + length (after_path t) ≤ length (recompose t)
-      → ((x : List ℕ) → is_empty x ≡ false → has_authority x ≡ false → has_colon_in_first_segment x
-      ≡ false
-      → remove_dot_segments (joined_path b.path x) ≡ path → n ≤ length x)
-      → (m : ℕ) → m ≤ n + length (after_path t) → Shortest kind b t m
+      → NeedsPath b t → starts slash t.path ≡ true → IsUnguarded t path → n ≤ length t.path + 2
+      → n + length (after_path t) ≤ length (recompose t) → ((x : List ℕ) → is_empty x ≡ false
+      → has_authority x ≡ false → has_colon_in_first_segment x ≡ false
+      → remove_dot_segments (joined_path b.path x) ≡ path → n ≤ length x) → (m : ℕ)
+      → m ≤ n + length (after_path t) → Shortest kind b t m
   path-form-is-shortest path n rooted opaque dotless none needs absolute u most whole short
       m fits o l =
       reference-is-of-one-form kind b t o _ l

@@ -1,18 +1,7 @@
 -- No path that is joined to a base's and leads to a path is shorter than the relative one, where
 -- the base's path has no dot segment.
-use Rattle.std.proofs.Common.{◌≡◌, ℕ, ◌+◌, ◌<◌, ◌≤◌, true, false, List, [], ◌∷◌, ◌++◌, length, take, drop, get_or, ap, subst, ◌∙◌, arith, append_assoc, length-append, None, length-drop}
+use Rattle.uri_relative.proofs.Common.{◌≡◌, ℕ, ◌+◌, ◌<◌, ◌≤◌, true, false, List, [], ◌∷◌, ◌++◌, length, take, drop, get_or, ap, subst, ◌∙◌, arith, append_assoc, length-append, None, length-drop, nat_tests, slash, has_authority, starts, has_colon_in_first_segment, IsAbsolute, directory, is_empty, lacks_dot_segments, remove_dot_segments, segments, dotless_if_absolute, guarded, property-of-absolute-path-by-segments, segments-of-dotless-path-are-dotless, AllPass, is_dotless, pushed-segments-are-not-none, pop, NoSlashes, lacks_slash, slashed, slashed-of-push, IsLongestPrefix, IsSharedPrefix, joined_path, relative_from, relative_path, slashes, IsShortestPath}
 use Rattle.std.proofs.Math.Seq.{drop-append_seam, take-append_seam}
-use Rattle.std.proofs.lemmas.Bool.Decides.{nat_tests}
-use Rattle.uri_pct.specs.Delimiters.{slash}
-use Rattle.uri_parts.specs.Components.{has_authority, starts}
-use Rattle.uri_parts.specs.Grammar.{has_colon_in_first_segment}
-use Rattle.uri_ops.specs.Dots.{IsAbsolute, directory, is_empty, lacks_dot_segments, remove_dot_segments, segments}
-use Rattle.uri_ops.specs.Target.{dotless_if_absolute, guarded}
-use Rattle.uri_ops.proofs.Paths.DotLaws.{property-of-absolute-path-by-segments, segments-of-dotless-path-are-dotless}
-use Rattle.uri_ops.proofs.Paths.Segments.{AllPass, is_dotless, pushed-segments-are-not-none, pop}
-use Rattle.uri_ops.proofs.Paths.SlashedSegments.{NoSlashes, lacks_slash, slashed, slashed-of-push}
-use Rattle.uri_relative.specs.Relative.{IsLongestPrefix, IsSharedPrefix, joined_path, relative_from, relative_path, slashes}
-use Rattle.uri_relative.specs.Shortest.{IsShortestPath}
 use Rattle.uri_relative.proofs.Climbs.{path-below-directory-has-its-segments-first, dir, directory-of-dotless-segments, prefix-all-pass, segments-are-all-but-last-and-last, slashes-count-segments}
 use Rattle.uri_relative.proofs.LongestPrefixes.{longer-shared-prefix-gives-shorter-path}
 use Rattle.uri_relative.proofs.Shrinking.{target-path-is-no-longer}
@@ -29,8 +18,7 @@ record SharesPrefix (base path x : List ℕ) : Type 0 where
 -- relativized paths: two paths below the same directory (prefix) share a prefix, from which a short
 -- path leads, if x is no shorter
 joined-directory-is-shared-prefix : (prefix : List (List ℕ)) (base path below rest x : List ℕ)
-    (n : ℕ)
-    → base ≡ dir prefix ++ below → path ≡ dir prefix ++ rest → slashes below ≡ n
+    (n : ℕ) → base ≡ dir prefix ++ below → path ≡ dir prefix ++ rest → slashes below ≡ n
     → length (relative_path n rest) ≤ length x → SharesPrefix base path x
 joined-directory-is-shared-prefix prefix base path below rest x n e f m short =
     let d = dir prefix in
@@ -43,10 +31,8 @@ joined-directory-is-shared-prefix prefix base path below rest x n e f m short =
 -- relativized paths: below a directory, a base's text has as many slashes as there are segments to
 -- go up
 text-below-directory-counts-climbs : (prefix up : List (List ℕ)) (last : List ℕ)
-    → NoSlashes (prefix ++ up)
-    → NoSlashes ((prefix ++ up) ++ last ∷ [])
-    → (below : List ℕ) × (slashed ((prefix ++ up) ++ last ∷ []) ≡ dir prefix ++ below)
-    × (slashes below ≡ length up)
+    → NoSlashes (prefix ++ up) → NoSlashes ((prefix ++ up) ++ last ∷ []) → (below : List ℕ)
+    × (slashed ((prefix ++ up) ++ last ∷ []) ≡ dir prefix ++ below) × (slashes below ≡ length up)
 text-below-directory-counts-climbs prefix up last lack lacks =
     let first = nonempty-segments-have-first (up ++ last ∷ [])
     (pushed-segments-are-not-none up last) in
@@ -69,10 +55,8 @@ text-below-directory-counts-climbs prefix up last lack lacks =
 -- relativized paths: a path's segments and where x leads from them share a prefix, from which a
 -- relative path is no longer than x
 target-shares-prefix-with-segments : (s : List ℕ) (segs : List (List ℕ)) (x : List ℕ)
-    → NoSlashes (s ∷ segs)
-    → AllPass is_dotless (s ∷ segs) → is_empty x ≡ false → starts 47 x ≡ false
-    → has_colon_in_first_segment x ≡ false
-    → SharesPrefix (slashed (s ∷ segs))
+    → NoSlashes (s ∷ segs) → AllPass is_dotless (s ∷ segs) → is_empty x ≡ false
+    → starts 47 x ≡ false → has_colon_in_first_segment x ≡ false → SharesPrefix (slashed (s ∷ segs))
     (remove_dot_segments (directory (slashed (s ∷ segs)) ++ x)) x
 target-shares-prefix-with-segments s segs x lack dotless some rootless colon =
     let l = segments-are-all-but-last-and-last s segs in
@@ -109,49 +93,42 @@ pub record IsLastSharedSlash (base path : List ℕ) (last : ℕ) : Type 0 where
 
 -- relativized paths: equal texts have the same last shared slash
 pub last-shared-slash-of-equals : (bytes base others path : List ℕ) (last : ℕ) → bytes ≡ base
-    → others ≡ path
-    → IsLastSharedSlash bytes others last → IsLastSharedSlash base path last
+    → others ≡ path → IsLastSharedSlash bytes others last → IsLastSharedSlash base path last
 last-shared-slash-of-equals bytes base others path last e f w =
     subst (λ t. IsLastSharedSlash base t last) f (subst (λ t. IsLastSharedSlash t others last) e w)
 
 -- relativized paths: no path without a leading `/` is shorter than the relative path by the longest
 -- shared prefix
-relative-path-is-shortest-rootless-path : (given base path x : List ℕ) (last : ℕ) → directory base
-    ≡ directory given
-    → IsAbsolute base → lacks_dot_segments base ≡ true → IsLastSharedSlash base path last
-    → is_empty x ≡ false → starts slash x ≡ false → has_colon_in_first_segment x ≡ false
-    → remove_dot_segments (joined_path given x) ≡ path
+relative-path-is-shortest-rootless-path : (given base path x : List ℕ) (last : ℕ)
+    → directory base ≡ directory given → IsAbsolute base → lacks_dot_segments base ≡ true
+    → IsLastSharedSlash base path last → is_empty x ≡ false → starts slash x ≡ false
+    → has_colon_in_first_segment x ≡ false → remove_dot_segments (joined_path given x) ≡ path
     → length (relative_from (last + 1) base path) ≤ length x
 relative-path-is-shortest-rootless-path given base path x last same absolute dotless w some rootless
     colon leads =
-    let joins : remove_dot_segments (directory base ++ x) ≡ path =
-    grind (arith, leads) in
+    let joins : remove_dot_segments (directory base ++ x) ≡ path = grind (arith, leads) in
     let f = subst (λ t. SharesPrefix base t x) joins
     (target-shares-prefix-with-base base x absolute dotless some rootless colon) in
     omega (
       arith,
       f.short,
-      longer-shared-prefix-gives-shorter-path base path last f.len w.in_base w.in_path
-          w.base_at w.path_at
-          (w.longest f.len f.in_base f.in_path f.shared),
+      longer-shared-prefix-gives-shorter-path base path last f.len w.in_base w.in_path w.base_at
+          w.path_at (w.longest f.len f.in_base f.in_path f.shared),
     )
 
 -- relativized paths: no path with a leading `/` is shorter than the path from the root
 path-from-root-is-shortest-absolute-path : (given path x : List ℕ) → is_empty x ≡ false
-    → starts slash x ≡ true
-    → has_authority x ≡ false → remove_dot_segments (joined_path given x) ≡ path
-    → length (guarded None path) ≤ length x
+    → starts slash x ≡ true → has_authority x ≡ false
+    → remove_dot_segments (joined_path given x) ≡ path → length (guarded None path) ≤ length x
 path-from-root-is-shortest-absolute-path given path x some rooted none leads =
-    let same : dotless_if_absolute x ≡ path =
-    grind (arith, leads) in
+    let same : dotless_if_absolute x ≡ path = grind (arith, leads) in
     omega (arith, target-path-is-no-longer None x none, ap (λ t. length (guarded None t)) same)
 
 -- relativized paths: one (way) that is no longer than the relative path and the one from the root
 -- is the shortest
 pub no-longer-than-both-paths-is-shortest : (given base path way : List ℕ) (last : ℕ)
-    → directory base ≡ directory given
-    → IsAbsolute base → lacks_dot_segments base ≡ true → IsLastSharedSlash base path last
-    → length way ≤ length (guarded None path)
+    → directory base ≡ directory given → IsAbsolute base → lacks_dot_segments base ≡ true
+    → IsLastSharedSlash base path last → length way ≤ length (guarded None path)
     → length way ≤ length (relative_from (last + 1) base path) → IsShortestPath given path way
 no-longer-than-both-paths-is-shortest given base path way last same absolute dotless w
     root relative =

@@ -1,16 +1,5 @@
 -- No text of a reference that leads to a target is shorter than the one that is written.
-use Rattle.std.proofs.Common.{◌≡◌, ℕ, Bool, true, false, List, length, sym, ap, ◌∙◌, subst, arith, is_some}
-use Rattle.uri_parts.specs.Components.{IsSplitOf, components, recompose}
-use Rattle.uri_parts.specs.Grammar.{IsOfKind, Kind}
-use Rattle.uri_parts.proofs.Splitting.Recompose.{components-are-split-of-text, recompose-components}
-use Rattle.uri_ops.specs.Target.{is_opaque_rejection, target_of}
-use Rattle.uri_ops.proofs.Targeting.RefusalOrder.{ok-result-has-no-opaque-rejection, result_or_target_error}
-use Rattle.uri_ops.proofs.Targeting.Targets.{target-text-has-target-components}
-use Rattle.uri_relative.specs.Forms.{IsReferenceTo}
-use Rattle.uri_relative.specs.Leading.{without_fragment, settled}
-use Rattle.uri_relative.specs.Shortest.{IsShortest}
-use Rattle.uri_parts.proofs.TextKinds.KindSets.{kind-that-needs-scheme-has-one}
-use Rattle.uri_ops.proofs.Targeting.TargetCases.{settled-text-has-settled-components}
+use Rattle.uri_relative.proofs.Common.{◌≡◌, ℕ, Bool, true, false, List, length, sym, ap, ◌∙◌, subst, arith, is_some, IsSplitOf, components, recompose, IsOfKind, Kind, components-are-split-of-text, recompose-components, is_opaque_rejection, target_of, ok-result-has-no-opaque-rejection, result_or_target_error, target-text-has-target-components, IsReferenceTo, without_fragment, settled, IsShortest, kind-that-needs-scheme-has-one, settled-text-has-settled-components}
 
 -- relativized references: the text made is the shortest that leads to the target, if relative ones
 -- are not preferred
@@ -21,13 +10,11 @@ reference-text-is-shortest : (kind : Kind) (prefers : Bool) (base target made : 
     → IsShortest kind base target made
 unfolding result_or_target_error
 reference-text-is-shortest kind prefers base target made of_base of_target e w =
-    λ dotless other of_kind
-    resolves.
+    λ dotless other of_kind resolves.
     let b = components base in
     let o = components other in
     let a = ok-result-has-no-opaque-rejection false (is_opaque_rejection (without_fragment b) o)
-    (recompose (target_of (without_fragment b) o))
-    (recompose (settled target)) resolves in
+    (recompose (target_of (without_fragment b) o)) (recompose (settled target)) resolves in
     let n = w.shortest e dotless o (record {
       split = subst (λ t. IsSplitOf t o) (sym (recompose-components other))
           (components-are-split-of-text other);
@@ -41,9 +28,8 @@ reference-text-is-shortest kind prefers base target made of_base of_target e w =
 -- relativized references: none is shorter than the one made; primed texts are those of the call's
 -- clause
 pub reference-is-shortest : (kind : Kind) (prefers : Bool)
-    (base target made base' target' made' : List ℕ)
-    → kind.needs_scheme ≡ true → IsOfKind kind base → IsOfKind kind target → base ≡ base'
-    → target ≡ target' → made' ≡ made → prefers ≡ false
+    (base target made base' target' made' : List ℕ) → kind.needs_scheme ≡ true → IsOfKind kind base
+    → IsOfKind kind target → base ≡ base' → target ≡ target' → made' ≡ made → prefers ≡ false
     → IsReferenceTo kind prefers (components base) (settled target) (components made)
     → IsShortest kind base' target' made'
 reference-is-shortest kind prefers base target made base' target' made' needs of_base of_target

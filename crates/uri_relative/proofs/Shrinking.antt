@@ -1,16 +1,5 @@
 -- Removing dot segments makes room for the guard `/.` that is then put before a path.
-use Rattle.std.proofs.Common.{◌≡◌, ◌⊎◌, ℕ, ◌+◌, ◌<◌, ◌≤◌, Bool, true, false, eqb, List, [], ◌∷◌, ◌++◌, ◌||◌, length, refl, sym, ap, ◌∙◌, arith, inl, inr, ⊎_elim, length-append, codes, Option, None, Some, IfNone, is_some}
-use Rattle.std.proofs.lemmas.Bool.{both_ways, cases_Bool, false≢true, or_parts}
-use Rattle.std.proofs.lemmas.Bool.Decides.{nat_tests}
-use Rattle.uri_parts.specs.Components.{Components, components, has_authority, marked, recompose, starts}
-use Rattle.uri_parts.proofs.Splitting.Recompose.{components-are-split-of-text, recompose-components, equal-to-true-is-IsTrue}
-use Rattle.uri_ops.specs.Dots.{IsAbsolute, has_slash, is_double_dot, is_single_dot, remove_dot_segments}
-use Rattle.uri_ops.specs.Resolving.{with_final_path}
-use Rattle.uri_ops.specs.Target.{dotless_if_absolute, guarded}
-use Rattle.uri_ops.proofs.Paths.DotLaws.{length-of-slashed-append-is-sum, popped-segments-are-no-longer, property-of-absolute-path-by-segments, removing-dots-lengthens-no-path}
-use Rattle.uri_ops.proofs.Paths.Segments.{dotless_of, closing, end_of, pop, step_of, steps, next_output}
-use Rattle.uri_ops.proofs.Paths.SlashedSegments.{NoSlashes, first-segment-and-rest-lack-slashes, remove-dots-by-segments, slashed}
-use Rattle.uri_relative.specs.Leading.{settled}
+use Rattle.uri_relative.proofs.Common.{◌≡◌, ◌⊎◌, ℕ, ◌+◌, ◌<◌, ◌≤◌, Bool, true, false, eqb, List, [], ◌∷◌, ◌++◌, ◌||◌, length, refl, sym, ap, ◌∙◌, arith, inl, inr, ⊎_elim, length-append, codes, Option, None, Some, IfNone, is_some, both_ways, cases_Bool, false≢true, or_parts, nat_tests, Components, components, has_authority, marked, recompose, starts, components-are-split-of-text, recompose-components, equal-to-true-is-IsTrue, IsAbsolute, has_slash, is_double_dot, is_single_dot, remove_dot_segments, with_final_path, dotless_if_absolute, guarded, length-of-slashed-append-is-sum, popped-segments-are-no-longer, property-of-absolute-path-by-segments, removing-dots-lengthens-no-path, dotless_of, closing, end_of, pop, step_of, steps, next_output, NoSlashes, first-segment-and-rest-lack-slashes, remove-dots-by-segments, slashed, settled}
 use Rattle.uri_relative.proofs.Settled.{finish-keeps-rootless-path}
 
 -- lengths of paths to relativize: a `/`, the first segment and the text of the others
@@ -48,18 +37,15 @@ cleaned-segments-are-no-longer (s ∷ rest) lack = removal-of-dots-is-no-longer 
 -- lengths of paths to relativize: the first segment of the output is kept by the others, or two
 -- bytes are gone
 Keeps : List ℕ → List (List ℕ) → List (List ℕ) → Type 0
-Keeps s output segs =
-    ((tail : List (List ℕ)) × (segments_left output segs ≡ s ∷ tail))
+Keeps s output segs = ((tail : List (List ℕ)) × (segments_left output segs ≡ s ∷ tail))
     ⊎ (length (slashed (segments_left output segs)) + 2
     ≤ length (slashed output) + length (slashed segs))
 
 -- lengths of paths to relativize: the last segment (t) keeps the first (s), or leaves two bytes
 -- less; single, double: whether it is `.`, or `..`
 last-segment-keeps-first-or-leaves-room : (single double : Bool) (s t : List ℕ)
-    (output : List (List ℕ)) → 0 < length s
-    → ((tail : List (List ℕ))
-    × (next_output single double (s ∷ output) t ++ end_of (single || double)
-    ≡ s ∷ tail))
+    (output : List (List ℕ)) → 0 < length s → ((tail : List (List ℕ))
+    × (next_output single double (s ∷ output) t ++ end_of (single || double) ≡ s ∷ tail))
     ⊎ (length (slashed (next_output single double (s ∷ output) t ++ end_of (single || double))) + 2
     ≤ length (slashed (s ∷ output)) + length (slashed (t ∷ [])))
 unfolding next_output pop
@@ -74,8 +60,7 @@ last-segment-keeps-first-or-leaves-room false false s t output some = inl
 -- lengths of paths to relativize: if the first segment is kept or two bytes are gone, it is so
 -- within a greater length n
 kept-first-or-room-within-greater-length : (s : List ℕ) (output segs : List (List ℕ)) (n : ℕ)
-    → Keeps s output segs
-    → length (slashed output) + length (slashed segs) ≤ n
+    → Keeps s output segs → length (slashed output) + length (slashed segs) ≤ n
     → ((tail : List (List ℕ)) × (segments_left output segs ≡ s ∷ tail))
     ⊎ (length (slashed (segments_left output segs)) + 2 ≤ n)
 unfolding Keeps
@@ -119,8 +104,7 @@ next-segment-keeps-first-or-leaves-room false false s t output segs some ih lack
 -- lengths of paths to relativize: removing dot segments keeps the first segment, if it isn't empty,
 -- or leaves two bytes less
 removal-keeps-first-segment-or-leaves-room : (segs : List (List ℕ)) (s : List ℕ)
-    (output : List (List ℕ)) → 0 < length s
-    → NoSlashes segs → Keeps s (s ∷ output) segs
+    (output : List (List ℕ)) → 0 < length s → NoSlashes segs → Keeps s (s ∷ output) segs
 unfolding Keeps segments_left steps step_of closing
 removal-keeps-first-segment-or-leaves-room [] s output some lack = inl (output ++ [], refl)
 removal-keeps-first-segment-or-leaves-room (t ∷ []) s output some lack =
@@ -134,8 +118,7 @@ removal-keeps-first-segment-or-leaves-room (t ∷ u ∷ rest) s output some lack
 
 -- paths to relativize: one whose first segment is not empty begins with one `/`
 nonempty-first-segment-has-no-double-slash : (c : ℕ) (s : List ℕ) (tail : List (List ℕ))
-    → has_slash (c ∷ s) ≡ false
-    → has_authority (slashed ((c ∷ s) ∷ tail)) ≡ false
+    → has_slash (c ∷ s) ≡ false → has_authority (slashed ((c ∷ s) ∷ tail)) ≡ false
 unfolding slashed
 nonempty-first-segment-has-no-double-slash c s tail e = (or_parts (eqb c 47) (has_slash s) e).0
 
@@ -148,8 +131,7 @@ LeavesRoomForGuard path = has_authority path ≡ false → has_authority (remove
 -- lengths of paths to relativize: if `//` is first after dot segments are removed, two bytes are
 -- gone; single, double: whether the first segment is `.`, or `..`
 double-slash-after-first-segment-leaves-room : (single double : Bool) (c : ℕ) (s : List ℕ)
-    (segs : List (List ℕ))
-    → has_slash (c ∷ s) ≡ false → NoSlashes segs
+    (segs : List (List ℕ)) → has_slash (c ∷ s) ≡ false → NoSlashes segs
     → has_authority (slashed (segments_left (next_output single double [] (c ∷ s)) segs)) ≡ true
     → length (slashed (segments_left (next_output single double [] (c ∷ s)) segs)) + 2
     ≤ length (slashed ((c ∷ s) ∷ segs))
@@ -203,9 +185,8 @@ removing-dots-of-segments-leaves-room [] (t ∷ rest) lack single double = absur
 removing-dots-of-segments-leaves-room (c ∷ s) [] lack single double =
     grind (arith, one-segment-has-no-double-slash, first-segment-and-rest-lack-slashes)
 removing-dots-of-segments-leaves-room (c ∷ s) (t ∷ rest) lack single double =
-    double-slash-after-first-segment-leaves-room (is_single_dot (c ∷ s)) (is_double_dot (c ∷ s)) c
-    s (t ∷ rest)
-    (first-segment-and-rest-lack-slashes (c ∷ s) (t ∷ rest) lack).0
+    double-slash-after-first-segment-leaves-room (is_single_dot (c ∷ s)) (is_double_dot (c ∷ s)) c s
+    (t ∷ rest) (first-segment-and-rest-lack-slashes (c ∷ s) (t ∷ rest) lack).0
     (first-segment-and-rest-lack-slashes (c ∷ s) (t ∷ rest) lack).1 double
 
 -- lengths of paths to relativize: if a path needs the guard `/.` once its dot segments are removed,
@@ -223,36 +204,31 @@ guarded-path-is-no-longer-with-room a p q h room = grind arith
 
 -- lengths of paths to relativize: a path q after an authority a needs no guard, and is no longer
 path-after-authority-is-no-longer : (a : Option (List ℕ)) (p q : List ℕ) → is_some a ≡ true
-    → length q ≤ length p
-    → length (guarded a q) ≤ length p
+    → length q ≤ length p → length (guarded a q) ≤ length p
 path-after-authority-is-no-longer None p q e h = absurd (false≢true e)
 path-after-authority-is-no-longer (Some a) p q e h = h
 
 -- lengths of targets to relativize: without an authority the path has no `//` at its start
 pub no-slashes-without-authority : (a : Option (List ℕ)) (p : List ℕ)
-    → IfNone a (has_authority p ≡ false)
-    → is_some a ≡ false → has_authority p ≡ false
+    → IfNone a (has_authority p ≡ false) → is_some a ≡ false → has_authority p ≡ false
 no-slashes-without-authority None p h e = h
 no-slashes-without-authority (Some a) p h e = absurd (false≢true (sym e))
 
 -- lengths of targets to relativize: the path with its dot segments removed and a guard added is no
 -- longer; a: the authority
 pub target-path-is-no-longer : (a : Option (List ℕ)) (p : List ℕ)
-    → IfNone a (has_authority p ≡ false)
-    → length (guarded a (dotless_if_absolute p)) ≤ length p
+    → IfNone a (has_authority p ≡ false) → length (guarded a (dotless_if_absolute p)) ≤ length p
 unfolding LeavesRoomForGuard
-target-path-is-no-longer a p none = ⊎_elim
-    (grind (
-      arith,
-      equal-to-true-is-IsTrue,
-      path-after-authority-is-no-longer,
-      removing-dots-lengthens-no-path,
-      guarded-path-is-no-longer-with-room,
-      removing-dots-leaves-room-for-guard,
-      no-slashes-without-authority,
-    ))
-    (λ h. omega (arith, ap length (finish-keeps-rootless-path a p h)))
-    (cases_Bool (starts 47 p))
+target-path-is-no-longer a p none = ⊎_elim (grind (
+  arith,
+  equal-to-true-is-IsTrue,
+  path-after-authority-is-no-longer,
+  removing-dots-lengthens-no-path,
+  guarded-path-is-no-longer-with-room,
+  removing-dots-leaves-room-for-guard,
+  no-slashes-without-authority,
+))
+    (λ h. omega (arith, ap length (finish-keeps-rootless-path a p h))) (cases_Bool (starts 47 p))
 
 -- lengths of targets to relativize: a text is as long as its components with their delimiters
 pub length-of-recompose : (c : Components) → length (recompose c)

@@ -1,29 +1,13 @@
 -- The two paths that lead to a path.
-use Rattle.std.proofs.Common.{◌≡◌, ℕ, zero, suc, ◌+◌, ◌-◌, ◌<◌, ◌≤◌, Bool, true, false, not, cond, eqb, List, [], ◌∷◌, ◌++◌, ◌&&◌, length, take, drop, get_or, refl, sym, ap, ◌∙◌, subst, inr, arith, lit<, append_assoc, codes, None, OnOk, Result, Ok, Err, length-drop, take-append-drop}
+use Rattle.uri_relative.proofs.Common.{◌≡◌, ℕ, zero, suc, ◌+◌, ◌-◌, ◌<◌, ◌≤◌, Bool, true, false, not, cond, eqb, List, [], ◌∷◌, ◌++◌, ◌&&◌, length, take, drop, get_or, refl, sym, ap, ◌∙◌, subst, inr, arith, lit<, append_assoc, codes, None, OnOk, Result, Ok, Err, length-drop, take-append-drop, IsCharBoundary-after_ascii, list_all-append, and_parts, cond-false, nat_tests, slash, TableSet, allows, is_one_of, starts, has_authority, has_colon_in_first_segment, is_empty, IsAbsolute, lacks_dot_segments, directory, remove_dot_segments, underflows, guarded, merged, is_set_text, set-text-from-utf8, set-text-is-valid, remove-dots-of-dotless, dotless-path-does-not-underflow, dot-is-set-text, guarded-set-text-is-set-text, slashed, absolute-path-is-slash-and-rest, double_dots, relative_path, relative_from, needs_leading_dot, slashes, IsSharedPrefix, IsPathTo, joined_path}
 use Rattle.std.specs.List.{list_all}
 use Rattle.std.specs.Str.{IsUtf8, IsCharBoundary, chars}
-use Rattle.std.proofs.lemmas.Str.{IsCharBoundary-after_ascii}
-use Rattle.std.proofs.lemmas.List.Folds.{list_all-append}
-use Rattle.std.proofs.lemmas.Bool.{and_parts, cond-false}
-use Rattle.std.proofs.lemmas.Bool.Decides.{nat_tests}
-use Rattle.uri_pct.specs.Delimiters.{slash}
-use Rattle.uri_pct.specs.Sets.{TableSet, allows, is_one_of}
 use Rattle.uri_pct.specs.Tokens.{is_valid_for, tokens_from_chars}
 use Rattle.uri_pct.proofs.ValidTexts.Validity.{ascii_char_is_allowed_iff_in_set}
-use Rattle.uri_parts.specs.Components.{starts, has_authority}
-use Rattle.uri_parts.specs.Grammar.{has_colon_in_first_segment}
 use Rattle.uri_ops.specs.ComponentSets.{IsComponentSet}
-use Rattle.uri_ops.specs.Dots.{is_empty, IsAbsolute, lacks_dot_segments, directory, remove_dot_segments, underflows}
-use Rattle.uri_ops.specs.Target.{guarded, merged}
-use Rattle.uri_ops.proofs.Meanings.AllowedParts.{is_set_text, set-text-from-utf8, set-text-is-valid}
 use Rattle.uri_ops.proofs.Meanings.AsciiCharacters.{ascii-bytes-are-utf8}
-use Rattle.uri_ops.proofs.Paths.DotLaws.{remove-dots-of-dotless, dotless-path-does-not-underflow}
 use Rattle.uri_ops.proofs.Paths.PathCharacters.{lacked-delimiters-fail-test, test-of-delimiters-gives-lacks}
-use Rattle.uri_ops.proofs.Paths.PathMeanings.{dot-is-set-text, guarded-set-text-is-set-text}
 use Rattle.uri_ops.proofs.Paths.DecodedPaths.{set-text-splits, set-texts-join-at-slash}
-use Rattle.uri_ops.proofs.Paths.SlashedSegments.{slashed}
-use Rattle.uri_ops.proofs.Paths.TakenSegments.{absolute-path-is-slash-and-rest}
-use Rattle.uri_relative.specs.Relative.{double_dots, relative_path, relative_from, needs_leading_dot, slashes, IsSharedPrefix, IsPathTo, joined_path}
 use Rattle.uri_relative.proofs.Climbs.{FollowsDotsFromDirectory, remove_dot_segments-follows-dots, underflows-follows-dots, merged-relative-path-leads-to-path, merged-relative-path-does-not-underflow, relative_path-of-some-climbs}
 
 -- relativized paths: the path is not empty, has no leading `/`, and no `:` in its first segment
@@ -34,8 +18,7 @@ record IsRelative (way : List ℕ) : Type 0 where
 
 -- relativized paths: a rest that needs no `./` before it is a relative path
 rest-without-leading-dot-is-relative : (rest : List ℕ) → is_empty rest ≡ false
-    → needs_leading_dot rest ≡ false
-    → IsRelative rest
+    → needs_leading_dot rest ≡ false → IsRelative rest
 rest-without-leading-dot-is-relative rest some read = grind arith
 
 -- relativized paths: one without `../` is `.`, or the rest, after `./` if it would be misread;
@@ -84,10 +67,8 @@ relative-path-is-merged base way r = cond-false _ _ _ r.some ∙ cond-false _ _ 
 -- relativized paths: what holds of each form that one may have, `.` or `./` or `../` and a rest,
 -- holds of each
 property-of-each-case-holds-of-relative-path : (P : List ℕ → Type 0) (rest : List ℕ) → P (codes ".")
-    → P (codes "./" ++ rest)
-    → P rest → ((n : ℕ) → P (double_dots n ++ codes "..")) → ((n : ℕ) → P (double_dots n ++ rest))
-    → (n : ℕ)
-    → P (relative_path n rest)
+    → P (codes "./" ++ rest) → P rest → ((n : ℕ) → P (double_dots n ++ codes ".."))
+    → ((n : ℕ) → P (double_dots n ++ rest)) → (n : ℕ) → P (relative_path n rest)
 property-of-each-case-holds-of-relative-path P rest dot guard here up down n =
     grind (arith, nat_tests)
 
@@ -138,16 +119,13 @@ module _ (set : TableSet) (w : IsComponentSet (codes "?#[]") set)
       → is_set_text set (double_dots n ++ rest) ≡ true
   unfolding double_dots
   double-dots-are-text-of-set zero rest e = e
-  double-dots-are-text-of-set (suc n) rest e =
-      set-texts-join-at-slash set slash (codes "..") (double_dots n ++ rest)
-      double-dot-is-text-of-set
-      (double-dots-are-text-of-set n rest e)
+  double-dots-are-text-of-set (suc n) rest e = set-texts-join-at-slash set slash (codes "..")
+      (double_dots n ++ rest) double-dot-is-text-of-set (double-dots-are-text-of-set n rest e)
 
   relative-path-is-text-of-set : (n : ℕ) (rest : List ℕ) → is_set_text set rest ≡ true
       → is_set_text set (relative_path n rest) ≡ true
-  relative-path-is-text-of-set n rest e =
-      property-of-each-case-holds-of-relative-path (λ t. is_set_text set t ≡ true) rest
-      (dot-is-set-text set w slash)
+  relative-path-is-text-of-set n rest e = property-of-each-case-holds-of-relative-path
+      (λ t. is_set_text set t ≡ true) rest (dot-is-set-text set w slash)
       (set-texts-join-at-slash set slash (codes ".") rest (dot-is-set-text set w slash) e) e
       (λ m. double-dots-are-text-of-set m (codes "..") double-dot-is-text-of-set)
       (λ m. double-dots-are-text-of-set m rest e) n
@@ -170,16 +148,14 @@ module _ (set : TableSet) (w : IsComponentSet (codes "?#[]") set)
 
   path-from-root-is-valid-for-set : (path : List ℕ) → IsUtf8 path → is_valid_for set path ≡ true
       → is_valid_for set (guarded None path) ≡ true
-  path-from-root-is-valid-for-set path utf8 e =
-      set-text-is-valid set _ (guarded-set-text-is-set-text set w slash None path
-      (set-text-from-utf8 set path utf8 e))
+  path-from-root-is-valid-for-set path utf8 e = set-text-is-valid set _
+      (guarded-set-text-is-set-text set w slash None path (set-text-from-utf8 set path utf8 e))
 
 -- relativized paths: the one after the first n bytes, which base and path share, leads from the
 -- base to the path
-pub relative-path-leads-to-path : (n : ℕ) (base given path : List ℕ) → directory base
-    ≡ directory given
-    → IsAbsolute base → lacks_dot_segments base ≡ true → IsAbsolute path
-    → lacks_dot_segments path ≡ true → IsUtf8 path → IsSharedPrefix n base path
+pub relative-path-leads-to-path : (n : ℕ) (base given path : List ℕ)
+    → directory base ≡ directory given → IsAbsolute base → lacks_dot_segments base ≡ true
+    → IsAbsolute path → lacks_dot_segments path ≡ true → IsUtf8 path → IsSharedPrefix n base path
     → IsPathTo given path (relative_from n base path)
 relative-path-leads-to-path n base given path same base_absolute base_dotless absolute
     dotless utf8 s =
@@ -201,8 +177,7 @@ relative-path-leads-to-path n base given path same base_absolute base_dotless ab
 
 -- relativized paths: the guard `/.` before a path from the root counts as no segment
 pub guard-counts-as-no-segment : {X : Type 0} (f : List ℕ → X) → FollowsDotsFromDirectory f
-    → (path : List ℕ)
-    → IsAbsolute path → f (codes "/." ++ path) ≡ f path
+    → (path : List ℕ) → IsAbsolute path → f (codes "/." ++ path) ≡ f path
 unfolding slashed
 guard-counts-as-no-segment f by path h = by.stay [] path refl refl (inr h)
     ∙ ap f (sym (absolute-path-is-slash-and-rest path h))
@@ -218,15 +193,13 @@ record IsRootedWay (given path way : List ℕ) : Type 0 where
 
 -- relativized references: a path from the root, guarded if it begins with `//` (double), leads from
 -- any base (given) to itself
-path-from-root-is-rooted-way : (given rest : List ℕ) (double : Bool) → has_authority (47 ∷ rest)
-    ≡ double
-    → lacks_dot_segments (47 ∷ rest) ≡ true
+path-from-root-is-rooted-way : (given rest : List ℕ) (double : Bool)
+    → has_authority (47 ∷ rest) ≡ double → lacks_dot_segments (47 ∷ rest) ≡ true
     → IsRootedWay given (47 ∷ rest) (cond double (codes "/." ++ (47 ∷ rest)) (47 ∷ rest))
 path-from-root-is-rooted-way given rest true e dotless = record {
   some = refl;
   leads = guard-counts-as-no-segment remove_dot_segments remove_dot_segments-follows-dots
-      (47 ∷ rest) refl
-      ∙ remove-dots-of-dotless (47 ∷ rest) refl dotless;
+      (47 ∷ rest) refl ∙ remove-dots-of-dotless (47 ∷ rest) refl dotless;
   below = guard-counts-as-no-segment underflows underflows-follows-dots (47 ∷ rest) refl
       ∙ dotless-path-does-not-underflow (47 ∷ rest) refl dotless;
   no_authority = refl;
@@ -236,9 +209,8 @@ path-from-root-is-rooted-way given rest false e dotless =
     grind (arith, nat_tests, remove-dots-of-dotless, dotless-path-does-not-underflow)
 
 -- relativized references: the path from the root, guarded, leads from each base (given) to the path
-pub path-from-root-leads-to-path : (given path : List ℕ) → IsAbsolute path → lacks_dot_segments path
-    ≡ true
-    → IsUtf8 path → IsPathTo given path (guarded None path)
+pub path-from-root-leads-to-path : (given path : List ℕ) → IsAbsolute path
+    → lacks_dot_segments path ≡ true → IsUtf8 path → IsPathTo given path (guarded None path)
 path-from-root-leads-to-path given path h dotless utf8 =
     let e = absolute-path-is-slash-and-rest path h in
     let r = subst (λ p. lacks_dot_segments p ≡ true → IsRootedWay given p (guarded None p)) (sym e)
@@ -255,9 +227,8 @@ path-from-root-leads-to-path given path h dotless utf8 =
 -- relativized references: the path that was appended leads to the path, is as short as short says,
 -- and the least as least says
 pub pushed-path-leads-to-path : {A E : Type 0} (result : Result A E)
-    (pushes short least : List ℕ → Type 0)
-    (way given path : List ℕ) → OnOk result (pushes way) → IsPathTo given path way → short way
-    → least way
+    (pushes short least : List ℕ → Type 0) (way given path : List ℕ) → OnOk result (pushes way)
+    → IsPathTo given path way → short way → least way
     → OnOk result ((way : List ℕ) × pushes way × IsPathTo given path way × short way × least way)
 pushed-path-leads-to-path (Ok a) pushes short least way given path e w s l = (way, e, w, s, l)
 pushed-path-leads-to-path (Err a) pushes short least way given path e w s l = tt
@@ -265,10 +236,8 @@ pushed-path-leads-to-path (Err a) pushes short least way given path e w s l = tt
 -- relativized paths: a character begins after the last shared slash (47)
 pub boundary-after-last-slash : (path bytes : List ℕ) (last : ℕ) → bytes ≡ path → IsUtf8 path
     → last < length bytes → get_or bytes last 0 ≡ 47 → IsCharBoundary path (last + 1)
-boundary-after-last-slash path bytes last e utf8 within at =
-    IsCharBoundary-after_ascii path last utf8
-    (let h : last < length path = subst (λ t. last < length t) e within in h)
-    (grind arith)
+boundary-after-last-slash path bytes last e utf8 within at = IsCharBoundary-after_ascii path last
+    utf8 (let h : last < length path = subst (λ t. last < length t) e within in h) (grind arith)
 
 -- relativized paths: equal texts share the same prefix
 pub shared-prefix-of-equals : (n : ℕ) (a b p q : List ℕ) → a ≡ b → p ≡ q → IsSharedPrefix n a p
@@ -291,9 +260,8 @@ pushed-relative-path-leads-to-path result pushes short least n base given path d
 
 -- relativized paths: one that goes up n times is no longer than the path from the root, by its
 -- length; guard: that of the guard
-pub relative-path-is-no-longer-than-from-root : (n : ℕ) (path rest way : List ℕ) (guard : ℕ) → rest
-    ≡ drop n path
-    → n ≤ length path → length (guarded None path) ≡ guard + length path
+pub relative-path-is-no-longer-than-from-root : (n : ℕ) (path rest way : List ℕ) (guard : ℕ)
+    → rest ≡ drop n path → n ≤ length path → length (guarded None path) ≡ guard + length path
     → length way ≤ n + guard + length rest → length way ≤ length (guarded None path)
 relative-path-is-no-longer-than-from-root n path rest way guard e within whole h =
     grind (arith, nat_tests, length-drop)

@@ -15,7 +15,7 @@ use crate::pieces::{have_same_authority, have_same_path, have_same_query, have_s
 use crate::places::positions_with_path;
 use std::alloc::AllocError;
 use uri_ops::path::slashes::begins_with_slash;
-use uri_ops::resolve::target_text::is_opaque;
+use uri_ops::resolve::found_target::is_opaque;
 use uri_ops::resolve::text_view::TextView;
 use uri_parts::positions::Positions;
 

@@ -1,11 +1,5 @@
 -- A line that is ASCII, and its text.
-use Rattle.std.proofs.Common.{◌≡◌, ℕ, Bool, true, false, cond, List, ◌-◌, length, subst, sym, take}
-use Rattle.std.specs.Prelude.{IsTrue}
-use Rattle.std.proofs.lemmas.Str.{IsAscii-take}
-use Rattle.std.specs.Io.BufRead.{ends_with_byte, strip_last}
-use Rattle.std.specs.Str.{IsAscii}
-use Rattle.uri_streams.specs.Lines.{end_byte, has_return, line_text}
-use Rattle.uri_streams.specs.Models.{IsCutLine}
+use Rattle.uri_streams.proofs.Common.{◌≡◌, ℕ, Bool, true, false, cond, List, ◌-◌, length, subst, sym, take, IsTrue, IsAscii-take, ends_with_byte, strip_last, IsAscii, end_byte, has_return, line_text, IsCutLine}
 use Rattle.uri_streams.specs.declared.line_ends.Line.{Line}
 
 -- lines: an ASCII line without its last byte is ASCII

@@ -1,14 +1,9 @@
 -- What the basic algorithm returns is the result of a text.
-use Rattle.std.proofs.Common.{◌≡◌, ◌≢◌, ℕ, List, Result, Ok, Err, refl, sym, ap, ◌∙◌, subst}
-use Rattle.std.specs.Prelude.{IfOk}
-use Rattle.fluent_uri.specs.Components.{components}
+use Rattle.uri_streams.proofs.Common.{◌≡◌, ◌≢◌, ℕ, List, Result, Ok, Err, refl, sym, ap, ◌∙◌, subst, IfOk, components, Text, Error, basic_resolution_result, basic_target_result, double_slash_message, result_in, PathStartsWithDoubleSlash}
 use Rattle.uri_basic.specs.declared.error.BasicResolveError.{BasicResolveError}
 use Rattle.uri_basic.specs.declared.error.BasicResolveError.TheVariants as errors
 use Rattle.uri_basic.specs.Resolving.{IsBasicError}
 use Rattle.uri_basic.specs.Target.{basic_resolution_of_texts}
-use Rattle.uri_streams.specs.Results.{Text, Error, basic_resolution_result, basic_target_result, double_slash_message}
-use Rattle.uri_streams.specs.Returned.{result_in}
-use Rattle.uri_streams.specs.declared.fault.LineError.TheVariants.{PathStartsWithDoubleSlash}
 use Rattle.uri_streams.specs.declared.line_result.LineResult.{LineResult as Returned}
 use Rattle.uri_streams.specs.declared.line_result.LineResult.TheVariants as returned
 
@@ -17,8 +12,7 @@ pub basic_target_result-of-target : (base given reference target : List ℕ) →
     → basic_resolution_of_texts given reference ≡ Ok target
     → Text target ≡ basic_target_result base reference
 unfolding basic_target_result
-basic_target_result-of-target base given reference target same is =
-    ap basic_resolution_result
+basic_target_result-of-target base given reference target same is = ap basic_resolution_result
     (sym (subst (λ b. basic_resolution_of_texts b reference ≡ Ok target) same is))
 
 -- lines: what `urilines resolve --basic` writes of an error is the one that is defined

@@ -1,23 +1,8 @@
 -- What `check` writes for each line, and for the lines of an input.
-use Rattle.std.proofs.Common.{◌≡◌, ◌+◌, ◌++◌, ◌⊎◌, ℕ, Bool, true, false, cond, List, [], ◌∷◌, refl, ap, sym, subst, ◌∙◌, inl, inr, length, Option, Some, None}
-use Rattle.std.specs.Prelude.{not, ◌&&◌, nat_lt, Result, Ok, Err, slice_get, if◌then◌else◌}
-use Rattle.std.specs.List.{AllPass, concat, filter, list_all}
-use Rattle.std.specs.Str.{is_utf8}
-use Rattle.std.proofs.lemmas.List.Sums.{list_all-from_AllPass}
-use Rattle.std.proofs.lemmas.Bool.{and_parts}
-use Rattle.fluent_uri.specs.Grammar.{is_of_kind}
+use Rattle.uri_streams.proofs.Common.{◌≡◌, ◌+◌, ◌++◌, ◌⊎◌, ℕ, Bool, true, false, cond, List, [], ◌∷◌, refl, ap, sym, subst, ◌∙◌, inl, inr, length, Option, Some, None, not, ◌&&◌, nat_lt, Result, Ok, Err, slice_get, if◌then◌else◌, AllPass, concat, filter, list_all, is_utf8, list_all-from_AllPass, and_parts, is_of_kind, Cut, cut_at_field, cut_of, cut_without_other_fields, field_cut, fields_of, end_byte, line_text, error_output, is_error, is_last, is_stop, line_cut, line_output, line_result, output_of, processed, processed_lines, result_output, kind_named, LineResult, passed_if, passes_check, Known, cut_result, given_text, KindName, NoField, NotUtf8, TooLong, Job}
 use Rattle.uri_streams.specs.Checks.{AreMergedFrom, checking, has_text_of_kind, is_passed, is_text_of_kind, is_within_maximum, lines_for, lines_within_maximum, output_for, passes_over_errors}
-use Rattle.uri_streams.specs.Fields.{Cut, cut_at_field, cut_of, cut_without_other_fields, field_cut, fields_of}
-use Rattle.uri_streams.specs.Lines.{end_byte, line_text}
-use Rattle.uri_streams.specs.Outputs.{error_output, is_error, is_last, is_stop, line_cut, line_output, line_result, output_of, processed, processed_lines, result_output}
-use Rattle.uri_commands.specs.Kinds.{kind_named}
-use Rattle.uri_streams.specs.Results.{LineResult, passed_if, passes_check}
-use Rattle.uri_streams.specs.Tasks.{Known, cut_result, given_text}
-use Rattle.uri_commands.specs.declared.kinds.KindName.{KindName}
 use Rattle.uri_streams.specs.declared.fault.NoText.{NoText}
-use Rattle.uri_streams.specs.declared.fault.NoText.TheVariants.{NoField, NotUtf8, TooLong}
 use Rattle.uri_streams.specs.declared.job.Field.{Field}
-use Rattle.uri_streams.specs.declared.job.Job.{Job}
 use Rattle.uri_streams.specs.declared.job.OnError.{OnError}
 use Rattle.uri_streams.specs.declared.job.OnError.TheVariants.{Drop, Line, Stderr, Stop}
 use Rattle.uri_streams.proofs.MergedLines.{AreMergedFrom-passed, lines_of-some-lines}
@@ -99,9 +84,8 @@ module _ (job : Job) (kind : KindName) (is_inverted : Bool) where
       at false = refl
 
   -- lines: the result of `check` for what it gets of a line that is not too long
-  cut_result-of-check : (known : Known) (text : Result (List ℕ) NoText)
-      → is_too_long text ≡ false → cut_result check known text
-      ≡ (passed_if (passes (is_text_of_kind job kind text)), known)
+  cut_result-of-check : (known : Known) (text : Result (List ℕ) NoText) → is_too_long text ≡ false
+      → cut_result check known text ≡ (passed_if (passes (is_text_of_kind job kind text)), known)
   unfolding passes_check
   cut_result-of-check known (Ok bytes) short = at (is_utf8 bytes)
     where
@@ -117,13 +101,11 @@ module _ (job : Job) (kind : KindName) (is_inverted : Bool) where
   cut_result-of-check known (Err (TooLong most)) short = absurd (cc)
   cut_result-of-check known (Err (NoField before)) short =
       ap (λ r. (r, known)) passed_if-not-of-kind
-  cut_result-of-check known (Err (NotUtf8 index)) short =
-      ap (λ r. (r, known)) passed_if-not-of-kind
+  cut_result-of-check known (Err (NotUtf8 index)) short = ap (λ r. (r, known)) passed_if-not-of-kind
 
   -- lines: `check` writes the line if it passes, and else nothing, and goes on
   abbrev WritesIfPassed : ℕ → Known → List ℕ → Type 0
-  WritesIfPassed number known line =
-      (line_output check (processed check number known line)
+  WritesIfPassed number known line = (line_output check (processed check number known line)
       ≡ (if is_passed job kind is_inverted line then line else []))
       × (is_last check (processed check number known line) ≡ false)
 
@@ -132,9 +114,8 @@ module _ (job : Job) (kind : KindName) (is_inverted : Bool) where
   WritesIfPassed-within number known line within =
       let b = passes (has_text_of_kind job kind line) in
       let cut = line_cut job line in
-      let is : line_result check known line ≡ (passed_if b, known) =
-      cut_result-of-check known cut.text
-      (is_too_long-within-maximum job line within) in
+      let is : line_result check known line ≡ (passed_if b, known) = cut_result-of-check known
+      cut.text (is_too_long-within-maximum job line within) in
       let after = (processed check number known line).after in
       let so = output-of-passed job.errors line cut.before after b in (
         ap (λ (r : LineResult × Known). result_output job.errors line cut.before r.0 after) is
@@ -149,9 +130,8 @@ module _ (job : Job) (kind : KindName) (is_inverted : Bool) where
       let b = passes (has_text_of_kind job kind line) in
       let is = line_cut-past-maximum job line past in
       let none = error_output-passed-over job.errors in (
-        ap (λ (c : Cut). result_output job.errors line c.before
-            (cut_result check known c.text).0 (processed check number known line).after) is
-            ∙ (none _ _ _ over).0
+        ap (λ (c : Cut). result_output job.errors line c.before (cut_result check known c.text).0
+            (processed check number known line).after) is ∙ (none _ _ _ over).0
             ∙ sym (ap (λ w. if w && b then line else []) past),
         ap (λ (c : Cut). is_error (cut_result check known c.text).0
             && is_stop job.errors) is ∙ (none [] [] [] over).1,
@@ -199,16 +179,14 @@ module _ (job : Job) (kind : KindName) (is_inverted : Bool) where
       at true = refl
       at false = refl
 
-  pub output_for-check : (input : List ℕ) → IsQuiet (lines_for job input)
-      → output_for check input
+  pub output_for-check : (input : List ℕ) → IsQuiet (lines_for job input) → output_for check input
       ≡ concat (filter (is_passed job kind is_inverted) (lines_for job input))
   output_for-check input quiet = output_of-check 0 [] (lines_for job input) quiet
 
   lines_for-check : (input : List ℕ) → IsQuiet (lines_for job input)
       → lines_for job (output_for check input)
       ≡ filter (is_passed job kind is_inverted) (lines_for job input)
-  lines_for-check input quiet =
-      ap (lines_for job) (output_for-check input quiet)
+  lines_for-check input quiet = ap (lines_for job) (output_for-check input quiet)
       ∙ lines_of-some-lines (end_byte job.is_null) (is_passed job kind is_inverted) input
 
 -- lines: the outputs of `check` and its inverse are merged from the lines that are not too long
@@ -217,13 +195,12 @@ pub AreMergedFrom-checks : (job : Job) (kind : KindName) (input : List ℕ)
     ⊎ (list_all (is_within_maximum job) (lines_for job input) ≡ true)
     → AreMergedFrom (lines_for job (output_for (checking job kind false) input))
     (lines_for job (output_for (checking job kind true) input)) (lines_within_maximum job input)
-AreMergedFrom-checks job kind input quiet =
-    subst (λ l. AreMergedFrom l (lines_for job (output_for (checking job kind true) input))
-    (lines_within_maximum job input)) (sym (lines_for-check job kind false input quiet))
-    (subst (λ l. AreMergedFrom (filter (is_passed job kind false) (lines_for job input)) l
-    (lines_within_maximum job input)) (sym (lines_for-check job kind true input quiet))
-    (AreMergedFrom-passed (is_within_maximum job) (has_text_of_kind job kind)
-    (lines_for job input)))
+AreMergedFrom-checks job kind input quiet = subst (λ l. AreMergedFrom l
+    (lines_for job (output_for (checking job kind true) input)) (lines_within_maximum job input))
+    (sym (lines_for-check job kind false input quiet)) (subst (λ l. AreMergedFrom
+    (filter (is_passed job kind false) (lines_for job input)) l (lines_within_maximum job input))
+    (sym (lines_for-check job kind true input quiet)) (AreMergedFrom-passed (is_within_maximum job)
+    (has_text_of_kind job kind) (lines_for job input)))
 
 -- general fact on lists, for lines: if all pass a test, so do those that do
 filter-of-all : (keeps : List ℕ → Bool) (lines : List (List ℕ)) → list_all keeps lines ≡ true

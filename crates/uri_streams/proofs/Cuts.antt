@@ -1,14 +1,5 @@
 -- A line that is kept in part is an error as the whole is: it is too long either way.
-use Rattle.std.proofs.Common.{◌≡◌, ◌<◌, ◌≤◌, ◌+◌, ◌-◌, ℕ, Bool, true, false, cond, List, refl, ap, sym, ◌∙◌, length, take, arith, inl, inr, ◌++◌, ◌⊎◌, ⊎_elim, length-take-le, take_all, lt-ltb, ltb-true, ltb-false}
-use Rattle.std.specs.Prelude.{Err, nat_lt}
-use Rattle.std.specs.Io.BufRead.{ends_with_byte, strip_last}
-use Rattle.uri_streams.specs.Fields.{Cut, cut_without_other_fields}
-use Rattle.uri_streams.specs.Lines.{end_byte, has_return, line_text}
-use Rattle.uri_streams.specs.Models.{bytes_output}
-use Rattle.uri_streams.specs.Outputs.{line_cut, result_output}
-use Rattle.uri_streams.specs.Tasks.{Known, cut_result}
-use Rattle.uri_streams.specs.declared.fault.NoText.TheVariants.{TooLong}
-use Rattle.uri_streams.specs.declared.job.Job.{Job}
+use Rattle.uri_streams.proofs.Common.{◌≡◌, ◌<◌, ◌≤◌, ◌+◌, ◌-◌, ℕ, Bool, true, false, cond, List, refl, ap, sym, ◌∙◌, length, take, arith, inl, inr, ◌++◌, ◌⊎◌, ⊎_elim, length-take-le, take_all, lt-ltb, ltb-true, ltb-false, Err, nat_lt, ends_with_byte, strip_last, Cut, cut_without_other_fields, end_byte, has_return, line_text, bytes_output, line_cut, result_output, Known, cut_result, TooLong, Job}
 
 -- lines: without its end, a line is one byte shorter at most
 stripped : (byte : ℕ) (xs : List ℕ) → length xs ≤ length (strip_last byte xs) + 1
@@ -61,8 +52,7 @@ too_long_cut job = cut_without_other_fields (Err (TooLong job.max_line))
 
 -- lines: of one that is too long the command gets no text
 line_cut-of-too-long : (job : Job) (line : List ℕ)
-    → job.max_line < length (line_text job.is_null line)
-    → line_cut job line ≡ too_long_cut job
+    → job.max_line < length (line_text job.is_null line) → line_cut job line ≡ too_long_cut job
 line_cut-of-too-long job line long =
     rw (lt-ltb job.max_line (length (line_text job.is_null line)) long) refl
 
@@ -74,13 +64,11 @@ StandsFor job line whole = (line ≡ whole)
 -- lines: one that is cut off past the limit stands for the whole, as both are too long
 pub StandsFor-of-limited-line : (job : Job) (limit : ℕ) (line : List ℕ) → limit ≡ job.max_line + 3
     → StandsFor job (take limit line) line
-StandsFor-of-limited-line job limit line e =
-    ⊎_elim (λ whole. inl whole)
+StandsFor-of-limited-line job limit line e = ⊎_elim (λ whole. inl whole)
     (λ long. inr (
       line_cut-of-too-long job (take limit line) long.0,
       line_cut-of-too-long job line long.1,
-    ))
-    (line-is-whole-or-too-long job limit line e)
+    )) (line-is-whole-or-too-long job limit line e)
 
 -- lines: bytes that stand for a line are cut as the line is
 pub line_cut-if-StandsFor : (job : Job) (line whole : List ℕ) → StandsFor job line whole

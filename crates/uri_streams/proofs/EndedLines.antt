@@ -1,13 +1,7 @@
 -- The text and the end of a line that its end byte ends.
-use Rattle.std.proofs.Common.{◌≡◌, ◌<◌, ◌≤◌, ◌-◌, ℕ, Bool, true, false, cond, List, [], ◌∷◌, refl, ap, sym, ◌∙◌, arith, drop, get_or, get_or-take, length, length-take-le, ltb-true, ltb-false, eqb-true, take, take-take, take_all}
+use Rattle.uri_streams.proofs.Common.{◌≡◌, ◌<◌, ◌≤◌, ◌-◌, ℕ, Bool, true, false, cond, List, [], ◌∷◌, refl, ap, sym, ◌∙◌, arith, drop, get_or, get_or-take, length, length-take-le, ltb-true, ltb-false, eqb-true, take, take-take, take_all, ends_with_byte, strip_last, ◌&&◌, ◌==◌, nat_lt, not, and_parts, drop_more, length-drop, end_byte, has_return, line_text, line_ending}
 use mir.Val.{bool_byte}
-use Rattle.std.specs.Io.BufRead.{ends_with_byte, strip_last}
-use Rattle.std.specs.Prelude.{◌&&◌, ◌==◌, nat_lt, not}
 use Rattle.std.proofs.Math.ListN.{drop_of_length-le}
-use Rattle.std.proofs.lemmas.Bool.{and_parts}
-use Rattle.std.proofs.lemmas.List.{drop_more, length-drop}
-use Rattle.uri_streams.specs.Lines.{end_byte, has_return, line_text}
-use Rattle.uri_streams.specs.Outputs.{line_ending}
 
 -- lines: bytes that end with a byte are some
 some-if-ended : (byte : ℕ) (bs : List ℕ) → ends_with_byte byte bs ≡ true → 0 < length bs
@@ -50,12 +44,10 @@ ends_with_return-before-newline bs ended = at (nat_lt 0 (length text)) refl
         ∙ sym (ap (λ b. b == 13) (ap (λ n. get_or bs n 0) first ∙ last-if-ended 10 bs ended))
 
 -- lines: whether a line that its end byte ends has a `\r` (13) before that
-has_return-of-ended : (is_null : Bool) (bs : List ℕ)
-    → ends_with_byte (end_byte is_null) bs ≡ true
+has_return-of-ended : (is_null : Bool) (bs : List ℕ) → ends_with_byte (end_byte is_null) bs ≡ true
     → has_return is_null bs ≡ (not is_null && (get_or bs (length bs - 1 - 1) 0 == 13))
 has_return-of-ended true bs ended = refl
-has_return-of-ended false bs ended =
-    ap (λ b. b && ends_with_byte 13 (strip_last 10 bs)) ended
+has_return-of-ended false bs ended = ap (λ b. b && ends_with_byte 13 (strip_last 10 bs)) ended
     ∙ ap (ends_with_byte 13) (strip_last-of-ended 10 bs ended)
     ∙ ends_with_return-before-newline bs ended
 
@@ -63,15 +55,13 @@ has_return-of-ended false bs ended =
 drop-but-last : (bs : List ℕ) → 0 < length bs
     → drop (length bs - 1) bs ≡ get_or bs (length bs - 1) 0 ∷ []
 drop-but-last bs some = drop_more bs (length bs - 1) 0 (omega (arith, some))
-    ∙ ap (λ l. get_or bs (length bs - 1) 0 ∷ l)
-    (drop_of_length-le bs (omega (arith, some)))
+    ∙ ap (λ l. get_or bs (length bs - 1) 0 ∷ l) (drop_of_length-le bs (omega (arith, some)))
 
 -- the same by whether NUL ends lines, and whether the last byte but one is `\r` (13)
 text_of : (is_null : Bool) (bs : List ℕ) → ends_with_byte (end_byte is_null) bs ≡ true
     → take (length bs - 1 - cond (not is_null && (get_or bs (length bs - 1 - 1) 0 == 13)) 1 0) bs
     ≡ line_text is_null bs
-text_of true bs ended =
-    ap (λ n. take n bs) (omega arith) ∙ sym (strip_last-of-ended 0 bs ended)
+text_of true bs ended = ap (λ n. take n bs) (omega arith) ∙ sym (strip_last-of-ended 0 bs ended)
 text_of false bs ended = at (get_or bs (length bs - 1 - 1) 0 == 13) refl
   where
     text : List ℕ
@@ -97,9 +87,8 @@ text_of false bs ended = at (get_or bs (length bs - 1 - 1) 0 == 13) refl
 end_of : (is_null : Bool) (bs : List ℕ) → ends_with_byte (end_byte is_null) bs ≡ true
     → drop (length bs - 1 - cond (not is_null && (get_or bs (length bs - 1 - 1) 0 == 13)) 1 0) bs
     ≡ line_ending is_null (has_return is_null bs)
-end_of true bs ended =
-    ap (λ n. drop n bs) (omega arith) ∙ drop-but-last bs (some-if-ended 0 bs ended)
-    ∙ ap (λ b. b ∷ []) (last-if-ended 0 bs ended)
+end_of true bs ended = ap (λ n. drop n bs) (omega arith)
+    ∙ drop-but-last bs (some-if-ended 0 bs ended) ∙ ap (λ b. b ∷ []) (last-if-ended 0 bs ended)
 end_of false bs ended = at (get_or bs (length bs - 1 - 1) 0 == 13) refl
   where
     last : drop (length bs - 1) bs ≡ 10 ∷ []
@@ -134,22 +123,19 @@ pub text-before-end : (is_null is_return : Bool) (bs : List ℕ) (before : ℕ)
     → is_return ≡ (not is_null && (get_or bs before 0 == 13))
     → take (length bs - 1 - bool_byte is_return) bs ≡ line_text is_null bs
 text-before-end is_null is_return bs before ended first is =
-    ap (λ n. take (length bs - 1 - n) bs) (flag-is-number is_return)
-    ∙ ap (λ b. take (length bs - 1 - cond b 1 0) bs)
-    (is ∙ ap (λ i. not is_null && (get_or bs i 0 == 13)) first)
-    ∙ text_of is_null bs ended
+    ap (λ n. take (length bs - 1 - n) bs) (flag-is-number is_return) ∙ ap
+    (λ b. take (length bs - 1 - cond b 1 0) bs)
+    (is ∙ ap (λ i. not is_null && (get_or bs i 0 == 13)) first) ∙ text_of is_null bs ended
 
 -- lines: the bytes after the text of a line are what ends its output
 pub end-after-text : (is_null is_return : Bool) (bs : List ℕ) (before : ℕ)
     → ends_with_byte (end_byte is_null) bs ≡ true → before ≡ length bs - 1 - 1
-    → is_return ≡ (not is_null && (get_or bs before 0 == 13))
-    → take (length bs - (length bs - 1 - bool_byte is_return))
-    (drop (length bs - 1 - bool_byte is_return) bs)
-    ≡ line_ending is_null (has_return is_null bs)
+    → is_return ≡ (not is_null && (get_or bs before 0 == 13)) → take
+    (length bs - (length bs - 1 - bool_byte is_return))
+    (drop (length bs - 1 - bool_byte is_return) bs) ≡ line_ending is_null (has_return is_null bs)
 end-after-text is_null is_return bs before ended first is =
     let start = length bs - 1 - bool_byte is_return in
     take_all (length bs - start) (drop start bs) (omega (arith, length-drop start bs))
-    ∙ ap (λ n. drop (length bs - 1 - n) bs) (flag-is-number is_return)
-    ∙ ap (λ b. drop (length bs - 1 - cond b 1 0) bs)
-    (is ∙ ap (λ i. not is_null && (get_or bs i 0 == 13)) first)
-    ∙ end_of is_null bs ended
+    ∙ ap (λ n. drop (length bs - 1 - n) bs) (flag-is-number is_return) ∙ ap
+    (λ b. drop (length bs - 1 - cond b 1 0) bs)
+    (is ∙ ap (λ i. not is_null && (get_or bs i 0 == 13)) first) ∙ end_of is_null bs ended

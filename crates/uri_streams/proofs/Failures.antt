@@ -6,8 +6,7 @@ use Rattle.std.proofs.lemmas.List.Elements.{All-nil}
 use Rattle.std.specs.Io.KnownBytes.{Appends, Consumes, Keeps}
 use Rattle.std.proofs.KnownBytes.{Appends-kept}
 use Rattle.uri_commands.specs.Prefixes.{AppendsPrefix}
-use Rattle.uri_commands.proofs.Appended.{AppendsPrefix-after-Appends}
-use Rattle.uri_commands.proofs.Prefixes.{AppendsPrefix-of-appended}
+use Rattle.uri_commands.proofs.Offered.{AppendsPrefix-after-Appends, AppendsPrefix-of-appended}
 use Rattle.std.specs.Prelude.{◌||◌, IfErr, IfOk, Err, Ok, Result, true}
 use Rattle.std.specs.List.{flat_map}
 use Rattle.std.specs.Result.{IsErrAnd}

@@ -1,17 +1,8 @@
 -- The fields of a line, one after the other.
-use Rattle.std.proofs.Common.{◌≡◌, ◌<◌, ◌+◌, ◌-◌, ◌++◌, ◌∷◌, [], ℕ, suc, zero, List, Bool, Some, None, All, true, false, cond, eqb, refl, ap, sym, subst, ◌∙◌, length, take, drop, arith, get_or, length-take-le, length-drop, eqb-true, add-one, get_or-take}
-use Rattle.std.specs.Prelude.{Err, Ok, slice_get, slice_range}
-use Rattle.std.specs.List.{onto_first, slice_split}
-use Rattle.std.proofs.Math.Seq.{drop-cons, drop-drop, drop-length, take-add, take-suc}
-use Rattle.std.proofs.lemmas.List.{append-nil, take-append-drop, take_rest}
-use Rattle.std.proofs.lemmas.List.Concat.{flat_map-append}
-use Rattle.std.proofs.lemmas.List.Elements.{All-from_get_or}
+use Rattle.uri_streams.proofs.Common.{◌≡◌, ◌<◌, ◌+◌, ◌-◌, ◌++◌, ◌∷◌, [], ℕ, suc, zero, List, Bool, Some, None, All, true, false, cond, eqb, refl, ap, sym, subst, ◌∙◌, length, take, drop, arith, get_or, length-take-le, length-drop, eqb-true, add-one, get_or-take, Err, Ok, slice_get, slice_range, onto_first, slice_split, drop-cons, drop-drop, drop-length, take-add, take-suc, append-nil, take-append-drop, take_rest, flat_map-append, All-from_get_or, false_from_ne_true, Cut, IsFieldStart, fields_after_delimiters, fields_before_delimiters, field_cut, fields_of, cut_at_field, cut_without_other_fields, NoField}
 use Rattle.std.proofs.lemmas.List.Splits.{slice_split_at, slice_split_none}
 use Rattle.std.proofs.lemmas.Option.{slice_get_past}
 use Rattle.memchr.specs.Find.{NoneBefore, Nowhere, Passes, is_byte}
-use Rattle.std.proofs.lemmas.Bool.{false_from_ne_true}
-use Rattle.uri_streams.specs.Fields.{Cut, IsFieldStart, fields_after_delimiters, fields_before_delimiters, field_cut, fields_of, cut_at_field, cut_without_other_fields}
-use Rattle.uri_streams.specs.declared.fault.NoText.TheVariants.{NoField}
 
 -- general fact on lists, for fields of `urilines`: what is left after k elements begins with this
 -- one
@@ -140,10 +131,8 @@ module _ (d k : ℕ) (line : List ℕ) (start : ℕ) (is : IsFieldStart d k line
         ∙ sym (ap (λ n. Some (take n (drop start line))) same)
 
     pub after_found : drop (start + i) line ≡ fields_after_delimiters d (drop (k + 1) fields)
-    after_found =
-        dropped i ∙ drop-cons rest i 0 none.high
-        ∙ ap (λ b. b ∷ drop (suc i) rest) is_delimiter
-        ∙ ap (λ n. d ∷ drop n rest) (sym (add-one i))
+    after_found = dropped i ∙ drop-cons rest i 0 none.high
+        ∙ ap (λ b. b ∷ drop (suc i) rest) is_delimiter ∙ ap (λ n. d ∷ drop n rest) (sym (add-one i))
         ∙ sym (after-fields_of d (drop (i + 1) rest)) ∙ ap (fields_after_delimiters d) (sym here.1)
 
   module _ (none : Nowhere (Passes (is_byte d) rest) 0 (length rest)) where
@@ -180,8 +169,7 @@ field_cut-found d k start end line before text after is found rest before_is tex
       before = (before_is ∙ is.before_it) i;
       text = Ok (text_is i);
       after = (after_is ∙ rest) i;
-    })
-    ∙ sym (ap (cut_at_field d k (fields_of d line)) found)
+    }) ∙ sym (ap (cut_at_field d k (fields_of d line)) found)
 
 -- fields: a line without field k gives the error that says so; d: the delimiter
 pub field_cut-none : (d k : ℕ) (line : List ℕ) → slice_get (fields_of d line) k ≡ None

@@ -1,15 +1,7 @@
 -- The value of a reference has its components, and each under a name of its own.
-use Rattle.std.proofs.Common.{◌≡◌, ℕ, Bool, true, false, List, [], ◌∷◌, refl, sym, ap, ◌∙◌, rules}
-use Rattle.std.specs.Prelude.{codes, Option, Some, None, IfSome, option_map, option_and_then, map, ◌&&◌, bytes_eq, if◌then◌else◌, nat_lt, unwrap_or}
-use Rattle.std.specs.List.{AllByRecursion, IsDistinct, list_all}
-use Rattle.std.specs.Str.{chars, encode_utf8_all}
-use Rattle.std.proofs.lemmas.Bool.{and_parts}
+use Rattle.uri_streams.proofs.Common.{◌≡◌, ℕ, Bool, true, false, List, [], ◌∷◌, refl, sym, ap, ◌∙◌, rules, codes, Option, Some, None, IfSome, option_map, option_and_then, map, ◌&&◌, bytes_eq, if◌then◌else◌, nat_lt, unwrap_or, AllByRecursion, IsDistinct, list_all, chars, encode_utf8_all, and_parts, Components, host_word, JsonValue, Object, Members, EndOfObject, Member, is_unescaped, text_members, with_present, present, named_components, components_value}
 use Rattle.fluent_uri.specs.Authority.{authority_parts}
-use Rattle.fluent_uri.specs.Components.{Components}
 use Rattle.fluent_uri.specs.Hosts.{host_kind}
-use Rattle.uri_streams.specs.Json.{host_word}
-use Rattle.uri_streams.specs.JsonTexts.{JsonValue, Object, Members, EndOfObject, Member, is_unescaped}
-use Rattle.uri_streams.specs.JsonValues.{text_members, with_present, present, named_components, components_value}
 use Rattle.uri_streams.proofs.JsonStringTexts.{IsPlain, ascii-is-plain}
 use Rattle.uri_streams.proofs.JsonPairs.{AreUtf8, text_in, text-is-in-its-value}
 use Rattle.uri_streams.proofs.JsonObjects.{IsPlainIfPresent, host_word-is-plain, HasPlainAuthority, HasPlainComponents}
@@ -37,8 +29,7 @@ names-are-in-their-members (one ∷ others) (n, t, h) =
 -- lines of JSON: the text with this name
 abbrev find_named : List ℕ → List (List ℕ × List ℕ) → Option (List ℕ)
 find_named name [] = None
-find_named name (one ∷ others) =
-    if bytes_eq one.0 name then Some one.1 else find_named name others
+find_named name (one ∷ others) = if bytes_eq one.0 name then Some one.1 else find_named name others
 
 -- lines of JSON: the first text, or else the other
 abbrev first_present : Option (List ℕ) → Option (List ℕ) → Option (List ℕ)
@@ -48,9 +39,8 @@ first_present (Some text) other = Some text
 -- lines of JSON: the text with this name, if it is present
 abbrev find_present : List ℕ → List (List ℕ × Option (List ℕ)) → Option (List ℕ)
 find_present name [] = None
-find_present name (one ∷ others) =
-    if bytes_eq one.0 name then first_present one.1 (find_present name others)
-    else find_present name others
+find_present name (one ∷ others) = if bytes_eq one.0 name then first_present one.1
+    (find_present name others) else find_present name others
 
 -- lines of JSON: a text is found among those that are present as among all
 present-text-is-found : (name : List ℕ) (named : List (List ℕ × Option (List ℕ)))
@@ -86,8 +76,7 @@ components_in named = record {
 }
 
 -- lines of JSON: each component is found by its name
-components-are-found-by-name : (p : Components)
-    → components_in (present (named_components p)) ≡ p
+components-are-found-by-name : (p : Components) → components_in (present (named_components p)) ≡ p
 components-are-found-by-name p =
     let all = named_components p in
     let found = λ (name : List ℕ). present-text-is-found name all in
@@ -135,8 +124,7 @@ plain-texts-are-utf8 (one ∷ others) n (t, h) =
     at (Some text) n t more = (n.utf8, t.utf8, more)
 
 -- lines of JSON: components that need no escape
-named-components-are-plain : (p : Components) → HasPlainComponents p
-    → ArePlain (named_components p)
+named-components-are-plain : (p : Components) → HasPlainComponents p → ArePlain (named_components p)
 named-components-are-plain p h =
     let a = at p.authority h.authority in
     (h.scheme, (a.0, (a.1, (a.2, (a.3, (a.4, (h.path, (h.query, (h.fragment, tt)))))))))
@@ -168,8 +156,7 @@ components-are-in-their-value p h =
 -- lines of JSON: references whose values are equal have equal components
 pub equal-objects-have-equal-components : (p q : Components) → HasPlainComponents p
     → HasPlainComponents q → components_value p ≡ components_value q → p ≡ q
-equal-objects-have-equal-components p q h k e =
-    sym (components-are-in-their-value p h)
+equal-objects-have-equal-components p q h k e = sym (components-are-in-their-value p h)
     ∙ ap (λ v. components_in (named_in (members_in v))) e ∙ components-are-in-their-value q k
 
 -- lines of JSON: what holds of all names holds of those whose texts are present
@@ -206,5 +193,4 @@ present-names-are-distinct (one ∷ others) (apart, h) = at one.1
 pub component-names-are-distinct : (p : Components)
     → IsDistinct bytes_eq (map (λ one. one.0) (present (named_components p)))
 unfolding IsDistinct
-component-names-are-distinct p =
-    present-names-are-distinct (named_components p) (search rules)
+component-names-are-distinct p = present-names-are-distinct (named_components p) (search rules)

@@ -1,25 +1,10 @@
 -- The lines of JSON represent the components of a text of a kind, and the pairs of a query. So they
 -- determine them.
-use Rattle.std.proofs.Common.{◌≡◌, ℕ, List, [], ◌∷◌, refl, sym, ap, ◌∙◌, subst}
-use Rattle.std.specs.Prelude.{Option, Some, None, map}
-use Rattle.std.specs.List.{AllByRecursion, flat_map}
-use Rattle.std.specs.Char.{encode_utf8}
-use Rattle.std.specs.Str.{IsUtf8, is_utf8, chars}
+use Rattle.uri_streams.proofs.Common.{◌≡◌, ℕ, List, [], ◌∷◌, refl, sym, ap, ◌∙◌, subst, Option, Some, None, map, AllByRecursion, flat_map, encode_utf8, IsUtf8, is_utf8, chars, recursion_from_All, IsUtf8-append, IsUtf8-encode, IsUtf8-nil, IsUtf8-from_is_utf8, decode_pair, components, recompose, IsTextOf, json_of, JsonValue, IsJsonTextOf, components_value, query_value, pairs_of_query, query_json, kind_named, KindName}
 use Rattle.std.specs.Str.Lossy.{replacement_bytes}
-use Rattle.std.proofs.lemmas.List.Elements.{recursion_from_All}
-use Rattle.std.proofs.lemmas.Str.{IsUtf8-append, IsUtf8-encode, IsUtf8-nil, IsUtf8-from_is_utf8}
-use Rattle.uri_query.specs.Pairs.{decode_pair}
-use Rattle.fluent_uri.specs.Components.{components, recompose}
-use Rattle.fluent_uri.specs.Grammar.{IsTextOf}
 use Rattle.uri_pct.specs.Pieces.{Piece, WellFormed, IllFormed, IsOfCharacter, char_of, lossy_piece, lossy_text, utf8_pieces}
 use Rattle.uri_pct.proofs.Unicode.CharacterPieces.{utf8_pieces-are-of-characters}
 use Rattle.uri_parts.proofs.Splitting.Recompose.{recompose-components}
-use Rattle.uri_streams.specs.Json.{json_of}
-use Rattle.uri_streams.specs.JsonTexts.{JsonValue, IsJsonTextOf}
-use Rattle.uri_streams.specs.JsonValues.{components_value, query_value}
-use Rattle.uri_streams.specs.Queries.{pairs_of_query, query_json}
-use Rattle.uri_commands.specs.Kinds.{kind_named}
-use Rattle.uri_commands.specs.declared.kinds.KindName.{KindName}
 use Rattle.uri_streams.proofs.JsonComponents.{equal-objects-have-equal-components}
 use Rattle.uri_streams.proofs.JsonObjects.{json_of-is-json-object}
 use Rattle.uri_streams.proofs.JsonPairs.{AreUtf8, pairs-are-json-array, equal-arrays-have-equal-pairs}
@@ -27,8 +12,7 @@ use Rattle.uri_streams.proofs.JsonReading.{json-text-represents-one-value}
 use Rattle.uri_streams.proofs.PlainComponents.{text-has-plain-components}
 
 -- lines of JSON: that for a text of a kind is an object of its components
-pub parse-line-is-json-object : (name : KindName) (text : List ℕ)
-    → IsTextOf (kind_named name) text
+pub parse-line-is-json-object : (name : KindName) (text : List ℕ) → IsTextOf (kind_named name) text
     → IsJsonTextOf (components_value (components text)) (json_of (components text))
 parse-line-is-json-object name text h =
     json_of-is-json-object (components text) (text-has-plain-components name text h)
@@ -39,13 +23,11 @@ pub parse-lines-of-one-value-have-one-text : (name other : KindName) (a b : List
     → IsJsonTextOf v (json_of (components a)) → IsJsonTextOf v (json_of (components b)) → a ≡ b
 parse-lines-of-one-value-have-one-text name other a b v h k first second =
     let same : components_value (components a) ≡ components_value (components b) =
-    json-text-represents-one-value (json_of (components a)) _ v
-    (parse-line-is-json-object name a h) first
-    ∙ json-text-represents-one-value (json_of (components b)) v _ second
+    json-text-represents-one-value (json_of (components a)) _ v (parse-line-is-json-object name a h)
+    first ∙ json-text-represents-one-value (json_of (components b)) v _ second
     (parse-line-is-json-object other b k) in
-    sym (recompose-components a) ∙ ap recompose (equal-objects-have-equal-components
-    (components a) (components b) (text-has-plain-components name a h)
-    (text-has-plain-components other b k) same)
+    sym (recompose-components a) ∙ ap recompose (equal-objects-have-equal-components (components a)
+    (components b) (text-has-plain-components name a h) (text-has-plain-components other b k) same)
     ∙ recompose-components b
 
 -- lines of JSON: U+FFFD is UTF-8
@@ -92,8 +74,7 @@ query-line-is-json-array query =
 pub query-lines-of-one-value-have-same-pairs : (a b : Option (List ℕ)) (v : JsonValue)
     → IsJsonTextOf v (query_json a) → IsJsonTextOf v (query_json b)
     → pairs_of_query a ≡ pairs_of_query b
-query-lines-of-one-value-have-same-pairs a b v first second =
-    equal-arrays-have-equal-pairs (pairs_of_query a) (pairs_of_query b)
-    (pairs-of-query-are-utf8 a) (pairs-of-query-are-utf8 b)
+query-lines-of-one-value-have-same-pairs a b v first second = equal-arrays-have-equal-pairs
+    (pairs_of_query a) (pairs_of_query b) (pairs-of-query-are-utf8 a) (pairs-of-query-are-utf8 b)
     (json-text-represents-one-value (query_json a) _ v (query-line-is-json-array a) first
     ∙ json-text-represents-one-value (query_json b) v _ second (query-line-is-json-array b))

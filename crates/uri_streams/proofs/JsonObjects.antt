@@ -1,12 +1,7 @@
 -- The line of JSON for a reference represents its components.
-use Rattle.std.proofs.Common.{◌≡◌, ℕ, List, [], ◌∷◌, ◌++◌, append_assoc, append-nil, refl, subst}
-use Rattle.std.specs.Prelude.{codes, Option, Some, None, IfSome, option_map, option_and_then}
+use Rattle.uri_streams.proofs.Common.{◌≡◌, ℕ, List, [], ◌∷◌, ◌++◌, append_assoc, append-nil, refl, subst, codes, Option, Some, None, IfSome, option_map, option_and_then, Components, member, member_before, member_after, host_word, authority_members, json_of, RepresentsValue, RepresentsMembers, RepresentsMoreMembers, IsJsonTextOf, text_members, with_present, present, components_value}
 use Rattle.fluent_uri.specs.Authority.{authority_parts}
-use Rattle.fluent_uri.specs.Components.{Components}
 use Rattle.fluent_uri.specs.Hosts.{HostKind, Ipv4, Ipv6, IpvFuture, RegName, host_kind}
-use Rattle.uri_streams.specs.Json.{member, member_before, member_after, host_word, authority_members, json_of}
-use Rattle.uri_streams.specs.JsonTexts.{RepresentsValue, RepresentsMembers, RepresentsMoreMembers, IsJsonTextOf}
-use Rattle.uri_streams.specs.JsonValues.{text_members, with_present, present, components_value}
 use Rattle.uri_streams.proofs.JsonStringTexts.{AreTextOf, ◌and_then◌, nothing-is-text, mark-is-structural, IsPlain, ascii-is-plain, plain-string-is-text, value-is-json-text}
 use Rattle.uri_streams.proofs.JsonPairs.{comma-is-structural}
 
@@ -36,9 +31,8 @@ member-is-text name text others bytes n t more =
     record { first = first; more = comma-is-structural and_then first }
 
 -- lines of JSON: a member, if it is present, before others
-member_before-is-text : (name : List ℕ) (text : Option (List ℕ))
-    (others : List (List ℕ × List ℕ)) (bytes : List ℕ) → IsPlain name → IsPlainIfPresent text
-    → AreMembers others bytes
+member_before-is-text : (name : List ℕ) (text : Option (List ℕ)) (others : List (List ℕ × List ℕ))
+    (bytes : List ℕ) → IsPlain name → IsPlainIfPresent text → AreMembers others bytes
     → AreMembers (with_present name text others) (member_before name text ++ bytes)
 member_before-is-text name None others bytes n t h = h
 member_before-is-text name (Some text) others bytes n t h =
@@ -46,9 +40,8 @@ member_before-is-text name (Some text) others bytes n t h =
     (member-is-text name text others (codes "," ++ bytes) n t h.more)
 
 -- lines of JSON: a member, if it is present, after another and before others
-member_after-is-text : (name : List ℕ) (text : Option (List ℕ))
-    (others : List (List ℕ × List ℕ)) (bytes : List ℕ) → IsPlain name → IsPlainIfPresent text
-    → AreMoreMembers others bytes
+member_after-is-text : (name : List ℕ) (text : Option (List ℕ)) (others : List (List ℕ × List ℕ))
+    (bytes : List ℕ) → IsPlain name → IsPlainIfPresent text → AreMoreMembers others bytes
     → AreMoreMembers (with_present name text others) (member_after name text ++ bytes)
 member_after-is-text name None others bytes n t h = h
 member_after-is-text name (Some text) others bytes n t h =
@@ -81,12 +74,10 @@ abbrev with_authority : Option (List ℕ) → List (List ℕ × Option (List ℕ
     → List (List ℕ × Option (List ℕ))
 with_authority authority others =
     let parts = option_map authority_parts authority in
-    (codes "authority", authority)
-    ∷ (codes "userinfo", option_and_then (λ a. a.userinfo) parts)
+    (codes "authority", authority) ∷ (codes "userinfo", option_and_then (λ a. a.userinfo) parts)
     ∷ (codes "host", option_map (λ a. a.host) parts)
     ∷ (codes "host_kind", option_map (λ a. host_word (host_kind a.host)) parts)
-    ∷ (codes "port", option_and_then (λ a. a.port) parts)
-    ∷ others
+    ∷ (codes "port", option_and_then (λ a. a.port) parts) ∷ others
 
 -- general fact on lists, for the members of an authority
 authority-regrouped : (a u h k p bytes : List ℕ)
@@ -95,8 +86,7 @@ authority-regrouped a u h k p bytes = simp append_assoc
 
 -- general fact on lists, for the members of a reference
 object-regrouped : (begin s a p q f end : List ℕ)
-    → begin ++ (s ++ (a ++ (p ++ (q ++ (f ++ [])))) ++ end)
-    ≡ begin ++ s ++ a ++ p ++ q ++ f ++ end
+    → begin ++ (s ++ (a ++ (p ++ (q ++ (f ++ [])))) ++ end) ≡ begin ++ s ++ a ++ p ++ q ++ f ++ end
 object-regrouped begin s a p q f end = simp (append_assoc, append-nil)
 
 -- lines of JSON: the members of an authority, if it is present, before others
@@ -108,18 +98,15 @@ authority_members-are-text None others bytes h more = more
 authority_members-are-text (Some a) others bytes h more =
     let p = authority_parts a in
     let word = host_word (host_kind p.host) in
-    subst (AreMembers (present (with_authority (Some a) others)))
-    (authority-regrouped (member_before (codes "authority") (Some a))
-    (member_before (codes "userinfo") p.userinfo) (member_before (codes "host") (Some p.host))
-    (member_before (codes "host_kind") (Some word)) (member_before (codes "port") p.port) bytes)
-    (member_before-is-text (codes "authority") (Some a) _ _ (ascii-is-plain _ refl refl) h.whole
-    (member_before-is-text (codes "userinfo") p.userinfo _ _ (ascii-is-plain _ refl refl)
-    h.userinfo
-    (member_before-is-text (codes "host") (Some p.host) _ _ (ascii-is-plain _ refl refl) h.host
-    (member_before-is-text (codes "host_kind") (Some word) _ _ (ascii-is-plain _ refl refl)
-    (host_word-is-plain (host_kind p.host))
-    (member_before-is-text (codes "port") p.port _ _ (ascii-is-plain _ refl refl) h.port
-    more)))))
+    subst (AreMembers (present (with_authority (Some a) others))) (authority-regrouped
+    (member_before (codes "authority") (Some a)) (member_before (codes "userinfo") p.userinfo)
+    (member_before (codes "host") (Some p.host)) (member_before (codes "host_kind") (Some word))
+    (member_before (codes "port") p.port) bytes) (member_before-is-text (codes "authority") (Some a)
+    _ _ (ascii-is-plain _ refl refl) h.whole (member_before-is-text (codes "userinfo") p.userinfo _
+    _ (ascii-is-plain _ refl refl) h.userinfo (member_before-is-text (codes "host") (Some p.host) _
+    _ (ascii-is-plain _ refl refl) h.host (member_before-is-text (codes "host_kind") (Some word) _ _
+    (ascii-is-plain _ refl refl) (host_word-is-plain (host_kind p.host)) (member_before-is-text
+    (codes "port") p.port _ _ (ascii-is-plain _ refl refl) h.port more)))))
 
 -- lines of JSON: the line for a reference is an object of its components
 pub json_of-is-json-object : (p : Components) → HasPlainComponents p
@@ -130,18 +117,15 @@ json_of-is-json-object p h =
     (ascii-is-plain _ refl refl) h.fragment nothing-is-text in
     let query = member_after-is-text (codes "query") p.query _ _
     (ascii-is-plain _ refl refl) h.query fragment in
-    let path = member-is-text (codes "path") p.path _ _
-    (ascii-is-plain _ refl refl) h.path query in
+    let path = member-is-text (codes "path") p.path _ _ (ascii-is-plain _ refl refl) h.path query in
     let authority = authority_members-are-text p.authority
     ((codes "path", Some p.path) ∷ (codes "query", p.query) ∷ (codes "fragment", p.fragment)
     ∷ []) _ h.authority path in
     let scheme = member_before-is-text (codes "scheme") p.scheme _ _
     (ascii-is-plain _ refl refl) h.scheme authority in
-    value-is-json-text (components_value p) (json_of p)
-    (subst (AreTextOf (RepresentsValue (components_value p)))
-    (object-regrouped (codes "{") (member_before (codes "scheme") p.scheme)
-    (authority_members p.authority) (member (codes "path") p.path)
-    (member_after (codes "query") p.query) (member_after (codes "fragment") p.fragment)
-    (codes "}"))
-    (mark-is-structural 123 refl and_then
-    (scheme.first and_then mark-is-structural 125 refl)))
+    value-is-json-text (components_value p) (json_of p) (subst
+    (AreTextOf (RepresentsValue (components_value p))) (object-regrouped (codes "{")
+    (member_before (codes "scheme") p.scheme) (authority_members p.authority)
+    (member (codes "path") p.path) (member_after (codes "query") p.query)
+    (member_after (codes "fragment") p.fragment) (codes "}"))
+    (mark-is-structural 123 refl and_then (scheme.first and_then mark-is-structural 125 refl)))

@@ -1,12 +1,5 @@
 -- The line of JSON for a query represents its pairs, and determines them.
-use Rattle.std.proofs.Common.{◌≡◌, ℕ, List, [], ◌∷◌, ◌++◌, append_assoc, refl, sym, ap, ◌∙◌, subst}
-use Rattle.std.specs.Prelude.{codes}
-use Rattle.std.specs.Str.{IsUtf8, chars, encode_utf8_all}
-use Rattle.std.proofs.lemmas.Str.{encodes-chars}
-use Rattle.uri_query.specs.Pairs.{NameAndValue}
-use Rattle.uri_streams.specs.JsonTexts.{JsonValue, Array, String, Elements, EndOfArray, Element, IsStructural, RepresentsValue, RepresentsElements, RepresentsMoreElements, IsJsonTextOf}
-use Rattle.uri_streams.specs.JsonValues.{pair_value, pair_elements}
-use Rattle.uri_streams.specs.Queries.{pair_json, following_pairs_json, pairs_json}
+use Rattle.uri_streams.proofs.Common.{◌≡◌, ℕ, List, [], ◌∷◌, ◌++◌, append_assoc, refl, sym, ap, ◌∙◌, subst, codes, IsUtf8, chars, encode_utf8_all, encodes-chars, NameAndValue, JsonValue, Array, String, Elements, EndOfArray, Element, IsStructural, RepresentsValue, RepresentsElements, RepresentsMoreElements, IsJsonTextOf, pair_value, pair_elements, pair_json, following_pairs_json, pairs_json}
 use Rattle.uri_streams.proofs.JsonStringTexts.{AreTextOf, ◌and_then◌, nothing-is-text, mark-is-structural, escaped-string-is-text, value-is-json-text}
 
 -- lines of JSON: names and values in UTF-8
@@ -31,8 +24,7 @@ pair_json-is-text pair u v =
 following_pairs_json-are-text : (pairs : List NameAndValue) → AreUtf8 pairs
     → AreTextOf (RepresentsMoreElements (pair_elements pairs)) (following_pairs_json pairs)
 following_pairs_json-are-text [] h = nothing-is-text
-following_pairs_json-are-text (pair ∷ pairs) (u, v, h) =
-    comma-is-structural and_then
+following_pairs_json-are-text (pair ∷ pairs) (u, v, h) = comma-is-structural and_then
     (pair_json-is-text pair u v and_then following_pairs_json-are-text pairs h)
 
 -- lines of JSON: the pairs, separated by commas

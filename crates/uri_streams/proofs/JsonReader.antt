@@ -1,7 +1,5 @@
 -- A reader of JSON's values, for the proof that a JSON text represents one value.
-use Rattle.std.proofs.Common.{◌≡◌, ℕ, zero, suc, ◌+◌, ◌<◌, ◌≤◌, ◌==◌, Bool, true, false, List, [], ◌∷◌, ◌++◌, length, get_or, drop, append_assoc, refl, ap, ◌∙◌, arith}
-use Rattle.std.specs.Prelude.{codes, if◌then◌else◌}
-use Rattle.uri_streams.specs.JsonTexts.{JsonValue, False, Null, True, Object, Array, Number, String, Elements, EndOfArray, Element, Members, EndOfObject, Member, ◌then◌, IsStructural, RepresentsString, RepresentsValue, RepresentsMoreElements, RepresentsMoreMembers}
+use Rattle.uri_streams.proofs.Common.{◌≡◌, ℕ, zero, suc, ◌+◌, ◌<◌, ◌≤◌, ◌==◌, Bool, true, false, List, [], ◌∷◌, ◌++◌, length, get_or, drop, append_assoc, refl, ap, ◌∙◌, arith, codes, if◌then◌else◌, JsonValue, False, Null, True, Object, Array, Number, String, Elements, EndOfArray, Element, Members, EndOfObject, Member, ◌then◌, IsStructural, RepresentsString, RepresentsValue, RepresentsMoreElements, RepresentsMoreMembers}
 use Rattle.uri_streams.proofs.JsonStrings.{read_characters, characters-are-read, string-begins-text}
 use Rattle.uri_streams.proofs.JsonTokens.{skip, is_number_character, EndsNumber, BeginsStructural, structural-begins-text, read_number, after_number, number-is-not-empty}
 
@@ -12,14 +10,12 @@ abbrev pub read_by_first : (List ℕ → Elements × List ℕ) → (List ℕ →
     → JsonValue × List ℕ
 read_by_first elements members n text =
     let c = get_or text 0 0 in
-    if is_number_character c then (Number (read_number text), skip (after_number text))
-    else (if c == 34 then (let p = read_characters n (drop 1 text) in (String p.0, skip p.1))
-    else (if c == 91 then (let p = elements (skip (drop 1 text)) in (Array p.0, p.1))
-    else (if c == 123 then (let p = members (skip (drop 1 text)) in (Object p.0, p.1))
-    else (if c == 102 then (False, skip (drop 5 text))
-    else (if c == 110 then (Null, skip (drop 4 text))
-    else (if c == 116 then (True, skip (drop 4 text))
-    else (Number [], text)))))))
+    if is_number_character c then (Number (read_number text), skip (after_number text)) else (if c
+    == 34 then (let p = read_characters n (drop 1 text) in (String p.0, skip p.1)) else (if c == 91
+    then (let p = elements (skip (drop 1 text)) in (Array p.0, p.1)) else (if c == 123 then
+    (let p = members (skip (drop 1 text)) in (Object p.0, p.1)) else (if c == 102 then
+    (False, skip (drop 5 text)) else (if c == 110 then (Null, skip (drop 4 text)) else
+    (if c == 116 then (True, skip (drop 4 text)) else (Number [], text)))))))
 
 -- reading JSON: what was read is no value
 abbrev pub is_no_value : JsonValue → Bool
@@ -142,15 +138,13 @@ more-members-end-number (Member name v members) x text rest (a, b, e, h, k) m =
 -- general fact on lists, for three parts of a text before the rest
 pub three-parts-before-rest : (a b c x y rest : List ℕ) → x ≡ a ++ y → y ≡ b ++ c
     → x ++ rest ≡ a ++ (b ++ (c ++ rest))
-three-parts-before-rest a b c x y rest e f =
-    ap (λ x. x ++ rest) (e ∙ ap (λ y. a ++ y) f) ∙ append_assoc a (b ++ c) rest
-    ∙ ap (λ t. a ++ t) (append_assoc b c rest)
+three-parts-before-rest a b c x y rest e f = ap (λ x. x ++ rest) (e ∙ ap (λ y. a ++ y) f)
+    ∙ append_assoc a (b ++ c) rest ∙ ap (λ t. a ++ t) (append_assoc b c rest)
 
 -- general fact on lists, for four parts of a text before the rest
 pub four-parts-before-rest : (a b c d x y z rest : List ℕ) → x ≡ a ++ y → y ≡ b ++ z → z ≡ c ++ d
     → x ++ rest ≡ a ++ (b ++ (c ++ (d ++ rest)))
-four-parts-before-rest a b c d x y z rest e f g =
-    ap (λ x. x ++ rest) e ∙ append_assoc a y rest
+four-parts-before-rest a b c d x y z rest e f g = ap (λ x. x ++ rest) e ∙ append_assoc a y rest
     ∙ ap (λ t. a ++ t) (three-parts-before-rest b c d y z rest f g)
 
 -- reading JSON: what is read of a text that begins with a member
@@ -162,8 +156,7 @@ pub record ReadsMember (n : ℕ) (text : List ℕ) (members : Members) (rest : L
 -- reading JSON: a member is read by its name, if its value and what follows are read
 pub member-is-read : (name : List ℕ) (v : JsonValue) (members : Members) (x c y tail rest : List ℕ)
     (n : ℕ) → RepresentsString name x → IsStructural (codes ":") c → length name < n
-    → read n (skip (y ++ tail)) ≡ (v, skip tail)
-    → read_more_members n (skip tail) ≡ (members, rest)
+    → read n (skip (y ++ tail)) ≡ (v, skip tail) → read_more_members n (skip tail) ≡ (members, rest)
     → ReadsMember n (x ++ (c ++ (y ++ tail))) (Member name v members) rest
 member-is-read name v members x c y tail rest n string colon l value more =
     let after : List ℕ = c ++ (y ++ tail) in
@@ -171,10 +164,9 @@ member-is-read name v members x c y tail rest n string colon l value more =
     let m = structural-begins-text 58 c (y ++ tail) refl refl colon in
     record {
       quote = ap (λ t. get_or (skip t) 0 0) q.whole;
-      member =
-          ap (λ t. read_named (read n) (read_more_members n)
-          (read_characters n (drop 1 (skip t)))) q.whole
-          ∙ ap (read_named (read n) (read_more_members n))
+      member = ap
+          (λ t. read_named (read n) (read_more_members n) (read_characters n (drop 1 (skip t))))
+          q.whole ∙ ap (read_named (read n) (read_more_members n))
           (characters-are-read name q.inside after n q.characters l)
           ∙ ap (λ t. then_members name (read n (skip (drop 1 t))) (read_more_members n)) m.first
           ∙ ap (λ t. then_members name (read n t) (read_more_members n)) m.same

@@ -1,9 +1,5 @@
 -- What a JSON text represents is read of it. So a text represents one value.
-use Rattle.std.proofs.Common.{◌≡◌, ℕ, zero, suc, ◌+◌, ◌<◌, ◌≤◌, ◌==◌, List, [], ◌++◌, drop, append-nil, append_assoc, refl, sym, ap, ◌∙◌, subst, arith}
-use Rattle.std.specs.Prelude.{if◌then◌else◌}
-use Rattle.std.specs.Str.{chars}
-use Rattle.std.proofs.lemmas.Bool.{cond-true, cond-false}
-use Rattle.uri_streams.specs.JsonTexts.{JsonValue, False, Null, True, Object, Array, Number, String, Elements, EndOfArray, Element, Members, EndOfObject, Member, ◌then◌, IsWhitespace, RepresentsValue, RepresentsElements, RepresentsMoreElements, RepresentsMembers, RepresentsMoreMembers, IsJsonTextOf}
+use Rattle.uri_streams.proofs.Common.{◌≡◌, ℕ, zero, suc, ◌+◌, ◌<◌, ◌≤◌, ◌==◌, List, [], ◌++◌, drop, append-nil, append_assoc, refl, sym, ap, ◌∙◌, subst, arith, if◌then◌else◌, chars, cond-true, cond-false, JsonValue, False, Null, True, Object, Array, Number, String, Elements, EndOfArray, Element, Members, EndOfObject, Member, ◌then◌, IsWhitespace, RepresentsValue, RepresentsElements, RepresentsMoreElements, RepresentsMembers, RepresentsMoreMembers, IsJsonTextOf}
 use Rattle.uri_streams.proofs.JsonReader.{read, read_elements, read_more_elements, read_members, read_more_members, more_steps, steps_of_elements, steps_of_members, is_no_value, then_elements, represented-value-is-a-value, comma-begins-text, more-elements-end-number, more-members-end-number, three-parts-before-rest, four-parts-before-rest, member-is-read, elements-take-steps, members-take-steps}
 use Rattle.uri_streams.proofs.JsonStrings.{characters-are-read, string-begins-text}
 use Rattle.uri_streams.proofs.JsonTokens.{skip, whitespace-is-skipped, EndsNumber, whitespace-ends-number, BeginsStructural, structural-begins-text, after_number, number-is-read}
@@ -45,20 +41,18 @@ mutual
 
   elements-are-read : (elements : Elements) (x text rest : List ℕ) (n : ℕ)
       → RepresentsElements elements x → BeginsStructural 93 text rest
-      → steps_of_elements elements ≤ n
-      → read_elements n (skip (x ++ text)) ≡ (elements, skip rest)
+      → steps_of_elements elements ≤ n → read_elements n (skip (x ++ text)) ≡ (elements, skip rest)
   elements-are-read elements x text rest zero h m l = absurd (elements-take-steps elements l)
   elements-are-read EndOfArray x text rest (suc zero) h m l = rw (h, m.first, m.same) refl
   elements-are-read EndOfArray x text rest (suc (suc n)) h m l = rw (h, m.first, m.same) refl
   elements-are-read (Element v elements) x text rest (suc n) (a, b, e, h, k) m l =
       let first = value-is-read v a (b ++ text) n h
       (more-elements-end-number elements b text rest k m) (omega arith) in
-      ap (λ t. read_elements (suc n) (skip t)) (ap (λ x. x ++ text) e ∙ append_assoc a b text)
-      ∙ ap (λ p. if is_no_value p.0 then (EndOfArray, skip (drop 1 (skip (a ++ (b ++ text)))))
-      else then_elements p (read_more_elements n)) first
-      ∙ cond-false (is_no_value v) _ _ (represented-value-is-a-value v a h)
-      ∙ ap (λ q. (Element v q.0, q.1))
-      (more-elements-are-read elements b text rest n k m (omega arith))
+      ap (λ t. read_elements (suc n) (skip t)) (ap (λ x. x ++ text) e ∙ append_assoc a b text) ∙ ap
+      (λ p. if is_no_value p.0 then (EndOfArray, skip (drop 1 (skip (a ++ (b ++ text))))) else
+      then_elements p (read_more_elements n)) first
+      ∙ cond-false (is_no_value v) _ _ (represented-value-is-a-value v a h) ∙ ap
+      (λ q. (Element v q.0, q.1)) (more-elements-are-read elements b text rest n k m (omega arith))
 
   more-elements-are-read : (elements : Elements) (x text rest : List ℕ) (n : ℕ)
       → RepresentsMoreElements elements x → BeginsStructural 93 text rest
@@ -79,16 +73,14 @@ mutual
       ) refl
 
   members-are-read : (members : Members) (x text rest : List ℕ) (n : ℕ)
-      → RepresentsMembers members x → BeginsStructural 125 text rest
-      → steps_of_members members ≤ n
+      → RepresentsMembers members x → BeginsStructural 125 text rest → steps_of_members members ≤ n
       → read_members n (skip (x ++ text)) ≡ (members, skip rest)
   members-are-read members x text rest zero h m l = absurd (members-take-steps members l)
   members-are-read EndOfObject x text rest (suc n) h m l = rw (h, m.first, m.same) refl
   members-are-read (Member name v members) x text rest (suc n)
       (a, y, e, string, (b, z, f, colon, (c, d, g, h, k))) m l =
       let r = member-is-read name v members a b c (d ++ text) (skip rest) n string colon
-      (omega arith)
-      (value-is-read v c (d ++ text) n h
+      (omega arith) (value-is-read v c (d ++ text) n h
       (more-members-end-number members d text rest k m) (omega arith))
       (more-members-are-read members d text rest n k m (omega arith)) in
       ap (λ t. read_members (suc n) (skip t)) (four-parts-before-rest a b c d x y z text e f g)
@@ -96,16 +88,14 @@ mutual
 
   more-members-are-read : (members : Members) (x text rest : List ℕ) (n : ℕ)
       → RepresentsMoreMembers members x → BeginsStructural 125 text rest
-      → steps_of_members members ≤ n
-      → read_more_members n (skip (x ++ text)) ≡ (members, skip rest)
+      → steps_of_members members ≤ n → read_more_members n (skip (x ++ text)) ≡ (members, skip rest)
   more-members-are-read members x text rest zero h m l = absurd (members-take-steps members l)
   more-members-are-read EndOfObject x text rest (suc n) h m l = rw (h, m.first, m.same) refl
   more-members-are-read (Member name v members) x text rest (suc n)
       (o, w, q, comma, (a, y, e, string, (b, z, f, colon, (c, d, g, h, k)))) m l =
       let mark = comma-begins-text o (a ++ (b ++ (c ++ (d ++ text)))) comma in
       let r = member-is-read name v members a b c (d ++ text) (skip rest) n string colon
-      (omega arith)
-      (value-is-read v c (d ++ text) n h
+      (omega arith) (value-is-read v c (d ++ text) n h
       (more-members-end-number members d text rest k m) (omega arith))
       (more-members-are-read members d text rest n k m (omega arith)) in
       rw (

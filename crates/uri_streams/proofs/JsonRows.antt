@@ -1,13 +1,5 @@
 -- Some JSON texts and what they represent, and some lines of JSON, by computation.
-use Rattle.std.proofs.Common.{◌≡◌, true, false, [], ◌∷◌, refl, inl, inr}
-use Rattle.std.specs.Prelude.{codes, map, Some, None}
-use Rattle.std.specs.Char.{encode_utf8}
-use Rattle.std.specs.Str.{chars}
-use Rattle.fluent_uri.specs.Components.{components}
-use Rattle.uri_streams.specs.Json.{json_of}
-use Rattle.uri_streams.specs.JsonTexts.{Array, EndOfArray, ◌then◌, IsWhitespace, IsNumber, IsOneOf, IsOptional, IsFraction, IsExponent, AreSomeDigits, IsStructural, IsUnicodeEscape, is_unescaped, escaped_by, hex_number, RepresentsCharacter, RepresentsValue}
-use Rattle.uri_streams.specs.JsonValues.{named_components, present}
-use Rattle.uri_streams.specs.Queries.{pairs_json}
+use Rattle.uri_streams.proofs.Common.{◌≡◌, true, false, [], ◌∷◌, refl, inl, inr, codes, map, Some, None, encode_utf8, chars, components, json_of, Array, EndOfArray, ◌then◌, IsWhitespace, IsNumber, IsOneOf, IsOptional, IsFraction, IsExponent, AreSomeDigits, IsStructural, IsUnicodeEscape, is_unescaped, escaped_by, hex_number, RepresentsCharacter, RepresentsValue, named_components, present, pairs_json}
 
 -- examples of JSON: ` [ ] ` represents the empty array
 spaced-brackets-represent-empty-array :
@@ -55,9 +47,8 @@ unescaped-characters :
 unescaped-characters = refl
 
 -- examples of JSON: what is escaped by `"`, `\`, `/`, `b`, `f`, `n`, `r`, `t`, `a`, `'` and `u`
-escapes-of-two-characters : map escaped_by (codes "\"\\/bfnrta'u")
-    ≡ Some 34 ∷ Some 92 ∷ Some 47 ∷ Some 8 ∷ Some 12 ∷ Some 10 ∷ Some 13 ∷ Some 9 ∷ None ∷ None
-    ∷ None ∷ []
+escapes-of-two-characters : map escaped_by (codes "\"\\/bfnrta'u") ≡ Some 34 ∷ Some 92 ∷ Some 47
+    ∷ Some 8 ∷ Some 12 ∷ Some 10 ∷ Some 13 ∷ Some 9 ∷ None ∷ None ∷ None ∷ []
 escapes-of-two-characters = refl
 
 -- examples of lines: the line for `x:y?q`

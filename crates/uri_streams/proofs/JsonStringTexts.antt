@@ -1,16 +1,7 @@
 -- Bytes that are texts of JSON's rules; those of strings, with or without escapes.
-use Rattle.std.proofs.Common.{◌≡◌, ℕ, zero, suc, ◌<◌, ◌%◌, ◌&&◌, ◌==◌, Bool, true, false, List, [], ◌∷◌, ◌++◌, append-nil, refl, sym, ap, ◌∙◌, subst, arith, inl, inr}
-use Rattle.std.specs.Prelude.{codes, Some, nat_lt, encode_utf8, if◌then◌else◌}
-use Rattle.std.specs.Char.{is_ascii_hexdigit, IsScalar}
+use Rattle.uri_streams.proofs.Common.{◌≡◌, ℕ, zero, suc, ◌<◌, ◌%◌, ◌&&◌, ◌==◌, Bool, true, false, List, [], ◌∷◌, ◌++◌, append-nil, refl, sym, ap, ◌∙◌, subst, arith, inl, inr, codes, Some, nat_lt, encode_utf8, if◌then◌else◌, is_ascii_hexdigit, IsScalar, list_all, flat_map, IsUtf8, IsAscii, chars, all_scalars, and_parts, and_from, eqb-true, ltb-true, nat_tests, Decides-below_and, chars-append, chars-IsAscii, chars-encodes, chars-nil, IsUtf8-append, IsUtf8-nil, IsUtf8-encode, IsUtf8-from_ascii, scalars-chars, JsonValue, Rule, ◌then◌, Is, IsStructural, is_unescaped, escaped_by, hex_number, RepresentsCharacter, RepresentsCharacters, RepresentsString, RepresentsValue, IsJsonTextOf, hex_digit, control_json, escaped_char, escaped_text}
 use Rattle.std.specs.Int.{is_in_range}
-use Rattle.std.specs.List.{list_all, flat_map}
-use Rattle.std.specs.Str.{IsUtf8, IsAscii, chars, all_scalars}
-use Rattle.std.proofs.lemmas.Bool.{and_parts, and_from, eqb-true, ltb-true}
-use Rattle.std.proofs.lemmas.Bool.Decides.{nat_tests, Decides-below_and}
-use Rattle.std.proofs.lemmas.Str.{chars-append, chars-IsAscii, chars-encodes, chars-nil, IsUtf8-append, IsUtf8-nil, IsUtf8-encode, IsUtf8-from_ascii, scalars-chars}
 use Rattle.std.proofs.lemmas.Str.Ascii.{IsAscii-nil, IsAscii-cons}
-use Rattle.uri_streams.specs.JsonTexts.{JsonValue, Rule, ◌then◌, Is, IsStructural, is_unescaped, escaped_by, hex_number, RepresentsCharacter, RepresentsCharacters, RepresentsString, RepresentsValue, IsJsonTextOf}
-use Rattle.uri_streams.specs.Queries.{hex_digit, control_json, escaped_char, escaped_text}
 
 -- writing JSON: the bytes are a text of the rule, in UTF-8
 pub record AreTextOf (P : Rule) (bytes : List ℕ) : Type 0 where
@@ -60,8 +51,7 @@ low_digit c = hex_digit (c % 16)
 
 -- writing JSON: they are digits of the number
 unfoldable are_its_digits : ℕ → Bool
-are_its_digits c =
-    (list_all is_ascii_hexdigit (48 ∷ 48 ∷ high_digit c ∷ low_digit c ∷ [])
+are_its_digits c = (list_all is_ascii_hexdigit (48 ∷ 48 ∷ high_digit c ∷ low_digit c ∷ [])
     && list_all (λ b. nat_lt b 128) (high_digit c ∷ low_digit c ∷ []))
     && hex_number 48 48 (high_digit c) (low_digit c) == c
 
@@ -211,11 +201,5 @@ pub value-is-json-text : (v : JsonValue) (bytes : List ℕ) → AreTextOf (Repre
     → IsJsonTextOf v bytes
 value-is-json-text v bytes h = (
   h.utf8,
-  (
-    [],
-    chars bytes,
-    refl,
-    refl,
-    (chars bytes, [], sym (append-nil (chars bytes)), h.text, refl),
-  ),
+  ([], chars bytes, refl, refl, (chars bytes, [], sym (append-nil (chars bytes)), h.text, refl)),
 )

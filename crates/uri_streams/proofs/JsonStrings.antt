@@ -1,12 +1,8 @@
 -- A reader of JSON's strings: it reads the characters that a text represents.
-use Rattle.std.proofs.Common.{◌≡◌, ℕ, zero, suc, ◌<◌, ◌==◌, Bool, true, false, List, [], ◌∷◌, ◌++◌, length, get_or, drop, refl, sym, ap, ◌∙◌, subst, append_assoc, arith, inl, inr}
-use Rattle.std.specs.Prelude.{Some, if◌then◌else◌}
+use Rattle.uri_streams.proofs.Common.{◌≡◌, ℕ, zero, suc, ◌<◌, ◌==◌, Bool, true, false, List, [], ◌∷◌, ◌++◌, length, get_or, drop, refl, sym, ap, ◌∙◌, subst, append_assoc, arith, inl, inr, Some, if◌then◌else◌, cond-true, cond-false, eqb-true, nat_tests, is_unescaped, escaped_by, hex_number, IsUnicodeEscape, RepresentsCharacter, RepresentsCharacters, RepresentsString}
 use Rattle.std.specs.Char.Utf16.{is_high_surrogate, surrogate_pair_char}
 use Rattle.std.specs.Int.{is_in_range}
 use Rattle.std.specs.Option.{unwrap_or}
-use Rattle.std.proofs.lemmas.Bool.{cond-true, cond-false, eqb-true}
-use Rattle.std.proofs.lemmas.Bool.Decides.{nat_tests}
-use Rattle.uri_streams.specs.JsonTexts.{is_unescaped, escaped_by, hex_number, IsUnicodeEscape, RepresentsCharacter, RepresentsCharacters, RepresentsString}
 
 -- reading JSON: the number of the escape `\uXXXX` that begins the text
 abbrev escaped_number : List ℕ → ℕ
@@ -15,22 +11,18 @@ escaped_number text =
 
 -- reading JSON: the character of a string that the text begins with, and the text after it
 abbrev read_character : List ℕ → ℕ × List ℕ
-read_character text =
-    if get_or text 0 0 == 92 then
-    (if get_or text 1 0 == 117 then
-    (if is_high_surrogate (escaped_number text)
-    then (surrogate_pair_char (escaped_number text) (escaped_number (drop 6 text)), drop 12 text)
-    else (escaped_number text, drop 6 text))
-    else (unwrap_or (escaped_by (get_or text 1 0)) 0, drop 2 text))
-    else (get_or text 0 0, drop 1 text)
+read_character text = if get_or text 0 0 == 92 then (if get_or text 1 0 == 117 then (if
+    is_high_surrogate (escaped_number text) then
+    (surrogate_pair_char (escaped_number text) (escaped_number (drop 6 text)), drop 12 text) else
+    (escaped_number text, drop 6 text)) else
+    (unwrap_or (escaped_by (get_or text 1 0)) 0, drop 2 text)) else (get_or text 0 0, drop 1 text)
 
 -- reading JSON: the characters of a string that are before its closing quote, and the text after
 -- that; the number is more than there are
 abbrev pub read_characters : ℕ → List ℕ → List ℕ × List ℕ
 read_characters zero text = ([], [])
 read_characters (suc n) text =
-    if get_or text 0 0 == 34 then ([], drop 1 text)
-    else (let first = read_character text in
+    if get_or text 0 0 == 34 then ([], drop 1 text) else (let first = read_character text in
     let more = read_characters n first.1 in (first.0 ∷ more.0, more.1))
 
 -- reading JSON: an unescaped character is neither a quote nor a backslash
@@ -78,12 +70,10 @@ record ReadsCharacter (c : ℕ) (text rest : List ℕ) : Type 0 where
 
 -- reading JSON: after `\u` a number is read, or a pair of surrogates
 numbers-are-read-after-u : (text : List ℕ) → get_or text 0 0 ≡ 92 → get_or text 1 0 ≡ 117
-    → read_character text
-    ≡ (if is_high_surrogate (escaped_number text)
-    then (surrogate_pair_char (escaped_number text) (escaped_number (drop 6 text)), drop 12 text)
-    else (escaped_number text, drop 6 text))
-numbers-are-read-after-u text e f =
-    cond-true (get_or text 0 0 == 92) _ _ (ap (λ c. c == 92) e)
+    → read_character text ≡ (if is_high_surrogate (escaped_number text) then
+    (surrogate_pair_char (escaped_number text) (escaped_number (drop 6 text)), drop 12 text) else
+    (escaped_number text, drop 6 text))
+numbers-are-read-after-u text e f = cond-true (get_or text 0 0 == 92) _ _ (ap (λ c. c == 92) e)
     ∙ cond-true (get_or text 1 0 == 117) _ _ (ap (λ c. c == 117) f)
 
 -- reading JSON: a text that represents a character is read as that character
@@ -112,8 +102,7 @@ character-is-read c x rest (inr (inr (inl (alone, escape)))) =
 character-is-read c x rest
     (inr (inr (inr (high, low, (a, b, e, first, second), is_high, is_low, pair)))) =
     let text : List ℕ = x ++ rest in
-    let h : ReadsEscape high text (b ++ rest) =
-    subst (λ t. ReadsEscape high t (b ++ rest))
+    let h : ReadsEscape high text (b ++ rest) = subst (λ t. ReadsEscape high t (b ++ rest))
     (sym (ap (λ x. x ++ rest) e ∙ append_assoc a b rest))
     (unicode-escape-is-read high a (b ++ rest) first) in
     let l = unicode-escape-is-read low b rest second in
@@ -133,8 +122,7 @@ character-is-read c x rest
 pub characters-are-read : (cs x rest : List ℕ) (n : ℕ) → RepresentsCharacters cs x
     → length cs < n → read_characters n (x ++ 34 ∷ rest) ≡ (cs, rest)
 characters-are-read cs x rest zero h l = absurd (omega arith)
-characters-are-read [] x rest (suc n) h l =
-    ap (λ x. read_characters (suc n) (x ++ 34 ∷ rest)) h
+characters-are-read [] x rest (suc n) h l = ap (λ x. read_characters (suc n) (x ++ 34 ∷ rest)) h
 characters-are-read (c ∷ cs) x rest (suc n) (a, b, e, first, more) l =
     let tail : List ℕ = b ++ 34 ∷ rest in
     let h = character-is-read c a tail first in

@@ -1,13 +1,6 @@
 -- Whitespace, structural characters and numbers of a JSON text, and what is read of them.
-use Rattle.std.proofs.Common.{◌≡◌, ℕ, ◌<◌, Bool, true, false, List, [], ◌∷◌, ◌++◌, length, get_or, length-append, refl, sym, ap, ◌∙◌, subst, append_assoc, arith, inl, inr}
-use Rattle.std.specs.Prelude.{codes, if◌then◌else◌}
-use Rattle.std.specs.Char.{is_ascii_digit}
-use Rattle.std.specs.List.{list_all}
-use Rattle.std.proofs.lemmas.Bool.{cond-true, cond-false, and_parts, and_from}
-use Rattle.std.proofs.lemmas.Bool.Decides.{nat_tests}
-use Rattle.std.proofs.lemmas.List.Folds.{list_all-append}
+use Rattle.uri_streams.proofs.Common.{◌≡◌, ℕ, ◌<◌, Bool, true, false, List, [], ◌∷◌, ◌++◌, length, get_or, length-append, refl, sym, ap, ◌∙◌, subst, append_assoc, arith, inl, inr, codes, if◌then◌else◌, is_ascii_digit, list_all, cond-true, cond-false, and_parts, and_from, nat_tests, list_all-append, Rule, ◌then◌, Is, IsOneOf, IsOptional, is_whitespace, IsWhitespace, IsStructural, AreDigits, AreSomeDigits, IsInteger, IsNumber}
 use Rattle.fluent_uri.specs.Sets.{is_one_of}
-use Rattle.uri_streams.specs.JsonTexts.{Rule, ◌then◌, Is, IsOneOf, IsOptional, is_whitespace, IsWhitespace, IsStructural, AreDigits, AreSomeDigits, IsInteger, IsNumber}
 
 -- reading JSON: the text without the whitespace that begins it
 abbrev pub skip : List ℕ → List ℕ
@@ -61,8 +54,7 @@ structural-begins-text mark x rest visible ends (a, y, e, before, (m, b, f, is_m
     ∙ append_assoc a (mark ∷ b) rest in
     subst (λ t. BeginsStructural mark t rest) (sym text) (record {
       after = b ++ rest;
-      first = whitespace-is-skipped a tail before
-          ∙ cond-false (is_whitespace mark) _ _ visible;
+      first = whitespace-is-skipped a tail before ∙ cond-false (is_whitespace mark) _ _ visible;
       same = whitespace-is-skipped b rest behind;
       ends = whitespace-ends-number a tail before ends;
     })
@@ -97,9 +89,8 @@ number-is-cut-at-its-end (c ∷ x) rest h e =
 -- reading JSON: texts with characters of numbers only, one after the other
 then-is-of-numbers : {P Q : Rule} → ((x : List ℕ) → P x → AreOfNumbers x)
     → ((x : List ℕ) → Q x → AreOfNumbers x) → (x : List ℕ) → (P then Q) x → AreOfNumbers x
-then-is-of-numbers p q x (a, b, e, h, k) =
-    ap (list_all is_number_character) e ∙ list_all-append is_number_character a b
-    ∙ and_from _ _ (p a h) (q b k)
+then-is-of-numbers p q x (a, b, e, h, k) = ap (list_all is_number_character) e
+    ∙ list_all-append is_number_character a b ∙ and_from _ _ (p a h) (q b k)
 
 -- reading JSON: no text, or one with characters of numbers only
 optional-is-of-numbers : {P : Rule} → ((x : List ℕ) → P x → AreOfNumbers x) → (x : List ℕ)
@@ -108,8 +99,7 @@ optional-is-of-numbers p x (inl e) = ap (list_all is_number_character) e
 optional-is-of-numbers p x (inr h) = p x h
 
 -- reading JSON: a word with characters of numbers only
-word-is-of-numbers : (word : List ℕ) → AreOfNumbers word → (x : List ℕ) → Is word x
-    → AreOfNumbers x
+word-is-of-numbers : (word : List ℕ) → AreOfNumbers word → (x : List ℕ) → Is word x → AreOfNumbers x
 word-is-of-numbers word h x e = ap (list_all is_number_character) e ∙ h
 
 -- reading JSON: one of some characters, if each may be in a number
@@ -131,8 +121,7 @@ digits-are-of-numbers (c ∷ x) h = let p = and_parts _ _ h in
 -- reading JSON: one or more digits have characters of numbers only
 some-digits-are-of-numbers : (x : List ℕ) → AreSomeDigits x → AreOfNumbers x
 some-digits-are-of-numbers = then-is-of-numbers
-    (one-is-of-numbers (codes "0123456789") (λ c e. grind (arith, nat_tests)))
-    digits-are-of-numbers
+    (one-is-of-numbers (codes "0123456789") (λ c e. grind (arith, nat_tests))) digits-are-of-numbers
 
 -- reading JSON: the integer of a number has characters of numbers only
 integer-is-of-numbers : (x : List ℕ) → IsInteger x → AreOfNumbers x
@@ -144,14 +133,12 @@ integer-is-of-numbers x (inr h) = then-is-of-numbers
 -- reading JSON: a number has characters of numbers only
 number-is-of-numbers : (x : List ℕ) → IsNumber x → AreOfNumbers x
 number-is-of-numbers = then-is-of-numbers
-    (optional-is-of-numbers (word-is-of-numbers (codes "-") refl))
-    (then-is-of-numbers integer-is-of-numbers (then-is-of-numbers
+    (optional-is-of-numbers (word-is-of-numbers (codes "-") refl)) (then-is-of-numbers
+    integer-is-of-numbers (then-is-of-numbers (optional-is-of-numbers
+    (then-is-of-numbers (word-is-of-numbers (codes ".") refl) some-digits-are-of-numbers))
     (optional-is-of-numbers (then-is-of-numbers
-    (word-is-of-numbers (codes ".") refl) some-digits-are-of-numbers))
-    (optional-is-of-numbers (then-is-of-numbers
-    (one-is-of-numbers (codes "eE") (λ c e. grind (arith, nat_tests)))
-    (then-is-of-numbers (optional-is-of-numbers
-    (one-is-of-numbers (codes "-+") (λ c e. grind (arith, nat_tests))))
+    (one-is-of-numbers (codes "eE") (λ c e. grind (arith, nat_tests))) (then-is-of-numbers
+    (optional-is-of-numbers (one-is-of-numbers (codes "-+") (λ c e. grind (arith, nat_tests))))
     some-digits-are-of-numbers)))))
 
 -- reading JSON: the integer of a number is not empty
@@ -162,15 +149,14 @@ integer-is-not-empty x (inr (a, b, e, (c, f, h), k)) =
 
 -- reading JSON: a number is not empty
 pub number-is-not-empty : (x : List ℕ) → IsNumber x → 0 < length x
-number-is-not-empty x (a, y, e, h, (b, z, f, i, k)) =
-    omega (
-      arith,
-      ap length e,
-      ap length f,
-      length-append a y,
-      length-append b z,
-      integer-is-not-empty b i,
-    )
+number-is-not-empty x (a, y, e, h, (b, z, f, i, k)) = omega (
+  arith,
+  ap length e,
+  ap length f,
+  length-append a y,
+  length-append b z,
+  integer-is-not-empty b i,
+)
 
 -- reading JSON: a number is read up to its end
 pub record ReadsNumber (x text rest : List ℕ) : Type 0 where

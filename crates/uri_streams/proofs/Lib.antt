@@ -1,3 +1,4 @@
+pub mod Common
 pub mod AsciiLines
 mod BasicTargets
 pub mod TextResults

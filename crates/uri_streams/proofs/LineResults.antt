@@ -1,15 +1,7 @@
 -- The result of bytes, and that of the text that they are.
-use Rattle.std.proofs.Common.{◌≡◌, ◌∙◌, ℕ, Bool, false, true, List, ap, sym}
-use Rattle.std.specs.Prelude.{IsUtf8, if◌then◌else◌}
-use Rattle.std.specs.Str.{is_utf8}
+use Rattle.uri_streams.proofs.Common.{◌≡◌, ◌∙◌, ℕ, Bool, false, true, List, ap, sym, IsUtf8, if◌then◌else◌, is_utf8, IsUtf8-from_is_utf8, is_utf8-from_IsUtf8, false_from_ne_true, LineResult, Known, bytes_result, given_text, no_text_result, text_kind, text_result, NotUtf8, Job}
 use Rattle.std.specs.Str.Lossy.{utf8_valid_len}
-use Rattle.std.proofs.lemmas.Str.{IsUtf8-from_is_utf8, is_utf8-from_IsUtf8}
-use Rattle.std.proofs.lemmas.Bool.{false_from_ne_true}
 use Rattle.uri_commands.specs.MendedLinks.{mended_link}
-use Rattle.uri_streams.specs.Results.{LineResult}
-use Rattle.uri_streams.specs.Tasks.{Known, bytes_result, given_text, no_text_result, text_kind, text_result}
-use Rattle.uri_streams.specs.declared.fault.NoText.TheVariants.{NotUtf8}
-use Rattle.uri_streams.specs.declared.job.Job.{Job}
 
 -- lines: the result of bytes in UTF-8 is that of the text that they give
 bytes_result-of-utf8 : (job : Job) (known : Known) (bytes : List ℕ) → IsUtf8 bytes
@@ -49,7 +41,6 @@ pub bytes_result-of-text : (job : Job) (known : Known) (text bytes : List ℕ)
     → (text ≡ bytes) × IsUtf8 bytes → job.is_mended ≡ false
     → text_result job.command known text ≡ bytes_result job known bytes
 unfolding given_result_if
-bytes_result-of-text job known text bytes is is_mended =
-    ap (text_result job.command known) is.0
+bytes_result-of-text job known text bytes is is_mended = ap (text_result job.command known) is.0
     ∙ sym (ap (given_result_if job known bytes) is_mended)
     ∙ bytes_result-of-utf8 job known bytes is.1

@@ -1,26 +1,17 @@
 -- What `mended` returned of a link is the result of its line.
-use Rattle.std.proofs.Common.{◌≡◌, ◌≢◌, ℕ, Bool, true, false, true≢false, List, Result, Ok, Err, refl, ap, sym, ◌∙◌}
-use Rattle.std.specs.Prelude.{IfOk, String, if◌then◌else◌, string_bytes}
-use Rattle.fluent_uri.specs.Grammar.{Kind}
-use Rattle.fluent_uri.specs.declared.ParseError.{ParseError}
+use Rattle.uri_streams.proofs.Common.{◌≡◌, ◌≢◌, ℕ, Bool, true, false, true≢false, List, Result, Ok, Err, refl, ap, sym, ◌∙◌, IfOk, if◌then◌else◌, string_bytes, Kind, ParseError, is_output_failure, kind_named, error_text, KindName, LineResult, Text, Error, mend_result, parse_message, result_in, Refused}
+use Rattle.std.specs.Prelude.{String}
 use Rattle.uri_commands.specs.Commands.{Mend}
-use Rattle.uri_commands.specs.Ends.{is_output_failure}
-use Rattle.uri_commands.specs.Kinds.{kind_named}
 use Rattle.uri_commands.specs.MendedLinks.{mended_link}
-use Rattle.uri_commands.specs.Messages.{error_text}
 use Rattle.uri_commands.specs.Refusals.{IsErrorOfCommand, command_error_text}
-use Rattle.uri_commands.specs.declared.kinds.KindName.{KindName}
 use Rattle.uri_commands.specs.declared.refusal.CommandError.{CommandError}
 use Rattle.uri_commands.specs.declared.refusal.CommandError.TheVariants.{Text as TextError, Base, Reference, Target, OutOfMemory, OutputFailed}
 use Rattle.uri_mend.specs.Mending.{can_be_mended, mended_text}
 use Rattle.uri_mend.specs.Refusing.{IsMendErrorOf}
 use Rattle.uri_mend.specs.Trimming.{trimmed_link}
 use Rattle.uri_mend.specs.declared.error.MendError.TheVariants.{Unmendable}
-use Rattle.uri_streams.specs.Results.{LineResult, Text, Error, mend_result, parse_message}
-use Rattle.uri_streams.specs.Returned.{result_in}
 use Rattle.uri_streams.specs.declared.line_result.LineResult.{LineResult as Returned}
 use Rattle.uri_streams.specs.declared.line_result.LineResult.TheVariants as returned
-use Rattle.uri_streams.specs.declared.fault.LineError.TheVariants.{Refused}
 use Rattle.uri_streams.proofs.TextResults.{error_text-is-parse_message}
 
 -- lines: an error of mending, but for lack of memory, is the parse error of a link that cannot be
@@ -30,8 +21,7 @@ IsRejection name text why = (error : ParseError) × (why ≡ TextError error)
     × IsMendErrorOf (kind_named name) (trimmed_link text) (Unmendable error)
 
 IsRejection-of-error : (name : KindName) (text : List ℕ) (why : CommandError)
-    → IsErrorOfCommand (Mend name text) why
-    → is_output_failure why ≡ false → why ≢ OutOfMemory
+    → IsErrorOfCommand (Mend name text) why → is_output_failure why ≡ false → why ≢ OutOfMemory
     → IsRejection name text why
 unfolding IsRejection
 IsRejection-of-error name text (TextError error) is written some = (error, refl, is)
@@ -43,8 +33,7 @@ IsRejection-of-error name text OutputFailed is written some = absurd (true≢fal
 
 -- lines: what `urilines mend` writes, if a link can be mended or not
 mend_result_if : Kind → List ℕ → Bool → LineResult
-mend_result_if kind text mendable =
-    if mendable then Text (mended_text kind (trimmed_link text))
+mend_result_if kind text mendable = if mendable then Text (mended_text kind (trimmed_link text))
     else Error (parse_message kind (trimmed_link text))
 
 -- lines: what `urilines mend` writes is what the link is mended to, if it can be
@@ -88,14 +77,12 @@ pub mended_link-of-mended : (kind : Kind) (text link : List ℕ)
     → can_be_mended kind (trimmed_link text) ≡ true
     → link ≡ mended_text kind (trimmed_link text) → link ≡ mended_link kind text
 unfolding mended_link mended_link_if
-mended_link-of-mended kind text link mendable is =
-    is ∙ sym (ap (mended_link_if kind text) mendable)
+mended_link-of-mended kind text link mendable is = is ∙ sym (ap (mended_link_if kind text) mendable)
 
 -- lines: a link that is not mended is trimmed, unless there is no memory
 pub mended_link-of-trimmed : {A E : Type 0} (name : KindName) (text : List ℕ) (why : CommandError)
     (result : Result (String A) E) → IsErrorOfCommand (Mend name text) why
-    → is_output_failure why ≡ false
-    → IfOk result (λ link. string_bytes link ≡ trimmed_link text)
+    → is_output_failure why ≡ false → IfOk result (λ link. string_bytes link ≡ trimmed_link text)
     → IfOk result (λ link. why ≢ OutOfMemory)
     → IfOk result (λ link. string_bytes link ≡ mended_link (kind_named name) text)
 unfolding IsRejection mended_link mended_link_if

@@ -1,9 +1,6 @@
 -- The lines of an input, some of them put together, and lists of lines that are merged.
-use Rattle.std.proofs.Common.{◌≡◌, ◌++◌, ◌⊎◌, ℕ, Bool, true, false, cond, eqb, List, [], ◌∷◌, refl, ap, sym, subst, ◌∙◌, inl, inr, append-nil}
-use Rattle.std.specs.Prelude.{not, ◌&&◌}
-use Rattle.std.specs.List.{concat, filter}
+use Rattle.uri_streams.proofs.Common.{◌≡◌, ◌++◌, ◌⊎◌, ℕ, Bool, true, false, cond, eqb, List, [], ◌∷◌, refl, ap, sym, subst, ◌∙◌, inl, inr, append-nil, not, ◌&&◌, concat, filter, lines_of, prepend_to_first_line}
 use Rattle.uri_streams.specs.Checks.{AreMergedFrom}
-use Rattle.uri_streams.specs.Lines.{lines_of, prepend_to_first_line}
 
 -- lines: a byte is put before the first of some, and so before them all
 concat-of-prepended : (x : ℕ) (lines : List (List ℕ))
@@ -24,8 +21,7 @@ concat-of-lines end (x ∷ xs) = at (eqb x end) (concat-of-lines end xs)
 -- the line ends with the byte, and has it nowhere else
 abbrev IsEnded : ℕ → List ℕ → Type 0
 IsEnded end [] = ⊥
-IsEnded end (x ∷ xs) =
-    ((eqb x end ≡ true) × (xs ≡ [])) ⊎ ((eqb x end ≡ false) × IsEnded end xs)
+IsEnded end (x ∷ xs) = ((eqb x end ≡ true) × (xs ≡ [])) ⊎ ((eqb x end ≡ false) × IsEnded end xs)
 
 -- the line is not empty, and lacks the byte that ends lines
 abbrev IsUnended : ℕ → List ℕ → Type 0
@@ -42,14 +38,12 @@ AreLines end (line ∷ lines) =
 lines_of-after-ended-line : (end : ℕ) (line ys : List ℕ) → IsEnded end line
     → lines_of end (line ++ ys) ≡ line ∷ lines_of end ys
 lines_of-after-ended-line end [] ys is = absurd is
-lines_of-after-ended-line end (x ∷ xs) ys (inl last) =
-    ap (λ b. cond b ((x ∷ []) ∷ lines_of end (xs ++ ys))
-    (prepend_to_first_line x (lines_of end (xs ++ ys)))) last.0
+lines_of-after-ended-line end (x ∷ xs) ys (inl last) = ap (λ b. cond b
+    ((x ∷ []) ∷ lines_of end (xs ++ ys)) (prepend_to_first_line x (lines_of end (xs ++ ys)))) last.0
     ∙ ap (λ l. (x ∷ []) ∷ lines_of end (l ++ ys)) last.1
     ∙ sym (ap (λ l. (x ∷ l) ∷ lines_of end ys) last.1)
-lines_of-after-ended-line end (x ∷ xs) ys (inr more) =
-    ap (λ b. cond b ((x ∷ []) ∷ lines_of end (xs ++ ys))
-    (prepend_to_first_line x (lines_of end (xs ++ ys)))) more.0
+lines_of-after-ended-line end (x ∷ xs) ys (inr more) = ap (λ b. cond b
+    ((x ∷ []) ∷ lines_of end (xs ++ ys)) (prepend_to_first_line x (lines_of end (xs ++ ys)))) more.0
     ∙ ap (prepend_to_first_line x) (lines_of-after-ended-line end xs ys more.1)
 
 -- lines: one that is not ended is the only line
@@ -58,8 +52,7 @@ lines_of-unended-line : (end : ℕ) (line : List ℕ) → IsUnended end line
 lines_of-unended-line end [] is = absurd is
 lines_of-unended-line end (x ∷ xs) (lacks, inl none) =
     ap (λ b. cond b ((x ∷ []) ∷ lines_of end xs) (prepend_to_first_line x (lines_of end xs))) lacks
-    ∙ ap (λ l. prepend_to_first_line x (lines_of end l)) none
-    ∙ sym (ap (λ l. (x ∷ l) ∷ []) none)
+    ∙ ap (λ l. prepend_to_first_line x (lines_of end l)) none ∙ sym (ap (λ l. (x ∷ l) ∷ []) none)
 lines_of-unended-line end (x ∷ xs) (lacks, inr more) =
     ap (λ b. cond b ((x ∷ []) ∷ lines_of end xs) (prepend_to_first_line x (lines_of end xs))) lacks
     ∙ ap (prepend_to_first_line x) (lines_of-unended-line end xs more)
@@ -109,15 +102,13 @@ lines_of-concat end (line ∷ lines) (inl (ended, more)) =
     lines_of-after-ended-line end line (concat lines) ended
     ∙ ap (λ l. line ∷ l) (lines_of-concat end lines more)
 lines_of-concat end (line ∷ lines) (inr (unended, none)) =
-    ap (λ l. lines_of end (line ++ concat l)) none
-    ∙ ap (lines_of end) (append-nil line) ∙ lines_of-unended-line end line unended
-    ∙ sym (ap (λ l. line ∷ l) none)
+    ap (λ l. lines_of end (line ++ concat l)) none ∙ ap (lines_of end) (append-nil line)
+    ∙ lines_of-unended-line end line unended ∙ sym (ap (λ l. line ∷ l) none)
 
 -- lines: some lines of an input, put together, are the lines of what they make
 pub lines_of-some-lines : (end : ℕ) (keeps : List ℕ → Bool) (xs : List ℕ)
     → lines_of end (concat (filter keeps (lines_of end xs))) ≡ filter keeps (lines_of end xs)
-lines_of-some-lines end keeps xs =
-    lines_of-concat end (filter keeps (lines_of end xs))
+lines_of-some-lines end keeps xs = lines_of-concat end (filter keeps (lines_of end xs))
     (AreLines-filtered end keeps (lines_of end xs) (AreLines-of-input end xs))
 
 -- lines: those that pass a test, and those that do not, are merged from the lines; `within`: a test

@@ -1,15 +1,6 @@
 -- What is kept of parts of a line that are read one after the other.
-use Rattle.std.proofs.Common.{◌≡◌, ◌<◌, ◌≤◌, ◌+◌, ◌-◌, ℕ, Bool, true, false, List, ◌++◌, Option, Some, None, IfSome, cond, drop, length, take, min, ap, arith, refl, subst, sym, ◌∙◌, take-take, take_all, length-take-le, lt-ltb, ltb-true, ltb-false, ◌≢◌, All, eqb, eq-eqb, get_or-take, ◌==◌, get_or}
-use Rattle.std.specs.Prelude.{◌&&◌, nat_lt, slice_index, OnErr, OnOk, Result, Ok, Err}
-use Rattle.std.specs.Io.BufRead.{drop_through, ends_with_byte, take_through, DropsConsumable, DropsThrough}
-use Rattle.std.specs.Io.KnownBytes.{Consumes, IsAtEnd, Keeps, prepend_known}
-use Rattle.std.proofs.BufReadLemmas.{take_through_nonempty}
-use Rattle.std.proofs.lemmas.List.{take-append-drop, take-append-le, length-take, append-nil}
-use Rattle.std.proofs.lemmas.List.Elements.{All-from_get_or}
-use Rattle.std.proofs.Math.Seq.{take-append-add}
+use Rattle.uri_streams.proofs.Common.{◌≡◌, ◌<◌, ◌≤◌, ◌+◌, ◌-◌, ℕ, Bool, true, false, List, ◌++◌, Option, Some, None, IfSome, cond, drop, length, take, min, ap, arith, refl, subst, sym, ◌∙◌, take-take, take_all, length-take-le, lt-ltb, ltb-true, ltb-false, ◌≢◌, All, eqb, eq-eqb, get_or-take, ◌==◌, get_or, ◌&&◌, nat_lt, slice_index, OnErr, OnOk, Result, Ok, Err, drop_through, ends_with_byte, take_through, DropsConsumable, DropsThrough, Consumes, IsAtEnd, Keeps, prepend_known, take_through_nonempty, take-append-drop, take-append-le, length-take, append-nil, All-from_get_or, take-append-add, ends_with_return, IsBufferedLine, ReadsFirstLine}
 use Rattle.std.proofs.Transfers.{StopsAt-take}
-use Rattle.uri_streams.specs.Lines.{ends_with_return}
-use Rattle.uri_streams.specs.Models.{IsBufferedLine, ReadsFirstLine}
 
 -- general fact on lists, for lines: as much of a prefix is taken as there is room for
 pub take-min : (kept count room : ℕ) (xs : List ℕ) → count ≤ length xs → kept ≡ min count room
@@ -52,9 +43,8 @@ take-of-appended-part limit done part old new was is = at (nat_lt limit (length 
 -- lines: a line that is read part by part is the first line that is left; a, c: what is left before
 -- and after, end: the byte that ends it
 pub ReadsFirstLine-of-parts : (end limit : ℕ) (a c : Option (List ℕ)) (all line : List ℕ)
-    (is_return : Bool)
-    → IfSome a (λ xs. all ≡ take_through end xs) → DropsThrough a c end → 0 < length all
-    → line ≡ take limit all → is_return ≡ ends_with_return end all
+    (is_return : Bool) → IfSome a (λ xs. all ≡ take_through end xs) → DropsThrough a c end
+    → 0 < length all → line ≡ take limit all → is_return ≡ ends_with_return end all
     → ReadsFirstLine a c end limit line is_return
 ReadsFirstLine-of-parts end limit None c all line is_return whole rest some kept is = tt
 ReadsFirstLine-of-parts end limit (Some xs) c all line is_return whole rest some kept is =
@@ -68,8 +58,7 @@ ReadsFirstLine-of-parts end limit (Some xs) c all line is_return whole rest some
 -- lines: what is consumed of a buffer is consumed of the bytes that are left to read
 pub Consumes-buffered : (unknown : Bool) (buffer : List ℕ) (inner new : Option (List ℕ)) (n : ℕ)
     → n ≤ length buffer
-    → DropsConsumable (cond unknown None (prepend_known buffer inner)) new
-    (Some (length buffer)) n
+    → DropsConsumable (cond unknown None (prepend_known buffer inner)) new (Some (length buffer)) n
     → Consumes (cond unknown None (prepend_known buffer inner)) new (take n buffer)
 Consumes-buffered true buffer inner new n within drops = tt
 Consumes-buffered false buffer None new n within drops = tt
@@ -135,7 +124,6 @@ ends_with_byte-up-to end byte index buffer b within ends =
     let long : length line ≡ index + 1 = length-take-le (index + 1) buffer (omega arith) in
     let same : index + 1 - 1 ≡ index = omega arith in
     ap (λ c. c && (get_or line (length line - 1) 0 == end))
-    (lt-ltb 0 (length line) (omega (arith, long)))
-    ∙ eq-eqb (get_or line (length line - 1) 0) end (ap (λ n. get_or line (n - 1) 0) long
-    ∙ ap (λ n. get_or line n 0) same ∙ get_or-take (index + 1) buffer index 0 (omega arith)
-    ∙ ends ∙ b)
+    (lt-ltb 0 (length line) (omega (arith, long))) ∙ eq-eqb (get_or line (length line - 1) 0) end
+    (ap (λ n. get_or line (n - 1) 0) long ∙ ap (λ n. get_or line n 0) same
+    ∙ get_or-take (index + 1) buffer index 0 (omega arith) ∙ ends ∙ b)

@@ -1,13 +1,5 @@
 -- The components of a text of a kind have no character that JSON escapes.
-use Rattle.std.proofs.Common.{◌≡◌, ℕ, zero, suc, ◌<◌, ◌≤◌, ◌&&◌, ◌||◌, not, Bool, true, false, List, [], ◌∷◌, ◌++◌, refl, sym, ap, ◌∙◌, subst, arith, ⊎_elim}
-use Rattle.std.specs.Prelude.{codes, Option, Some, None}
-use Rattle.std.specs.Char.{IsScalar, encode_utf8}
-use Rattle.std.specs.List.{list_all}
-use Rattle.std.specs.Str.{IsUtf8, chars, all_scalars, encode_utf8_all}
-use Rattle.std.proofs.lemmas.Bool.{and_parts, and_from, cases_lt}
-use Rattle.std.proofs.lemmas.Bool.Decides.{nat_tests, Decides-below_and}
-use Rattle.std.proofs.lemmas.List.Folds.{list_all-append}
-use Rattle.std.proofs.lemmas.Str.{chars-append, IsUtf8-append, encode_ascii, encodes-chars, scalars-chars}
+use Rattle.uri_streams.proofs.Common.{◌≡◌, ℕ, zero, suc, ◌<◌, ◌≤◌, ◌&&◌, ◌||◌, not, Bool, true, false, List, [], ◌∷◌, ◌++◌, refl, sym, ap, ◌∙◌, subst, arith, ⊎_elim, codes, Option, Some, None, IsScalar, encode_utf8, list_all, IsUtf8, chars, all_scalars, encode_utf8_all, and_parts, and_from, cases_lt, nat_tests, Decides-below_and, list_all-append, chars-append, IsUtf8-append, encode_ascii, encodes-chars, scalars-chars, is_unescaped, kind_named, KindName}
 use Rattle.uri_pct.proofs.General.{IfSome-weaken, IfSome-combine}
 use Rattle.uri_pct.proofs.ValidTexts.Cuts.{excludes}
 use Rattle.uri_pct.specs.Sets.{TableSet, LacksPercent, is_one_of, digit_set, scheme_set}
@@ -24,24 +16,19 @@ use Rattle.uri_ops.proofs.Meanings.AllowedParts.{is_set_text, set-text-is-utf8, 
 use Rattle.uri_ops.proofs.Meanings.AuthorityMeanings.{authority-parts-are-utf8}
 use Rattle.uri_ops.proofs.Meanings.TextParts.{components-of-utf8-are-utf8, grammar-gives-components-of-kind}
 use Rattle.uri_ops.proofs.Paths.PathCharacters.{lacked-delimiters-fail-test}
-use Rattle.uri_streams.specs.JsonTexts.{is_unescaped}
-use Rattle.uri_commands.specs.Kinds.{kind_named}
-use Rattle.uri_commands.specs.declared.kinds.KindName.{KindName}
 use Rattle.uri_commands.specs.declared.kinds.KindName.TheVariants as kinds
 use Rattle.uri_streams.proofs.JsonStringTexts.{IsPlain, ascii-is-plain}
 use Rattle.uri_streams.proofs.JsonObjects.{IsPlainIfPresent, HasPlainAuthority, HasPlainComponents}
 
 -- plain components: the characters that JSON escapes
 abbrev escaped_marks : List ℕ
-escaped_marks =
-    34 ∷ 92 ∷ 0 ∷ 1 ∷ 2 ∷ 3 ∷ 4 ∷ 5 ∷ 6 ∷ 7 ∷ 8 ∷ 9 ∷ 10 ∷ 11 ∷ 12 ∷ 13 ∷ 14 ∷ 15 ∷ 16 ∷ 17 ∷ 18
-    ∷ 19 ∷ 20 ∷ 21 ∷ 22 ∷ 23 ∷ 24 ∷ 25 ∷ 26 ∷ 27 ∷ 28 ∷ 29 ∷ 30 ∷ 31 ∷ []
+escaped_marks = 34 ∷ 92 ∷ 0 ∷ 1 ∷ 2 ∷ 3 ∷ 4 ∷ 5 ∷ 6 ∷ 7 ∷ 8 ∷ 9 ∷ 10 ∷ 11 ∷ 12 ∷ 13 ∷ 14 ∷ 15 ∷ 16
+    ∷ 17 ∷ 18 ∷ 19 ∷ 20 ∷ 21 ∷ 22 ∷ 23 ∷ 24 ∷ 25 ∷ 26 ∷ 27 ∷ 28 ∷ 29 ∷ 30 ∷ 31 ∷ []
 
 -- plain components: each other character of ASCII may be in a string as it is
 abbrev are_unescaped_below : ℕ → Bool
 are_unescaped_below zero = true
-are_unescaped_below (suc n) =
-    (is_one_of escaped_marks n || is_unescaped n) && are_unescaped_below n
+are_unescaped_below (suc n) = (is_one_of escaped_marks n || is_unescaped n) && are_unescaped_below n
 
 -- plain components: a character of ASCII that JSON does not escape is unescaped
 other-ascii-is-unescaped : (c : ℕ) → c < 128 → not (is_one_of escaped_marks c) ≡ true
@@ -141,8 +128,7 @@ appended-texts-are-plain : (xs ys : List ℕ) → IsPlain xs → IsPlain ys → 
 appended-texts-are-plain xs ys h k = record {
   utf8 = IsUtf8-append xs ys h.utf8 k.utf8;
   unescaped = ap (list_all is_unescaped) (chars-append xs ys h.utf8)
-      ∙ list_all-append is_unescaped (chars xs) (chars ys)
-      ∙ and_from _ _ h.unescaped k.unescaped;
+      ∙ list_all-append is_unescaped (chars xs) (chars ys) ∙ and_from _ _ h.unescaped k.unescaped;
 }
 
 -- plain components: the empty text is plain
@@ -167,16 +153,13 @@ host-is-plain : (names : TableSet) → HasPlainTexts names → (text : List ℕ)
     → IsUtf8 text → IsHost names text host → IsPlain text
 host-is-plain names plain text (Ipv6 segments) u (address, e, groups) =
     let inner = address-in-brackets-is-utf8 address (subst IsUtf8 e u) in
-    subst IsPlain (sym e) (bracketed-text-is-plain address
-    (text-without-escaped-marks-is-plain address inner
-    (ipv6-text-lacks-excluded-marks escaped_marks refl address segments groups)))
+    subst IsPlain (sym e) (bracketed-text-is-plain address (text-without-escaped-marks-is-plain
+    address inner (ipv6-text-lacks-excluded-marks escaped_marks refl address segments groups)))
 host-is-plain names plain text IpvFuture u (address, e, future) =
     let inner = address-in-brackets-is-utf8 address (subst IsUtf8 e u) in
-    subst IsPlain (sym e) (bracketed-text-is-plain address
-    (text-without-escaped-marks-is-plain address inner
-    (ipvfuture-text-lacks-excluded-marks escaped_marks refl address inner future)))
-host-is-plain names plain text (Ipv4 octets) u dotted =
-    text-without-escaped-marks-is-plain text u
+    subst IsPlain (sym e) (bracketed-text-is-plain address (text-without-escaped-marks-is-plain
+    address inner (ipvfuture-text-lacks-excluded-marks escaped_marks refl address inner future)))
+host-is-plain names plain text (Ipv4 octets) u dotted = text-without-escaped-marks-is-plain text u
     (ipv4-text-lacks-name-marks escaped_marks refl text octets dotted)
 host-is-plain names plain text RegName u (valid, other) =
     valid-text-is-plain names plain text u valid
@@ -187,14 +170,12 @@ authority-is-plain : (kind : Kind) → HasPlainSets kind → (text : List ℕ) �
 authority-is-plain kind plain text u e =
     let p : AuthorityParts = authority_parts text in
     let h = is_authority_for-sound kind.userinfo kind.reg_name text e in
-    let utf8 = authority-parts-are-utf8 p.userinfo p.port p.host
-    (subst IsUtf8 (sym h.whole) u) in
+    let utf8 = authority-parts-are-utf8 p.userinfo p.port p.host (subst IsUtf8 (sym h.whole) u) in
     let userinfo : IsPlainIfPresent p.userinfo =
     IfSome-combine p.userinfo IsUtf8 (IsValidFor kind.userinfo) IsPlain
     (valid-text-is-plain kind.userinfo plain.userinfo) utf8.userinfo h.userinfo in
     let host = host-is-plain kind.reg_name plain.reg_name p.host h.host.0 utf8.host h.host.1 in
-    let port : IsPlainIfPresent p.port =
-    IfSome-combine p.port IsUtf8 (IsValidFor digit_set) IsPlain
+    let port : IsPlainIfPresent p.port = IfSome-combine p.port IsUtf8 (IsValidFor digit_set) IsPlain
     (valid-text-is-plain digit_set (record { percent = refl; marks = refl })) utf8.port h.port in
     record {
       whole = subst IsPlain h.whole (appended-texts-are-plain

@@ -5,7 +5,7 @@ use Rattle.std.proofs.lemmas.List.{append-nil}
 use Rattle.std.proofs.lemmas.List.Sums.{sum_by-append}
 use Rattle.std.proofs.KnownBytes.{Appends-nil, Appends-trans, Keeps-refl, Keeps-trans}
 use Rattle.uri_commands.specs.Prefixes.{AppendsPrefix}
-use Rattle.uri_commands.proofs.Appended.{AppendsPrefix-after-Appends, AppendsPrefix-of-longer, AppendsPrefix-of-kept, AppendsPrefix-then-Keeps}
+use Rattle.uri_commands.proofs.Offered.{AppendsPrefix-after-Appends, AppendsPrefix-of-longer, AppendsPrefix-of-kept, AppendsPrefix-then-Keeps}
 use Rattle.uri_streams.specs.Outputs.{ProcessedLine, error_count, is_error, tallies_after, tallies_of}
 use Rattle.uri_streams.specs.Runs.{ErrorOutput, Reports, ReportsPrefix, Sees}
 use Rattle.uri_streams.specs.declared.run.Tally.{Tally}

@@ -1,14 +1,6 @@
 -- Whether a `\r` is before the end of a line that is read in parts.
-use Rattle.std.proofs.Common.{◌≡◌, ◌≢◌, ◌<◌, ◌+◌, ◌-◌, ◌++◌, ℕ, Bool, true, false, cond, List, [], All, refl, ap, sym, ◌∙◌, length, length-append, take, arith, get_or, append-nil, lt-ltb, ltb-true, ltb-false, eqb-true, eq-eqb, ◌==◌}
+use Rattle.uri_streams.proofs.Common.{◌≡◌, ◌≢◌, ◌<◌, ◌+◌, ◌-◌, ◌++◌, ℕ, Bool, true, false, cond, List, [], All, refl, ap, sym, ◌∙◌, length, length-append, take, arith, get_or, append-nil, lt-ltb, ltb-true, ltb-false, eqb-true, eq-eqb, ◌==◌, ends_with_byte, strip_last, ◌&&◌, nat_lt, not, get_or-append_right, take-append-add, nil_from_length, All-get_or, false_from_ne_true, end_byte, ends_with_return, has_return, return_after, line_ending}
 use Rattle.std.specs.Io.{IsEmptyOrEndsWith}
-use Rattle.std.specs.Io.BufRead.{ends_with_byte, strip_last}
-use Rattle.std.specs.Prelude.{◌&&◌, nat_lt, not}
-use Rattle.std.proofs.Math.Seq.{get_or-append_right, take-append-add}
-use Rattle.std.proofs.lemmas.List.{nil_from_length}
-use Rattle.std.proofs.lemmas.List.Elements.{All-get_or}
-use Rattle.std.proofs.lemmas.Bool.{false_from_ne_true}
-use Rattle.uri_streams.specs.Lines.{end_byte, ends_with_return, has_return, return_after}
-use Rattle.uri_streams.specs.Outputs.{line_ending}
 
 -- lines: the last byte of two lists is that of the second, where that has one
 ends_with_byte-append : (byte : ℕ) (xs ys : List ℕ) → 0 < length ys
@@ -19,8 +11,7 @@ ends_with_byte-append byte xs ys some =
     get_or-append_right xs ys (length (xs ++ ys) - 1) 0 (omega (arith, long, some))
     ∙ ap (λ i. get_or ys i 0) (omega (arith, long, some)) in
     ap (λ c. c && (get_or (xs ++ ys) (length (xs ++ ys) - 1) 0 == byte))
-    (lt-ltb 0 (length (xs ++ ys)) (omega (arith, long, some)))
-    ∙ ap (λ x. x == byte) last
+    (lt-ltb 0 (length (xs ++ ys)) (omega (arith, long, some))) ∙ ap (λ x. x == byte) last
     ∙ sym (ap (λ c. c && (get_or ys (length ys - 1) 0 == byte)) (lt-ltb 0 (length ys) some))
 
 -- lines: the last byte of two texts is that of the second, if it has one
@@ -81,15 +72,13 @@ ends_with_byte-after-part was xs ys is = at (nat_lt 0 (length ys)) refl
 pub return_after-inner-part : (end : ℕ) (was : Bool) (done part : List ℕ) → was
     ≡ ends_with_byte 13 done
     → All (λ x. x ≢ end) part → return_after end was part ≡ ends_with_byte 13 (done ++ part)
-return_after-inner-part end was done part is none =
-    ap (λ l. cond (nat_lt 0 (length l)) (ends_with_byte 13 l) was)
-    (strip_last-of-lacking end part none)
-    ∙ ends_with_byte-after-part was done part is
+return_after-inner-part end was done part is none = ap
+    (λ l. cond (nat_lt 0 (length l)) (ends_with_byte 13 l) was)
+    (strip_last-of-lacking end part none) ∙ ends_with_byte-after-part was done part is
 
 -- lines: whether a line ends with `\r` and the byte that ends it, after its last part
-pub return_after-last-part : (end : ℕ) (was : Bool) (done part : List ℕ) → was
-    ≡ ends_with_byte 13 done
-    → All (λ x. x ≢ end) done → IsEmptyOrEndsWith part end
+pub return_after-last-part : (end : ℕ) (was : Bool) (done part : List ℕ)
+    → was ≡ ends_with_byte 13 done → All (λ x. x ≢ end) done → IsEmptyOrEndsWith part end
     → (return_after end was part && nat_lt 0 (length part)) ≡ ends_with_return end (done ++ part)
 return_after-last-part end was done part is none ends = at (nat_lt 0 (length part)) refl
   where

@@ -26,7 +26,7 @@ use Rattle.uri_streams.specs.declared.source.Source.{Source}
 use Rattle.uri_streams.specs.declared.task.Task.{Task}
 use Rattle.uri_streams.proofs.Cuts.{StandsFor, StandsFor-of-limited-line, bytes_output-if-StandsFor, line_cut-if-StandsFor}
 use Rattle.uri_streams.proofs.Parts.{Consumes-buffered}
-use Rattle.uri_commands.proofs.Appended.{AppendsPrefix-after-Keeps, AppendsPrefix-of-longer, AppendsPrefix-of-kept}
+use Rattle.uri_commands.proofs.Offered.{AppendsPrefix-after-Keeps, AppendsPrefix-of-longer, AppendsPrefix-of-kept}
 use Rattle.uri_streams.proofs.Failures.{Appends-after-Keeps, KeepsFailures-in-writing}
 use Rattle.uri_streams.proofs.Reports.{ReportsPrefix-of-longer, ReportsPrefix-of-nothing}
 use Rattle.uri_streams.proofs.Returns.{output-end-is-line-end}

@@ -1,23 +1,7 @@
 -- The first line is taken, and its output is written.
-use Rattle.std.proofs.Common.{◌≡◌, ◌+◌, ◌-◌, ◌^◌, ◌<◌, ◌≤◌, ◌++◌, ℕ, Bool, true, false, cond, eqb, List, [], ◌∷◌, refl, ap, sym, ◌∙◌, subst, append_assoc, length, length-append, Option, Some, None, arith, ◌⊎◌, ⊎_elim, true≢false, min, zero-add, drop}
-use Rattle.std.specs.List.{concat, flat_map}
-use Rattle.std.specs.Prelude.{if◌then◌else◌}
-use Rattle.std.proofs.lemmas.List.{append-nil, drop-drop}
-use Rattle.std.proofs.lemmas.List.Concat.{flat_map-append}
-use Rattle.std.proofs.lemmas.List.Sums.{sum_by-append}
-use Rattle.std.specs.Io.BufRead.{take_through, drop_through}
-use Rattle.std.specs.Io.KnownBytes.{Appends}
-use Rattle.std.proofs.KnownBytes.{Appends-nil, Appends-trans, Appends-kept}
-use Rattle.uri_streams.specs.Lines.{end_byte, lines_of, prepend_to_first_line}
-use Rattle.uri_streams.specs.Outputs.{ProcessedLine, processed, processed_lines, processed_in, error_count, errors_of, line_report, tallies_of, is_error, is_last, line_result, line_output, output_of}
-use Rattle.uri_streams.specs.Runs.{ErrorOutput, LeavesRest, Reports, Sees, WritesOutput, left_after}
+use Rattle.uri_streams.proofs.Common.{◌≡◌, ◌+◌, ◌-◌, ◌^◌, ◌<◌, ◌≤◌, ◌++◌, ℕ, Bool, true, false, cond, eqb, List, [], ◌∷◌, refl, ap, sym, ◌∙◌, subst, append_assoc, length, length-append, Option, Some, None, arith, ◌⊎◌, ⊎_elim, true≢false, min, zero-add, drop, concat, flat_map, if◌then◌else◌, append-nil, drop-drop, flat_map-append, sum_by-append, take_through, drop_through, Appends, Appends-nil, Appends-trans, Appends-kept, end_byte, lines_of, prepend_to_first_line, ProcessedLine, processed, processed_lines, processed_in, error_count, errors_of, line_report, tallies_of, is_error, is_last, line_result, line_output, output_of, ErrorOutput, LeavesRest, Reports, Sees, WritesOutput, left_after, FindsEnd, HasWrittenSoFar, ProcessedSoFar, Steps, WritesLine, Known, Remembers, Job, Tally, Task}
 use Rattle.uri_streams.proofs.MergedLines.{concat-of-lines}
-use Rattle.uri_streams.specs.Models.{FindsEnd, HasWrittenSoFar, ProcessedSoFar, Steps, WritesLine}
-use Rattle.uri_streams.specs.Tasks.{Known, Remembers}
-use Rattle.uri_streams.specs.declared.job.Job.{Job}
 use Rattle.uri_streams.specs.declared.output.StepResult.{StepResult}
-use Rattle.uri_streams.specs.declared.run.Tally.{Tally}
-use Rattle.uri_streams.specs.declared.task.Task.{Task}
 use Rattle.uri_streams.proofs.Reports.{Reports-after-Reports, Reports-nothing, Reports-then-nothing, Sees-after-Sees, Sees-nothing, tallies_of-one-more}
 
 -- lines: the first is up to the first end, and the others are after it
@@ -71,14 +55,12 @@ module _ (job : Job) where
   processed_lines-of-nothing before known = refl
 
   lines_after_first-by : (before : ℕ) (known : Known) (xs : List ℕ) (b : Bool)
-      → is_last job (processed job (before + 1) known (take_through (end_byte job.is_null) xs))
-      ≡ b → lines_after_first before known xs
-      ≡ (if b then [] else processed_lines job (before + 1)
+      → is_last job (processed job (before + 1) known (take_through (end_byte job.is_null) xs)) ≡ b
+      → lines_after_first before known xs ≡ (if b then [] else processed_lines job (before + 1)
       (line_result job known (take_through (end_byte job.is_null) xs)).1
       (lines_of (end_byte job.is_null) (drop_through (end_byte job.is_null) xs)))
-  lines_after_first-by before known xs b is =
-      ap (λ b. if b then [] else processed_lines job (before + 1)
-      (line_result job known (take_through (end_byte job.is_null) xs)).1
+  lines_after_first-by before known xs b is = ap (λ b. if b then [] else processed_lines job
+      (before + 1) (line_result job known (take_through (end_byte job.is_null) xs)).1
       (lines_of (end_byte job.is_null) (drop_through (end_byte job.is_null) xs))) is
 
 -- streams: what is written or reported of one line more is after that of the others
@@ -89,8 +71,7 @@ of-one-more-line f lines line = flat_map-append f lines (line ∷ [])
 
 -- streams: one line more is counted if it is an error
 error_count-of-one-more-line : (lines : List ProcessedLine) (line : ProcessedLine)
-    → error_count (lines ++ line ∷ [])
-    ≡ error_count lines + (if is_error line.result then 1 else 0)
+    → error_count (lines ++ line ∷ []) ≡ error_count lines + (if is_error line.result then 1 else 0)
 error_count-of-one-more-line lines line =
     sum_by-append (λ l. cond (is_error l.result) 1 0) lines (line ∷ [])
     ∙ ap (λ n. error_count lines + n) (zero-add (if is_error line.result then 1 else 0))
@@ -145,8 +126,7 @@ module _ (job : Job) (number : ℕ) (task task_new : Task) (b c h i j : Option (
 
       errors_so_far : tally_new.errors
           ≡ error_count so.lines + (if is_error line.result then 1 else 0)
-      errors_so_far =
-          errors_here ∙ ap (λ n. n + (if step.is_error then 1 else 0)) so.errors_counted
+      errors_so_far = errors_here ∙ ap (λ n. n + (if step.is_error then 1 else 0)) so.errors_counted
           ∙ ap (λ y. error_count so.lines + (if y then 1 else 0)) is.4
 
       errors_are : tally_new.errors ≡ error_count lines
@@ -161,29 +141,24 @@ module _ (job : Job) (number : ℕ) (task task_new : Task) (b c h i j : Option (
           (so.lines_left ∙ lines-of-some (end_byte job.is_null) so.rest is.0)
 
       reported_new : Reports d f (errors_of job lines)
-      reported_new =
-          subst (Reports d f) (sym (of-one-more-line (line_report job) so.lines line))
+      reported_new = subst (Reports d f) (sym (of-one-more-line (line_report job) so.lines line))
           (Reports-after-Reports d e f (errors_of job so.lines) (line_report job line) so.reported
           is.7)
 
       saw_new : Sees s u (tallies_of lines)
-      saw_new =
-          subst (Sees s u) (sym (tallies_of-one-more so.lines line tally_new
-          (lines_are ∙ ap (λ n. n + 1) (sym so.count)) errors_so_far))
-          (Sees-after-Sees s t u (tallies_of so.lines) (tally_new ∷ []) so.saw
+      saw_new = subst (Sees s u) (sym (tallies_of-one-more so.lines line tally_new
+          (lines_are ∙ ap (λ n. n + 1) (sym so.count)) errors_so_far)) (Sees-after-Sees s t u
+          (tallies_of so.lines) (tally_new ∷ []) so.saw
           (subst (λ (y : Bool). Sees t u (if y then tally_new ∷ [] else [])) is.3 looks))
 
       written_new : Appends h j (output_of job lines)
-      written_new =
-          subst (Appends h j) (sym (of-one-more-line (line_output job) so.lines line))
+      written_new = subst (Appends h j) (sym (of-one-more-line (line_output job) so.lines line))
           (Appends-trans h i j (output_of job so.lines) (line_output job line) so.written is.2)
 
       whole_new : processed_in job xs ≡ lines ++ lines_after_first job number so.known so.rest
-      whole_new =
-          so.whole
+      whole_new = so.whole
           ∙ ap (λ l. so.lines ++ l) (processed_lines-of-first-line job number so.known so.rest is.0)
-          ∙ sym (append_assoc so.lines (line ∷ [])
-          (lines_after_first job number so.known so.rest))
+          ∙ sym (append_assoc so.lines (line ∷ []) (lines_after_first job number so.known so.rest))
 
       so_far : step.is_last ≡ false
           → ProcessedSoFar job (number + 1) task_new xs c h j d f s u tally_new
@@ -206,8 +181,7 @@ module _ (job : Job) (number : ℕ) (task task_new : Task) (b c h i j : Option (
       }
 
       all_processed : step.is_last ≡ true → processed_in job xs ≡ lines
-      all_processed ends =
-          whole_new ∙ ap (λ l. lines ++ l)
+      all_processed ends = whole_new ∙ ap (λ l. lines ++ l)
           (lines_after_first-by job number so.known so.rest true (sym is.5 ∙ ends))
           ∙ append-nil lines
 
@@ -226,16 +200,13 @@ module _ (job : Job) (number : ℕ) (task task_new : Task) (b c h i j : Option (
           (ap length (all_processed ends) ∙ count_new) lines_left_new))
 
     all_processed_at_end : so.rest ≡ [] → processed_in job xs ≡ so.lines
-    all_processed_at_end none =
-        so.whole
-        ∙ ap (λ l. so.lines ++ processed_lines job number so.known
-        (lines_of (end_byte job.is_null) l)) none
-        ∙ ap (λ l. so.lines ++ l) (processed_lines-of-nothing job number so.known)
+    all_processed_at_end none = so.whole ∙ ap
+        (λ l. so.lines ++ processed_lines job number so.known (lines_of (end_byte job.is_null) l))
+        none ∙ ap (λ l. so.lines ++ l) (processed_lines-of-nothing job number so.known)
         ∙ append-nil so.lines
 
     rest_left_at_end : FindsEnd so.rest c i j e f step → LeavesRest job (Some xs) c
-    rest_left_at_end is = is.6 ∙ ap Some (sym is.0
-        ∙ sym (left_after-of-lines job number xs so.rest
+    rest_left_at_end is = is.6 ∙ ap Some (sym is.0 ∙ sym (left_after-of-lines job number xs so.rest
         (ap length (all_processed_at_end is.0) ∙ so.count) so.lines_left))
 
     at_end : FindsEnd so.rest c i j e f step → WritesOutput job (Some xs) h j d f s u tally_new
@@ -295,8 +266,7 @@ module _ (job : Job) (number : ℕ) (task task_new : Task) (b c h i j : Option (
   -- streams: after the last step the reader is left with what is after the lines
   pub HasWrittenSoFar-then-rest-is-left : (a : Option (List ℕ))
       → HasWrittenSoFar job number task a b h i d e s t tally
-      → Steps job number task b c i j e f task_new step → step.is_last ≡ true
-      → LeavesRest job a c
+      → Steps job number task b c i j e f task_new step → step.is_last ≡ true → LeavesRest job a c
   HasWrittenSoFar-then-rest-is-left None so st ends = tt
   HasWrittenSoFar-then-rest-is-left (Some xs) so st ends =
       ⊎_elim (λ (is : WritesLine job number so.so_far.known so.so_far.rest c i j e f task_new step).
@@ -305,9 +275,8 @@ module _ (job : Job) (number : ℕ) (task task_new : Task) (b c h i j : Option (
 -- streams: at first nothing has been read or written, and the tally is zero; a, h: what is left to
 -- read, what the writer holds, d, s: the error output, what the observer saw
 pub HasWrittenSoFar-at-start : (job : Job) (task : Task) (a h : Option (List ℕ)) (d : ErrorOutput)
-    (s : Option (List Tally)) (tally : Tally)
-    → Remembers task job.command [] → tally.lines ≡ 0 → tally.errors ≡ 0
-    → HasWrittenSoFar job 0 task a a h h d d s s tally
+    (s : Option (List Tally)) (tally : Tally) → Remembers task job.command [] → tally.lines ≡ 0
+    → tally.errors ≡ 0 → HasWrittenSoFar job 0 task a a h h d d s s tally
 HasWrittenSoFar-at-start job task None h d s tally remembers lines errors =
     record { so_far = tt }
 HasWrittenSoFar-at-start job task (Some xs) h d s tally remembers lines errors = record {

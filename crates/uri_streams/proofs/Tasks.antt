@@ -1,47 +1,32 @@
 -- The result under a task, by its command.
-use Rattle.std.proofs.Common.{◌≡◌, ℕ, true, List, Result, Ok, Err, IfOk, refl, ap, sym, subst, ◌∙◌, Some}
-use Rattle.std.specs.Prelude.{codes, ◌++◌, if◌then◌else◌}
-use Rattle.fluent_uri.specs.Grammar.{IsOfKind, Kind, is_of_kind, uri_ref}
+use Rattle.uri_streams.proofs.Common.{◌≡◌, ℕ, true, List, Result, Ok, Err, IfOk, refl, ap, sym, subst, ◌∙◌, Some, codes, ◌++◌, if◌then◌else◌, IsOfKind, Kind, is_of_kind, uri_ref, ParseError, false_from_ne_true, error_text, kind_named, LineResult, Error, normalize_result, parse_message, IsResult, result_in, HasMet, Known, Remembers, text_if_new, link_result, no_text_result, noted_result, text_result, unique_result, no_text_message, KindName, Task, NoField, NotUtf8, TooLong}
 use Rattle.fluent_uri.specs.Refusals.{refusal}
-use Rattle.fluent_uri.specs.declared.ParseError.{ParseError}
-use Rattle.std.proofs.lemmas.Bool.{false_from_ne_true}
-use Rattle.uri_commands.specs.Messages.{error_text}
 use Rattle.fluent_uri.specs.RuleSets.{rules_of_set}
 use Rattle.fluent_uri.specs.SchemeRules.{Rules}
 use Rattle.fluent_uri.specs.declared.normalize.RuleSet.{RuleSet}
 use Rattle.uri_links.specs.Outcomes.{outcome_of}
-use Rattle.uri_commands.specs.Kinds.{kind_named}
-use Rattle.uri_streams.specs.Results.{LineResult, Error, normalize_result, parse_message}
-use Rattle.uri_streams.specs.Returned.{IsResult, result_in}
-use Rattle.uri_streams.specs.Tasks.{HasMet, Known, Remembers, text_if_new, link_result, no_text_result, noted_result, text_result, unique_result}
-use Rattle.uri_streams.specs.Fields.{no_text_message}
 use Rattle.uri_streams.specs.declared.line_result.LineResult.{LineResult as Returned}
 use Rattle.uri_streams.specs.declared.command.Command.{Command}
 use Rattle.uri_streams.specs.declared.command.Command.TheVariants.{Each, Unique, Links}
-use Rattle.uri_commands.specs.declared.kinds.KindName.{KindName}
-use Rattle.uri_streams.specs.declared.task.Task.{Task}
 use Rattle.uri_streams.specs.declared.task.Task.TheVariants as tasks
 use Rattle.uri_streams.specs.declared.command.LineCommand.{LineCommand}
 use Rattle.uri_streams.specs.declared.fault.NoText.{NoText}
-use Rattle.uri_streams.specs.declared.fault.NoText.TheVariants.{NoField, NotUtf8, TooLong}
 use Rattle.uri_streams.specs.declared.task.LinksTask.{LinksTask}
 use Rattle.uri_streams.specs.declared.task.UniqueTask.{UniqueTask}
 use Rattle.uri_streams.proofs.TextResults.{error_text-is-parse_message}
 
 -- lines: after a result that adds nothing, the task remembers what it did before
 pub IsResult-that-remembers-the-same : (command : Command) (next : LineResult × Known)
-    (known : Known) (returned : Returned)
-    (task : Task) → (result_in returned, known) ≡ next → Remembers task command known
-    → IsResult command next returned task
+    (known : Known) (returned : Returned) (task : Task) → (result_in returned, known) ≡ next
+    → Remembers task command known → IsResult command next returned task
 IsResult-that-remembers-the-same command next known returned task e remembers =
     subst (λ n. IsResult command n returned task) e (refl, remembers)
 
 -- lines: a call returned the result of a text under the command of a task, if it returned one
 abbrev pub GivesText : {E : Type 0} → Task → Task → List ℕ → Result Returned E → Type 0
 GivesText task task_new text result = (command : Command) (known : Known)
-    → Remembers task command known
-    → IfOk result (λ line_result. IsResult command (text_result command known text)
-    line_result task_new)
+    → Remembers task command known → IfOk result
+    (λ line_result. IsResult command (text_result command known text) line_result task_new)
 
 -- lines: the result of `unique` gives its text if it is new;
 -- own: what the task remembers, before and after (_new)
@@ -61,20 +46,18 @@ GivesText-of-unique own own_new task task_new text (Ok line_result) e e_new is k
     remembers =
     absurd (subst (λ t. Remembers t (Each command) known) e remembers)
 GivesText-of-unique own own_new task task_new text (Ok line_result) e e_new is k r
-    (Unique kind set hasher) known
-    remembers =
+    (Unique kind set hasher) known remembers =
     let same = subst (λ t. Remembers t (Unique kind set hasher) known) e remembers in
     let processed = is known same.2 in
     let given : RuleSet → KindName → LineResult × Known =
     λ b n. unique_result b (kind_named n) known text in (
       processed.0 ∙ (λ i. (given (same.1 i) (same.0 i)).0),
-      subst (λ t. Remembers t (Unique kind set hasher) (given set kind).1)
-          (sym e_new) (
-            k ∙ same.0,
-            r ∙ same.1,
-            subst (λ b. HasMet own_new.met (given b kind).1) same.1
-                (subst (λ n. HasMet own_new.met (given own.rules n).1) same.0 processed.1),
-          ),
+      subst (λ t. Remembers t (Unique kind set hasher) (given set kind).1) (sym e_new) (
+        k ∙ same.0,
+        r ∙ same.1,
+        subst (λ b. HasMet own_new.met (given b kind).1) same.1
+            (subst (λ n. HasMet own_new.met (given own.rules n).1) same.0 processed.1),
+      ),
     )
 GivesText-of-unique own own_new task task_new text (Ok line_result) e e_new is k r
     (Links base set) known remembers =
@@ -82,12 +65,10 @@ GivesText-of-unique own own_new task task_new text (Ok line_result) e e_new is k
 
 -- lines: what `urilines unique` writes is decided by the normal form, or the error
 pub unique_result-of-normalize_result : (set : RuleSet) (kind : Kind) (known : Known)
-    (text : List ℕ) (line_result : LineResult)
-    → line_result ≡ normalize_result set kind text → text_if_new known line_result
-    ≡ unique_result set kind known text
+    (text : List ℕ) (line_result : LineResult) → line_result ≡ normalize_result set kind text
+    → text_if_new known line_result ≡ unique_result set kind known text
 unfolding unique_result
-unique_result-of-normalize_result set kind known text line_result is =
-    ap (text_if_new known) is
+unique_result-of-normalize_result set kind known text line_result is = ap (text_if_new known) is
 
 -- lines: what `urilines links` writes of a reference is the outcome that the register of links
 -- defines
@@ -112,15 +93,13 @@ link_result-of-outcome set base known known_new text reference rules
 -- lines: what `urilines links` writes of a text that is no reference is the error that is defined
 -- for it
 pub link_result-of-error : (set : RuleSet) (base : List ℕ) (known : Known) (text : List ℕ)
-    (e : ParseError)
-    → ¬ (IsOfKind uri_ref text) → refusal uri_ref text ≡ Some e
+    (e : ParseError) → ¬ (IsOfKind uri_ref text) → refusal uri_ref text ≡ Some e
     → (Error (codes "reference: " ++ error_text e), known) ≡ link_result set base known text
 unfolding link_result
-link_result-of-error set base known text e not_of_kind is =
-    ap (λ m. (Error (codes "reference: " ++ m), known))
-    (error_text-is-parse_message uri_ref text e is)
-    ∙ sym (ap (λ b. if b then noted_result (outcome_of (rules_of_set set) base known text)
-    else (Error (codes "reference: " ++ parse_message uri_ref text), known))
+link_result-of-error set base known text e not_of_kind is = ap
+    (λ m. (Error (codes "reference: " ++ m), known)) (error_text-is-parse_message uri_ref text e is)
+    ∙ sym (ap (λ b. if b then noted_result (outcome_of (rules_of_set set) base known text) else
+    (Error (codes "reference: " ++ parse_message uri_ref text), known))
     (false_from_ne_true (is_of_kind uri_ref text) not_of_kind))
 
 -- lines: the command that the task of a command that remembers nothing is of

@@ -1,27 +1,17 @@
 -- What a kind's calls return is the result of a text.
-use Rattle.std.proofs.Common.{◌≡◌, ◌≢◌, ℕ, true, false, List, Result, Ok, Err, [], ◌++◌, Some, refl, ap, sym, ◌∙◌}
-use Rattle.fluent_uri.specs.Components.{components}
-use Rattle.fluent_uri.specs.Grammar.{Kind, IsOfKind, is_of_kind}
+use Rattle.uri_streams.proofs.Common.{◌≡◌, ◌≢◌, ℕ, true, false, List, Result, Ok, Err, [], ◌++◌, Some, refl, ap, sym, ◌∙◌, components, Kind, IsOfKind, is_of_kind, ParseError, ◌↔◌, IfOk, if◌then◌else◌, unwrap_or, option_map, false_from_ne_true, error_text, resolve_error_text, LineResult, Text, Error, parse_message, parsed_result, resolution_result, target_result, result_in, Refused}
 use Rattle.fluent_uri.specs.Refusals.{refusal}
-use Rattle.fluent_uri.specs.declared.ParseError.{ParseError}
 use Rattle.fluent_uri.specs.Resolving.{IsErrorWithUnderflowAllowed}
 use Rattle.fluent_uri.specs.Target.{resolution_of_texts}
 use Rattle.fluent_uri.specs.declared.resolve.ResolveError.{ResolveError}
 use Rattle.fluent_uri.specs.declared.resolve.ResolveError.TheVariants as errors
-use Rattle.std.specs.Prelude.{◌↔◌, IfOk, if◌then◌else◌, unwrap_or, option_map}
-use Rattle.std.proofs.lemmas.Bool.{false_from_ne_true}
-use Rattle.uri_commands.specs.Messages.{error_text, resolve_error_text}
 use Rattle.uri_commands.specs.declared.refusal.CommandError.TheVariants.{Target}
-use Rattle.uri_streams.specs.Results.{LineResult, Text, Error, parse_message, parsed_result, resolution_result, target_result}
-use Rattle.uri_streams.specs.Returned.{result_in}
 use Rattle.uri_streams.specs.declared.line_result.LineResult.{LineResult as Returned}
 use Rattle.uri_streams.specs.declared.line_result.LineResult.TheVariants as returned
-use Rattle.uri_streams.specs.declared.fault.LineError.TheVariants.{Refused}
 
 -- lines: the message of a text's error is the one that its rejection defines
 pub error_text-is-parse_message : (kind : Kind) (text : List ℕ) (e : ParseError)
-    → refusal kind text ≡ Some e
-    → error_text e ≡ parse_message kind text
+    → refusal kind text ≡ Some e → error_text e ≡ parse_message kind text
 error_text-is-parse_message kind text e is = sym
     (ap (λ o. unwrap_or (option_map error_text o) []) is)
 
@@ -29,9 +19,8 @@ error_text-is-parse_message kind text e is = sym
 pub parsed_result-of-kind : (subject : List ℕ) (kind : Kind) (text : List ℕ)
     (line_result : LineResult) → ((true ≡ true) ↔ IsOfKind kind text)
     → line_result ≡ parsed_result subject kind text line_result
-parsed_result-of-kind subject kind text line_result accepts =
-    sym (ap (λ b. if b then line_result else Error (subject ++ parse_message kind text))
-    (accepts.0 refl))
+parsed_result-of-kind subject kind text line_result accepts = sym (ap
+    (λ b. if b then line_result else Error (subject ++ parse_message kind text)) (accepts.0 refl))
 
 -- lines: the error of a text that could not be parsed as the kind is the result of its line
 pub parsed_result-of-error : (subject : List ℕ) (kind : Kind) (text : List ℕ)
@@ -44,9 +33,8 @@ parsed_result-of-error subject kind text line_result e accepts is =
     (false_from_ne_true (is_of_kind kind text) (λ of_kind. cc (accepts.1 of_kind))))
 
 -- lines: what `urilines resolve` writes of a target is its text
-pub target_result-of-target : (base reference target : List ℕ) → resolution_of_texts base reference
-    ≡ Ok target
-    → Text target ≡ target_result base reference
+pub target_result-of-target : (base reference target : List ℕ)
+    → resolution_of_texts base reference ≡ Ok target → Text target ≡ target_result base reference
 unfolding target_result
 target_result-of-target base reference target is = ap resolution_result (sym is)
 
@@ -54,8 +42,7 @@ target_result-of-target base reference target is = ap resolution_result (sym is)
 -- reference
 target_result-of-error : (base reference : List ℕ) (e : ResolveError)
     → IsErrorWithUnderflowAllowed (components base) (components reference) e
-    → e ≢ errors.OutOfMemory
-    → Error (resolve_error_text e) ≡ target_result base reference
+    → e ≢ errors.OutOfMemory → Error (resolve_error_text e) ≡ target_result base reference
 unfolding target_result
 target_result-of-error base reference errors.BaseWithFragment is some = ap resolution_result
     (sym is)

@@ -1,15 +1,11 @@
 -- What was met, and the first time that a normal form comes.
-use Rattle.std.proofs.Common.{◌≡◌, ℕ, Bool, true, false, cond, List, [], ◌∷◌, ◌++◌, refl, ap, sym, ◌∙◌, subst, String, string_bytes}
+use Rattle.uri_streams.proofs.Common.{◌≡◌, ℕ, Bool, true, false, cond, List, [], ◌∷◌, ◌++◌, refl, ap, sym, ◌∙◌, subst, string_bytes, bytes_eq, if◌then◌else◌, ◌||◌, list_any-append, same_from_decides, Decides-like, LineResult, Text, NoLine, HasMet, Known, text_if_new, has_met}
+use Rattle.std.proofs.Common.{String}
 use Rattle.std.specs.HashSet as bag
-use Rattle.std.specs.Prelude.{bytes_eq, if◌then◌else◌, ◌||◌}
 use Rattle.std.specs.String.{string_eq}
 use Rattle.std.proofs.Math.Bool.{or-false}
 use Rattle.std.proofs.lemmas.Map.Text.{hash_set_updates_text}
-use Rattle.std.proofs.lemmas.List.Folds.{list_any-append}
 use Rattle.std.proofs.lemmas.Slice.Eq.{bytes_eq-Decides}
-use Rattle.std.proofs.lemmas.Bool.Decides.{same_from_decides, Decides-like}
-use Rattle.uri_streams.specs.Results.{LineResult, Text, NoLine}
-use Rattle.uri_streams.specs.Tasks.{HasMet, Known, text_if_new, has_met}
 use Rattle.uri_streams.specs.declared.met.MetTexts.{MetTexts}
 
 -- lines: after an insertion, the set of `unique` has the new text and those that it had
@@ -22,8 +18,7 @@ contains_text-after-insertion key old new u other = hash_set_updates_text (strin
 
 -- general fact on texts, for `unique`: equality may swap
 bytes_eq-sym : (xs ys : List ℕ) → bytes_eq xs ys ≡ bytes_eq ys xs
-bytes_eq-sym xs ys =
-    same_from_decides {P = xs ≡ ys} _ _ (bytes_eq-Decides xs ys)
+bytes_eq-sym xs ys = same_from_decides {P = xs ≡ ys} _ _ (bytes_eq-Decides xs ys)
     (Decides-like _ (λ e. sym e) (λ e. sym e) (bytes_eq-Decides ys xs))
 
 -- general fact on booleans, for `unique`: a test or another is one that is tried if the other fails
@@ -36,16 +31,14 @@ or-as-cond false false = refl
 -- lines: after one text more, `unique` has met it and those before
 has_met-more : (known : Known) (text other : List ℕ)
     → has_met (known ++ text ∷ []) other ≡ cond (bytes_eq text other) true (has_met known other)
-has_met-more known text other =
-    list_any-append (bytes_eq other) known (text ∷ [])
+has_met-more known text other = list_any-append (bytes_eq other) known (text ∷ [])
     ∙ ap (λ b. has_met known other || b) (or-false (bytes_eq other text))
     ∙ ap (λ b. has_met known other || b) (bytes_eq-sym other text)
     ∙ sym (or-as-cond (bytes_eq text other) (has_met known other))
 
 -- lines: what `unique` writes of a text that it has not met is the text, and it has met it then
 pub text_if_new-of-new : (met met_new : MetTexts) (known : Known) (normal : List ℕ)
-    → HasMet met known
-    → ((other : List ℕ) → bag.contains_text met_new.texts other
+    → HasMet met known → ((other : List ℕ) → bag.contains_text met_new.texts other
     ≡ cond (bytes_eq normal other) true (bag.contains_text met.texts other))
     → bag.contains_text met.texts normal ≡ false
     → (Text normal ≡ (text_if_new known (Text normal)).0)

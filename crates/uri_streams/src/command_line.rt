@@ -19,6 +19,10 @@ pub use uri_commands::kinds::kind_named;
 use uri_commands::refusal::CommandError;
 
 /// How many bytes the text of a line may have, if `--max-line` doesn't say it: 1 MiB.
+use uri_commands::table::{
+    CHECK, LINKS, MEND, NORMALIZE, PARSE, QUERY, RELATIVIZE, RESOLVE, UNIQUE,
+};
+
 const MAX_LINE: u32 = 1024 * 1024;
 
 /// The name of a command on the command line of `urilines`.
@@ -112,15 +116,15 @@ pub fn command_named(word: &str) -> Option<CommandName>
         (λ name. word.now ≡ word_of_command name) }
 {
     match word {
-        "normalize" => Some(CommandName::Normalize),
-        "resolve" => Some(CommandName::Resolve),
-        "relativize" => Some(CommandName::Relativize),
-        "check" => Some(CommandName::Check),
-        "mend" => Some(CommandName::Mend),
-        "parse" => Some(CommandName::Parse),
-        "query" => Some(CommandName::Query),
-        "unique" => Some(CommandName::Unique),
-        "links" => Some(CommandName::Links),
+        _ if word == NORMALIZE.name => Some(CommandName::Normalize),
+        _ if word == RESOLVE.name => Some(CommandName::Resolve),
+        _ if word == RELATIVIZE.name => Some(CommandName::Relativize),
+        _ if word == CHECK.name => Some(CommandName::Check),
+        _ if word == MEND.name => Some(CommandName::Mend),
+        _ if word == PARSE.name => Some(CommandName::Parse),
+        _ if word == QUERY.name => Some(CommandName::Query),
+        _ if word == UNIQUE.name => Some(CommandName::Unique),
+        _ if word == LINKS.name => Some(CommandName::Links),
         _ => None,
     }
 }

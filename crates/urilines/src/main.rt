@@ -1,4 +1,5 @@
-//! Each line of standard input as a URI, an IRI or a reference: `table` has the commands.
+//! Each line of standard input as a URI, an IRI or a reference: `uri_commands::table` has the
+//! commands.
 #![tactic(auto)]
 
 mod options;

@@ -5,13 +5,14 @@ ghost use Rattle.clap.specs.Matches.{first_value, found_of, matched_of, one_text
 ghost use Rattle.urilines.specs.Words.{IsFlag, IsKindNamed, IsModeNamed};
 
 use crate::table::{
-    BASES, BASIC, COMMANDS, CommandRow, DELIMITER, ERRORS, FIELD, INVERT, KINDS, MAX_LINE, MENDED,
-    NULL, OPTIONS, OptionRow, PREFER_RELATIVE, PROGRESS, SCHEME_RULES, Value,
+    BASIC, DELIMITER, ERRORS, FIELD, INVERT, MAX_LINE, MENDED, NULL, OPTIONS, OptionRow,
+    PREFER_RELATIVE, PROGRESS, SCHEME_RULES, Value,
 };
 use clap::error::ErrorKind;
 use clap::{Arg, ArgAction, ArgMatches, Command as Words, Error, value_parser};
 use std::alloc::{AllocError, Global};
 use std::hash::RandomState;
+use uri_commands::table::{BASES, COMMANDS, CommandRow, KINDS};
 use uri_streams::command::KindName;
 use uri_streams::command_line::{
     self, CommandLine, CommandLineError, CommandName, command_named, kind_named, on_error_named,

@@ -1,4 +1,4 @@
-//! URIs and IRIs on the command line: `USAGE` of `uri_commands` has the forms.
+//! URIs and IRIs on the command line: `uri_commands::table` has the forms.
 #![tactic(auto)]
 
 use std::alloc::Global;

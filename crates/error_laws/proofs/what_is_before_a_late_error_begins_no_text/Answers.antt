@@ -1,7 +1,6 @@
 use Rattle.error_laws.proofs.KindFacts.{facts-of-four-kinds}
 use Rattle.error_laws.proofs.Whole.{late-error-begins-no-text}
-use Rattle.uri_parts.specs.Grammar.{uri, uri_ref, iri, iri_ref}
-use Rattle.std.specs.Prelude.{false, true}
+use Rattle.error_laws.proofs.Common.{uri, uri_ref, iri, iri_ref, false, true}
 use Rattle.error_laws.proofs.what_is_before_a_late_error_begins_no_text.Goals as goal
 
 pub returns-clause-uri : goal.returns-clause-uri

@@ -1,7 +1,6 @@
 use Rattle.error_laws.proofs.KindFacts.{facts-of-four-kinds}
 use Rattle.error_laws.proofs.Whole.{text-before-error-is-viable}
-use Rattle.uri_parts.specs.Grammar.{uri, uri_ref, iri, iri_ref}
-use Rattle.std.specs.Prelude.{false, true}
+use Rattle.error_laws.proofs.Common.{uri, uri_ref, iri, iri_ref, false, true}
 use Rattle.error_laws.proofs.what_is_before_an_error_begins_a_text.Goals as goal
 
 pub returns-clause-uri : goal.returns-clause-uri

@@ -1,6 +1,4 @@
-use Rattle.std.proofs.Common.{true}
-use Rattle.uri_parts.specs.Grammar.{uri, iri}
-use Rattle.uri_abnf.specs.Derivations.{uri_rules, iri_rules}
+use Rattle.uri_abnf.proofs.Common.{true, uri, iri, uri_rules, iri_rules}
 use Rattle.uri_abnf.proofs.BothRfcs.{uri-rules-fit, iri-rules-fit}
 use Rattle.uri_abnf.proofs.PartRules.{authority-is-derived, authority-derivations-are-unique}
 use Rattle.uri_abnf.proofs.authorities_are_derived_in_one_way.Goals as goal

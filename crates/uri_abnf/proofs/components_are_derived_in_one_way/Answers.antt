@@ -1,6 +1,4 @@
-use Rattle.std.proofs.Common.{false}
-use Rattle.uri_parts.specs.Grammar.{uri_ref, iri_ref}
-use Rattle.uri_abnf.specs.Derivations.{uri_rules, iri_rules}
+use Rattle.uri_abnf.proofs.Common.{false, uri_ref, iri_ref, uri_rules, iri_rules}
 use Rattle.uri_abnf.proofs.BothRfcs.{uri-rules-fit, iri-rules-fit}
 use Rattle.uri_abnf.proofs.KindRules.{derived-components-are-unique, reference-is-derived}
 use Rattle.uri_abnf.proofs.components_are_derived_in_one_way.Goals as goal

@@ -1,6 +1,4 @@
-use Rattle.std.proofs.Common.{true}
-use Rattle.uri_parts.specs.Grammar.{uri, iri}
-use Rattle.uri_abnf.specs.Derivations.{uri_rules, iri_rules}
+use Rattle.uri_abnf.proofs.Common.{true, uri, iri, uri_rules, iri_rules}
 use Rattle.uri_abnf.proofs.Authorities.{port-rule}
 use Rattle.uri_abnf.proofs.BothRfcs.{uri-rules-fit, iri-rules-fit}
 use Rattle.uri_abnf.proofs.PartRules.{schemes-are-of-rule, authorities-are-of-rule}

@@ -1,6 +1,4 @@
-use Rattle.std.proofs.Common.{true}
-use Rattle.uri_parts.specs.Grammar.{uri, iri}
-use Rattle.uri_abnf.specs.Derivations.{uri_rules, iri_rules}
+use Rattle.uri_abnf.proofs.Common.{true, uri, iri, uri_rules, iri_rules}
 use Rattle.uri_abnf.proofs.BothRfcs.{uri-rules-fit, iri-rules-fit}
 use Rattle.uri_abnf.proofs.PartRules.{ipv6-hosts-are-of-rule, ipv_future-hosts-are-of-rule, ipv4-hosts-are-of-rule, names-are-of-rule}
 use Rattle.uri_abnf.proofs.hosts_are_of_the_first_rule_that_has_them.Goals as goal

@@ -1,7 +1,4 @@
-use Rattle.std.proofs.Common.{List, ℕ, sym, subst, ◌↔◌, IsUtf8}
-use Rattle.uri_parts.specs.Grammar.{Kind, IsOfKind}
-use Rattle.uri_abnf.specs.Abnf.{IsOf}
-use Rattle.uri_abnf.specs.Derivations.{start_rule}
+use Rattle.uri_abnf.proofs.Common.{List, ℕ, sym, subst, ◌↔◌, IsUtf8, Kind, IsOfKind, IsOf, start_rule}
 use Rattle.uri_abnf.proofs.Languages.{texts-of-kind-are-of-rule}
 use Rattle.uri_abnf.proofs.of_the_printed_grammar.Goals as goal
 

@@ -111,10 +111,8 @@ host-for-ascii_set-is-ascii names lacks text (Ipv6 segments) u (address, e, grou
 host-for-ascii_set-is-ascii names lacks text IpvFuture u (address, e, future) =
     let ascii_parts = ipvfuture-has-ascii-parts address
     (address-in-brackets-is-utf8 address (subst IsUtf8 e u)) future in
-    ap ascii e
-    ∙ bracketed-ascii-address-is-ascii address
-    (text-passing-ascii-test-is-ascii is_userinfo_char address
-    (ipvfuture-is-userinfo-characters address future ascii_parts))
+    ap ascii e ∙ bracketed-ascii-address-is-ascii address (text-passing-ascii-test-is-ascii
+    is_userinfo_char address (ipvfuture-is-userinfo-characters address future ascii_parts))
 host-for-ascii_set-is-ascii names lacks text (Ipv4 octets) u dotted = dotted-decimal-is-ascii text
     octets dotted
 host-for-ascii_set-is-ascii names lacks text RegName u (valid, other) = text-for-ascii_set-is-ascii
@@ -135,20 +133,15 @@ module _ (kind : Kind) (sets : HasComponentSets kind) where
   authority-of-ascii-kind-is-ascii : (a : List ℕ) → IsUtf8 a → is_authority kind_of_ascii a ≡ true
       → ascii a ≡ true
   authority-of-ascii-kind-is-ascii a u e =
-      let grammar = is_authority_for-sound kind_of_ascii.userinfo kind_of_ascii.reg_name a e in
+      let grammar = is_authority_for-sound _ _ a e in
       let p = authority_parts a in
-      let utf8 = authority-parts-are-utf8 p.userinfo p.port p.host
-      (subst IsUtf8 (sym grammar.whole) u) in
-      let user = IfSome-combine p.userinfo IsUtf8 (IsValidFor kind_of_ascii.userinfo) (λ x. ascii x
-      ≡ true)
+      let utf8 = authority-parts-are-utf8 _ _ _ (subst IsUtf8 (sym grammar.whole) u) in
+      let user = IfSome-combine _ _ _ _
       (λ x v h. text-for-ascii_set-is-ascii kind.userinfo sets.userinfo.percent x v h) utf8.userinfo
       grammar.userinfo in
-      let port = IfSome-combine p.port IsUtf8 (IsValidFor digit_set) (λ x. ascii x
-      ≡ true) port-digits-are-ascii
-      utf8.port grammar.port in
+      let port = IfSome-combine _ _ _ _ port-digits-are-ascii utf8.port grammar.port in
       let host = host-for-ascii_set-is-ascii kind.reg_name sets.reg_name.percent p.host
-      grammar.host.0 utf8.host
-      grammar.host.1 in
+      grammar.host.0 utf8.host grammar.host.1 in
       let suffix = marked (codes ":") p.port [] in
       sym (ap ascii grammar.whole)
       ∙ append-of-ascii-is-ascii (marked [] p.userinfo (codes "@")) (p.host ++ suffix)
@@ -159,10 +152,9 @@ module _ (kind : Kind) (sets : HasComponentSets kind) where
   component-of-ascii_set-is-ascii : (marks : List ℕ) (set : TableSet) → IsComponentSet marks set
       → (o : Option (List ℕ)) → IfSome o (λ x. is_set_text (ascii_set set) x ≡ true)
       → IfSome o (λ x. ascii x ≡ true)
-  component-of-ascii_set-is-ascii marks set w o h =
-      IfSome-weaken o (λ x. is_set_text (ascii_set set) x ≡ true) (λ x. ascii x ≡ true)
-      (λ x e. text-for-ascii_set-is-ascii set w.percent x (set-text-is-utf8 (ascii_set set) x e)
-      (set-text-is-valid (ascii_set set) x e)) h
+  component-of-ascii_set-is-ascii marks set w o h = IfSome-weaken o _ _
+      (λ x e. text-for-ascii_set-is-ascii set w.percent x (set-text-is-utf8 _ x e)
+      (set-text-is-valid _ x e)) h
 
   recomposed-ascii-components-are-ascii : (p : Components) → ArePartsOfKind kind_of_ascii p
       → ascii (recompose p) ≡ true
@@ -171,26 +163,19 @@ module _ (kind : Kind) (sets : HasComponentSets kind) where
       let a = marked (codes "//") p.authority [] in
       let q = marked (codes "?") p.query [] in
       let f = marked (codes "#") p.fragment [] in
-      let scheme = IfSome-weaken p.scheme (λ x. IsUtf8 x × (is_scheme x ≡ true))
-      (λ x. ascii x ≡ true)
+      let scheme = IfSome-weaken _ _ _
       (λ x h. schemes-are-ascii x h.0 h.1) parts.scheme in
-      let authority = IfSome-weaken p.authority (λ x. IsUtf8 x
-      × (is_authority kind_of_ascii x ≡ true))
-      (λ x. ascii x ≡ true) (λ x h. authority-of-ascii-kind-is-ascii x h.0 h.1) parts.authority in
+      let authority = IfSome-weaken _ _
+      _ (λ x h. authority-of-ascii-kind-is-ascii x h.0 h.1) parts.authority in
       let path = text-for-ascii_set-is-ascii kind.path sets.path.percent p.path
-      (set-text-is-utf8 kind_of_ascii.path p.path parts.path)
-      (set-text-is-valid kind_of_ascii.path p.path parts.path) in
-      let query = component-of-ascii_set-is-ascii (codes "#[]") kind.query sets.query p.query
-      parts.query in
-      let fragment = component-of-ascii_set-is-ascii (codes "#[]") kind.fragment
-      sets.fragment p.fragment
-      parts.fragment in
+      (set-text-is-utf8 _ _ parts.path) (set-text-is-valid _ _ parts.path) in
+      let query = component-of-ascii_set-is-ascii _ _ sets.query _ parts.query in
+      let fragment = component-of-ascii_set-is-ascii _ _ sets.fragment _ parts.fragment in
       append-of-ascii-is-ascii s (a ++ (p.path ++ (q ++ f)))
       (delimited-ascii-component-is-ascii [] (codes ":") p.scheme refl refl scheme)
       (append-of-ascii-is-ascii a (p.path ++ (q ++ f))
       (delimited-ascii-component-is-ascii (codes "//") [] p.authority refl refl authority)
-      (append-of-ascii-is-ascii p.path (q ++ f) path
-      (append-of-ascii-is-ascii q f
+      (append-of-ascii-is-ascii p.path (q ++ f) path (append-of-ascii-is-ascii q f
       (delimited-ascii-component-is-ascii (codes "?") [] p.query refl refl query)
       (delimited-ascii-component-is-ascii (codes "#") [] p.fragment refl refl fragment))))
 

@@ -97,8 +97,7 @@ encoding-keeps-ascii-hosts names text h is_h e =
     let same = ascii-text-is-its-own-encoding text e in
     record {
       host = (h, subst (λ t. IsHost (ascii_set names) t h) (sym same) is_h);
-      meaning =
-          ap (λ t. host_meaning names t (host_kind t)) same;
+      meaning = ap (λ t. host_meaning names t (host_kind t)) same;
     }
 
 module _ (names : TableSet) (w : IsComponentSet (codes "/?#[]@:") names)
@@ -106,24 +105,20 @@ module _ (names : TableSet) (w : IsComponentSet (codes "/?#[]@:") names)
   encoding-keeps-names : (text : List ℕ) → is_set_text names text ≡ true
       → EncodingKeepsHost names text
   encoding-keeps-names text part =
-      let first =
-      lacking_text_does_not_begin_with (codes "@:[") text 91 refl
+      let first = lacking_text_does_not_begin_with (codes "@:[") text 91 refl
       (valid_text_lacks_excluded_marks names (codes "@:[") w.percent apart text
-      (set-text-is-utf8 names text part)
-      (set-text-is-valid names text part)) in
+      (set-text-is-utf8 names text part) (set-text-is-valid names text part)) in
       let other = encoding-keeps-leading-delimiter 91 refl text ∙ first in
       let encoded_part = encoded-part-is-valid-for-ascii_set names w.octets text part in
       let at = unbracketed-valid-text-is-name (ascii_set names)
-      (ascii_set-is-component-set (codes "/?#[]@:") names w) apart
-      (encode_past_ascii text) other
+      (ascii_set-is-component-set (codes "/?#[]@:") names w) apart (encode_past_ascii text) other
       (set-text-is-valid (ascii_set names) (encode_past_ascii text) encoded_part) in
       let was = unbracketed-valid-text-is-name names w apart text first
       (set-text-is-valid names text part) in
       record {
         host = (
           host_kind (encode_past_ascii text),
-          is_host-sound (ascii_set names) (encode_past_ascii text)
-              at.1,
+          is_host-sound (ascii_set names) (encode_past_ascii text) at.1,
         );
         meaning = ap (host_meaning names (encode_past_ascii text)) at.0
             ∙ meaning-of-name-is-lowered-decoded names w apart (encode_past_ascii text)
@@ -136,22 +131,19 @@ module _ (names : TableSet) (w : IsComponentSet (codes "/?#[]@:") names)
 
   encoding-keeps-hosts : (text : List ℕ) (h : HostKind) → IsUtf8 text → IsHost names text h
       → EncodingKeepsHost names text
-  encoding-keeps-hosts text (Ipv6 segments) u (address, e, groups) =
-      encoding-keeps-ascii-hosts names text (Ipv6 segments) (address, e, groups)
-      (ap (list_all (λ c. ltb c 128)) e
+  encoding-keeps-hosts text (Ipv6 segments) u (address, e, groups) = encoding-keeps-ascii-hosts
+      names text (Ipv6 segments) (address, e, groups) (ap (list_all (λ c. ltb c 128)) e
       ∙ bracketed-ascii-address-is-ascii address
       (address-text-is-ascii address (ipv6-text-is-address-text address segments groups)))
   encoding-keeps-hosts text IpvFuture u (address, e, future) =
       let ascii_parts = ipvfuture-has-ascii-parts address
       (address-in-brackets-is-utf8 address (subst IsUtf8 e u)) future in
       encoding-keeps-ascii-hosts names text IpvFuture (address, e, future)
-      (ap (list_all (λ c. ltb c 128)) e
-      ∙ bracketed-ascii-address-is-ascii address
+      (ap (list_all (λ c. ltb c 128)) e ∙ bracketed-ascii-address-is-ascii address
       (text-passing-ascii-test-is-ascii is_userinfo_char address
       (ipvfuture-is-userinfo-characters address future ascii_parts)))
-  encoding-keeps-hosts text (Ipv4 octets) u dotted =
-      encoding-keeps-ascii-hosts names text (Ipv4 octets) dotted
-      (dotted-decimal-is-ascii text octets dotted)
+  encoding-keeps-hosts text (Ipv4 octets) u dotted = encoding-keeps-ascii-hosts names text
+      (Ipv4 octets) dotted (dotted-decimal-is-ascii text octets dotted)
   encoding-keeps-hosts text RegName u (valid, other) = encoding-keeps-names text
       (set-text-from-utf8 names text u valid)
 
@@ -159,8 +151,7 @@ module _ (names : TableSet) (w : IsComponentSet (codes "/?#[]@:") names)
 abbrev pub encoded_authority_parts : AuthorityParts → AuthorityParts
 encoded_authority_parts p = record {
   userinfo = option_map encode_past_ascii p.userinfo;
-  host =
-      encode_past_ascii p.host;
+  host = encode_past_ascii p.host;
   port = option_map encode_past_ascii p.port;
 }
 
@@ -170,11 +161,10 @@ pub encoding-and-recomposing-authority-swap : (p : AuthorityParts)
     → encode_past_ascii (recompose_authority p) ≡ recompose_authority (encoded_authority_parts p)
 encoding-and-recomposing-authority-swap p =
     let port = marked (codes ":") p.port [] in
-    encoding-of-append-is-append (marked [] p.userinfo (codes "@")) (p.host ++ port)
-    ∙ ap (λ x. x ++ encode_past_ascii (p.host ++ port))
-    (encoding-keeps-delimiters [] (codes "@") p.userinfo refl refl)
+    encoding-of-append-is-append _ _
+    ∙ ap (λ x. x ++ encode_past_ascii (p.host ++ port)) (encoding-keeps-delimiters [] _ _ refl refl)
     ∙ ap (λ x. marked [] (option_map encode_past_ascii p.userinfo) (codes "@") ++ x)
-    (encoding-of-append-is-append p.host port ∙ ap (λ x. encode_past_ascii p.host ++ x)
+    (encoding-of-append-is-append _ _ ∙ ap (λ x. encode_past_ascii p.host ++ x)
     (encoding-keeps-delimiters (codes ":") [] p.port refl refl))
 
 -- IRIs as URIs: encoding characters past ASCII leaves the digits of a port
@@ -245,42 +235,36 @@ module _ (kind : Kind) (sets : HasComponentSets kind) (a : List ℕ) (u : IsUtf8
       (encode_past_ascii a)
       (encoded_authority_parts parts)
   encoded-authority-follows-grammar = record {
-    whole = sym (encoding-and-recomposing-authority-swap parts)
-        ∙ ap encode_past_ascii grammar.whole;
+    whole = sym (encoding-and-recomposing-authority-swap _) ∙ ap encode_past_ascii grammar.whole;
     userinfo = encoded-component-has-property parts.userinfo (λ x. is_set_text users x ≡ true)
         (IsValidFor (ascii_set users))
-        (λ x h. set-text-is-valid (ascii_set users) (encode_past_ascii x)
+        (λ x h. set-text-is-valid _ _
         (encoded-part-is-valid-for-ascii_set users sets.userinfo.octets x h)) user;
     host = host.host;
     port = subst (λ o. IfSome o (IsValidFor digit_set))
-        (sym (port-stays-when-encoded parts.port utf8.port grammar.port)) grammar.port;
+        (sym (port-stays-when-encoded _ utf8.port grammar.port)) grammar.port;
   }
 
   pub encoded-authority-is-of-ascii_kind : is_authority (ascii_kind kind) (encode_past_ascii a)
       ≡ true
-  encoded-authority-is-of-ascii_kind = is_authority_for-complete (ascii_set users)
-      (ascii_set names) ascii_apart
-      (encode_past_ascii a) (encoded_authority_parts parts) (encoded-text-is-utf8 a u)
-      encoded-authority-follows-grammar
+  encoded-authority-is-of-ascii_kind = is_authority_for-complete _ _ ascii_apart _ _
+      (encoded-text-is-utf8 a u) encoded-authority-follows-grammar
 
   pub parts-of-encoded-authority-are-encoded : authority_parts (encode_past_ascii a)
       ≡ encoded_authority_parts parts
-  parts-of-encoded-authority-are-encoded = authority_parts-are-unique (ascii_set users)
-      (ascii_set names) ascii_apart
-      (encode_past_ascii a) (encoded_authority_parts parts) (encoded-text-is-utf8 a u)
-      encoded-authority-follows-grammar
+  parts-of-encoded-authority-are-encoded = authority_parts-are-unique _ _ ascii_apart _ _
+      (encoded-text-is-utf8 a u) encoded-authority-follows-grammar
 
   pub encoding-keeps-authority-meaning : (default : Option ℕ)
       → authority_meaning kind default (encode_past_ascii a) ≡ authority_meaning kind default a
-  encoding-keeps-authority-meaning default =
-      grind (
-        arith,
-        nat_tests,
-        host,
-        decode_unreserved-encoded_option,
-        user,
-        port-stays-when-encoded,
-        utf8,
-        grammar,
-        parts-of-encoded-authority-are-encoded,
-      )
+  encoding-keeps-authority-meaning default = grind (
+    arith,
+    nat_tests,
+    host,
+    decode_unreserved-encoded_option,
+    user,
+    port-stays-when-encoded,
+    utf8,
+    grammar,
+    parts-of-encoded-authority-are-encoded,
+  )

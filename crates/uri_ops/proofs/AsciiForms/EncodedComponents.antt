@@ -60,8 +60,7 @@ encoded-scheme-lacks-its-ends : (o : Option (List ℕ)) → IfSome o IsUtf8
     → IfSome (option_map encode_past_ascii o) (λ s. (0 < length s) × Lacks (codes ":/?#") s)
 encoded-scheme-lacks-its-ends None u h = tt
 encoded-scheme-lacks-its-ends (Some s) u h = (
-  not-empty-has-length (encode_past_ascii s) (encoding-keeps-emptiness s
-      ∙ text-with-bytes-is-not-empty s h.0),
+  not-empty-has-length _ (encoding-keeps-emptiness s ∙ text-with-bytes-is-not-empty s h.0),
   encoding-keeps-lacked-delimiters (codes ":/?#") refl s u h.1,
 )
 
@@ -82,8 +81,7 @@ encoded-authority-lacks-its-ends : (o : Option (List ℕ)) (path : List ℕ) →
 encoded-authority-lacks-its-ends None path u h = tt
 encoded-authority-lacks-its-ends (Some a) path u h = (
   encoding-keeps-lacked-delimiters (codes "/?#") refl a u h.0,
-  encoded-abempty-path-is-abempty
-      path h.1,
+  encoded-abempty-path-is-abempty path h.1,
 )
 
 -- IRIs as URIs: an encoded query, if there is one, has no `#`
@@ -107,15 +105,13 @@ encoded-text-splits-into-encoded-components : (text : List ℕ) (p : Components)
     → IsSplitOf (encode_past_ascii text) (encoded_components p)
 encoded-text-splits-into-encoded-components text p u v split = record {
   whole = sym (encoding-and-recomposing-swap p) ∙ ap encode_past_ascii split.whole;
-  scheme = encoded-scheme-lacks-its-ends p.scheme v.scheme split.scheme;
-  authority = encoded-authority-lacks-its-ends p.authority p.path v.authority split.authority;
+  scheme = encoded-scheme-lacks-its-ends _ v.scheme split.scheme;
+  authority = encoded-authority-lacks-its-ends _ _ v.authority split.authority;
   path = encoding-keeps-lacked-delimiters (codes "?#") refl p.path v.path split.path;
-  query = encoded-query-lacks-its-end p.query v.query split.query;
-  no_scheme = absent-component-stays-when-encoded p.scheme (has_scheme text)
-      (has_scheme (encode_past_ascii text))
-      (encoding-keeps-has_scheme text u) split.no_scheme;
-  no_authority = absent-component-stays-when-encoded p.authority (has_authority p.path)
-      (has_authority (encode_past_ascii p.path)) (encoding-keeps-two-slashes p.path)
+  query = encoded-query-lacks-its-end _ v.query split.query;
+  no_scheme = absent-component-stays-when-encoded _ _ _ (encoding-keeps-has_scheme _ u)
+      split.no_scheme;
+  no_authority = absent-component-stays-when-encoded _ _ _ (encoding-keeps-two-slashes _)
       split.no_authority;
 }
 
@@ -123,7 +119,5 @@ encoded-text-splits-into-encoded-components text p u v split = record {
 pub components-of-encoded-text-are-encoded : (text : List ℕ) → IsUtf8 text
     → components (encode_past_ascii text) ≡ encoded_components (components text)
 components-of-encoded-text-are-encoded text u = only-split-is-components (encode_past_ascii text)
-    (encoded_components (components text))
-    (encoded-text-splits-into-encoded-components text (components text) u
-    (components-of-utf8-are-utf8 text u)
-    (components-are-split-of-text text))
+    (encoded_components (components text)) (encoded-text-splits-into-encoded-components text
+    (components text) u (components-of-utf8-are-utf8 text u) (components-are-split-of-text text))

@@ -61,9 +61,8 @@ module _ (set : TableSet) where
       → decode_after_run set run (flat_map encoded_token ts) ≡ decode_after_run set run ts
   unfolding decode_after_run
   decode_after_run-of-encoded-tokens run [] e = refl
-  decode_after_run-of-encoded-tokens run (Octet value ∷ ts) e =
-      decode_after_run-of-encoded-tokens (run ++ value ∷ []) ts
-      (and_parts set.pct_encoded (list_all (allows_token set) ts) e).1
+  decode_after_run-of-encoded-tokens run (Octet value ∷ ts) e = decode_after_run-of-encoded-tokens
+      (run ++ value ∷ []) ts (and_parts set.pct_encoded (list_all (allows_token set) ts) e).1
   decode_after_run-of-encoded-tokens run (Char c ∷ ts) e =
       let p = and_parts (allows set c) (list_all (allows_token set) ts) e in
       let rest = decode_after_run-of-encoded-tokens [] ts p.1 in
@@ -86,7 +85,6 @@ module _ (set : TableSet) where
   pub decode_unreserved-of-encoded-text : (text : List ℕ) → is_set_text set text ≡ true
       → decode_unreserved set (encode_past_ascii text) ≡ decode_unreserved set text
   unfolding is_valid_for
-  decode_unreserved-of-encoded-text text e =
-      ap (encode_formatting set) (ap (decode_tokens set)
-      (tokens-of-encoded-text text (set-text-is-utf8 set text e))
+  decode_unreserved-of-encoded-text text e = ap (encode_formatting set)
+      (ap (decode_tokens set) (tokens-of-encoded-text text (set-text-is-utf8 set text e))
       ∙ decode_after_run-of-encoded-tokens [] (tokens text) (set-text-is-valid set text e))

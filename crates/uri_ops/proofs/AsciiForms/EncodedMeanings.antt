@@ -99,32 +99,28 @@ module _ (kind : Kind) (sets : HasComponentSets kind) where
   encoding-keeps-scheme-or-colon-rule None (Some a) path part h = h
   encoding-keeps-scheme-or-colon-rule None None path part h =
       let q = and_parts (not kind.needs_scheme) (not (has_colon_in_first_segment path)) h in
-      and_from _ _ q.0
-      (not_from_false _ (encoding-adds-no-colon-first path (set-text-is-utf8 kind.path path part)
-      (not-true _ q.1)))
+      and_from _ _ q.0 (not_from_false _
+      (encoding-adds-no-colon-first path (set-text-is-utf8 kind.path path part) (not-true _ q.1)))
 
   encoded-components-are-of-ascii_kind : (p : Components) → ArePartsOfKind kind p
       → ArePartsOfKind (ascii_kind kind) (encoded_components p)
   encoded-components-are-of-ascii_kind p parts = record {
     scheme = subst (λ o. IfSome o (λ s. IsUtf8 s × (is_scheme s ≡ true)))
-        (sym (schemes-stay-when-encoded p.scheme parts.scheme)) parts.scheme;
-    authority = encoded-authority-if-some-is-of-ascii_kind p.authority parts.authority;
-    path = encoded-part-is-valid-for-ascii_set kind.path sets.path.octets p.path parts.path;
-    query = encoded-component-is-for-ascii_set kind.query sets.query.octets p.query parts.query;
-    fragment = encoded-component-is-for-ascii_set kind.fragment sets.fragment.octets p.fragment
-        parts.fragment;
-    needs = encoding-keeps-scheme-or-colon-rule p.scheme p.authority p.path parts.path parts.needs;
+        (sym (schemes-stay-when-encoded _ parts.scheme)) parts.scheme;
+    authority = encoded-authority-if-some-is-of-ascii_kind _ parts.authority;
+    path = encoded-part-is-valid-for-ascii_set _ sets.path.octets _ parts.path;
+    query = encoded-component-is-for-ascii_set _ sets.query.octets _ parts.query;
+    fragment = encoded-component-is-for-ascii_set _ sets.fragment.octets _ parts.fragment;
+    needs = encoding-keeps-scheme-or-colon-rule _ _ _ parts.path parts.needs;
   }
 
   pub encoded-text-is-of-ascii_kind : (text : List ℕ) → IsTextOf kind text
       → IsTextOf (ascii_kind kind) (encode_past_ascii text)
   encoded-text-is-of-ascii_kind text w = record {
-    utf8 = encoded-text-is-utf8 text w.utf8;
+    utf8 = encoded-text-is-utf8 _ w.utf8;
     grammar = ap (components_meet_rules (ascii_kind kind))
-        (components-of-encoded-text-are-encoded text w.utf8)
-        ∙ components-of-kind-meet-grammar (ascii_kind kind) (encoded_components (components text))
-        (encoded-components-are-of-ascii_kind (components text)
-        (text-has-parts-of-kind kind text w));
+        (components-of-encoded-text-are-encoded _ w.utf8) ∙ components-of-kind-meet-grammar _ _
+        (encoded-components-are-of-ascii_kind _ (text-has-parts-of-kind _ _ w));
   }
 
   -- the meaning
@@ -142,8 +138,7 @@ module _ (kind : Kind) (sets : HasComponentSets kind) where
       → decode_unreserved kind.path (dotless_path scheme (encode_past_ascii path))
       ≡ decode_unreserved kind.path (dotless_path scheme path)
   encoding-keeps-path-meaning None path part = decode_unreserved-of-encoded-text kind.path path part
-  encoding-keeps-path-meaning (Some s) path part =
-      ap (decode_unreserved kind.path)
+  encoding-keeps-path-meaning (Some s) path part = ap (decode_unreserved kind.path)
       (dotless_if_absolute-and-encoding-swap path (set-text-is-utf8 kind.path path part))
       ∙ decode_unreserved-of-encoded-text kind.path (dotless_if_absolute path)
       (path-without-dots-is-set-text kind.path sets.path sets.slash path part)
@@ -151,22 +146,20 @@ module _ (kind : Kind) (sets : HasComponentSets kind) where
   encoding-keeps-components_meaning : (ports : PortFunction) (p : Components)
       → ArePartsOfKind kind p
       → components_meaning kind ports (encoded_components p) ≡ components_meaning kind ports p
-  encoding-keeps-components_meaning ports p parts =
-      grind (
-        arith,
-        nat_tests,
-        schemes-stay-when-encoded,
-        encoding-keeps-optional-authority-meaning,
-        encoding-keeps-path-meaning,
-        decode_unreserved-encoded_option,
-      )
+  encoding-keeps-components_meaning ports p parts = grind (
+    arith,
+    nat_tests,
+    schemes-stay-when-encoded,
+    encoding-keeps-optional-authority-meaning,
+    encoding-keeps-path-meaning,
+    decode_unreserved-encoded_option,
+  )
 
   pub encoding-keeps-meaning_of-text : (ports : PortFunction) (text : List ℕ) → IsTextOf kind text
       → meaning_of kind ports (encode_past_ascii text) ≡ meaning_of kind ports text
   encoding-keeps-meaning_of-text ports text w =
-      ap (components_meaning kind ports) (components-of-encoded-text-are-encoded text w.utf8)
-      ∙ encoding-keeps-components_meaning ports (components text)
-      (text-has-parts-of-kind kind text w)
+      ap (components_meaning kind ports) (components-of-encoded-text-are-encoded _ w.utf8)
+      ∙ encoding-keeps-components_meaning _ _ (text-has-parts-of-kind _ _ w)
 
   -- and under any rules of schemes
   pub encoding-keeps-meaning_under-text : (rules : Rules) (text : List ℕ) → IsTextOf kind text

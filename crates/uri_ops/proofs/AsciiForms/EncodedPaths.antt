@@ -94,9 +94,8 @@ module _ (p : ℕ → Bool) (percent : p 37 ≡ true)
       (λ h. ap (list_all p) (encoding-starts-with-ascii-byte b text h)
       ∙ and_from _ _ r.0 (encoded-bytes-pass-test text q.1 r.1))
       (λ h. ap (list_all p) (encoding-starts-with-octet b text h)
-      ∙ list_all-append p (octet_text b) (encode_past_ascii text)
-      ∙ and_from _ _ (octet_text-passes-test-of-hex-digits b q.0)
-      (encoded-bytes-pass-test text q.1 r.1))
+      ∙ list_all-append p (octet_text b) (encode_past_ascii text) ∙ and_from _ _
+      (octet_text-passes-test-of-hex-digits b q.0) (encoded-bytes-pass-test text q.1 r.1))
       (cases_lt b 128)
 
   encoding-keeps-tests : (text : List ℕ) → IsUtf8 text → list_all p text ≡ true
@@ -151,16 +150,15 @@ encoding-keeps-emptiness (b ∷ x) = ⊎_elim (λ h. ap is_empty (encoding-start
 -- IRIs as URIs: a text begins with `//` exactly if it does after encoding
 pub encoding-keeps-two-slashes : (x : List ℕ) → has_authority (encode_past_ascii x)
     ≡ has_authority x
-encoding-keeps-two-slashes x =
-    grind (
-      arith,
-      nat_tests,
-      leading-slash-splits-off,
-      encoding-starts-with-ascii-byte,
-      second-slash-makes-two-slashes,
-      encoding-keeps-leading-delimiter,
-      no-leading-slash-no-two-slashes,
-    )
+encoding-keeps-two-slashes x = grind (
+  arith,
+  nat_tests,
+  leading-slash-splits-off,
+  encoding-starts-with-ascii-byte,
+  second-slash-makes-two-slashes,
+  encoding-keeps-leading-delimiter,
+  no-leading-slash-no-two-slashes,
+)
 
 -- IRIs as URIs: a text that is empty or begins with a delimiter is so when encoded
 encoding-keeps-empty-or-delimited : (marks : List ℕ) → list_all is_outside_octets marks ≡ true
@@ -179,14 +177,13 @@ pub encoding-and-cutting-swap : (marks : List ℕ) → list_all is_outside_octet
     → (before_any marks (encode_past_ascii x) ≡ encode_past_ascii (before_any marks x))
     × (from_any marks (encode_past_ascii x) ≡ encode_past_ascii (from_any marks x))
 encoding-and-cutting-swap marks not_in_octets x u v =
-    let cut = text-is-cut-at-first-mark marks x in
+    let cut = text-is-cut-at-first-mark _ x in
     let whole : encode_past_ascii x ≡ encode_past_ascii (before_any marks x)
     ++ encode_past_ascii (from_any marks x) = ap encode_past_ascii (sym cut.whole)
-    ∙ encoding-of-append-is-append (before_any marks x) (from_any marks x) in
-    let parts = cut-at-end-of-text-without-marks marks (encode_past_ascii (before_any marks x))
-    (encode_past_ascii (from_any marks x))
-    (encoding-keeps-lacked-delimiters marks not_in_octets (before_any marks x) v cut.lacks)
-    (encoding-keeps-empty-or-delimited marks not_in_octets (from_any marks x) cut.begins) in
+    ∙ encoding-of-append-is-append _ _ in
+    let parts = cut-at-end-of-text-without-marks _ _ _
+    (encoding-keeps-lacked-delimiters _ not_in_octets _ v cut.lacks)
+    (encoding-keeps-empty-or-delimited _ not_in_octets _ cut.begins) in
     (ap (before_any marks) whole ∙ parts.0, ap (from_any marks) whole ∙ parts.1)
 
 -- IRIs as URIs: a path is encoded segment by segment
@@ -194,9 +191,8 @@ encoding-of-slashed-is-by-segment : (segs : List (List ℕ))
     → encode_past_ascii (slashed segs) ≡ slashed (map encode_past_ascii segs)
 unfolding slashed
 encoding-of-slashed-is-by-segment [] = encoding-of-nil-is-nil
-encoding-of-slashed-is-by-segment (s ∷ rest) = encoding-starts-with-ascii-byte 47
-    (s ++ slashed rest) (lit< tt)
-    ∙ ap (λ t. 47 ∷ t) (encoding-of-append-is-append s (slashed rest)
+encoding-of-slashed-is-by-segment (s ∷ rest) = encoding-starts-with-ascii-byte 47 _ (lit< tt) ∙ ap
+    (λ t. 47 ∷ t) (encoding-of-append-is-append s (slashed rest)
     ∙ ap (λ t. encode_past_ascii s ++ t) (encoding-of-slashed-is-by-segment rest))
 
 -- IRIs as URIs, paths: each segment of a text in UTF-8 is UTF-8
@@ -215,8 +211,7 @@ pub segments-of-utf8-path-are-utf8 : (s : List ℕ) (rest : List (List ℕ))
     → AllPass is_utf8 (s ∷ rest)
 unfolding slashed
 segments-of-utf8-path-are-utf8 s rest u = segments-of-joined-utf8-are-utf8 s rest
-    (utf8_around_ascii_byte [] 47 (s ++ slashed rest)
-    (lit< tt) u).1
+    (utf8_around_ascii_byte [] 47 (s ++ slashed rest) (lit< tt) u).1
 
 -- IRIs as URIs: a segment is a dot segment exactly if it is when encoded
 encoding-keeps-dot-segments : (s : List ℕ) → is_utf8 s ≡ true → KeepsDots encode_past_ascii s
@@ -226,8 +221,7 @@ encoding-keeps-dot-segments s e =
     let same = encoding-keeps-decoded-bytes s u in
     record {
       single = single-dot-by-decoded-bytes (encode_past_ascii s) s v u same;
-      double =
-          double-dot-by-decoded-bytes (encode_past_ascii s) s v u same;
+      double = double-dot-by-decoded-bytes (encode_past_ascii s) s v u same;
     }
 
 -- IRIs as URIs: encoding characters past ASCII adds no slash to a segment
@@ -251,13 +245,11 @@ encoded-segments-lack-slashes (s ∷ rest) e f =
 -- IRIs as URIs: removing the dot segments of a path and encoding it may swap
 removing-dots-and-encoding-swap : (path : List ℕ) → IsAbsolute path → IsUtf8 path
     → remove_dot_segments (encode_past_ascii path) ≡ encode_past_ascii (remove_dot_segments path)
-removing-dots-and-encoding-swap = property-of-absolute-path-by-segments (λ path. IsUtf8 path
-    → remove_dot_segments (encode_past_ascii path)
-    ≡ encode_past_ascii (remove_dot_segments path))
+removing-dots-and-encoding-swap = property-of-absolute-path-by-segments _
     (λ s rest f u.
-    let p = segments-of-utf8-path-are-utf8 s rest u in
-    ap remove_dot_segments (encoding-of-slashed-is-by-segment (s ∷ rest))
-    ∙ remove-dots-by-segments (map encode_past_ascii (s ∷ rest))
+    let p = segments-of-utf8-path-are-utf8 s _ u in
+    ap remove_dot_segments (encoding-of-slashed-is-by-segment _)
+    ∙ remove-dots-by-segments _
     (encoded-segments-lack-slashes (s ∷ rest) p f)
     ∙ ap slashed (dotless_of-and-map-swap encode_past_ascii is_utf8 encoding-keeps-dot-segments
     encoding-of-nil-is-nil (s ∷ rest) p)
@@ -268,42 +260,37 @@ removing-dots-and-encoding-swap = property-of-absolute-path-by-segments (λ path
 -- after its characters past ASCII are encoded
 pub encoding-keeps-underflow : (path : List ℕ) → IsAbsolute path → IsUtf8 path
     → underflows (encode_past_ascii path) ≡ underflows path
-encoding-keeps-underflow =
-    property-of-absolute-path-by-segments (λ path. IsUtf8 path → underflows (encode_past_ascii path)
-    ≡ underflows path)
+encoding-keeps-underflow = property-of-absolute-path-by-segments _
     (λ s rest f u.
-    let p = segments-of-utf8-path-are-utf8 s rest u in
-    ap underflows (encoding-of-slashed-is-by-segment (s ∷ rest))
-    ∙ underflows-by-segments (map encode_past_ascii (s ∷ rest))
+    let p = segments-of-utf8-path-are-utf8 s _ u in
+    ap underflows (encoding-of-slashed-is-by-segment _)
+    ∙ underflows-by-segments _
     (encoded-segments-lack-slashes (s ∷ rest) p f)
-    ∙ underflows_over-of-mapped-segments encode_past_ascii is_utf8 encoding-keeps-dot-segments false
-    [] (s ∷ rest) p
-    ∙ sym (underflows-by-segments (s ∷ rest) f))
+    ∙ underflows_over-of-mapped-segments _ _ encoding-keeps-dot-segments _
+    [] _ p
+    ∙ sym (underflows-by-segments _ f))
 
 -- IRIs as URIs: the directory of a path, encoded, is the directory of the encoded path
 pub directory-and-encoding-swap : (path : List ℕ) → IsAbemptyPath path → IsUtf8 path
     → directory (encode_past_ascii path) ≡ encode_past_ascii (directory path)
 unfolding directory
-directory-and-encoding-swap =
-    rooted (λ path. IsUtf8 path → directory (encode_past_ascii path)
-    ≡ encode_past_ascii (directory path))
+directory-and-encoding-swap = rooted _
     (λ u. ap directory encoding-of-nil-is-nil
     ∙ sym (encoding-starts-with-ascii-byte 47 [] (lit< tt)
     ∙ ap (λ t. 47 ∷ t) encoding-of-nil-is-nil))
-    (property-of-absolute-path-by-segments (λ path. IsUtf8 path
-    → directory (encode_past_ascii path) ≡ encode_past_ascii (directory path))
+    (property-of-absolute-path-by-segments _
     (λ s rest f u.
-    let p = segments-of-utf8-path-are-utf8 s rest u in
-    ap directory (encoding-of-slashed-is-by-segment (s ∷ rest))
-    ∙ directory-by-segments (encode_past_ascii s) (map encode_past_ascii rest)
+    let p = segments-of-utf8-path-are-utf8 s _ u in
+    ap directory (encoding-of-slashed-is-by-segment _)
+    ∙ directory-by-segments _ _
     (encoded-segments-lack-slashes (s ∷ rest) p f)
     ∙ ap (λ t. slashed (t ++ [] ∷ []))
-    (parent-and-map-swap encode_past_ascii is_utf8 encoding-keeps-dot-segments (s ∷ rest) p)
+    (parent-and-map-swap _ _ encoding-keeps-dot-segments _ p)
     ∙ ap (λ t. slashed (map encode_past_ascii (parent (s ∷ rest)) ++ t ∷ []))
     (sym encoding-of-nil-is-nil)
-    ∙ ap slashed (sym (map-append encode_past_ascii (parent (s ∷ rest)) ([] ∷ [])))
-    ∙ sym (encoding-of-slashed-is-by-segment (parent (s ∷ rest) ++ [] ∷ []))
-    ∙ sym (ap encode_past_ascii (directory-by-segments s rest f))))
+    ∙ ap slashed (sym (map-append encode_past_ascii _ _))
+    ∙ sym (encoding-of-slashed-is-by-segment _)
+    ∙ sym (ap encode_past_ascii (directory-by-segments s _ f))))
 
 -- IRIs as URIs: removing the dot segments of an absolute path
 -- and encoding it may swap, and other paths stay

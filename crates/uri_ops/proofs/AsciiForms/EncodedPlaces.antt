@@ -51,9 +51,8 @@ authority-positions-encoded-after-prefix text prefix rest place q e k =
     let P : List ℕ = marked (codes ":") q.port [] in
     let a : List ℕ = recompose_authority q in
     let whole : text ≡ (prefix ++ a) ++ rest = e ∙ sym (append_assoc prefix a rest) in
-    let to_host : text ≡ ((prefix ++ U) ++ q.host) ++ (P ++ rest) =
-    whole ∙ ap (λ t. t ++ rest) (sym (append_assoc prefix U (q.host ++ P))
-    ∙ sym (append_assoc (prefix ++ U) q.host P))
+    let to_host : text ≡ ((prefix ++ U) ++ q.host) ++ (P ++ rest) = whole ∙ ap (λ t. t ++ rest)
+    (sym (append_assoc prefix U (q.host ++ P)) ∙ sym (append_assoc (prefix ++ U) q.host P))
     ∙ append_assoc ((prefix ++ U) ++ q.host) P rest in
     let to_user : text ≡ (prefix ++ U) ++ (q.host ++ (P ++ rest)) = to_host
     ∙ append_assoc (prefix ++ U) q.host (P ++ rest) in
@@ -64,9 +63,8 @@ authority-positions-encoded-after-prefix text prefix rest place q e k =
     ≡ length ((prefix ++ U) ++ q.host) = omega (arith, n1, length-append (prefix ++ U) q.host) in
     let n3 : place + length a ≡ length (prefix ++ a) = omega (arith, k, length-append prefix a) in
     let m0 = position-encoded-after-prefix text prefix (a ++ rest) place e k in
-    let m1 = position-encoded-after-prefix text (prefix ++ U) (q.host
-    ++ (P ++ rest)) (place + delimited_length 1 q.userinfo)
-    to_user n1 in
+    let m1 = position-encoded-after-prefix text (prefix ++ U) (q.host ++ (P ++ rest))
+    (place + delimited_length 1 q.userinfo) to_user n1 in
     let m2 = position-encoded-after-prefix text ((prefix ++ U) ++ q.host) (P ++ rest)
     (place + (delimited_length 1 q.userinfo + length q.host)) to_host n2 in
     let m3 = position-encoded-after-prefix text (prefix ++ a) rest (place + length a) whole n3 in
@@ -142,9 +140,8 @@ module _ (kind : Kind) (sets : HasComponentSets kind) where
       let same : recompose_authority q ≡ encode_past_ascii a =
       sym (encoding-and-recomposing-authority-swap (authority_parts a))
       ∙ ap encode_past_ascii (is_authority_for-sound kind.userinfo kind.reg_name a h.1).whole in
-      ap Some
-      (positions-of-parts-are-of-text place q (ap authority_parts same
-      ∙ parts-of-encoded-authority-are-encoded kind sets a h.0 h.1)
+      ap Some (positions-of-parts-are-of-text place q
+      (ap authority_parts same ∙ parts-of-encoded-authority-are-encoded kind sets a h.0 h.1)
       ∙ ap (authority_at place) same)
 
 -- IRIs as URIs: the end of the query is after the encoded prefix and query;
@@ -158,19 +155,17 @@ query-end-moves-with-encoding text prefix rest place None e k = refl
 query-end-moves-with-encoding text prefix rest place (Some q) e k =
     let marks : List ℕ = codes "?" ++ q in
     let whole : text ≡ (prefix ++ marks) ++ rest = e
-    ∙ ap (λ t. prefix ++ (t ++ rest)) (append-nil marks) ∙ sym (append_assoc prefix marks rest) in
+    ∙ ap (λ t. prefix ++ (t ++ rest)) (append-nil marks) ∙ sym (append_assoc prefix _ _) in
     let n : place + 1 + length q ≡ length (prefix ++ marks) =
     omega (arith, k, length-append prefix marks) in
     let both : encode_past_ascii (prefix ++ marks)
-    ≡ encode_past_ascii prefix ++ (63 ∷ encode_past_ascii q) =
-    encoding-of-append-is-append prefix marks
+    ≡ encode_past_ascii prefix ++ (63 ∷ encode_past_ascii q) = encoding-of-append-is-append _ _
     ∙ ap (λ t. encode_past_ascii prefix ++ t) (encoding-starts-with-ascii-byte 63 q (lit< tt)) in
     let m : length (encode_past_ascii (prefix ++ marks))
     ≡ length (encode_past_ascii prefix) + 1 + length (encode_past_ascii q) =
     omega
     (arith, ap length both, length-append (encode_past_ascii prefix) (63 ∷ encode_past_ascii q)) in
-    ap Some (position-encoded-after-prefix text (prefix ++ marks) rest (place + 1 + length q)
-    whole n ∙ m)
+    ap Some (position-encoded-after-prefix _ _ _ _ whole n ∙ m)
 
 -- the positions of a text whose components are one after the other
 module _ (kind : Kind) (sets : HasComponentSets kind) (text : List ℕ) (w : IsTextOf kind text) where
@@ -204,13 +199,12 @@ module _ (kind : Kind) (sets : HasComponentSets kind) (text : List ℕ) (w : IsT
 
   scheme-and-authority-have-their-length : delimited_length 1 c.scheme
       + delimited_length 2 c.authority ≡ length (S ++ A)
-  scheme-and-authority-have-their-length =
-      omega (
-        arith,
-        delimited-scheme-has-its-length,
-        length-with-delimiter-before (codes "//") c.authority,
-        length-append S A,
-      )
+  scheme-and-authority-have-their-length = omega (
+    arith,
+    delimited-scheme-has-its-length,
+    length-with-delimiter-before (codes "//") c.authority,
+    length-append S A,
+  )
 
   text-through-path-has-its-length : delimited_length 1 c.scheme + delimited_length 2 c.authority
       + length c.path
@@ -222,36 +216,24 @@ module _ (kind : Kind) (sets : HasComponentSets kind) (text : List ℕ) (w : IsT
       ≡ positions_by_authority_parts (encoded_components c)
       (option_map (parts_of_authority kind sets) c.authority)
   encoded-positions-are-by-encoded-components =
-      let p = text-has-parts-of-kind kind text w in
+      let p = text-has-parts-of-kind _ _ w in
       pushed-components-have-positions (encoded_components c)
-      (option_map (parts_of_authority kind sets) c.authority)
-      [] (encode_past_ascii S) (encode_past_ascii (S ++ A)) (encode_past_ascii ((S ++ A) ++ c.path))
+      (option_map (parts_of_authority _ sets) c.authority) [] (encode_past_ascii S)
+      (encode_past_ascii (S ++ A)) (encode_past_ascii ((S ++ A) ++ c.path))
       (positions_in_encoded text (positions_of c)).path_start
       (positions_in_encoded text (positions_of c)).path_end (positions_of c).scheme_end
       (positions_in_encoded text (positions_of c)).query_end
-      (positions_in_encoded text (positions_of c)).authority
-      refl
-      (encoding-keeps-delimiters [] (codes ":") c.scheme refl refl)
-      (encoding-of-append-is-append S A
-      ∙ ap (λ t. encode_past_ascii S ++ t)
+      (positions_in_encoded text (positions_of c)).authority refl
+      (encoding-keeps-delimiters [] _ _ refl refl) (encoding-of-append-is-append S A ∙ ap
+      (λ t. encode_past_ascii S ++ t)
       (encoding-keeps-delimiters (codes "//") [] c.authority refl refl))
-      (encoding-of-append-is-append (S ++ A) c.path)
-      (position-encoded-after-prefix text (S ++ A) (c.path ++ (Q ++ F))
-      (delimited_length 1 c.scheme + delimited_length 2 c.authority) text-splits-before-path
-      scheme-and-authority-have-their-length)
-      (position-encoded-after-prefix text ((S ++ A) ++ c.path) (Q ++ F)
-      (delimited_length 1 c.scheme + delimited_length 2 c.authority + length c.path)
-      text-splits-before-query
-      text-through-path-has-its-length)
-      (ap (option_map length) (sym (schemes-stay-when-encoded c.scheme p.scheme))
-      ∙ sym (option_map-adding-zero-is-unchanged (option_map encode_past_ascii c.scheme)))
-      (authority-positions-move-with-encoding kind sets text S (c.path ++ (Q ++ F))
-      (delimited_length 1 c.scheme)
-      c.authority
-      text-is-scheme-and-remainder delimited-scheme-has-its-length p.authority)
-      (query-end-moves-with-encoding text ((S ++ A) ++ c.path) F
-      (delimited_length 1 c.scheme + delimited_length 2 c.authority + length c.path)
-      c.query text-splits-before-query
+      (encoding-of-append-is-append _ _) (position-encoded-after-prefix _ _ _ _
+      text-splits-before-path scheme-and-authority-have-their-length) (position-encoded-after-prefix
+      _ _ _ _ text-splits-before-query text-through-path-has-its-length)
+      (ap (option_map length) (sym (schemes-stay-when-encoded _ p.scheme))
+      ∙ sym (option_map-adding-zero-is-unchanged _)) (authority-positions-move-with-encoding _ sets
+      _ S _ _ _ text-is-scheme-and-remainder delimited-scheme-has-its-length p.authority)
+      (query-end-moves-with-encoding _ _ F _ _ text-splits-before-query
       text-through-path-has-its-length)
 
   pub encoded-positions-are-right : (positions : Positions) → ArePositionsOf text positions
@@ -259,12 +241,9 @@ module _ (kind : Kind) (sets : HasComponentSets kind) (text : List ℕ) (w : IsT
   encoded-positions-are-right positions at =
       let t = encoded_components c in
       ap (positions_in_encoded text) at ∙ encoded-positions-are-by-encoded-components
-      ∙ positions-with-parts-are-of-components t
-      (option_map (parts_of_authority kind sets) c.authority)
-      (parts-of-encoded-authority-have-positions kind sets (delimited_length 1 t.scheme + 2)
-      c.authority
-      (text-has-parts-of-kind kind text w).authority)
-      ∙ ap positions_of (sym (components-of-encoded-text-are-encoded text w.utf8))
+      ∙ positions-with-parts-are-of-components t _ (parts-of-encoded-authority-have-positions _ sets
+      _ _ (text-has-parts-of-kind _ _ w).authority)
+      ∙ ap positions_of (sym (components-of-encoded-text-are-encoded _ w.utf8))
 
   -- the positions are in order
   authority-positions-are-in-order : (before : ℕ) (o : Option (List ℕ))
@@ -276,8 +255,7 @@ module _ (kind : Kind) (sets : HasComponentSets kind) (text : List ℕ) (w : IsT
       let q = authority_parts a in
       let U : List ℕ = marked [] q.userinfo (codes "@") in
       let P : List ℕ = marked (codes ":") q.port [] in
-      let whole : recompose_authority q ≡ a =
-      (is_authority_for-sound kind.userinfo kind.reg_name a h.1).whole in
+      let whole : recompose_authority q ≡ a = (is_authority_for-sound _ _ a h.1).whole in
       let n : length a ≡ length U + (length q.host + length P) =
       omega (arith, ap length whole, length-append U (q.host ++ P), length-append q.host P) in
       let u = length-with-delimiter-after q.userinfo 64 in
@@ -302,8 +280,7 @@ module _ (kind : Kind) (sets : HasComponentSets kind) (text : List ℕ) (w : IsT
           k,
           e,
           length-append before (marks ++ suffix),
-          length-append marks
-              suffix,
+          length-append marks suffix,
           length-with-delimiter-before (codes "?") (Some q),
         ),
       )
@@ -311,12 +288,10 @@ module _ (kind : Kind) (sets : HasComponentSets kind) (text : List ℕ) (w : IsT
   pub positions-are-ordered : (positions : Positions) → ArePositionsOf text positions
       → ArePositionsOrdered (length text) positions
   positions-are-ordered positions at =
-      let query = query-end-is-in-order (positions_of c).path_end c.query (length text)
-      ((S ++ A) ++ c.path)
-      F text-through-path-has-its-length (ap length text-splits-before-query) in
+      let query = query-end-is-in-order _ _ _ _ F text-through-path-has-its-length
+      (ap length text-splits-before-query) in
       subst (ArePositionsOrdered (length text)) (sym at) (record {
-        authority = authority-positions-are-in-order (delimited_length 1 c.scheme) c.authority
-            (text-has-parts-of-kind kind text w).authority;
+        authority = authority-positions-are-in-order _ _ (text-has-parts-of-kind _ _ w).authority;
         path = omega arith;
         query = query.0;
         fragment = query.1;

@@ -17,10 +17,9 @@ pub ascii-prefix-grows-by-byte : (bytes : List ℕ) (i : ℕ) → i < length byt
 ascii-prefix-grows-by-byte bytes i h low e =
     let m = take-one-more-byte bytes i h in
     ap encode_past_ascii m ∙ encoding-of-append-is-append (take i bytes) (get_or bytes i 0 ∷ [])
-    ∙ ap (λ t. t ++ encode_past_ascii (get_or bytes i 0 ∷ [])) e
-    ∙ ap (λ t. take i bytes ++ t) (encoding-starts-with-ascii-byte (get_or bytes i 0) [] low
-    ∙ ap (λ t. get_or bytes i 0 ∷ t) encoding-of-nil-is-nil)
-    ∙ sym m
+    ∙ ap (λ t. t ++ encode_past_ascii (get_or bytes i 0 ∷ [])) e ∙ ap (λ t. take i bytes ++ t)
+    (encoding-starts-with-ascii-byte (get_or bytes i 0) [] low
+    ∙ ap (λ t. get_or bytes i 0 ∷ t) encoding-of-nil-is-nil) ∙ sym m
 
 -- IRIs as URIs: the encoding of a prefix, and an ASCII run after it, is the encoding of both
 pub encoding-grows-by-ascii-run : (bytes : List ℕ) (i n : ℕ)
@@ -34,11 +33,9 @@ encoding-grows-by-ascii-run bytes i n e =
 pub encoding-grows-by-octet : (bytes : List ℕ) (i : ℕ) → i < length bytes → 128 ≤ get_or bytes i 0
     → encode_past_ascii (take (i + 1) bytes)
     ≡ encode_past_ascii (take i bytes) ++ octet_text (get_or bytes i 0)
-encoding-grows-by-octet bytes i h high =
-    ap encode_past_ascii (take-one-more-byte bytes i h)
-    ∙ encoding-of-append-is-append (take i bytes) (get_or bytes i 0 ∷ [])
-    ∙ ap (λ t. encode_past_ascii (take i bytes) ++ t)
-    (encoding-starts-with-octet (get_or bytes i 0) [] high
+encoding-grows-by-octet bytes i h high = ap encode_past_ascii (take-one-more-byte _ i h)
+    ∙ encoding-of-append-is-append _ _ ∙ ap (λ t. encode_past_ascii (take i bytes) ++ t)
+    (encoding-starts-with-octet _ [] high
     ∙ ap (λ t. octet_text (get_or bytes i 0) ++ t) encoding-of-nil-is-nil
     ∙ append-nil (octet_text (get_or bytes i 0)))
 
@@ -58,11 +55,9 @@ pub ascii-byte-adds-one : (bytes : List ℕ) (i : ℕ) → i < length bytes → 
     ≡ length (encode_past_ascii (take i bytes)) + 1
 ascii-byte-adds-one bytes i h low =
     let more = encode_past_ascii (take i bytes) in
-    ap length (ap encode_past_ascii (take-one-more-byte bytes i h)
-    ∙ encoding-of-append-is-append (take i bytes) (get_or bytes i 0 ∷ [])
-    ∙ ap (λ t. more ++ t) (encoding-starts-with-ascii-byte (get_or bytes i 0) [] low
-    ∙ ap (λ t. get_or bytes i 0 ∷ t) encoding-of-nil-is-nil))
-    ∙ length-append more (get_or bytes i 0 ∷ [])
+    ap length (ap encode_past_ascii (take-one-more-byte _ i h) ∙ encoding-of-append-is-append _ _
+    ∙ ap (λ t. more ++ t) (encoding-starts-with-ascii-byte _ [] low
+    ∙ ap (λ t. get_or bytes i 0 ∷ t) encoding-of-nil-is-nil)) ∙ length-append more _
 
 -- IRIs as URIs: a byte past ASCII makes the encoded text three bytes longer
 pub byte-past-ascii-adds-three : (bytes : List ℕ) (i : ℕ) → i < length bytes

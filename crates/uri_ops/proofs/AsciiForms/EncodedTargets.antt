@@ -42,9 +42,8 @@ slashed-utf8-segments-are-utf8 : (segs : List (List ℕ)) → AllPass is_utf8 se
     → IsUtf8 (slashed segs)
 unfolding slashed
 slashed-utf8-segments-are-utf8 [] e = IsUtf8-nil
-slashed-utf8-segments-are-utf8 (s ∷ rest) e =
-    utf8-joined-at-slash-is-utf8 [] (s ++ slashed rest) IsUtf8-nil
-    (joined-utf8-segments-are-utf8 s rest e)
+slashed-utf8-segments-are-utf8 (s ∷ rest) e = utf8-joined-at-slash-is-utf8 [] (s ++ slashed rest)
+    IsUtf8-nil (joined-utf8-segments-are-utf8 s rest e)
 
 -- IRIs as URIs, targets: the directory of a path in UTF-8 is UTF-8
 directory-of-utf8-is-utf8 : (path : List ℕ) → IsAbemptyPath path → IsUtf8 path
@@ -82,16 +81,15 @@ dotted_target-of-encoded-without-authority : (base : Components) (p : List ℕ)
     → dotted_target (encoded_components base)
     (encoded_components (components_of_parts None None p q f))
     ≡ encoded_components (dotted_target base (components_of_parts None None p q f))
-dotted_target-of-encoded-without-authority base p q f u rooted =
-    grind (
-      arith,
-      nat_tests,
-      choosing-query-and-encoding-swap,
-      encoding-keeps-emptiness,
-      encoded_components,
-      encoding-keeps-leading-delimiter,
-      merging-and-encoding-swap,
-    )
+dotted_target-of-encoded-without-authority base p q f u rooted = grind (
+  arith,
+  nat_tests,
+  choosing-query-and-encoding-swap,
+  encoding-keeps-emptiness,
+  encoded_components,
+  encoding-keeps-leading-delimiter,
+  merging-and-encoding-swap,
+)
 
 -- IRIs as URIs: a base and a reference (s, a, p, q, f: its components) have the same target before
 -- dot segments are removed, encoded
@@ -129,10 +127,8 @@ guarding-dotless-path-and-encoding-swap : (t : Components) → IsUtf8 t.path
 unfolding with_guarded_dotless_path
 guarding-dotless-path-and-encoding-swap t u =
     let path = ap (guarded (option_map encode_past_ascii t.authority))
-    (dotless_if_absolute-and-encoding-swap t.path u)
-    ∙ guarding-and-encoding-swap t.authority (option_map encode_past_ascii t.authority)
-    (dotless_if_absolute t.path)
-    (is_none-option_map encode_past_ascii t.authority) in
+    (dotless_if_absolute-and-encoding-swap _ u)
+    ∙ guarding-and-encoding-swap _ _ _ (is_none-option_map _ _) in
     λ i. record (encoded_components t) { path = path i }
 
 -- IRIs as URIs: encoded components resolve to the encoded target; r: the reference
@@ -142,35 +138,30 @@ target_of-encoded-components : (base r : Components) → AreUtf8 base → AreUtf
     ≡ encoded_components (target_of base r)
 unfolding with_guarded_dotless_path
 target_of-encoded-components base r u v rooted =
-    ap with_guarded_dotless_path
-    (dotted_target-of-encoded-components base r.scheme r.authority r.path r.query
-    r.fragment u rooted)
-    ∙ guarding-dotless-path-and-encoding-swap (dotted_target base r)
-    (dotted_target-path-is-utf8 base r u v rooted)
+    ap with_guarded_dotless_path (dotted_target-of-encoded-components _ _ _ _ _ _ u rooted)
+    ∙ guarding-dotless-path-and-encoding-swap _ (dotted_target-path-is-utf8 _ r u v rooted)
 
 -- IRIs as URIs: encoding base and reference (r) doesn't change
 -- whether an opaque base rejects the reference
 encoding-keeps-opaque-rejection : (base r : Components)
     → is_opaque_rejection (encoded_components base) (encoded_components r)
     ≡ is_opaque_rejection base r
-encoding-keeps-opaque-rejection base r =
-    grind (
-      arith,
-      nat_tests,
-      encoded_components,
-      is_none-option_map,
-      encoding-keeps-leading-delimiter,
-      is_some-option_map,
-      encoding-keeps-emptiness,
-    )
+encoding-keeps-opaque-rejection base r = grind (
+  arith,
+  nat_tests,
+  encoded_components,
+  is_none-option_map,
+  encoding-keeps-leading-delimiter,
+  is_some-option_map,
+  encoding-keeps-emptiness,
+)
 
 -- IRIs as URIs, targets: the path of a base with which a path is merged is empty or begins with `/`
 accepting-base-path-is-rooted : (b t : List ℕ) → is_opaque_rejection (components b) (components t)
     ≡ false
     → is_none (components t).scheme ≡ true → is_empty (components t).path ≡ false
     → IsAbemptyPath (components b).path
-accepting-base-path-is-rooted b t e s p = base-that-is-not-opaque-has-abempty-path
-    (components b).authority (components b).path
+accepting-base-path-is-rooted b t e s p = base-that-is-not-opaque-has-abempty-path _ _
     (merging-base-is-not-opaque (components b) (components t) e s p)
     (components-are-split-of-text b).authority
 
@@ -183,42 +174,31 @@ unfolding result_or_target_error
 resolving-and-encoding-swap b t u v =
     let base = components b in
     let r = components t in
-    let fragment = is_some-option_map encode_past_ascii base.fragment in
+    let fragment = is_some-option_map _ _ in
     let opaque = encoding-keeps-opaque-rejection base r in
     let target = λ (e : is_opaque_rejection base r ≡ false).
-    ap recompose
-    (target_of-encoded-components base r (components-of-utf8-are-utf8 b u)
-    (components-of-utf8-are-utf8 t v)
-    (accepting-base-path-is-rooted b t e))
-    ∙ sym (encoding-and-recomposing-swap (target_of base r)) in
+    ap recompose (target_of-encoded-components _ r (components-of-utf8-are-utf8 b u)
+    (components-of-utf8-are-utf8 t v) (accepting-base-path-is-rooted b t e))
+    ∙ sym (encoding-and-recomposing-swap _) in
     ap (λ x. resolution_of x (components (encode_past_ascii t)))
-    (components-of-encoded-text-are-encoded b u)
-    ∙ ap (λ x. resolution_of (encoded_components base) x)
-    (components-of-encoded-text-are-encoded t v)
+    (components-of-encoded-text-are-encoded b u) ∙ ap
+    (λ x. resolution_of (encoded_components base) x) (components-of-encoded-text-are-encoded t v)
     ∙ ap (λ x. result_or_target_error x
     (is_opaque_rejection (encoded_components base) (encoded_components r))
-    (recompose (target_of (encoded_components base) (encoded_components r)))) fragment
-    ∙ ap (λ x. result_or_target_error (is_some base.fragment) x
+    (recompose (target_of (encoded_components base) (encoded_components r)))) fragment ∙ ap
+    (λ x. result_or_target_error (is_some base.fragment) x
     (recompose (target_of (encoded_components base) (encoded_components r)))) opaque
-    ∙ rejected-results-are-equal (is_some base.fragment) (is_opaque_rejection base r)
-    (recompose (target_of (encoded_components base) (encoded_components r)))
-    (encode_past_ascii (recompose (target_of base r))) target
-    ∙ sym (map-of-result_or_error encode_past_ascii (is_some base.fragment)
-    (is_opaque_rejection base r)
-    (recompose (target_of base r)))
+    ∙ rejected-results-are-equal _ _ _ _ target ∙ sym (map-of-result_or_error _ _ _ _)
 
 -- IRIs as URIs: encoding an absolute path doesn't change whether it underflows
 encoding-keeps-absolute-path-underflow : (path : List ℕ) → IsUtf8 path
     → (starts 47 (encode_past_ascii path) && underflows (encode_past_ascii path))
     ≡ (starts 47 path && underflows path)
-encoding-keeps-absolute-path-underflow path u =
-    ap (λ x. x && underflows (encode_past_ascii path))
-    (encoding-keeps-leading-delimiter 47 refl path)
-    ∙ ⊎_elim
+encoding-keeps-absolute-path-underflow path u = ap (λ x. x && underflows (encode_past_ascii path))
+    (encoding-keeps-leading-delimiter 47 refl path) ∙ ⊎_elim
     (λ e. ap (λ x. starts 47 path && x)
     (encoding-keeps-underflow path (equal-to-true-is-IsTrue _ e) u))
-    (λ e. and_left _ _ e ∙ sym (and_left _ _ e))
-    (cases_Bool (starts 47 path))
+    (λ e. and_left _ _ e ∙ sym (and_left _ _ e)) (cases_Bool (starts 47 path))
 
 -- IRIs as URIs: a target underflows exactly if the encoded target does; b, t: base and reference
 pub encoding-keeps-target-underflow : (b t target : List ℕ) → IsUtf8 b → IsUtf8 t
@@ -229,28 +209,23 @@ unfolding result_or_target_error
 encoding-keeps-target-underflow b t target u v e =
     let base = components b in
     let r = components t in
-    let a = ok-result-has-no-opaque-rejection (is_some base.fragment) (is_opaque_rejection base r)
-    (recompose (target_of base r)) target e in
+    let a = ok-result-has-no-opaque-rejection _ _ _ _ e in
     let merge = accepting-base-path-is-rooted b t a.0 in
     ap (λ x. target_underflows x (components (encode_past_ascii t)))
-    (components-of-encoded-text-are-encoded b u)
-    ∙ ap (λ x. target_underflows (encoded_components base) x)
-    (components-of-encoded-text-are-encoded t v)
-    ∙ ap (λ (x : Components). starts 47 x.path && underflows x.path)
-    (dotted_target-of-encoded-components base r.scheme r.authority r.path r.query r.fragment
-    (components-of-utf8-are-utf8 b u)
-    merge)
-    ∙ encoding-keeps-absolute-path-underflow (dotted_target base r).path
-    (dotted_target-path-is-utf8 base r (components-of-utf8-are-utf8 b u)
-    (components-of-utf8-are-utf8 t v) merge)
+    (components-of-encoded-text-are-encoded b u) ∙ ap
+    (λ x. target_underflows (encoded_components base) x)
+    (components-of-encoded-text-are-encoded t v) ∙ ap
+    (λ (x : Components). starts 47 x.path && underflows x.path)
+    (dotted_target-of-encoded-components _ _ _ _ _ _ (components-of-utf8-are-utf8 b u) merge)
+    ∙ encoding-keeps-absolute-path-underflow _ (dotted_target-path-is-utf8 _ r
+    (components-of-utf8-are-utf8 b u) (components-of-utf8-are-utf8 t v) merge)
 
 -- IRIs as URIs: a target, encoded, is the target of the encoded base and reference; b, t: these two
 pub target-is-target-of-encoded : (allowed : Bool) (b t target : List ℕ) → IsUtf8 b → IsUtf8 t
     → IsTarget allowed (components b) (components t) target → IsTargetOfEncoded allowed b t target
 target-is-target-of-encoded allowed b t target u v h = (
   resolving-and-encoding-swap b t u v
-      ∙ ap (result_map_both encode_past_ascii (λ (refusal : TargetError). refusal))
-      h.0,
+      ∙ ap (result_map_both encode_past_ascii (λ (refusal : TargetError). refusal)) h.0,
   λ no. encoding-keeps-target-underflow b t target u v h.0 ∙ h.1 no,
 )
 
@@ -276,12 +251,10 @@ error-is-error-for-encoded allowed b t Of.BaseWithFragment u v h =
 error-is-error-for-encoded allowed b t Of.InvalidReferenceAgainstOpaqueBase u v h =
     grind (arith, nat_tests, resolving-and-encoding-swap)
 error-is-error-for-encoded allowed b t Of.PathUnderflow u v h =
-    let target = ok-result-has-target (resolution_of (components b) (components t)) h.0 in (
-      ap is_ok (resolving-and-encoding-swap b t u v)
-          ∙ encoding-keeps-whether-ok (resolution_of (components b) (components t))
-          ∙ h.0,
+    let target = ok-result-has-target _ h.0 in (
+      ap is_ok (resolving-and-encoding-swap b t u v) ∙ encoding-keeps-whether-ok _ ∙ h.0,
       h.1,
-      encoding-keeps-target-underflow b t target.0 u v target.1 ∙ h.2,
+      encoding-keeps-target-underflow b t _ u v target.1 ∙ h.2,
     )
 error-is-error-for-encoded allowed b t Of.OutOfMemory u v h =
     grind (arith, nat_tests, resolving-and-encoding-swap, encoding-keeps-whether-ok)

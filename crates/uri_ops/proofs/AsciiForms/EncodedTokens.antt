@@ -97,9 +97,8 @@ encoding-of-character-bytes c = ⊎_elim
     (λ h. ap (flat_map encode_byte_past_ascii) (encode_ascii c h)
     ∙ append-nil (encode_byte_past_ascii c)
     ∙ cond-true _ _ _ (lt-ltb c 128 h) ∙ sym (cond-true _ _ _ (lt-ltb c 128 h)))
-    (λ h. bytes-past-ascii-encode-to-octets (encode_utf8 c)
-    (character-past-ascii-has-no-ascii-byte c h) ∙ sym (cond-false _ _ _ (le-ltb c 128 h)))
-    (cases_lt c 128)
+    (λ h. bytes-past-ascii-encode-to-octets _ (character-past-ascii-has-no-ascii-byte c h)
+    ∙ sym (cond-false _ _ _ (le-ltb c 128 h))) (cases_lt c 128)
 
 -- IRIs as URIs: a text is encoded character by character
 encoding-is-character-by-character : (cs : List ℕ) → encode_past_ascii (encode_utf8_all cs)
@@ -107,9 +106,8 @@ encoding-is-character-by-character : (cs : List ℕ) → encode_past_ascii (enco
 unfolding encode_past_ascii encoded_chars
 encoding-is-character-by-character [] = refl
 encoding-is-character-by-character (c ∷ cs) =
-    flat_map-append encode_byte_past_ascii (encode_utf8 c) (encode_utf8_all cs)
-    ∙ ap (λ t. t ++ flat_map encode_byte_past_ascii (encode_utf8_all cs))
-    (encoding-of-character-bytes c)
+    flat_map-append encode_byte_past_ascii (encode_utf8 c) (encode_utf8_all cs) ∙ ap
+    (λ t. t ++ flat_map encode_byte_past_ascii (encode_utf8_all cs)) (encoding-of-character-bytes c)
     ∙ ap (λ t. encoded_char c ++ t) (encoding-is-character-by-character cs)
 
 -- IRIs as URIs: the digits that an octet is written with are ASCII
@@ -183,17 +181,15 @@ tokens-begin-with-octets : (bs cs : List ℕ) → list_all is_byte bs ≡ true
     → tokens_from_chars (flat_map octet_text bs ++ cs) ≡ map Octet bs ++ tokens_from_chars cs
 tokens-begin-with-octets [] cs e = refl
 tokens-begin-with-octets (b ∷ bs) cs e =
-    let p = and_parts (is_byte b) (list_all is_byte bs) e in
-    ap tokens_from_chars (append_assoc (octet_text b) (flat_map octet_text bs) cs)
-    ∙ tokens-begin-with-octet b (flat_map octet_text bs ++ cs) p.0
+    let p = and_parts _ _ e in
+    ap tokens_from_chars (append_assoc (octet_text b) _ cs) ∙ tokens-begin-with-octet b _ p.0
     ∙ ap (λ ts. Octet b ∷ ts) (tokens-begin-with-octets bs cs p.1)
 
 -- IRIs as URIs: a character past ASCII is encoded as a text that begins with `%` (37)
 encoded-past-ascii-begins-with-percent : (c : ℕ) (cs : List ℕ) → 128 ≤ c
     → get_or (encoded_chars (c ∷ cs)) 0 0 ≡ 37
 unfolding encoded_chars
-encoded-past-ascii-begins-with-percent c cs h =
-    ap (λ t. get_or (t ++ encoded_chars cs) 0 0)
+encoded-past-ascii-begins-with-percent c cs h = ap (λ t. get_or (t ++ encoded_chars cs) 0 0)
     (cond-false _ _ _ (le-ltb c 128 h) ∙ ap (flat_map octet_text) (char_has_encoding c).joined)
 
 -- IRIs as URIs: a text begins with a hexadecimal digit exactly if it does when encoded
@@ -211,12 +207,10 @@ unfolding begins_with_hex_digits encoded_chars
 encoding-keeps-two-leading-hex-digits [] = refl
 encoding-keeps-two-leading-hex-digits (c ∷ cs) = ⊎_elim
     (λ h. ap (λ t. is_ascii_hexdigit (get_or (t ++ encoded_chars cs) 0 0)
-    && is_ascii_hexdigit (get_or (t ++ encoded_chars cs) 1 0))
-    (cond-true _ _ _ (lt-ltb c 128 h))
+    && is_ascii_hexdigit (get_or (t ++ encoded_chars cs) 1 0)) (cond-true _ _ _ (lt-ltb c 128 h))
     ∙ ap (λ t. is_ascii_hexdigit c && t) (encoding-keeps-leading-hex-digit cs))
     (λ h. and_left _ _ (ap is_ascii_hexdigit (encoded-past-ascii-begins-with-percent c cs h))
-    ∙ sym (and_left _ _ (past_ascii_is_no_hexdigit c h)))
-    (cases_lt c 128)
+    ∙ sym (and_left _ _ (past_ascii_is_no_hexdigit c h))) (cases_lt c 128)
 
 -- IRIs as URIs: if the tokens of encoded characters are right,
 -- so they are with one more character that begins no octet
@@ -226,15 +220,14 @@ tokens-of-encoded-character : (c : ℕ) (cs : List ℕ) → all_scalars (c ∷ c
     → tokens_from_chars (encoded_chars (c ∷ cs))
     ≡ flat_map encoded_token (tokens_from_chars (c ∷ cs))
 unfolding encoded_chars
-tokens-of-encoded-character c cs s e ih =
-    grind (
-      arith,
-      nat_tests,
-      tokens-begin-with-literal-character,
-      encoding-keeps-two-leading-hex-digits,
-      tokens-begin-with-octets,
-      utf8-of-character-is-bytes,
-    )
+tokens-of-encoded-character c cs s e ih = grind (
+  arith,
+  nat_tests,
+  tokens-begin-with-literal-character,
+  encoding-keeps-two-leading-hex-digits,
+  tokens-begin-with-octets,
+  utf8-of-character-is-bytes,
+)
 
 -- IRIs as URIs, tokens: an octet is `%` (37) and two hexadecimal digits
 pct-encoded-is-percent-and-hex-digits : (c h l : ℕ) → is_pct_encoded c h l ≡ true
@@ -299,8 +292,7 @@ tokens-of-encoded-characters (c ∷ h ∷ l ∷ rest) s =
     (λ e. tokens-of-encoded-octet c h l rest e (tokens-of-encoded-characters rest r.1))
     (λ e. tokens-of-encoded-character c (h ∷ l ∷ rest) s
     (chars_not_pct_encoded_begin_no_octet c h l rest e)
-    (tokens-of-encoded-characters (h ∷ l ∷ rest) p.1))
-    (cases_Bool (is_pct_encoded c h l))
+    (tokens-of-encoded-characters (h ∷ l ∷ rest) p.1)) (cases_Bool (is_pct_encoded c h l))
 
 -- IRIs as URIs: the tokens of an encoded text are those of the text, each encoded
 pub tokens-of-encoded-text : (text : List ℕ) → IsUtf8 text

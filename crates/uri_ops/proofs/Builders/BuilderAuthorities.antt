@@ -73,13 +73,9 @@ module _ (kind : Kind) (sets : HasComponentSets kind) where
   text-by-grammar-has-its-parts : (text : List ℕ) (p : AuthorityParts) → IsUtf8 text
       → IsAuthorityFor kind.userinfo kind.reg_name text p → IsAuthorityOfParts kind text p
   text-by-grammar-has-its-parts text p u h = record {
-    rule = authority-text-from-rule kind text u
-        (is_authority_for-complete kind.userinfo kind.reg_name
-        (kind-sets-lack-authority-delimiters kind sets)
-        text p u h);
-    parts = authority_parts-are-unique kind.userinfo kind.reg_name
-        (kind-sets-lack-authority-delimiters kind sets)
-        text p u h;
+    rule = authority-text-from-rule _ _ u
+        (is_authority_for-complete _ _ (kind-sets-lack-authority-delimiters _ sets) _ p u h);
+    parts = authority_parts-are-unique _ _ (kind-sets-lack-authority-delimiters _ sets) _ p u h;
   }
 
   pub userinfo-begins-authority : (user : List ℕ) → IsUtf8 user → is_valid_for kind.userinfo user
@@ -112,9 +108,8 @@ module _ (kind : Kind) (sets : HasComponentSets kind) where
       let old = authority-text-follows-grammar a e in
       let U : List ℕ = marked [] p.userinfo (codes "@") in
       let bare : U ++ [] ≡ a = sym
-      (λ i. U ++ (empty-text-is-nil p.host both.0 i ++ marked (codes ":")
-      (port-that-is-none-is-None p both.1 i) []))
-      ∙ old.whole in
+      (λ i. U ++ (empty-text-is-nil p.host both.0 i
+      ++ marked (codes ":") (port-that-is-none-is-None p both.1 i) [])) ∙ old.whole in
       text-by-grammar-has-its-parts (a ++ host)
       (record { userinfo = p.userinfo; host = host; port = None })
       (IsUtf8-append a host (authority-text-is-utf8 kind a e) h.utf8) (record {
@@ -143,13 +138,12 @@ module _ (kind : Kind) (sets : HasComponentSets kind) where
       sym (λ i. U ++ (p.host ++ marked (codes ":") (port-that-is-none-is-None p t i) []))
       ∙ old.whole in
       let bare_host : U ++ p.host ≡ a = ap (λ t. U ++ t) (sym (append-nil p.host)) ∙ bare in
-      text-by-grammar-has-its-parts (a ++ (codes ":" ++ digits))
-      (record { userinfo = p.userinfo; host = p.host; port = Some digits })
-      (IsUtf8-append a (codes ":" ++ digits) (authority-text-is-utf8 kind a e)
-      (IsUtf8-append (codes ":") digits (ascii-bytes-are-utf8 (codes ":") refl) u)) (record {
+      text-by-grammar-has-its-parts _
+      _
+      (IsUtf8-append a _ (authority-text-is-utf8 _ a e)
+      (IsUtf8-append (codes ":") digits (ascii-bytes-are-utf8 _ refl) u)) (record {
         whole = ap (λ t. U ++ (p.host ++ t)) (append-nil (codes ":" ++ digits))
-            ∙ sym (append_assoc U p.host (codes ":" ++ digits))
-            ∙ ap (λ t. t ++ (codes ":" ++ digits)) bare_host;
+            ∙ sym (append_assoc U _ _) ∙ ap (λ t. t ++ (codes ":" ++ digits)) bare_host;
         userinfo = old.userinfo;
         host = old.host;
         port = valid;
@@ -176,38 +170,31 @@ module _ (kind : Kind) (sets : HasComponentSets kind) where
   host-lacks-authority-ends : (text : List ℕ) (host : HostKind) → IsUtf8 text
       → IsHost kind.reg_name text host
       → Lacks (codes "/?#") text
-  host-lacks-authority-ends text (Ipv6 segments) u (address, e, groups) =
-      subst (Lacks (codes "/?#")) (sym e)
-      (bracketed-address-lacks-delimiters address
+  host-lacks-authority-ends text (Ipv6 segments) u (address, e, groups) = subst
+      (Lacks (codes "/?#")) (sym e) (bracketed-address-lacks-delimiters address
       (ipv6-text-lacks-excluded-marks (codes "/?#") ipv_future_set-excludes-delimiters address
       segments groups))
-  host-lacks-authority-ends text IpvFuture u (address, e, future) =
-      subst (Lacks (codes "/?#")) (sym e)
-      (bracketed-address-lacks-delimiters address
-      (ipvfuture-text-lacks-excluded-marks (codes "/?#") ipv_future_set-excludes-delimiters address
+  host-lacks-authority-ends text IpvFuture u (address, e, future) = subst (Lacks (codes "/?#"))
+      (sym e) (bracketed-address-lacks-delimiters address (ipvfuture-text-lacks-excluded-marks
+      (codes "/?#") ipv_future_set-excludes-delimiters address
       (address-in-brackets-is-utf8 address (subst IsUtf8 e u)) future))
   host-lacks-authority-ends text (Ipv4 octets) u dotted =
       ipv4-text-lacks-name-marks (codes "/?#") reg_name_set-excludes-delimiters text octets dotted
-  host-lacks-authority-ends text RegName u (valid, other) =
-      valid_text_lacks_excluded_marks kind.reg_name (codes "/?#") sets.reg_name.percent
-      name-set-excludes-delimiters
-      text u valid
+  host-lacks-authority-ends text RegName u (valid, other) = valid_text_lacks_excluded_marks
+      kind.reg_name (codes "/?#") sets.reg_name.percent name-set-excludes-delimiters text u valid
 
   pub authority-lacks-its-ends : (a : List ℕ) → is_authority_text kind a ≡ true
       → Lacks (codes "/?#") a
   authority-lacks-its-ends a e =
-      let h = is_authority_for-sound kind.userinfo kind.reg_name a
-      (authority-text-meets-rule kind a e) in
+      let h = is_authority_for-sound _ _ a (authority-text-meets-rule _ a e) in
       let p = authority_parts a in
-      let utf8 = authority-parts-are-utf8 p.userinfo p.port p.host
-      (subst IsUtf8 (sym h.whole) (authority-text-is-utf8 kind a e)) in
-      subst (Lacks (codes "/?#")) h.whole
-      (authority-text-lacks-its-ends p
-      (IfSome-combine p.userinfo IsUtf8 (IsValidFor kind.userinfo) (Lacks (codes "/?#"))
+      let utf8 = authority-parts-are-utf8 _ _ _
+      (subst IsUtf8 (sym h.whole) (authority-text-is-utf8 _ a e)) in
+      subst (Lacks (codes "/?#")) h.whole (authority-text-lacks-its-ends p (IfSome-combine _ _ _ _
       (λ x v w. valid_text_lacks_excluded_marks kind.userinfo (codes "/?#") sets.userinfo.percent
       userinfo-set-excludes-delimiters x v
       w) utf8.userinfo h.userinfo)
-      (host-lacks-authority-ends p.host h.host.0 utf8.host h.host.1)
-      (IfSome-combine p.port IsUtf8 (IsValidFor digit_set) (Lacks (codes "/?#"))
+      (host-lacks-authority-ends _ _ utf8.host h.host.1)
+      (IfSome-combine _ _ _ _
       (λ x v w. valid_text_lacks_excluded_marks digit_set (codes "/?#") refl refl x v w)
       utf8.port h.port))

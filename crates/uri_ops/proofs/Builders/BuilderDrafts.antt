@@ -98,12 +98,11 @@ module _ (a : Draft) (x : List ℕ) where
       → IsDraftOfParts (with_scheme x parts) (record a.lengths { scheme = Some (length x) })
       (text ++ (x ++ codes ":"))
   draft-with-scheme lacks whole =
-      let t = and_parts (is_none parts.scheme) (lacks_authority parts) (lacks whole) in
-      let s = and_parts (is_none parts.authority) (lacks_path parts) t.1 in
-      let p = and_parts (is_none parts.path) (lacks_query_and_fragment parts) s.1 in
-      let q = and_parts (is_none parts.query) (is_none parts.fragment) p.1 in
-      text-with-scheme-is-draft a.lengths text (a.ok whole) x
-      (absent-part-has-no-length 0 a.lengths.scheme text t.0)
+      let t = and_parts _ _ (lacks whole) in
+      let s = and_parts _ _ t.1 in
+      let p = and_parts _ _ s.1 in
+      let q = and_parts _ _ p.1 in
+      text-with-scheme-is-draft _ _ (a.ok whole) x (absent-part-has-no-length 0 _ _ t.0)
       (absent-part-has-no-length 2 a.lengths.authority rest s.0)
       (absent-part-has-no-length 0 a.lengths.path from_path p.0)
       (absent-part-has-no-length 1 a.lengths.query from_query q.0)
@@ -126,10 +125,9 @@ module _ (a : Draft) (x : List ℕ) where
   pub draft-with-path : (a.failed ≡ false → lacks_path (draft_parts a) ≡ true) → a.failed ≡ false
       → IsDraftOfParts (with_path x parts) (record a.lengths { path = Some (length x) }) (text ++ x)
   draft-with-path lacks whole =
-      let p = and_parts (is_none parts.path) (lacks_query_and_fragment parts) (lacks whole) in
-      let q = and_parts (is_none parts.query) (is_none parts.fragment) p.1 in
-      text-with-path-is-draft a.lengths text (a.ok whole) x
-      (absent-part-has-no-length 0 a.lengths.path from_path p.0)
+      let p = and_parts _ _ (lacks whole) in
+      let q = and_parts _ _ p.1 in
+      text-with-path-is-draft _ _ (a.ok whole) x (absent-part-has-no-length 0 _ _ p.0)
       (absent-part-has-no-length 1 a.lengths.query from_query q.0)
       (absent-part-has-no-length 1 a.lengths.fragment from_fragment q.1)
 

@@ -102,29 +102,25 @@ module _ (a : Draft) (x new : List ℕ) (g : Bool) (kept : g ≡ false → a.fai
   longer-lengths-have-longer-authority k e appended =
       let by : length x ≡ n - m =
       omega (arith, before_len, after_len, ap length appended, length-append text x) in
-      (λ i. record a.lengths { authority = Some (k + by i) })
-      ∙ ap (λ (o : Option ℕ). record a.lengths { authority = option_map (λ j. j + (n - m)) o })
-      (sym e)
+      (λ i. record a.lengths { authority = Some (k + by i) }) ∙ ap
+      (λ (o : Option ℕ). record a.lengths { authority = option_map (λ j. j + (n - m)) o }) (sym e)
 
   text-with-longer-authority-is-draft : (a.failed ≡ false
       → ends_in_authority any_authority (draft_parts a) ≡ true) → g ≡ false
       → new ≡ text ++ x → IsDraftOfParts (with_more_authority x parts) longer new
   text-with-longer-authority-is-draft ends e appended =
-      let s = and_parts (option_map_or any_authority parts.authority false) (lacks_path parts)
-      (ends (kept e)) in
-      let p = and_parts (is_none parts.path) (lacks_query_and_fragment parts) s.1 in
-      let q = and_parts (is_none parts.query) (is_none parts.fragment) p.1 in
+      let s = and_parts _ _ (ends (kept e)) in
+      let p = and_parts _ _ s.1 in
+      let q = and_parts _ _ p.1 in
       let contents = passing-part-has-length any_authority a.lengths.authority suffix s.0 in
       let authority : List ℕ = take contents.0 (drop 2 suffix) in
       let is : parts.authority ≡ Some authority = ap (λ o. part_in 2 o suffix) contents.1 in
-      let step = text-with-more-authority-is-draft a.lengths text (a.ok (kept e)) contents.0
-      authority x
-      contents.1 is
+      let step = text-with-more-authority-is-draft _ _ (a.ok (kept e)) _ _ x contents.1 is
       (absent-part-has-no-length 0 a.lengths.path from_path p.0)
       (absent-part-has-no-length 1 a.lengths.query from_query q.0)
       (absent-part-has-no-length 1 a.lengths.fragment from_fragment q.1) in
       subst (λ l. IsDraftOfParts (with_more_authority x parts) l new)
-      (longer-lengths-have-longer-authority contents.0 contents.1 appended)
+      (longer-lengths-have-longer-authority _ contents.1 appended)
       (subst (IsDraftOfParts (with_more_authority x parts)
       (record a.lengths { authority = Some (contents.0 + length x) })) (sym appended) step)
 

@@ -42,11 +42,8 @@ digit-or-dot-is-ascii c (inr dot) = grind (arith, nat_tests)
 pub ipv4-text-is-host : (names : TableSet) (text octets : List ℕ) → IsIpv4Text text octets
     → IsHostText names text
 ipv4-text-is-host names text octets h = record {
-  utf8 = ascii-in-test-is-utf8 any_ascii text
-      (list_all-from_AllPass (is_ascii_in any_ascii) text
-      (All-weaker IsDigitOrDot (λ c. is_ascii_in any_ascii c ≡ true)
-      (λ c d. digit-or-dot-is-ascii c d)
-      text (ipv4-text-is-digits-and-dots text octets h)));
+  utf8 = ascii-in-test-is-utf8 any_ascii text (list_all-from_AllPass _ _ (All-weaker _ _
+      (λ c d. digit-or-dot-is-ascii c d) _ (ipv4-text-is-digits-and-dots _ _ h)));
   host = (Ipv4 octets, h);
 }
 
@@ -55,8 +52,7 @@ pub bracketed-ipv6-text-is-host : (names : TableSet) (text segments : List ℕ)
     → IsIpv6Text text segments
     → IsHostText names (bracketed text)
 bracketed-ipv6-text-is-host names text segments h = record {
-  utf8 = bracketed-utf8-is-utf8 text
-      (address-text-is-utf8 text (ipv6-text-is-address-text text segments h));
+  utf8 = bracketed-utf8-is-utf8 _ (address-text-is-utf8 _ (ipv6-text-is-address-text _ _ h));
   host = (Ipv6 segments, (text, refl, h));
 }
 
@@ -89,7 +85,6 @@ decimal-digits-are-ascii-digits (d ∷ digits) h = and_from _ _ (decimal-digit-i
 -- building: a number in decimals is a port
 pub decimal_number_is_port : (n : ℕ) → n < 2 ^ 64 → is_text_for digit_set (decimal n) ≡ true
 decimal_number_is_port n fits =
-    let part = ascii-in-test-is-set-text digit_set is_ascii_digit refl refl (λ c e. e) (decimal n)
-    (decimal-digits-are-ascii-digits (decimal n) (decimal_is_IsNumeral n fits).0.1) in
-    valid_utf8_is_text_for_set digit_set (decimal n) (set-text-is-utf8 digit_set (decimal n) part)
-    (set-text-is-valid digit_set (decimal n) part)
+    let part = ascii-in-test-is-set-text _ _ refl refl (λ c e. e) _
+    (decimal-digits-are-ascii-digits _ (decimal_is_IsNumeral n fits).0.1) in
+    valid_utf8_is_text_for_set _ _ (set-text-is-utf8 _ _ part) (set-text-is-valid _ _ part)

@@ -10,15 +10,13 @@ use Rattle.uri_ops.proofs.Builders.Drafting.{IsDraftOfParts, recompose-with-auth
 -- building: the text of five components, each with its delimiters
 abbrev whole : Option (List ℕ) → Option (List ℕ) → List ℕ → Option (List ℕ) → Option (List ℕ)
     → List ℕ
-whole scheme authority path query fragment =
-    recompose (record {
-      scheme = scheme;
-      authority = authority;
-      path = path;
-      query =
-          query;
-      fragment = fragment;
-    })
+whole scheme authority path query fragment = recompose (record {
+  scheme = scheme;
+  authority = authority;
+  path = path;
+  query = query;
+  fragment = fragment;
+})
 
 module _ (lengths : Lengths) (text : List ℕ) (draft : IsDraft lengths text) where
   old : BuilderParts
@@ -122,15 +120,13 @@ module _ (lengths : Lengths) (text : List ℕ) (draft : IsDraft lengths text) wh
       (record lengths { query = Some (length x) }) (text ++ (codes "?" ++ x))
   unfolding old
   text-with-query-is-draft x q f =
-      text-of-parts-is-their-draft (with_query x old) (record lengths { query = Some (length x) })
-      (text ++ (codes "?" ++ x)) refl
+      text-of-parts-is-their-draft _ _
+      _ refl
       (ap (λ (l : Lengths). record l { query = Some (length x) }) (sym draft.counted))
-      (longer-text-is-parts-and-more (codes "?" ++ x)
+      (longer-text-is-parts-and-more _
       ∙ (λ i. whole old.scheme old.authority (unwrap_or old.path [])
-      (query-without-length-is-absent q i)
-      (fragment-without-length-is-absent f i) ++ (codes "?" ++ x))
-      ∙ recompose-with-query-appended old.scheme old.authority (unwrap_or old.path []) x
-      ∙ sym
+      (query-without-length-is-absent q i) (fragment-without-length-is-absent f i)
+      ++ (codes "?" ++ x)) ∙ recompose-with-query-appended _ _ _ x ∙ sym
       (λ i. whole old.scheme old.authority (unwrap_or old.path []) (Some x)
       (fragment-without-length-is-absent f i)))
 

@@ -72,12 +72,11 @@ record IsAcceptedPath (scheme authority : Option (List ℕ)) (path : List ℕ) :
 
 -- building: the first of the three errors that the path of a builder's parts may have
 first_build_error : Option (List ℕ) → Option (List ℕ) → List ℕ → Option BuildError
-first_build_error scheme authority path =
-    cond (is_some authority)
-    (cond (is_empty path || starts 47 path) None (Some NonemptyRootlessPath))
-    (cond (has_authority path) (Some PathStartsWithDoubleSlash)
-    (cond (not (is_some scheme) && has_colon_in_first_segment path)
-    (Some FirstPathSegmentContainsColon) None))
+first_build_error scheme authority path = cond (is_some authority)
+    (cond (is_empty path || starts 47 path) None (Some NonemptyRootlessPath)) (cond
+    (has_authority path) (Some PathStartsWithDoubleSlash) (cond
+    (not (is_some scheme) && has_colon_in_first_segment path) (Some FirstPathSegmentContainsColon)
+    None))
 
 -- general fact on options, for a builder's error: one that is there is not None
 some-is-not-none : {A : Type 0} {x : A} → Some x ≡ None → ⊥
@@ -171,19 +170,16 @@ module _ (kind : Kind) (sets : HasComponentSets kind) (p : BuilderParts)
       → IsAcceptedPath p.scheme p.authority path_or_empty → ArePartsOfKind kind (as_components p)
   unfolding path_or_empty
   accepted-parts-are-of-kind needs pass =
-      let r = meet_rules-gives-rules kind p rules in
+      let r = meet_rules-gives-rules _ p rules in
       record {
-        scheme = passing-option-has-property p.scheme is_scheme_text (λ s. IsUtf8 s
-            × (is_scheme s ≡ true))
-            scheme-text-is-utf8-scheme r.scheme;
+        scheme = passing-option-has-property _ _ _ scheme-text-is-utf8-scheme r.scheme;
         authority = passing-option-has-property p.authority (is_authority_text kind)
             (λ a. IsUtf8 a × (is_authority kind a ≡ true))
             (λ a h. (authority-text-is-utf8 kind a h, authority-text-meets-rule kind a h))
             r.authority;
         path = path-is-set-text;
         query = passing-option-has-property p.query (is_text_for kind.query)
-            (λ q. is_set_text kind.query q ≡ true)
-            (text-for-set-is-set-text kind.query) r.query;
+            (λ q. is_set_text kind.query q ≡ true) (text-for-set-is-set-text kind.query) r.query;
         fragment = passing-option-has-property p.fragment (is_text_for kind.fragment)
             (λ f. is_set_text kind.fragment f ≡ true) (text-for-set-is-set-text kind.fragment)
             r.fragment;
@@ -192,11 +188,9 @@ module _ (kind : Kind) (sets : HasComponentSets kind) (p : BuilderParts)
       }
 
   query-lacks-its-end : (q : List ℕ) → is_set_text kind.query q ≡ true → Lacks (codes "#") q
-  query-lacks-its-end q h = valid_text_lacks_excluded_marks kind.query
-      (codes "#") sets.query.percent
-      (query-set-excludes-its-end kind sets)
-      q
-      (set-text-is-utf8 kind.query q h) (set-text-is-valid kind.query q h)
+  query-lacks-its-end q h = valid_text_lacks_excluded_marks kind.query (codes "#")
+      sets.query.percent (query-set-excludes-its-end kind sets) q (set-text-is-utf8 kind.query q h)
+      (set-text-is-valid kind.query q h)
 
   authority-lacks-ends-before-abempty-path : (authority : Option (List ℕ)) (path : List ℕ)
       → absent_or_passes authority (is_authority_text kind) ≡ true
@@ -235,23 +229,18 @@ module _ (kind : Kind) (sets : HasComponentSets kind) (p : BuilderParts)
       → IsSplitOf (parts_text p) (as_components p)
   unfolding path_or_empty
   accepted-parts-are-split-of-text needs pass =
-      let r = meet_rules-gives-rules kind p rules in
+      let r = meet_rules-gives-rules _ p rules in
       let parts = accepted-parts-are-of-kind needs pass in
       record {
         whole = refl;
-        scheme = scheme-text-lacks-its-ends p.scheme r.scheme;
-        authority = authority-lacks-ends-before-abempty-path p.authority (unwrap_or p.path [])
-            r.authority pass.rooted;
+        scheme = scheme-text-lacks-its-ends _ r.scheme;
+        authority = authority-lacks-ends-before-abempty-path _ _ r.authority pass.rooted;
         path = valid_text_lacks_excluded_marks kind.path (codes "?#") sets.path.percent
-            (path-set-excludes-its-ends kind sets)
-            (unwrap_or p.path []) (set-text-is-utf8 kind.path (unwrap_or p.path [])
-            path-is-set-text)
-            (set-text-is-valid kind.path (unwrap_or p.path []) path-is-set-text);
-        query = passing-option-has-property p.query (is_text_for kind.query)
-            (λ q. Lacks (codes "#") q)
-            (λ q h. query-lacks-its-end q (text-for-set-is-set-text kind.query q h)) r.query;
-        no_scheme = accepted-parts-without-scheme-have-none p.scheme p.authority
-            (unwrap_or p.path []) p.query p.fragment pass;
+            (path-set-excludes-its-ends _ sets) (unwrap_or p.path [])
+            (set-text-is-utf8 _ _ path-is-set-text) (set-text-is-valid _ _ path-is-set-text);
+        query = passing-option-has-property _ _ _
+            (λ q h. query-lacks-its-end q (text-for-set-is-set-text _ q h)) r.query;
+        no_scheme = accepted-parts-without-scheme-have-none _ _ _ _ _ pass;
         no_authority = pass.no_authority;
       }
 
@@ -261,14 +250,12 @@ module _ (kind : Kind) (sets : HasComponentSets kind) (p : BuilderParts)
       → IsTextOfParts kind p
   unfolding path_or_empty
   accepted-parts-have-their-text needs e =
-      let pass = path-without-build-error-is-accepted p.scheme p.authority (unwrap_or p.path [])
+      let pass = path-without-build-error-is-accepted _ _ _
       (sym (refusal-is-first_build_error p) ∙ e) in
-      let same = only-split-is-components (parts_text p) (as_components p)
-      (accepted-parts-are-split-of-text needs pass) in
+      let same = only-split-is-components _ _ (accepted-parts-are-split-of-text needs pass) in
       record {
         of_kind = ap (components_meet_rules kind) same
-            ∙ components-of-kind-meet-grammar kind (as_components p)
-            (accepted-parts-are-of-kind needs pass);
+            ∙ components-of-kind-meet-grammar _ _ (accepted-parts-are-of-kind needs pass);
         components = same;
       }
 
@@ -276,14 +263,11 @@ module _ (kind : Kind) (sets : HasComponentSets kind) (p : BuilderParts)
 pub text-of-parts-is-accepted : (kind : Kind) (p : BuilderParts) → IsTextOfParts kind p
     → refusal p ≡ None
 text-of-parts-is-accepted kind p w =
-    let split = subst (IsSplitOf (parts_text p)) w.components
-    (components-are-split-of-text (parts_text p)) in
-    let meets : components_meet_rules kind (as_components p) ≡ true =
-    sym (ap (components_meet_rules kind) w.components)
-    ∙ w.of_kind in
-    refusal-is-first_build_error p ∙ accepted-path-has-no-build-error p.scheme p.authority
-    (unwrap_or p.path []) (record {
-      rooted = authority_has_abempty_path p.authority (unwrap_or p.path []) split.authority;
+    let split = subst (IsSplitOf (parts_text p)) w.components (components-are-split-of-text _) in
+    let meets : components_meet_rules kind (as_components p)
+    ≡ true = sym (ap (components_meet_rules kind) w.components) ∙ w.of_kind in
+    refusal-is-first_build_error p ∙ accepted-path-has-no-build-error _ _ _ (record {
+      rooted = authority_has_abempty_path _ _ split.authority;
       no_authority = split.no_authority;
       no_colon = scheme-rule-holds-without-need kind.needs_scheme (is_some p.scheme)
           (is_some p.authority || not (has_colon_in_first_segment (unwrap_or p.path [])))
@@ -296,9 +280,8 @@ module _ (kind : Kind) (sets : HasComponentSets kind) (d : Draft) (whole : d.fai
     (at : is_at_end kind.needs_scheme (draft_parts d) ≡ true) where
   pub built-draft-is-text-of-parts : refusal (draft_parts d) ≡ None
       → IsTextOfParts kind (draft_parts d)
-  built-draft-is-text-of-parts e = accepted-parts-have-their-text kind sets (draft_parts d)
-      (meets whole)
-      (in-order-parts-pass-their-test has_path kind.needs_scheme (draft_parts d) at whole).0 e
+  built-draft-is-text-of-parts e = accepted-parts-have-their-text _ sets _ (meets whole)
+      (in-order-parts-pass-their-test _ _ _ at whole).0 e
 
   pub built-text-is-of-kind : refusal (draft_parts d) ≡ None → IsOfKind kind (string_bytes d.text)
   built-text-is-of-kind e = subst (IsOfKind kind) (d.ok whole).whole

@@ -111,15 +111,12 @@ module _ (kind : Kind) (needs : Bool) (d e : Draft) (x : List ℕ) (takes : List
       let p = draft_parts d in
       let was = failure-is-kept (with_more_authority x) p (draft_parts e) adds refl whole in
       let is = ap (λ (q : BuilderParts). q.authority) (adds whole) in
-      let h = in-order-parts-pass-their-test (ends_in_authority takes) needs p before was in
+      let h = in-order-parts-pass-their-test _ _ p before was in
       let counted = ap (λ (l : Lengths). l.authority) (e.ok whole).counted in
-      subst (IsHostAtIfSome e.host) (sym is)
-      (host-range-if-some-authority e.host (with_more_authority x p).authority
-      (host-range-of-appended-authority whole p.authority
-      (meet_rules-gives-rules kind p (meets was)).authority
-      (and_parts (option_map_or takes p.authority false) (lacks_path p) h.1).0
-      (host-range-of-some-authority d.host p.authority (knows was)) (sym (ap (option_map length) is)
-      ∙ counted)))
+      subst (IsHostAtIfSome e.host) (sym is) (host-range-if-some-authority _ _
+      (host-range-of-appended-authority whole _ (meet_rules-gives-rules _ p (meets was)).authority
+      (and_parts _ _ h.1).0 (host-range-of-some-authority _ _ (knows was))
+      (sym (ap (option_map length) is) ∙ counted)))
 
 -- by userinfo, by a host, and by a port
 module _ (kind : Kind) (sets : HasComponentSets kind) (old new : HostRange) (len : ℕ) where
@@ -138,8 +135,7 @@ module _ (kind : Kind) (sets : HasComponentSets kind) (old new : HostRange) (len
       let m = length-append user (codes "@") in
       record {
         start = omega (arith, s, n, m, start);
-        end =
-            omega (arith, t, n, m, start, host);
+        end = omega (arith, t, n, m, start, host);
         inside = omega (arith, t, n);
       }
   host-range-after-userinfo user u valid s t (c ∷ a) rule empty at n = absurd (false≢true empty)
@@ -151,18 +147,16 @@ module _ (kind : Kind) (sets : HasComponentSets kind) (old new : HostRange) (len
       → IsHostAt old a
       → len ≡ length (a ++ host) → IsHostAt new (a ++ host)
   host-range-after-host host text s t a rule takes at n =
-      let h = host-extends-authority kind sets a host rule takes text in
+      let h = host-extends-authority _ sets a _ rule takes text in
       let start : host_start_of (a ++ host) ≡ host_start_of a =
       ap (λ (p : AuthorityParts). delimited_length 1 p.userinfo) h.parts in
       let port : delimited_length 1 (authority_parts (a ++ host)).port ≡ 0 =
       ap (λ (p : AuthorityParts). delimited_length 1 p.port) h.parts in
-      let m = authority-is-as-long-as-its-parts kind.userinfo kind.reg_name (a ++ host)
-      (authority-text-meets-rule kind (a ++ host) h.rule) in
+      let m = authority-is-as-long-as-its-parts _ _ _ (authority-text-meets-rule _ _ h.rule) in
       record {
         start = s ∙ at.start ∙ sym start;
         end = omega (arith, t, n, m, port);
-        inside =
-            omega (arith, t, n);
+        inside = omega (arith, t, n);
       }
 
   pub host-range-after-port : (digits : List ℕ) → is_text_for digit_set digits ≡ true → new ≡ old
@@ -170,18 +164,15 @@ module _ (kind : Kind) (sets : HasComponentSets kind) (old new : HostRange) (len
       → len ≡ length (a ++ (codes ":" ++ digits)) → IsHostAt new (a ++ (codes ":" ++ digits))
   unfolding is_text_for
   host-range-after-port digits d same a rule takes at n =
-      let text = and_parts (is_utf8 digits) (is_valid_for digit_set digits) d in
+      let text = and_parts _ _ d in
       let whole : List ℕ = a ++ (codes ":" ++ digits) in
-      let h = port-extends-authority kind sets a digits rule takes
-      (IsUtf8-from_is_utf8 digits text.0) text.1 in
+      let h = port-extends-authority _ sets a _ rule takes (IsUtf8-from_is_utf8 _ text.0) text.1 in
       let start : host_start_of whole ≡ host_start_of a =
       ap (λ (p : AuthorityParts). delimited_length 1 p.userinfo) h.parts in
       let end : host_end_of whole ≡ host_end_of a =
       ap (λ (p : AuthorityParts). delimited_length 1 p.userinfo + length p.host) h.parts in
-      subst (λ p. IsHostAt p whole) (sym same)
-      (record {
+      subst (λ p. IsHostAt p whole) (sym same) (record {
         start = at.start ∙ sym start;
         end = at.end ∙ sym end;
-        inside =
-            omega (arith, at.inside, length-append a (codes ":" ++ digits));
+        inside = omega (arith, at.inside, length-append a (codes ":" ++ digits));
       })

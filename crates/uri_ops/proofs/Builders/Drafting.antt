@@ -74,8 +74,7 @@ parts_in-of-own-text p =
     let to_path = ap (after_part 2 (option_map length p.authority)) rest ∙ path in
     let to_query = ap (after_part 0 (option_map length p.path)) to_path ∙ query in
     let to_fragment = ap (after_part 1 (option_map length p.query)) to_query ∙ fragment in
-    builder-parts-of-equal-components
-    (part_in-finds-delimited-component [] (codes ":") p.scheme A)
+    builder-parts-of-equal-components (part_in-finds-delimited-component [] (codes ":") p.scheme A)
     (ap (part_in 2 (option_map length p.authority)) rest
     ∙ part_in-finds-delimited-component (codes "//") [] p.authority P)
     (ap (part_in 0 (option_map length p.path)) (to_path ∙ marked_path)

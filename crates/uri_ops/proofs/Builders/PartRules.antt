@@ -94,8 +94,7 @@ module _ (kind : Kind) (needs : Bool) (p q : BuilderParts) (x : List ℕ) where
   parts-with-scheme-meet-rules adds meets rule = changed-parts-meet-rules
       (with_scheme x) p q adds refl kind
       (λ e. let r = meet_rules-gives-rules kind p (meets e) in
-      rules-give-meet_rules kind (with_scheme x p)
-      (assumption r))
+      rules-give-meet_rules kind (with_scheme x p) (assumption r))
 
   pub parts-with-scheme-are-in-order : AddsUnlessFailed (with_scheme x) p q → is_fresh needs p ≡
       true
@@ -113,8 +112,7 @@ module _ (kind : Kind) (needs : Bool) (p q : BuilderParts) (x : List ℕ) where
   parts-with-authority-meet-rules adds meets rule = changed-parts-meet-rules (with_authority x) p q
       adds refl kind
       (λ e. let r = meet_rules-gives-rules kind p (meets e) in
-      rules-give-meet_rules kind (with_authority x p)
-      (assumption r))
+      rules-give-meet_rules kind (with_authority x p) (assumption r))
 
   parts_before_authority_lack_path : is_in_order lacks_authority needs p ≡ true → p.failed ≡ false
       → (has_needed_scheme needs p ≡ true) × (lacks_path p ≡ true)
@@ -134,8 +132,7 @@ module _ (kind : Kind) (needs : Bool) (p q : BuilderParts) (x : List ℕ) where
       ≡ true
       → is_in_order (ends_in_authority is_empty) needs q ≡ true
   parts-with-begun-authority-are-in-order adds before = changed-parts-are-in-order
-      (with_authority []) p q adds refl
-      (ends_in_authority is_empty) needs
+      (with_authority []) p q adds refl (ends_in_authority is_empty) needs
       (λ e. let h = parts_before_authority_lack_path before e in and_from _ _ h.0
       (and_from _ _ refl h.1))
 
@@ -165,15 +162,13 @@ module _ (kind : Kind) (needs : Bool) (p q : BuilderParts) (x : List ℕ) where
   parts-with-query-meet-rules adds meets rule = changed-parts-meet-rules
       (with_query x) p q adds refl kind
       (λ e. let r = meet_rules-gives-rules kind p (meets e) in
-      rules-give-meet_rules kind (with_query x p)
-      (assumption r))
+      rules-give-meet_rules kind (with_query x p) (assumption r))
 
   pub parts-with-query-are-in-order : AddsUnlessFailed (with_query x) p q
       → is_in_order has_path_last needs p ≡ true
       → is_in_order has_path_before_fragment needs q ≡ true
-  parts-with-query-are-in-order adds before = changed-parts-are-in-order (with_query x) p q adds
-      refl has_path_before_fragment
-      needs
+  parts-with-query-are-in-order adds before =
+      changed-parts-are-in-order (with_query x) p q adds refl has_path_before_fragment needs
       (λ e.
       let h = in-order-parts-pass-their-test has_path_last needs p before e in
       let s = and_parts (is_some p.path) (lacks_query_and_fragment p) h.1 in
@@ -184,8 +179,7 @@ module _ (kind : Kind) (needs : Bool) (p q : BuilderParts) (x : List ℕ) where
   parts-with-fragment-meet-rules adds meets rule = changed-parts-meet-rules (with_fragment x) p q
       adds refl kind
       (λ e. let r = meet_rules-gives-rules kind p (meets e) in
-      rules-give-meet_rules kind (with_fragment x p)
-      (assumption r))
+      rules-give-meet_rules kind (with_fragment x p) (assumption r))
 
   pub parts-with-fragment-are-in-order : AddsUnlessFailed (with_fragment x) p q
       → is_in_order has_path_before_fragment needs p
@@ -215,10 +209,9 @@ module _ (kind : Kind) (needs : Bool) (p q : BuilderParts) (x : List ℕ) (takes
   authority-of-parts-is-extended : q.failed ≡ false → p.failed ≡ false
       → IsExtendedAuthority p.authority
   authority-of-parts-is-extended f e =
-      let h = in-order-parts-pass-their-test (ends_in_authority takes) needs p before e in
-      appended-authority-is-extended (goes f) p.authority
-      (meet_rules-gives-rules kind p (meets e)).authority
-      (and_parts (option_map_or takes p.authority false) (lacks_path p) h.1).0
+      let h = in-order-parts-pass-their-test _ _ p before e in
+      appended-authority-is-extended (goes f) _ (meet_rules-gives-rules _ p (meets e)).authority
+      (and_parts _ _ h.1).0
 
   pub parts-with-longer-authority-meet-rules : MeetsOrFailed kind q
   parts-with-longer-authority-meet-rules f =

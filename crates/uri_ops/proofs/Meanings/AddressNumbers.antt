@@ -52,13 +52,11 @@ zeros-fit-16-bits n = All-replicate (λ n. n < 2 ^ 16) n 0 (lit< tt)
 -- meanings of hosts: the numbers of an IPv6 address have 16 bits
 ipv6-segments-fit-16-bits : (text segments : List ℕ) → IsColonHex text segments → Fit16Bits segments
 ipv6-segments-fit-16-bits text segments (inl h) = groups-fit-16-bits true [] text segments h.0
-ipv6-segments-fit-16-bits text segments (inr h) =
-    subst Fit16Bits (sym h.value)
-    (All-append (λ n. n < 2 ^ 16) (h.head ++ replicate (8 - length h.head - length h.tail) 0) h.tail
-    (All-append (λ n. n < 2 ^ 16) h.head (replicate (8 - length h.head - length h.tail) 0)
-    (groups-fit-16-bits false [] h.head_text h.head h.head_groups)
-    (zeros-fit-16-bits (8 - length h.head - length h.tail)))
-    (groups-fit-16-bits true [] h.tail_text h.tail h.tail_groups))
+ipv6-segments-fit-16-bits text segments (inr h) = subst Fit16Bits (sym h.value) (All-append
+    (λ n. n < 2 ^ 16) (h.head ++ replicate (8 - length h.head - length h.tail) 0) h.tail (All-append
+    (λ n. n < 2 ^ 16) h.head (replicate (8 - length h.head - length h.tail) 0)
+    (groups-fit-16-bits _ [] _ _ h.head_groups) (zeros-fit-16-bits _))
+    (groups-fit-16-bits _ [] _ _ h.tail_groups))
 
 -- meanings of hosts: an IPv6 address has eight numbers
 ipv6-text-has-eight-segments : (text segments : List ℕ) → IsColonHex text segments
@@ -70,8 +68,7 @@ ipv6-text-has-eight-segments text segments (inr h) =
       arith,
       ap length h.value,
       length-append (h.head ++ zeros) h.tail,
-      length-append h.head
-          zeros,
+      length-append h.head zeros,
       length-replicate {A = ℕ} (8 - length h.head - length h.tail) 0,
       h.room,
     )
@@ -80,8 +77,6 @@ ipv6-text-has-eight-segments text segments (inr h) =
 pub ipv6_text-has-its-segments : (text segments : List ℕ) → IsColonHex text segments
     → IsColonHex (ipv6_text segments) segments
 ipv6_text-has-its-segments text segments h =
-    IsColonHex-ipv6_text segments (ipv6-text-has-eight-segments text segments h) (λ k. ⊎_elim
-    (λ inside. All-get_or (λ n. n < 2 ^ 16) segments k 0 inside
-    (ipv6-segments-fit-16-bits text segments h))
-    (λ past. subst (λ n. n < 2 ^ 16) (sym (get_or_past segments k 0 past)) (lit< tt))
-    (cases_lt k (length segments)))
+    IsColonHex-ipv6_text segments (ipv6-text-has-eight-segments _ _ h) (λ k. ⊎_elim
+    (λ inside. All-get_or (λ n. n < 2 ^ 16) segments k 0 inside (ipv6-segments-fit-16-bits _ _ h))
+    (λ past. subst (λ n. n < 2 ^ 16) (sym (get_or_past _ k 0 past)) (lit< tt)) (cases_lt k _))

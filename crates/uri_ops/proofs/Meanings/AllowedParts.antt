@@ -59,8 +59,7 @@ module _ (set : TableSet) (lacks : LacksPercent set) where
   pub decoded-set-text-is-printable : (text : List ℕ) → is_set_text set text ≡ true
       → list_all is_printable (decode_unreserved set text) ≡ true
   decoded-set-text-is-printable text e = DecodedTokens.decode_unreserved_keeps_tokens_printable set
-      text
-      (set-text-has-printable-tokens text e)
+      text (set-text-has-printable-tokens text e)
 
   tokens-of-decoded-text : (text : List ℕ) → is_set_text set text ≡ true
       → tokens (print_decoded set text) ≡ decode_unreserved set text
@@ -89,10 +88,8 @@ module _ (set : TableSet) (lacks : LacksPercent set) where
       → is_set_text set text ≡ true
       → is_set_text set (print_decoded set text) ≡ true
   unfolding print_decoded
-  decoded-set-text-is-set-text wide text e = set-text-from-utf8 set
-      (print (decode_unreserved set text))
-      (decoded-text-is-utf8 text e)
-      (printed_decode_unreserved_stays_valid set text lacks wide (set-text-is-valid set text e))
+  decoded-set-text-is-set-text wide text e = set-text-from-utf8 set _ (decoded-text-is-utf8 _ e)
+      (printed_decode_unreserved_stays_valid set _ lacks wide (set-text-is-valid set _ e))
 
 -- meanings, by tokens: `/` (47) is no first digit of an octet
 slash-is-no-first-hex-digit : (c d : ℕ) → is_pct_encoded c 47 d ≡ false
@@ -132,21 +129,18 @@ chars-of-leading-slash (b ∷ y) = refl
 -- meanings, by tokens: those of a text with a `/` (47) are those on each side of it, and it
 tokens-split-at-slash : (x y : List ℕ) → IsUtf8 x → tokens (x ++ 47 ∷ y)
     ≡ tokens x ++ Char 47 ∷ tokens y
-tokens-split-at-slash x y u =
-    ap tokens_from_chars (chars-append x (47 ∷ y) u
-    ∙ ap (λ cs. chars x ++ cs) (chars-of-leading-slash y))
+tokens-split-at-slash x y u = ap tokens_from_chars
+    (chars-append x (47 ∷ y) u ∙ ap (λ cs. chars x ++ cs) (chars-of-leading-slash y))
     ∙ tokens_from_chars-splits-at-slash (chars x) (chars y)
 
 -- meanings of paths: what is before a `/` (47) and what is after it are decoded separately
 decode_unreserved-splits-at-slash : (set : TableSet) (x y : List ℕ) → IsUtf8 x
     → decode_unreserved set (x ++ 47 ∷ y) ≡ decode_unreserved set x ++ Char 47
     ∷ decode_unreserved set y
-decode_unreserved-splits-at-slash set x y u =
-    ap (encode_formatting set) (ap (decode_tokens set) (tokens-split-at-slash x y u)
-    ∙ char_separates_decoded_tokens set (tokens x) 47 (tokens y))
-    ∙ ascii_char_separates_encode_formatting set (decode_tokens set (tokens x)) 47
-    (decode_tokens set (tokens y))
-    (lit< tt)
+decode_unreserved-splits-at-slash set x y u = ap (encode_formatting set)
+    (ap (decode_tokens set) (tokens-split-at-slash x y u)
+    ∙ char_separates_decoded_tokens set _ 47 _)
+    ∙ ascii_char_separates_encode_formatting set _ 47 _ (lit< tt)
 
 -- meanings, by tokens: tokens are written on each side of a `/` (47) by themselves
 print-splits-at-slash : (ts us : List Token) → print (ts ++ Char 47 ∷ us)

@@ -39,8 +39,7 @@ ascii-bytes-are-ascii-in-any_char : (text : List ℕ) → list_all (λ c. ltb c 
     → list_all (is_ascii_in any_char) text ≡ true
 unfolding any_char
 ascii-bytes-are-ascii-in-any_char [] e = refl
-ascii-bytes-are-ascii-in-any_char (c ∷ text) e = let p = and_parts (ltb c 128)
-    (list_all (λ c. ltb c 128) text) e in
+ascii-bytes-are-ascii-in-any_char (c ∷ text) e = let p = and_parts _ _ e in
     and_from _ _ (and_from _ true p.0 refl) (ascii-bytes-are-ascii-in-any_char text p.1)
 
 -- meanings of schemes: bytes below 128 are an ASCII text
@@ -137,8 +136,7 @@ pub lowered-scheme-is-scheme : (text : List ℕ) → IsUtf8 text → is_scheme t
 lowered-scheme-is-scheme text u e =
     let p = and_parts (is_ascii_alphabetic (slice_index text 0)) _ e in
     let all = lowered-ascii-passes-test is_scheme_char lowered-scheme-character-is-scheme-character
-    text
-    (sym (valid_ascii_text is_scheme_char percent-is-no-scheme-character text u) ∙ p.1) in
+    text (sym (valid_ascii_text is_scheme_char percent-is-no-scheme-character text u) ∙ p.1) in
     and_from _ _ (lowered-text-keeps-leading-letter text p.0)
     (valid_ascii_text is_scheme_char percent-is-no-scheme-character (str_to_ascii_lowercase text)
     (ascii-in-test-is-utf8 is_scheme_char (str_to_ascii_lowercase text) all) ∙ all)

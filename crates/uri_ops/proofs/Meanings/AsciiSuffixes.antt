@@ -50,8 +50,7 @@ longer-suffix-is-ascii old out new more a pushed ascii =
 -- ASCII suffixes: after a text in UTF-8, an ASCII suffix leaves it UTF-8
 pub ascii-suffix-keeps-utf8 : (old new : List ℕ) → IsUtf8 old → AppendsAscii old new → IsUtf8 new
 ascii-suffix-keeps-utf8 old new utf8 a = subst IsUtf8 (sym (text-is-old-and-suffix old new a))
-    (IsUtf8-append old (drop (length old) new) utf8
-    (IsUtf8-from_ascii (drop (length old) new) a.ascii))
+    (IsUtf8-append old _ utf8 (IsUtf8-from_ascii _ a.ascii))
 
 -- ASCII suffixes: if a suffix and the rest complete what was before, they are the text
 pub suffix-and-rest-are-text : (old new rest text : List ℕ) → AppendsAscii old new
@@ -107,8 +106,6 @@ pub octet-decoded-alone-is-ascii : (lowers : Bool) (value : ℕ) → value < 256
     → IsAscii (print (lowered_if lowers (decode_octet (Octet value) ∷ [])))
 octet-decoded-alone-is-ascii lowers value small = ⊎_elim
     (λ e. subst IsAscii (unreserved-octet-is-its-code lowers value e)
-    (IsAscii-push [] (lowered_code_if lowers value) IsAscii-nil
-    (lowered-unreserved-is-ascii lowers value e)))
-    (λ e. subst IsAscii (reserved-octet-is-written lowers value e)
-    (octet-text-is-ascii value small))
-    (cases_Bool (is_unreserved value))
+    (IsAscii-push [] _ IsAscii-nil (lowered-unreserved-is-ascii lowers value e)))
+    (λ e. subst IsAscii (reserved-octet-is-written _ _ e) (octet-text-is-ascii _ small))
+    (cases_Bool _)

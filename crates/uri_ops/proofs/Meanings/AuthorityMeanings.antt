@@ -38,8 +38,7 @@ no-delimiter-allowed-excludes-each : (set : TableSet) (marks : List ℕ) → lis
     ≡ false
     → list_all (λ c. not (set.ascii c)) marks ≡ true
 no-delimiter-allowed-excludes-each set [] e = refl
-no-delimiter-allowed-excludes-each set (m ∷ marks) e = let p = or_parts (set.ascii m)
-    (list_any set.ascii marks) e in
+no-delimiter-allowed-excludes-each set (m ∷ marks) e = let p = or_parts _ _ e in
     and_from _ _ (not_from_false _ p.0) (no-delimiter-allowed-excludes-each set marks p.1)
 
 -- meanings of authorities: a set that excludes some delimiters excludes some of them
@@ -78,8 +77,7 @@ host-and-port-of-utf8-are-utf8 host (Some digits) u =
 pub authority-parts-are-utf8 : (userinfo port : Option (List ℕ)) (host : List ℕ)
     → IsUtf8 (marked [] userinfo (codes "@") ++ (host ++ marked (codes ":") port []))
     → PartsUtf8 (record { userinfo = userinfo; host = host; port = port })
-authority-parts-are-utf8 None port host u = let suffix = host-and-port-of-utf8-are-utf8
-    host port u in
+authority-parts-are-utf8 None port host u = let suffix = host-and-port-of-utf8-are-utf8 _ _ u in
     record { userinfo = tt; host = suffix.0; port = suffix.1 }
 authority-parts-are-utf8 (Some user) port host u =
     let apart = utf8_around_ascii_byte user 64 (host ++ marked (codes ":") port []) (omega arith)
@@ -103,10 +101,8 @@ userinfo-with-at-sign-is-utf8 (Some user) u = IsUtf8-append user (codes "@") u
 
 -- meanings of authorities: the text of components in UTF-8 is UTF-8
 recomposed-authority-is-utf8 : (p : AuthorityParts) → PartsUtf8 p → IsUtf8 (recompose_authority p)
-recomposed-authority-is-utf8 p u = IsUtf8-append (marked [] p.userinfo (codes "@"))
-    (p.host ++ marked (codes ":") p.port []) (userinfo-with-at-sign-is-utf8 p.userinfo u.userinfo)
-    (IsUtf8-append p.host (marked (codes ":") p.port []) u.host
-    (port-with-colon-is-utf8 p.port u.port))
+recomposed-authority-is-utf8 p u = IsUtf8-append _ _ (userinfo-with-at-sign-is-utf8 _ u.userinfo)
+    (IsUtf8-append _ _ u.host (port-with-colon-is-utf8 _ u.port))
 
 -- meanings of authorities: a userinfo with its `@`, if there is one, has no `/`, `?` or `#`
 userinfo-with-at-sign-lacks-authority-ends : (userinfo : Option (List ℕ))
@@ -114,30 +110,26 @@ userinfo-with-at-sign-lacks-authority-ends : (userinfo : Option (List ℕ))
     → Lacks (codes "/?#") (marked [] userinfo (codes "@"))
 userinfo-with-at-sign-lacks-authority-ends None h = test-of-delimiters-gives-lacks
     (codes "/?#") [] refl
-userinfo-with-at-sign-lacks-authority-ends (Some user) h = joined-texts-lack-marks
-    (codes "/?#") user (codes "@") h
-    (test-of-delimiters-gives-lacks (codes "/?#") (codes "@") refl)
+userinfo-with-at-sign-lacks-authority-ends (Some user) h = joined-texts-lack-marks (codes "/?#")
+    user (codes "@") h (test-of-delimiters-gives-lacks (codes "/?#") (codes "@") refl)
 
 -- meanings of authorities: a port with its `:`, if there is one, has no `/`, `?` or `#`
 port-with-colon-lacks-authority-ends : (port : Option (List ℕ)) → IfSome port (Lacks (codes "/?#"))
     → Lacks (codes "/?#") (marked (codes ":") port [])
 port-with-colon-lacks-authority-ends None h = test-of-delimiters-gives-lacks (codes "/?#") [] refl
-port-with-colon-lacks-authority-ends (Some digits) h =
-    joined-texts-lack-marks (codes "/?#") (58 ∷ digits) []
-    (joined-texts-lack-marks (codes "/?#") (codes ":") digits
-    (test-of-delimiters-gives-lacks (codes "/?#") (codes ":") refl)
-    h) (test-of-delimiters-gives-lacks (codes "/?#") [] refl)
+port-with-colon-lacks-authority-ends (Some digits) h = joined-texts-lack-marks (codes "/?#")
+    (58 ∷ digits) [] (joined-texts-lack-marks (codes "/?#") (codes ":") digits
+    (test-of-delimiters-gives-lacks (codes "/?#") (codes ":") refl) h)
+    (test-of-delimiters-gives-lacks (codes "/?#") [] refl)
 
 -- meanings of authorities: if no component has a `/`, `?` or `#`, the recomposed authority has none
 pub authority-text-lacks-its-ends : (p : AuthorityParts) → IfSome p.userinfo (Lacks (codes "/?#"))
     → Lacks (codes "/?#") p.host → IfSome p.port (Lacks (codes "/?#"))
     → Lacks (codes "/?#") (recompose_authority p)
-authority-text-lacks-its-ends p user host port =
-    joined-texts-lack-marks (codes "/?#") (marked [] p.userinfo (codes "@"))
-    (p.host ++ marked (codes ":") p.port [])
-    (userinfo-with-at-sign-lacks-authority-ends p.userinfo user)
-    (joined-texts-lack-marks (codes "/?#") p.host (marked (codes ":") p.port []) host
-    (port-with-colon-lacks-authority-ends p.port port))
+authority-text-lacks-its-ends p user host port = joined-texts-lack-marks (codes "/?#")
+    (marked [] p.userinfo (codes "@")) (p.host ++ marked (codes ":") p.port [])
+    (userinfo-with-at-sign-lacks-authority-ends _ user) (joined-texts-lack-marks (codes "/?#")
+    p.host (marked (codes ":") p.port []) host (port-with-colon-lacks-authority-ends p.port port))
 
 -- meanings of ports: what holds of a port, if there is one, holds of the one that its meaning keeps
 port_meaning-keeps-property : (default : Option ℕ) (port : Option (List ℕ)) (P : List ℕ → Type 0)
@@ -233,13 +225,11 @@ module _ (kind : Kind) (sets : HasComponentSets kind) (default : Option ℕ) (a 
 
   normal-authority-is-of-kind : is_authority kind (recompose_authority normal) ≡ true
   normal-authority-is-of-kind = is_authority_for-complete users names apart
-      (recompose_authority normal) normal
-      normal-authority-is-utf8 normal-authority-follows-grammar
+      (recompose_authority normal) normal normal-authority-is-utf8 normal-authority-follows-grammar
 
   pub normal-authority-has-normal-parts : authority_parts (recompose_authority normal) ≡ normal
   normal-authority-has-normal-parts = authority_parts-are-unique users names apart
-      (recompose_authority normal) normal
-      normal-authority-is-utf8 normal-authority-follows-grammar
+      (recompose_authority normal) normal normal-authority-is-utf8 normal-authority-follows-grammar
 
   bare-meaning-of-normal-authority : authority_meaning kind None (recompose_authority normal)
       ≡ authority_meaning kind default a
@@ -247,12 +237,10 @@ module _ (kind : Kind) (sets : HasComponentSets kind) (default : Option ℕ) (a 
       let of_parts : AuthorityParts → AuthorityMeaning =
       λ p. record {
         userinfo = option_map (decode_unreserved users) p.userinfo;
-        host =
-            host_meaning names p.host (host_kind p.host);
+        host = host_meaning names p.host (host_kind p.host);
         port = port_meaning None p.port;
       } in
-      let user_decoded = normal-component-decodes-as-component users (codes "/?#[]@") sets.userinfo
-      parts.userinfo user in
+      let user_decoded = normal-component-decodes-as-component _ _ sets.userinfo _ user in
       let host_decoded = host.meaning in
       let port_decoded = port_meaning-is-its-own-bare-meaning default parts.port in
       ap of_parts normal-authority-has-normal-parts

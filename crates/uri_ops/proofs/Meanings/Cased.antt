@@ -38,11 +38,9 @@ print-of-characters-is-text text u = print-of-characters-is-their-utf8 (chars te
 pub bytes-past-ascii-stay-when-lowered : (bytes : List ℕ) → ArePastAscii bytes
     → str_to_ascii_lowercase bytes ≡ bytes
 bytes-past-ascii-stay-when-lowered [] past = refl
-bytes-past-ascii-stay-when-lowered (b ∷ bytes) past =
-    ap (λ x. x ∷ str_to_ascii_lowercase bytes)
-    (lowercase_keeps_char_past_ascii b (All-head (λ x. 128 ≤ x) b bytes past))
-    ∙ ap (λ x. b ∷ x) (bytes-past-ascii-stay-when-lowered bytes
-    (All-tail (λ x. 128 ≤ x) b bytes past))
+bytes-past-ascii-stay-when-lowered (b ∷ bytes) past = ap (λ x. x ∷ str_to_ascii_lowercase bytes)
+    (lowercase_keeps_char_past_ascii b (All-head (λ x. 128 ≤ x) b bytes past)) ∙ ap (λ x. b ∷ x)
+    (bytes-past-ascii-stay-when-lowered bytes (All-tail (λ x. 128 ≤ x) b bytes past))
 
 -- meanings in lower case: bytes without ASCII are past ASCII
 bytes-without-ascii-are-past-ascii : (bytes : List ℕ) → list_all is_no_ascii_byte bytes ≡ true
@@ -73,15 +71,13 @@ lowering-and-utf8-swap-for-character c = ⊎_elim
     (λ h. encode_ascii (to_ascii_lowercase c) (lowercase_ascii c h)
     ∙ sym (ap (map to_ascii_lowercase) (encode_ascii c h)))
     (λ h. ap encode_utf8 (lowercase_keeps_char_past_ascii c h)
-    ∙ sym (character-past-ascii-stays-when-lowered c h))
-    (cases_lt c 128)
+    ∙ sym (character-past-ascii-stays-when-lowered c h)) (cases_lt c 128)
 
 -- meanings in lower case: lowering characters and writing them in UTF-8 may swap
 lowering-and-utf8-swap : (cs : List ℕ)
     → encode_utf8_all (map to_ascii_lowercase cs) ≡ str_to_ascii_lowercase (encode_utf8_all cs)
 lowering-and-utf8-swap [] = refl
-lowering-and-utf8-swap (c ∷ cs) =
-    ap (λ x. x ++ encode_utf8_all (map to_ascii_lowercase cs))
+lowering-and-utf8-swap (c ∷ cs) = ap (λ x. x ++ encode_utf8_all (map to_ascii_lowercase cs))
     (lowering-and-utf8-swap-for-character c)
     ∙ ap (λ x. map to_ascii_lowercase (encode_utf8 c) ++ x) (lowering-and-utf8-swap cs)
     ∙ sym (map-append to_ascii_lowercase (encode_utf8 c) (encode_utf8_all cs))
@@ -97,10 +93,9 @@ lowering-tokens-lowers-characters (c ∷ cs) = ap (λ ts. Char (to_ascii_lowerca
 -- lower case
 print-of-lowered-characters-is-lowered : (text : List ℕ) → IsUtf8 text
     → print (map lower_token (map Char (chars text))) ≡ str_to_ascii_lowercase text
-print-of-lowered-characters-is-lowered text u =
-    ap print (lowering-tokens-lowers-characters (chars text))
-    ∙ print-of-characters-is-their-utf8 (map to_ascii_lowercase (chars text))
-    ∙ lowering-and-utf8-swap (chars text) ∙ ap str_to_ascii_lowercase (encodes-chars text u)
+print-of-lowered-characters-is-lowered text u = ap print (lowering-tokens-lowers-characters _)
+    ∙ print-of-characters-is-their-utf8 _ ∙ lowering-and-utf8-swap _
+    ∙ ap str_to_ascii_lowercase (encodes-chars _ u)
 
 -- meanings in lower case: the characters of a text, in lower case if lowers, are written as the
 -- text in lower case
@@ -127,10 +122,9 @@ lowered-scalars-are-scalars (c ∷ cs) e =
 chars-of-lowered-text-are-lowered : (text : List ℕ) → IsUtf8 text
     → chars (str_to_ascii_lowercase text) ≡ map to_ascii_lowercase (chars text)
 chars-of-lowered-text-are-lowered text u =
-    ap (λ x. chars (str_to_ascii_lowercase x)) (sym (encodes-chars text u))
-    ∙ ap chars (sym (lowering-and-utf8-swap (chars text)))
-    ∙ chars-encodes (map to_ascii_lowercase (chars text))
-    (lowered-scalars-are-scalars (chars text) (scalars-chars text u))
+    ap (λ x. chars (str_to_ascii_lowercase x)) (sym (encodes-chars _ u))
+    ∙ ap chars (sym (lowering-and-utf8-swap _))
+    ∙ chars-encodes _ (lowered-scalars-are-scalars (chars text) (scalars-chars _ u))
 
 -- meanings in lower case: a text in lower case is UTF-8
 pub lowered-text-is-utf8 : (text : List ℕ) → IsUtf8 text → IsUtf8 (str_to_ascii_lowercase text)
@@ -138,8 +132,7 @@ lowered-text-is-utf8 text u = (
   map to_ascii_lowercase (chars text),
   (
     lowered-scalars-are-scalars (chars text) (scalars-chars text u),
-    lowering-and-utf8-swap (chars text)
-        ∙ ap str_to_ascii_lowercase (encodes-chars text u),
+    lowering-and-utf8-swap (chars text) ∙ ap str_to_ascii_lowercase (encodes-chars text u),
   ),
 )
 
@@ -172,11 +165,10 @@ module _ (decodable set : TableSet) (same : AllowsDecodable decodable set) where
   decoding-pieces-is-encoding-them : (ps : List Piece) → All IsOfCharacter ps
       → flat_map (decode_piece set) ps ≡ flat_map (encode_piece decodable) ps
   decoding-pieces-is-encoding-them [] h = refl
-  decoding-pieces-is-encoding-them (p ∷ ps) h =
-      ap (λ ts. ts ++ flat_map (decode_piece set) ps)
-      (decode_piece-is-encode_piece p (All-head IsOfCharacter p ps h))
-      ∙ ap (λ ts. encode_piece decodable p
-      ++ ts) (decoding-pieces-is-encoding-them ps (All-tail IsOfCharacter p ps h))
+  decoding-pieces-is-encoding-them (p ∷ ps) h = ap (λ ts. ts ++ flat_map (decode_piece set) ps)
+      (decode_piece-is-encode_piece p (All-head IsOfCharacter p ps h)) ∙ ap
+      (λ ts. encode_piece decodable p ++ ts)
+      (decoding-pieces-is-encoding-them ps (All-tail IsOfCharacter p ps h))
 
   -- characters that octets decode to
   pub decoded-pieces-are-encoded-text : (text : List ℕ) → IsUtf8 text
@@ -203,21 +195,17 @@ module _ (decodable set : TableSet) (same : AllowsDecodable decodable set) where
       (λ e. cond-true _ _ _ (same (to_ascii_lowercase c) ∙ lowered-decodable-is-decodable c e)
       ∙ sym (ap (map lower_token) (cond-true _ _ _ (same c ∙ e))))
       (λ e. ap (encode_char decodable) (undecodable-stays-when-lowered c e)
-      ∙ cond-false _ _ _ (same c ∙ e)
-      ∙ sym (lowering_keeps_octets (encode_utf8 c))
-      ∙ sym (ap (map lower_token) (cond-false _ _ _ (same c ∙ e))))
-      (cases_Bool (is_decodable set c))
+      ∙ cond-false _ _ _ (same c ∙ e) ∙ sym (lowering_keeps_octets _)
+      ∙ sym (ap (map lower_token) (cond-false _ _ _ (same c ∙ e)))) (cases_Bool _)
 
   encoding-characters-and-lowering-swap : (cs : List ℕ)
       → flat_map (encode_char decodable) (map to_ascii_lowercase cs)
       ≡ map lower_token (flat_map (encode_char decodable) cs)
   encoding-characters-and-lowering-swap [] = refl
-  encoding-characters-and-lowering-swap (c ∷ cs) =
-      ap (λ ts. ts ++ flat_map (encode_char decodable) (map to_ascii_lowercase cs))
-      (encode_char-and-lowering-swap c)
-      ∙ ap (λ ts. map lower_token (encode_char decodable c) ++ ts)
-      (encoding-characters-and-lowering-swap cs)
-      ∙ sym (map-append lower_token (encode_char decodable c) (flat_map (encode_char decodable) cs))
+  encoding-characters-and-lowering-swap (c ∷ cs) = ap
+      (λ ts. ts ++ flat_map (encode_char decodable) (map to_ascii_lowercase cs))
+      (encode_char-and-lowering-swap c) ∙ ap (λ ts. map lower_token (encode_char decodable c) ++ ts)
+      (encoding-characters-and-lowering-swap cs) ∙ sym (map-append lower_token _ _)
 
   pub lowered-pieces-are-encoded-lowered-text : (text : List ℕ) → IsUtf8 text
       → map lower_token (flat_map (decode_piece set) (utf8_pieces text))

@@ -35,8 +35,7 @@ pub fewer-characters-are-excluded-too : (some more : List ℕ) (set : TableSet)
     → excludes set (some ++ more) ≡ true
     → excludes set some ≡ true
 fewer-characters-are-excluded-too [] more set e = refl
-fewer-characters-are-excluded-too (m ∷ some) more set e = let p = and_parts _
-    (excludes set (some ++ more)) e in
+fewer-characters-are-excluded-too (m ∷ some) more set e = let p = and_parts _ _ e in
     and_from _ _ p.0 (fewer-characters-are-excluded-too some more set p.1)
 
 -- recomposing meanings: in a path without `:` in its first segment, and `?` or `#` after it, `:` is
@@ -46,11 +45,9 @@ path-without-colon-meets-no-colon-first : (path tail : List ℕ) → has_colon_i
     → IsEmptyOrMarked (codes "?#") tail
     → starts 58 (from_any (codes ":/?#") (path ++ tail)) ≡ false
 path-without-colon-meets-no-colon-first [] [] e begins = refl
-path-without-colon-meets-no-colon-first [] (c ∷ tail) e begins =
-    ap (λ n. starts 58 (drop n (c ∷ tail)))
-    (length_before_mark_at_start_is_zero (codes ":/?#") c tail
-    (question_or_hash_ends_scheme c begins))
-    ∙ question_or_hash_is_no_colon c begins
+path-without-colon-meets-no-colon-first [] (c ∷ tail) e begins = ap
+    (λ n. starts 58 (drop n (c ∷ tail))) (length_before_mark_at_start_is_zero (codes ":/?#") c tail
+    (question_or_hash_ends_scheme c begins)) ∙ question_or_hash_is_no_colon c begins
 path-without-colon-meets-no-colon-first (c ∷ path) tail e begins = ⊎_elim
     (λ m. ap (λ n. starts 58 (drop n (c ∷ (path ++ tail))))
     (length_before_mark_at_start_is_zero (codes ":/?#") c (path ++ tail) m) ∙ first c path e)

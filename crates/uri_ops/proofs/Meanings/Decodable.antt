@@ -25,10 +25,8 @@ use Rattle.uri_ops.proofs.Meanings.AsciiCharacters.{is_ascii_in, ascii-in-test-i
 -- meanings, decoded: in a text that a table allows each `%` begins an octet
 pub valid-text-is-decodable : (table : Table) (set : TableSet) (text : List ℕ) → set_of table ≡ set
     → IsValidFor set text → IsValidFor widest_set text
-valid-text-is-decodable table set text e valid =
-    valid_for_superset set widest_set text
-    (every_set_is_subset_of_widest set (subst LacksPercent e (lacks_percent table)))
-    valid
+valid-text-is-decodable table set text e valid = valid_for_superset set widest_set text
+    (every_set_is_subset_of_widest set (subst LacksPercent e (lacks_percent table))) valid
 
 -- meanings of hosts: the character is not `%`, as in an IPv4 address
 abbrev is_no_percent : ℕ → Bool
@@ -47,8 +45,7 @@ dotted-decimal-is-decodable text octets h =
     (ascii-in-test-is-set-text widest_set is_no_percent refl refl (λ c e. e) text
     (list_all-from_AllPass (is_ascii_in is_no_percent) text
     (All-weaker IsDigitOrDot (λ c. is_ascii_in is_no_percent c ≡ true)
-    (λ c d. digit-or-dot-is-no-percent c d) text
-    (ipv4-text-is-digits-and-dots text octets h))))
+    (λ c d. digit-or-dot-is-no-percent c d) text (ipv4-text-is-digits-and-dots text octets h))))
 
 -- meanings of hosts: each `%` begins an octet in a host that doesn't begin with `[` (91), so in an
 -- IPv4 address or a name

@@ -104,11 +104,9 @@ decoded-part-of-ascii-octet lowers set b low =
 -- meanings, decoded: each octet by itself, where a set has no characters past ASCII, as of URIs
 tokens-without-past-ascii-decode-alone : (set : TableSet) (text : List ℕ) → LacksPastAscii set
     → decode_tokens set (tokens text) ≡ map decode_octet (tokens text)
-tokens-without-past-ascii-decode-alone set text none =
-    sym (Formatting.encode_formatting_without_flags_keeps_tokens set
-    (decode_tokens set (tokens text))
-    (ap (λ b. b && set.pct_encoded) none.0))
-    ∙ text_is_decoded_octet_by_octet_in_uri set text none
+tokens-without-past-ascii-decode-alone set text none = sym
+    (Formatting.encode_formatting_without_flags_keeps_tokens set (decode_tokens set (tokens text))
+    (ap (λ b. b && set.pct_encoded) none.0)) ∙ text_is_decoded_octet_by_octet_in_uri set text none
 
 -- meanings, decoded: an octet token at the start is decoded alone, if its byte is ASCII or the set
 -- lacks characters past ASCII (alone)
@@ -117,13 +115,12 @@ leading-octet-token-decodes-alone : (set : TableSet) (text suffix : List ℕ) (v
     → (alone ≡ true → LacksPastAscii set) → (alone || ltb value 128) ≡ true
     → decode_tokens set (tokens text)
     ≡ decode_octet (Octet value) ∷ decode_tokens set (tokens suffix)
-leading-octet-token-decodes-alone set text suffix value alone first none e =
-    grind (
-      arith,
-      nat_tests,
-      tokens-without-past-ascii-decode-alone,
-      leading-ascii-octet-decodes-alone,
-    )
+leading-octet-token-decodes-alone set text suffix value alone first none e = grind (
+  arith,
+  nat_tests,
+  tokens-without-past-ascii-decode-alone,
+  leading-ascii-octet-decodes-alone,
+)
 
 -- meanings, decoded: an octet token at the start of a text is decoded by itself if its byte is
 -- ASCII, or if the set (as of URIs) lacks characters past ASCII: then alone holds
@@ -182,9 +179,7 @@ uppercase-reserved-octet-stays {text} {i} {high} {low} at set alone upper reserv
     let p = and_parts (ltb high 97) (ltb low 97) upper in
     let suffix = drop (i + 3) text in
     first-octet-token-is-decoded-alone false set (drop i text) suffix _ alone at.token none itself
-    ∙ ap (λ t. (text_of_token t ++ []) ++ decoded_text false set suffix)
-    (cond-false _ _ _ reserved)
-    ∙ ap (λ x. (x ++ []) ++ decoded_text false set suffix)
-    (uppercase-octet-prints-itself high low at.high_digit at.low_digit (ltb-true high 97 p.0)
-    (ltb-true low 97 p.1))
+    ∙ ap (λ t. (text_of_token t ++ []) ++ decoded_text false set suffix) (cond-false _ _ _ reserved)
+    ∙ ap (λ x. (x ++ []) ++ decoded_text false set suffix) (uppercase-octet-prints-itself high low
+    at.high_digit at.low_digit (ltb-true high 97 p.0) (ltb-true low 97 p.1))
     ∙ sym (ap (λ x. take 3 x ++ decoded_text false set (drop 3 x)) at.split)

@@ -48,13 +48,10 @@ module _ (set : TableSet) where
   decoded_parts-of-prepended-text run text [] u = decoded_parts-of-text-chunk run text []
   decoded_parts-of-prepended-text run text (Text more ∷ ps) u =
       let suffix = decoded_parts set (parts_from [] ps) in
-      decoded_parts-of-text-chunk run (text ++ more) ps
-      ∙ ap (λ x. decode_run set run ++ (x ++ suffix))
-      (ap (map Char) (chars-append text more u) ∙ map-append Char (chars text) (chars more))
-      ∙ ap (λ x. decode_run set run ++ x)
-      (append_assoc (map Char (chars text)) (map Char (chars more)) suffix
-      ∙ ap (λ x. map Char (chars text) ++ x)
-      (sym (decoded_parts-of-text-chunk [] more ps
+      decoded_parts-of-text-chunk run _ ps ∙ ap (λ x. decode_run set run ++ (x ++ suffix))
+      (ap (map Char) (chars-append _ _ u) ∙ map-append Char _ _) ∙ ap (λ x. decode_run set run ++ x)
+      (append_assoc (map Char (chars text)) _ _ ∙ ap (λ x. map Char (chars text) ++ x) (sym
+      (decoded_parts-of-text-chunk [] _ ps
       ∙ ap (λ x. x ++ (map Char (chars more) ++ suffix)) decode_run-of-nil-is-nil)))
   decoded_parts-of-prepended-text run text (Byte value ∷ ps) u = decoded_parts-of-text-chunk run
       text (Byte value ∷ ps)
@@ -67,15 +64,13 @@ module _ (set : TableSet) where
       → decoded_parts set (parts_from run (chunks_of_tokens ts)) ≡ decode_after_run set run ts
   unfolding chunks_of_tokens parts_from decode_after_run
   decoded_parts-of-token-chunks run [] e = decoded_parts-of-octet-run run
-  decoded_parts-of-token-chunks run (Octet value ∷ ts) e =
-      decoded_parts-of-token-chunks (run ++ value ∷ []) ts
-      (and_parts (is_printable (Octet value)) _ e).1
+  decoded_parts-of-token-chunks run (Octet value ∷ ts) e = decoded_parts-of-token-chunks
+      (run ++ value ∷ []) ts (and_parts (is_printable (Octet value)) _ e).1
   decoded_parts-of-token-chunks run (Char c ∷ ts) e =
       let p = and_parts (is_printable (Char c)) _ e in
       let scalar = printable_char_is_scalar c p.0 in
       decoded_parts-of-prepended-text run (encode_utf8 c) (chunks_of_tokens ts)
-      (IsUtf8-encode c scalar)
-      ∙ ap (λ cs. decode_run set run
+      (IsUtf8-encode c scalar) ∙ ap (λ cs. decode_run set run
       ++ (map Char cs ++ decoded_parts set (parts_from [] (chunks_of_tokens ts))))
       (chars-of-one-character c scalar)
       ∙ ap (λ us. decode_run set run ++ Char c ∷ us) (decoded_parts-of-token-chunks [] ts p.1)

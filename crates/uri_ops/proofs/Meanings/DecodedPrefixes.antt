@@ -28,10 +28,9 @@ literal-prefix-decodes-to-itself : (lowers : Bool) (set : TableSet) (prefix back
     → lacks 37 prefix ≡ true
     → decoded_text lowers set (prefix ++ back) ≡ lowered_text_if lowers prefix
     ++ decoded_text lowers set back
-literal-prefix-decodes-to-itself lowers set prefix back u e =
-    ap (λ ts. print (lowered_if lowers (decode_tokens set ts)))
-    (tokens_after_unencoded_prefix prefix back u e)
-    ∙ ap (λ ts. print (lowered_if lowers ts))
+literal-prefix-decodes-to-itself lowers set prefix back u e = ap
+    (λ ts. print (lowered_if lowers (decode_tokens set ts)))
+    (tokens_after_unencoded_prefix prefix back u e) ∙ ap (λ ts. print (lowered_if lowers ts))
     (decode_tokens-after-chars set (chars prefix) (tokens back))
     ∙ cased_append lowers (map Char (chars prefix)) (decode_tokens set (tokens back))
     ∙ ap (λ x. x ++ decoded_text lowers set back) (print-lowers-characters lowers prefix u)
@@ -84,15 +83,14 @@ empty-prefix-stays false set text = refl
 kept-prefixes-join : (lowers : Bool) (set : TableSet) (text : List ℕ) (n m : ℕ)
     → KeepsPrefixWhenDecoded lowers set text n → KeepsPrefixWhenDecoded lowers set (drop n text) m
     → KeepsPrefixWhenDecoded lowers set text (n + m)
-kept-prefixes-join lowers set text n m first next =
-    grind (
-      arith,
-      nat_tests,
-      append_assoc,
-      lowering-of-append-is-append,
-      take_then_take_is_take_of_sum n m text,
-      drop-drop m n text,
-    )
+kept-prefixes-join lowers set text n m first next = grind (
+  arith,
+  nat_tests,
+  append_assoc,
+  lowering-of-append-is-append,
+  take_then_take_is_take_of_sum n m text,
+  drop-drop m n text,
+)
 
 -- general fact on lists, for decoding meanings: a suffix of a suffix, by the positions of the text
 suffix-of-suffix-by-positions : (text : List ℕ) (done end : ℕ) → done ≤ end
@@ -109,9 +107,8 @@ pub kept-prefix-grows : (lowers : Bool) (set : TableSet) (text : List ℕ) (done
     → KeepsPrefixWhenDecoded lowers set (drop done text) (end + m - done)
 kept-prefix-grows lowers set text done end m order first next =
     let count : end - done + m ≡ end + m - done = omega arith in
-    subst (KeepsPrefixWhenDecoded lowers set (drop done text)) count
-    (kept-prefixes-join lowers set (drop done text) (end - done) m first
-    (subst (λ x. KeepsPrefixWhenDecoded lowers set x m)
+    subst (KeepsPrefixWhenDecoded lowers set (drop done text)) count (kept-prefixes-join lowers set
+    (drop done text) (end - done) m first (subst (λ x. KeepsPrefixWhenDecoded lowers set x m)
     (sym (suffix-of-suffix-by-positions text done end order)) next))
 
 -- meanings, decoded: after a prefix that is copied (from done to end), what is appended and the
@@ -149,8 +146,7 @@ percent-in-valid-text-begins-octet text i u b v inside percent =
     sym (ap (λ x. get_or x 1 0) o.joined) ∙ get_or-drop i text 1 0 in
     let low : o.low ≡ get_or text (i + 2) 0 =
     sym (ap (λ x. get_or x 2 0) o.joined) ∙ get_or-drop i text 2 0 in
-    let suffix : o.suffix ≡ drop (i + 3) text =
-    sym (ap (drop 3) o.joined) ∙ drop-drop 3 i text in
+    let suffix : o.suffix ≡ drop (i + 3) text = sym (ap (drop 3) o.joined) ∙ drop-drop 3 i text in
     record {
       split = o.joined ∙ (λ k. 37 ∷ high k ∷ low k ∷ suffix k);
       high_digit = subst (λ h. is_ascii_hexdigit h ≡ true) high o.high_digit;
@@ -192,10 +188,9 @@ decoded-octet-is-pushed {text} {i} {high} {low} at lowers set out new whole alon
     let decoded = print (lowered_if lowers (decode_octet (Octet value) ∷ [])) in
     let rest = decoded_text lowers set (drop (i + 3) text) in
     let split : decoded_text lowers set (drop i text) ≡ decoded ++ rest =
-    first-octet-token-is-decoded-alone lowers set (drop i text) (drop (i + 3) text) value alone
+    first-octet-token-is-decoded-alone _ set _ _ _ _
     at.token none (octet-is-decoded-alone at alone either) in
-    ap (λ x. x ++ rest) pushed ∙ append_assoc out decoded rest ∙ ap (λ x. out ++ x) (sym split)
-    ∙ total
+    ap (λ x. x ++ rest) pushed ∙ append_assoc out _ _ ∙ ap (λ x. out ++ x) (sym split) ∙ total
 
 -- meanings, decoded: a set without the flags ucschar and iprivate has no characters past ASCII;
 -- some: whether it has either
@@ -245,17 +240,16 @@ lacks_first (c ∷ text) e = ap (λ x. not x && true) e
 -- meanings, decoded: an ASCII character that is not `%` (37) is a prefix without octets
 ascii_prefix : (text : List ℕ) → IsUtf8 text → IsValidFor widest_set text → 0 < length text
     → get_or text 0 0 < 128 → eqb (get_or text 0 0) 37 ≡ false → LiteralPrefix text 1
-ascii_prefix text u v inside small other =
-    grind (
-      arith,
-      nat_tests,
-      IsCharBoundary-after_ascii text 0 u inside small,
-      IsUtf8-take,
-      lacks_first text other,
-      take-append-drop 1 text,
-      text-after-literal-prefix-is-valid,
-      literal-prefix-decodes-to-itself,
-    )
+ascii_prefix text u v inside small other = grind (
+  arith,
+  nat_tests,
+  IsCharBoundary-after_ascii text 0 u inside small,
+  IsUtf8-take,
+  lacks_first text other,
+  take-append-drop 1 text,
+  text-after-literal-prefix-is-valid,
+  literal-prefix-decodes-to-itself,
+)
 
 -- meanings, decoded byte by byte: after one character the rest is valid, and completes the whole
 pub record CharacterStep (lowers : Bool) (set : TableSet) (text new whole : List ℕ) (i : ℕ) :
@@ -279,9 +273,8 @@ character_step lowers set bytes text out new whole i same u b v inside small oth
     let small_text : get_or text i 0 < 128 = subst (λ x. x < 128) at small in
     let split : rest ≡ get_or text i 0 ∷ drop (i + 1) text = drop_more text i 0 below in
     let first : get_or rest 0 0 ≡ get_or bytes i 0 = ap (λ x. get_or x 0 0) split ∙ sym at in
-    let p = ascii_prefix rest (IsUtf8-drop text i u b) v
-    (omega (arith, below, length-drop i text)) (subst (λ x. x < 128) (sym first) small)
-    (ap (λ x. eqb x 37) first ∙ other) in
+    let p = ascii_prefix rest (IsUtf8-drop text i u b) v (omega (arith, below, length-drop i text))
+    (subst (λ x. x < 128) (sym first) small) (ap (λ x. eqb x 37) first ∙ other) in
     let one : 1 ≡ i + 1 - i = omega arith in
     let taken : take (i + 1 - i) rest ≡ get_or bytes i 0 ∷ [] =
     ap (λ k. take k rest) (sym one) ∙ ap (take 1) split ∙ ap (λ x. x ∷ []) (sym at) in

@@ -48,19 +48,16 @@ pub record IsHostWithMeaning (names : TableSet) (m : HostMeaning) (text : List �
 -- meanings of hosts: an address in brackets lacks the delimiters that the address lacks
 pub bracketed-address-lacks-delimiters : (address : List ℕ) → Lacks (codes "/?#") address
     → Lacks (codes "/?#") (bracketed address)
-bracketed-address-lacks-delimiters address h =
-    joined-texts-lack-marks (codes "/?#") (codes "[") (address ++ codes "]")
-    (test-of-delimiters-gives-lacks (codes "/?#") (codes "[") refl)
+bracketed-address-lacks-delimiters address h = joined-texts-lack-marks (codes "/?#") (codes "[")
+    (address ++ codes "]") (test-of-delimiters-gives-lacks (codes "/?#") (codes "[") refl)
     (joined-texts-lack-marks (codes "/?#") address (codes "]") h
     (test-of-delimiters-gives-lacks (codes "/?#") (codes "]") refl))
 
 -- meanings of hosts: an address in UTF-8 is UTF-8 in its brackets
 pub bracketed-utf8-is-utf8 : (address : List ℕ) → IsUtf8 address → IsUtf8 (bracketed address)
-bracketed-utf8-is-utf8 address u =
-    IsUtf8-append (codes "[") (address ++ codes "]")
+bracketed-utf8-is-utf8 address u = IsUtf8-append (codes "[") (address ++ codes "]")
     (ascii-bytes-are-utf8 (codes "[") refl)
-    (IsUtf8-append address (codes "]") u (ascii-bytes-are-utf8 (codes "]")
-    refl))
+    (IsUtf8-append address (codes "]") u (ascii-bytes-are-utf8 (codes "]") refl))
 
 -- meanings of hosts: a character of an IP address is ASCII
 address-character-is-ascii : (c : ℕ) → is_address_char c ≡ true → ltb c 128 ≡ true
@@ -136,31 +133,28 @@ ipvfuture-has-ascii-parts text u h =
 -- meanings of hosts: an IPvFuture address has only characters of userinfo
 pub ipvfuture-is-userinfo-characters : (text : List ℕ) (h : IsIpvFuture text) → AsciiParts text h
     → list_all (is_ascii_in is_userinfo_char) text ≡ true
-ipvfuture-is-userinfo-characters text h w =
-    ap (list_all (is_ascii_in is_userinfo_char)) h.whole
+ipvfuture-is-userinfo-characters text h w = ap (list_all (is_ascii_in is_userinfo_char)) h.whole
     ∙ and_from _ _ (v-is-userinfo-character h.letter h.is_v)
-    (list_all-append (is_ascii_in is_userinfo_char) h.version (46 ∷ h.address)
-    ∙ and_from _ _ (ascii-passes-wider-test is_ascii_hexdigit is_userinfo_char
-    hexdigit_is_userinfo_char h.version w.version)
-    (and_from _ _ dot-is-userinfo-character w.address))
+    (list_all-append (is_ascii_in is_userinfo_char) h.version (46 ∷ h.address) ∙ and_from _ _
+    (ascii-passes-wider-test is_ascii_hexdigit is_userinfo_char hexdigit_is_userinfo_char h.version
+    w.version) (and_from _ _ dot-is-userinfo-character w.address))
 
 -- meanings of hosts: an IPvFuture address in lower case is one
 lowered-ipvfuture-is-ipvfuture : (text : List ℕ) (h : IsIpvFuture text) → AsciiParts text h
     → IsIpvFuture (str_to_ascii_lowercase text)
-lowered-ipvfuture-is-ipvfuture text h w =
-    grind (
-      arith,
-      nat_tests,
-      lowered-ascii-passes-test,
-      lowered-hex-digit-is-hex-digit,
-      lowered-userinfo-character-is-userinfo-character,
-      length-map,
-      map-append,
-      lowered-v-is-v,
-      valid_ascii_text,
-      ascii-in-test-is-utf8,
-      percent-is-no-userinfo-character,
-    )
+lowered-ipvfuture-is-ipvfuture text h w = grind (
+  arith,
+  nat_tests,
+  lowered-ascii-passes-test,
+  lowered-hex-digit-is-hex-digit,
+  lowered-userinfo-character-is-userinfo-character,
+  length-map,
+  map-append,
+  lowered-v-is-v,
+  valid_ascii_text,
+  ascii-in-test-is-utf8,
+  percent-is-no-userinfo-character,
+)
 
 -- meanings of hosts: an IPvFuture address has no `/`, `?` or `#`, so it ends no authority
 pub ipv_future_set-excludes-delimiters : excludes ipv_future_set (codes "/?#") ≡ true
@@ -198,29 +192,24 @@ module _ (names : TableSet) (w : IsComponentSet (codes "/?#[]@:") names)
   lowered-decoded-name-has-its-meaning text part =
       let ts = map lower_token (decode_unreserved names text) in
       let printable = lowered_tokens_are_printable (decode_unreserved names text)
-      (decoded-set-text-is-printable names w.percent text part) in
+      (decoded-set-text-is-printable _ w.percent _ part) in
       let u = printed_tokens_are_utf8 ts printable in
-      let valid = printed_tokens_are_valid_iff_allowed names ts printable
-      ∙ lowered_tokens_are_allowed names (decode_unreserved names text) w.unreserved
-      (decode_unreserved_keeps_tokens_allowed names text w.unreserved
-      (set-text-is-valid names text part)) in
-      let at =
-      unbracketed-valid-text-is-name (print ts) (lacking_text_does_not_begin_with
-      (codes "@:[") (print ts) 91 refl
+      let valid = printed_tokens_are_valid_iff_allowed _ ts printable ∙ lowered_tokens_are_allowed
+      names (decode_unreserved names text) w.unreserved
+      (decode_unreserved_keeps_tokens_allowed _ _ w.unreserved (set-text-is-valid _ _ part)) in
+      let at = unbracketed-valid-text-is-name _ (lacking_text_does_not_begin_with (codes "@:[")
+      (print ts) 91 refl
       (valid_text_lacks_excluded_marks names (codes "@:[") w.percent apart (print ts) u valid))
       valid in
       record {
         utf8 = u;
-        host = (host_kind (print ts), is_host-sound names (print ts) at.1);
-        meaning = ap (host_meaning names (print ts)) at.0
-            ∙ meaning-of-name-is-lowered-decoded (print ts) (ipv4_value (print ts))
-            ∙ ap (λ us. Name (map lower_token us))
-            (decoding_keeps_lowered_decoded_text names text
-            (set-text-has-printable-tokens names w.percent text part))
-            ∙ ap Name (lowering_tokens_is_idempotent (decode_unreserved names text));
+        host = (host_kind (print ts), is_host-sound _ _ at.1);
+        meaning = ap (host_meaning names (print ts)) at.0 ∙ meaning-of-name-is-lowered-decoded _ _
+            ∙ ap (λ us. Name (map lower_token us)) (decoding_keeps_lowered_decoded_text _ _
+            (set-text-has-printable-tokens _ w.percent _ part))
+            ∙ ap Name (lowering_tokens_is_idempotent _);
         lacks = valid_text_lacks_excluded_marks names (codes "/?#") w.percent
-            name-set-excludes-authority-ends
-            (print ts) u valid;
+            name-set-excludes-authority-ends (print ts) u valid;
       }
 
   digit-or-dot-is-unreserved : (c : ℕ) → IsDigitOrDot c → is_ascii_in is_unreserved c ≡ true
@@ -233,12 +222,10 @@ module _ (names : TableSet) (w : IsComponentSet (codes "/?#[]@:") names)
   dotted-decimal-is-set-text : (text octets : List ℕ) → IsDotted text octets
       → is_set_text names text ≡ true
   dotted-decimal-is-set-text text octets h =
-      let chars = ipv4-text-is-digits-and-dots text octets h in
-      ascii-in-test-is-set-text names is_unreserved w.percent percent-is-not-unreserved
-      (λ c e. w.unreserved.ascii c e) text
-      (list_all-from_AllPass (is_ascii_in is_unreserved) text
-      (All-weaker IsDigitOrDot (λ c. is_ascii_in is_unreserved c ≡ true)
-      (λ c d. digit-or-dot-is-unreserved c d) text chars))
+      let chars = ipv4-text-is-digits-and-dots _ _ h in
+      ascii-in-test-is-set-text _ _ w.percent percent-is-not-unreserved
+      (λ c e. w.unreserved.ascii c e) _ (list_all-from_AllPass _ _ (All-weaker _ _
+      (λ c d. digit-or-dot-is-unreserved c d) _ chars))
 
   -- a host that is printed from its meaning
   pub normal-host-has-meaning : (text : List ℕ) (kind : HostKind) → IsUtf8 text
@@ -247,8 +234,7 @@ module _ (names : TableSet) (w : IsComponentSet (codes "/?#[]@:") names)
       (host_text (host_meaning names text kind))
   normal-host-has-meaning text (Ipv6 segments) u (address, e, groups) =
       let back = ipv6_text-has-its-segments address segments groups in
-      let v = bracketed-utf8-is-utf8 (ipv6_text segments)
-      (address-text-is-utf8 (ipv6_text segments)
+      let v = bracketed-utf8-is-utf8 (ipv6_text segments) (address-text-is-utf8 (ipv6_text segments)
       (ipv6-text-is-address-text (ipv6_text segments) segments back)) in
       let found = is_host-complete names w.percent apart (bracketed (ipv6_text segments))
       (Ipv6 segments) v (ipv6_text segments, refl, back) in
@@ -265,9 +251,8 @@ module _ (names : TableSet) (w : IsComponentSet (codes "/?#[]@:") names)
       (address-in-brackets-is-utf8 address (subst IsUtf8 e u)) future in
       let low = str_to_ascii_lowercase address in
       let back = lowered-ipvfuture-is-ipvfuture address future dotless_chars in
-      let inner = ascii-in-test-is-utf8 is_userinfo_char low
-      (lowered-ascii-passes-test is_userinfo_char lowered-userinfo-character-is-userinfo-character
-      address
+      let inner = ascii-in-test-is-utf8 is_userinfo_char low (lowered-ascii-passes-test
+      is_userinfo_char lowered-userinfo-character-is-userinfo-character address
       (ipvfuture-is-userinfo-characters address future dotless_chars)) in
       let v = bracketed-utf8-is-utf8 low inner in
       let same : str_to_ascii_lowercase text ≡ bracketed low = ap str_to_ascii_lowercase e
@@ -278,8 +263,7 @@ module _ (names : TableSet) (w : IsComponentSet (codes "/?#[]@:") names)
         utf8 = subst IsUtf8 (sym same) v;
         host = (IpvFuture, (low, same, back));
         meaning = ap (host_meaning names (str_to_ascii_lowercase text))
-            (ap host_kind same ∙ found.kind)
-            ∙ ap FutureAddress (lowering-is-idempotent text);
+            (ap host_kind same ∙ found.kind) ∙ ap FutureAddress (lowering-is-idempotent text);
         lacks = subst (Lacks (codes "/?#")) (sym same)
             (bracketed-address-lacks-delimiters low
             (ipvfuture-text-lacks-excluded-marks (codes "/?#") ipv_future_set-excludes-delimiters

@@ -24,17 +24,15 @@ lacks_any marks text = list_all (λ c. not (is_one_of marks c)) text
 set-text-lacks-excluded-characters : (marks : List ℕ) (set : TableSet) → LacksPercent set
     → excludes set marks ≡ true
     → (text : List ℕ) → is_set_text set text ≡ true → lacks_any marks text ≡ true
-set-text-lacks-excluded-characters marks set lacks outside text e =
-    lacked-delimiters-fail-test marks text
-    (valid_text_lacks_excluded_marks set marks lacks outside text (set-text-is-utf8 set text e)
-    (set-text-is-valid set text e))
+set-text-lacks-excluded-characters marks set lacks outside text e = lacked-delimiters-fail-test
+    marks text (valid_text_lacks_excluded_marks set marks lacks outside text
+    (set-text-is-utf8 set text e) (set-text-is-valid set text e))
 
 -- meanings of components: the set without one of its characters
 abbrev set_without : ℕ → TableSet → TableSet
 set_without m set = record {
   ascii = λ c. not (eqb c m) && set.ascii c;
-  pct_encoded =
-      set.pct_encoded;
+  pct_encoded = set.pct_encoded;
   ucschar = set.ucschar;
   iprivate = set.iprivate;
 }
@@ -65,13 +63,11 @@ text-stays-valid-for-set_without m set zero (b ∷ rest) e =
     ap (λ t. cond ((set.pct_encoded && eqb b 37) && begins_with_hex_digits rest) t
     (allows_first (set_without m set) b rest
     && valid_from (set_without m set) (continuation_len b) rest))
-    (text-stays-valid-for-set_without m set 2 rest p.1)
-    ∙ ap (λ t. cond ((set.pct_encoded && eqb b 37) && begins_with_hex_digits rest)
-    (valid_from set 2 rest)
+    (text-stays-valid-for-set_without m set 2 rest p.1) ∙ ap (λ t. cond
+    ((set.pct_encoded && eqb b 37) && begins_with_hex_digits rest) (valid_from set 2 rest)
     (t && valid_from (set_without m set) (continuation_len b) rest))
-    (set_without-allows-other-first-bytes m set b rest p.0)
-    ∙ ap (λ t. cond ((set.pct_encoded && eqb b 37) && begins_with_hex_digits rest)
-    (valid_from set 2 rest)
+    (set_without-allows-other-first-bytes m set b rest p.0) ∙ ap (λ t. cond
+    ((set.pct_encoded && eqb b 37) && begins_with_hex_digits rest) (valid_from set 2 rest)
     (allows_first set b rest && t))
     (text-stays-valid-for-set_without m set (continuation_len b) rest p.1)
 
@@ -88,12 +84,10 @@ text-without-character-is-for-set_without : (m : ℕ) (set : TableSet) → Lacks
     → is_set_text (set_without m set) text ≡ true
 text-without-character-is-for-set_without m set lacks text e f =
     let u = set-text-is-utf8 set text e in
-    set-text-from-utf8 (set_without m set) text u
-    (validity_of_tokens_is_validity_of_bytes (set_without m set)
-    (set_without-lacks-percent m set lacks) text u
+    set-text-from-utf8 (set_without m set) text u (validity_of_tokens_is_validity_of_bytes
+    (set_without m set) (set_without-lacks-percent m set lacks) text u
     ∙ text-stays-valid-for-set_without m set 0 text f
-    ∙ sym (validity_of_tokens_is_validity_of_bytes set lacks text u)
-    ∙ set-text-is-valid set text e)
+    ∙ sym (validity_of_tokens_is_validity_of_bytes set lacks text u) ∙ set-text-is-valid set text e)
 
 -- meanings of components: a set without a character m decodes a piece of bytes in the same way
 decode_piece-for-set_without : (m : ℕ) (set : TableSet) (p : Piece)
@@ -141,10 +135,8 @@ encode_formatting-for-set_without m set ts = ap (λ f. flat_map f ts)
 print_decoded-for-set_without : (m : ℕ) (set : TableSet) (text : List ℕ)
     → print_decoded (set_without m set) text ≡ print_decoded set text
 unfolding print_decoded
-print_decoded-for-set_without m set text =
-    ap print (encode_formatting-for-set_without m set
-    (decode_after_run (set_without m set) [] (tokens text))
-    ∙ ap (encode_formatting set) (decode_after_run-for-set_without m set [] (tokens text)))
+print_decoded-for-set_without m set text = ap print (encode_formatting-for-set_without m set _
+    ∙ ap (encode_formatting set) (decode_after_run-for-set_without m set [] _))
 
 -- meanings of components: a set without a reserved character m still has the unreserved ones
 set_without-reserved-has-unreserved : (m : ℕ) (set : TableSet) → is_unreserved m ≡ false
@@ -184,12 +176,10 @@ module _ (m : ℕ) (set : TableSet) (lacks : LacksPercent set) (wide : IsSubset 
       → has_character m text ≡ false
       → has_character m (print_decoded set text) ≡ false
   decoding-adds-no-reserved text e f =
-      let part = text-without-character-is-for-set_without m set lacks text e f in
-      let again = decoded-set-text-is-set-text (set_without m set)
-      (set_without-lacks-percent m set lacks)
-      (set_without-reserved-has-unreserved m set reserved wide) text part in
-      sym (ap (has_character m) (print_decoded-for-set_without m set text))
-      ∙ lacks_any-gives-lacks m (print_decoded (set_without m set) text)
+      let part = text-without-character-is-for-set_without m set lacks _ e f in
+      let again = decoded-set-text-is-set-text _ (set_without-lacks-percent m set lacks)
+      (set_without-reserved-has-unreserved m set reserved wide) _ part in
+      sym (ap (has_character m) (print_decoded-for-set_without m set _)) ∙ lacks_any-gives-lacks m _
       (set-text-lacks-excluded-characters (m ∷ []) (set_without m set)
-      (set_without-lacks-percent m set lacks) outside
-      (print_decoded (set_without m set) text) again)
+      (set_without-lacks-percent m set lacks) outside (print_decoded (set_without m set) text)
+      again)

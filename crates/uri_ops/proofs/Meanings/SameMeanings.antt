@@ -59,14 +59,12 @@ authority a b =
 -- equal meanings: the test of two meanings for equality returns true exactly if they are equal
 pub same_meaning-decides-equality : (m n : Meaning) → Decides (same_meaning m n) (m ≡ n)
 unfolding same_meaning
-same_meaning-decides-equality m n =
-    Decides-like _
+same_meaning-decides-equality m n = Decides-like _
     (λ e. λ i. record {
       scheme = e.0 i;
       authority = e.1.0 i;
       path = e.1.1.0 i;
-      query =
-          e.1.1.1.0 i;
+      query = e.1.1.1.0 i;
       fragment = e.1.1.1.1 i;
     })
     (λ e. (

@@ -31,14 +31,11 @@ pub decoded-octets-past-ascii-are-encoded-text : (lowers : Bool) (decodable set 
     → print (lowered_if lowers (decoded_parts set (map Decoded (utf8_pieces text))))
     ≡ print (encode_text decodable text)
 decoded-octets-past-ascii-are-encoded-text false decodable set text same u past = ap print
-    (decoded_parts-of-run set (utf8_pieces text)
-    ∙ decoded-pieces-are-encoded-text decodable set same text u)
+    (decoded_parts-of-run set (utf8_pieces text) ∙ decoded-pieces-are-encoded-text _ set same _ u)
 decoded-octets-past-ascii-are-encoded-text true decodable set text same u past = ap
-    (λ ts. print (map lower_token ts))
-    (decoded_parts-of-run set (utf8_pieces text))
-    ∙ ap print (lowered-pieces-are-encoded-lowered-text decodable set same text u)
-    ∙ ap (λ bytes. print (encode_text decodable bytes))
-    (bytes-past-ascii-stay-when-lowered text past)
+    (λ ts. print (map lower_token ts)) (decoded_parts-of-run set (utf8_pieces text))
+    ∙ ap print (lowered-pieces-are-encoded-lowered-text decodable set same text u) ∙ ap
+    (λ bytes. print (encode_text decodable bytes)) (bytes-past-ascii-stay-when-lowered text past)
 
 -- meanings, decoded past ASCII: ill-formed bytes stay octets
 pub ill-formed-octets-stay-octets : (lowers : Bool) (set : TableSet) (bytes : List ℕ)

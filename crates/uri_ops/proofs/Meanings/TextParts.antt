@@ -82,24 +82,22 @@ text-after-query-is-utf8 end u = ⊎_elim
     (λ e.
     rw e (utf8_from_marks (codes "#") (drop 1 end) query-ends-are-ascii
     (utf8_after_mark 63 (omega arith) end e u)))
-    (λ e. rw e u)
-    (cases_Bool (starts 63 end))
+    (λ e. rw e u) (cases_Bool (starts 63 end))
 
 -- meanings of components: those of a text in UTF-8 are UTF-8
 pub components-of-utf8-are-utf8 : (text : List ℕ) → IsUtf8 text → AreUtf8 (components text)
 components-of-utf8-are-utf8 text u =
-    let rest = utf8_after_scheme text u in
-    let tail = utf8_after_authority (after_scheme text) rest in
+    let rest = utf8_after_scheme _ u in
+    let tail = utf8_after_authority _ rest in
     let end = utf8_from_marks (codes "?#") (after_authority (after_scheme text))
     path-ends-are-ascii tail in
     record {
-      scheme = optional-text-is-utf8 (has_scheme text) (before_any (codes ":/?#") text)
+      scheme = optional-text-is-utf8 _ _
           (λ e. utf8_before_marks (codes ":/?#") text scheme-ends-are-ascii u);
-      authority = optional-text-is-utf8 (has_authority (after_scheme text))
-          (before_any (codes "/?#") (drop 2 (after_scheme text)))
+      authority = optional-text-is-utf8 _ _
           (λ e. utf8_before_marks (codes "/?#") (drop 2 (after_scheme text))
           authority-ends-are-ascii
-          (utf8_after_slashes (after_scheme text) e rest));
+          (utf8_after_slashes _ e rest));
       path = utf8_before_marks (codes "?#") (after_authority (after_scheme text))
           path-ends-are-ascii tail;
       query = optional-text-is-utf8
@@ -108,26 +106,21 @@ components-of-utf8-are-utf8 text u =
           (from_any (codes "?#") (after_authority (after_scheme text)))) query-ends-are-ascii
           (utf8_after_mark 63 (omega arith)
           (from_any (codes "?#") (after_authority (after_scheme text))) e end));
-      fragment =
-          optional-text-is-utf8
-          (starts 35
-          (after_query (from_any (codes "?#") (after_authority (after_scheme text))))) _
+      fragment = optional-text-is-utf8 _ _
           (λ e. utf8_after_mark 35 (omega arith) (after_query
           (from_any (codes "?#") (after_authority (after_scheme text)))) e
-          (text-after-query-is-utf8 (from_any (codes "?#")
-          (after_authority (after_scheme text))) end));
+          (text-after-query-is-utf8 _ end));
     }
 
 -- meanings of components: those in UTF-8 that meet the rules of the grammar are of the kind
 pub grammar-gives-components-of-kind : (kind : Kind) (p : Components) → AreUtf8 p
     → components_meet_rules kind p ≡ true
     → ArePartsOfKind kind p
-grammar-gives-components-of-kind kind p u e =
-    grind (
-      arith,
-      nat_tests,
-      IfSome-combine,
-      passing-option-passes-if-some,
-      set-text-from-utf8,
-      is_set_text,
-    )
+grammar-gives-components-of-kind kind p u e = grind (
+  arith,
+  nat_tests,
+  IfSome-combine,
+  passing-option-passes-if-some,
+  set-text-from-utf8,
+  is_set_text,
+)

@@ -44,9 +44,8 @@ characters-without-byte-E2-are-no-formatting : (cs : List ℕ)
     → list_any is_bidi_formatting cs ≡ false
 characters-without-byte-E2-are-no-formatting [] e = refl
 characters-without-byte-E2-are-no-formatting (c ∷ cs) e =
-    let p = or_parts (list_any is_byte_E2 (encode_utf8 c))
-    (list_any is_byte_E2 (encode_utf8_all cs))
-    (sym (list_any-append is_byte_E2 (encode_utf8 c) (encode_utf8_all cs)) ∙ e) in
+    let p = or_parts _ _ (sym (list_any-append is_byte_E2 (encode_utf8 c) (encode_utf8_all cs)) ∙ e)
+    in
     or_from _ _ (false_from_ne_true _ (λ h. both_ways _ p.0 (formatting-character-has-byte-E2 c h)))
     (characters-without-byte-E2-are-no-formatting cs p.1)
 
@@ -142,9 +141,8 @@ lowered-printable-tokens-are-printable false ts e = e
 lowered-decoded-tokens-are-printable : (lowers : Bool) (set : TableSet) (text : List ℕ)
     → IsValidFor widest_set text
     → list_all is_printable (lowered_if lowers (decode_tokens set (tokens text))) ≡ true
-lowered-decoded-tokens-are-printable lowers set text valid =
-    lowered-printable-tokens-are-printable lowers (decode_tokens set (tokens text))
-    (decode_tokens_keeps_tokens_printable set (tokens text)
+lowered-decoded-tokens-are-printable lowers set text valid = lowered-printable-tokens-are-printable
+    lowers (decode_tokens set (tokens text)) (decode_tokens_keeps_tokens_printable set (tokens text)
     (valid_text_has_printable_tokens widest_set text refl valid))
 
 -- meanings, decoded: a component of a valid text, decoded and in lower case if lowers, is UTF-8
@@ -162,8 +160,7 @@ pub encoding-formatting-completes-decoding : (lowers : Bool) (set : TableSet) (t
     ≡ print (lowered_if lowers (decode_unreserved set text))
 encoding-formatting-completes-decoding lowers set text both valid =
     encoding-formatting-and-printing-swap set (lowered_if lowers (decode_tokens set (tokens text)))
-    both
-    (lowered-decoded-tokens-are-printable lowers set text valid)
+    both (lowered-decoded-tokens-are-printable lowers set text valid)
     ∙ ap print (encoding-formatting-and-lowering-swap lowers set (decode_tokens set (tokens text)))
 
 -- meanings, bidirectional text: a set without octets or characters past ASCII needs no formatting

@@ -188,16 +188,6 @@ module _ (path : List ℕ) (slash : ℕ) (absolute : IsAbsolute path)
       (subst IsAbsolute (cut path slash absolute place) absolute) last e
       ∙ ap remove_dot_segments (path-with-double-dot-and-slash-is-directory e)
 
-  pub trailing-double-dot-ends-in-no-slash : is_double_dot (drop (slash + 1) path) ≡ true
-      → EndsInSlash path → ⊥
-  trailing-double-dot-ends-in-no-slash e ends =
-      let segment : last_segment path ≡ drop (slash + 1) path =
-      ap last_segment (cut path slash absolute place)
-      ∙ last_segment-after-slash (take slash path) (drop (slash + 1) path) last in
-      let none : last_segment path ≡ [] = ap last_segment ends.1
-      ∙ last_segment-after-slash ends.0 [] refl in
-      false≢true (ap is_double_dot (sym none ∙ segment) ∙ e)
-
 -- paths: what is before the last `/` of a directory is the directory without it
 pub before_last_slash-of-directory : (path : List ℕ) → (d : EndsInSlash path)
     → before_last_slash path ≡ d.0

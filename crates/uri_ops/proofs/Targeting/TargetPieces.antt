@@ -1,23 +1,22 @@
 -- Targets that are a prefix of the base and a suffix of the reference.
 use Rattle.std.proofs.Common.{◌≡◌, ℕ, ◌+◌, true, false, Bool, List, [], ◌++◌, length, take, drop, ap, inr, subst, sym, ◌∙◌, ◌&&◌, ◌||◌, append_assoc, arith, length-append}
-use Rattle.std.specs.Prelude.{codes, Option, None, Ok, is_some}
-use Rattle.std.proofs.lemmas.Bool.{cond-false, cond-true}
+use Rattle.std.specs.Prelude.{codes, Option, None, is_some}
+use Rattle.std.proofs.lemmas.Bool.{cond-true}
 use Rattle.std.proofs.lemmas.List.{append-nil}
 use Rattle.std.proofs.lemmas.Bool.Decides.{nat_tests}
 use Rattle.std.proofs.Math.Bool.{or-false}
 use Rattle.uri_parts.specs.Components.{Components, components, marked, recompose, starts}
-use Rattle.uri_parts.specs.PackedPositions.{ArePackedPositionsOf, packed}
+use Rattle.uri_parts.specs.PackedPositions.{packed}
 use Rattle.uri_parts.specs.Positions.{before_fragment, positions_of}
 use Rattle.uri_parts.proofs.Splitting.Places.{length-before_hash}
 use Rattle.uri_ops.specs.Dots.{EndsInSlash, IsAbsolute, directory, has_slash, is_double_dot, is_empty, lacks_dot_segments, remove_dot_segments, underflows}
 use Rattle.uri_ops.specs.Models.Directories.{IsDotlessDirectory, RemovalState}
 use Rattle.uri_ops.specs.Models.Places.{IsSlashOrStart, before_path}
 use Rattle.uri_ops.specs.Models.TargetCases.{IsCaseOf}
-use Rattle.uri_ops.specs.Models.TargetPieces.{ArePiecesOfTarget, HasJoinedPath, IsDirectoryOfBase}
+use Rattle.uri_ops.specs.Models.TargetPieces.{HasJoinedPath, IsDirectoryOfBase}
 use Rattle.uri_ops.specs.declared.resolve.target_case.TargetCase.TheVariants.{AbsolutePath}
-use Rattle.uri_ops.specs.Resolving.{IsTarget, with_final_path}
-use Rattle.uri_ops.specs.Target.{dotless_if_absolute, underflows_if_absolute, guarded, is_opaque_rejection, dotted_target, merged, query_or, resolution_of}
-use Rattle.uri_ops.specs.declared.resolve.target_pieces.TargetPieces.{TargetPieces}
+use Rattle.uri_ops.specs.Resolving.{with_final_path}
+use Rattle.uri_ops.specs.Target.{dotless_if_absolute, underflows_if_absolute, guarded, is_opaque_rejection, dotted_target, merged, query_or}
 use Rattle.uri_ops.proofs.Normal.WrittenPlaces.{length-before_path-is-path_start}
 use Rattle.uri_ops.proofs.Paths.ClimbedDirectories.{first-bytes-are-prefix}
 use Rattle.uri_ops.proofs.Paths.DotLaws.{directory-is-absolute, directory-ends-in-slash, remove-dots-of-dotless, dotless-path-does-not-underflow}
@@ -27,7 +26,7 @@ use Rattle.uri_ops.proofs.Paths.GuardedPaths.{path-after-authority-needs-no-guar
 use Rattle.uri_ops.proofs.Targeting.JoinedPieces.{joined-with-relative-path}
 use Rattle.uri_ops.proofs.Targeting.TargetCases.{case-gives-line}
 use Rattle.uri_parts.proofs.Splitting.Recompose.{equal-to-true-is-IsTrue}
-use Rattle.uri_ops.proofs.Targeting.Targets.{appended-absolute-path-is-absolute, target-text-has-target-components}
+use Rattle.uri_ops.proofs.Targeting.Targets.{appended-absolute-path-is-absolute}
 use Rattle.uri_pct.proofs.General.{eq_true_from_IsTrue, some_is_not_none, None-from-not-is_some}
 use Rattle.uri_ops.proofs.Paths.DotRuns.{empty-text-is-nil}
 
@@ -240,27 +239,3 @@ module _ (b r : Components) (prefix : List ℕ) (s : is_some r.scheme ≡ false)
 
   pub base-rejects-no-reference : is_opaque_rejection b r ≡ false
   base-rejects-no-reference = base-with-authority-rejects-no-reference b r some
-
--- two pieces of a target, where the base has no fragment
-module _ (b r : Components) (pieces : TargetPieces) (h : ArePiecesOfTarget b r pieces)
-    (none : is_some b.fragment ≡ false) where
-  resolution-is-text-of-pieces : (text : List ℕ) → text ≡ pieces.prefix.now ++ pieces.suffix.now
-      → resolution_of b r ≡ Ok text
-  resolution-is-text-of-pieces text e = cond-false (is_some b.fragment) _ _ none
-      ∙ cond-false (is_opaque_rejection b r) _ _ h.taken ∙ ap Ok (sym (e ∙ h.text))
-
-  pub pieces-are-target : (allowed : Bool) (text : List ℕ)
-      → (allowed ≡ false → pieces.underflows ≡ false)
-      → text ≡ pieces.prefix.now ++ pieces.suffix.now → IsTarget allowed b r text
-  pieces-are-target allowed text u e =
-      (resolution-is-text-of-pieces text e, λ a. h.underflow ∙ u a)
-
--- positions in a target: those of two pieces are those of their text
-pub pieces-have-positions-of-text : (base reference text : List ℕ) (pieces : TargetPieces)
-    → is_some (components base).scheme ≡ true
-    → ArePiecesOfTarget (components base) (components reference) pieces
-    → text ≡ pieces.prefix.now ++ pieces.suffix.now → ArePackedPositionsOf text pieces.positions
-pieces-have-positions-of-text base reference text pieces some h e =
-    h.places
-    ∙ sym (ap (λ p. packed (positions_of p))
-    (ap components (e ∙ h.text) ∙ target-text-has-target-components base reference some))

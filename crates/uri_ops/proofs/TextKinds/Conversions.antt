@@ -39,8 +39,7 @@ no-missing_scheme_error-means-scheme : (text : List ℕ) → missing_scheme_erro
 unfolding missing_scheme_error
 no-missing_scheme_error-means-scheme text e = ⊎_elim
     (λ h. h)
-    (λ h. absurd (some-error-is-not-none NoScheme (sym (cond-false _ _ _ h) ∙ e)))
-    (cases_Bool (is_some (components text).scheme))
+    (λ h. absurd (some-error-is-not-none _ (sym (cond-false _ _ _ h) ∙ e))) (cases_Bool _)
 
 -- conversions: a text with a scheme is of the kind that needs one
 text-with-scheme-is-of-kind-with-scheme : (kind : Kind) (text : List ℕ)
@@ -59,8 +58,7 @@ pub uri_ref_with_scheme_is_uri : (text : List ℕ) → IsOfKind uri_ref text
 uri_ref_with_scheme_is_uri text h = (
   λ e. text-with-scheme-is-of-kind-with-scheme uri_ref text
       (no-missing_scheme_error-means-scheme text e) h,
-  λ w. text-with-scheme-misses-no-scheme text
-      (uri_has_scheme text w),
+  λ w. text-with-scheme-misses-no-scheme text (uri_has_scheme text w),
 )
 
 -- conversions: an IRI reference converts to an IRI exactly if it is one
@@ -69,8 +67,7 @@ pub iri_ref_with_scheme_is_iri : (text : List ℕ) → IsOfKind iri_ref text
 iri_ref_with_scheme_is_iri text h = (
   λ e. text-with-scheme-is-of-kind-with-scheme iri_ref text
       (no-missing_scheme_error-means-scheme text e) h,
-  λ w. text-with-scheme-misses-no-scheme text
-      (iri_has_scheme text w),
+  λ w. text-with-scheme-misses-no-scheme text (iri_has_scheme text w),
 )
 
 -- conversions: the byte is ASCII
@@ -99,8 +96,7 @@ whole-ascii-prefix-means-ascii-text (c ∷ text) h = ⊎_elim
     and_from _ _ e (whole-ascii-prefix-means-ascii-text text (omega arith)))
     (λ e. let n : prefix_len is_ascii_code (c ∷ text)
     ≡ 0 = cond-false _ _ _ (ap (λ b. not (not b)) e) in
-    absurd (omega arith))
-    (cases_Bool (ltb c 128))
+    absurd (omega arith)) (cases_Bool (ltb c 128))
 
 -- general fact on options, for conversions: the index of a character past ASCII is not None
 some-index-is-not-none : (index : ℕ) → Some index ≡ None → ⊥
@@ -174,13 +170,12 @@ pub ascii_iri_ref_with_scheme_is_uri : (text : List ℕ) → IsUtf8 text → IsO
     → (uri_conversion_error text ≡ None ↔ IsOfKind uri text)
 unfolding uri_conversion_error
 ascii_iri_ref_with_scheme_is_uri text u h = (
-  λ e. let p = option_or-is-none-if-both-are (missing_scheme_error text) (not_ascii_error text) e in
-      (uri_ref_with_scheme_is_uri text ((ascii_iri_ref_is_uri_ref text u h).0 p.1)).0 p.0,
+  λ e. let p = option_or-is-none-if-both-are _ _ e in
+      (uri_ref_with_scheme_is_uri _ ((ascii_iri_ref_is_uri_ref _ u h).0 p.1)).0 p.0,
   λ w.
       let reference = uri_is_uri_ref text w in
-      both-none-give-option_or-none (missing_scheme_error text) (not_ascii_error text)
-      ((uri_ref_with_scheme_is_uri text reference).1 w)
-      ((ascii_iri_ref_is_uri_ref text u h).1 reference),
+      both-none-give-option_or-none _ _ ((uri_ref_with_scheme_is_uri _ reference).1 w)
+      ((ascii_iri_ref_is_uri_ref _ u h).1 reference),
 )
 
 -- conversions: each URI is an IRI
@@ -232,9 +227,8 @@ encoded-iri-is-uri text encoded e u h = encoded-text-is-of-ascii-kind iri iri-ha
 pub encoded-iri_ref-is-uri_ref : (text encoded : List ℕ) → encoded ≡ encode_past_ascii text
     → IsUtf8 text
     → IsOfKind iri_ref text → IsOfKind uri_ref encoded
-encoded-iri_ref-is-uri_ref text encoded e u h = encoded-text-is-of-ascii-kind iri_ref
-    iri_ref-has-component-sets text
-    encoded e u h
+encoded-iri_ref-is-uri_ref text encoded e u h =
+    encoded-text-is-of-ascii-kind iri_ref iri_ref-has-component-sets text encoded e u h
 
 -- conversions: an IRI and the URI that it is percent-encoded as are equivalent
 pub encoded-iri-is-equivalent : (text encoded : List ℕ) → encoded ≡ encode_past_ascii text
@@ -247,18 +241,16 @@ encoded-iri-is-equivalent text encoded e u h = encoded-text-is-equivalent iri ir
 pub encoded-iri_ref-is-equivalent : (text encoded : List ℕ) → encoded ≡ encode_past_ascii text
     → IsUtf8 text
     → IsOfKind iri_ref text → AreEquivalent iri_ref encoded text
-encoded-iri_ref-is-equivalent text encoded e u h = encoded-text-is-equivalent iri_ref
-    iri_ref-has-component-sets text
-    encoded e u h
+encoded-iri_ref-is-equivalent text encoded e u h =
+    encoded-text-is-equivalent iri_ref iri_ref-has-component-sets text encoded e u h
 
 -- conversions: an IRI and its URI have the same meaning under any rules
 pub encoded-iri-has-same-meaning : (text encoded : List ℕ) → encoded ≡ encode_past_ascii text
     → IsUtf8 text
     → IsOfKind iri text → (rules : Rules)
     → meaning_under iri rules encoded ≡ meaning_under iri rules text
-encoded-iri-has-same-meaning text encoded e u h rules = encoded-text-has-same-meaning iri
-    iri-has-component-sets text
-    encoded e u h rules
+encoded-iri-has-same-meaning text encoded e u h rules =
+    encoded-text-has-same-meaning iri iri-has-component-sets text encoded e u h rules
 
 -- conversions: an IRI reference and its URI reference have the same meaning under any rules
 pub encoded-iri_ref-has-same-meaning : (text encoded : List ℕ) → encoded ≡ encode_past_ascii text

@@ -121,6 +121,5 @@ kind_by_flags-has-component-sets true true = iri-has-component-sets
 pub one-of-four-kinds-has-sets : (kind : Kind) → kind
     ≡ kind_by_flags kind.path.ucschar kind.needs_scheme
     → HasComponentSets kind
-one-of-four-kinds-has-sets kind known =
-    subst HasComponentSets (sym known)
+one-of-four-kinds-has-sets kind known = subst HasComponentSets (sym known)
     (kind_by_flags-has-component-sets kind.path.ucschar kind.needs_scheme)

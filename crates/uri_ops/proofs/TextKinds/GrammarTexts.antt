@@ -42,8 +42,7 @@ cases-give-scheme-rule : (s n a c : Bool) → (s ≡ true) ⊎ ((n ≡ false) ×
     → (s || (not n && (a || not c))) ≡ true
 cases-give-scheme-rule true n a c h = refl
 cases-give-scheme-rule false true a c h = ⊎_elim (λ e. absurd (false≢true e))
-    (λ p. absurd (false≢true (sym p.0)))
-    h
+    (λ p. absurd (false≢true (sym p.0))) h
 cases-give-scheme-rule false false a c h = ⊎_elim (λ e. absurd (false≢true e))
     (λ p. cases-give-colon-rule a c p.1) h
 
@@ -68,8 +67,7 @@ module _ (kind : Kind) (sets : HasComponentSets kind) where
         fragment = IfSome-weaken p.fragment (λ q. is_set_text kind.fragment q ≡ true) _
             (λ q w. set-text-is-valid kind.fragment q w) parts.fragment;
         reference = scheme-rule-gives-its-cases (is_some p.scheme) kind.needs_scheme
-            (is_some p.authority)
-            (has_colon_in_first_segment p.path) parts.needs;
+            (is_some p.authority) (has_colon_in_first_segment p.path) parts.needs;
       }
 
   rules-give-components-of-kind : (text : List ℕ) (p : Components) → AreUtf8 p
@@ -82,15 +80,13 @@ module _ (kind : Kind) (sets : HasComponentSets kind) where
         (λ a v w. (
           v,
           is_authority_for-complete kind.userinfo kind.reg_name
-              (kind-sets-lack-authority-delimiters kind sets)
-              a w.0 v w.1,
+              (kind-sets-lack-authority-delimiters kind sets) a w.0 v w.1,
         )) u.authority g.authority;
     path = set-text-from-utf8 kind.path p.path u.path g.path;
     query = IfSome-combine p.query IsUtf8 _ _ (λ q v w. set-text-from-utf8 kind.query q v w)
         u.query g.query;
     fragment = IfSome-combine p.fragment IsUtf8 _ _
-        (λ q v w. set-text-from-utf8 kind.fragment q v w) u.fragment
-        g.fragment;
+        (λ q v w. set-text-from-utf8 kind.fragment q v w) u.fragment g.fragment;
     needs = cases-give-scheme-rule (is_some p.scheme) kind.needs_scheme (is_some p.authority)
         (has_colon_in_first_segment p.path) g.reference;
   }
@@ -98,11 +94,9 @@ module _ (kind : Kind) (sets : HasComponentSets kind) where
   grammar-gives-text-of-kind : (text : List ℕ) → IsUtf8 text → IsInGrammar kind text
       → IsOfKind kind text
   grammar-gives-text-of-kind text u (p, g) =
-      let same = only-split-is-components text p g.split in
-      ap (components_meet_rules kind) same
-      ∙ components-of-kind-meet-grammar kind p
-      (rules-give-components-of-kind text p
-      (subst AreUtf8 same (components-of-utf8-are-utf8 text u)) g)
+      let same = only-split-is-components _ p g.split in
+      ap (components_meet_rules kind) same ∙ components-of-kind-meet-grammar _ p
+      (rules-give-components-of-kind _ p (subst AreUtf8 same (components-of-utf8-are-utf8 _ u)) g)
 
   text-is-of-kind-if-in-grammar : (text : List ℕ) → IsUtf8 text
       → (IsOfKind kind text ↔ IsInGrammar kind text)

@@ -24,11 +24,10 @@ module _ (s t : TableSet) (w : IsSubset s t) where
       → allows_past_ascii t c ≡ true
   unfolding allows_past_ascii
   wider-set-allows-past-ascii c e = ⊎_elim
-      (λ h. let p = and_parts s.ucschar (is_ucschar c) h in
+      (λ h. let p = and_parts _ _ h in
       or_left _ _ (and_from _ _ (w.ucschar p.0) p.1))
-      (λ h. let p = and_parts s.iprivate (is_iprivate c) h in
-      or_right _ _ (and_from _ _ (w.iprivate p.0) p.1))
-      (or_cases (s.ucschar && is_ucschar c) (s.iprivate && is_iprivate c) e)
+      (λ h. let p = and_parts _ _ h in
+      or_right _ _ (and_from _ _ (w.iprivate p.0) p.1)) (or_cases _ _ e)
 
   wider-set-allows-character : (c : ℕ) → allows s c ≡ true → allows t c ≡ true
   wider-set-allows-character c e = ⊎_elim
@@ -41,11 +40,9 @@ module _ (s t : TableSet) (w : IsSubset s t) where
   wider-set-allows-tokens : (ts : List Token) → list_all (allows_token s) ts ≡ true
       → list_all (allows_token t) ts ≡ true
   wider-set-allows-tokens [] e = refl
-  wider-set-allows-tokens (Char c ∷ ts) e = let p = and_parts (allows s c)
-      (list_all (allows_token s) ts) e in
+  wider-set-allows-tokens (Char c ∷ ts) e = let p = and_parts _ _ e in
       and_from _ _ (wider-set-allows-character c p.0) (wider-set-allows-tokens ts p.1)
-  wider-set-allows-tokens (Octet value ∷ ts) e = let p =
-      and_parts s.pct_encoded (list_all (allows_token s) ts) e in
+  wider-set-allows-tokens (Octet value ∷ ts) e = let p = and_parts _ _ e in
       and_from _ _ (w.pct_encoded p.0) (wider-set-allows-tokens ts p.1)
 
   valid-text-is-valid-for-wider-set : (text : List ℕ) → IsValidFor s text → IsValidFor t text
@@ -70,20 +67,12 @@ module _ (kind wide : Kind) (sets : HasComponentSets wide) (w : IsWithin kind wi
   authority-is-authority-of-wider-kind : (a : List ℕ) → IsUtf8 a → is_authority kind a ≡ true
       → is_authority wide a ≡ true
   authority-is-authority-of-wider-kind a u e =
-      let h = is_authority_for-sound kind.userinfo kind.reg_name a e in
-      is_authority_for-complete wide.userinfo wide.reg_name
-      (kind-sets-lack-authority-delimiters wide sets) a
-      (authority_parts a) u (record {
+      let h = is_authority_for-sound _ _ a e in
+      is_authority_for-complete _ _ (kind-sets-lack-authority-delimiters _ sets) a _ u (record {
         whole = h.whole;
-        userinfo = IfSome-weaken (authority_parts a).userinfo (IsValidFor kind.userinfo)
-            (IsValidFor wide.userinfo)
-            (λ x v. valid-text-is-valid-for-wider-set kind.userinfo wide.userinfo w.userinfo x v)
-            h.userinfo;
-        host = (
-          h.host.0,
-          host-is-host-for-wider-set kind.reg_name wide.reg_name w.reg_name (authority_parts a).host
-              h.host.0 h.host.1,
-        );
+        userinfo = IfSome-weaken _ _ _
+            (λ x v. valid-text-is-valid-for-wider-set _ _ w.userinfo x v) h.userinfo;
+        host = (h.host.0, host-is-host-for-wider-set _ _ w.reg_name _ _ h.host.1);
         port = h.port;
       })
 

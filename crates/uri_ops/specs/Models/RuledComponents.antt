@@ -48,3 +48,11 @@ has_default_host locals p =
 abbrev pub has_root_path : (List ℕ → Bool) → Components → Bool
 has_root_path roots p =
     (is_scheme_of roots (normal_scheme p.scheme) && is_some p.authority) && is_empty p.path
+
+-- the components with an empty authority in place of `localhost`, and with the path `/` in place of
+-- an empty one, if each is to be
+abbrev pub changed_components : Bool → Bool → Components → Components
+changed_components drops_host adds_root p = record p {
+  authority = if drops_host then Some [] else p.authority;
+  path = if adds_root then codes "/" else p.path;
+}

@@ -1,11 +1,11 @@
 //! Decoding of unreserved octets in components (RFC 3986, sections 6.2.2.1 and 6.2.2.2; RFC 3987,
 //! sections 4.1 and 5.3.2.3).
-ghost use Rattle.std.specs.Prelude.{◌≡◌, ◌==◌, ◌&&◌, OnOk, map};
+ghost use Rattle.std.specs.Prelude.{◌≡◌, ◌==◌, ◌&&◌, OnOk};
 ghost use Rattle.std.specs.List.{position_or_len};
 ghost use Rattle.uri_pct.specs.Chunks.{widest_set};
 ghost use Rattle.uri_pct.specs.Delimiters.{percent_sign};
 ghost use Rattle.uri_pct.specs.EncodedTexts.{text_of};
-ghost use Rattle.uri_pct.specs.DecodeUnreserved.{decode_unreserved, decode_tokens, lower_token};
+ghost use Rattle.uri_pct.specs.DecodeUnreserved.{decode_unreserved, decode_tokens};
 ghost use Rattle.uri_pct.specs.Tables.{set_of};
 ghost use Rattle.uri_pct.specs.Tokens.{tokens, print, IsValidFor};
 ghost use Rattle.uri_pct.specs.Texts.{Pushes};
@@ -198,12 +198,16 @@ fn push_decoded_by_runs(
     }
 }
 
-/// Appends the text with its decodable octets decoded, and with its letters lowered if `lowers`.
+/// Appends the text with its decodable octets decoded, and with its ASCII letters in lower case,
+/// also those that were octets, if `lowers`. Every other octet gets upper-case digits, formatting
+/// characters of bidirectional text become octets, and all else stays as it is.
+///
+/// After an error, part of it may have been appended.
 ///
 /// It is inlined, where the table is a constant. Only a copy is passed on, so that no table is
 /// written to memory for a short text.
 #[inline(always)]
-fn push_decoded_with_case(
+pub(crate) fn push_decoded(
     table: &Table,
     lowers: bool,
     text: &str,
@@ -220,19 +224,6 @@ fn push_decoded_with_case(
     push_decoded_by_runs(&table, lowers, text, out)
 }
 
-/// Appends the text with its decodable octets decoded. Every other octet gets upper-case digits,
-/// formatting characters of bidirectional text become octets, and all else stays as it is.
-///
-/// After an error, part of it may have been appended.
-#[inline(always)]
-pub(crate) fn push_decoded(table: &Table, text: &str, out: &mut String) -> Result<(), AllocError>
-    requires { IsValidFor widest_set text.now }
-    ensures { OnOk result (Pushes out.old out.new
-        (print (decode_unreserved (set_of table.now) text.now))) }
-{
-    push_decoded_with_case(table, false, text, out)
-}
-
 /// Appends a component with its decodable octets decoded, by the table of its encoder.
 ///
 /// After an error, part of it may have been appended.
@@ -244,22 +235,5 @@ pub(crate) fn push_decoded_component<E: Encoder>(
     ensures { OnOk result (Pushes out.old out.new
         (print (decode_unreserved E.set (text_of component.entry)))) }
 {
-    push_decoded(&E::table(), component.as_str(), out)
-}
-
-/// Appends a name with its decodable octets decoded, and its ASCII letters in lower case, also
-/// those that were octets.
-///
-/// After an error, part of it may have been appended.
-#[inline(always)]
-pub(crate) fn push_decoded_host(
-    table: &Table,
-    text: &str,
-    out: &mut String,
-) -> Result<(), AllocError>
-    requires { IsValidFor widest_set text.now }
-    ensures { OnOk result (Pushes out.old out.new
-        (print (map lower_token (decode_unreserved (set_of table.now) text.now)))) }
-{
-    push_decoded_with_case(table, true, text, out)
+    push_decoded(&E::table(), false, component.as_str(), out)
 }

@@ -1,7 +1,6 @@
 //! Paths whose octets are decoded while their dot segments are removed (RFC 3986, sections 5.2.4
 //! and 6.2.2.3).
 ghost use Rattle.std.specs.Prelude.{◌≡◌, ◌==◌, ◌&&◌, IfOk, OnOk, codes, length, slice_index, true};
-ghost use Rattle.uri_pct.specs.Chunks.{widest_set};
 ghost use Rattle.uri_pct.specs.Delimiters.{slash};
 ghost use Rattle.uri_pct.specs.DecodeUnreserved.{decode_unreserved};
 ghost use Rattle.uri_pct.specs.Tables.{set_of};
@@ -21,17 +20,6 @@ fn is_slash(text: &[u8]) -> bool
     ensures { result ≡ (length text.now == 1 && slice_index text.now 0 == slash) }
 {
     matches!(text, [b'/'])
-}
-
-/// Appends segments of a path, decoded. It is not inlined, so that the loop over segments stays
-/// small.
-#[inline(never)]
-fn push_decoded_piece(table: &Table, piece: &str, out: &mut String) -> Result<(), AllocError>
-    requires { IsValidFor widest_set piece.now }
-    ensures { OnOk result (Pushes out.old out.new
-        (print (decode_unreserved (set_of table.now) piece.now))) }
-{
-    push_decoded(table, piece, out)
 }
 
 /// Appends segments decoded: the table says which characters a path allows.
@@ -58,7 +46,7 @@ impl SegmentMode for Decoded<'_> {
             out.push('/')?;
             return Ok(());
         }
-        push_decoded_piece(self.table, piece, out)
+        push_decoded(self.table, false, piece, out)
     }
 }
 
@@ -79,7 +67,7 @@ pub(crate) fn push_decoded_path(
     ensures underflow { IfOk result (λ underflowed. underflowed ≡ underflows path.now) }
 {
     if !has_dot_segments(path) {
-        push_decoded(table, path, out)?;
+        push_decoded(table, false, path, out)?;
         return Ok(false);
     }
     let start = out.len();

@@ -15,7 +15,7 @@ ghost use Rattle.uri_ops.specs.Normal.{default_port_of, normal_authority_with_de
 ghost use Rattle.uri_ops.specs.Models.Unchanged.{IsUnchangedPort};
 ghost use Rattle.uri_ops.specs.Models.Written.{authority_parts_at};
 
-use crate::normalize::decode_unreserved::{push_decoded_component, push_decoded_host};
+use crate::normalize::decode_unreserved::{push_decoded, push_decoded_component};
 use crate::normalize::literal_runs::push_lower;
 use crate::scheme_rules::SchemeRules;
 use std::alloc::AllocError;
@@ -120,7 +120,7 @@ fn push_host<U: Encoder, R: Encoder>(
 {
     let host = authority.host();
     if !is_bracketed(host) {
-        return push_decoded_host(&R::table(), host, out);
+        return push_decoded(&R::table(), true, host, out);
     }
     push_bracketed_host(authority, out)
 }
@@ -134,6 +134,7 @@ pub(crate) fn is_bracketed(host: &str) -> bool
 
 /// Appends the port of a normal authority, `:` and digits, unless it is empty or the scheme's
 /// default.
+#[inline(always)]
 fn push_port<U: Encoder, R: Encoder, S: SchemeRules>(
     authority: Authority<'_, U, R>,
     scheme: Option<Scheme<'_>>,
@@ -173,6 +174,7 @@ pub(crate) fn is_port_unchanged<U: Encoder, R: Encoder, S: SchemeRules>(
 /// Returns the port's digits in a normal authority, unless there are none or they write the default
 /// port of the scheme. It asks the rules only if there is a port that isn't empty. A port over
 /// 65535 is no default.
+#[inline(always)]
 pub(crate) fn port_unless_default<'a, U: Encoder, R: Encoder, S: SchemeRules>(
     authority: Authority<'a, U, R>,
     scheme: Option<Scheme<'_>>,

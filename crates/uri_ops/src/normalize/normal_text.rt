@@ -84,6 +84,7 @@ fn push_with_delimiter<E: Encoder>(
 /// Appends a path as it is in a normal text, and returns whether a double dot had nothing left
 /// to remove. Only under a scheme and from a `/` on are dot segments removed, and `/.` is put
 /// before the path if it would otherwise be parsed as an authority.
+#[inline(always)]
 fn push_normal_path<E: PathEncoder>(
     has_scheme: bool,
     has_authority: bool,

@@ -136,8 +136,10 @@ pub(crate) fn ruled_path<'a, K: Kind, S: SchemeRules>(
     core.path()
 }
 
-/// Returns whether the authority of a value is `localhost`, the default host of its scheme.
+/// Returns whether the authority of a value is `localhost`, the default host of its scheme. Only of
+/// a value with that authority are the rules asked.
 #[inline(always)]
+#[tactic(auto, using(std::proofs::lemmas::Bool::Decides::nat_tests))]
 pub(crate) fn has_default_host<K: Kind, S: SchemeRules>(core: Core<K, &str>, rules: &S) -> bool
     ensures { result ≡ has_default_host (S.rules_of rules.now).locals
         (components (core_text core.entry)) }
@@ -145,5 +147,5 @@ pub(crate) fn has_default_host<K: Kind, S: SchemeRules>(core: Core<K, &str>, rul
     let Some(authority) = core.authority() else {
         return false;
     };
-    is_local(core.scheme(), rules) && authority.as_str() == "localhost"
+    authority.as_str() == "localhost" && is_local(core.scheme(), rules)
 }

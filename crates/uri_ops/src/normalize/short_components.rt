@@ -158,7 +158,7 @@ fn push_short_bytes(alone: bool, lowers: bool, text: &str, out: &mut Vec<u8>) ->
 ///
 /// If a text is short, this takes fewer instructions than to find and copy its runs. It calls
 /// nothing, so it has few registers to save.
-#[inline(never)]
+#[inline(always)]
 pub(crate) fn push_short(alone: bool, lowers: bool, text: &str, out: &mut String) -> bool
     requires { IsValidFor widest_set text.now }
     ensures done { result ≡ true → (set : TableSet) → (alone ≡ true → LacksPastAscii set)

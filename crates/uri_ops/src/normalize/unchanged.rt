@@ -157,7 +157,10 @@ fn unchanged_prefix_len<K: Kind>(core: Core<K, &str>) -> usize
 /// Returns `true` only if the normal text of a value under the default ports of the rules alone is
 /// its own. It misses a few such values.
 #[inline(always)]
-fn is_found_normal_by_ports<K: Kind, S: SchemeRules>(core: Core<K, &str>, rules: &S) -> bool
+pub(crate) fn is_found_normal_by_ports<K: Kind, S: SchemeRules>(
+    core: Core<K, &str>,
+    rules: &S,
+) -> bool
     ensures text { result ≡ true → core_text core.entry
         ≡ normal_text (meaning_of K.kind (S.rules_of rules.now).ports (core_text core.entry)) }
     ensures underflow { result ≡ true → text_underflows (core_text core.entry) ≡ false }

@@ -11,7 +11,7 @@ ghost use Rattle.uri_ops.specs.Models.Directories.{parent_directory};
 ghost use Rattle.uri_ops.specs.Models.LeadingSegments.{BeginsWithoutDotSegment};
 ghost use Rattle.uri_ops.specs.Models.SegmentModes.{KeepsSlashesAndDots};
 ghost use Rattle.uri_ops.specs.Models.Places.{IsSlashOrStart};
-ghost use Rattle.uri_ops.specs.Dots.{EndsInSlash, IsAbsolute, before_last_slash, directory};
+ghost use Rattle.uri_ops.specs.Dots.{IsAbsolute, before_last_slash, directory};
 ghost use Rattle.uri_ops.specs.Dots.{has_slash, is_double_dot, is_empty, lacks_dot_segments};
 ghost use Rattle.uri_ops.specs.Dots.{or_slash, remove_dot_segments, underflows};
 ghost use Rattle.uri_ops.specs.Target.{merged};
@@ -184,8 +184,6 @@ fn directory_end(path: &str) -> usize
     ensures text { remove_dot_segments (take result path.now)
         ≡ remove_dot_segments (directory path.now) }
     ensures underflow { underflows (take result path.now) ≡ underflows (directory path.now) }
-    ensures closed { EndsInSlash (take result path.now)
-        → take result path.now ≡ directory path.now }
     ensures absolute { 0 < result }
     ensures place { IsCharBoundary path.now result }
 {
@@ -205,15 +203,6 @@ pub fn path_or_slash(path: &str) -> &str
     ensures dotless { lacks_dot_segments result.now ≡ lacks_dot_segments path.now }
 {
     if path.is_empty() { "/" } else { path }
-}
-
-/// Returns `true` only if a prefix of a base's path is a directory without dot segments. It looks
-/// only at where segments begin.
-fn is_dotless_directory(path: &str) -> bool
-    requires { IsAbsolute path.now }
-    ensures { result ≡ true → IsDotlessDirectory path.now }
-{
-    path.as_bytes()[path.len() - 1] == b'/' && dotless_prefix_len(path) == path.len()
 }
 
 /// Returns the parent of a directory, which a `..` leads to; that of `/` is `/`.
@@ -260,51 +249,6 @@ pub(crate) fn follow_leading_dots<'a>(
     (kept, rest, underflowed)
 }
 
-/// Appends the segments of a path without dot segments, where the first is none, to the directory
-/// that is in `out` from `start` on. Returns whether a double dot had nothing left to remove.
-#[inline(always)]
-fn push_after_first_segment(path: &str, start: usize, out: &mut String) -> Result<bool, AllocError>
-    requires directory { IsDotlessDirectory (drop start (string_bytes out.old)) }
-    requires first { BeginsWithoutDotSegment path.now }
-    ensures before { IfOk result (λ _.
-        take start (string_bytes out.new) ≡ take start (string_bytes out.old)) }
-    ensures text { IfOk result (λ _. drop start (string_bytes out.new)
-        ≡ remove_dot_segments (drop start (string_bytes out.old) ++ path.now)) }
-    ensures underflow { IfOk result (λ underflowed. underflowed
-        ≡ underflows (drop start (string_bytes out.old) ++ path.now)) }
-{
-    if path.is_empty() {
-        return Ok(false);
-    }
-    let prefix = dotless_prefix_len(path);
-    out.push_str(&path[..prefix])?;
-    if prefix == path.len() {
-        return Ok(false);
-    }
-    let underflowed = push_segments(Copied, &path[prefix..], start, out)?;
-    Ok(underflowed)
-}
-
-/// Appends a reference's path after a directory that has no dot segments, without its dot segments.
-/// What those at its beginning remove of the directory is not appended.
-fn push_after_directory(
-    directory: &str,
-    reference: &str,
-    out: &mut String,
-) -> Result<bool, AllocError>
-    requires { IsDotlessDirectory directory.now }
-    ensures text { OnOk result (Pushes out.old out.new
-        (remove_dot_segments (directory.now ++ reference.now))) }
-    ensures underflow { IfOk result (λ underflowed. underflowed
-        ≡ underflows (directory.now ++ reference.now)) }
-{
-    let (kept, rest, underflowed) = follow_leading_dots(directory, reference);
-    let start = out.len();
-    out.push_str(kept)?;
-    let of_rest = push_after_first_segment(rest, start, out)?;
-    Ok(underflowed | of_rest)
-}
-
 /// Appends a reference's path after the directory of a base's path (RFC 3986, section 5.2.3),
 /// without dot segments. Returns whether a double dot had nothing left to remove. The two paths are
 /// scanned one after the other, and never joined.
@@ -317,9 +261,6 @@ pub(crate) fn push_merged(base: &str, reference: &str, out: &mut String) -> Resu
 {
     let base = path_or_slash(base);
     let directory = &base[..directory_end(base)];
-    if is_dotless_directory(directory) {
-        return push_after_directory(directory, reference, out);
-    }
     let start = out.len();
     let of_base = push_without_dot_segments(directory, out)?;
     let of_reference = push_segments(Copied, reference, start, out)?;

@@ -1,14 +1,14 @@
 //! A component of a normal text, read from its end (RFC 3986, section 6.2.2.2; RFC 3987, sections
 //! 4.1 and 5.3.2.3).
-ghost use Rattle.std.specs.Prelude.{◌≡◌, ◌++◌, ◌∷◌, [], IfSome, None};
+ghost use Rattle.std.specs.Prelude.{◌≡◌, ◌≤◌, ◌<◌, ◌++◌, ◌∷◌, [], IfSome, None, drop};
 ghost use Rattle.uri_pct.specs.Chunks.{widest_set};
 ghost use Rattle.uri_pct.specs.Tables.{set_of};
 ghost use Rattle.uri_pct.specs.Tokens.{IsValidFor};
 
-use crate::read_back::ReadBack;
 use crate::read_back::held::Held;
 use crate::read_back::last_tokens::split_last_ascii;
 use crate::read_back::normal_tokens::{normal_ascii, split_last_token};
+use crate::read_back::{BLOCK, ReadBack};
 use uri_pct::table::Table;
 
 /// A component of a normal text that is read from its end, with its letters in lower case if
@@ -62,6 +62,26 @@ impl<'a> OctetsBack<'a> {
         self.held = held;
         self.held.pop()
     }
+
+    /// Takes the last bytes that are left and puts them into the block before `end`. Returns where
+    /// they begin.
+    pub(crate) fn read_back(&mut self, block: &mut [u8; BLOCK], end: usize) -> usize
+        requires { end ≤ 1024 }
+        ensures text { octets_unread self.old ++ drop end block.old
+            ≡ octets_unread self.new ++ drop result block.new }
+        ensures within { result ≤ end }
+        ensures end { 0 < result → octets_unread self.new ≡ [] }
+    {
+        let mut end = end;
+        while end > 0 {
+            let Some(byte) = self.next_back() else {
+                return end;
+            };
+            end -= 1;
+            block[end] = byte;
+        }
+        end
+    }
 }
 
 impl<'a> ReadBack for OctetsBack<'a> {
@@ -72,5 +92,10 @@ impl<'a> ReadBack for OctetsBack<'a> {
     /// Takes the last byte that is left of the component, if there is one.
     fn next_back(&mut self) -> Option<u8> {
         OctetsBack::next_back(self)
+    }
+
+    /// Takes the last bytes that are left of the component.
+    fn read_back(&mut self, block: &mut [u8; BLOCK], end: usize) -> usize {
+        OctetsBack::read_back(self, block, end)
     }
 }

@@ -8,9 +8,10 @@ ghost use Rattle.uri_ops.specs.Dots.{IsAbsolute, remove_dot_segments};
 ghost use Rattle.uri_ops.specs.FromEnd.NormalComponents.{normal_component};
 ghost use Rattle.uri_ops.specs.FromEnd.SegmentsLeft.{is_abempty_path, segments_left};
 
-use crate::read_back::ReadBack;
+use crate::path::dot_segments::has_dot_segments;
 use crate::read_back::octets_back::OctetsBack;
 use crate::read_back::segments_back::{ends_in_dot_segment, split_last_segment};
+use crate::read_back::{BLOCK, ReadBack};
 use uri_pct::table::Table;
 
 /// A path that is read from its end as it is in a normal form: with its unreserved characters
@@ -69,7 +70,7 @@ impl<'a> PathBack<'a> {
         ensures { path_unread result ≡ normal_component false (set_of table.now)
             (if removes_dots then remove_dot_segments path.now else path.now) }
     {
-        if removes_dots {
+        if removes_dots && has_dot_segments(path) {
             return PathBack::dotless(table, path);
         }
         PathBack::dotted(table, path)
@@ -119,5 +120,21 @@ impl<'a> ReadBack for PathBack<'a> {
         }
         self.follows_slash = false;
         Some(b'/')
+    }
+
+    /// Takes the last bytes that are left of the path.
+    #[tactic(auto, using(crate::proofs::FromEnd::Blocks::segment_is_read, crate::proofs::FromEnd::Blocks::slash_is_read))]
+    fn read_back(&mut self, block: &mut [u8; BLOCK], end: usize) -> usize {
+        let mut end = self.segment.read_back(block, end);
+        while end > 0 && self.begin_segment() {
+            end = self.segment.read_back(block, end);
+            if end == 0 {
+                return 0;
+            }
+            self.follows_slash = false;
+            end -= 1;
+            block[end] = b'/';
+        }
+        end
     }
 }

@@ -1,22 +1,20 @@
 //! Targets that are a prefix of the base and a suffix of the reference (RFC 3986, sections 5.2 and
 //! 5.3).
-ghost use Rattle.std.specs.Prelude.{◌≡◌, ◌<◌, ◌++◌, IfSome, false, is_some, length, true};
-ghost use Rattle.uri_parts.specs.PackedPositions.{ArePackedPositionsOf};
+ghost use Rattle.std.specs.Prelude.{◌≡◌, ◌<◌, IfSome, false, is_some, length, true};
 ghost use Rattle.uri_ops.specs.Dots.{is_empty, lacks_dot_segments};
 ghost use Rattle.uri_ops.specs.Models.Directories.{EndsIn};
 ghost use Rattle.uri_ops.specs.Models.LeadingSegments.{BeginsWithoutDotSegment};
 ghost use Rattle.uri_ops.specs.Models.TargetCases.{IsCaseOf};
 ghost use Rattle.uri_ops.specs.Models.TargetPieces.{ArePiecesOfTarget, HasJoinedPath};
 ghost use Rattle.uri_ops.specs.Models.TargetPieces.{IsDirectoryOfBase};
-ghost use Rattle.uri_ops.specs.Resolving.{IsTarget, components_of};
+ghost use Rattle.uri_ops.specs.Resolving.{components_of};
 ghost use Rattle.uri_ops.specs.declared.resolve.target_case.TargetCase.TheVariants.{AbsolutePath};
 ghost use Rattle.uri_ops.specs.declared.resolve.target_case.TargetCase.TheVariants.{MergedPath};
-ghost use Rattle.uri_ops.specs.declared.resolve.target_case.TargetCase.TheVariants.{WithScheme};
 
 use crate::path::dot_segments::{follow_leading_dots, last_slash};
 use crate::path::leading_segment::{begins_with_dot, dotless_prefix_len, is_double_dot};
 use crate::path::slashes::begins_with_slash;
-use crate::resolve::target_case::{TargetCase, target_case};
+use crate::resolve::target_case::TargetCase;
 use crate::resolve::text_view::TextView;
 use uri_parts::packed_positions::PackedPositions;
 
@@ -101,7 +99,7 @@ fn is_dotless_rest(rest: &str) -> bool
 
 /// Returns the pieces of the target of a reference whose path is merged with the base's, where the
 /// base has an authority, and the only dot segments are those that the reference begins with.
-fn pieces_after_leading_dots<'a>(
+fn pieces_with_merged_path<'a>(
     base: &TextView<'a>,
     reference: &TextView<'a>,
 ) -> Option<TargetPieces<'a>>
@@ -116,29 +114,6 @@ fn pieces_after_leading_dots<'a>(
     }
     let prefix = base.through_slash(kept.len() - 1);
     Some(pieces_after(base, prefix, reference, rest, underflows))
-}
-
-/// Returns the pieces of the target of a reference whose path is merged with the base's, where the
-/// base has an authority, and the only dot segments are those that the reference begins with. Most
-/// references have none.
-fn pieces_with_merged_path<'a>(
-    base: &TextView<'a>,
-    reference: &TextView<'a>,
-) -> Option<TargetPieces<'a>>
-    requires { IsCaseOf (components_of reference.now) MergedPath }
-    ensures { IfSome result (ArePiecesOfTarget (components_of base.now)
-        (components_of reference.now)) }
-{
-    let path = reference.path();
-    if begins_with_dot(path.as_bytes()) {
-        return pieces_after_leading_dots(base, reference);
-    }
-    if !is_dotless(path) {
-        return None;
-    }
-    let directory = dotless_directory(base)?;
-    let prefix = base.through_slash(directory.len() - 1);
-    Some(pieces_after(base, prefix, reference, path, false))
 }
 
 /// Returns the pieces of the target of a reference that has no path, where the base has an
@@ -187,24 +162,6 @@ fn pieces_with_absolute_path<'a>(
     Some(pieces_after(base, base.before_path(), reference, path, false))
 }
 
-/// Returns the pieces of the target of a reference that has a scheme, and a path that doesn't begin
-/// with `/`: nothing of the base, and the reference.
-fn pieces_with_scheme<'a>(base: &TextView<'a>, reference: &TextView<'a>) -> Option<TargetPieces<'a>>
-    requires { IsCaseOf (components_of reference.now) WithScheme }
-    ensures { IfSome result (ArePiecesOfTarget (components_of base.now)
-        (components_of reference.now)) }
-{
-    if begins_with_slash(reference.path().as_bytes()) {
-        return None;
-    }
-    Some(TargetPieces {
-        prefix: "",
-        suffix: reference.as_str(),
-        positions: reference.packed_positions(),
-        underflows: false,
-    })
-}
-
 /// Returns the target of a reference as a prefix of the base and a suffix of the reference, where
 /// it plainly is that: neither has dot segments, but for those that a merged path begins with.
 pub(crate) fn target_pieces<'a>(
@@ -217,34 +174,9 @@ pub(crate) fn target_pieces<'a>(
         (components_of reference.now)) }
 {
     match case {
-        TargetCase::WithScheme => pieces_with_scheme(base, reference),
         TargetCase::EmptyPath => pieces_with_empty_path(base, reference),
         TargetCase::AbsolutePath => pieces_with_absolute_path(base, reference),
         TargetCase::MergedPath => pieces_with_merged_path(base, reference),
-        TargetCase::WithAuthority => None,
+        TargetCase::WithScheme | TargetCase::WithAuthority => None,
     }
-}
-
-/// Returns the target as a prefix of the base and a suffix of the reference, where it plainly is
-/// that, the base has no fragment, and underflow is allowed or there is none.
-pub(crate) fn taken_pieces<'a>(
-    base: &TextView<'a>,
-    reference: &TextView<'a>,
-    allow_path_underflow: bool,
-) -> Option<TargetPieces<'a>>
-    requires { is_some (components_of base.now).scheme ≡ true }
-    ensures target { IfSome result (λ pieces.
-        IsTarget allow_path_underflow (components_of base.now) (components_of reference.now)
-        (pieces.prefix.now ++ pieces.suffix.now)) }
-    ensures at { IfSome result (λ pieces.
-        ArePackedPositionsOf (pieces.prefix.now ++ pieces.suffix.now) pieces.positions) }
-{
-    if base.has_fragment() {
-        return None;
-    }
-    let pieces = target_pieces(target_case(reference), base, reference)?;
-    if pieces.underflows && !allow_path_underflow {
-        return None;
-    }
-    Some(pieces)
 }

@@ -1,5 +1,4 @@
-use Rattle.std.proofs.Common.{ℕ, ◌-◌, ◌<◌}
-use Rattle.std.specs.Prelude.{slice_index}
+use Rattle.fluent_uri_c.proofs.Common.{ℕ, ◌-◌, ◌<◌, slice_index}
 use Rattle.fluent_uri_c.proofs.ascii.is_ascii.Given as goal
 
 abbrev pub invariant-loop-at : goal.invariant-loop-at

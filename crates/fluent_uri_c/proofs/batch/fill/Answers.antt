@@ -1,7 +1,5 @@
-use Rattle.std.proofs.Common.{◌+◌, ◌<◌, ◌∙◌, sym, ap, length, rules, below_more}
-use Rattle.std.specs.Prelude.{is_some, option_and_then}
+use Rattle.fluent_uri_c.proofs.Common.{◌+◌, ◌<◌, ◌∙◌, sym, ap, length, rules, below_more, is_some, option_and_then, buffers, bytes_of, column_of, call_result_bytes, number_of_bool, result_in, text_in}
 use Rattle.uri_pct.proofs.General.{is_some-option_map}
-use Rattle.fluent_uri_c.specs.Columns.{buffers, bytes_of, column_of, call_result_bytes, number_of_bool, result_in, text_in}
 use Rattle.fluent_uri_c.proofs.Batches.{IsColumn-of-one-more-result, end-of-one-more-result, equal-to-Some-is-some}
 use Rattle.fluent_uri_c.proofs.batch.fill.Goals as goal
 

@@ -1,6 +1,4 @@
-use Rattle.std.proofs.Common.{◌≡◌, ◌≤◌, ◌<◌, ℕ, length}
-use Rattle.std.specs.Prelude.{IsSome}
-use Rattle.fluent_uri_c.specs.Columns.{IsColumn, buffers, column_of, joined_results, result_in, text_in}
+use Rattle.fluent_uri_c.proofs.Common.{◌≡◌, ◌≤◌, ◌<◌, ℕ, length, IsSome, IsColumn, buffers, column_of, joined_results, result_in, text_in}
 use Rattle.fluent_uri_c.proofs.batch.fill.Given as goal
 
 -- what is written is the results so far
@@ -9,8 +7,6 @@ invariant-loop-index g l =
     let value = g.O.Offset.value in
     let texts = column_of value g.O.Offset.limit l.texts l.offsets in
     let at = result_in (g.C.Call.definition l.call).result texts in
-    IsColumn value at l.index (buffers l.fn.out l.fn.ends l.fn.valid)
-    (buffers l.out l.ends l.valid)
+    IsColumn value at l.index (buffers l.fn.out l.fn.ends l.fn.valid) (buffers l.out l.ends l.valid)
     × (l.at ≡ length (joined_results at l.index)) × (l.at ≤ length l.out)
-    × (l.at < g.O.Offset.limit)
-    × ((i : ℕ) → i < l.index → IsSome (text_in texts i))
+    × (l.at < g.O.Offset.limit) × ((i : ℕ) → i < l.index → IsSome (text_in texts i))

@@ -1,6 +1,5 @@
-use Rattle.std.proofs.Common.{◌∙◌, ap, sym}
+use Rattle.fluent_uri_c.proofs.Common.{◌∙◌, ap, sym, together_rejection}
 use Rattle.uri_ops.proofs.TextKinds.FourKinds.{one-of-four-kinds-has-sets}
-use Rattle.fluent_uri_c.specs.Building.{together_rejection}
 use Rattle.fluent_uri_c.proofs.BuiltTexts.{built-text-has-given-components}
 use Rattle.fluent_uri_c.proofs.building.given_texts.Goals as goal
 

@@ -1,10 +1,5 @@
-use Rattle.std.proofs.Common.{◌≡◌, ◌++◌, ◌-◌, ◌∙◌, ap, drop, map, string_bytes, take}
-use Rattle.std.proofs.lemmas.List.{drop_all}
-use Rattle.std.proofs.lemmas.Str.{IsCharBoundary-start}
-use Rattle.uri_pct.specs.Tables.{set_of}
-use Rattle.uri_pct.specs.Tokens.{Octet, print}
+use Rattle.fluent_uri_c.proofs.Common.{◌≡◌, ◌++◌, ◌-◌, ◌∙◌, ap, drop, map, string_bytes, take, drop_all, IsCharBoundary-start, set_of, Octet, print, mended}
 use Rattle.uri_pct.proofs.TableSets.Percent.{lacks_percent}
-use Rattle.uri_mend.specs.MendedParts.{mended}
 use Rattle.uri_mend.proofs.ComponentProgress.{all-is-mended-at-end}
 use Rattle.fluent_uri_c.proofs.ComponentMending.{mended-rest-by-run-and-char, text-grows-by-run-and-octets}
 use Rattle.fluent_uri_c.proofs.component_mending.mended.Goals as goal
@@ -12,8 +7,7 @@ use Rattle.fluent_uri_c.proofs.component_mending.mended.Goals as goal
 pub loop-done-init : goal.loop-done-init
 loop-done-init c = record {
   boundary = IsCharBoundary-start c.args.text.now c.utf8.text;
-  text = ap (λ t. t ++ mended (set_of c.args.table.now) c.args.text.now)
-      c.in_ok-made.ensures.bytes;
+  text = ap (λ t. t ++ mended (set_of c.args.table.now) c.args.text.now) c.in_ok-made.ensures.bytes;
 }
 
 pub loop-done-preserved : goal.loop-done-preserved
@@ -43,6 +37,5 @@ loop-done-preserved c =
     }
 
 pub returns : goal.returns
-returns c =
-    all-is-mended-at-end (set_of c.args.table.now) _ (drop c.loop-done.done c.args.text.now) _
-    (drop_all _ _ c.loop-done-test.false) c.loop-done.invariant.text
+returns c = all-is-mended-at-end (set_of c.args.table.now) _ (drop c.loop-done.done c.args.text.now)
+    _ (drop_all _ _ c.loop-done-test.false) c.loop-done.invariant.text

@@ -1,7 +1,4 @@
-use Rattle.std.proofs.Common.{◌≡◌, ◌-◌, ◌++◌, drop, length, string_bytes}
-use Rattle.std.specs.Str.{IsCharBoundary}
-use Rattle.uri_pct.specs.Tables.{set_of}
-use Rattle.uri_mend.specs.MendedParts.{mended}
+use Rattle.fluent_uri_c.proofs.Common.{◌≡◌, ◌-◌, ◌++◌, drop, length, string_bytes, IsCharBoundary, set_of, mended}
 use Rattle.fluent_uri_c.proofs.component_mending.mended.Given as goal
 
 abbrev pub invariant-loop-done : goal.invariant-loop-done

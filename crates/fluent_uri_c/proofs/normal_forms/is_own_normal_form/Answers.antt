@@ -1,8 +1,5 @@
-use Rattle.std.proofs.Common.{subst, sym}
-use Rattle.fluent_uri.specs.References.{reference_text}
+use Rattle.fluent_uri_c.proofs.Common.{subst, sym, reference_text, rules_of_set, normal_form_of}
 use Rattle.uri_ops.specs.Normalizers.{HasNormalText}
-use Rattle.uri_ops.specs.RuleSets.{rules_of_set}
-use Rattle.fluent_uri_c.specs.Results.{normal_form_of}
 use Rattle.fluent_uri_c.proofs.normal_forms.is_own_normal_form.Goals as goal
 
 pub returns : goal.returns

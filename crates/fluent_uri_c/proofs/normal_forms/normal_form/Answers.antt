@@ -1,5 +1,4 @@
-use Rattle.std.proofs.Common.{◌∙◌, ap, sym}
-use Rattle.std.specs.Prelude.{Ok}
+use Rattle.fluent_uri_c.proofs.Common.{◌∙◌, ap, sym, Ok}
 use Rattle.fluent_uri_c.proofs.Targets.{normal_result-of-normal-form, normal_result-of-own-form}
 use Rattle.fluent_uri_c.proofs.normal_forms.normal_form.Goals as goal
 
@@ -9,7 +8,5 @@ returns-then-is_own_normal_form g c =
     (c.is_own_normal_form.ensures c.if-is_own_normal_form.true) c.unchanged.ensures
 
 pub returns : goal.returns
-returns g c =
-    normal_result-of-normal-form _ _ _ _ _ c.in_ok-value.ensures.rejected
-    c.in_ok-value.ensures.text c.in_ok-normalized.ensures
-    ∙ ap Ok (sym c.made.ensures)
+returns g c = normal_result-of-normal-form _ _ _ _ _ c.in_ok-value.ensures.rejected
+    c.in_ok-value.ensures.text c.in_ok-normalized.ensures ∙ ap Ok (sym c.made.ensures)

@@ -1,6 +1,5 @@
 -- The bytes that are left give the rest of the state, from their end.
-use Rattle.std.proofs.Common.{◌≡◌, ◌≤◌, length, reverse, take}
-use Rattle.fluent_uri_c.specs.Fnv.{fnv_bytes}
+use Rattle.fluent_uri_c.proofs.Common.{◌≡◌, ◌≤◌, length, reverse, take, fnv_bytes}
 use Rattle.fluent_uri_c.proofs.order.hash_from_end.Given as goal
 
 abbrev pub invariant-loop-left : goal.invariant-loop-left

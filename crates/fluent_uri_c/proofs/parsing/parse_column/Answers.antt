@@ -1,8 +1,4 @@
-use Rattle.std.proofs.Common.{◌<◌, length, rules}
-use Rattle.std.specs.Prelude.{IsSomeAnd}
-use Rattle.fluent_uri_c.specs.Columns.{column_of, text_in}
-use Rattle.fluent_uri_c.specs.Kinds.{kind_numbered}
-use Rattle.fluent_uri_c.specs.Spans.{ArePartsOf}
+use Rattle.fluent_uri_c.proofs.Common.{◌<◌, length, rules, IsSomeAnd, column_of, text_in, kind_numbered, ArePartsOf}
 use Rattle.fluent_uri_c.proofs.Batches.{holds-up-to-set-item, later-items-unchanged}
 use Rattle.fluent_uri_c.proofs.parsing.parse_column.Goals as goal
 

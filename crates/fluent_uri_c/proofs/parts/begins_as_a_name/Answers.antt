@@ -10,6 +10,5 @@ pub returns-then-first-gt91 : goal.returns-then-first-gt91
 returns-then-first-gt91 c = λ _. begins_after_bracket c.args.host.now c.if-first-gt91.true
 
 pub returns-then-not-is_ascii_digit : goal.returns-then-not-is_ascii_digit
-returns-then-not-is_ascii_digit c =
-    begins_as_name c.args.host.now
+returns-then-not-is_ascii_digit c = begins_as_name c.args.host.now
     (sym c.is_ascii_digit.ensures.value ∙ c.if-not-is_ascii_digit.true)

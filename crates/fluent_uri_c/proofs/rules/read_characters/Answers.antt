@@ -1,15 +1,11 @@
-use Rattle.std.proofs.Common.{◌≡◌, ◌≤◌, ◌&&◌, ◌∙◌, List, Some, ap, arith, false, length, refl, subst, ℕ, sym}
-use Rattle.std.specs.Str.{IsCharBoundary}
-use Rattle.std.proofs.lemmas.Str.{IsCharBoundary-start}
+use Rattle.fluent_uri_c.proofs.Common.{◌≡◌, ◌≤◌, ◌&&◌, ◌∙◌, List, Some, ap, arith, false, length, refl, subst, ℕ, sym, IsCharBoundary, IsCharBoundary-start, set_of}
 use Rattle.uri_parts.specs.Scanning.{is_next}
 use Rattle.uri_pct.specs.Delimiters.{percent_sign}
-use Rattle.uri_pct.specs.Tables.{set_of}
 use Rattle.fluent_uri_c.proofs.CharacterErrors.{IsScanned, other-character-is-error, scan-is-within, scanned-bytes, scanned-text-has-no-error, scanned-text-passes}
 use Rattle.fluent_uri_c.proofs.rules.read_characters.Goals as goal
 
 pub scan-end-requires : goal.scan-end-requires
-scan-end-requires c =
-    subst (λ (t : List ℕ). IsCharBoundary t 0) (sym c.in_ok-text.ensures.text)
+scan-end-requires c = subst (λ (t : List ℕ). IsCharBoundary t 0) (sym c.in_ok-text.ensures.text)
     (IsCharBoundary-start c.args.bytes.now (c.in_ok-text.ensures.accepts.0 refl).0)
 
 pub returns-then-end-text-clause-valid : goal.returns-then-end-text-clause-valid
@@ -45,6 +41,5 @@ returns-else-is_stray_percent-clause-rejected c =
     sym (ap (λ (t : List ℕ). set.pct_encoded && is_next t percent_sign end)
     (c.as_bytes.ensures.value ∙ c.in_ok-text.ensures.text))
     ∙ sym c.is_stray_percent.ensures ∙ c.if-is_stray_percent.false in
-    ap Some c.at-else-is_stray_percent.ensures
-    ∙ sym (other-character-is-error set bytes end is percent
-    (omega (arith, within, ap length c.in_ok-text.ensures.text)))
+    ap Some c.at-else-is_stray_percent.ensures ∙ sym (other-character-is-error set bytes end is
+    percent (omega (arith, within, ap length c.in_ok-text.ensures.text)))

@@ -1,5 +1,4 @@
-use Rattle.std.proofs.Common.{rules}
-use Rattle.fluent_uri_c.specs.Results.{encode_result}
+use Rattle.fluent_uri_c.proofs.Common.{rules, encode_result}
 use Rattle.fluent_uri_c.proofs.single.fluent_uri_encode.Goals as goal
 
 pub returns-clause-text : goal.returns-clause-text

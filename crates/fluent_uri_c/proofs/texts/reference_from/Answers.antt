@@ -1,5 +1,4 @@
-use Rattle.std.proofs.Common.{◌∙◌, ap}
-use Rattle.fluent_uri.specs.References.{reference_text}
+use Rattle.fluent_uri_c.proofs.Common.{◌∙◌, ap, reference_text}
 use Rattle.fluent_uri_c.proofs.References.{IsRelativized-of-equal-texts, reference_from-of-reference}
 use Rattle.fluent_uri_c.proofs.texts.reference_from.Goals as goal
 

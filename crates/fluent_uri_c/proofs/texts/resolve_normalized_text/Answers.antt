@@ -1,10 +1,6 @@
-use Rattle.std.proofs.Common.{ap, subst}
-use Rattle.uri_parts.specs.Components.{components}
-use Rattle.uri_ops.specs.NormalTargets.{IsNormalFormOfTarget}
+use Rattle.fluent_uri_c.proofs.Common.{ap, subst, components, IsNormalFormOfTarget, rules_of_set, reference_text}
 use Rattle.uri_ops.specs.Normalizers.{scheme_rules_of}
 use Rattle.uri_ops.specs.Resolving.{IsErrorWithUnderflowAllowed}
-use Rattle.uri_ops.specs.RuleSets.{rules_of_set}
-use Rattle.fluent_uri.specs.References.{reference_text}
 use Rattle.fluent_uri_c.proofs.Targets.{normal_resolution-of-target, normal_resolution-of-error, returned-rejection-is-of-error}
 use Rattle.fluent_uri_c.proofs.texts.resolve_normalized_text.Goals as goal
 
@@ -15,20 +11,18 @@ returns-in-Ok g c =
     let reference = reference_text c.args.reference.now in
     let normal = reference_text c.in-Ok.target in
     let given = scheme_rules_of c.scheme_rules_with-normalizer.result in
-    let found : IsNormalFormOfTarget kind (rules_of_set given) bare reference normal =
-    subst (λ b. IsNormalFormOfTarget kind (rules_of_set given) b reference normal)
-    (ap (λ r. reference_text r) c.with_base-resolver.ensures.base)
-    c.in-Ok.ensures.normal.target in
+    let found : IsNormalFormOfTarget kind (rules_of_set given) bare reference normal = subst
+    (λ b. IsNormalFormOfTarget kind (rules_of_set given) b reference normal)
+    (ap (λ r. reference_text r) c.with_base-resolver.ensures.base) c.in-Ok.ensures.normal.target in
     normal_resolution-of-target c.args.rules kind (reference_text c.args.base.now) bare reference
     normal c.strip_fragment.ensures
     (subst (λ set. IsNormalFormOfTarget kind (rules_of_set set) bare reference normal)
     c.scheme_rules_with-normalizer.ensures.rules found)
 
 pub returns-in-Err : goal.returns-in-Err
-returns-in-Err g c =
-    returned-rejection-is-of-error _ _ c.in-Err.error c.from.ensures
-    (normal_resolution-of-error _ _ _ _ _ _ c.strip_fragment.ensures
-    (subst (λ b. IsErrorWithUnderflowAllowed (components b)
+returns-in-Err g c = returned-rejection-is-of-error _ _ c.in-Err.error c.from.ensures
+    (normal_resolution-of-error _ _ _ _ _ _ c.strip_fragment.ensures (subst
+    (λ b. IsErrorWithUnderflowAllowed (components b)
     (components (reference_text c.args.reference.now)) c.in-Err.error)
     (ap (λ r. reference_text r) c.with_base-resolver.ensures.base)
     c.in-Err.ensures.refusal.refusal))

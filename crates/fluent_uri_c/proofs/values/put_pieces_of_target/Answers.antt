@@ -1,7 +1,4 @@
-use Rattle.std.proofs.Common.{◌≡◌, ◌++◌, Ok, refl, subst, sym}
-use Rattle.fluent_uri.specs.References.{reference_text}
-use Rattle.fluent_uri_c.specs.Results.{Returned, resolution}
-use Rattle.fluent_uri_c.specs.Values.{LeavesValueOrDenied}
+use Rattle.fluent_uri_c.proofs.Common.{◌≡◌, ◌++◌, Ok, refl, subst, sym, reference_text, Returned, resolution, LeavesValueOrDenied}
 use Rattle.fluent_uri_c.proofs.Targets.{resolution-of-target}
 use Rattle.fluent_uri_c.proofs.WrittenValues.{value-is-left}
 use Rattle.fluent_uri_c.proofs.values.put_pieces_of_target.Goals as goal
@@ -11,9 +8,8 @@ returns-clause-written g c = λ _ takes_memory.
     let base = reference_text c.args.base.now in
     let reference = reference_text c.args.reference.now in
     let text = c.in-Some.target.prefix.now ++ c.in-Some.target.suffix.now in
-    let found : resolution base reference ≡ Ok text =
-    resolution-of-target base _ reference text c.strip_fragment-base.ensures
-    c.in-Some.ensures.resolved.target.0 in
+    let found : resolution base reference ≡ Ok text = resolution-of-target base _ reference text
+    c.strip_fragment-base.ensures c.in-Some.ensures.resolved.target.0 in
     let put = c.put_target.ensures in
     subst (λ (r : Returned). LeavesValueOrDenied takes_memory r c.args.out.now c.put_target.new.out
     c.args.parts.now c.put_target.new.parts c.put_target.new.outcome 0) (sym found)

@@ -1,8 +1,4 @@
-use Rattle.std.proofs.Common.{List, ℕ, subst, sym}
-use Rattle.fluent_uri.specs.References.{reference_text}
-use Rattle.fluent_uri_c.specs.declared.parts.Parts.{Parts}
-use Rattle.fluent_uri_c.specs.Results.{basic_resolution, resolution, resolution_by, takes_memory_for_target}
-use Rattle.fluent_uri_c.specs.Values.{LeavesValueOrDenied}
+use Rattle.fluent_uri_c.proofs.Common.{List, ℕ, subst, sym, reference_text, Parts, basic_resolution, resolution, resolution_by, takes_memory_for_target, LeavesValueOrDenied}
 use Rattle.fluent_uri_c.proofs.Targets.{target-is-returned}
 use Rattle.fluent_uri_c.proofs.values.resolve_parsed.Goals as goal
 
@@ -22,9 +18,8 @@ returns-then-put_pieces_of_target g c =
     let base = reference_text c.args.base.now in
     let reference = reference_text c.args.reference.now in
     subst (λ b. LeavesValueOrDenied (takes_memory_for_target (resolution_by b base reference))
-    (resolution_by b base reference) c.args.out.now c.put_pieces_of_target.new.out
-    c.args.parts.now c.put_pieces_of_target.new.parts c.put_pieces_of_target.new.outcome 0)
-    (sym c.if-is_basic.false)
+    (resolution_by b base reference) c.args.out.now c.put_pieces_of_target.new.out c.args.parts.now
+    c.put_pieces_of_target.new.parts c.put_pieces_of_target.new.outcome 0) (sym c.if-is_basic.false)
     (c.put_pieces_of_target.ensures.written c.if-put_pieces_of_target.true
     (takes_memory_for_target (resolution base reference)))
 
@@ -37,9 +32,8 @@ returns g c =
     let kept = c.put_pieces_of_target.ensures in
     let is = c.if-put_pieces_of_target.false in
     subst (λ (old : List ℕ). LeavesValueOrDenied (takes_memory_for_target by) by old left.new.out
-    c.args.parts.now left.new.parts left.new.outcome left.result) (kept.out is)
-    (subst (λ (old : List Parts). LeavesValueOrDenied (takes_memory_for_target by) by
+    c.args.parts.now left.new.parts left.new.outcome left.result) (kept.out is) (subst
+    (λ (old : List Parts). LeavesValueOrDenied (takes_memory_for_target by) by
     c.put_pieces_of_target.new.out left.new.out old left.new.parts left.new.outcome left.result)
-    (kept.parts is)
-    (left.ensures (takes_memory_for_target by) by (target-is-returned reference_text base reference
-    c.args.is_basic _ c.if-is_basic.false c.resolve_text-target.ensures)))
+    (kept.parts is) (left.ensures (takes_memory_for_target by) by (target-is-returned reference_text
+    base reference c.args.is_basic _ c.if-is_basic.false c.resolve_text-target.ensures)))

@@ -1,5 +1,4 @@
-use Rattle.fluent_uri.specs.References.{reference_text}
-use Rattle.fluent_uri_c.specs.Results.{normal_form_of}
+use Rattle.fluent_uri_c.proofs.Common.{reference_text, normal_form_of}
 use Rattle.fluent_uri_c.proofs.WrittenValues.{value-is-left}
 use Rattle.fluent_uri_c.proofs.values.write_normal_form.Goals as goal
 

@@ -1,8 +1,4 @@
-use Rattle.std.proofs.Common.{◌≡◌, ◌+◌, ◌<◌, ◌-◌, ◌++◌, ℕ, List, ap, arith, get_or, length, rules, string_bytes, subst, sym, take, ◌∙◌}
-use Rattle.std.specs.Prelude.{codes}
-use Rattle.std.proofs.lemmas.Str.{IsUtf8-string_bytes}
-use Rattle.uri_ops.specs.Dots.{EndsInSlash, before_last_slash, up_to_last_slash}
-use Rattle.uri_ops.proofs.Builders.BuilderGrowth.{string_len-is-length-of-bytes}
+use Rattle.uri_basic.proofs.Common.{◌≡◌, ◌+◌, ◌<◌, ◌-◌, ◌++◌, ℕ, List, ap, arith, get_or, length, rules, string_bytes, subst, sym, take, ◌∙◌, codes, IsUtf8-string_bytes, EndsInSlash, before_last_slash, up_to_last_slash, string_len-is-length-of-bytes}
 use Rattle.uri_basic.proofs.Places.{nothing-to-pop, pop-of-last-segment, pop-of-only-segment, position-of-last-segment-is-boundary, slice-to-end, something-kept-is-directory}
 use Rattle.uri_basic.proofs.dots.pop_segment.Goals as goal
 
@@ -46,14 +42,11 @@ returns-in_ok-push c =
     (λ e. omega (arith, e, long, c.if-len-start.false)) c.requires.kept in
     let pushed : string_bytes c.push.new.self ≡ string_bytes c.truncate.new.self ++ codes "/" =
     search rules in
-    let cut : string_bytes c.truncate.new.self ≡ take (start + n) text =
-    c.truncate.ensures.bytes in
-    pushed ∙ ap (λ t. t ++ codes "/") cut
-    ∙ pop-of-only-segment text start n ends
-    (subst (λ (d : List ℕ). n < length d) slice c.last_segment_start-kept.ensures.within)
-    (subst (λ (d : List ℕ). take n d ≡ up_to_last_slash (before_last_slash d)) slice
-    c.last_segment_start-kept.ensures.before)
-    (omega (arith, c.if-kept-eq0.true))
+    let cut : string_bytes c.truncate.new.self ≡ take (start + n) text = c.truncate.ensures.bytes in
+    pushed ∙ ap (λ t. t ++ codes "/") cut ∙ pop-of-only-segment text start n ends
+    (subst (λ (d : List ℕ). n < length d) slice c.last_segment_start-kept.ensures.within) (subst
+    (λ (d : List ℕ). take n d ≡ up_to_last_slash (before_last_slash d)) slice
+    c.last_segment_start-kept.ensures.before) (omega (arith, c.if-kept-eq0.true))
 
 pub returns-else-kept-eq0 : goal.returns-else-kept-eq0
 returns-else-kept-eq0 c =
@@ -65,11 +58,9 @@ returns-else-kept-eq0 c =
     c.len.ensures ∙ string_len-is-length-of-bytes c.args.out.now in
     let ends = something-kept-is-directory text start c.requires.start
     (λ e. omega (arith, e, long, c.if-len-start.false)) c.requires.kept in
-    let cut : string_bytes c.truncate.new.self ≡ take (start + n) text =
-    c.truncate.ensures.bytes in
-    cut
-    ∙ pop-of-last-segment text start n ends
-    (subst (λ (d : List ℕ). n < length d) slice c.last_segment_start-kept.ensures.within)
-    (subst (λ (d : List ℕ). take n d ≡ up_to_last_slash (before_last_slash d)) slice
+    let cut : string_bytes c.truncate.new.self ≡ take (start + n) text = c.truncate.ensures.bytes in
+    cut ∙ pop-of-last-segment text start n ends
+    (subst (λ (d : List ℕ). n < length d) slice c.last_segment_start-kept.ensures.within) (subst
+    (λ (d : List ℕ). take n d ≡ up_to_last_slash (before_last_slash d)) slice
     c.last_segment_start-kept.ensures.before)
     (λ e. omega (arith, e, c.if-kept-eq0.false))

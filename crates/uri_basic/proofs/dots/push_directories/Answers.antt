@@ -1,10 +1,4 @@
-use Rattle.std.proofs.Common.{◌≡◌, ◌+◌, ◌<◌, ◌≤◌, ◌++◌, ap, append_assoc, arith, drop, eqb, false, get_or, inl, inr, length, not, refl, string_bytes, subst, sym, take, ◌∙◌}
-use Rattle.std.specs.Prelude.{codes}
-use Rattle.std.proofs.lemmas.List.{take-append-drop}
-use Rattle.std.proofs.lemmas.Str.{IsCharBoundary-after_ascii, IsCharBoundary-start}
-use Rattle.uri_ops.specs.Dots.{has_slash, up_to_last_slash}
-use Rattle.uri_pct.specs.Models.ByteRuns.{IsLongestRun}
-use Rattle.uri_basic.specs.Models.Directories.{IsDirectoryOrNothing, after_segment, path_left}
+use Rattle.uri_basic.proofs.Common.{◌≡◌, ◌+◌, ◌<◌, ◌≤◌, ◌++◌, ap, append_assoc, arith, drop, eqb, false, get_or, inl, inr, length, not, refl, string_bytes, subst, sym, take, ◌∙◌, codes, take-append-drop, IsCharBoundary-after_ascii, IsCharBoundary-start, has_slash, up_to_last_slash, IsLongestRun, IsDirectoryOrNothing, after_segment, path_left}
 use Rattle.uri_basic.proofs.Places.{prefix-is-up-to-last-slash, replaced-suffix, rest-after-run-lacks-slash, run-is-segment}
 use Rattle.uri_basic.proofs.Segments.{directory-after-segment, path-left-after-segment}
 use Rattle.uri_basic.proofs.dots.push_directories.Goals as goal
@@ -44,8 +38,7 @@ loop-end-preserved c =
     let within : end < length path = omega arith in
     let found = run-is-segment path done end c.loop-end.invariant.run within in
     let lacks : has_slash segment ≡ false = ap has_slash c.range.ensures.value ∙ found.lacks in
-    let whole : piece ≡ segment ++ codes "/" =
-    c.range-in-loop-end.ensures.value ∙ found.piece
+    let whole : piece ≡ segment ++ codes "/" = c.range-in-loop-end.ensures.value ∙ found.piece
     ∙ ap (λ t. t ++ codes "/") (sym c.range.ensures.value) in
     let r = replaced-suffix text new (after_segment kept segment piece) start
     c.loop-end.invariant.room c.in_ok-push_segment.ensures in
@@ -67,8 +60,7 @@ loop-end-preserved c =
           c.find_byte-end-in-loop-end.result)
           c.as_bytes-in-loop-end.ensures.value c.find_byte-end-in-loop-end.ensures;
       place = inr (omega arith, ap (λ n. get_or path n 0) (omega arith) ∙ found.byte);
-      boundary = IsCharBoundary-after_ascii path end c.utf8.path within
-          (omega (arith, found.byte));
+      boundary = IsCharBoundary-after_ascii path end c.utf8.path within (omega (arith, found.byte));
     }
 
 pub returns-clause-last : goal.returns-clause-last
@@ -80,16 +72,14 @@ returns-clause-last c =
     (omega (arith, c.loop-end.invariant.run.from, c.loop-end.invariant.run.within))
     (rest-after-run-lacks-slash path done c.loop-end.end c.loop-end.invariant.run none)
     c.loop-end.invariant.place in
-    sym (take-append-drop done path)
-    ∙ ap (λ t. t ++ drop done path) up
+    sym (take-append-drop done path) ∙ ap (λ t. t ++ drop done path) up
     ∙ ap (λ t. up_to_last_slash path ++ t) (sym c.range_from.ensures.value)
 
 pub returns-clause-lacks : goal.returns-clause-lacks
 returns-clause-lacks c =
     let none : length c.args.path.now ≤ c.loop-end.end = omega arith in
-    ap has_slash c.range_from.ensures.value
-    ∙ rest-after-run-lacks-slash c.args.path.now c.loop-end.done c.loop-end.end
-    c.loop-end.invariant.run none
+    ap has_slash c.range_from.ensures.value ∙ rest-after-run-lacks-slash c.args.path.now
+    c.loop-end.done c.loop-end.end c.loop-end.invariant.run none
 
 pub returns-clause-left : goal.returns-clause-left
 returns-clause-left c =

@@ -1,7 +1,4 @@
-use Rattle.std.proofs.Common.{◌≡◌, ◌-◌, ◌<◌, ◌≤◌, ◌++◌, ◌⊎◌, ℕ, List, drop, get_or, length, string_bytes, take, not, eqb}
-use Rattle.std.specs.Str.{IsCharBoundary}
-use Rattle.uri_pct.specs.Models.ByteRuns.{IsLongestRun}
-use Rattle.uri_basic.specs.Models.Directories.{IsDirectoryOrNothing, path_left}
+use Rattle.uri_basic.proofs.Common.{◌≡◌, ◌-◌, ◌<◌, ◌≤◌, ◌++◌, ◌⊎◌, ℕ, List, drop, get_or, length, string_bytes, take, not, eqb, IsCharBoundary, IsLongestRun, IsDirectoryOrNothing, path_left}
 use Rattle.uri_basic.proofs.dots.push_directories.Given as goal
 
 abbrev pub invariant-loop-end : goal.invariant-loop-end

@@ -1,25 +1,16 @@
-use Rattle.std.proofs.Common.{◌≡◌, ◌++◌, ap, append_assoc, drop, length, string_bytes, subst, sym, ◌∙◌}
-use Rattle.std.specs.Prelude.{OnOk}
-use Rattle.std.specs.Str.{IsUtf8}
-use Rattle.std.proofs.lemmas.Str.{IsUtf8-string_bytes}
-use Rattle.uri_ops.specs.Dots.{up_to_last_slash}
-use Rattle.uri_ops.proofs.Builders.BuilderGrowth.{string_len-is-length-of-bytes}
-use Rattle.uri_basic.specs.Models.Directories.{path_left}
-use Rattle.uri_basic.specs.Removal.{remove_dot_segments}
+use Rattle.uri_basic.proofs.Common.{◌≡◌, ◌++◌, ap, append_assoc, drop, length, string_bytes, subst, sym, ◌∙◌, OnOk, IsUtf8, IsUtf8-string_bytes, up_to_last_slash, string_len-is-length-of-bytes, path_left, remove_dot_segments}
 use Rattle.uri_basic.proofs.Places.{appended-path-is-without-dots, whole-prefix-is-utf8}
 use Rattle.uri_basic.proofs.dots.push_merged.Goals as goal
 
 pub push_directories-requires-clause-prefix : goal.push_directories-requires-clause-prefix
-push_directories-requires-clause-prefix c =
-    whole-prefix-is-utf8 (string_bytes c.args.out.now) c.len-start.result
-    (c.len-start.ensures ∙ string_len-is-length-of-bytes c.args.out.now)
+push_directories-requires-clause-prefix c = whole-prefix-is-utf8 (string_bytes c.args.out.now)
+    c.len-start.result (c.len-start.ensures ∙ string_len-is-length-of-bytes c.args.out.now)
     (IsUtf8-string_bytes c.args.out.now)
 
 pub push_directories-requires-2-clause-prefix : goal.push_directories-requires-2-clause-prefix
-push_directories-requires-2-clause-prefix c =
-    subst IsUtf8 (sym c.in_ok-_base_segment.ensures.before)
-    (whole-prefix-is-utf8 (string_bytes c.args.out.now) c.len-start.result
-    (c.len-start.ensures ∙ string_len-is-length-of-bytes c.args.out.now)
+push_directories-requires-2-clause-prefix c = subst IsUtf8
+    (sym c.in_ok-_base_segment.ensures.before) (whole-prefix-is-utf8 (string_bytes c.args.out.now)
+    c.len-start.result (c.len-start.ensures ∙ string_len-is-length-of-bytes c.args.out.now)
     (IsUtf8-string_bytes c.args.out.now))
 
 pub push_segment-requires-clause-prefix : goal.push_segment-requires-clause-prefix

@@ -1,22 +1,14 @@
-use Rattle.std.proofs.Common.{◌≡◌, ◌++◌, ap, length, string_bytes, subst, sym, ◌∙◌}
-use Rattle.std.specs.Prelude.{OnOk}
-use Rattle.std.specs.Str.{IsUtf8}
-use Rattle.std.proofs.lemmas.Str.{IsUtf8-string_bytes}
-use Rattle.uri_ops.specs.Dots.{up_to_last_slash}
-use Rattle.uri_ops.proofs.Builders.BuilderGrowth.{string_len-is-length-of-bytes}
-use Rattle.uri_basic.specs.Removal.{remove_dot_segments}
+use Rattle.uri_basic.proofs.Common.{◌≡◌, ◌++◌, ap, length, string_bytes, subst, sym, ◌∙◌, OnOk, IsUtf8, IsUtf8-string_bytes, up_to_last_slash, string_len-is-length-of-bytes, remove_dot_segments}
 use Rattle.uri_basic.proofs.Places.{appended-path-is-without-dots, whole-prefix-is-utf8}
 use Rattle.uri_basic.proofs.dots.push_without_dot_segments.Goals as goal
 
 pub push_directories-requires-clause-prefix : goal.push_directories-requires-clause-prefix
-push_directories-requires-clause-prefix c =
-    whole-prefix-is-utf8 (string_bytes c.args.out.now) c.len-start.result
-    (c.len-start.ensures ∙ string_len-is-length-of-bytes c.args.out.now)
+push_directories-requires-clause-prefix c = whole-prefix-is-utf8 (string_bytes c.args.out.now)
+    c.len-start.result (c.len-start.ensures ∙ string_len-is-length-of-bytes c.args.out.now)
     (IsUtf8-string_bytes c.args.out.now)
 
 pub push_segment-requires-clause-prefix : goal.push_segment-requires-clause-prefix
-push_segment-requires-clause-prefix c =
-    subst IsUtf8 (sym c.in_ok-last.ensures.before)
+push_segment-requires-clause-prefix c = subst IsUtf8 (sym c.in_ok-last.ensures.before)
     (whole-prefix-is-utf8 (string_bytes c.args.out.now) c.len-start.result
     (c.len-start.ensures ∙ string_len-is-length-of-bytes c.args.out.now)
     (IsUtf8-string_bytes c.args.out.now))
@@ -32,5 +24,4 @@ returns c =
     (appended-path-is-without-dots old (string_bytes c.push_directories.new.out)
     (up_to_last_slash path) c.in_ok-last.last.now start at c.in_ok-last.ensures.before
     c.in_ok-last.ensures.kept c.in_ok-last.ensures.lacks c.in_ok-last.ensures.left
-    ∙ ap (λ t. old ++ remove_dot_segments t) (sym c.in_ok-last.ensures.last))
-    c.push_segment.ensures
+    ∙ ap (λ t. old ++ remove_dot_segments t) (sym c.in_ok-last.ensures.last)) c.push_segment.ensures

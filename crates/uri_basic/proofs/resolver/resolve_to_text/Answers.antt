@@ -1,13 +1,7 @@
-use Rattle.std.proofs.Common.{◌≡◌, string_bytes, subst, ◌∙◌}
-use Rattle.std.specs.Prelude.{IfErr, IfOk, Ok}
+use Rattle.uri_basic.proofs.Common.{◌≡◌, string_bytes, subst, ◌∙◌, IfErr, IfOk, Ok, components, IsTextOf, basic_resolution_of_texts, target, ArePackedPositionsOf, packed, positions_of}
 use Rattle.std.proofs.lemmas.Result.{IfOk-weaker}
-use Rattle.uri_parts.specs.Components.{components}
 use Rattle.uri_parts.specs.CoreTexts.{core_text}
-use Rattle.uri_parts.specs.Grammar.{IsTextOf}
 use Rattle.uri_basic.specs.Resolving.{IsBasicError}
-use Rattle.uri_basic.specs.Target.{basic_resolution_of_texts, target}
-use Rattle.uri_parts.specs.PackedPositions.{ArePackedPositionsOf, packed}
-use Rattle.uri_parts.specs.Positions.{positions_of}
 use Rattle.uri_basic.proofs.TargetPlaces.{basic-result-is-at, if-both-ok}
 use Rattle.uri_basic.proofs.Targets.{basic-result-is-of-kind}
 use Rattle.uri_basic.proofs.resolver.resolve_to_text.Goals as goal

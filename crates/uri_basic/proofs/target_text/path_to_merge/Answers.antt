@@ -1,6 +1,4 @@
-use Rattle.std.proofs.Common.{◌≡◌, ap, false, rules, sym, ◌∙◌}
-use Rattle.uri_ops.specs.Dots.{is_empty}
-use Rattle.uri_ops.specs.Resolving.{components_of}
+use Rattle.uri_basic.proofs.Common.{◌≡◌, ap, false, rules, sym, ◌∙◌, is_empty, components_of}
 use Rattle.uri_ops.proofs.Targeting.JoinedPieces.{zero-length-is-empty}
 use Rattle.uri_basic.proofs.target_text.path_to_merge.Goals as goal
 

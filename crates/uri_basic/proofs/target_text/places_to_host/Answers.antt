@@ -1,5 +1,4 @@
-use Rattle.std.proofs.Common.{◌≡◌, ◌≤◌, false, length, refl, rules, subst, sym, true, ◌∙◌}
-use Rattle.uri_ops.specs.Resolving.{components_of}
+use Rattle.uri_basic.proofs.Common.{◌≡◌, ◌≤◌, false, length, refl, rules, subst, sym, true, ◌∙◌, components_of}
 use Rattle.uri_basic.proofs.TargetPlaces.{host-is-within-text, places-of-authority, places-of-base}
 use Rattle.uri_basic.proofs.target_text.places_to_host.Goals as goal
 
@@ -18,8 +17,7 @@ host_after_scheme-start-requires-clause-start c =
     (host-is-within-text c.args.reference.now.text.now c.packed_positions-own.result
     c.args.reference.now.host c.packed_positions-own.ensures).0
 
-pub host_after_scheme-start-requires-clause-end
-    : goal.host_after_scheme-start-requires-clause-end
+pub host_after_scheme-start-requires-clause-end : goal.host_after_scheme-start-requires-clause-end
 host_after_scheme-start-requires-clause-end c =
     subst (λ t. c.packed_positions-own.result.host_end ≤ length t)
     (sym c.as_str-text.ensures.text)

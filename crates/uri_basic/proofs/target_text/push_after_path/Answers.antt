@@ -1,6 +1,4 @@
-use Rattle.std.proofs.Common.{◌≡◌, ap, false, rules, sym, true, ◌∙◌}
-use Rattle.uri_ops.specs.Dots.{is_empty}
-use Rattle.uri_ops.specs.Resolving.{components_of}
+use Rattle.uri_basic.proofs.Common.{◌≡◌, ap, false, rules, sym, true, ◌∙◌, is_empty, components_of}
 use Rattle.uri_ops.proofs.Targeting.JoinedPieces.{zero-length-is-empty}
 use Rattle.uri_basic.proofs.TargetPlaces.{fragment-of-target, query-of-target-with-path}
 use Rattle.uri_basic.proofs.target_text.push_after_path.Goals as goal

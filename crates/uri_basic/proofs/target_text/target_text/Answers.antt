@@ -1,13 +1,6 @@
-use Rattle.std.proofs.Common.{◌≡◌, ◌-◌, ◌++◌, [], ap, arith, length, refl, rules, string_bytes, sym, ◌∙◌}
-use Rattle.std.specs.Prelude.{codes}
-use Rattle.uri_parts.specs.Components.{components, marked}
+use Rattle.uri_basic.proofs.Common.{◌≡◌, ◌-◌, ◌++◌, [], ap, arith, length, refl, rules, string_bytes, sym, ◌∙◌, codes, components, marked, packed, positions_of, components_of, string_len-is-length-of-bytes, target}
 use Rattle.uri_parts.specs.CoreTexts.{core_text}
-use Rattle.uri_parts.specs.PackedPositions.{packed}
-use Rattle.uri_parts.specs.Positions.{positions_of}
 use Rattle.uri_ops.specs.Models.Places.{before_path}
-use Rattle.uri_ops.specs.Resolving.{components_of}
-use Rattle.uri_ops.proofs.Builders.BuilderGrowth.{string_len-is-length-of-bytes}
-use Rattle.uri_basic.specs.Target.{target}
 use Rattle.uri_basic.proofs.TargetPlaces.{fragment-fits-in-target, fragment-of-target, written-target-is-at}
 use Rattle.uri_basic.proofs.target_text.target_text.Goals as goal
 
@@ -19,8 +12,7 @@ overflow_sub-query_end g c =
     c.len.ensures ∙ string_len-is-length-of-bytes c.push_after_path.new.out in
     let fits = fragment-fits-in-target (target b r) (string_bytes c.push_to_path_end.new.out)
     (string_bytes c.push_after_path.new.out) c.fragment_with_delimiter.result.now
-    c.in_ok-push_after_path.ensures
-    (c.fragment_with_delimiter.ensures
+    c.in_ok-push_after_path.ensures (c.fragment_with_delimiter.ensures
     ∙ ap (λ f. marked (codes "#") f []) (sym (fragment-of-target b r))) in
     omega (arith, long, fits)
 
@@ -35,13 +27,12 @@ returns-clause-positions g c =
     (string_bytes c.push_to_path_end.new.out) (string_bytes c.push_after_path.new.out) last
     c.places_to_host-places.ensures refl
     (c.in_ok-path_start.ensures.text ∙ ap (λ o. o ++ (before_path t ++ t.path)) empty)
-    c.in_ok-push_after_path.ensures
-    (c.fragment_with_delimiter.ensures
-    ∙ ap (λ f. marked (codes "#") f []) (sym (fragment-of-target b r)))
-    refl refl refl (c.in_ok-path_start.ensures.start empty)
-    (c.len-path_end.ensures ∙ string_len-is-length-of-bytes c.push_to_path_end.new.out)
-    (ap (λ n. n - length last)
+    c.in_ok-push_after_path.ensures (c.fragment_with_delimiter.ensures
+    ∙ ap (λ f. marked (codes "#") f []) (sym (fragment-of-target b r))) refl refl refl
+    (c.in_ok-path_start.ensures.start empty)
+    (c.len-path_end.ensures ∙ string_len-is-length-of-bytes c.push_to_path_end.new.out) (ap
+    (λ n. n - length last)
     (c.len.ensures ∙ string_len-is-length-of-bytes c.push_after_path.new.out))
-    ∙ ap (λ b. packed (positions_of (target b r))) c.of_core-base.ensures.components
-    ∙ ap (λ r. packed (positions_of (target (components (core_text c.args.base)) r)))
+    ∙ ap (λ b. packed (positions_of (target b r))) c.of_core-base.ensures.components ∙ ap
+    (λ r. packed (positions_of (target (components (core_text c.args.base)) r)))
     c.of_core-reference.ensures.components

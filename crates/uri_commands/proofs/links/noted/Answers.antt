@@ -1,10 +1,4 @@
-use Rattle.std.proofs.Common.{rules, ◌≡◌, ◌∷◌, ◌∙◌, ap, map}
-use Rattle.fluent_uri.specs.Grammar.{uri}
-use Rattle.fluent_uri.specs.RuleSets.{rules_of_set}
-use Rattle.fluent_uri.specs.Uris.{uri_ref_text, uri_text}
-use Rattle.uri_commands.specs.Commands.{Links, texts}
-use Rattle.uri_commands.specs.Refusals.{IsErrorOfCommand}
-use Rattle.uri_commands.specs.declared.refusal.CommandError.TheVariants.{Base}
+use Rattle.uri_commands.proofs.Common.{rules, ◌≡◌, ◌∷◌, ◌∙◌, ap, map, uri, rules_of_set, uri_ref_text, uri_text, Links, texts, IsErrorOfCommand, Base}
 use Rattle.uri_commands.proofs.LinkLines.{outcome_lines-are-link_lines}
 use Rattle.uri_commands.proofs.Refusals.{mapped-parse-error-is-of-text}
 use Rattle.uri_commands.proofs.links.noted.Goals as goal

@@ -1,9 +1,5 @@
-use Rattle.std.proofs.Common.{rules, arith, ◌≡◌, ◌∷◌, ◌++◌, [], false, sym, subst}
+use Rattle.uri_commands.proofs.Common.{rules, arith, ◌≡◌, ◌∷◌, ◌++◌, [], false, sym, subst, uri_ref, uri_ref_text, Links, texts, IsErrorOfCommand}
 use Rattle.std.proofs.lemmas.Grind.{common_steps}
-use Rattle.fluent_uri.specs.Grammar.{uri_ref}
-use Rattle.fluent_uri.specs.Uris.{uri_ref_text}
-use Rattle.uri_commands.specs.Commands.{Links, texts}
-use Rattle.uri_commands.specs.Refusals.{IsErrorOfCommand}
 use Rattle.uri_commands.proofs.LinkWords.{one-more-reference-is-kept, one-more-reference-is-of-kind, first-error-is-of-this-word}
 use Rattle.uri_commands.proofs.links.parse_references.Goals as goal
 use Rattle.uri_commands.proofs.links.parse_references.Goals.{then-is_refused, else-is_refused}
@@ -14,15 +10,13 @@ returns-in_err-reference-clause-refused c =
     λ set base is.
     let why = c.in_err-reference.ensures.refused in
     let first = first-error-is-of-this-word uri_ref c.args.reference.now c.args.others.now
-    c.loop-word.word-index
-    c.word-item.result _ c.loop-word-test.true c.word-item.is c.as_str.ensures.value why.0
-    c.loop-word.invariant.of_kind why.2 in
-    IfErr-of-only-error (IsErrorOfCommand
-    (Links set base c.args.reference.now (texts c.args.others.now)))
+    c.loop-word.word-index c.word-item.result _ c.loop-word-test.true c.word-item.is
+    c.as_str.ensures.value why.0 c.loop-word.invariant.of_kind why.2 in
+    IfErr-of-only-error
+    (IsErrorOfCommand (Links set base c.args.reference.now (texts c.args.others.now)))
     c.from_residual-in_err-reference.result c.in_err-reference.field-0.0
-    c.from_residual-in_err-reference.ensures.1
-    (subst (IsErrorOfCommand (Links set base c.args.reference.now (texts c.args.others.now)))
-    (sym why.1)
+    c.from_residual-in_err-reference.ensures.1 (subst
+    (IsErrorOfCommand (Links set base c.args.reference.now (texts c.args.others.now))) (sym why.1)
     (is, first))
 
 pub loop-word-preserved : goal.loop-word-preserved

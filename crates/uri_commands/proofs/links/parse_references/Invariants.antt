@@ -1,7 +1,4 @@
-use Rattle.std.proofs.Common.{◌≡◌, ◌∷◌, true, false, map, take}
-use Rattle.fluent_uri.specs.Grammar.{uri_ref}
-use Rattle.fluent_uri.specs.Uris.{uri_ref_text}
-use Rattle.uri_commands.specs.Commands.{are_of_kind, texts}
+use Rattle.uri_commands.proofs.Common.{◌≡◌, ◌∷◌, true, false, map, take, uri_ref, uri_ref_text, are_of_kind, texts}
 use Rattle.uri_commands.proofs.links.parse_references.Given as goal
 
 -- the words so far are parsed, and kept if no allocation failed

@@ -1,7 +1,6 @@
-use Rattle.std.proofs.Common.{subst}
+use Rattle.uri_commands.proofs.Common.{subst, rules_of_set}
 use Rattle.fluent_uri.specs.Normalizers.{HasNormalText}
 use Rattle.fluent_uri.specs.References.{reference_text}
-use Rattle.fluent_uri.specs.RuleSets.{rules_of_set}
 use Rattle.uri_commands.proofs.NormalForms.{normal_form_is}
 use Rattle.uri_commands.proofs.normal.normal_form.Goals as goal
 

@@ -1,12 +1,10 @@
-use Rattle.std.proofs.Common.{rules}
-use Rattle.uri_commands.specs.Commands.{texts}
+use Rattle.uri_commands.proofs.Common.{rules, texts}
 use Rattle.uri_commands.proofs.Outputs.{failed-output-is-error-of-links}
 use Rattle.uri_commands.proofs.run.links.Goals as goal
 
 pub returns-clause-refused : goal.returns-clause-refused
-returns-clause-refused g c =
-    failed-output-is-error-of-links c.args.rules c.args.base.now c.args.reference.now
-    (texts c.args.others.now) c.written.result c.in_ok-noted.ensures.base
+returns-clause-refused g c = failed-output-is-error-of-links c.args.rules c.args.base.now
+    c.args.reference.now (texts c.args.others.now) c.written.result c.in_ok-noted.ensures.base
     c.in_ok-noted.ensures.references c.written.ensures.failed
 
 pub returns-in_err-noted-clause-keeps : goal.returns-in_err-noted-clause-keeps

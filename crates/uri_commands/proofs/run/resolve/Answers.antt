@@ -6,8 +6,7 @@ pub returns-clause-refused : goal.returns-clause-refused
 returns-clause-refused g c =
     let target = c.in_ok-target.ensures in
     failed-output-is-error-of-resolve c.args.kind c.args.base.now c.args.reference.now _
-    c.print_line.result
-    target.base target.reference target.target c.print_line.ensures.failed
+    c.print_line.result target.base target.reference target.target c.print_line.ensures.failed
 
 pub returns-in_err-target-clause-keeps : goal.returns-in_err-target-clause-keeps
 returns-in_err-target-clause-keeps g c = search rules

@@ -17,8 +17,7 @@ pub returns-in-Ok-clause-refused : goal.returns-in-Ok-clause-refused
 returns-in-Ok-clause-refused g c =
     λ command is none. absurd (none-some _ (
     sym (same-words-same-output (contract_command c.in-Some.command) command
-    (sym c.in-Some.ensures ∙ is) ∙ none)
-    ∙ c.in-Ok.ensures.succeeded.1
+    (sym c.in-Some.ensures ∙ is) ∙ none) ∙ c.in-Ok.ensures.succeeded.1
     ))
 
 pub returns-in-Ok-clause-succeeded : goal.returns-in-Ok-clause-succeeded

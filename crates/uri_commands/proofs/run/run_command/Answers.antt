@@ -1,16 +1,11 @@
-use Rattle.std.proofs.Common.{rules, ◌≡◌, None, OnOk, IfErr, sym, subst}
-use Rattle.std.specs.Io.KnownBytes.{Keeps}
+use Rattle.uri_commands.proofs.Common.{rules, ◌≡◌, None, OnOk, IfErr, sym, subst, Keeps, Prints, output_of, IsErrorOfCommand}
 use Rattle.uri_commands.specs.Asked.{contract_command}
-use Rattle.uri_commands.specs.Commands.{Prints, output_of}
-use Rattle.uri_commands.specs.Refusals.{IsErrorOfCommand}
 use Rattle.uri_commands.proofs.run.run_command.Goals as goal
 
 pub returns-in-Links-clause-succeeded : goal.returns-in-Links-clause-succeeded
-returns-in-Links-clause-succeeded g c =
-    subst (λ k. OnOk c.links.result
-    (Prints (g.O.Write.contents c.args.out.now.writer) (g.O.Write.contents c.links.new.out.writer)
-    (contract_command k)))
-    (sym c.in-Links.is) c.links.ensures.succeeded
+returns-in-Links-clause-succeeded g c = subst (λ k. OnOk c.links.result (Prints
+    (g.O.Write.contents c.args.out.now.writer) (g.O.Write.contents c.links.new.out.writer)
+    (contract_command k))) (sym c.in-Links.is) c.links.ensures.succeeded
 
 pub returns-in-Links-clause-refused : goal.returns-in-Links-clause-refused
 returns-in-Links-clause-refused g c =
@@ -18,8 +13,7 @@ returns-in-Links-clause-refused g c =
     c.links.ensures.refused
 
 pub returns-in-Links-clause-keeps : goal.returns-in-Links-clause-keeps
-returns-in-Links-clause-keeps g c =
-    subst (λ k. output_of (contract_command k) ≡ None
+returns-in-Links-clause-keeps g c = subst (λ k. output_of (contract_command k) ≡ None
     → Keeps (g.O.Write.contents c.args.out.now.writer) (g.O.Write.contents c.links.new.out.writer))
     (sym c.in-Links.is) c.links.ensures.keeps
 

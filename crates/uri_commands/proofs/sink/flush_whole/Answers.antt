@@ -1,5 +1,4 @@
-use Rattle.std.proofs.Common.{arith}
-use Rattle.std.proofs.KnownBytes.{Keeps-trans}
+use Rattle.uri_commands.proofs.Common.{arith, Keeps-trans}
 use Rattle.uri_commands.proofs.Calls.{any-error-after-interrupted-flush}
 use Rattle.uri_commands.proofs.sink.flush_whole.Goals as goal
 
@@ -8,6 +7,5 @@ returns-in_default-clause-keeps g c =
     Keeps-trans _ _ _ c.loop-tries.invariant.0 c.flush_once.ensures.bytes
 
 pub returns-clause-cause : goal.returns-clause-cause
-returns-clause-cause g c =
-    any-error-after-interrupted-flush _ _
+returns-clause-cause g c = any-error-after-interrupted-flush _ _
     (c.loop-tries.invariant.1 (omega (arith, c.loop-tries-test.false)))

@@ -1,8 +1,4 @@
-use Rattle.std.proofs.Common.{◌≡◌, ◌++◌, ◌-◌, ◌∙◌, ap, ℕ, List, length, subst, take, drop, take-append-drop}
-use Rattle.std.proofs.KnownBytes.{Appends-trans}
-use Rattle.std.proofs.lemmas.List.{take_rest}
-use Rattle.std.specs.Io.KnownBytes.{Appends}
-use Rattle.uri_commands.specs.Prefixes.{AppendsPrefix}
+use Rattle.uri_commands.proofs.Common.{◌≡◌, ◌++◌, ◌-◌, ◌∙◌, ap, ℕ, List, length, subst, take, drop, take-append-drop, Appends-trans, take_rest, Appends, AppendsPrefix}
 use Rattle.uri_commands.proofs.Appended.{AppendsPrefix-after-Appends, AppendsPrefix-of-kept, on-ok}
 use Rattle.uri_commands.proofs.sink.write_rest.Goals as goal
 
@@ -34,9 +30,8 @@ returns-clause-whole g c =
 pub returns-clause-prefix : goal.returns-clause-prefix
 returns-clause-prefix g c = λ held first.
     subst (AppendsPrefix held (g.W.Write.contents c.write_whole.new.writer))
-    (all c.in_ok-taken.taken c.args.bytes.now)
-    (AppendsPrefix-after-Appends held (g.W.Write.contents c.args.writer.now)
-    (g.W.Write.contents c.write_whole.new.writer) (take c.in_ok-taken.taken c.args.bytes.now)
-    (rest c.in_ok-taken.taken c.args.bytes.now)
+    (all c.in_ok-taken.taken c.args.bytes.now) (AppendsPrefix-after-Appends held
+    (g.W.Write.contents c.args.writer.now) (g.W.Write.contents c.write_whole.new.writer)
+    (take c.in_ok-taken.taken c.args.bytes.now) (rest c.in_ok-taken.taken c.args.bytes.now)
     (c.in_ok-taken.ensures.bytes held (g.W.Write.contents c.args.writer.now) first)
     c.write_whole.ensures.prefix)

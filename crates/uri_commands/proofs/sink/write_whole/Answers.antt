@@ -1,5 +1,4 @@
-use Rattle.std.proofs.Common.{◌++◌, ap, sym, ◌∙◌}
-use Rattle.std.proofs.lemmas.List.{take_rest}
+use Rattle.uri_commands.proofs.Common.{◌++◌, ap, sym, ◌∙◌, take_rest}
 use Rattle.uri_commands.proofs.Prefixes.{AppendsPrefix-of-appended, AppendsPrefix-of-appended-then-kept, Appends-of-one-more-write}
 use Rattle.uri_commands.proofs.sink.write_whole.Goals as goal
 

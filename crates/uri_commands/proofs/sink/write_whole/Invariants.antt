@@ -1,5 +1,4 @@
-use Rattle.std.proofs.Common.{◌≡◌, ℕ, List, ◌++◌, length}
-use Rattle.std.specs.Io.KnownBytes.{Appends}
+use Rattle.uri_commands.proofs.Common.{◌≡◌, ℕ, List, ◌++◌, length, Appends}
 use Rattle.uri_commands.proofs.sink.write_whole.Given as goal
 
 -- what was taken so far, and what is left

@@ -1,14 +1,9 @@
-use Rattle.std.proofs.Common.{rules, sym, subst}
-use Rattle.fluent_uri.specs.Grammar.{IsOfKind, uri, uri_ref, iri, iri_ref}
+use Rattle.uri_commands.proofs.Common.{rules, sym, subst, IsOfKind, uri, uri_ref, iri, iri_ref, Resolve, kind_of_base, kind_of_references, IsErrorOf, IsErrorOfCommand, Base, Reference}
 use Rattle.uri_commands.proofs.Refusals.{mapped-parse-error-is-of-text, mapped-ok-is-of-kind}
-use Rattle.uri_commands.specs.Commands.{Resolve, kind_of_base, kind_of_references}
-use Rattle.uri_commands.specs.Refusals.{IsErrorOf, IsErrorOfCommand}
-use Rattle.uri_commands.specs.declared.refusal.CommandError.TheVariants.{Base, Reference}
 use Rattle.uri_commands.proofs.target.target.Goals as goal
 
 pub returns-in_err-base-in-Uri-clause-refused : goal.returns-in_err-base-in-Uri-clause-refused
-returns-in_err-base-in-Uri-clause-refused c =
-    mapped-parse-error-is-of-text
+returns-in_err-base-in-Uri-clause-refused c = mapped-parse-error-is-of-text
     (IsErrorOfCommand (Resolve c.args.kind c.args.base.now c.args.reference.now)) Base uri
     c.args.base.now c.parse.result c.map_err.result c.from_residual.result _
     (λ e is. subst (λ k. IsErrorOf (kind_of_base k) c.args.base.now e) (sym c.in-Uri.is) is)
@@ -30,8 +25,7 @@ returns-in_err-reference-in-Uri-clause-refused c =
     c.in_err-reference-in-Uri.was c.from_residual-in_err-reference-in-Uri.ensures.1
 
 pub returns-in_err-base-in-Iri-clause-refused : goal.returns-in_err-base-in-Iri-clause-refused
-returns-in_err-base-in-Iri-clause-refused c =
-    mapped-parse-error-is-of-text
+returns-in_err-base-in-Iri-clause-refused c = mapped-parse-error-is-of-text
     (IsErrorOfCommand (Resolve c.args.kind c.args.base.now c.args.reference.now)) Base iri
     c.args.base.now c.parse-in-Iri.result c.map_err-in-Iri.result
     c.from_residual-in_err-base-in-Iri.result _

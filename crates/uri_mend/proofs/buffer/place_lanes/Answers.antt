@@ -1,7 +1,4 @@
-use Rattle.std.proofs.Common.{◌++◌, take, drop, ap, ◌∙◌, arith}
-use Rattle.std.specs.Simd.Lanes.{chunk}
-use Rattle.std.proofs.lemmas.List.{take-take}
-use Rattle.std.proofs.lemmas.Simd.{length-chunk}
+use Rattle.uri_mend.proofs.Common.{◌++◌, take, drop, ap, ◌∙◌, arith, chunk, take-take, length-chunk}
 use Rattle.uri_mend.proofs.Buffers.{prefix-of-placed-block}
 use Rattle.uri_mend.proofs.buffer.place_lanes.Goals as goal
 

@@ -11,9 +11,8 @@ returns-then-len-clause-text c =
     let last = take 16 (drop (end - 16) bytes) in
     let first : end - start - 16 ≡ end - 16 - start = omega arith in
     let both : end - 16 + 16 - start ≡ end - start = omega arith in
-    c.place_lanes-then-len.ensures.text
-    ∙ ap (λ t. t ++ last) c.place_lanes-last.ensures.text
-    ∙ append_assoc before (take (end - start - 16) (drop start bytes)) last
-    ∙ ap (λ t. before ++ t) (ap (λ n. take n (drop start bytes) ++ last) first
+    c.place_lanes-then-len.ensures.text ∙ ap (λ t. t ++ last) c.place_lanes-last.ensures.text
+    ∙ append_assoc before (take (end - start - 16) (drop start bytes)) last ∙ ap (λ t. before ++ t)
+    (ap (λ n. take n (drop start bytes) ++ last) first
     ∙ run-goes-on bytes start (end - 16) 16 (omega arith)
     ∙ ap (λ n. take n (drop start bytes)) both)

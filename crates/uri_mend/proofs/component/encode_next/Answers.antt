@@ -1,15 +1,11 @@
-use Rattle.std.proofs.Common.{◌<◌, get_or, rules, subst, arith}
-use Rattle.std.proofs.lemmas.Str.{IsCharBoundary-after_ascii}
-use Rattle.uri_pct.specs.Tables.{set_of}
-use Rattle.uri_pct.proofs.TableSets.Percent.{lacks_percent}
+use Rattle.uri_mend.proofs.Common.{◌<◌, get_or, rules, subst, arith, IsCharBoundary-after_ascii, set_of, lacks_percent}
 use Rattle.uri_mend.proofs.EncodedRuns.{ascii-after-scan-is-encoded}
 use Rattle.uri_mend.proofs.component.encode_next.Goals as goal
 
 pub returns-clause-progress : goal.returns-clause-progress
 returns-clause-progress c =
-    let small : get_or c.args.text.now c.args.from.end 0 < 128 =
-    subst (λ t. get_or t c.args.from.end 0 < 128) c.as_bytes.ensures.value
-    (omega arith) in
+    let small : get_or c.args.text.now c.args.from.end 0
+    < 128 = subst (λ t. get_or t c.args.from.end 0 < 128) c.as_bytes.ensures.value (omega arith) in
     record {
       boundary = IsCharBoundary-after_ascii c.args.text.now c.args.from.end c.utf8.text
           c.requires.inside small;
@@ -19,9 +15,8 @@ returns-clause-progress c =
 
 pub returns-clause-encoded : goal.returns-clause-encoded
 returns-clause-encoded c =
-    let small : get_or c.args.text.now c.args.from.end 0 < 128 =
-    subst (λ t. get_or t c.args.from.end 0 < 128) c.as_bytes.ensures.value
-    (omega arith) in
+    let small : get_or c.args.text.now c.args.from.end 0
+    < 128 = subst (λ t. get_or t c.args.from.end 0 < 128) c.as_bytes.ensures.value (omega arith) in
     ascii-after-scan-is-encoded (set_of c.args.table.now) (lacks_percent c.args.table.now)
     c.requires.octets c.args.text.now c.utf8.text c.args.from.end
     c.requires.progress.boundary c.requires.inside small c.requires.stop

@@ -1,7 +1,4 @@
-use Rattle.std.proofs.Common.{◌-◌, get_or, ap, sym, ◌∙◌, arith}
-use Rattle.uri_pct.specs.Tables.{set_of}
-use Rattle.uri_pct.proofs.TableSets.Masks.{has_bit_past_ascii_is_false}
-use Rattle.uri_pct.proofs.TableSets.Percent.{lacks_percent}
+use Rattle.uri_mend.proofs.Common.{◌-◌, get_or, ap, sym, ◌∙◌, arith, set_of, has_bit_past_ascii_is_false, lacks_percent}
 use Rattle.uri_mend.proofs.EncodedRuns.{empty-run-is-lacked, run-before-percent-is-lacked, run-is-lacked}
 use Rattle.uri_mend.proofs.component.lacked_end.Goals as goal
 

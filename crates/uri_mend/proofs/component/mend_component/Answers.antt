@@ -1,8 +1,4 @@
-use Rattle.std.proofs.Common.{take, sym, ◌∙◌}
-use Rattle.std.proofs.lemmas.Bool.{and_parts}
-use Rattle.uri_pct.specs.Tables.{set_of}
-use Rattle.uri_pct.proofs.TableSets.Percent.{lacks_percent}
-use Rattle.uri_mend.specs.Progress.{lacks_marks}
+use Rattle.uri_mend.proofs.Common.{take, sym, ◌∙◌, and_parts, set_of, lacks_percent, lacks_marks}
 use Rattle.uri_mend.proofs.ComponentProgress.{all-is-mended-at-end, nothing-is-scanned-after-scan, octets-go-on, scan-goes-on}
 use Rattle.uri_mend.proofs.component.mend_component.Goals as goal
 

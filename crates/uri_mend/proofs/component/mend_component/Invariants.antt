@@ -1,8 +1,4 @@
-use Rattle.std.proofs.Common.{◌≡◌, ◌-◌, ◌++◌, drop, length}
-use Rattle.uri_pct.specs.Tables.{set_of}
-use Rattle.uri_parts.specs.Components.{before_any, from_any}
-use Rattle.uri_mend.specs.MendedParts.{mended}
-use Rattle.uri_mend.specs.Progress.{IsProgress, mended_so_far}
+use Rattle.uri_mend.proofs.Common.{◌≡◌, ◌-◌, ◌++◌, drop, length, set_of, before_any, from_any, mended, IsProgress, mended_so_far}
 use Rattle.uri_mend.proofs.component.mend_component.Given as goal
 
 abbrev pub invariant-loop-p : goal.invariant-loop-p

@@ -1,11 +1,4 @@
-use Rattle.std.proofs.Common.{◌≡◌, ◌++◌, ◌-◌, sym, ap, ◌∙◌, length, take, arith}
-use Rattle.std.specs.Prelude.{slice_range}
-use Rattle.std.proofs.lemmas.Bool.{not-true, not-false}
-use Rattle.std.proofs.lemmas.Str.{IsCharBoundary-at_seam, IsCharBoundary-start}
-use Rattle.uri_parts.specs.Components.{after_authority, after_scheme, components}
-use Rattle.uri_ops.specs.Models.Places.{before_path}
-use Rattle.uri_mend.specs.Mending.{link_components}
-use Rattle.uri_mend.specs.Tails.{mended_tail, mended_path, query_of_tail}
+use Rattle.uri_mend.proofs.Common.{◌≡◌, ◌++◌, ◌-◌, sym, ap, ◌∙◌, length, take, arith, slice_range, not-true, not-false, IsCharBoundary-at_seam, IsCharBoundary-start, after_authority, after_scheme, components, before_path, link_components, mended_tail, mended_path, query_of_tail}
 use Rattle.uri_mend.proofs.LinkPieces.{prefix-with-false-scheme, prefix-without-false-scheme, text-with-false-scheme-is-mended, text-is-cut-before-path, text-without-false-scheme-is-mended, boundary-before-piece, piece-before-cut, piece-after-cut-is-no-longer, path-with-false-scheme, path-without-false-scheme, query-with-false-scheme, query-without-false-scheme}
 use Rattle.uri_mend.proofs.link.cut_link.Goals as goal
 
@@ -17,12 +10,10 @@ pub returns-in_default-clause-pieces : goal.returns-in_default-clause-pieces
 returns-in_default-clause-pieces c =
     text-with-false-scheme-is-mended c.args.text.now (not-false _ (sym c.in_default.ensures.some))
 
-tail-of-text : (c : goal.After-after_authority-tail)
-    → c.args.text.now ≡ before_path (components c.args.text.now)
-    ++ c.after_authority-tail.result.now
-tail-of-text c =
-    text-is-cut-before-path c.args.text.now
-    ∙ ap (λ t. before_path (components c.args.text.now) ++ t)
+tail-of-text : (c : goal.After-after_authority-tail) → c.args.text.now
+    ≡ before_path (components c.args.text.now) ++ c.after_authority-tail.result.now
+tail-of-text c = text-is-cut-before-path c.args.text.now ∙ ap
+    (λ t. before_path (components c.args.text.now) ++ t)
     (sym (c.after_authority-tail.ensures ∙ ap after_authority c.in-Some.ensures.rest))
 
 pub overflow_sub-text : goal.overflow_sub-text
@@ -40,9 +31,8 @@ prefix-of-text c =
     let text = c.args.text.now in
     let tail = c.after_authority-tail.result.now in
     let prefix = before_path (components text) in
-    let whole : text ≡ prefix ++ tail = text-is-cut-before-path text
-    ∙ ap (λ t. prefix ++ t) (sym (c.after_authority-tail.ensures
-    ∙ ap after_authority c.in-Some.ensures.rest)) in
+    let whole : text ≡ prefix ++ tail = text-is-cut-before-path text ∙ ap (λ t. prefix ++ t)
+    (sym (c.after_authority-tail.ensures ∙ ap after_authority c.in-Some.ensures.rest)) in
     let cut : slice_range text 0 (length text - length tail)
     ≡ take (length text - length tail) text = grind arith in
     c.range.ensures.value ∙ cut ∙ piece-before-cut text prefix tail whole
@@ -75,18 +65,16 @@ returns-clause-path c = λ kind sets.
 
 pub returns-clause-query : goal.returns-clause-query
 returns-clause-query c =
-    query-without-false-scheme c.args.text.now (not-true _ (sym c.in-Some.ensures.some))
-    ∙ ap query_of_tail
-    (sym (c.after_authority-tail.ensures ∙ ap after_authority c.in-Some.ensures.rest))
+    query-without-false-scheme c.args.text.now (not-true _ (sym c.in-Some.ensures.some)) ∙ ap
+    query_of_tail (sym (c.after_authority-tail.ensures ∙ ap after_authority c.in-Some.ensures.rest))
 
 pub returns-clause-whole : goal.returns-clause-whole
 returns-clause-whole c =
     let text = c.args.text.now in
     let tail = c.after_authority-tail.result.now in
-    text-is-cut-before-path text
-    ∙ ap (λ t. before_path (components text) ++ t) (sym (c.after_authority-tail.ensures
-    ∙ ap after_authority c.in-Some.ensures.rest))
-    ∙ ap (λ t. t ++ tail) (sym (prefix-of-text c
+    text-is-cut-before-path text ∙ ap (λ t. before_path (components text) ++ t)
+    (sym (c.after_authority-tail.ensures ∙ ap after_authority c.in-Some.ensures.rest)) ∙ ap
+    (λ t. t ++ tail) (sym (prefix-of-text c
     ∙ prefix-without-false-scheme text (not-true _ (sym c.in-Some.ensures.some))))
 
 pub returns-in_default-clause-boundary : goal.returns-in_default-clause-boundary

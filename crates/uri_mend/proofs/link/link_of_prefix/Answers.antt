@@ -1,5 +1,4 @@
-use Rattle.std.proofs.Common.{drop, sym, take}
-use Rattle.std.proofs.lemmas.List.{take-append-drop}
+use Rattle.uri_mend.proofs.Common.{drop, sym, take, take-append-drop}
 use Rattle.uri_mend.proofs.LinkPrefixes.{link-of-prefix, prefix-shows-path, text-with-prefix-can-be-mended}
 use Rattle.uri_mend.proofs.link.link_of_prefix.Goals as goal
 

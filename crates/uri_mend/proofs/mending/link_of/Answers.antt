@@ -1,6 +1,4 @@
-use Rattle.std.proofs.Common.{◌≡◌, sym, ◌∙◌, subst, take, arith}
-use Rattle.std.specs.Prelude.{slice_range}
-use Rattle.uri_parts.specs.Grammar.{IsOfKind}
+use Rattle.uri_mend.proofs.Common.{◌≡◌, sym, ◌∙◌, subst, take, arith, slice_range, IsOfKind}
 use Rattle.uri_mend.proofs.LinkPrefixes.{holds-where-some}
 use Rattle.uri_mend.proofs.Unchanged.{text-of-kind-has-no-false-scheme}
 use Rattle.uri_mend.proofs.mending.link_of.Goals as goal
@@ -11,9 +9,8 @@ link_of_prefix-link-requires-clause-scheme g c =
     let text = c.args.text.now in
     let index = c.args.index in
     let cut : slice_range text 0 index ≡ take index text = grind arith in
-    text-of-kind-has-no-false-scheme kind (take index text)
-    (subst (IsOfKind kind) (c.in-Ok.ensures.text ∙ c.range-prefix.ensures.value ∙ cut)
-    c.in-Ok.prefix.of_kind)
+    text-of-kind-has-no-false-scheme kind (take index text) (subst (IsOfKind kind)
+    (c.in-Ok.ensures.text ∙ c.range-prefix.ensures.value ∙ cut) c.in-Ok.prefix.of_kind)
 
 pub returns-then-is_some-clause-mendable : goal.returns-then-is_some-clause-mendable
 returns-then-is_some-clause-mendable g c =
@@ -23,6 +20,5 @@ returns-then-is_some-clause-mendable g c =
     let cut : slice_range text 0 index ≡ take index text = grind arith in
     let some = sym c.is_some.ensures ∙ c.if-is_some.true in
     some ∙ sym (holds-where-some c.link_of_prefix-link.result _
-    c.link_of_prefix-link.ensures.mendable some kind
-    (subst (IsOfKind kind) (c.in-Ok.ensures.text ∙ c.range-prefix.ensures.value ∙ cut)
-    c.in-Ok.prefix.of_kind))
+    c.link_of_prefix-link.ensures.mendable some kind (subst (IsOfKind kind)
+    (c.in-Ok.ensures.text ∙ c.range-prefix.ensures.value ∙ cut) c.in-Ok.prefix.of_kind))

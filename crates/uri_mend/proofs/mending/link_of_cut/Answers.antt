@@ -1,5 +1,4 @@
-use Rattle.std.proofs.Common.{ap, ◌∙◌}
-use Rattle.uri_parts.specs.Grammar.{is_of_kind}
+use Rattle.uri_mend.proofs.Common.{ap, ◌∙◌, is_of_kind}
 use Rattle.uri_mend.proofs.LinkPrefixes.{link-of-cut}
 use Rattle.uri_mend.proofs.Unchanged.{prefix-is-of-kind-iff-mendable}
 use Rattle.uri_mend.proofs.mending.link_of_cut.Goals as goal

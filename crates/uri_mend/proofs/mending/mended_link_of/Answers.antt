@@ -1,7 +1,4 @@
-use Rattle.std.proofs.Common.{sym, ◌∙◌, subst, string_bytes}
-use Rattle.uri_parts.specs.Grammar.{IsOfKind}
-use Rattle.uri_parts.specs.PackedPositions.{ArePackedPositionsOf}
-use Rattle.uri_ops.proofs.TextKinds.FourKinds.{one-of-four-kinds-has-sets}
+use Rattle.uri_mend.proofs.Common.{sym, ◌∙◌, subst, string_bytes, IsOfKind, ArePackedPositionsOf, one-of-four-kinds-has-sets}
 use Rattle.uri_mend.proofs.MendedPositions.{positions-of-mended-text}
 use Rattle.uri_mend.proofs.MendedReferences.{mended-text-is-of-kind}
 use Rattle.uri_mend.proofs.MendedResults.{equal-to-mended-text-is-mended}

@@ -1,7 +1,5 @@
-use Rattle.std.proofs.Common.{◌∙◌, subst}
-use Rattle.uri_parts.specs.Grammar.{IsOfKind}
+use Rattle.uri_mend.proofs.Common.{◌∙◌, subst, IsOfKind, one-of-four-kinds-has-sets}
 use Rattle.fluent_uri.proofs.Outcomes.{IfErr-of-only-error}
-use Rattle.uri_ops.proofs.TextKinds.FourKinds.{one-of-four-kinds-has-sets}
 use Rattle.uri_mend.specs.declared.error.MendError.TheVariants.{OutOfMemory}
 use Rattle.uri_mend.specs.Refusing.{IsMendErrorOf}
 use Rattle.uri_mend.proofs.MendedResults.{equal-to-text-of-kind-is-mended}
@@ -23,6 +21,5 @@ returns-in_err-to_owned-in-Ok-clause-refused g c =
     let text = c.args.text.now in
     let sets = one-of-four-kinds-has-sets kind g.met.K.Kind.known in
     IfErr-of-only-error (IsMendErrorOf kind text) c.from_residual.result OutOfMemory
-    c.from_residual.ensures.1
-    (text-of-kind-can-be-mended kind sets text
+    c.from_residual.ensures.1 (text-of-kind-can-be-mended kind sets text
     (subst (IsOfKind kind) c.in-Ok.ensures.text c.in-Ok.value.core.of_kind))

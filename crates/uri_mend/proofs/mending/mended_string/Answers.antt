@@ -1,7 +1,4 @@
-use Rattle.std.proofs.Common.{◌∙◌, subst, string_bytes}
-use Rattle.std.proofs.lemmas.Str.{IsUtf8-string_bytes}
-use Rattle.uri_parts.specs.Grammar.{IsOfKind}
-use Rattle.uri_ops.proofs.TextKinds.FourKinds.{one-of-four-kinds-has-sets}
+use Rattle.uri_mend.proofs.Common.{◌∙◌, subst, string_bytes, IsUtf8-string_bytes, IsOfKind, one-of-four-kinds-has-sets}
 use Rattle.uri_mend.proofs.MendedResults.{equal-to-text-of-kind-is-mended}
 use Rattle.uri_mend.proofs.mending.mended_string.Goals as goal
 

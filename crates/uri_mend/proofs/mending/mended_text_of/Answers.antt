@@ -1,7 +1,4 @@
-use Rattle.std.proofs.Common.{◌++◌, ◌+◌, drop, length, sym, ap, ◌∙◌, subst}
-use Rattle.std.specs.Str.{IsUtf8}
-use Rattle.uri_ops.proofs.TextKinds.FourKinds.{one-of-four-kinds-has-sets}
-use Rattle.uri_mend.specs.Tails.{mended_path, mended_tail}
+use Rattle.uri_mend.proofs.Common.{◌++◌, ◌+◌, drop, length, sym, ap, ◌∙◌, subst, IsUtf8, one-of-four-kinds-has-sets, mended_path, mended_tail}
 use Rattle.uri_mend.proofs.MendedResults.{length-of-start, mended-text-of-link-is-utf8, pieces-are-mended-text, start-of-mended-text}
 use Rattle.uri_mend.proofs.mending.mended_text_of.Goals as goal
 
@@ -11,11 +8,10 @@ finished-requires-clause-utf8 g c =
     let sets = one-of-four-kinds-has-sets kind g.met.K.Kind.known in
     let text = c.args.text.now in
     let link = c.args.link in
-    subst IsUtf8 (sym (c.in_ok-tail.ensures.text
-    ∙ ap (λ t. t ++ mended_tail kind (drop link.path_start text)) (start-of-mended-text text
+    subst IsUtf8 (sym (c.in_ok-tail.ensures.text ∙ ap
+    (λ t. t ++ mended_tail kind (drop link.path_start text)) (start-of-mended-text text
     c.in_ok-out.out.items c.in_ok-out.at link.path_start link.has_false_scheme
-    c.in_ok-out.ensures.text)
-    ∙ pieces-are-mended-text kind sets text link c.requires.link))
+    c.in_ok-out.ensures.text) ∙ pieces-are-mended-text kind sets text link c.requires.link))
     (mended-text-of-link-is-utf8 kind sets text c.utf8.text c.requires.mendable)
 
 pub returns-clause-text : goal.returns-clause-text
@@ -24,11 +20,10 @@ returns-clause-text g c =
     let sets = one-of-four-kinds-has-sets kind g.met.K.Kind.known in
     let text = c.args.text.now in
     let link = c.args.link in
-    c.in_ok-finished.ensures ∙ c.in_ok-tail.ensures.text
-    ∙ ap (λ t. t ++ mended_tail kind (drop link.path_start text)) (start-of-mended-text text
+    c.in_ok-finished.ensures ∙ c.in_ok-tail.ensures.text ∙ ap
+    (λ t. t ++ mended_tail kind (drop link.path_start text)) (start-of-mended-text text
     c.in_ok-out.out.items c.in_ok-out.at link.path_start link.has_false_scheme
-    c.in_ok-out.ensures.text)
-    ∙ pieces-are-mended-text kind sets text link c.requires.link
+    c.in_ok-out.ensures.text) ∙ pieces-are-mended-text kind sets text link c.requires.link
 
 pub returns-clause-path_end : goal.returns-clause-path_end
 returns-clause-path_end g c =

@@ -1,6 +1,4 @@
-use Rattle.std.proofs.Common.{◌≡◌, false, sym, ap, ◌∙◌, ⊎_elim, arith}
-use Rattle.std.proofs.lemmas.Bool.{cases_Bool, false≢true}
-use Rattle.uri_parts.specs.Grammar.{Kind, is_of_kind}
+use Rattle.uri_mend.proofs.Common.{◌≡◌, false, sym, ap, ◌∙◌, ⊎_elim, arith, cases_Bool, false≢true, Kind, is_of_kind}
 use Rattle.uri_parts.proofs.TextKinds.KindSets.{empty_is_reference}
 use Rattle.uri_mend.proofs.mending.positions_of_prefix.Goals as goal
 
@@ -15,6 +13,5 @@ returns-in-Err-clause-some g c =
     let kind = g.K.Kind.kind in
     let none : is_of_kind kind c.args.prefix.now ≡ false = ⊎_elim
     (λ e. absurd (false≢true (c.in-Err.ensures.accepts.1 e)))
-    (λ e. e)
-    (cases_Bool (is_of_kind kind c.args.prefix.now)) in
+    (λ e. e) (cases_Bool (is_of_kind kind c.args.prefix.now)) in
     sym none

@@ -1,6 +1,5 @@
-use Rattle.std.proofs.Common.{◌≡◌, ℕ, zero, suc, ◌/◌, ◌%◌, List, [], ◌∷◌, length, get_or, drop, map, refl, sym, ap, ◌∙◌, arith, true}
+use Rattle.uri_mend.proofs.Common.{◌≡◌, ℕ, zero, suc, ◌/◌, ◌%◌, List, [], ◌∷◌, length, get_or, drop, map, refl, sym, ap, ◌∙◌, arith, true, Octet, print}
 use Rattle.std.specs.Fmt.{digit_glyph}
-use Rattle.uri_pct.specs.Tokens.{Octet, print}
 use Rattle.uri_mend.proofs.octets.octets_of_digits.Goals as goal
 
 -- general fact on lists, for octets: the first n items, each read from the list

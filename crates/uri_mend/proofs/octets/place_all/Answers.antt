@@ -1,6 +1,4 @@
-use Rattle.std.proofs.Common.{◌+◌, ◌-◌, ◌++◌, take, drop, length, map, ap, sym, ◌∙◌, arith}
-use Rattle.std.proofs.lemmas.List.{length-take-le, take_all}
-use Rattle.uri_pct.specs.Tokens.{Octet, print}
+use Rattle.uri_mend.proofs.Common.{◌+◌, ◌-◌, ◌++◌, take, drop, length, map, ap, sym, ◌∙◌, arith, length-take-le, take_all, Octet, print}
 use Rattle.uri_mend.proofs.Buffers.{octets-of-fewer-bytes, octets-of-more-bytes}
 use Rattle.uri_mend.proofs.octets.place_all.Goals as goal
 
@@ -8,10 +6,9 @@ pub loop-done-preserved : goal.loop-done-preserved
 loop-done-preserved c = record {
   inside = omega (arith, c.loop-done-test.true);
   at = omega (arith, c.place_block-at.ensures.end, c.loop-done.invariant.at);
-  text = c.place_block-at.ensures.text
-      ∙ ap (λ t. t ++ print (map Octet (take 16 (drop c.loop-done.done c.args.bytes.now))))
-      c.loop-done.invariant.text
-      ∙ octets-of-more-bytes c.loop-done.done 16 c.args.bytes.now
+  text = c.place_block-at.ensures.text ∙ ap
+      (λ t. t ++ print (map Octet (take 16 (drop c.loop-done.done c.args.bytes.now))))
+      c.loop-done.invariant.text ∙ octets-of-more-bytes c.loop-done.done 16 c.args.bytes.now
       (take c.args.start c.args.out.now);
 }
 
@@ -21,8 +18,7 @@ returns-clause-text c =
     let last = length bytes - 16 in
     let done = c.loop-done.done in
     let before = take c.args.start c.args.out.now in
-    c.place_block.ensures.text
-    ∙ ap (λ t. t ++ print (map Octet (take 16 (drop last bytes))))
+    c.place_block.ensures.text ∙ ap (λ t. t ++ print (map Octet (take 16 (drop last bytes))))
     (octets-of-fewer-bytes last done c.args.start bytes before c.loop-done.out
     (omega (arith, c.loop-done-test.false))
     (length-take-le c.args.start c.args.out.now (omega arith))

@@ -1,5 +1,4 @@
-use Rattle.std.proofs.Common.{◌≡◌, ◌+◌, ◌-◌, ◌*◌, ◌≤◌, ◌++◌, length, map, take}
-use Rattle.uri_pct.specs.Tokens.{Octet, print}
+use Rattle.uri_mend.proofs.Common.{◌≡◌, ◌+◌, ◌-◌, ◌*◌, ◌≤◌, ◌++◌, length, map, take, Octet, print}
 use Rattle.uri_mend.proofs.octets.place_few.Given as goal
 
 abbrev pub invariant-loop-done : goal.invariant-loop-done

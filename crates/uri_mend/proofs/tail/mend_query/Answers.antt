@@ -1,10 +1,5 @@
-use Rattle.std.proofs.Common.{◌++◌, ◌∷◌, [], drop, sym, ap, ◌∙◌}
+use Rattle.uri_mend.proofs.Common.{◌++◌, ◌∷◌, [], drop, sym, ap, ◌∙◌, set_of, before_any, codes, mended, mended_so_far}
 use Rattle.std.proofs.lemmas.Result.{IfOk-weaker}
-use Rattle.uri_pct.specs.Tables.{set_of}
-use Rattle.uri_parts.specs.Components.{before_any}
-use Rattle.std.specs.Prelude.{codes}
-use Rattle.uri_mend.specs.MendedParts.{mended}
-use Rattle.uri_mend.specs.Progress.{mended_so_far}
 use Rattle.uri_mend.proofs.MendedTails.{query-is-mended}
 use Rattle.uri_mend.proofs.tail.mend_query.Goals as goal
 
@@ -15,9 +10,8 @@ returns-in-Some-clause-text c =
     let p = c.in-Some.p in
     IfOk-weaker c.mend_component.result _ _
     (λ q made. query-is-mended set (mended_so_far text c.args.out.now.items c.args.from) _
-    (drop c.args.from.end text) (sym c.in-Some.ensures.next)
-    (made ∙ ap (λ t. t ++ mended set (before_any (codes "#") (drop p.end text)))
-    (c.in-Some.ensures.text c.args.out.now.items)
-    ∙ ap (λ t. (mended_so_far text c.args.out.now.items c.args.from ++ 63 ∷ [])
-    ++ mended set (before_any (codes "#") t)) c.in-Some.ensures.rest))
-    c.mend_component.ensures.text
+    (drop c.args.from.end text) (sym c.in-Some.ensures.next) (made ∙ ap
+    (λ t. t ++ mended set (before_any (codes "#") (drop p.end text)))
+    (c.in-Some.ensures.text c.args.out.now.items) ∙ ap
+    (λ t. (mended_so_far text c.args.out.now.items c.args.from ++ 63 ∷ [])
+    ++ mended set (before_any (codes "#") t)) c.in-Some.ensures.rest)) c.mend_component.ensures.text

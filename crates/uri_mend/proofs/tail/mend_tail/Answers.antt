@@ -1,8 +1,5 @@
-use Rattle.std.proofs.Common.{◌≡◌, ◌+◌, ◌++◌, List, ℕ, drop, length, subst, sym, ap, ◌∙◌}
-use Rattle.uri_parts.specs.Grammar.{Kind}
+use Rattle.uri_mend.proofs.Common.{◌≡◌, ◌+◌, ◌++◌, List, ℕ, drop, length, subst, sym, ap, ◌∙◌, Kind, mended_so_far, mended_path, mended_query, mended_tail}
 use Rattle.uri_parts.specs.KindTables.{kind_of}
-use Rattle.uri_mend.specs.Progress.{mended_so_far}
-use Rattle.uri_mend.specs.Tails.{mended_path, mended_query, mended_tail}
 use Rattle.uri_mend.proofs.NeverAllowed.{HasMendedSets, one-of-four-kinds-has-mended-sets}
 use Rattle.uri_mend.proofs.MendedTails.{length-of-mended-so-far, part-ends-where-mended, parts-are-mended-tail}
 use Rattle.uri_mend.proofs.tail.mend_tail.Goals as goal
@@ -64,12 +61,11 @@ returns-clause-query_end g c =
     let path : List ℕ = mended_so_far text c.mend_component.new.out.items c.in_ok-path.path in
     part-ends-where-mended text c.mend_query.new.out.items path _ c.in_ok-query.query
     c.in_ok-query_end.query_end c.in_ok-query.ensures.progress c.in_ok-query_end.ensures
-    c.in_ok-query.ensures.text
-    ∙ ap (λ n. n + length (mended_query (kind_of c.tables-tables.result).query
-    (drop c.in_ok-path.path.end text)))
+    c.in_ok-query.ensures.text ∙ ap (λ n. n + length
+    (mended_query (kind_of c.tables-tables.result).query (drop c.in_ok-path.path.end text)))
     (length-of-mended-so-far text c.mend_component.new.out.items c.in_ok-path.path
-    c.in_ok-path.ensures.progress ∙ sym c.in_ok-path_end.ensures)
-    ∙ ap (λ (k : Kind). c.in_ok-path_end.path_end
-    + length (mended_query k.query (drop c.in_ok-path.path.end text))) c.tables-tables.ensures.kind
-    ∙ ap (λ t. c.in_ok-path_end.path_end + length (mended_query g.K.Kind.kind.query t))
+    c.in_ok-path.ensures.progress ∙ sym c.in_ok-path_end.ensures) ∙ ap (λ (k : Kind).
+    c.in_ok-path_end.path_end + length (mended_query k.query (drop c.in_ok-path.path.end text)))
+    c.tables-tables.ensures.kind ∙ ap
+    (λ t. c.in_ok-path_end.path_end + length (mended_query g.K.Kind.kind.query t))
     c.in_ok-path.ensures.rest

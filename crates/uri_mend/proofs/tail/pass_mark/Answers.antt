@@ -1,5 +1,4 @@
-use Rattle.std.proofs.Common.{◌≡◌, ◌++◌, get_or, take, ap, sym, ◌∙◌, append_assoc, arith, ◌-◌, drop, [], ◌∷◌}
-use Rattle.std.proofs.lemmas.Str.{IsCharBoundary-after_ascii}
+use Rattle.uri_mend.proofs.Common.{◌≡◌, ◌++◌, get_or, take, ap, sym, ◌∙◌, append_assoc, arith, ◌-◌, drop, [], ◌∷◌, IsCharBoundary-after_ascii}
 use Rattle.uri_mend.proofs.MendedTails.{run-goes-on-by-mark}
 use Rattle.uri_mend.proofs.tail.pass_mark.Goals as goal
 

@@ -1,7 +1,4 @@
-use Rattle.std.proofs.Common.{◌≡◌, ◌++◌, ◌∙◌, [], ap, arith, drop, string_bytes, sym}
-use Rattle.std.proofs.lemmas.List.{append-nil, drop_all}
-use Rattle.std.proofs.lemmas.Bool.{eqb-true, eqb-false}
-use Rattle.uri_mend.specs.Trimming.{tab_and_newlines, without_any}
+use Rattle.uri_mend.proofs.Common.{◌≡◌, ◌++◌, ◌∙◌, [], ap, arith, drop, string_bytes, sym, append-nil, drop_all, eqb-true, eqb-false, tab_and_newlines, without_any}
 use Rattle.uri_mend.proofs.TrimmedLinks.{boundary-after-tab-or-newline, text-without-marks-after-run}
 use Rattle.uri_mend.proofs.trimming.push_without_newlines.Goals as goal
 
@@ -15,8 +12,7 @@ returns-then-is_empty c =
     )) in
     sym (append-nil mid) ∙ ap (λ t. mid ++ without_any tab_and_newlines t) (sym none)
     ∙ text-without-marks-after-run tab_and_newlines (string_bytes c.loop-rest.out) mid
-    c.loop-rest.rest.now from _
-    (c.in_ok-push_str.ensures.bytes
+    c.loop-rest.rest.now from _ (c.in_ok-push_str.ensures.bytes
     ∙ ap (λ x. string_bytes c.loop-rest.out ++ x) c.cut_before.ensures.before)
     c.cut_before.ensures.from c.loop-rest.invariant.1
 
@@ -32,8 +28,7 @@ loop-rest-preserved c =
       c.range_from-rest.utf8,
       ap (λ t. mid ++ without_any tab_and_newlines t) c.range_from-rest.ensures.value
           ∙ text-without-marks-after-run tab_and_newlines (string_bytes c.loop-rest.out) mid
-          c.loop-rest.rest.now from _
-          (c.in_ok-push_str.ensures.bytes
+          c.loop-rest.rest.now from _ (c.in_ok-push_str.ensures.bytes
           ∙ ap (λ x. string_bytes c.loop-rest.out ++ x) c.cut_before.ensures.before)
           c.cut_before.ensures.from c.loop-rest.invariant.1,
     )

@@ -1,7 +1,6 @@
-use Rattle.std.proofs.Common.{◌≡◌, ◌++◌, length, string_bytes}
+use Rattle.uri_mend.proofs.Common.{◌≡◌, ◌++◌, length, string_bytes, tab_and_newlines, without_any}
 use denote.Text.{Utf8}
 use denote.Shadow.{shadow}
-use Rattle.uri_mend.specs.Trimming.{tab_and_newlines, without_any}
 use Rattle.uri_mend.proofs.trimming.push_without_newlines.Given as goal
 
 abbrev pub invariant-loop-rest : goal.invariant-loop-rest

@@ -1,8 +1,4 @@
-use Rattle.std.proofs.Common.{◌++◌, ◌∙◌, ap, sym}
-use Rattle.std.specs.List.{list_any}
-use Rattle.std.proofs.lemmas.Bool.{false≢true}
-use Rattle.uri_pct.specs.Sets.{is_one_of}
-use Rattle.uri_mend.specs.Trimming.{tab_and_newlines, trimmed_link, without_any}
+use Rattle.uri_mend.proofs.Common.{◌++◌, ◌∙◌, ap, sym, list_any, false≢true, is_one_of, tab_and_newlines, trimmed_link, without_any}
 use Rattle.uri_mend.proofs.TrimmedLinks.{text-without-marks-is-unchanged, trimmed-text-is-without-outer-space}
 use Rattle.uri_mend.proofs.trimming.trim_link.Goals as goal
 
@@ -31,10 +27,8 @@ returns-in_err-push_without_newlines-clause-unrequested c = λ none. absurd (fal
 
 pub returns-clause-text : goal.returns-clause-text
 unfolding trimmed_link
-returns-clause-text c =
-    c.in_ok-push_without_newlines.ensures
-    ∙ ap (λ t. t ++ without_any tab_and_newlines c.trim_ascii-link.result.now)
-    c.in_ok-made.ensures.bytes
+returns-clause-text c = c.in_ok-push_without_newlines.ensures ∙ ap
+    (λ t. t ++ without_any tab_and_newlines c.trim_ascii-link.result.now) c.in_ok-made.ensures.bytes
     ∙ ap (without_any tab_and_newlines) (trimmed-text-is-without-outer-space c.args.text.now
     c.trim_ascii-link.result.now c.trim_ascii-link.ensures.value)
 

@@ -1,5 +1,4 @@
-use Rattle.std.proofs.Common.{◌≡◌, ◌++◌, string_bytes}
-use Rattle.uri_relative.specs.Relative.{double_dots}
+use Rattle.uri_relative.proofs.Common.{◌≡◌, ◌++◌, string_bytes, double_dots}
 use Rattle.uri_relative.proofs.paths.push_double_dots.Given as goal
 
 abbrev pub invariant-loop-done : goal.invariant-loop-done

@@ -1,5 +1,4 @@
-use Rattle.std.proofs.Common.{arith}
-use Rattle.uri_ops.specs.Resolving.{components_of}
+use Rattle.uri_relative.proofs.Common.{arith, components_of}
 use Rattle.uri_relative.proofs.EndPlaces.{authority-positions-of-components, authority-begins-after-scheme, authority-positions-without-scheme, no-authority-positions-no-authority}
 use Rattle.uri_relative.proofs.places.authority_after_scheme.Goals as goal
 
@@ -14,9 +13,8 @@ pub returns-in-Some : goal.returns-in-Some
 returns-in-Some c =
     let t = components_of c.args.target.now in
     authority-positions-without-scheme c.args.start t.authority c.in-Some.authority
-    c.shift_authority_back.result
-    (grind (arith, authority-positions-of-components)) c.shift_authority_back.ensures.start
-    c.shift_authority_back.ensures.host_start
+    c.shift_authority_back.result (grind (arith, authority-positions-of-components))
+    c.shift_authority_back.ensures.start c.shift_authority_back.ensures.host_start
     c.shift_authority_back.ensures.host_end c.shift_authority_back.ensures.end
 
 pub returns-in-None : goal.returns-in-None

@@ -1,5 +1,4 @@
-use Rattle.std.proofs.Common.{◌+◌, ap, length, sym, ◌∙◌, Some}
-use Rattle.uri_ops.specs.Resolving.{components_of}
+use Rattle.uri_relative.proofs.Common.{◌+◌, ap, length, sym, ◌∙◌, Some, components_of}
 use Rattle.uri_relative.proofs.EndPlaces.{no-query-no-query-end, query-end-by-length}
 use Rattle.uri_relative.proofs.places.query_end_after.Goals as goal
 
@@ -10,6 +9,5 @@ returns-then-has_query c =
     (sym c.has_query.ensures ∙ c.if-has_query.true)
 
 pub returns : goal.returns
-returns c =
-    no-query-no-query-end c.args.path_len (components_of c.args.target.now).query
+returns c = no-query-no-query-end c.args.path_len (components_of c.args.target.now).query
     (sym c.has_query.ensures ∙ c.if-has_query.false)

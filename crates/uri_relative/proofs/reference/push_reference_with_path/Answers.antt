@@ -1,13 +1,7 @@
-use Rattle.std.proofs.Common.{◌≡◌, ap, arith, length, length-append, rules, string_bytes, subst, ◌++◌, ◌∙◌, sym, None, false}
-use Rattle.uri_parts.specs.Components.{IsAbemptyPath, recompose}
-use Rattle.uri_ops.specs.Resolving.{components_of}
+use Rattle.uri_relative.proofs.Common.{◌≡◌, ap, arith, length, length-append, rules, string_bytes, subst, ◌++◌, ◌∙◌, sym, None, false, IsAbemptyPath, recompose, components_of, components-are-split-of-text, IsPathTo, shortest_or_preferred_path, IsShortestPath}
 use Rattle.uri_relative.proofs.Forms.{path-form-is-reference}
 use Rattle.uri_relative.proofs.RootedTargets.{base-that-is-not-opaque-is-rooted}
 use Rattle.uri_relative.proofs.Leading.{pushed-path-and-tail-are-appended}
-use Rattle.uri_parts.proofs.Splitting.Recompose.{components-are-split-of-text}
-use Rattle.uri_relative.specs.Relative.{IsPathTo}
-use Rattle.uri_relative.specs.Rule.{shortest_or_preferred_path}
-use Rattle.uri_relative.specs.Shortest.{IsShortestPath}
 use Rattle.uri_relative.proofs.Rules.{rule-gives-path-for-same-authority, unguarded-path-is-without-dots}
 use Rattle.uri_relative.proofs.reference.push_reference_with_path.Goals as goal
 
@@ -31,10 +25,8 @@ returns-clause-leads c =
     let end : c.len.result ≡ length new = search rules in (
       record t { scheme = None; authority = None; path = found.0 },
       pushed-path-and-tail-are-appended (string_bytes c.args.out.now)
-          (string_bytes c.push_path.new.out)
-          (string_bytes c.push_str.new.self) found.0 c.after_path.result.now _ found.1
-          c.in_ok-push_str.ensures.bytes
-          c.after_path.ensures,
+          (string_bytes c.push_path.new.out) (string_bytes c.push_str.new.self) found.0
+          c.after_path.result.now _ found.1 c.in_ok-push_str.ensures.bytes c.after_path.ensures,
       c.positions_with_path.ensures found.0
           (omega (arith, start, end, ap length found.1, length-append old found.0)),
       λ kind w. path-form-is-reference kind c.args.prefers_relative b t w
@@ -56,13 +48,12 @@ returns-clause-text c =
     let prefers = c.args.prefers_relative in
     let path = c.without_guard.result.now in
     pushed-path-and-tail-are-appended (string_bytes c.args.out.now)
-    (string_bytes c.push_path.new.out)
-    (string_bytes c.push_str.new.self) (shortest_or_preferred_path prefers c.path.result.now path)
-    c.after_path.result.now _ c.in_ok-push_path.ensures.text c.in_ok-push_str.ensures.bytes
-    c.after_path.ensures
-    ∙ ap (λ r. string_bytes c.args.out.now ++ recompose r)
-    (rule-gives-path-for-same-authority prefers b t p.scheme p.authority p.needs p.opaque p.absolute
+    (string_bytes c.push_path.new.out) (string_bytes c.push_str.new.self)
+    (shortest_or_preferred_path prefers c.path.result.now path) c.after_path.result.now _
+    c.in_ok-push_path.ensures.text c.in_ok-push_str.ensures.bytes c.after_path.ensures ∙ ap
+    (λ r. string_bytes c.args.out.now ++ recompose r) (rule-gives-path-for-same-authority prefers b
+    t p.scheme p.authority p.needs p.opaque p.absolute
     (shortest_or_preferred_path prefers c.path.result.now path)
-    (ap (λ q. shortest_or_preferred_path prefers q path) c.path.ensures
-    ∙ ap (shortest_or_preferred_path prefers b.path)
+    (ap (λ q. shortest_or_preferred_path prefers q path) c.path.ensures ∙ ap
+    (shortest_or_preferred_path prefers b.path)
     (unguarded-path-is-without-dots t path c.without_guard.ensures)))

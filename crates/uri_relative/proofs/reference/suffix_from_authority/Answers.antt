@@ -1,9 +1,4 @@
-use Rattle.std.proofs.Common.{sym, ap, ◌∙◌, arith}
-use Rattle.std.proofs.lemmas.Bool.{both_ways}
-use Rattle.uri_pct.specs.Delimiters.{slash}
-use Rattle.uri_parts.specs.Components.{recompose, starts}
-use Rattle.uri_ops.specs.Resolving.{components_of}
-use Rattle.uri_relative.specs.Forms.{from_authority}
+use Rattle.uri_relative.proofs.Common.{sym, ap, ◌∙◌, arith, both_ways, slash, recompose, starts, components_of, from_authority}
 use Rattle.uri_relative.proofs.Forms.{authority-form-is-reference, whole}
 use Rattle.uri_relative.proofs.RootedTargets.{rootless-target-needs-authority, base-that-is-not-opaque-is-rooted}
 use Rattle.uri_relative.proofs.Rules.{rule-gives-authority, rule-gives-target-for-opaque-base}
@@ -72,10 +67,9 @@ returns-clause-some c =
 
 pub returns-then-is_opaque-clause-text : goal.returns-then-is_opaque-clause-text
 returns-then-is_opaque-clause-text c = λ prefers.
-    c.whole.ensures.text
-    ∙ ap recompose (rule-gives-target-for-opaque-base prefers (components_of c.args.base.now)
-    (components_of c.args.target.now) c.requires.scheme c.requires.path
-    (sym c.is_opaque.ensures ∙ c.if-is_opaque.true))
+    c.whole.ensures.text ∙ ap recompose (rule-gives-target-for-opaque-base prefers
+    (components_of c.args.base.now) (components_of c.args.target.now) c.requires.scheme
+    c.requires.path (sym c.is_opaque.ensures ∙ c.if-is_opaque.true))
 
 pub returns-then-not-have_same_authority-clause-text
     : goal.returns-then-not-have_same_authority-clause-text

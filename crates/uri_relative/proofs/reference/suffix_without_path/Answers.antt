@@ -1,8 +1,4 @@
-use Rattle.std.proofs.Common.{sym, ap, ◌∙◌, [], arith, None}
-use Rattle.std.proofs.lemmas.Bool.{both_ways}
-use Rattle.uri_pct.proofs.General.{not_some_is_none}
-use Rattle.uri_parts.specs.Components.{recompose}
-use Rattle.uri_ops.specs.Resolving.{components_of}
+use Rattle.uri_relative.proofs.Common.{sym, ap, ◌∙◌, [], arith, None, both_ways, not_some_is_none, recompose, components_of}
 use Rattle.uri_relative.proofs.Forms.{fragment-form-is-reference, query-form-is-reference}
 use Rattle.uri_relative.proofs.Rules.{rule-gives-fragment-for-same-query, rule-gives-query-for-same-path}
 use Rattle.uri_relative.proofs.reference.suffix_without_path.Goals as goal

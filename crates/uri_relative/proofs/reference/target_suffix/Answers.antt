@@ -1,7 +1,4 @@
-use Rattle.std.proofs.Common.{ap, ◌∙◌}
-use Rattle.std.proofs.lemmas.Bool.{both_ways}
-use Rattle.uri_parts.specs.Components.{recompose}
-use Rattle.uri_ops.specs.Resolving.{components_of}
+use Rattle.uri_relative.proofs.Common.{ap, ◌∙◌, both_ways, recompose, components_of}
 use Rattle.uri_relative.proofs.Forms.{whole}
 use Rattle.uri_relative.proofs.Rules.{rule-gives-target-for-other-scheme}
 use Rattle.uri_relative.proofs.ShortestForms.{target-is-shortest-for-other-scheme}

@@ -1,7 +1,4 @@
-use Rattle.std.proofs.Common.{sym, ap, drop, subst, ◌∙◌, arith}
-use Rattle.uri_ops.specs.Resolving.{components_of}
-use Rattle.uri_parts.proofs.Splitting.Recompose.{equal-to-true-is-IsTrue}
-use Rattle.uri_relative.specs.Forms.{IsUnguarded, is_guarded}
+use Rattle.uri_relative.proofs.Common.{sym, ap, drop, subst, ◌∙◌, arith, components_of, equal-to-true-is-IsTrue, IsUnguarded, is_guarded}
 use Rattle.uri_relative.proofs.Settled.{guard-ends-at-character, path-without-guard-is-unguarded, path-after-authority-is-unguarded, path-that-needs-no-guard-is-unguarded}
 use Rattle.uri_relative.proofs.reference.without_guard.Goals as goal
 
@@ -27,9 +24,8 @@ returns-then-is_guarded c =
 pub returns : goal.returns
 returns c =
     let t = components_of c.args.target.now in
-    subst (IsUnguarded t) (sym c.path-path.ensures)
-    (path-that-needs-no-guard-is-unguarded t (sym c.has_authority.ensures
-    ∙ c.if-has_authority.false)
+    subst (IsUnguarded t) (sym c.path-path.ensures) (path-that-needs-no-guard-is-unguarded t
+    (sym c.has_authority.ensures ∙ c.if-has_authority.false)
     (equal-to-true-is-IsTrue _ c.requires.absolute) c.requires.settled
-    (sym (c.is_guarded.ensures
-    ∙ ap is_guarded (c.as_bytes.ensures.value ∙ c.path-path.ensures)) ∙ c.if-is_guarded.false))
+    (sym (c.is_guarded.ensures ∙ ap is_guarded (c.as_bytes.ensures.value ∙ c.path-path.ensures))
+    ∙ c.if-is_guarded.false))

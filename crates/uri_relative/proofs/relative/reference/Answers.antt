@@ -1,7 +1,4 @@
-use Rattle.std.proofs.Common.{◌++◌, ap, refl, string_bytes, sym, ◌∙◌, arith}
-use Rattle.uri_parts.specs.Components.{components, recompose}
-use Rattle.uri_parts.specs.Positions.{positions_of}
-use Rattle.uri_ops.specs.Resolving.{components_of}
+use Rattle.uri_relative.proofs.Common.{◌++◌, ap, refl, string_bytes, sym, ◌∙◌, arith, components, recompose, positions_of, components_of}
 use Rattle.uri_relative.proofs.Leading.{reference-text-is-reference, components-of-reference-text}
 use Rattle.uri_relative.proofs.relative.reference.Goals as goal
 
@@ -16,9 +13,8 @@ returns-clause-leads c = λ kind w.
 pub returns-clause-at : goal.returns-clause-at
 returns-clause-at c = λ kind w.
     let found = c.in_ok-positions.ensures.leads in
-    found.2
-    ∙ ap positions_of (sym (ap components
-    (found.1 ∙ ap (λ t. t ++ recompose found.0) c.in_ok-text.ensures.bytes)
+    found.2 ∙ ap positions_of (sym
+    (ap components (found.1 ∙ ap (λ t. t ++ recompose found.0) c.in_ok-text.ensures.bytes)
     ∙ components-of-reference-text kind c.args.prefers_relative (components_of c.args.base.now)
     (components_of c.args.target.now) found.0 (found.3 kind w)))
 

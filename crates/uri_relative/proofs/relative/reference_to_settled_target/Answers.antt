@@ -1,17 +1,10 @@
-use Rattle.std.proofs.Common.{◌≡◌, ap, string_bytes, subst, ◌∙◌, arith, IfOk}
-use Rattle.uri_parts.specs.Components.{components, recompose}
-use Rattle.uri_parts.specs.CoreTexts.{core_text}
-use Rattle.uri_ops.specs.Resolving.{components_of}
-use Rattle.uri_ops.proofs.TextKinds.FourKinds.{one-of-four-kinds-has-sets}
-use Rattle.uri_relative.specs.Forms.{IsReferenceTo}
-use Rattle.uri_relative.specs.Rule.{reference_components}
+use Rattle.uri_relative.proofs.Common.{◌≡◌, ap, string_bytes, subst, ◌∙◌, arith, IfOk, components, recompose, core_text, components_of, one-of-four-kinds-has-sets, IsReferenceTo, reference_components}
 use Rattle.uri_relative.proofs.Leading.{dotless-text-is-target, settled-components-stay-settled}
 use Rattle.uri_relative.proofs.relative.reference_to_settled_target.Goals as goal
 
 pub reference-requires : goal.reference-requires
 reference-requires g c = settled-components-stay-settled (core_text c.args.target)
-    (components_of c.of_core-view.result)
-    (grind arith)
+    (components_of c.of_core-view.result) (grind arith)
 
 pub returns-clause-leads : goal.returns-clause-leads
 returns-clause-leads g c =
@@ -27,11 +20,9 @@ returns-clause-leads g c =
     (components_of c.of_core-view.result) same)))
 
 pub returns-clause-text : goal.returns-clause-text
-returns-clause-text g c =
-    subst (λ t. IfOk c.reference.result (λ made. string_bytes made.text
+returns-clause-text g c = subst (λ t. IfOk c.reference.result (λ made. string_bytes made.text
     ≡ recompose (reference_components c.args.prefers_relative (components_of c.args.base.now) t)))
-    (grind arith)
-    c.reference.ensures.text
+    (grind arith) c.reference.ensures.text
 
 pub returns-clause-at : goal.returns-clause-at
 returns-clause-at g c =

@@ -1,10 +1,4 @@
-use Rattle.std.proofs.Common.{◌≡◌, ap, string_bytes, subst, sym, ◌∙◌, IfOk}
-use Rattle.uri_parts.specs.Components.{components, recompose}
-use Rattle.uri_parts.specs.CoreTexts.{core_text}
-use Rattle.uri_ops.specs.Resolving.{components_of, with_final_path}
-use Rattle.uri_ops.proofs.TextKinds.FourKinds.{one-of-four-kinds-has-sets}
-use Rattle.uri_relative.specs.Forms.{IsReferenceTo}
-use Rattle.uri_relative.specs.Rule.{reference_components}
+use Rattle.uri_relative.proofs.Common.{◌≡◌, ap, string_bytes, subst, sym, ◌∙◌, IfOk, components, recompose, core_text, components_of, with_final_path, one-of-four-kinds-has-sets, IsReferenceTo, reference_components}
 use Rattle.uri_relative.proofs.Leading.{dotless-text-is-target}
 use Rattle.uri_relative.proofs.relative.relative.Goals as goal
 
@@ -19,11 +13,10 @@ returns-then-is_without_removable_dots-clause-leads g c =
     subst (λ t. IfOk c.reference.result (λ made. IsReferenceTo kind c.args.prefers_relative
     (components_of c.args.base.now) t (components (string_bytes made.text))))
     (sym (c.is_without_removable_dots.ensures.settled c.if-is_without_removable_dots.true)
-    ∙ ap with_final_path c.of_core-view.ensures.components)
-    (c.reference.ensures.leads kind (dotless-text-is-target kind (core_text c.args.target)
-    (components_of c.of_core-view.result) c.of_core-view.ensures.components
-    (one-of-four-kinds-has-sets kind g.met.K.Kind.known) g.met.K.BaseKind.needs_scheme
-    c.args.target.of_kind
+    ∙ ap with_final_path c.of_core-view.ensures.components) (c.reference.ensures.leads kind
+    (dotless-text-is-target kind (core_text c.args.target) (components_of c.of_core-view.result)
+    c.of_core-view.ensures.components (one-of-four-kinds-has-sets kind g.met.K.Kind.known)
+    g.met.K.BaseKind.needs_scheme c.args.target.of_kind
     (c.is_without_removable_dots.ensures.settled c.if-is_without_removable_dots.true)))
 
 pub returns-then-is_without_removable_dots-clause-at
@@ -38,12 +31,11 @@ returns-then-is_without_removable_dots-clause-at g c =
 
 pub returns-then-is_without_removable_dots-clause-text
     : goal.returns-then-is_without_removable_dots-clause-text
-returns-then-is_without_removable_dots-clause-text g c =
-    subst (λ t. IfOk c.reference.result (λ made. string_bytes made.text
+returns-then-is_without_removable_dots-clause-text g c = subst (λ t. IfOk c.reference.result
+    (λ made. string_bytes made.text
     ≡ recompose (reference_components c.args.prefers_relative (components_of c.args.base.now) t)))
     (sym (c.is_without_removable_dots.ensures.settled c.if-is_without_removable_dots.true)
-    ∙ ap with_final_path c.of_core-view.ensures.components)
-    c.reference.ensures.text
+    ∙ ap with_final_path c.of_core-view.ensures.components) c.reference.ensures.text
 
 pub returns : goal.returns
 returns g c = c.reference_to_settled_target.ensures

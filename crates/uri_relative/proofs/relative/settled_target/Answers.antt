@@ -1,18 +1,11 @@
-use Rattle.std.proofs.Common.{◌≡◌, ap, subst, sym, true, ◌∙◌, arith, is_some}
-use Rattle.uri_parts.specs.Components.{Components, recompose}
-use Rattle.uri_parts.specs.CoreTexts.{core_text}
-use Rattle.uri_parts.specs.Grammar.{IsOfKind}
-use Rattle.uri_parts.proofs.TextKinds.KindSets.{kind-that-needs-scheme-has-one}
-use Rattle.uri_ops.specs.Resolving.{with_final_path}
-use Rattle.uri_ops.proofs.TextKinds.FourKinds.{one-of-four-kinds-has-sets}
+use Rattle.uri_relative.proofs.Common.{◌≡◌, ap, subst, sym, true, ◌∙◌, arith, is_some, Components, recompose, core_text, IsOfKind, kind-that-needs-scheme-has-one, with_final_path, one-of-four-kinds-has-sets}
 use Rattle.uri_relative.proofs.Leading.{components-of-settled-text, settled-text-is-of-kind}
 use Rattle.uri_relative.proofs.relative.settled_target.Goals as goal
 
 pub target_with_scheme-requires : goal.target_with_scheme-requires
-target_with_scheme-requires g c =
-    subst (λ (t : Components). is_some t.scheme ≡ true) (sym c.of_core.ensures.components)
-    (kind-that-needs-scheme-has-one g.K.Kind.kind (core_text c.args.target)
-    g.met.K.BaseKind.needs_scheme c.args.target.of_kind)
+target_with_scheme-requires g c = subst (λ (t : Components). is_some t.scheme ≡ true)
+    (sym c.of_core.ensures.components) (kind-that-needs-scheme-has-one g.K.Kind.kind
+    (core_text c.args.target) g.met.K.BaseKind.needs_scheme c.args.target.of_kind)
 
 pub new-requires-clause-of_kind : goal.new-requires-clause-of_kind
 new-requires-clause-of_kind g c =
@@ -26,7 +19,5 @@ new-requires-clause-of_kind g c =
 pub returns : goal.returns
 returns g c =
     let text = core_text c.args.target in
-    components-of-settled-text text (core_text c.new.result)
-    (kind-that-needs-scheme-has-one g.K.Kind.kind text g.met.K.BaseKind.needs_scheme
-    c.args.target.of_kind)
-    (grind arith)
+    components-of-settled-text text (core_text c.new.result) (kind-that-needs-scheme-has-one
+    g.K.Kind.kind text g.met.K.BaseKind.needs_scheme c.args.target.of_kind) (grind arith)

@@ -1,19 +1,12 @@
-use Rattle.std.proofs.Common.{string_bytes, subst, sym, ap, ◌∙◌, arith}
-use Rattle.uri_parts.specs.Components.{components, recompose}
-use Rattle.uri_parts.specs.CoreTexts.{core_text}
-use Rattle.uri_parts.specs.Grammar.{IsOfKind}
+use Rattle.uri_relative.proofs.Common.{string_bytes, subst, sym, ap, ◌∙◌, arith, components, recompose, core_text, IsOfKind, IsReferenceTo, settled, reference_components, reference_to}
 use Rattle.uri_parts.specs.PackedPositions.{packed}
 use Rattle.fluent_uri.specs.References.{reference_text}
 use Rattle.uri_relative.proofs.Leading.{reference-leads-back-to-target, reference-leads-to-target, reference-is-no-longer-than-target, reference-is-relative}
-use Rattle.uri_relative.specs.Forms.{IsReferenceTo}
-use Rattle.uri_relative.specs.Leading.{settled}
-use Rattle.uri_relative.specs.Rule.{reference_components, reference_to}
 use Rattle.uri_relative.proofs.ShortestTexts.{reference-is-shortest}
 use Rattle.uri_relative.proofs.relativize.relativized.Goals as goal
 
 pub new-requires-clause-of_kind : goal.new-requires-clause-of_kind
-new-requires-clause-of_kind g c =
-    subst (λ k. IsOfKind k (string_bytes c.in_ok-made.made.text))
+new-requires-clause-of_kind g c = subst (λ k. IsOfKind k (string_bytes c.in_ok-made.made.text))
     (sym g.met.K.BaseKind.same_tables) c.in_ok-made.ensures.leads.meets
 
 pub new-requires-clause-at : goal.new-requires-clause-at

@@ -1,5 +1,4 @@
-use Rattle.std.proofs.Common.{inl}
-use Rattle.uri_streams.specs.Lines.{end_byte}
+use Rattle.uri_streams.proofs.Common.{inl, end_byte}
 use Rattle.uri_streams.proofs.CheckedLines.{AreMergedFrom-checks, AreMergedFrom-checks-of-all, output_for-check}
 use Rattle.uri_streams.proofs.MergedLines.{concat-of-lines}
 use Rattle.uri_streams.proofs.checks.check_and_its_inverse_make_up_the_input.Goals as goal

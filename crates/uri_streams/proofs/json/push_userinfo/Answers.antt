@@ -1,5 +1,5 @@
 use Rattle.std.proofs.Common.{◌++◌, ◌∙◌, ap, append_assoc, codes, option_map, string_bytes, sym}
-use Rattle.uri_commands.proofs.Appended.{on-ok}
+use Rattle.uri_commands.proofs.Offered.{on-ok}
 use Rattle.uri_streams.specs.Json.{member_before}
 use Rattle.uri_streams.proofs.json.push_userinfo.Goals as goal
 

@@ -1,13 +1,6 @@
-use Rattle.std.proofs.Common.{◌≢◌, ◌++◌, [], length-append, refl, sym, ap, ◌∙◌, rules, arith, true≢false}
-use Rattle.std.specs.Prelude.{◌&&◌, nat_lt}
-use Rattle.std.proofs.Math.Seq.{take-nil}
-use Rattle.std.proofs.KnownBytes.{Consumes-nil, Consumes-kept, Consumes-trans, Keeps-refl, Keeps-trans}
-use Rattle.std.proofs.BufReadLemmas.{Consumes_through, IsAtEnd-of_take_through}
-use Rattle.std.proofs.lemmas.List.Elements.{All-nil, All-append}
-use Rattle.std.specs.Io.Buffered.{reader_remaining}
+use Rattle.uri_streams.proofs.Common.{◌≢◌, ◌++◌, [], length-append, refl, sym, ap, ◌∙◌, rules, arith, true≢false, ◌&&◌, nat_lt, take-nil, Consumes-nil, Consumes-kept, Consumes-trans, Keeps-refl, Keeps-trans, Consumes_through, IsAtEnd-of_take_through, All-nil, All-append, reader_remaining, return_after}
 use Rattle.uri_streams.proofs.Parts.{Keeps-at-end, ReadsFirstLine-of-parts, OnErr-of-any, take-of-appended-part}
 use Rattle.uri_streams.proofs.Returns.{return_after-inner-part, return_after-last-part}
-use Rattle.uri_streams.specs.Lines.{return_after}
 use Rattle.uri_streams.proofs.lines.read_line.Goals as goal
 
 pub loop-reads-init : goal.loop-reads-init
@@ -29,8 +22,8 @@ loop-reads-preserved g c =
     let (bs, long, more, stops, read', none', ends, end, is) = c.in_ok-part.ensures.taken in
     let lacks = none' (λ e. true≢false (sym e ∙ c.if-part.false)) in (
       done ++ bs,
-      take-of-appended-part c.args.limit done bs c.loop-reads.line.items c.take_part.new.line.items kept
-          more,
+      take-of-appended-part c.args.limit done bs c.loop-reads.line.items c.take_part.new.line.items
+          kept more,
       All-append (λ x. x ≢ c.args.end) done bs none lacks,
       Consumes-trans _ _ _ _ _ read read',
       omega (arith, length-append done bs, c.saturating_add-count.ensures, long),
@@ -84,10 +77,8 @@ returns-then-is_return-clause-line g c =
     let all = Consumes_through c.args.end _ _ _ done bs read none read' stops (ends
     c.if-part.true) (end c.if-part.true) in
     let line = take-of-appended-part c.args.limit done bs c.loop-reads.line.items
-    c.take_part.new.line.items
-    kept more in
-    ReadsFirstLine-of-parts c.args.end c.args.limit _ _ (done ++ bs) _ _ all.0 all.1
-    (omega (
+    c.take_part.new.line.items kept more in
+    ReadsFirstLine-of-parts c.args.end c.args.limit _ _ (done ++ bs) _ _ all.0 all.1 (omega (
       arith,
       length-append done bs,
       c.saturating_add-count.ensures,
@@ -111,10 +102,8 @@ returns-else-is_return-clause-line g c =
     let all = Consumes_through c.args.end _ _ _ done bs read none read' stops (ends
     c.if-part.true) (end c.if-part.true) in
     let line = take-of-appended-part c.args.limit done bs c.loop-reads.line.items
-    c.take_part.new.line.items
-    kept more in
-    ReadsFirstLine-of-parts c.args.end c.args.limit _ _ (done ++ bs) _ _ all.0 all.1
-    (omega (
+    c.take_part.new.line.items kept more in
+    ReadsFirstLine-of-parts c.args.end c.args.limit _ _ (done ++ bs) _ _ all.0 all.1 (omega (
       arith,
       length-append done bs,
       c.saturating_add-count.ensures,

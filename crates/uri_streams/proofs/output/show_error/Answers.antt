@@ -1,7 +1,4 @@
-use Rattle.std.proofs.Common.{◌∙◌, ap, subst}
-use Rattle.uri_streams.specs.Outputs.{reported_error}
-use Rattle.uri_streams.specs.Returned.{line_error_message}
-use Rattle.uri_streams.specs.Runs.{Reports, error_output_of}
+use Rattle.uri_streams.proofs.Common.{◌∙◌, ap, subst, reported_error, line_error_message, Reports, error_output_of}
 use Rattle.uri_streams.proofs.output.show_error.Goals as goal
 
 pub returns : goal.returns

@@ -1,7 +1,4 @@
-use Rattle.std.proofs.Common.{◌+◌, subst, sym}
-use Rattle.uri_streams.specs.Outputs.{error_report}
-use Rattle.uri_streams.specs.Returned.{line_error_message}
-use Rattle.uri_streams.specs.Runs.{Reports, error_output_of}
+use Rattle.uri_streams.proofs.Common.{◌+◌, subst, sym, error_report, line_error_message, Reports, error_output_of}
 use Rattle.uri_streams.proofs.output.write_error.Goals as goal
 
 pub returns-in-Stderr-clause-reported : goal.returns-in-Stderr-clause-reported

@@ -1,7 +1,4 @@
-use Rattle.std.proofs.Common.{◌≡◌, rules}
-use Rattle.std.specs.Prelude.{Ok}
-use Rattle.uri_streams.specs.Fields.{cut_without_other_fields}
-use Rattle.uri_streams.specs.Outputs.{line_cut}
+use Rattle.uri_streams.proofs.Common.{◌≡◌, rules, Ok, cut_without_other_fields, line_cut}
 use Rattle.uri_streams.proofs.Steps.{writes-output-of-cut}
 use Rattle.uri_streams.proofs.output.write_line.Goals as goal
 

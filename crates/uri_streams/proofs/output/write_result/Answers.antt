@@ -1,8 +1,4 @@
-use Rattle.std.proofs.Common.{◌+◌, subst, sym, ◌++◌}
-use Rattle.uri_streams.specs.Models.{WritesResult}
-use Rattle.uri_streams.specs.Outputs.{result_report}
-use Rattle.uri_streams.specs.Returned.{result_in}
-use Rattle.uri_streams.specs.Runs.{ReportsPrefix, error_output_of}
+use Rattle.uri_streams.proofs.Common.{◌+◌, subst, sym, ◌++◌, WritesResult, result_report, result_in, ReportsPrefix, error_output_of}
 use Rattle.uri_streams.proofs.output.write_result.Goals as goal
 
 pub returns-in_err-write_error-in-Error-clause-reports

@@ -1,7 +1,5 @@
 -- What was written is what the characters so far come to.
-use Rattle.std.proofs.Common.{◌≡◌, ◌++◌, string_bytes}
-use Rattle.std.specs.List.{flat_map}
-use Rattle.uri_streams.specs.Queries.{escaped_char}
+use Rattle.uri_streams.proofs.Common.{◌≡◌, ◌++◌, string_bytes, flat_map, escaped_char}
 use Rattle.uri_streams.proofs.queries.push_escaped.Given as goal
 
 abbrev pub invariant-loop-character : goal.invariant-loop-character

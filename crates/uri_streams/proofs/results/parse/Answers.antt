@@ -1,10 +1,5 @@
-use Rattle.std.proofs.Common.{[], ap, ◌∙◌}
-use Rattle.fluent_uri.specs.Components.{components}
-use Rattle.uri_commands.specs.Kinds.{kind_named}
+use Rattle.uri_streams.proofs.Common.{[], ap, ◌∙◌, components, kind_named, json_of, Text, parse_result, result_in}
 use Rattle.uri_streams.proofs.TextResults.{parsed_result-of-error, parsed_result-of-kind}
-use Rattle.uri_streams.specs.Json.{json_of}
-use Rattle.uri_streams.specs.Results.{Text, parse_result}
-use Rattle.uri_streams.specs.Returned.{result_in}
 use Rattle.uri_streams.proofs.results.parse.Goals as goal
 
 pub returns-in_ok-json-in-Ok : goal.returns-in_ok-json-in-Ok
@@ -16,8 +11,6 @@ returns-in_ok-json-in-Ok c =
 
 pub returns-in-Err : goal.returns-in-Err
 unfolding parse_result
-returns-in-Err c =
-    ap result_in c.refused.ensures
-    ∙ parsed_result-of-error [] (kind_named c.args.kind) c.args.text.now
-    (Text (json_of (components c.args.text.now))) c.in-Err.error
-    c.in-Err.ensures.accepts c.in-Err.ensures.refused
+returns-in-Err c = ap result_in c.refused.ensures ∙ parsed_result-of-error []
+    (kind_named c.args.kind) c.args.text.now (Text (json_of (components c.args.text.now)))
+    c.in-Err.error c.in-Err.ensures.accepts c.in-Err.ensures.refused

@@ -1,6 +1,4 @@
-use Rattle.std.proofs.Common.{eqb, refl}
-use Rattle.std.proofs.KnownBytes.{Keeps-refl}
-use Rattle.std.specs.Io.Buffered.{reader_buffer, reader_capacity, reader_inner}
+use Rattle.uri_streams.proofs.Common.{eqb, refl, Keeps-refl, reader_buffer, reader_capacity, reader_inner}
 use Rattle.uri_streams.proofs.Steps.{HasLine-buffered, IsStepOf-of-written-line}
 use Rattle.uri_streams.proofs.run.process_line.Goals as goal
 

@@ -1,9 +1,5 @@
-use Rattle.std.proofs.Common.{ap, arith, refl, rules, subst, sym, ◌∙◌}
-use Rattle.std.specs.Prelude.{◌||◌}
+use Rattle.uri_streams.proofs.Common.{ap, arith, refl, rules, subst, sym, ◌∙◌, ◌||◌, reader_remaining, is_input_cause, StopsAfterPrefix, error_output_of}
 use Rattle.fluent_uri.proofs.Outcomes.{IfErr-of-only-error}
-use Rattle.std.specs.Io.Buffered.{reader_remaining}
-use Rattle.uri_streams.specs.Causes.{is_input_cause}
-use Rattle.uri_streams.specs.Runs.{StopsAfterPrefix, error_output_of}
 use Rattle.uri_streams.proofs.Failures.{EndsFlushed-after-WritesOutput, KeepsFailures-in-writing, HasWrittenSoFar-then-run-fails, KeepsFailures-passed-on, HasWrittenSoFar-then-step-fails}
 use Rattle.uri_streams.proofs.Streams.{HasWrittenSoFar-after-step, HasWrittenSoFar-at-start, HasWrittenSoFar-then-last-step, HasWrittenSoFar-then-rest-is-left}
 use Rattle.uri_streams.proofs.Parts.{OnOk-of-any}
@@ -41,8 +37,7 @@ returns-in_err-step g c =
       failures = KeepsFailures-passed-on c.from_residual.result c.in_err-step.field-0.0
           c.args.reader.now c.loop-number.reader c.process_line.new.reader c.args.writer.now
           c.loop-number.writer c.process_line.new.writer c.from_residual.ensures.1 read_failures
-          write_failures failures.reading failures.writing failures.read_error
-          failures.write_error;
+          write_failures failures.reading failures.writing failures.read_error failures.write_error;
     }
 
 pub returns-then-step : goal.returns-then-step
@@ -56,9 +51,8 @@ returns-then-step g c =
     (g.W.Write.contents c.process_line.new.writer.writer)
     (g.W.Write.contents c.flushed.new.writer.writer)
     (error_output_of g.E.Write.contents c.args.err.now)
-    (error_output_of g.E.Write.contents c.process_line.new.err)
-    (g.V.Watch.seen c.args.watch.now) (g.V.Watch.seen c.show_tally.new.watch) c.count.new.self
-    c.flushed.result
+    (error_output_of g.E.Write.contents c.process_line.new.err) (g.V.Watch.seen c.args.watch.now)
+    (g.V.Watch.seen c.show_tally.new.watch) c.count.new.self c.flushed.result
     (HasWrittenSoFar-then-last-step _ _ _ _ _ _ _ _ _ _ _ _ _ _ _ _ _ _
     (omega (arith, c.loop-number-test.true)) c.count.ensures.lines c.count.ensures.errors
     c.show_tally.ensures _ written c.in_ok-step.ensures.steps c.if-step.true)
@@ -80,8 +74,7 @@ pub returns-clause-failures : goal.returns-clause-failures
 returns-clause-failures g c =
     let failed = c.fail_too_many_reads.ensures in
     record {
-      reading = failed.failed
-          ∙ sym (ap (λ b. b || c.args.reader.now.has_failed) failed.input);
+      reading = failed.failed ∙ sym (ap (λ b. b || c.args.reader.now.has_failed) failed.input);
       writing = c.loop-number.invariant.2
           ∙ sym (ap (λ b. b || c.args.writer.now.has_failed) failed.output);
       read_error = λ _. failed.error;
@@ -89,13 +82,11 @@ returns-clause-failures g c =
     }
 
 pub returns-clause-stops : goal.returns-clause-stops
-returns-clause-stops g c =
-    subst (λ r. StopsAfterPrefix c.args.job.now
+returns-clause-stops g c = subst (λ r. StopsAfterPrefix c.args.job.now
     (reader_remaining g.R.Read.remaining c.args.reader.now.reader)
     (reader_remaining g.R.Read.remaining r) (g.W.Write.contents c.args.writer.now.writer)
     (g.W.Write.contents c.loop-number.writer.writer)
     (error_output_of g.E.Write.contents c.args.err.now)
     (error_output_of g.E.Write.contents c.loop-number.err)
-    (is_input_cause c.fail_too_many_reads.result))
-    (sym c.fail_too_many_reads.ensures.kept)
+    (is_input_cause c.fail_too_many_reads.result)) (sym c.fail_too_many_reads.ensures.kept)
     (HasWrittenSoFar-then-run-fails _ _ _ _ _ _ _ _ _ _ _ _ _ c.loop-number.invariant.0)

@@ -1,13 +1,9 @@
 -- What was written is the output so far, and nothing has failed.
-use Rattle.std.proofs.Common.{◌≡◌, ◌-◌, ◌^◌}
-use Rattle.std.specs.Io.Buffered.{reader_remaining}
-use Rattle.uri_streams.specs.Models.{HasWrittenSoFar}
-use Rattle.uri_streams.specs.Runs.{error_output_of}
+use Rattle.uri_streams.proofs.Common.{◌≡◌, ◌-◌, ◌^◌, reader_remaining, HasWrittenSoFar, error_output_of}
 use Rattle.uri_streams.proofs.run.process_lines.Given as goal
 
 abbrev pub invariant-loop-number : goal.invariant-loop-number
-invariant-loop-number g l =
-    HasWrittenSoFar l.fn.job l.number l.task
+invariant-loop-number g l = HasWrittenSoFar l.fn.job l.number l.task
     (reader_remaining g.R.Read.remaining l.initial.reader.reader)
     (reader_remaining g.R.Read.remaining l.reader.reader)
     (g.W.Write.contents l.initial.writer.writer) (g.W.Write.contents l.writer.writer)

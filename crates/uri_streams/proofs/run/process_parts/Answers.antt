@@ -1,10 +1,8 @@
-use Rattle.std.proofs.Common.{refl, rules, sym, subst, ◌∙◌}
-use Rattle.std.specs.Io.Buffered.{reader_remaining}
+use Rattle.uri_streams.proofs.Common.{refl, rules, sym, subst, ◌∙◌, reader_remaining, ReadsPartOfLine}
 use Rattle.fluent_uri.proofs.Outcomes.{IfErr-of-only-error}
 use Rattle.uri_streams.proofs.Failures.{KeepsFailures-passed-on}
 use Rattle.uri_streams.proofs.Reports.{Reports-nothing}
 use Rattle.uri_streams.proofs.Steps.{HasLine-of-read, IsStepOf-of-written-line, StepFails-in-reading}
-use Rattle.uri_streams.specs.Models.{ReadsPartOfLine}
 use Rattle.uri_streams.proofs.run.process_parts.Goals as goal
 
 pub returns-in_err-is_return : goal.returns-in_err-is_return

@@ -1,9 +1,7 @@
-use Rattle.std.proofs.Common.{◌≡◌, ◌+◌, ◌<◌, ◌≤◌, ℕ, List, map, ◌^◌, ◌||◌, ◌&&◌, ◌∙◌, Bool, true, false, not, arith, bit_or, eqb, get_or, length, refl, replicate, subst, sym, ap, w8, ◌%◌}
-use Rattle.std.specs.Prelude.{nat_le}
+use Rattle.uri_streams.proofs.Common.{◌≡◌, ◌+◌, ◌<◌, ◌≤◌, ℕ, List, map, ◌^◌, ◌||◌, ◌&&◌, ◌∙◌, Bool, true, false, not, arith, bit_or, eqb, get_or, length, refl, replicate, subst, sym, ap, w8, ◌%◌, nat_le, length-map}
 use Rattle.std.proofs.lemmas.Nat.{or_of_16}
 use Rattle.uri_pct.proofs.TableSets.Masks.{bit_of_bit_or}
 use Rattle.std.specs.Simd.Lanes.{chunk, mask_l}
-use Rattle.std.proofs.lemmas.List.{length-map}
 use Rattle.std.proofs.lemmas.Simd.{bitmask_splat, length-chunk, mask_l-lt, mask_l-mod, tops_compared, zip2_splat_left}
 use Rattle.uri_pct.proofs.LaneScans.LaneBits.{is_set_bit, mask_bit_is_test_of_byte, equality_mask_is_below_2_16, mask_bit_is_equality_of_byte}
 use Rattle.uri_streams.proofs.source.lanes_outside.Goals as goal
@@ -35,11 +33,9 @@ module _ (end : ℕ) (bs : List ℕ) (i : ℕ) (room : i + 16 ≤ length bs) (pa
       ≡ not (not (nat_le 128 (get_or bs (i + k) 0)) && not (eqb (get_or bs (i + k) 0) end))
   masks_have_lanes_outside k h =
       let b = get_or bs (i + k) 0 in
-      bit_of_bit_or past ends k
-      ∙ ap (λ x. x || is_set_bit ends k) (ap (λ m. is_set_bit m k) past_is
-      ∙ mask_bit_is_test_of_byte (λ x. nat_le 128 x) bs i k room h)
-      ∙ ap (λ x. nat_le 128 b || x) (ap (λ m. is_set_bit m k) ends_is
-      ∙ mask_bit_is_equality_of_byte end bs i k room h)
+      bit_of_bit_or past ends k ∙ ap (λ x. x || is_set_bit ends k) (ap (λ m. is_set_bit m k) past_is
+      ∙ mask_bit_is_test_of_byte (λ x. nat_le 128 x) bs i k room h) ∙ ap (λ x. nat_le 128 b || x)
+      (ap (λ m. is_set_bit m k) ends_is ∙ mask_bit_is_equality_of_byte end bs i k room h)
       ∙ either (nat_le 128 b) (eqb b end)
 
 -- the mask that a comparison with 128 gives

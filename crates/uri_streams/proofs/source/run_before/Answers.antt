@@ -43,9 +43,8 @@ returns-then-mask-eq0 c =
     let bs = c.args.bytes.now in
     let i = c.loop-i.i in
     let lanes = c.lanes_outside-tail.ensures in
-    let m = last_load_marks_failing_lanes _ bs i c.lanes_outside-tail.result
-    (omega arith) c.loop-i.invariant.within
-    (omega (arith, c.loop-i.invariant.within, c.loop-i-test.false))
+    let m = last_load_marks_failing_lanes _ bs i c.lanes_outside-tail.result (omega arith)
+    c.loop-i.invariant.within (omega (arith, c.loop-i.invariant.within, c.loop-i-test.false))
     (block c.args.end bs (length bs - 16) _ lanes.below lanes.lane) in
     record {
       from = omega arith;
@@ -61,9 +60,8 @@ returns c =
     let bs = c.args.bytes.now in
     let i = c.loop-i.i in
     let lanes = c.lanes_outside-tail.ensures in
-    let m = last_load_marks_failing_lanes _ bs i c.lanes_outside-tail.result
-    (omega arith) c.loop-i.invariant.within
-    (omega (arith, c.loop-i.invariant.within, c.loop-i-test.false))
+    let m = last_load_marks_failing_lanes _ bs i c.lanes_outside-tail.result (omega arith)
+    c.loop-i.invariant.within (omega (arith, c.loop-i.invariant.within, c.loop-i-test.false))
     (block c.args.end bs (length bs - 16) _ lanes.below lanes.lane) in
     run_ends_at_first_marked_lane _ bs 0 i (length bs - i) _ m c.loop-i.invariant.pass
     (omega (arith, c.if-mask-eq0.false)) (omega (arith, c.loop-i-test.false))

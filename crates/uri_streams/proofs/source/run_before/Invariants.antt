@@ -1,5 +1,4 @@
-use Rattle.std.proofs.Common.{length, ◌-◌, ◌≡◌, ◌≤◌, ◌<◌, ℕ, Bool, true, not, eqb, ◌&&◌}
-use Rattle.std.specs.Prelude.{nat_le, slice_index}
+use Rattle.uri_streams.proofs.Common.{length, ◌-◌, ◌≡◌, ◌≤◌, ◌<◌, ℕ, Bool, true, not, eqb, ◌&&◌, nat_le, slice_index}
 use Rattle.uri_streams.proofs.source.run_before.Given as goal
 
 -- the byte is ASCII and not the first one
@@ -10,8 +9,7 @@ abbrev pub invariant-loop-i : goal.invariant-loop-i
 invariant-loop-i l = record {
   from : 0 ≤ l.i;
   within : l.i ≤ length l.bytes;
-  pass : (k : ℕ) → 0 ≤ k → k < l.i
-      → is_inside l.end (slice_index l.bytes k) ≡ true;
+  pass : (k : ℕ) → 0 ≤ k → k < l.i → is_inside l.end (slice_index l.bytes k) ≡ true;
 }
 
 abbrev pub decreases-loop-i : goal.decreases-loop-i

@@ -1,6 +1,5 @@
-use Rattle.std.proofs.Common.{◌≡◌, ◌∙◌, ap, cond, rules, false, string_bytes, true}
+use Rattle.uri_streams.proofs.Common.{◌≡◌, ◌∙◌, ap, cond, rules, false, string_bytes, true, bytes_eq}
 use Rattle.std.specs.HashSet.{contains_text}
-use Rattle.std.specs.Prelude.{bytes_eq}
 use Rattle.uri_streams.proofs.Uniques.{text_if_new-of-new}
 use Rattle.uri_streams.proofs.task.borrowed_if_new.Goals as goal
 

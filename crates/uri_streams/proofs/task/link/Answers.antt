@@ -1,8 +1,7 @@
-use Rattle.std.proofs.Common.{ap, refl, ◌∙◌}
+use Rattle.uri_streams.proofs.Common.{ap, refl, ◌∙◌, result_in}
 use Rattle.fluent_uri.specs.Uris.{uri_ref_text, uri_text}
 use Rattle.uri_links.specs.Registers.{target_rules, texts_of}
 use Rattle.uri_streams.proofs.Tasks.{link_result-of-outcome, link_result-of-error}
-use Rattle.uri_streams.specs.Returned.{result_in}
 use Rattle.uri_streams.specs.declared.line_result.LineResult.{LineResult as Returned}
 use Rattle.uri_streams.proofs.task.link.Goals as goal
 

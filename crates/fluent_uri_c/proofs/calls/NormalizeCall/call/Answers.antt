@@ -1,12 +1,9 @@
-use Rattle.std.proofs.Common.{Some, ◌∙◌, ap, sym}
-use Rattle.std.specs.Result.{result_ok}
-use Rattle.fluent_uri_c.specs.Results.{normalize_result}
+use Rattle.fluent_uri_c.proofs.Common.{Some, ◌∙◌, ap, sym, result_ok, normalize_result}
 use Rattle.fluent_uri_c.proofs.OtherErrors.{normalize_result-is-other}
 use Rattle.fluent_uri_c.proofs.calls.NormalizeCall.call.Goals as goal
 
 pub returns-in-Ok-clause-made : goal.returns-in-Ok-clause-made
-returns-in-Ok-clause-made c =
-    ap Some c.of_normal_form.ensures ∙ sym (ap result_ok c.in-Ok.ensures)
+returns-in-Ok-clause-made c = ap Some c.of_normal_form.ensures ∙ sym (ap result_ok c.in-Ok.ensures)
 
 pub returns-in-Err-clause-made : goal.returns-in-Err-clause-made
 returns-in-Err-clause-made c =

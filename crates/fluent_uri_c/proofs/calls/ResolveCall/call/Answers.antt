@@ -1,6 +1,4 @@
-use Rattle.std.proofs.Common.{subst}
-use Rattle.fluent_uri.specs.References.{reference_text}
-use Rattle.fluent_uri_c.specs.Results.{IsTargetReturned, Returned, resolve_result}
+use Rattle.fluent_uri_c.proofs.Common.{subst, reference_text, IsTargetReturned, Returned, resolve_result}
 use Rattle.fluent_uri_c.proofs.ParsedBases.{target_by-is-resolve_result}
 use Rattle.fluent_uri_c.proofs.OtherErrors.{resolve_result-is-other}
 use Rattle.fluent_uri_c.proofs.calls.ResolveCall.call.Goals as goal

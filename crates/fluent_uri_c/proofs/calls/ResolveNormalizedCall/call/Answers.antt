@@ -1,6 +1,4 @@
-use Rattle.std.proofs.Common.{subst}
-use Rattle.fluent_uri.specs.References.{reference_text}
-use Rattle.fluent_uri_c.specs.Results.{IsReturnedAs, Returned, resolve_normalized_result}
+use Rattle.fluent_uri_c.proofs.Common.{subst, reference_text, IsReturnedAs, Returned, resolve_normalized_result}
 use Rattle.fluent_uri_c.proofs.ParsedBases.{normal_target_by-is-resolve_normalized_result}
 use Rattle.fluent_uri_c.proofs.OtherErrors.{resolve_normalized_result-is-other}
 use Rattle.fluent_uri_c.proofs.calls.ResolveNormalizedCall.call.Goals as goal

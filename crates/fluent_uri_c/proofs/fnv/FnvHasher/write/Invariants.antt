@@ -1,6 +1,5 @@
 -- The bytes that are left give the rest of the state.
-use Rattle.std.proofs.Common.{◌≡◌, drop}
-use Rattle.fluent_uri_c.specs.Fnv.{fnv_bytes}
+use Rattle.fluent_uri_c.proofs.Common.{◌≡◌, drop, fnv_bytes}
 use Rattle.fluent_uri_c.proofs.fnv.FnvHasher.write.Given as goal
 
 abbrev pub invariant-loop-byte : goal.invariant-loop-byte

@@ -1,7 +1,4 @@
-use Rattle.std.proofs.Common.{subst}
-use Rattle.fluent_uri.specs.References.{reference_text}
-use Rattle.fluent_uri_c.specs.Relatives.{relativize_result}
-use Rattle.fluent_uri_c.specs.Results.{IsReturnedAs, Returned}
+use Rattle.fluent_uri_c.proofs.Common.{subst, reference_text, relativize_result, IsReturnedAs, Returned}
 use Rattle.fluent_uri_c.proofs.ParsedBases.{reference_by-is-relativize_result}
 use Rattle.fluent_uri_c.proofs.OtherErrors.{relativize_result-is-other}
 use Rattle.fluent_uri_c.proofs.relative.RelativizeCall.call.Goals as goal

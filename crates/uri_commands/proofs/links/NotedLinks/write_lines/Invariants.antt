@@ -1,7 +1,5 @@
-use Rattle.std.proofs.Common.{◌≡◌, take}
-use Rattle.std.specs.Io.KnownBytes.{Appends}
+use Rattle.uri_commands.proofs.Common.{◌≡◌, take, Appends, outcome_lines}
 use Rattle.uri_links.specs.Registers.{texts_of}
-use Rattle.uri_commands.specs.Links.{outcome_lines}
 use Rattle.uri_commands.proofs.links.NotedLinks.write_lines.Given as goal
 
 -- the lines of the outcomes so far, and no failure

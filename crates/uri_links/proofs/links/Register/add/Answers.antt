@@ -1,7 +1,5 @@
 use Rattle.uri_links.proofs.links.Register.add.Goals as goal
-use Rattle.std.proofs.Common.{◌∙◌, ap, map, [], ◌∷◌, arith}
-use Rattle.std.proofs.lemmas.List.{map-append}
-use Rattle.fluent_uri.specs.Uris.{uri_text}
+use Rattle.uri_links.proofs.Common.{◌∙◌, ap, map, [], ◌∷◌, arith, map-append, uri_text}
 use Rattle.uri_links.proofs.FoundTexts.{search-tree-after-adding, missing-parent-in-range}
 use Rattle.uri_links.proofs.Texts.{uris-after-adding, normal-after-adding, distinct-after-adding}
 
@@ -23,6 +21,5 @@ pub invariant_of-self-in-Ok-clause-tree : goal.invariant_of-self-in-Ok-clause-tr
 invariant_of-self-in-Ok-clause-tree g c =
     let e = ap (map uri_text) c.in_ok-push.ensures.items
     ∙ map-append uri_text c.args.self.now.targets.items (c.args.target ∷ []) in
-    search-tree-after-adding _ c.add_node.new.nodes.items c.args.hash c.args.parent
-    c.args.right _ _ _
-    c.args.self.now.tree c.requires.missing c.requires.hash c.in-Ok.ensures.with_node_added e
+    search-tree-after-adding _ c.add_node.new.nodes.items c.args.hash c.args.parent c.args.right _ _
+    _ c.args.self.now.tree c.requires.missing c.requires.hash c.in-Ok.ensures.with_node_added e

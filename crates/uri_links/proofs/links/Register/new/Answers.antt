@@ -1,5 +1,4 @@
-use Rattle.std.proofs.Common.{ap, map}
-use Rattle.fluent_uri.specs.Uris.{uri_text}
+use Rattle.uri_links.proofs.Common.{ap, map, uri_text}
 use Rattle.uri_links.proofs.Texts.{no-texts-are-distinct}
 use Rattle.uri_links.proofs.links.Register.new.Goals as goal
 

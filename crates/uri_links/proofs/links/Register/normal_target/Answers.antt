@@ -1,9 +1,6 @@
-use Rattle.std.proofs.Common.{ap, subst}
+use Rattle.uri_links.proofs.Common.{ap, subst, uri, uri_ref_text, uri_text, target_rules}
 use Rattle.std.proofs.lemmas.Result.{IfOk-weaker}
-use Rattle.fluent_uri.specs.Grammar.{uri}
 use Rattle.fluent_uri.specs.NormalTargets.{IsNormalFormOfTarget}
-use Rattle.fluent_uri.specs.Uris.{uri_ref_text, uri_text}
-use Rattle.uri_links.specs.Registers.{target_rules}
 use Rattle.uri_links.proofs.links.Register.normal_target.Goals as goal
 
 pub returns-clause-target : goal.returns-clause-target

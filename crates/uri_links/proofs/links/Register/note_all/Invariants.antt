@@ -1,7 +1,4 @@
-use Rattle.std.proofs.Common.{◌≡◌, take, map}
-use Rattle.fluent_uri.specs.Uris.{uri_ref_text, uri_text}
-use Rattle.uri_links.specs.Outcomes.{outcomes_of}
-use Rattle.uri_links.specs.Registers.{target_rules, texts_of}
+use Rattle.uri_links.proofs.Common.{◌≡◌, take, map, uri_ref_text, uri_text, outcomes_of, target_rules, texts_of}
 use Rattle.uri_links.proofs.links.Register.note_all.Given as goal
 
 abbrev pub invariant-loop-reference : goal.invariant-loop-reference

@@ -11,30 +11,21 @@ with_fragment-requires g c = before-fragment-lacks-fragment g.R.RiMaybeRef.kind.
     (draft_parts c.into_draft.result) c.into_draft.ensures.before
 
 pub from_draft-requires-clause-rules : goal.from_draft-requires-clause-rules
-from_draft-requires-clause-rules g c =
-    parts-with-fragment-meet-rules g.R.RiMaybeRef.kind g.R.RiMaybeRef.kind.needs_scheme
-    (draft_parts c.into_draft.result)
-    (draft_parts c.with_fragment.result) c.as_str.result.now c.with_fragment.ensures.adds
-    c.into_draft.ensures.rules
-    (valid-utf8-is-text-for-encoder g.R.FragmentE.Encoder.set g.R.RiMaybeRef.kind.fragment
-    (g.met.R.Kind.Kind.fragment_set
-    ∙ ap (λ kind. kind.fragment) g.met.R.RiMaybeRef.kind_is_its_own) c.as_str.result.now
-    c.as_str.utf8 c.as_str.ensures.valid)
+from_draft-requires-clause-rules g c = parts-with-fragment-meet-rules _
+    g.R.RiMaybeRef.kind.needs_scheme _ _ _ c.with_fragment.ensures.adds c.into_draft.ensures.rules
+    (valid-utf8-is-text-for-encoder _ _ (g.met.R.Kind.Kind.fragment_set
+    ∙ ap (λ kind. kind.fragment) g.met.R.RiMaybeRef.kind_is_its_own) _ c.as_str.utf8
+    c.as_str.ensures.valid)
 
 pub from_draft-requires-clause-place : goal.from_draft-requires-clause-place
-from_draft-requires-clause-place g c =
-    parts-with-fragment-are-in-order g.R.RiMaybeRef.kind g.R.RiMaybeRef.kind.needs_scheme
-    (draft_parts c.into_draft.result) (draft_parts c.with_fragment.result) c.as_str.result.now
+from_draft-requires-clause-place g c = parts-with-fragment-are-in-order g.R.RiMaybeRef.kind _ _ _ _
     c.with_fragment.ensures.adds c.into_draft.ensures.before
 
 pub from_draft-requires-clause-host : goal.from_draft-requires-clause-host
-from_draft-requires-clause-host g c =
-    host-range-stays-with-authority (with_fragment c.as_str.result.now) c.into_draft.result
-    c.with_fragment.result
+from_draft-requires-clause-host g c = host-range-stays-with-authority
+    (with_fragment c.as_str.result.now) c.into_draft.result c.with_fragment.result
     c.with_fragment.ensures.adds refl refl c.with_fragment.ensures.host c.into_draft.ensures.host
 
 pub returns : goal.returns
-returns g c =
-    step-adds-to-contents with_fragment _ _ _ _ _ _ refl c.as_str.ensures.text
-    c.into_draft.ensures.same
-    c.with_fragment.ensures.adds c.from_draft.ensures
+returns g c = step-adds-to-contents with_fragment _ _ _ _ _ _ refl c.as_str.ensures.text
+    c.into_draft.ensures.same c.with_fragment.ensures.adds c.from_draft.ensures

@@ -11,29 +11,20 @@ with_path-requires g c = in-order-parts-pass-the-test lacks_path g.R.RiMaybeRef.
     (draft_parts c.into_draft.result) c.into_draft.ensures.before
 
 pub from_draft-requires-clause-rules : goal.from_draft-requires-clause-rules
-from_draft-requires-clause-rules g c =
-    parts-with-path-meet-rules g.R.RiMaybeRef.kind g.R.RiMaybeRef.kind.needs_scheme
-    (draft_parts c.into_draft.result)
-    (draft_parts c.with_path.result) c.as_str.result.now c.with_path.ensures.adds
-    c.into_draft.ensures.rules
-    (valid-utf8-is-text-for-encoder g.R.PathE.Encoder.set g.R.RiMaybeRef.kind.path
-    (g.met.R.Kind.Kind.path_set ∙ ap (λ kind. kind.path) g.met.R.RiMaybeRef.kind_is_its_own)
-    c.as_str.result.now c.as_str.utf8 c.as_str.ensures.valid)
+from_draft-requires-clause-rules g c = parts-with-path-meet-rules _ g.R.RiMaybeRef.kind.needs_scheme
+    _ _ _ c.with_path.ensures.adds c.into_draft.ensures.rules (valid-utf8-is-text-for-encoder _ _
+    (g.met.R.Kind.Kind.path_set ∙ ap (λ kind. kind.path) g.met.R.RiMaybeRef.kind_is_its_own) _
+    c.as_str.utf8 c.as_str.ensures.valid)
 
 pub from_draft-requires-clause-place : goal.from_draft-requires-clause-place
-from_draft-requires-clause-place g c =
-    parts-with-path-are-in-order g.R.RiMaybeRef.kind g.R.RiMaybeRef.kind.needs_scheme
-    (draft_parts c.into_draft.result)
-    (draft_parts c.with_path.result) c.as_str.result.now c.with_path.ensures.adds
-    c.into_draft.ensures.before
+from_draft-requires-clause-place g c = parts-with-path-are-in-order g.R.RiMaybeRef.kind _ _ _ _
+    c.with_path.ensures.adds c.into_draft.ensures.before
 
 pub from_draft-requires-clause-host : goal.from_draft-requires-clause-host
-from_draft-requires-clause-host g c =
-    host-range-stays-with-authority (with_path c.as_str.result.now) c.into_draft.result
-    c.with_path.result
-    c.with_path.ensures.adds refl refl c.with_path.ensures.host c.into_draft.ensures.host
+from_draft-requires-clause-host g c = host-range-stays-with-authority
+    (with_path c.as_str.result.now) c.into_draft.result c.with_path.result c.with_path.ensures.adds
+    refl refl c.with_path.ensures.host c.into_draft.ensures.host
 
 pub returns : goal.returns
-returns g c =
-    step-adds-to-contents with_path _ _ _ _ _ _ refl c.as_str.ensures.text c.into_draft.ensures.same
-    c.with_path.ensures.adds c.from_draft.ensures
+returns g c = step-adds-to-contents with_path _ _ _ _ _ _ refl c.as_str.ensures.text
+    c.into_draft.ensures.same c.with_path.ensures.adds c.from_draft.ensures

@@ -7,35 +7,24 @@ use Rattle.uri_ops.proofs.Builders.PartRules.{parts-with-query-meet-rules, parts
 use Rattle.uri_ops.proofs.build.Builder.query.Goals as goal
 
 pub with_query-requires : goal.with_query-requires
-with_query-requires g c = path-last-lacks-query-and-fragment g.R.RiMaybeRef.kind.needs_scheme
-    (draft_parts c.into_draft.result)
-    c.into_draft.ensures.before
+with_query-requires g c = path-last-lacks-query-and-fragment _ _ c.into_draft.ensures.before
 
 pub from_draft-requires-clause-rules : goal.from_draft-requires-clause-rules
-from_draft-requires-clause-rules g c =
-    parts-with-query-meet-rules g.R.RiMaybeRef.kind g.R.RiMaybeRef.kind.needs_scheme
-    (draft_parts c.into_draft.result)
-    (draft_parts c.with_query.result) c.as_str.result.now c.with_query.ensures.adds
-    c.into_draft.ensures.rules
-    (valid-utf8-is-text-for-encoder g.R.QueryE.Encoder.set g.R.RiMaybeRef.kind.query
-    (g.met.R.Kind.Kind.query_set ∙ ap (λ kind. kind.query) g.met.R.RiMaybeRef.kind_is_its_own)
-    c.as_str.result.now c.as_str.utf8 c.as_str.ensures.valid)
+from_draft-requires-clause-rules g c = parts-with-query-meet-rules _
+    g.R.RiMaybeRef.kind.needs_scheme _ _ _ c.with_query.ensures.adds c.into_draft.ensures.rules
+    (valid-utf8-is-text-for-encoder _ _
+    (g.met.R.Kind.Kind.query_set ∙ ap (λ kind. kind.query) g.met.R.RiMaybeRef.kind_is_its_own) _
+    c.as_str.utf8 c.as_str.ensures.valid)
 
 pub from_draft-requires-clause-place : goal.from_draft-requires-clause-place
-from_draft-requires-clause-place g c =
-    parts-with-query-are-in-order g.R.RiMaybeRef.kind g.R.RiMaybeRef.kind.needs_scheme
-    (draft_parts c.into_draft.result)
-    (draft_parts c.with_query.result) c.as_str.result.now c.with_query.ensures.adds
-    c.into_draft.ensures.before
+from_draft-requires-clause-place g c = parts-with-query-are-in-order g.R.RiMaybeRef.kind _ _ _ _
+    c.with_query.ensures.adds c.into_draft.ensures.before
 
 pub from_draft-requires-clause-host : goal.from_draft-requires-clause-host
-from_draft-requires-clause-host g c =
-    host-range-stays-with-authority (with_query c.as_str.result.now) c.into_draft.result
-    c.with_query.result
+from_draft-requires-clause-host g c = host-range-stays-with-authority
+    (with_query c.as_str.result.now) c.into_draft.result c.with_query.result
     c.with_query.ensures.adds refl refl c.with_query.ensures.host c.into_draft.ensures.host
 
 pub returns : goal.returns
-returns g c =
-    step-adds-to-contents with_query _ _ _ _ _ _ refl c.as_str.ensures.text
-    c.into_draft.ensures.same
-    c.with_query.ensures.adds c.from_draft.ensures
+returns g c = step-adds-to-contents with_query _ _ _ _ _ _ refl c.as_str.ensures.text
+    c.into_draft.ensures.same c.with_query.ensures.adds c.from_draft.ensures

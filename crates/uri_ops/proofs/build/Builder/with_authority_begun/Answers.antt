@@ -8,34 +8,25 @@ use Rattle.uri_ops.proofs.Builders.PartRules.{parts-with-authority-meet-rules, p
 use Rattle.uri_ops.proofs.build.Builder.with_authority_begun.Goals as goal
 
 pub with_authority-requires : goal.with_authority-requires
-with_authority-requires g c = in-order-parts-pass-the-test lacks_authority
-    g.R.RiMaybeRef.kind.needs_scheme
-    (draft_parts c.into_draft.result) c.into_draft.ensures.before
+with_authority-requires g c = in-order-parts-pass-the-test _ _ _ c.into_draft.ensures.before
 
 pub from_draft-requires-clause-rules : goal.from_draft-requires-clause-rules
-from_draft-requires-clause-rules g c =
-    parts-with-authority-meet-rules g.R.RiMaybeRef.kind g.R.RiMaybeRef.kind.needs_scheme
-    (draft_parts c.into_draft.result) (draft_parts c.with_authority.result) []
-    c.with_authority.ensures.adds c.into_draft.ensures.rules
-    (empty-text-is-authority g.R.RiMaybeRef.kind)
+from_draft-requires-clause-rules g c = parts-with-authority-meet-rules _
+    g.R.RiMaybeRef.kind.needs_scheme _ _ [] c.with_authority.ensures.adds c.into_draft.ensures.rules
+    (empty-text-is-authority _)
 
 pub from_draft-requires-clause-place : goal.from_draft-requires-clause-place
-from_draft-requires-clause-place g c =
-    g.met.S.BeginsAuthority.begun g.R.RiMaybeRef.kind.needs_scheme
-    (draft_parts c.with_authority.result)
-    (parts-with-begun-authority-are-in-order g.R.RiMaybeRef.kind g.R.RiMaybeRef.kind.needs_scheme
-    (draft_parts c.into_draft.result) (draft_parts c.with_authority.result) []
+from_draft-requires-clause-place g c = g.met.S.BeginsAuthority.begun
+    g.R.RiMaybeRef.kind.needs_scheme (draft_parts c.with_authority.result)
+    (parts-with-begun-authority-are-in-order g.R.RiMaybeRef.kind _ _ _ []
     c.with_authority.ensures.adds c.into_draft.ensures.before)
 
 pub from_draft-requires-clause-host : goal.from_draft-requires-clause-host
-from_draft-requires-clause-host g c =
-    host-range-of-new-authority [] c.into_draft.result c.with_authority.result
-    c.with_authority.ensures.adds
-    (empty-authority-has-host-range c.with_authority.result.host
-    (ap (λ h. h.start) c.with_authority.ensures.host)
+from_draft-requires-clause-host g c = host-range-of-new-authority [] c.into_draft.result
+    c.with_authority.result c.with_authority.ensures.adds (empty-authority-has-host-range
+    c.with_authority.result.host (ap (λ h. h.start) c.with_authority.ensures.host)
     (ap (λ h. h.end) c.with_authority.ensures.host))
 
 pub returns : goal.returns
-returns g c =
-    step-adds-to-contents with_authority _ _ _ _ _ _ refl refl c.into_draft.ensures.same
+returns g c = step-adds-to-contents with_authority _ _ _ _ _ _ refl refl c.into_draft.ensures.same
     c.with_authority.ensures.adds c.from_draft.ensures

@@ -20,10 +20,6 @@ returns g c =
           omega (arith, w.start-is, same)
     ] in
     let host = ap length c.host-host_len.ensures in
-    host-range-from-ends g.U.Encoder.set g.N.Encoder.set
-    (record {
-      start = c.match-userinfo.start;
-      end =
-          c.match-userinfo.start + length c.host-host_len.result.now;
-    }) a c.args.authority.valid
+    host-range-from-ends _ _
+    _ a c.args.authority.valid
     start (omega (arith, start, host))

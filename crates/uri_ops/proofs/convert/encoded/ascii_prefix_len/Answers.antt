@@ -7,8 +7,7 @@ pub returns-then-this-clause-inside : goal.returns-then-this-clause-inside
 returns-then-this-clause-inside c = c.ascii_end.ensures.within
 
 pub returns-then-this-clause-unchanged : goal.returns-then-this-clause-unchanged
-returns-then-this-clause-unchanged c =
-    ascii-run-stays-when-encoded c.args.bytes.now c.ascii_end.result c.ascii_end.ensures.within
+returns-then-this-clause-unchanged c = ascii-run-stays-when-encoded _ _ c.ascii_end.ensures.within
     (λ k h. ltb-true _ 128 (c.ascii_end.ensures.pass k (omega arith) h))
 
 pub returns-then-this-clause-stops : goal.returns-then-this-clause-stops

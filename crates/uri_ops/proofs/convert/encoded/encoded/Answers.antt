@@ -31,11 +31,9 @@ push_encoded_components-requires-clause-ordered g c =
     (positions-are-ordered g.R.RiMaybeRef.kind g.met.R.RiMaybeRef.component_sets text
     (record {
       utf8 = subst IsUtf8 c.as_str-text.ensures.text c.as_str-text.utf8;
-      grammar =
-          subst (IsOfKind g.R.RiMaybeRef.kind) (sym c.core-core.ensures.text)
+      grammar = subst (IsOfKind g.R.RiMaybeRef.kind) (sym c.core-core.ensures.text)
           c.core-core.ensures.of_kind;
-    })
-    c.positions.result c.positions.ensures)
+    }) c.positions.result c.positions.ensures)
 
 pub unreachable-requires : goal.unreachable-requires
 unreachable-requires g c =
@@ -58,8 +56,6 @@ returns-clause-at g c =
     (encoded-positions-are-right g.R.RiMaybeRef.kind g.met.R.RiMaybeRef.component_sets text
     (record {
       utf8 = subst IsUtf8 c.as_str-text.ensures.text c.as_str-text.utf8;
-      grammar =
-          subst (IsOfKind g.R.RiMaybeRef.kind) (sym c.core-core.ensures.text)
+      grammar = subst (IsOfKind g.R.RiMaybeRef.kind) (sym c.core-core.ensures.text)
           c.core-core.ensures.of_kind;
-    })
-    c.positions.result c.positions.ensures)))
+    }) c.positions.result c.positions.ensures)))

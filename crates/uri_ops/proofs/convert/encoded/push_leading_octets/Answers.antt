@@ -13,16 +13,15 @@ three-stores xs n m a b c e inside =
     let one = set xs n a in
     let two = set one (n + 1) b in
     let size_one : length one ≡ length xs = length-set xs n a in
-    let size : length two ≡ length xs = length-set one (n + 1) b ∙ size_one in
+    let size : length two ≡ length xs = length-set one _ b ∙ size_one in
     let first : take (n + 1) one ≡ take n xs ++ a ∷ [] =
-    take-set_at xs n (n + 1) a (omega arith) (omega arith) in
+    take-set_at xs n _ a (omega arith) (omega arith) in
     let second : take (n + 2) two ≡ take (n + 1) one ++ b ∷ [] =
-    take-set_at one (n + 1) (n + 2) b (omega arith) (omega arith) in
+    take-set_at one _ _ b (omega arith) (omega arith) in
     let third : take m (set two (n + 2) c) ≡ take (n + 2) two ++ c ∷ [] =
-    take-set_at two (n + 2) m c (omega arith) (omega arith) in
+    take-set_at two _ m c (omega arith) (omega arith) in
     third ∙ ap (λ t. t ++ c ∷ []) (second ∙ ap (λ t. t ++ b ∷ []) first)
-    ∙ append_assoc (take n xs ++ a ∷ []) (b ∷ []) (c ∷ [])
-    ∙ append_assoc (take n xs) (a ∷ []) (b ∷ c ∷ [])
+    ∙ append_assoc (take n xs ++ a ∷ []) _ _ ∙ append_assoc (take n xs) _ _
 
 -- general fact on lists, for the three bytes of an octet: a list of three is its elements
 list-of-three : (xs ys : List ℕ) (a b c : ℕ) → xs ≡ ys → ys ≡ a ∷ b ∷ c ∷ []
@@ -51,16 +50,14 @@ loop-count-preserved c =
     let d = get_or octet 2 0 in
     let within : 3 * (count + 1) ≤ length octets = omega (arith, holds.size) in
     let same : octet ≡ text = c.as_bytes-octet.ensures.value ∙ c.pct_encoded.ensures in
-    let three : a ∷ b ∷ d ∷ [] ≡ text = list-of-three octet text _ _ _ same refl in
-    let stored = three-stores octets (3 * count) (3 * (count + 1)) a b d (omega arith) within in
+    let three : a ∷ b ∷ d ∷ [] ≡ text = list-of-three _ _ _ _ _ same refl in
+    let stored = three-stores _ _ _ a b d (omega arith) within in
     let one = set octets (3 * count) a in
     let two = set one (3 * count + 1) b in
     record {
       inside = omega arith;
       few = omega arith;
-      size = length-set two (3 * count + 2) d ∙ length-set one (3 * count + 1) b
-          ∙ length-set octets (3 * count) a ∙ holds.size;
-      octets = pushed-octet-is-encoding [] (take (3 * count) octets) _ bytes count (omega arith)
-          c.if-bytes-count-ge128.true holds.octets
-          (stored ∙ ap (λ t. take (3 * count) octets ++ t) three);
+      size = length-set two _ d ∙ length-set one _ b ∙ length-set octets _ a ∙ holds.size;
+      octets = pushed-octet-is-encoding [] _ _ _ _ (omega arith) c.if-bytes-count-ge128.true
+          holds.octets (stored ∙ ap (λ t. take (3 * count) octets ++ t) three);
     }

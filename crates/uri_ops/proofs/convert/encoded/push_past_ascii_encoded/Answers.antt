@@ -6,11 +6,7 @@ use Rattle.uri_ops.proofs.AsciiForms.EncodedRuns.{pushed-ascii-run-is-encoding, 
 use Rattle.uri_ops.proofs.convert.encoded.push_past_ascii_encoded.Goals as goal
 
 pub loop-done-init : goal.loop-done-init
-loop-done-init c = record {
-  inside = omega arith;
-  total = nothing-pushed-is-encoding
-      c.args.out.now.items;
-}
+loop-done-init c = record { inside = omega arith; total = nothing-pushed-is-encoding _ }
 
 -- IRIs as URIs: appending the encoding of n bytes from i on continues the encoded text
 pushed-encoding-is-encoding : (old mid new bytes : List ℕ) (i n : ℕ)
@@ -32,20 +28,14 @@ loop-done-preserved-then-bytes-done-ge128 c =
     let count = c.in_ok-done.field-0 in
     let pushed = c.in_ok-done.ensures in
     record {
-      inside = end-of-run-is-within-bytes bytes done count c.loop-done.invariant.inside
-          pushed.inside;
-      total = pushed-encoding-is-encoding c.args.out.now.items c.loop-done.out.items
-          c.push_leading_octets.new.out.items bytes done count c.loop-done.invariant.total
-          pushed.text;
+      inside = end-of-run-is-within-bytes _ _ _ c.loop-done.invariant.inside pushed.inside;
+      total = pushed-encoding-is-encoding _ _ _ _ _ _ c.loop-done.invariant.total pushed.text;
     }
 
 pub loop-done-preserved : goal.loop-done-preserved
 loop-done-preserved c = record {
-  inside = end-of-run-is-within-bytes c.args.bytes.now c.loop-done.done c.ascii_prefix_len.result
+  inside = end-of-run-is-within-bytes _ _ _
       c.loop-done.invariant.inside c.ascii_prefix_len.ensures.inside;
-  total = pushed-ascii-run-is-encoding c.args.out.now.items c.loop-done.out.items
-      c.push_run.new.out.items
-      c.args.bytes.now c.loop-done.done c.ascii_prefix_len.result
-      c.ascii_prefix_len.ensures.unchanged
+  total = pushed-ascii-run-is-encoding _ _ _ _ _ _ c.ascii_prefix_len.ensures.unchanged
       c.loop-done.invariant.total c.in_ok-push_run.ensures;
 }

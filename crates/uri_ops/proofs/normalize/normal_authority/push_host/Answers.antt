@@ -4,8 +4,8 @@ use Rattle.uri_ops.proofs.Meanings.BracketedHosts.{normal-name-is-lowered-decode
 use Rattle.uri_ops.proofs.Meanings.Decodable.{unbracketed-host-is-decodable}
 use Rattle.uri_ops.proofs.normalize.normal_authority.push_host.Goals as goal
 
-pub push_decoded_host-requires : goal.push_decoded_host-requires
-push_decoded_host-requires g c =
+pub push_decoded-requires : goal.push_decoded-requires
+push_decoded-requires g c =
     let w =
     (holds g.U.Encoder.set g.R.Encoder.set c.args.authority.text.now
     c.args.authority.valid).host in
@@ -22,4 +22,4 @@ returns-then-not-is_bracketed g c =
           (sym c.is_bracketed.ensures ∙ c.if-not-is_bracketed.true),
       ← c.table.ensures,
     )
-    c.push_decoded_host.ensures
+    c.push_decoded.ensures

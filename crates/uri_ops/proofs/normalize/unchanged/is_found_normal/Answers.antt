@@ -2,7 +2,7 @@ use Rattle.std.proofs.Common.{subst, sym, ◌∙◌}
 use Rattle.std.specs.Str.{IsUtf8}
 use Rattle.std.proofs.lemmas.Bool.{not-true}
 use Rattle.uri_parts.specs.CoreTexts.{core_text}
-use Rattle.uri_ops.proofs.SchemeRules.RuledParts.{unruled-text-is-its-normal-text}
+use Rattle.uri_ops.proofs.SchemeRules.RuledCopies.{unruled-text-is-its-normal-text}
 use Rattle.uri_ops.proofs.TextKinds.FourKinds.{one-of-four-kinds-has-sets}
 use Rattle.uri_ops.proofs.normalize.unchanged.is_found_normal.Goals as goal
 

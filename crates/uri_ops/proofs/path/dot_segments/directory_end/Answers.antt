@@ -1,8 +1,8 @@
-use Rattle.std.proofs.Common.{rules, subst, sym, ap, ◌∙◌, inr}
+use Rattle.std.proofs.Common.{rules, sym, ap, ◌∙◌, inr}
 use Rattle.std.proofs.Math.Seq.{take-length}
-use Rattle.uri_ops.specs.Dots.{EndsInSlash, remove_dot_segments, underflows}
+use Rattle.uri_ops.specs.Dots.{remove_dot_segments, underflows}
 use Rattle.uri_ops.proofs.Paths.DotLaws.{directory-underflows-as-path}
-use Rattle.uri_ops.proofs.Paths.LastSlashes.{position-after-slash-is-boundary, trailing-double-dot-ends-in-no-slash, trailing-double-dot-path-is-its-directory, prefix-with-last-slash-is-directory}
+use Rattle.uri_ops.proofs.Paths.LastSlashes.{position-after-slash-is-boundary, trailing-double-dot-path-is-its-directory, prefix-with-last-slash-is-directory}
 use Rattle.uri_ops.proofs.path.dot_segments.directory_end.Goals as goal
 
 pub range_from-requires : goal.range_from-requires
@@ -20,18 +20,6 @@ returns-then-is_double_dot-clause-text c =
 pub returns-then-is_double_dot-clause-underflow : goal.returns-then-is_double_dot-clause-underflow
 returns-then-is_double_dot-clause-underflow c = ap underflows (take-length c.args.path.now)
     ∙ sym (directory-underflows-as-path c.args.path.now (inr c.requires))
-
-pub returns-then-is_double_dot-clause-closed : goal.returns-then-is_double_dot-clause-closed
-returns-then-is_double_dot-clause-closed c = λ ends.
-    let path = c.args.path.now in
-    absurd (trailing-double-dot-ends-in-no-slash path c.last_slash-slash.result c.requires
-    (search rules) (search rules)
-    (search rules) (subst EndsInSlash (take-length path) ends))
-
-pub returns-clause-closed : goal.returns-clause-closed
-returns-clause-closed c = λ _. prefix-with-last-slash-is-directory c.args.path.now
-    c.last_slash-slash.result c.requires
-    (search rules) (search rules) (search rules)
 
 pub returns-clause-text : goal.returns-clause-text
 returns-clause-text c = ap remove_dot_segments

@@ -1,10 +1,8 @@
-use Rattle.std.proofs.Common.{rules, ◌≡◌, [], ap, false, subst, sym, true, ◌++◌, ◌∙◌}
-use Rattle.uri_ops.specs.Dots.{lacks_dot_segments}
+use Rattle.std.proofs.Common.{ap, subst, ◌++◌, ◌∙◌}
+use Rattle.uri_ops.specs.Models.Directories.{EndsIn, RemovalState}
 use Rattle.uri_ops.specs.Models.Places.{before_path}
-use Rattle.uri_ops.specs.Models.TargetPieces.{HasJoinedPath}
 use Rattle.uri_ops.specs.Resolving.{components_of}
-use Rattle.uri_ops.proofs.Paths.ClimbedDirectories.{directory-at-start-ends-at-slash, path-with-directory-at-start-is-absolute}
-use Rattle.uri_ops.proofs.Paths.LeftPaths.{removal-state-begins-with-directory}
+use Rattle.uri_ops.proofs.Paths.ClimbedDirectories.{directory-at-start-ends-at-slash, path-with-directory-at-start-is-absolute, prefix-of-prefix-is-prefix}
 use Rattle.uri_ops.proofs.Targeting.TargetPieces.{relative-path-after-directory-is-joined}
 use Rattle.uri_ops.proofs.resolve.target_pieces.pieces_with_merged_path.Goals as goal
 
@@ -17,24 +15,34 @@ through_slash-prefix-requires-clause-absolute c =
 
 pub through_slash-prefix-requires-clause-place : goal.through_slash-prefix-requires-clause-place
 through_slash-prefix-requires-clause-place c =
-    (directory-at-start-ends-at-slash (components_of c.args.base.now).path
-    c.in_ok-directory.directory.now c.in_ok-directory.ensures.dotless
-    c.in_ok-directory.ensures.place).1
+    let path = (components_of c.args.base.now).path in
+    let directory = c.in_ok-directory.directory.now in
+    let followed = c.follow_leading_dots-underflows in
+    let kept = followed.result.0.now in
+    (directory-at-start-ends-at-slash path kept followed.ensures.kept
+    (prefix-of-prefix-is-prefix path directory kept c.in_ok-directory.ensures.place
+    followed.ensures.prefix)).1
 
 pub pieces_after-requires-clause-rest : goal.pieces_after-requires-clause-rest
-pieces_after-requires-clause-rest c = ([], sym c.path-path.ensures)
+pieces_after-requires-clause-rest c =
+    let followed = c.follow_leading_dots-underflows in
+    subst (λ t. EndsIn t followed.result.1.now) c.path.ensures followed.ensures.suffix
 
 pub pieces_after-requires-clause-target : goal.pieces_after-requires-clause-target
 pieces_after-requires-clause-target c =
     let b = components_of c.args.base.now in
     let r = components_of c.args.reference.now in
     let directory = c.in_ok-directory.directory.now in
-    let d = c.in_ok-directory.ensures in
-    let prefix = c.through_slash-prefix.result.now in
-    let dotless : lacks_dot_segments r.path ≡ true = search rules in
-    subst (λ t. HasJoinedPath b r prefix t false) (sym c.path-path.ensures)
-    (relative-path-after-directory-is-joined b r c.requires.0.scheme c.requires.0.authority
-    c.requires.1 c.requires.2 directory directory r.path false d
-    (removal-state-begins-with-directory directory r.path d.dotless) d.dotless dotless prefix
-    (c.through_slash-prefix.ensures ∙ ap (λ t. before_path b ++ t)
-    (directory-at-start-ends-at-slash b.path directory d.dotless d.place).2))
+    let followed = c.follow_leading_dots-underflows in
+    let kept = followed.result.0.now in
+    let rest = followed.result.1.now in
+    let left = subst (λ t. RemovalState (directory ++ t) kept rest followed.result.2)
+    c.path.ensures followed.ensures.left in
+    let at = directory-at-start-ends-at-slash b.path kept followed.ensures.kept
+    (prefix-of-prefix-is-prefix b.path directory kept c.in_ok-directory.ensures.place
+    followed.ensures.prefix) in
+    relative-path-after-directory-is-joined b r c.requires.0.scheme c.requires.0.authority
+    c.requires.1 c.requires.2 directory kept rest followed.result.2 c.in_ok-directory.ensures left
+    followed.ensures.kept (c.is_dotless_rest.ensures c.if-not-is_dotless_rest.false)
+    c.through_slash-prefix.result.now
+    (c.through_slash-prefix.ensures ∙ ap (λ t. before_path b ++ t) at.2)

@@ -1,51 +1,82 @@
-use Rattle.std.proofs.Common.{rules, ◌≡◌, [], ◌++◌, ap, false, is_some, sym, ◌∙◌, string_bytes}
-use Rattle.uri_parts.specs.Components.{components, recompose}
+use Rattle.std.proofs.Common.{rules, ap, subst, sym, ◌∙◌}
+use Rattle.uri_parts.specs.Components.{recompose}
 use Rattle.uri_parts.specs.PackedPositions.{packed}
 use Rattle.uri_parts.specs.Positions.{positions_of}
-use Rattle.uri_ops.specs.Resolving.{components_of, with_final_path}
+use Rattle.uri_parts.proofs.Splitting.Recompose.{recompose-components}
+use Rattle.uri_ops.specs.Models.FoundTargets.{IsMadeOf}
+use Rattle.uri_ops.specs.Resolving.{components_of}
 use Rattle.uri_ops.specs.Target.{dotted_target}
-use Rattle.uri_ops.proofs.Targeting.TargetPieces.{pieces-are-target, pieces-have-positions-of-text}
-use Rattle.uri_ops.proofs.Targeting.Targets.{target-text-has-target-components}
+use Rattle.uri_ops.proofs.Targeting.FoundTargets.{text-of-found-target-is-target, text-of-target-has-positions}
 use Rattle.uri_ops.proofs.resolve.target_text.target_text.Goals as goal
 
-pub push_target-requires : goal.push_target-requires
-push_target-requires c = c.dotted_target-dotted.ensures.rooted
-
-pub returns-clause-at : goal.returns-clause-at
-returns-clause-at c =
-    let t = dotted_target (components_of c.args.base.now) (components_of c.args.reference.now) in
-    let empty : string_bytes c.in_ok-text-2.text ≡ [] = search rules in
-    let text = c.in_ok-positions.ensures.text t c.dotted_target-dotted.ensures
-    ∙ ap (λ x. x ++ recompose (with_final_path t)) empty in
-    c.in_ok-positions.ensures.places t c.dotted_target-dotted.ensures empty
-    ∙ sym (ap (λ p. packed (positions_of p))
-    (ap components text ∙ target-text-has-target-components c.args.base.now.text.now
-    c.args.reference.now.text.now
-    c.requires))
-
-pub returns-in-Some-clause-target : goal.returns-in-Some-clause-target
-returns-in-Some-clause-target c =
+pub returns-in_ok-from_str-in-Reference-clause-target
+    : goal.returns-in_ok-from_str-in-Reference-clause-target
+returns-in_ok-from_str-in-Reference-clause-target c =
     let b = components_of c.args.base.now in
     let r = components_of c.args.reference.now in
-    let none : is_some b.fragment ≡ false = search rules in
-    pieces-are-target b r c.in-Some.pieces c.in-Some.ensures none c.args.allow_path_underflow
-    (string_bytes c.in_ok-text.text) (λ a. search rules) c.in_ok-text.ensures
+    let found = c.in_ok-found.ensures.found in
+    let made = subst (IsMadeOf c.args.allow_path_underflow b r) c.in-Reference.is found.made in
+    text-of-found-target-is-target b r c.args.allow_path_underflow _ found.none found.taken
+    (c.in_ok-from_str-in-Reference.ensures.ok ∙ c.as_str.ensures.text
+    ∙ sym (recompose-components c.args.reference.now.text.now) ∙ sym (ap recompose made.0))
+    (λ _. made.1)
 
-pub returns-in-Some-clause-at : goal.returns-in-Some-clause-at
-returns-in-Some-clause-at c =
-    pieces-have-positions-of-text c.args.base.now.text.now c.args.reference.now.text.now
-    (string_bytes c.in_ok-text.text) c.in-Some.pieces c.requires c.in-Some.ensures
-    c.in_ok-text.ensures
+pub returns-in_ok-from_str-in-Reference-clause-at
+    : goal.returns-in_ok-from_str-in-Reference-clause-at
+returns-in_ok-from_str-in-Reference-clause-at c =
+    let b = components_of c.args.base.now in
+    let r = components_of c.args.reference.now in
+    let made = subst (IsMadeOf c.args.allow_path_underflow b r) c.in-Reference.is
+    c.in_ok-found.ensures.found.made in
+    text-of-target-has-positions c.args.base.now.text.now c.args.reference.now.text.now _
+    c.packed_positions.result c.requires
+    (c.in_ok-from_str-in-Reference.ensures.ok ∙ c.as_str.ensures.text
+    ∙ sym (recompose-components c.args.reference.now.text.now) ∙ sym (ap recompose made.0))
+    (c.packed_positions.ensures ∙ sym (ap (λ p. packed (positions_of p)) made.0))
 
-pub returns-then-is_rootless_with_scheme-clause-at
-    : goal.returns-then-is_rootless_with_scheme-clause-at
-returns-then-is_rootless_with_scheme-clause-at c =
-    c.in_ok-copy.ensures.places
-    ∙ sym (ap (λ p. packed (positions_of p))
-    (ap components c.in_ok-copy.ensures.text
-    ∙ target-text-has-target-components c.args.base.now.text.now c.args.reference.now.text.now
-    c.requires))
+pub returns-in_ok-joined-in-Pieces-clause-target
+    : goal.returns-in_ok-joined-in-Pieces-clause-target
+returns-in_ok-joined-in-Pieces-clause-target c =
+    let b = components_of c.args.base.now in
+    let r = components_of c.args.reference.now in
+    let found = c.in_ok-found.ensures.found in
+    let made = subst (IsMadeOf c.args.allow_path_underflow b r) c.in-Pieces.is found.made in
+    text-of-found-target-is-target b r c.args.allow_path_underflow _ found.none found.taken
+    (c.in_ok-joined-in-Pieces.ensures ∙ made.0.text) (λ a. made.0.underflow ∙ made.1 a)
 
-pub returns-then-is_opaque_rejection-clause-error
-    : goal.returns-then-is_opaque_rejection-clause-error
-returns-then-is_opaque_rejection-clause-error c = search rules
+pub returns-in_ok-joined-in-Pieces-clause-at : goal.returns-in_ok-joined-in-Pieces-clause-at
+returns-in_ok-joined-in-Pieces-clause-at c =
+    let b = components_of c.args.base.now in
+    let r = components_of c.args.reference.now in
+    let made = subst (IsMadeOf c.args.allow_path_underflow b r) c.in-Pieces.is
+    c.in_ok-found.ensures.found.made in
+    text-of-target-has-positions c.args.base.now.text.now c.args.reference.now.text.now _
+    c.in-Pieces.pieces.positions c.requires
+    (c.in_ok-joined-in-Pieces.ensures ∙ made.0.text) made.0.places
+
+pub written_target-requires : goal.written_target-requires
+written_target-requires c =
+    (subst (IsMadeOf c.args.allow_path_underflow (components_of c.args.base.now)
+    (components_of c.args.reference.now)) c.in-Dotted.is c.in_ok-found.ensures.found.made).rooted
+
+pub returns-else-underflowed-clause-target : goal.returns-else-underflowed-clause-target
+returns-else-underflowed-clause-target c =
+    let b = components_of c.args.base.now in
+    let r = components_of c.args.reference.now in
+    let t = dotted_target b r in
+    let found = c.in_ok-found.ensures.found in
+    let made = subst (IsMadeOf c.args.allow_path_underflow b r) c.in-Dotted.is found.made in
+    text-of-found-target-is-target b r c.args.allow_path_underflow _ found.none found.taken
+    (c.in_ok-target-in-Dotted.ensures.text t made)
+    (λ a. sym (c.in_ok-target-in-Dotted.ensures.underflow t made) ∙ search rules)
+
+pub returns-else-underflowed-clause-at : goal.returns-else-underflowed-clause-at
+returns-else-underflowed-clause-at c =
+    let b = components_of c.args.base.now in
+    let r = components_of c.args.reference.now in
+    let t = dotted_target b r in
+    let made = subst (IsMadeOf c.args.allow_path_underflow b r) c.in-Dotted.is
+    c.in_ok-found.ensures.found.made in
+    text-of-target-has-positions c.args.base.now.text.now c.args.reference.now.text.now _ _
+    c.requires (c.in_ok-target-in-Dotted.ensures.text t made)
+    (c.in_ok-target-in-Dotted.ensures.places t made)

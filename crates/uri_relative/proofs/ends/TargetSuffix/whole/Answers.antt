@@ -1,5 +1,4 @@
-use Rattle.std.proofs.Common.{sym, ◌∙◌}
-use Rattle.uri_parts.proofs.Splitting.Recompose.{recompose-components}
+use Rattle.uri_relative.proofs.Common.{sym, ◌∙◌, recompose-components}
 use Rattle.uri_relative.proofs.ends.TargetSuffix.whole.Goals as goal
 
 pub returns-clause-text : goal.returns-clause-text

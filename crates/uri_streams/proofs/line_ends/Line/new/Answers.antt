@@ -1,7 +1,5 @@
-use Rattle.std.proofs.Common.{◌≡◌, rules, subst, sym}
-use Rattle.std.specs.Str.{IsAscii}
+use Rattle.uri_streams.proofs.Common.{◌≡◌, rules, subst, sym, IsAscii, line_text}
 use Rattle.uri_streams.proofs.AsciiLines.{line_text-ascii}
-use Rattle.uri_streams.specs.Lines.{line_text}
 use Rattle.uri_streams.proofs.line_ends.Line.new.Goals as goal
 
 pub returns-clause-cut : goal.returns-clause-cut

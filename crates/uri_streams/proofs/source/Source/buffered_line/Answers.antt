@@ -1,8 +1,5 @@
-use Rattle.std.proofs.Common.{arith, eqb-true, subst}
-use Rattle.std.proofs.lemmas.Bool.{and_parts, both_ways, not-true}
+use Rattle.uri_streams.proofs.Common.{arith, eqb-true, subst, and_parts, both_ways, not-true, end_byte, IsBufferedLine}
 use Rattle.uri_streams.proofs.Parts.{IsBufferedLine-up-to, ends_with_byte-up-to}
-use Rattle.uri_streams.specs.Lines.{end_byte}
-use Rattle.uri_streams.specs.Models.{IsBufferedLine}
 use Rattle.uri_streams.proofs.source.Source.buffered_line.Goals as goal
 
 pub ended-requires-clause-ended : goal.ended-requires-clause-ended
@@ -29,7 +26,6 @@ pub returns-in-Some-clause-line : goal.returns-in-Some-clause-line
 returns-in-Some-clause-line g c =
     let first = c.in-Some.ensures.0 in
     subst (λ b. IsBufferedLine (end_byte c.args.is_null) b c.ended-in-Some.result.bytes.now)
-    c.buffer-bytes.ensures
-    (IsBufferedLine-up-to _ c.line_ending-end.result c.in-Some.index _ _
+    c.buffer-bytes.ensures (IsBufferedLine-up-to _ c.line_ending-end.result c.in-Some.index _ _
     c.line_ending-end.ensures c.ended-in-Some.ensures.bytes first.high
     (eqb-true _ _ c.in-Some.ensures.1) (λ k to is. first.before k (omega arith) to is))

@@ -1,15 +1,6 @@
-use Rattle.std.proofs.Common.{◌≢◌, ◌-◌, ◌++◌, [], All, take, sym, ap, subst, ◌∙◌, rules, arith, eq-eqb, eqb-true, true≢false, get_or, get_or-take, length, length-take-le}
-use Rattle.std.proofs.lemmas.List.{append-nil}
-use Rattle.std.proofs.lemmas.List.Elements.{All-nil, All-more}
-use Rattle.std.specs.Io.Buffered.{reader_remaining, reader_buffer}
-use Rattle.std.specs.Io.BufRead.{FillKeeps}
-use Rattle.std.specs.Prelude.{Some}
-use Rattle.std.specs.Io.KnownBytes.{Consumes}
-use Rattle.std.proofs.KnownBytes.{Consumes-nil, Consumes-kept}
+use Rattle.uri_streams.proofs.Common.{◌≢◌, ◌-◌, ◌++◌, [], All, take, sym, ap, subst, ◌∙◌, rules, arith, eq-eqb, eqb-true, true≢false, get_or, get_or-take, length, length-take-le, append-nil, All-nil, All-more, reader_remaining, reader_buffer, FillKeeps, Some, Consumes, Consumes-nil, Consumes-kept, Consumes_shown, zero_unless_positive, take-nil}
 use Rattle.std.proofs.lemmas.Result.{IfOk-weaker}
-use Rattle.std.proofs.BufReadLemmas.{Consumes_shown, zero_unless_positive}
 use Rattle.std.proofs.Transfers.{StopsAt-take}
-use Rattle.std.proofs.Math.Seq.{take-nil}
 use Rattle.uri_streams.proofs.Parts.{take-min}
 use Rattle.uri_streams.proofs.source.Source.take_part.Goals.{then-count-eq0, else-count-eq0}
 use Rattle.uri_streams.proofs.source.Source.take_part.Goals as goal
@@ -23,8 +14,7 @@ returns-in-Err-clause-taken g c =
           c.args.line.now.items)) ∙ append-nil c.args.line.now.items),
       All-nil (λ x. x ≢ c.args.end),
       subst (λ r. Consumes (reader_remaining g.R.Read.remaining c.args.self.now.reader)
-          (reader_remaining g.R.Read.remaining r) [])
-          (sym c.part_after_error.ensures.kept)
+          (reader_remaining g.R.Read.remaining r) []) (sym c.part_after_error.ensures.kept)
           (Consumes-kept _ _ _ [] (Consumes-nil _) c.fill_buf.follows.holds-at-none.0),
       λ _. All-nil (λ x. x ≢ c.args.end),
       λ done. absurd (true≢false (sym done ∙ last)),

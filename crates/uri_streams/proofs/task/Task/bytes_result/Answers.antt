@@ -1,28 +1,20 @@
-use Rattle.std.proofs.Common.{◌≡◌, IfOk, ap, subst, ◌∙◌}
-use Rattle.std.specs.Prelude.{IsUtf8}
-use Rattle.std.proofs.lemmas.Str.{IsUtf8-from_ascii}
+use Rattle.uri_streams.proofs.Common.{◌≡◌, IfOk, ap, subst, ◌∙◌, IsUtf8, IsUtf8-from_ascii, LineResult, IsResult, Known, no_text_result, NotUtf8}
 use Rattle.uri_streams.proofs.LineResults.{bytes_result-of-mended, bytes_result-of-non-utf8, bytes_result-of-text}
 use Rattle.uri_streams.proofs.Tasks.{IsResult-that-remembers-the-same}
-use Rattle.uri_streams.specs.Results.{LineResult}
-use Rattle.uri_streams.specs.Returned.{IsResult}
-use Rattle.uri_streams.specs.Tasks.{Known, no_text_result}
-use Rattle.uri_streams.specs.declared.fault.NoText.TheVariants.{NotUtf8}
 use Rattle.uri_streams.proofs.task.Task.bytes_result.Goals.{else-is_ascii+in-Ok, then-is_ascii}
 use Rattle.uri_streams.proofs.task.Task.bytes_result.Goals as goal
 
 pub from_utf8_unchecked-requires : goal.from_utf8_unchecked-requires
-from_utf8_unchecked-requires c =
-    IsUtf8-from_ascii c.args.bytes.now (c.requires c.if-is_ascii.true)
+from_utf8_unchecked-requires c = IsUtf8-from_ascii c.args.bytes.now (c.requires c.if-is_ascii.true)
 
 pub returns-in-Err : goal.returns-in-Err
 returns-in-Err c = λ known remembers.
     let job = c.args.job.now in
-    IsResult-that-remembers-the-same job.command _ known c.no_text_result.result c.args.self.now
-    (ap (λ (r : LineResult). (r, known)) (c.no_text_result.ensures job.command known remembers
-    ∙ ap (λ n. no_text_result job.command (NotUtf8 n))
+    IsResult-that-remembers-the-same job.command _ known c.no_text_result.result c.args.self.now (ap
+    (λ (r : LineResult). (r, known)) (c.no_text_result.ensures job.command known remembers ∙ ap
+    (λ n. no_text_result job.command (NotUtf8 n))
     (c.valid_up_to.ensures ∙ c.in-Err.ensures.valid_len))
-    ∙ bytes_result-of-non-utf8 job known c.args.bytes.now c.in-Err.ensures.cases.0)
-    remembers
+    ∙ bytes_result-of-non-utf8 job known c.args.bytes.now c.in-Err.ensures.cases.0) remembers
 
 pub returns-then-job : goal.returns-then-job
 returns-then-job c = λ known remembers.

@@ -1,9 +1,5 @@
-use Rattle.std.proofs.Common.{◌≡◌, ◌∙◌, IfOk, ap, refl, subst, sym}
+use Rattle.uri_streams.proofs.Common.{◌≡◌, ◌∙◌, IfOk, ap, refl, subst, sym, kind_named, LineResult, Error, result_in, line_error_message, HasMet, Known}
 use Rattle.uri_streams.proofs.Tasks.{unique_result-of-normalize_result}
-use Rattle.uri_commands.specs.Kinds.{kind_named}
-use Rattle.uri_streams.specs.Results.{LineResult, Error}
-use Rattle.uri_streams.specs.Returned.{result_in, line_error_message}
-use Rattle.uri_streams.specs.Tasks.{HasMet, Known}
 use Rattle.uri_streams.proofs.task.UniqueTask.result_for.Goals as goal
 
 pub returns-in-Text-clause-output : goal.returns-in-Text-clause-output
@@ -26,10 +22,8 @@ returns-in-Borrowed-clause-output c = λ known has.
 
 pub returns-in-Error-clause-output : goal.returns-in-Error-clause-output
 returns-in-Error-clause-output c = λ known has.
-    subst (λ (next : LineResult × Known). (Error (line_error_message c.in-Error.fault) ≡ next.0)
-    × HasMet c.args.self.now.met next.1)
-    (unique_result-of-normalize_result c.args.self.now.rules
-    (kind_named c.args.self.now.kind) known c.args.text.now
-    (Error (line_error_message c.in-Error.fault))
-    (sym (ap result_in c.in-Error.is) ∙ c.in_ok-normal.ensures.result))
-    (refl, has)
+    subst (λ (next : LineResult × Known).
+    (Error (line_error_message c.in-Error.fault) ≡ next.0) × HasMet c.args.self.now.met next.1)
+    (unique_result-of-normalize_result c.args.self.now.rules (kind_named c.args.self.now.kind) known
+    c.args.text.now (Error (line_error_message c.in-Error.fault))
+    (sym (ap result_in c.in-Error.is) ∙ c.in_ok-normal.ensures.result)) (refl, has)

@@ -8,9 +8,6 @@ pub returns : goal.returns
 returns c =
     let d = c.args.self.now in
     let text = string_bytes d.text in
-    let scheme = c.is_some.ensures
-    ∙ sym (is_some-option_map (λ n. take n (drop 0 text)) d.lengths.scheme) in
-    let authority = c.is_some-2.ensures
-    ∙ sym (is_some-option_map (λ n. take n (drop 2 (after_part 1 d.lengths.scheme text)))
-    d.lengths.authority) in
+    let scheme = c.is_some.ensures ∙ sym (is_some-option_map _ _) in
+    let authority = c.is_some-2.ensures ∙ sym (is_some-option_map _ _) in
     c.path_error.ensures ∙ (λ i. build_error_of_path (scheme i) (authority i) (c.path.ensures i))

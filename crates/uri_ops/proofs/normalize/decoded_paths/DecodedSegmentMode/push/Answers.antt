@@ -20,8 +20,8 @@ returns-then-is_slash c =
     (encode_ascii 47 (lit< tt) ∙ sym (slash-decodes-to-slash set)
     ∙ ap (λ t. print (decode_unreserved set t)) (sym piece))
 
-pub push_decoded_piece-requires : goal.push_decoded_piece-requires
-push_decoded_piece-requires c =
+pub push_decoded-requires : goal.push_decoded-requires
+push_decoded-requires c =
     let table = c.args.self.table.now in
     valid-text-is-decodable table (set_of table) c.args.piece.now refl
     (and_parts _ _ c.requires).1

@@ -1,0 +1,39 @@
+-- What proofs import from std, from lower crates and from `specs/`: the modules that three
+-- files or more use.
+pub use Rattle.std.proofs.Common.{◌≡◌, ℕ, zero, suc, ◌<◌, ◌≤◌, true, false, not, List, [], ◌∷◌, rules, ◌++◌, length, drop, refl, sym, ap, ◌∙◌, arith, ⊎_elim, Bool, ◌&&◌, ◌||◌, subst, append_assoc, cond, inl, inr, ◌+◌, ◌-◌, ◌⊎◌, take, get_or, eqb, drop-cons, true≢false, option_map, unwrap_or, ◌↔◌, string_bytes}
+pub use Rattle.std.proofs.lemmas.Bool.{cases_Bool, cond-true, cond-false, cond_both, false≢true, not_from_false, and_left, and_parts, not-true, or_from, or_parts, and_from, eqb-true, or_cases, both_ways, ne_eqb, eq-eqb, not-false, not_from_true, and_right, ltb-true, or_left, and_cases, or_right}
+pub use Rattle.std.proofs.lemmas.List.{length-drop, length-take, nil_from_length, append-nil, get_or_append_left, length-take-le, take-append-drop, drop_all, drop_at, get_or-take, take_more, get_or-drop, length-append, take-append-le, take_at}
+pub use Rattle.std.proofs.lemmas.List.Folds.{list_any-append, list_all-append}
+pub use Rattle.std.proofs.lemmas.Slice.Eq.{bytes_eq-Decides}
+pub use Rattle.std.proofs.lemmas.Str.{IsCharBoundary-after_ascii, IsCharBoundary-from_take, IsCharBoundary-start, IsUtf8-string_bytes}
+pub use Rattle.std.specs.List.{list_all, list_any, prefix_len}
+pub use Rattle.std.specs.Prelude.{◌==◌, codes, bytes_eq, Ok, is_some, slice_range, None, Option, nat_lt, IfNone, IfSome, Some, Err, IfOk, Result, IfErr, OnOk, is_none}
+pub use Rattle.std.specs.Str.{IsCharBoundary, IsUtf8}
+pub use Rattle.uri_basic.specs.Deviations.{has_encoded_dot_segment, has_literal_dot_segment, is_literal_dot_segment, takes_base_path, NothingDeviates, is_merged}
+pub use Rattle.uri_basic.specs.Models.Directories.{IsDirectoryOrNothing}
+unfoldable pub use Rattle.uri_basic.specs.Models.Directories.{after_segment, parent, path_left, buffers_at}
+pub use Rattle.uri_basic.specs.Removal.{Buffers, after_first_segment, has_prefix, step}
+unfoldable pub use Rattle.uri_basic.specs.Removal.{output_of, run, remove_dot_segments}
+pub use Rattle.uri_basic.specs.Target.{basic_resolution_of_texts, is_ambiguous, target, merge, basic_resolution, PathStartsWithDoubleSlash}
+pub use Rattle.uri_ops.proofs.Builders.BuilderGrowth.{string_len-is-length-of-bytes}
+pub use Rattle.uri_ops.proofs.Paths.DotLaws.{appended-segments-lack-slashes, path-after-slash-appends-its-segments, property-of-absolute-path-by-segments, segments-of-dotless-path-are-dotless, directory-is-absolute, remove-dots-of-dotless, removing-dots-keeps-absolute, removing-dots-leaves-no-dot-segment}
+pub use Rattle.uri_ops.proofs.Paths.LastSlashes.{before_last_slash-of-slashless-is-empty, before_last_slash-of-slashless-tail}
+pub use Rattle.uri_ops.proofs.Paths.PathCharacters.{lacked-delimiters-fail-test, test-of-delimiters-gives-lacks, before_last_slash-passes-test}
+pub use Rattle.uri_ops.proofs.Paths.Segments.{AllPass, is_dotless, pop, popped-segments-pass-test, segments-pass-true-test, end_of, next_output-passes-test}
+unfoldable pub use Rattle.uri_ops.proofs.Paths.Segments.{closing, dotless_of, next_output, step_of, steps}
+pub use Rattle.uri_ops.proofs.Paths.SlashedSegments.{before_last_slash-of-slashed-is-popped, lacks_slash, segments-of-slashed-segments, segments-of-text-lack-slashes, slashed-of-append, slashed-of-push, slashed-of-segments-is-text-after-slash, NoSlashes, segments-of-text-are-not-none, first-segment-and-rest-lack-slashes, segments-of-joined-segments, slash-in-suffix-is-in-append, remove-dots-by-segments}
+unfoldable pub use Rattle.uri_ops.proofs.Paths.SlashedSegments.{slashed}
+pub use Rattle.uri_ops.proofs.Targeting.Swaps.{merging-base-is-not-opaque, text-of-kind-has-needed-scheme}
+pub use Rattle.uri_ops.proofs.Targeting.Targets.{appended-absolute-path-is-absolute, option-that-is-some-has-no-none, authority-property-implies-other-if-some}
+pub use Rattle.uri_ops.specs.Dots.{is_empty, IsAbsolute, is_dot_segment, lacks_dot_segments, segments, up_to_last_slash, before_last_slash, has_slash, last_segment, EndsInSlash, or_slash, is_double_dot, is_single_dot}
+unfoldable pub use Rattle.uri_ops.specs.Dots.{directory}
+pub use Rattle.uri_ops.specs.Resolving.{with_final_path, components_of}
+pub use Rattle.uri_ops.specs.Target.{guarded, is_opaque, dotless_if_absolute, dotted_target, merged, resolution_of, target_of}
+pub use Rattle.uri_parts.proofs.Splitting.Recompose.{components-are-split-of-text, equal-to-true-is-IsTrue, recompose-components}
+pub use Rattle.uri_parts.specs.Components.{from_any, starts, IsAbemptyPath, Lacks, Components, components, recompose, has_authority, IsSplitOf, has_scheme, before_any, marked}
+pub use Rattle.uri_parts.specs.Grammar.{has_colon_in_first_segment, IsOfKind, Kind, IsTextOf}
+pub use Rattle.uri_parts.specs.PackedPositions.{ArePackedPositionsOf, packed}
+pub use Rattle.uri_parts.specs.Positions.{authority_at, delimited_length, host_end_of, positions_of}
+pub use Rattle.uri_pct.proofs.General.{eq_true_from_IsTrue, not_some_is_none, some_is_not_none}
+pub use Rattle.uri_pct.specs.Models.ByteRuns.{IsLongestRun}
+pub use Rattle.uri_pct.specs.Sets.{is_one_of, TableSet}

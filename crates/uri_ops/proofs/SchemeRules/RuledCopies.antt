@@ -1,0 +1,242 @@
+-- A text that is normal but for what the rules of its scheme change, copied with that changed.
+use Rattle.std.proofs.Common.{◌≡◌, ℕ, ◌+◌, ◌-◌, Bool, true, false, cond, List, [], ◌∷◌, ◌++◌, length, take, refl, sym, ap, subst, ◌∙◌, ◌&&◌, arith, append_assoc, length-append, Option, Some, None, option_map}
+use Rattle.std.specs.Prelude.{codes, is_some, unwrap_or}
+use Rattle.std.specs.Str.{IsCharBoundary, IsUtf8}
+use Rattle.std.proofs.Math.Seq.{take-append_seam}
+use Rattle.uri_pct.specs.Tokens.{Token, print}
+use Rattle.uri_parts.specs.Components.{Components, components, marked, recompose}
+use Rattle.uri_parts.specs.Grammar.{Kind, IsTextOf}
+use Rattle.uri_parts.specs.PackedPositions.{packed}
+use Rattle.uri_parts.specs.Positions.{authority_at, before_fragment, delimited_length, positions_of}
+use Rattle.uri_parts.proofs.Splitting.Places.{boundary_after_mark, length-before_hash}
+use Rattle.uri_ops.specs.ComponentSets.{HasComponentSets}
+use Rattle.uri_ops.specs.Dots.{is_empty}
+use Rattle.uri_ops.specs.Meaning.{AuthorityMeaning, Meaning, meaning_of}
+use Rattle.uri_ops.specs.Models.Places.{before_path}
+use Rattle.uri_ops.specs.Models.RuledComponents.{changed_components, has_default_host, has_root_path, is_text, ruled_text}
+use Rattle.uri_ops.specs.Normal.{normal_authority, normal_components, normal_scheme, normal_text}
+use Rattle.uri_ops.specs.SchemeRules.{Rules, authority_under, empty_authority, has_no_token, is_localhost, is_scheme_of, meaning_under, path_under, root, under_rules}
+use Rattle.uri_ops.specs.Target.{guarded}
+use Rattle.uri_ops.proofs.Normal.NormalTexts.{components-of-normal_text}
+use Rattle.uri_ops.proofs.Normal.WrittenPlaces.{length-before_path-is-path_start}
+use Rattle.std.proofs.lemmas.Bool.{and_parts, false≢true}
+use Rattle.std.proofs.lemmas.Slice.Eq.{bytes_eq-Decides}
+use Rattle.uri_parts.proofs.Splitting.Recompose.{recompose-components}
+use Rattle.uri_ops.proofs.Paths.DotRuns.{empty-text-is-nil}
+use Rattle.uri_ops.proofs.SchemeRules.RuledMeanings.{map-cond, print-is-empty-without-tokens}
+use Rattle.uri_ops.proofs.SchemeRules.RuledTexts.{ruled-text-has-meaning-under, ruled-text-is-text-of-kind}
+
+-- the text before the path without the host `localhost`
+pub record IsBeforeHost (text before : List ℕ) (n : ℕ) : Type 0 where
+  pub cut : IsCharBoundary text (length text - n)
+  pub holds : take (length text - n) text ≡ before
+
+pub text-before-localhost : (scheme : Option (List ℕ)) (text : List ℕ) → IsUtf8 text
+    → text ≡ marked [] scheme (codes ":") ++ marked (codes "//") (Some (codes "localhost")) []
+    → IsBeforeHost text (marked [] scheme (codes ":") ++ marked (codes "//") (Some []) []) 9
+text-before-localhost scheme text utf8 e =
+    let s = marked [] scheme (codes ":") in
+    let whole : text ≡ (s ++ codes "//") ++ codes "localhost" =
+    e ∙ sym (append_assoc s (codes "//") (codes "localhost")) in
+    let cut : text ≡ (s ++ codes "/") ++ 47 ∷ codes "localhost" =
+    e ∙ sym (append_assoc s (codes "/") (47 ∷ codes "localhost")) in
+    let m : length text - 9 ≡ length (s ++ codes "//") = omega
+    (arith, ap length whole, length-append (s ++ codes "//") (codes "localhost")) in
+    let n : length text - 9 ≡ length (s ++ codes "/") + 1 = omega
+    (arith, m, length-append s (codes "//"), length-append s (codes "/")) in
+    record {
+      cut = subst (IsCharBoundary text) (sym n)
+          (subst (λ t. IsCharBoundary t (length (s ++ codes "/") + 1)) (sym cut)
+          (boundary_after_mark (s ++ codes "/") (codes "localhost") 47 (omega arith)
+          (subst IsUtf8 cut utf8)));
+      holds = ap (λ k. take k text) m ∙ ap (take (length (s ++ codes "//"))) whole
+          ∙ take-append_seam (s ++ codes "//") (codes "localhost");
+    }
+
+-- copies: the `/` that is put in, and the path of the text, are the path of the copy
+changed-path-is-root-and-path : (adds_root : Bool) (path added : List ℕ)
+    → (adds_root ≡ true → path ≡ []) → added ≡ cond adds_root (codes "/") []
+    → added ++ path ≡ cond adds_root (codes "/") path
+changed-path-is-root-and-path false path added empty e = ap (λ t. t ++ path) e
+changed-path-is-root-and-path true path added empty e =
+    ap (λ t. t ++ path) e ∙ ap (λ t. codes "/" ++ t) (empty refl)
+
+-- copies: where a host begins and ends, packed, if its authority begins at `place`
+abbrev packed_host_start : ℕ → Option (List ℕ) → ℕ
+packed_host_start place o =
+    unwrap_or (option_map (λ a. a.host_start) (option_map (authority_at place) o)) 0
+
+abbrev packed_host_end : ℕ → Option (List ℕ) → ℕ
+packed_host_end place o =
+    unwrap_or (option_map (λ a. a.host_end) (option_map (authority_at place) o)) 0
+
+-- copies: without `localhost` the host is empty, and where it began
+changed-host-positions : (drops_host : Bool) (place : ℕ) (o : Option (List ℕ))
+    → (drops_host ≡ true → o ≡ Some (codes "localhost"))
+    → (packed_host_start place o ≡ packed_host_start place (cond drops_host (Some []) o))
+    × (cond drops_host (packed_host_start place o) (packed_host_end place o)
+    ≡ packed_host_end place (cond drops_host (Some []) o))
+changed-host-positions false place o host = (refl, refl)
+changed-host-positions true place o host =
+    (ap (packed_host_start place) (host refl), ap (packed_host_start place) (host refl))
+
+-- the copy of a text with these components, and with what the rules change
+module _ (drops_host adds_root : Bool) (p : Components)
+    (empty : adds_root ≡ true → p.path ≡ []) (prefix added : List ℕ)
+    (e : prefix ≡ before_path (changed_components drops_host false p))
+    (f : added ≡ cond adds_root (codes "/") []) where
+  abbrev changed : Components
+  changed = changed_components drops_host adds_root p
+
+  pub changed-copy-has-positions : (path_end query_end : ℕ)
+      → (drops_host ≡ true → p.authority ≡ Some (codes "localhost"))
+      → path_end ≡ length (prefix ++ added) + length p.path
+      → query_end ≡ length (prefix ++ added)
+      + (length p.path + length (marked (codes "?") p.query []))
+      → record (packed (positions_of p)) {
+        host_end = cond drops_host (packed (positions_of p)).host_start
+            (packed (positions_of p)).host_end;
+        path_start = length prefix;
+        path_end = path_end;
+        query_end = query_end;
+      }
+      ≡ packed (positions_of changed)
+  changed-copy-has-positions path_end query_end host g h =
+      let place = delimited_length 1 p.scheme + 2 in
+      let hosts = changed-host-positions drops_host place p.authority host in
+      let n : length prefix ≡ (positions_of changed).path_start =
+      ap length e ∙ length-before_path-is-path_start changed in
+      let k : length added + length p.path ≡ length changed.path =
+      sym (length-append added p.path)
+      ∙ ap length (changed-path-is-root-and-path adds_root p.path added empty f) in
+      let path : path_end ≡ (positions_of changed).path_end = omega
+      (arith, g, n, k, length-append prefix added) in
+      let query : query_end ≡ before_fragment (positions_of changed) = omega (
+        arith,
+        h,
+        n,
+        k,
+        length-append prefix added,
+        length-before_path-is-path_start changed,
+        length-before_hash changed,
+        length-append (before_path changed ++ changed.path) (marked (codes "?") p.query []),
+        length-append (before_path changed) changed.path,
+      ) in
+      λ i. record (packed (positions_of p)) {
+        host_start = hosts.0 i;
+        host_end = hosts.1 i;
+        path_start = n i;
+        path_end = path i;
+        query_end = query i;
+      }
+
+-- rules: the authority of what a text means under them, as text
+authority-under-rules : (local : Bool) (o : Option AuthorityMeaning)
+    → option_map normal_authority (option_map (authority_under local) o)
+    ≡ cond (local && is_text (codes "localhost") (option_map normal_authority o)) (Some [])
+    (option_map normal_authority o)
+authority-under-rules true None = refl
+authority-under-rules false None = refl
+authority-under-rules local (Some a) =
+    let drops = local && is_localhost a in
+    ap Some (map-cond normal_authority drops empty_authority a)
+    ∙ map-cond Some drops [] (normal_authority a)
+
+-- rules: the path of what a text means under them, as text
+path-under-rules : (rooted local : Bool) (o : Option AuthorityMeaning) (ts : List Token)
+    → guarded (option_map normal_authority (option_map (authority_under local) o))
+    (print (path_under rooted (is_some o) ts))
+    ≡ (let path = guarded (option_map normal_authority o) (print ts) in
+    cond ((rooted && is_some (option_map normal_authority o)) && is_empty path) (codes "/") path)
+unfolding lib.Utf8.encode
+path-under-rules false local None ts = refl
+path-under-rules true local None ts = refl
+path-under-rules false local (Some a) ts = refl
+path-under-rules true local (Some a) ts =
+    map-cond print (has_no_token ts) root ts
+    ∙ ap (λ t. cond t (codes "/") (print ts)) (sym (print-is-empty-without-tokens ts))
+
+path-under-rules-of-scheme : (roots : List ℕ → Bool) (local : Bool) (scheme : Option (List ℕ))
+    (o : Option AuthorityMeaning) (ts : List Token)
+    → (let rooted = is_scheme_of roots scheme in
+    let under = print (path_under rooted (is_some o) ts) in
+    let path = cond (is_some scheme) (guarded (option_map normal_authority o) (print ts))
+    (print ts) in
+    cond (is_some scheme)
+    (guarded (option_map normal_authority (option_map (authority_under local) o)) under) under
+    ≡ cond ((rooted && is_some (option_map normal_authority o)) && is_empty path) (codes "/") path)
+path-under-rules-of-scheme roots local None o ts = refl
+path-under-rules-of-scheme roots local (Some s) o ts = path-under-rules (roots s) local o ts
+
+-- rules: what they change of the components of a normal text
+changed-components-are-normal : (rules : Rules) (m : Meaning) → normal_scheme m.scheme ≡ m.scheme
+    → (let p = normal_components m in normal_components (under_rules rules m)
+    ≡ changed_components (has_default_host rules.locals p) (has_root_path rules.roots p) p)
+changed-components-are-normal rules m e =
+    let p = normal_components m in
+    let local = is_scheme_of rules.locals m.scheme in
+    let authority = authority-under-rules local m.authority
+    ∙ ap (λ s. cond (is_scheme_of rules.locals s && is_text (codes "localhost") p.authority)
+    (Some []) p.authority) (sym e) in
+    let path = path-under-rules-of-scheme rules.roots local m.scheme m.authority m.path
+    ∙ ap (λ s. cond ((is_scheme_of rules.roots s && is_some p.authority) && is_empty p.path)
+    (codes "/") p.path) (sym e) in
+    λ i. record p { authority = authority i; path = path i }
+
+-- a text that is normal by the ports of the rules
+module _ (kind : Kind) (rules : Rules) (sets : HasComponentSets kind) (text : List ℕ)
+    (w : IsTextOf kind text) (normal : text ≡ normal_text (meaning_of kind rules.ports text)) where
+  changed-components-are-those-under-rules :
+      normal_components (meaning_under kind rules text)
+      ≡ (let p = components text in
+      changed_components (has_default_host rules.locals p) (has_root_path rules.roots p) p)
+  changed-components-are-those-under-rules =
+      let m = meaning_of kind rules.ports text in
+      let split : components text ≡ normal_components m = ap components normal
+      ∙ components-of-normal_text kind rules.ports sets text w in
+      subst (λ q. normal_components (under_rules rules m)
+      ≡ changed_components (has_default_host rules.locals q) (has_root_path rules.roots q) q)
+      (sym split)
+      (changed-components-are-normal rules m
+      (ap (λ q. normal_scheme q.scheme) (sym split)))
+
+  -- with what the rules change it is the normal text under them,
+  pub changed-text-is-normal-text : (made : List ℕ)
+      → (let p = components text in made ≡ recompose
+      (changed_components (has_default_host rules.locals p) (has_root_path rules.roots p) p))
+      → made ≡ normal_text (meaning_under kind rules text)
+  changed-text-is-normal-text made e =
+      e ∙ ap recompose (sym changed-components-are-those-under-rules)
+
+  -- and has these components
+  pub components-of-changed-text : (made : List ℕ)
+      → (let p = components text in made ≡ recompose
+      (changed_components (has_default_host rules.locals p) (has_root_path rules.roots p) p))
+      → (let p = components text in components made
+      ≡ changed_components (has_default_host rules.locals p) (has_root_path rules.roots p) p)
+  components-of-changed-text made e =
+      ap components (changed-text-is-normal-text made e)
+      ∙ subst (λ m. components (normal_text m) ≡ normal_components m)
+      (ruled-text-has-meaning-under kind rules sets text w)
+      (components-of-normal_text kind rules.ports sets (ruled_text kind rules text)
+      (ruled-text-is-text-of-kind kind rules sets text w))
+      ∙ changed-components-are-those-under-rules
+
+  -- where they change nothing, it is that itself
+  pub unruled-text-is-its-normal-text : has_default_host rules.locals (components text) ≡ false
+      → has_root_path rules.roots (components text) ≡ false
+      → text ≡ normal_text (meaning_under kind rules text)
+  unruled-text-is-its-normal-text host root =
+      changed-text-is-normal-text text (sym (recompose-components text)
+      ∙ (λ i. recompose (changed_components (sym host i) (sym root i) (components text))))
+
+-- copies: what is asked of a text in which the rules change the host or the path
+pub default-host-is-localhost : (local : Bool) (o : Option (List ℕ))
+    → (local && is_text (codes "localhost") o) ≡ true → o ≡ Some (codes "localhost")
+default-host-is-localhost local None e = absurd (false≢true (and_parts local false e).1)
+default-host-is-localhost local (Some a) e =
+    ap Some ((bytes_eq-Decides a (codes "localhost")).0 (and_parts local _ e).1)
+
+pub path-for-root-is-empty : (rooted : Bool) (path : List ℕ)
+    → (rooted && is_empty path) ≡ true → path ≡ []
+path-for-root-is-empty rooted path e = empty-text-is-nil path (and_parts rooted _ e).1

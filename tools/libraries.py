@@ -1,0 +1,82 @@
+"""The libraries that mutants, archives and modules are made over: as `rt ci` keeps them, or, where
+it lacks one, as `rt check` builds them or has built them in some folder of this machine. What is
+kept holds a digest of all that it was made of, and is taken only where that is the same."""
+import contextlib
+import os
+import pathlib
+import tempfile
+import threading
+
+ROOT = pathlib.Path(__file__).resolve().parent.parent
+
+
+def copy_crates(rt, folder):
+    """Copies the crates into a new folder, without what was made of them: the copies by name."""
+    rt.copy_crates(str(ROOT), str(folder))
+    # (by which the kit knows the top of a repository)
+    os.mkdir(f"{folder}/.git")
+    rt.Crate.allowed, rt.rtlib.Crate = rt.handles_of(str(ROOT)), rt.Crate
+    return {it.name: it for it in rt.rtlib.crates_below(str(folder))}
+
+
+class Libraries:
+    """The libraries of a copy of the repository."""
+
+    def __init__(self, rt, crates, wanted, tried=()):
+        self.rt, self.lock, kept = rt, threading.Lock(), rt.Kept(crates.values())
+        # (all before the first check: one must not be given again while another is checked over it)
+        self.given = {name: self.is_given(it, kept) for name, it in crates.items()
+                      if name in {*wanted, *tried}}
+        self.are_given = all(self.given[it] for it in wanted)
+        self.ready = dict.fromkeys(wanted, True) if self.are_given else {}
+        if not self.are_given:
+            # (what is built in this copy is gone with it)
+            rt.share_work(False)
+            rt.offer = lambda *_: None
+
+    def is_given(self, crate, kept):
+        """Whether `rt ci` proved the crate, as it is, and what it built of it is here."""
+        os.makedirs(f"{crate.folder}/out", exist_ok=True)
+        is_given = kept.give(crate, False, kept.key(crate))
+        kept.is_built(crate)
+        return is_given
+
+    def is_proved(self, crate):
+        """Whether `rt ci` or a whole `rt check` proved the crate, over these libraries."""
+        if self.are_given:
+            return self.given[crate.name]
+        return any(stamp == crate.stamp() for _, stamp in self.rt.places_of(crate))
+
+    def are_ready_below(self, crate):
+        with self.lock:
+            return all([self.is_ready(it) for it in crate.below()])
+
+    def is_ready(self, library):
+        if library.name not in self.ready:
+            with open(os.devnull, "w", encoding="utf-8") as library.out:
+                self.ready[library.name] = not library.build_rlib(["--jobs", "2"], anew=False)
+        return self.ready[library.name]
+
+    def give_work(self, crate, folder):
+        """Has in a new folder what checks of the crate keep, if there is any: those over the same
+        libraries, or those of `rt check` in some folder of this machine."""
+        own = kept_of(crate.name)
+        if kept := own if own.is_dir() else self.rt.work_for(crate):
+            self.rt.linked(str(kept), folder)
+
+
+def kept_of(name):
+    """The folder in which tools/archive keeps what it proved of a crate."""
+    return ROOT / "out" / "kept" / name
+
+
+@contextlib.contextmanager
+def crate_over_libraries(rt, name):
+    """A crate in a copy of the repository, over its libraries."""
+    rt.rtlib.guarded()
+    with tempfile.TemporaryDirectory() as folder:
+        crates = copy_crates(rt, f"{folder}/repo")
+        crate = crates[name]
+        if not Libraries(rt, crates, [it.name for it in crate.below()]).are_ready_below(crate):
+            raise OSError(f"a library below {name} is not proved")
+        yield crate
