@@ -22,14 +22,12 @@ def copy_crates(rt, folder):
 class Libraries:
     """The libraries of a copy of the repository."""
 
-    def __init__(self, rt, crates, wanted, tried=()):
+    def __init__(self, rt, crates, wanted):
         self.rt, self.lock, kept = rt, threading.Lock(), rt.Kept(crates.values())
         # (all before the first check: one must not be given again while another is checked over it)
-        self.given = {name: self.is_given(it, kept) for name, it in crates.items()
-                      if name in {*wanted, *tried}}
-        self.are_given = all(self.given[it] for it in wanted)
-        self.ready = dict.fromkeys(wanted, True) if self.are_given else {}
-        if not self.are_given:
+        are_given = all([self.is_given(crates[it], kept) for it in wanted])
+        self.ready = dict.fromkeys(wanted, True) if are_given else {}
+        if not are_given:
             # (what is built in this copy is gone with it)
             rt.share_work(False)
             rt.offer = lambda *_: None
@@ -41,12 +39,6 @@ class Libraries:
         kept.is_built(crate)
         return is_given
 
-    def is_proved(self, crate):
-        """Whether `rt ci` or a whole `rt check` proved the crate, over these libraries."""
-        if self.are_given:
-            return self.given[crate.name]
-        return any(stamp == crate.stamp() for _, stamp in self.rt.places_of(crate))
-
     def are_ready_below(self, crate):
         with self.lock:
             return all([self.is_ready(it) for it in crate.below()])
@@ -56,13 +48,6 @@ class Libraries:
             with open(os.devnull, "w", encoding="utf-8") as library.out:
                 self.ready[library.name] = not library.build_rlib(["--jobs", "2"], anew=False)
         return self.ready[library.name]
-
-    def give_work(self, crate, folder):
-        """Has in a new folder what checks of the crate keep, if there is any: those over the same
-        libraries, or those of `rt check` in some folder of this machine."""
-        own = kept_of(crate.name)
-        if kept := own if own.is_dir() else self.rt.work_for(crate):
-            self.rt.linked(str(kept), folder)
 
 
 def kept_of(name):

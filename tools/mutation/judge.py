@@ -1,7 +1,8 @@
 """Tries mutants in checks of their functions, and holds each to the clauses that it names.
 
 A check says of each function by itself whether it is proved, and a caller rests on the contract
-alone. So one check tries mutants of different functions.
+alone. So one check tries mutants of different functions, and takes the others by their statements:
+in the place of each other proof that is on file it has a hole.
 """
 import collections
 import contextlib
@@ -21,6 +22,14 @@ NAME = r"`([^`]+)`"
 # What is said of an answer that names what the mutant took away: it tells nothing of the goal.
 TAKEN_AWAY = re.compile(r"has no field|is not in scope|has no `|was not admitted|was rejected")
 THROUGH_ANOTHER = re.compile(r"(it calls|it passes|a call of)\b.*not proved")
+
+
+# A proof that is not looked at.
+HOLE = """use Rattle.{module}.Statement.{{statement}}
+
+pub {function}_spec : {{M : Type 1}} → statement M
+{function}_spec = ?
+"""
 
 
 class Room:
@@ -65,10 +74,27 @@ class Room:
             self.rt.linked(self.kept, f"{folder}/kept")
             yield f"{folder}/kept"
 
+    def take_as_stated(self, functions):
+        """Puts a hole in the place of each proof on file, but of these functions."""
+        proofs = self.sources / "proofs"
+        files = [it for name in ("Answers", "Invariants") for it in proofs.rglob(f"{name}.antt")]
+        for folder in {it.parent for it in files}:
+            function = folder.relative_to(proofs).parts
+            if "::".join(function) in functions:
+                continue
+            for it in files:
+                if it.parent == folder:
+                    it.unlink()
+            module = ".".join([self.crate.name, "proofs", *function])
+            hole = HOLE.format(module=module, function=function[-1])
+            (folder / "Proof.antt").write_text(hole, encoding="utf-8")
+
     def check(self, functions, texts):
         """The lines that a check of these functions prints; the last begins `only=` if it read them all."""
+        self.take_as_stated(functions)
         only = [word for it in sorted(functions) for word in ("--only", it)]
-        words = ["check", *self.crate.words(["--jobs", "1", *only], keeps=False), "--incremental"]
+        words = ["check", *self.crate.words(["--jobs", "1", *only], keeps=False), "--allow-holes",
+                 "--incremental"]
         with self.written(texts):
             status, lines = self.said_by(words)
             if status == -signal.SIGKILL:
@@ -89,16 +115,6 @@ class Room:
         self.checks += 1
         self.seconds += used.ru_utime + used.ru_stime
         return began.returncode, lines
-
-    def unproved(self, functions):
-        """Why some of these functions are not proved as they are, or None."""
-        lines = self.check(functions, {})
-        for it in sorted(functions):
-            head = f"fn {self.crate.name}::{it}: "
-            said = next((line[len(head) :] for line in lines if line.startswith(head)), lines[-1])
-            if said != "proved":
-                return f"{it} is not proved as it is: {said}"
-        return None
 
 
 def batches_of(room, mutants):
