@@ -26,9 +26,8 @@ export LIBRARY
     version=$(sed -n 's/^#define FLUENT_URI_NORMAL_VERSION //p' "$root/c/include/fluent_uri.h")
     now="$version $(sha256sum < "$work/forms" | cut -d ' ' -f 1) ${rules%% *}"
     [ "$now" = "$(cat "$root/databases/forms")" ] ||
-        fail "normal forms are not those of databases/forms: raise normal_version of \
-crates/fluent_uri_c and FLUENT_URI_NORMAL_VERSION of the header, and write the \
-number and these digests there: ${now#* } (docs/DESIGN.md, \"What a normal form is\")"
+        fail "normal forms are not those of databases/forms: raise their number (docs/DESIGN.md, \
+\"What a normal form is\"), and write there what this line then ends in: $now"
 }
 
 of_sqlite='the extension of SQLite'

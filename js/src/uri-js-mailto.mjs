@@ -27,10 +27,12 @@ function addressOf(address, ofLocalPart) {
   return `${ofLocalPart(address.slice(0, at))}@${domainOf(address.slice(at + 1))}`;
 }
 
-// RFC 6068, section 2: what a local part and a field of a header have as they are.
+// RFC 6068, section 2: what a local part has as it is, and a field of a header, beside unreserved
+// characters `some-delims`.
 const encodedLocalPart = (text) =>
   encode(text, 'host', { keepEncoded: true }).replace(/[&=;,()]/g, percent);
-const encodedField = (text) => encode(text, 'query').replace(/[&=?/]/g, percent);
+const encodedField = (text) =>
+  encode(text, 'data').replace(/%(2[14789ABC]|3[AB]|40)/g, decodeURIComponent);
 
 const addresses = (text) => (text ? text.split(',') : []);
 

@@ -36,7 +36,7 @@ class Quote(unittest.TestCase):
         self.assertEqual(ours.quote_plus("\u0120", encoding="utf-16-le"), "%20%01")
 
     def test_what_is_rejected(self):
-        for safe in [" ", "<", "\\", "\n", "\0", "|"]:
+        for safe in [" ", "<", "\n", "\0", "\x7f"]:
             with self.assertRaises(ValueError):
                 ours.quote("a", safe)
         with self.assertRaises(ParseError):

@@ -1,7 +1,7 @@
 -- The rules of both RFCs fit the sets of the kinds.
 use Rattle.uri_abnf.proofs.Common.{◌≡◌, ℕ, Bool, true, refl, sym, arith, ◌∙◌, nat_tests, userinfo_set, reg_name_set, path_set, query_set, fragment_set, iuserinfo_set, ireg_name_set, ipath_set, iquery_set, ifragment_set, pchar_set, segment_nz_nc_set, isegment_nz_nc_set, international, Kind, uri, iri, lit, ◌∣◌, uri_rules, iri_rules, unreserved, sub-delims, pct-encoded, pchar}
 use Rattle.uri_abnf.specs.Rfc3986 as R
-use Rattle.uri_abnf.specs.Rfc3987.{iunreserved, ipchar, iprivate}
+use Rattle.uri_abnf.specs.Rfc3987.{iunreserved, ipchar}
 use Rattle.uri_abnf.specs.Rfc3987 as I
 use Rattle.uri_abnf.proofs.Elements.{has_char}
 use Rattle.uri_abnf.proofs.InternationalSets as International
@@ -49,14 +49,10 @@ unfolding R.userinfo R.reg-name R.query R.fragment R.path R.path-abempty R.path-
     R.path-noscheme R.path-rootless R.path-empty R.segment R.segment-nz R.segment-nz-nc uri-paths
 uri-rules-fit needs = record {
   made = uri-rules-are-made;
-  userinfo = set-rule (unreserved ∣ pct-encoded ∣ sub-delims ∣ lit ":") _ userinfo_set
-      Sets.userinfo-set (λ cs. (λ h. h, λ h. h));
-  reg_name = set-rule (unreserved ∣ pct-encoded ∣ sub-delims) _ reg_name_set
-      Sets.reg-name-set (λ cs. (λ h. h, λ h. h));
-  query = set-rule (pchar ∣ lit "/" ∣ lit "?") _ query_set Sets.query-set
-      (λ cs. (λ h. h, λ h. h));
-  fragment = set-rule (pchar ∣ lit "/" ∣ lit "?") _ fragment_set Sets.query-set
-      (λ cs. (λ h. h, λ h. h));
+  userinfo = set-rule _ _ userinfo_set Sets.userinfo-set (λ cs. (λ h. h, λ h. h));
+  reg_name = set-rule _ _ reg_name_set Sets.reg-name-set (λ cs. (λ h. h, λ h. h));
+  query = set-rule _ _ query_set Sets.query-set (λ cs. (λ h. h, λ h. h));
+  fragment = set-rule _ _ fragment_set Sets.fragment-set (λ cs. (λ h. h, λ h. h));
   any_path = λ t. same-rule t (λ cs. (λ h. h, λ h. h)) (any-path-rule path_set uri-paths t);
   abempty = λ t. same-rule t (λ cs. (λ h. h, λ h. h)) (abempty-rule path_set uri-paths t);
   rootless = λ t. same-rule t (λ cs. (λ h. h, λ h. h)) (rootless-rule path_set uri-paths t);
@@ -111,14 +107,10 @@ unfolding I.iuserinfo I.ireg-name I.iquery I.ifragment I.ipath I.ipath-abempty I
     iri-paths
 iri-rules-fit needs = record {
   made = iri-rules-are-made;
-  userinfo = set-rule (iunreserved ∣ pct-encoded ∣ sub-delims ∣ lit ":") _ iuserinfo_set
-      International.iuserinfo-set (λ cs. (λ h. h, λ h. h));
-  reg_name = set-rule (iunreserved ∣ pct-encoded ∣ sub-delims) _ ireg_name_set
-      International.ireg-name-set (λ cs. (λ h. h, λ h. h));
-  query = set-rule (ipchar ∣ iprivate ∣ lit "/" ∣ lit "?") _ iquery_set International.iquery-set
-      (λ cs. (λ h. h, λ h. h));
-  fragment = set-rule (ipchar ∣ lit "/" ∣ lit "?") _ ifragment_set International.ifragment-set
-      (λ cs. (λ h. h, λ h. h));
+  userinfo = set-rule _ _ iuserinfo_set International.iuserinfo-set (λ cs. (λ h. h, λ h. h));
+  reg_name = set-rule _ _ ireg_name_set International.ireg-name-set (λ cs. (λ h. h, λ h. h));
+  query = set-rule _ _ iquery_set International.iquery-set (λ cs. (λ h. h, λ h. h));
+  fragment = set-rule _ _ ifragment_set International.ifragment-set (λ cs. (λ h. h, λ h. h));
   any_path = λ t. same-rule t (λ cs. (λ h. h, λ h. h)) (any-path-rule ipath_set iri-paths t);
   abempty = λ t. same-rule t (λ cs. (λ h. h, λ h. h)) (abempty-rule ipath_set iri-paths t);
   rootless = λ t. same-rule t (λ cs. (λ h. h, λ h. h)) (rootless-rule ipath_set iri-paths t);

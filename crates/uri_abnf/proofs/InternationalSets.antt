@@ -141,7 +141,8 @@ unfolding ALPHA DIGIT unreserved sub-delims pct-encoded pchar iunreserved ipchar
 ifragment-set = record {
   element = search rules;
   chars = widened-chars ifragment_set _ _ (either-widens _ _ _ (lit "?")
-      (either-widens _ _ _ (lit "/") (ipchar-widens ifragment_set refl refl))) Sets.query-set.chars;
+      (either-widens _ _ _ (lit "/") (ipchar-widens ifragment_set refl refl)))
+      Sets.fragment-set.chars;
   octets = refl;
   lacks = refl;
 }

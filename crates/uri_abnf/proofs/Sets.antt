@@ -1,5 +1,5 @@
 -- The sets of the expressions of one character or octet in RFC 3986, appendix A.
-use Rattle.uri_abnf.proofs.Common.{◌≡◌, ℕ, refl, rules, arith, nat_tests, allows, allows_past_ascii, userinfo_set, reg_name_set, pchar_set, path_set, query_set, segment_nz_nc_set, scheme_set, digit_set, hexdig_set, ipv_future_set, lit, ◌∣◌, unreserved, sub-delims, pct-encoded, pchar, ALPHA, DIGIT, HEXDIG}
+use Rattle.uri_abnf.proofs.Common.{◌≡◌, ℕ, refl, rules, arith, nat_tests, allows, allows_past_ascii, userinfo_set, reg_name_set, pchar_set, path_set, query_set, fragment_set, segment_nz_nc_set, scheme_set, digit_set, hexdig_set, ipv_future_set, lit, ◌∣◌, unreserved, sub-delims, pct-encoded, pchar, ALPHA, DIGIT, HEXDIG}
 use Rattle.uri_abnf.proofs.Elements.{has_char}
 use Rattle.uri_abnf.proofs.Tokens.{IsSetOf}
 
@@ -68,6 +68,9 @@ query-chars c = grind (arith, nat_tests)
 pub query-set : IsSetOf (pchar ∣ lit "/" ∣ lit "?") query_set
 unfolding ALPHA DIGIT HEXDIG unreserved sub-delims pct-encoded pchar
 query-set = record { element = search rules; chars = query-chars; octets = refl; lacks = refl }
+
+pub fragment-set : IsSetOf (pchar ∣ lit "/" ∣ lit "?") fragment_set
+fragment-set = query-set
 
 future-chars : (c : ℕ) → has_char (unreserved ∣ sub-delims ∣ lit ":") c ≡ allows ipv_future_set c
 unfolding ALPHA DIGIT HEXDIG unreserved sub-delims pct-encoded pchar allows_past_ascii

@@ -1,7 +1,9 @@
 -- The job that a command line of `urilines` asks for.
-use Rattle.std.specs.Prelude.{◌≡◌, ◌<◌, ◌-◌, ◌⊎◌, ℕ, Bool, true, false, List, [], ◌∷◌, ◌||◌, ◌==◌, codes, nat_lt, Option, Some, None, option_map, unwrap_or, if◌then◌else◌}
+use Rattle.std.specs.Prelude.{◌≡◌, ◌<◌, ◌-◌, ◌⊎◌, ℕ, Bool, true, false, List, [], ◌∷◌, not, ◌&&◌, ◌||◌, ◌==◌, codes, nat_lt, Option, Some, None, option_map, unwrap_or, if◌then◌else◌}
 use Rattle.std.specs.Borrow.{Bor}
 use Rattle.std.specs.declared.hash.RandomState.{RandomState}
+use Rattle.uri_pct.specs.Delimiters.{colon, percent_sign, slash}
+use Rattle.uri_pct.specs.Sets.{allows, query_set, reserved_set, unreserved_set}
 use Rattle.uri_parts.specs.Fragments.{IsWithFragment}
 use Rattle.fluent_uri.specs.Grammar.{Kind, iri, uri}
 use Rattle.fluent_uri.specs.Refusals.{refusal}
@@ -98,21 +100,22 @@ IsCommandOf line hasher (Links base set) =
 abbrev pub delimiter_of : CommandLine → List ℕ
 delimiter_of line = unwrap_or (option_map (λ w. w.now) line.delimiter) (codes "\t")
 
--- whether no text of a kind and no message of `urilines` has this byte: it is a control character
--- or one of nine others
+-- whether no text of a kind and no message of `urilines` has this byte: it is of ASCII, neither
+-- reserved nor of a query, no `%`, and no space, which messages have
 abbrev pub is_in_no_text : ℕ → Bool
-is_in_no_text b = nat_lt b 32 || (b == 34) || (b == 60) || (b == 62) || (b == 92) || (b == 94)
-    || (b == 96) || (b == 123) || (b == 124) || (b == 125)
+is_in_no_text b = nat_lt b 128
+    && not (allows reserved_set b || allows query_set b || b == percent_sign) && not (b == 32)
 
 -- whether a normal form, a relative reference and what a link is mended to have this byte only if
--- the text has it, and no message of theirs has it
+-- the text has it, and no message of theirs has it: it is of a query, not unreserved, neither `/`
+-- nor `:`, and no apostrophe, which messages have
 abbrev pub is_only_kept : ℕ → Bool
-is_only_kept b = (b == 33) || (b == 36) || (b == 38) || (b == 40) || (b == 41) || (b == 42)
-    || (b == 43) || (b == 44) || (b == 59) || (b == 61) || (b == 63) || (b == 64)
+is_only_kept b = allows query_set b
+    && not (allows unreserved_set b || b == slash || b == colon || b == 39)
 
 -- whether a line keeps its fields if this byte is between them, whatever a command of `urilines`
 -- writes for one: JSON, a text with characters of a base, or one with those of the field
-abbrev pub keeps_shape : CommandName → ℕ → Bool
+unfoldable pub keeps_shape : CommandName → ℕ → Bool
 keeps_shape names.Parse b = nat_lt b 32
 keeps_shape names.Query b = nat_lt b 32
 keeps_shape names.Resolve b = is_in_no_text b

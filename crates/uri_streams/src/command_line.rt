@@ -17,12 +17,12 @@ use std::fmt::{self, Display};
 use std::hash::RandomState;
 pub use uri_commands::kinds::kind_named;
 use uri_commands::refusal::CommandError;
-
-/// How many bytes the text of a line may have, if `--max-line` doesn't say it: 1 MiB.
 use uri_commands::table::{
     CHECK, LINKS, MEND, NORMALIZE, PARSE, QUERY, RELATIVIZE, RESOLVE, UNIQUE,
 };
+use uri_pct::table;
 
+/// How many bytes the text of a line may have, if `--max-line` doesn't say it: 1 MiB.
 const MAX_LINE: u32 = 1024 * 1024;
 
 /// The name of a command on the command line of `urilines`.
@@ -268,6 +268,7 @@ fn delimiter(line: &CommandLine<'_>) -> Result<u8, CommandLineError>
 
 /// Returns whether no result and no message of a command has this byte, unless the field has it. So
 /// a line keeps its fields if the byte is between them.
+#[tactic(auto, unfolding(crate::specs::CommandLines::keeps_shape))]
 fn keeps_shape(command: CommandName, byte: u8) -> bool
     ensures { result ≡ keeps_shape command byte }
 {
@@ -282,41 +283,26 @@ fn keeps_shape(command: CommandName, byte: u8) -> bool
     }
 }
 
-/// Returns whether no text of a kind has this byte, and no message. It is a control character, or
-/// one of `"`, `<`, `>`, `\`, `^`, a backtick, `{`, `|` and `}`.
+/// Returns whether no text of a kind has this byte, and no message. Each ASCII character of a text
+/// is reserved, `%`, or one that a query may have.
+#[tactic(auto, using(uri_pct::proofs::TableSets::Constants::constant_tables))]
 fn is_in_no_text(byte: u8) -> bool
     ensures { result ≡ is_in_no_text byte }
 {
-    byte < b' '
-        || byte == b'"'
-        || byte == b'<'
-        || byte == b'>'
-        || byte == b'\\'
-        || byte == b'^'
-        || byte == b'`'
-        || byte == b'{'
-        || byte == b'|'
-        || byte == b'}'
+    let ch = char::from(byte);
+    let is_in_text = table::RESERVED.allows(ch) || table::QUERY.allows(ch) || byte == b'%';
+    byte.is_ascii() && !is_in_text && byte != b' '
 }
 
 /// Returns whether a normal form, a relative reference and what a link is mended to have this byte
-/// only if the text has it, and no message has it: `!`, `$`, `&`, `(`, `)`, `*`, `+`, `,`, `;`,
-/// `=`, `?` or `@`.
+/// only if the text has it, and no message has it.
+#[tactic(auto, using(uri_pct::proofs::TableSets::Constants::constant_tables))]
 fn is_only_kept(byte: u8) -> bool
     ensures { result ≡ is_only_kept byte }
 {
-    byte == b'!'
-        || byte == b'$'
-        || byte == b'&'
-        || byte == b'('
-        || byte == b')'
-        || byte == b'*'
-        || byte == b'+'
-        || byte == b','
-        || byte == b';'
-        || byte == b'='
-        || byte == b'?'
-        || byte == b'@'
+    let ch = char::from(byte);
+    let is_other = table::UNRESERVED.allows(ch) || byte == b'/' || byte == b':' || byte == b'\'';
+    table::QUERY.allows(ch) && !is_other
 }
 
 /// Returns the field that the command gets, if the command line has one.

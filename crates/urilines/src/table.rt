@@ -44,9 +44,10 @@ pub const FIELD: OptionRow = OptionRow {
 
 /// What is between two fields: an ASCII character that no result and no message of the command has,
 /// so that a line keeps its fields. The default is a tab. For `parse` and `query`, which write
-/// JSON, it is a control character; for `resolve` and `links` also one of " < > \ ^ \` { | and };
-/// and for the others also one of ! $ & ( ) * + , ; = ? and @. Another character is rejected.
-/// Quotes have no meaning.
+/// JSON, it is a control character that JSON escapes; for `resolve` and `links` also another that
+/// no URI may have, such as |, but no space; and for the others also one that a query may have,
+/// such as a comma, but no letter or digit and none of - . _ ~ / : and '. Another character is
+/// rejected. Quotes have no meaning.
 pub const DELIMITER: OptionRow = OptionRow {
     name: "delimiter",
     short: None,

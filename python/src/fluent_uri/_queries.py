@@ -8,8 +8,8 @@ from typing import Any, Callable, Dict, Iterable, List, Optional, Tuple, Union
 from fluent_uri import Component, ParseError, decode, encode
 from fluent_uri._errors import exact
 
-# What a text without percent-encoded octets may be made of, of those that `safe` may name.
-_ALLOWED = frozenset("!#$%&'()*+,-./:;=?@[]_~")
+# What a reference may hold: what a query may, the `%` of its octets, and the other delimiters.
+_ALLOWED = frozenset(encode(bytes(range(128)), Component.QUERY) + "#[]")
 _ASCII = re.compile("([\0-\x7f]+)")
 
 

@@ -15,7 +15,7 @@ const PIECES: &[&str] = &[
     "/a/b/c/d/e/f/g/h/i/j/k/l/m/n/o/p/q/r/s/t", "../../../../../../..",
 ];
 
-/// Schemes that have a default port, and some that have none, with a port.
+/// The schemes that have a default port in the original, and some that have none, with a port.
 const PORTS: &str = "aaa:3868 aaas:5658 acap:674 cap:1026 coap:5683 coap+tcp:5683 coap+ws:80 \
     coaps:5684 coaps+tcp:5684 coaps+ws:443 dict:2628 dns:53 ftp:21 go:1096 gopher:70 http:80 \
     https:443 icap:1344 imap:143 ipp:631 ipps:631 ldap:389 mtqp:1038 mupdate:3905 nfs:2049 \

@@ -121,33 +121,8 @@ impl Scheme {
         &self.text
     }
 
-    /// Returns the default port of the scheme (RFC 3986, section 3.2.3), if it is one of the
-    /// table below: those with a port whose registration at IANA was permanent. The case of
-    /// letters makes no difference.
-    ///
-    /// | Port | Schemes |
-    /// |---|---|
-    /// | 21 | `ftp` |
-    /// | 23 | `telnet`, `tn3270` |
-    /// | 53 | `dns` |
-    /// | 70 | `gopher` |
-    /// | 80 | `http`, `ws`, `coap+ws` |
-    /// | 110, 119, 143 | `pop`, `nntp`, `imap` |
-    /// | 161 | `snmp` |
-    /// | 210 | `z39.50r`, `z39.50s` |
-    /// | 322, 554 | `rtsps`; `rtsp`, `rtspu` |
-    /// | 389 | `ldap` |
-    /// | 443 | `https`, `wss`, `coaps+ws` |
-    /// | 575, 631, 674 | `vemmi`; `ipp`, `ipps`; `acap` |
-    /// | 1026, 1038, 1096, 1344 | `cap`, `mtqp`, `go`, `icap` |
-    /// | 2049, 2628 | `nfs`, `dict` |
-    /// | 3372, 3478 | `tip`; `stun`, `turn` |
-    /// | 3868, 3905 | `aaa`, `mupdate` |
-    /// | 5349 | `stuns`, `turns` |
-    /// | 5658 | `aaas` |
-    /// | 5683 | `coap`, `coap+tcp` |
-    /// | 5684 | `coaps`, `coaps+tcp` |
-    /// | 5900 | `vnc` |
+    /// Returns the default port of the scheme (RFC 3986, section 3.2.3), if it is one of those in
+    /// `src/proved/uri_parts/default_ports.rs`. The case of letters makes no difference.
     ///
     /// # Examples
     ///
