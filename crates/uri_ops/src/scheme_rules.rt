@@ -121,7 +121,10 @@ impl SchemeRules for StandardRules {
     fn empty_path_is_root(&self, scheme: Scheme<'_>) -> bool {
         is_one_of(
             scheme.as_str(),
+            // The order is that of the specification, but for the two that are asked for most.
             &[
+                "http",
+                "https",
                 "coap",
                 "coap+tcp",
                 "coap+ws",
@@ -130,8 +133,6 @@ impl SchemeRules for StandardRules {
                 "coaps+ws",
                 "ftp",
                 "gopher",
-                "http",
-                "https",
                 "imap",
                 "ipp",
                 "ipps",
