@@ -115,8 +115,10 @@ pub(crate) fn run_end_by_members(low: u64, high: u64, bytes: &[u8], start: usize
     if bit == 0 {
         return run_end_by_words(low, high, bytes, start);
     }
+    // (else its address is read for each byte)
+    let members = MEMBERS;
     let mut i = start;
-    while i < bytes.len() && MEMBERS[usize::from(bytes[i])] & bit != 0 {
+    while i < bytes.len() && members[usize::from(bytes[i])] & bit != 0 {
         i += 1;
     }
     i
