@@ -1,5 +1,4 @@
-//! The calls of `Uri`, `UriRef`, `Iri` and `IriRef` that `docs/RUST.md` lists, each with what
-//! a caller may say of the text.
+//! Calls of `Uri`, `UriRef`, `Iri` and `IriRef`, each with what a caller may say of the text.
 #![tactic(auto)]
 
 ghost use Rattle.std.specs.Prelude.{◌≡◌, ◌↔◌, ◌∷◌, IfErr, IfOk, IsOk, None, Ok, Some, []};
@@ -11,6 +10,7 @@ ghost use Rattle.fluent_uri.specs.Fragments.{IsWithFragment};
 ghost use Rattle.fluent_uri.specs.Grammar.{IsOfKind, iri, iri_ref, uri, uri_ref};
 ghost use Rattle.fluent_uri.specs.Iris.{iri_ref_text, iri_text};
 ghost use Rattle.fluent_uri.specs.Normalizers.{IsNormalForm};
+ghost use Rattle.fluent_uri.specs.Prelude.{reference_text};
 ghost use Rattle.fluent_uri.specs.Refusals.{refusal};
 ghost use Rattle.fluent_uri.specs.SchemeRules.{default_rules};
 ghost use Rattle.fluent_uri.specs.Schemes.{scheme_text};
@@ -18,10 +18,10 @@ ghost use Rattle.fluent_uri.specs.Target.{resolution_of_texts};
 ghost use Rattle.fluent_uri.specs.Uris.{uri_ref_text, uri_text};
 
 use fluent_uri::build::BuildError;
-use fluent_uri::component::{Authority, IAuthority, Scheme};
-use fluent_uri::kind::{IriKind, IriRefKind, Kind, UriKind, UriRefKind};
+use fluent_uri::component::{Authority, Host, HostOf, IAuthority, IHost, Scheme};
+use fluent_uri::kind::{IriKind, IriRefKind, Kind, RefKind, UriKind, UriRefKind};
 use fluent_uri::pct_enc::EStr;
-use fluent_uri::pct_enc::encoder::{Fragment, IFragment, IPath, Path, Query};
+use fluent_uri::pct_enc::encoder::{Fragment, IFragment, IPath, IRegName, Path, Query, RegName};
 use fluent_uri::resolve::ResolveError;
 use fluent_uri::{ConvertError, Iri, IriRef, ParseError, Reference, Uri, UriRef};
 use std::alloc::{AllocError, Global};
@@ -30,60 +30,18 @@ use std::convert::{TryFrom, TryInto};
 use std::fmt;
 use std::hash::{Hash, Hasher};
 
-/// A caller gets the text of a URI, by `String::from`.
-pub fn string_of_uri(value: Uri<String>) -> String
-    ensures { string_bytes result ≡ uri_text value }
+/// A caller gets the text of a reference, by `String::from`.
+pub fn string_of<K: Kind>(value: Reference<K, String>) -> String
+    ensures { string_bytes result ≡ reference_text value }
 {
     String::from(value)
 }
 
-/// A caller gets the text of a URI reference, by `String::from`.
-pub fn string_of_uri_ref(value: UriRef<String>) -> String
-    ensures { string_bytes result ≡ uri_ref_text value }
+/// A caller gets the empty reference, by `default`.
+pub fn empty<'a, K: RefKind>() -> Reference<K, &'a str>
+    ensures { reference_text result ≡ [] }
 {
-    String::from(value)
-}
-
-/// A caller gets the text of an IRI, by `String::from`.
-pub fn string_of_iri(value: Iri<String>) -> String
-    ensures { string_bytes result ≡ iri_text value }
-{
-    String::from(value)
-}
-
-/// A caller gets the text of an IRI reference, by `String::from`.
-pub fn string_of_iri_ref(value: IriRef<String>) -> String
-    ensures { string_bytes result ≡ iri_ref_text value }
-{
-    String::from(value)
-}
-
-/// A caller gets the text of a URI, by `into`.
-pub fn uri_into_string(value: Uri<String>) -> String
-    ensures { string_bytes result ≡ uri_text value }
-{
-    value.into()
-}
-
-/// A caller gets the text of a URI reference, by `into`.
-pub fn uri_ref_into_string(value: UriRef<String>) -> String
-    ensures { string_bytes result ≡ uri_ref_text value }
-{
-    value.into()
-}
-
-/// A caller gets the text of an IRI, by `into`.
-pub fn iri_into_string(value: Iri<String>) -> String
-    ensures { string_bytes result ≡ iri_text value }
-{
-    value.into()
-}
-
-/// A caller gets the text of an IRI reference, by `into`.
-pub fn iri_ref_into_string(value: IriRef<String>) -> String
-    ensures { string_bytes result ≡ iri_ref_text value }
-{
-    value.into()
+    Reference::<K, &str>::default()
 }
 
 /// A caller parses a text as a URI, by `try_from`.
@@ -102,20 +60,6 @@ pub fn iri_ref_of_string(text: String) -> Result<IriRef<String>, (ParseError, St
     IriRef::try_from(text)
 }
 
-/// A caller gets the empty URI reference, by `default`.
-pub fn empty_uri_ref<'a>() -> UriRef<&'a str>
-    ensures { uri_ref_text result ≡ [] }
-{
-    UriRef::<&str>::default()
-}
-
-/// A caller gets the empty IRI reference, by `default`.
-pub fn empty_iri_ref<'a>() -> IriRef<&'a str>
-    ensures { iri_ref_text result ≡ [] }
-{
-    IriRef::<&str>::default()
-}
-
 /// A caller calls `scheme` of an IRI, which has one.
 pub fn scheme_of_iri<'a>(value: Iri<&'a str>) -> Scheme<'a>
     ensures { Some (scheme_text result) ≡ (components (iri_text value.entry)).scheme }
@@ -128,6 +72,11 @@ pub fn scheme_of_iri_ref(value: &IriRef<String>) -> Option<Scheme<'_>>
     ensures { option_map scheme_text result ≡ (components (iri_ref_text value.now)).scheme }
 {
     value.scheme()
+}
+
+/// A caller asks whether an IRI reference has a scheme, and gets it.
+pub fn scheme_if_any<'a>(value: IriRef<&'a str>) -> (bool, Option<Scheme<'a>>) {
+    (value.has_scheme(), value.scheme())
 }
 
 /// A caller asks whether a URI reference has no scheme, by `has_scheme`.
@@ -148,6 +97,14 @@ pub fn authorities<'a>(
     (value.authority(), other.authority())
 }
 
+/// A caller names the encoder of registered names in a host of a URI, and of an IRI.
+pub fn hosts<'a>(
+    host: Host<'a>,
+    other: IHost<'a>,
+) -> (HostOf<EStr<'a, RegName>>, HostOf<EStr<'a, IRegName>>) {
+    (host, other)
+}
+
 /// A caller calls `path` and `query` of a URI reference.
 pub fn path_and_query(value: &UriRef<String>) -> (EStr<'_, Path>, Option<EStr<'_, Query>>) {
     (value.path(), value.query())
@@ -165,13 +122,6 @@ pub fn copy_of(alloc: Global, value: &Iri<String>) -> Result<Iri<String>, AllocE
     ensures { IfOk result (λ copy. iri_text copy ≡ iri_text value.now) }
 {
     value.borrow().to_owned(alloc)
-}
-
-/// A caller gets the text of an IRI reference, by `into_string`.
-pub fn text_of_iri_ref(value: IriRef<String>) -> String
-    ensures { string_bytes result ≡ iri_ref_text value }
-{
-    value.into_string()
 }
 
 /// A caller gets a URI without its fragment, by `strip_fragment`.
