@@ -19,6 +19,7 @@ pub mod encoding;
 pub mod kinds;
 pub mod laws;
 pub mod literals;
+pub mod own_encoder;
 pub mod owned_texts;
 pub mod sets;
 pub mod settings;
