@@ -11,7 +11,7 @@
 name=alloc_failure_tests
 program=$root/crates/alloc_failure/out/$name
 runner=$(dirname "$(rt doc)")/bin/rattle-test
-most=40
+most=100
 has gcc 'denied requests' || exit 0
 [ -x "$program" ] || fail "there is no $program: rt ci builds it"
 does 'deny.c' gcc -O2 -Wall -Wextra -Werror -shared -fPIC -o "$work/deny.so" "$root/.ci/deny.c"

@@ -1,12 +1,13 @@
 //! Builders: a step whose allocation fails marks the builder, which keeps its mark until `build`.
 use crate::requests::{end, report, succeeds};
+use crate::values::encoded;
 use fluent_uri::build::state::FragmentEnd;
 use fluent_uri::build::{BuildError, Builder};
 use fluent_uri::component::Scheme;
 use fluent_uri::net::{Ipv4Addr, Ipv6Addr};
 use fluent_uri::pct_enc::EStr;
-use fluent_uri::pct_enc::encoder::{Encoder, IRegName, Port, RegName, Userinfo};
-use fluent_uri::{Iri, IriRef, RiMaybeRef, Uri, UriRef};
+use fluent_uri::pct_enc::encoder::{Encoder, Port, RegName, Userinfo};
+use fluent_uri::{RiMaybeRef, Uri, UriRef};
 use integration_tests::comparison::equal;
 use std::process::Abort;
 
@@ -18,11 +19,6 @@ const PATH: &str = "/0123456789012345";
 const QUERY: &str = "012345678901234567890123456789";
 
 const FRAGMENT: &str = "012345678901234567890123456789012345678901234567890123456789";
-
-/// Makes an encoded text of a literal, for a builder in a test of denied memory, or ends the test.
-fn part<'a, R: Abort, E: Encoder>(rt: &R, text: &'a str) -> EStr<'a, E> {
-    EStr::new(text).expect(rt, text)
-}
 
 /// Makes a scheme of a literal, for a builder in a test of denied memory, or ends the test.
 fn scheme<'a, R: Abort>(rt: &R, text: &'a str) -> Scheme<'a> {
@@ -59,9 +55,9 @@ fn uri_of_all_parts(rt: HostRuntime) {
     let built = Uri::<String>::builder(rt.alloc())
         .scheme(scheme(&rt, "s"))
         .authority(other.authority().expect(&rt, "an authority"))
-        .path(part(&rt, PATH))
-        .query(part(&rt, QUERY))
-        .fragment(part(&rt, FRAGMENT))
+        .path(encoded(&rt, PATH))
+        .query(encoded(&rt, QUERY))
+        .fragment(encoded(&rt, FRAGMENT))
         .build();
     is_built(
         &rt,
@@ -75,8 +71,8 @@ fn uri_of_all_parts(rt: HostRuntime) {
 #[test]
 fn reference_of_optional_parts(rt: HostRuntime) {
     let built = UriRef::<String>::builder(rt.alloc())
-        .path(part(&rt, PATH))
-        .optional(Builder::query, Some(part(&rt, QUERY)))
+        .path(encoded(&rt, PATH))
+        .optional(Builder::query, Some(encoded(&rt, QUERY)))
         .optional(Builder::fragment, None)
         .build();
     is_built(
@@ -90,9 +86,9 @@ fn reference_of_optional_parts(rt: HostRuntime) {
 /// Tests a builder of userinfo, a host and a port while memory is denied.
 #[test]
 fn parts_of_an_authority(rt: HostRuntime) {
-    let user: EStr<'_, Userinfo> = part(&rt, NAME);
-    let name: EStr<'_, RegName> = part(&rt, NAME);
-    let port: EStr<'_, Port> = part(&rt, "0123456789012345");
+    let user: EStr<'_, Userinfo> = encoded(&rt, NAME);
+    let name: EStr<'_, RegName> = encoded(&rt, NAME);
+    let port: EStr<'_, Port> = encoded(&rt, "0123456789012345");
     let built = Uri::<String>::builder(rt.alloc())
         .scheme(scheme(&rt, "s"))
         .authority_with(|authority| authority.userinfo(user).host(name).port(port))
@@ -120,38 +116,19 @@ fn addresses_and_numbers(rt: HostRuntime) {
     end(&rt, rt.alloc());
 }
 
-/// Tests builders of an IRI and of an IRI reference while memory is denied.
-#[test]
-fn international_parts(rt: HostRuntime) {
-    let name: EStr<'_, IRegName> = part(&rt, "é");
-    let built = Iri::<String>::builder(rt.alloc())
-        .scheme(scheme(&rt, "s"))
-        .authority_with(|authority| authority.host(name))
-        .path(part(&rt, "/éééé"))
-        .build();
-    is_built(&rt, &built, "s://é/éééé");
-    let built = IriRef::<String>::builder(rt.alloc())
-        .path(part(&rt, "é"))
-        .query(part(&rt, "éééé"))
-        .fragment(part(&rt, "éééééééé"))
-        .build();
-    is_built(&rt, &built, "é?éééé#éééééééé");
-    end(&rt, rt.alloc());
-}
-
 /// Tests that a builder that was denied memory returns `OutOfMemory`, whatever else it would
 /// reject.
 #[test]
 fn mark_before_another_error(rt: HostRuntime) {
     let built = UriRef::<String>::builder(rt.alloc())
-        .path(part(&rt, "a:b"))
-        .query(part(&rt, QUERY))
+        .path(encoded(&rt, "a:b"))
+        .query(encoded(&rt, QUERY))
         .advance::<FragmentEnd>()
         .build();
     is_rejected(&rt, built, BuildError::FirstPathSegmentContainsColon);
     let built = UriRef::<String>::builder(rt.alloc())
-        .path(part(&rt, "//"))
-        .optional(Builder::query, Some(part(&rt, QUERY)))
+        .path(encoded(&rt, "//"))
+        .optional(Builder::query, Some(encoded(&rt, QUERY)))
         .optional(Builder::fragment, None)
         .build();
     is_rejected(&rt, built, BuildError::PathStartsWithDoubleSlash);
@@ -161,11 +138,11 @@ fn mark_before_another_error(rt: HostRuntime) {
 /// Tests that a builder that was denied memory in its authority returns that error at `build`.
 #[test]
 fn mark_through_an_authority(rt: HostRuntime) {
-    let name: EStr<'_, RegName> = part(&rt, NAME);
+    let name: EStr<'_, RegName> = encoded(&rt, NAME);
     let built = Uri::<String>::builder(rt.alloc())
         .scheme(scheme(&rt, "s"))
         .authority_with(|authority| authority.host(name).port(65535))
-        .path(part(&rt, "rootless"))
+        .path(encoded(&rt, "rootless"))
         .advance::<FragmentEnd>()
         .build();
     is_rejected(&rt, built, BuildError::NonemptyRootlessPath);

@@ -4,17 +4,13 @@ use crate::awaits::ExpectedOutput;
 use crate::requests::{end, report, tried};
 use crate::values::holds;
 use integration_tests::comparison::equal;
+use integration_tests::words::owned;
 use std::alloc::Global;
 use std::process::Abort;
 use uri_commands::run::run;
 use uri_commands::sink::Sink;
 
 const OUT_OF_MEMORY: &str = "error: out of memory\n";
-
-/// Copies an argument of `uritool` for a test of denied memory, a second time if that is denied.
-fn word<R: Abort + Print>(rt: &R, alloc: Global, text: &str) -> String {
-    tried!(rt; "a word", String::from_str(alloc, text))
-}
 
 /// Returns whether `uritool` prints this text for the words. If not, checks that `run` reports
 /// denied memory and prints nothing.
@@ -41,54 +37,24 @@ fn prints<R: Abort + Print>(rt: &R, alloc: Global, words: &[String], text: &str)
     true
 }
 
-/// Checks that `uritool` prints this text for the words, or in a second run if memory is denied.
-fn answered<R: Abort + Print>(rt: &R, alloc: Global, words: &[String], text: &str) {
-    if !prints(rt, alloc, words, text) {
-        holds(
-            rt,
-            prints(rt, alloc, words, text),
-            "the answer, with memory",
-        );
+/// Words, and what they print.
+const RUNS: &[(&[&str], &str)] = &[
+    (&["parse", "uri", "s:a"], "scheme=s\npath=a\n"),
+    (&["normalize", "iri", "S:%7e"], "s:~\n"),
+    (&["mend", "uri-ref", "a\n b"], "a%20b\n"),
+    (&["resolve", "uri", "s:/a", "b"], "s:/b\n"),
+    (&["links", "s:/a", "b"], "new 0 s:/b\n"),
+];
+
+/// Tests what `uritool` prints, in a second run if memory is denied.
+#[test]
+fn commands(rt: HostRuntime) {
+    let alloc = rt.alloc();
+    for &(given, text) in RUNS {
+        let words = tried!(&rt; "words", owned(alloc, given));
+        let is_printed = prints(&rt, alloc, words.as_slice(), text)
+            || prints(&rt, alloc, words.as_slice(), text);
+        holds(&rt, is_printed, "the answer, with memory");
     }
-    end(rt, alloc);
-}
-
-/// Tests `uritool parse` while memory is denied.
-#[test]
-fn parse(rt: HostRuntime) {
-    let alloc = rt.alloc();
-    let words = ["parse", "uri", "s:a"].map(|text| word(&rt, alloc, text));
-    answered(&rt, alloc, &words, "scheme=s\npath=a\n");
-}
-
-/// Tests `uritool normalize` while memory is denied.
-#[test]
-fn normalize(rt: HostRuntime) {
-    let alloc = rt.alloc();
-    let words = ["normalize", "iri", "S:%7e"].map(|text| word(&rt, alloc, text));
-    answered(&rt, alloc, &words, "s:~\n");
-}
-
-/// Tests `uritool mend` while memory is denied.
-#[test]
-fn mend(rt: HostRuntime) {
-    let alloc = rt.alloc();
-    let words = ["mend", "uri-ref", "a\n b"].map(|text| word(&rt, alloc, text));
-    answered(&rt, alloc, &words, "a%20b\n");
-}
-
-/// Tests `uritool resolve` while memory is denied.
-#[test]
-fn resolve(rt: HostRuntime) {
-    let alloc = rt.alloc();
-    let words = ["resolve", "uri", "s:/a", "b"].map(|text| word(&rt, alloc, text));
-    answered(&rt, alloc, &words, "s:/b\n");
-}
-
-/// Tests `uritool links` while memory is denied.
-#[test]
-fn links(rt: HostRuntime) {
-    let alloc = rt.alloc();
-    let words = ["links", "s:/a", "b"].map(|text| word(&rt, alloc, text));
-    answered(&rt, alloc, &words, "new 0 s:/b\n");
+    end(&rt, alloc);
 }

@@ -5,15 +5,11 @@
 #[cfg(test)]
 mod awaits;
 #[cfg(test)]
-mod basic;
-#[cfg(test)]
 mod building;
 #[cfg(test)]
 mod commands;
 #[cfg(test)]
 mod hosts;
-#[cfg(test)]
-mod kinds;
 #[cfg(test)]
 mod links;
 #[cfg(test)]
@@ -23,20 +19,14 @@ mod orders;
 #[cfg(test)]
 mod queries;
 #[cfg(test)]
-mod relatives;
-#[cfg(test)]
 mod requests;
 #[cfg(test)]
-mod rules;
+mod rows;
 #[cfg(test)]
 mod streams;
-#[cfg(test)]
-mod targets;
 #[cfg(test)]
 mod texts;
 #[cfg(test)]
 mod values;
 #[cfg(test)]
 mod without_memory;
-#[cfg(test)]
-mod without_requests;

@@ -1,12 +1,12 @@
 //! A register of links, which a failed allocation leaves as it was.
 use crate::requests::{end, report};
-use crate::values::is_text;
+use crate::values::{is_text, parsed};
 use fluent_uri::normalize::{Normalizer, SchemeRules, StandardRules};
-use fluent_uri::{Uri, UriRef};
 use integration_tests::comparison::equal;
 use std::alloc::AllocError;
 use std::process::Abort;
 use uri_links::links::{Outcome, Register};
+use uri_parts::kind::{UriKind, UriRefKind};
 
 /// Checks in a test of denied memory that the register of links has these targets.
 fn has_targets<R: Abort, S: SchemeRules>(rt: &R, register: &Register<S>, targets: &[&str]) {
@@ -15,16 +15,6 @@ fn has_targets<R: Abort, S: SchemeRules>(rt: &R, register: &Register<S>, targets
         let target = register.target(id).expect(rt, wanted);
         is_text(rt, target.as_str(), wanted);
     }
-}
-
-/// Parses a literal URI, the base of links, for a test of denied memory, or ends the test.
-fn uri<'a, R: Abort>(rt: &R, text: &'a str) -> Uri<&'a str> {
-    Uri::<&str>::parse(text).expect(rt, text)
-}
-
-/// Parses a literal URI reference, a link, for a test of denied memory, or ends the test.
-fn reference<'a, R: Abort>(rt: &R, text: &'a str) -> UriRef<&'a str> {
-    UriRef::<&str>::parse(text).expect(rt, text)
 }
 
 /// Notes a link in a register, and checks the outcome. If memory is denied, the register still has
@@ -36,8 +26,8 @@ fn notes<R: Abort + Print, S: SchemeRules>(
     held: &[&str],
     wanted: Outcome,
 ) {
-    let base = uri(rt, "s:/a");
-    let reference = reference(rt, text);
+    let base = parsed::<_, UriKind>(rt, "s:/a");
+    let reference = parsed::<_, UriRefKind>(rt, text);
     let outcome = match register.note(&base, &reference) {
         Ok(outcome) => outcome,
         Err(AllocError) => {
@@ -49,30 +39,12 @@ fn notes<R: Abort + Print, S: SchemeRules>(
     equal(outcome, wanted).expect(rt, text);
 }
 
-/// Tests a register that notes a first link while memory is denied.
+/// Tests a register that notes a new link, the same again and another while memory is denied.
 #[test]
-fn new_link(rt: HostRuntime) {
-    let mut register = Register::new(rt.alloc(), Normalizer::new());
-    notes(&rt, &mut register, "b", &[], Outcome::New(0));
-    has_targets(&rt, &register, &["s:/b"]);
-    end(&rt, rt.alloc());
-}
-
-/// Tests a register that notes a link that it has while memory is denied.
-#[test]
-fn known_link(rt: HostRuntime) {
+fn one_by_one(rt: HostRuntime) {
     let mut register = Register::new(rt.alloc(), Normalizer::new());
     notes(&rt, &mut register, "b", &[], Outcome::New(0));
     notes(&rt, &mut register, "%62", &["s:/b"], Outcome::Known(0));
-    has_targets(&rt, &register, &["s:/b"]);
-    end(&rt, rt.alloc());
-}
-
-/// Tests a register that notes a second link while memory is denied.
-#[test]
-fn second_link(rt: HostRuntime) {
-    let mut register = Register::new(rt.alloc(), Normalizer::new());
-    notes(&rt, &mut register, "b", &[], Outcome::New(0));
     notes(&rt, &mut register, "c", &["s:/b"], Outcome::New(1));
     has_targets(&rt, &register, &["s:/b", "s:/c"]);
     end(&rt, rt.alloc());
@@ -98,8 +70,8 @@ fn links_by_rules(rt: HostRuntime) {
 /// Tests a register that notes links together: if memory is denied, it noted a prefix of them.
 #[test]
 fn links_together(rt: HostRuntime) {
-    let base = uri(&rt, "s:/a");
-    let references = [reference(&rt, "b"), reference(&rt, "./b")];
+    let base = parsed::<_, UriKind>(&rt, "s:/a");
+    let references = ["b", "./b"].map(|text| parsed::<_, UriRefKind>(&rt, text));
     let mut register = Register::new(rt.alloc(), Normalizer::new());
     match register.note_all(&base, &references) {
         Ok(outcomes) => {

@@ -1,8 +1,8 @@
 //! Texts that are mended, and the links of pages.
 use crate::requests::{MayBeOutOfMemory, assert_out_of_memory, end, tried};
 use crate::values::{holds, is_text};
+use fluent_uri::UriRef;
 use fluent_uri::pct_enc::CowStr;
-use fluent_uri::{IriRef, UriRef};
 use uri_mend::{Mend, MendError, trim_link};
 
 impl MayBeOutOfMemory for MendError {
@@ -10,36 +10,6 @@ impl MayBeOutOfMemory for MendError {
     fn is_out_of_memory(&self) -> bool {
         matches!(*self, MendError::OutOfMemory)
     }
-}
-
-/// Tests `mend` while memory is denied: of a reference, of a few octets, and of many, for which the
-/// room for the text is too small.
-#[test]
-fn texts(rt: HostRuntime) {
-    let alloc = rt.alloc();
-    for (text, wanted) in [
-        ("/a?b#c", "/a?b#c"),
-        ("/a b", "/a%20b"),
-        ("1:2", "./1:2"),
-        (
-            "/é漢字漢字漢字漢字漢字漢字",
-            "/%C3%A9%E6%BC%A2%E5%AD%97%E6%BC%A2%E5%AD%97%E6%BC%A2%E5%AD%97%E6%BC%A2%E5%AD%97\
-             %E6%BC%A2%E5%AD%97%E6%BC%A2%E5%AD%97",
-        ),
-    ] {
-        let made = tried!(&rt; "UriRef::mend", UriRef::<String>::mend(alloc, text));
-        is_text(&rt, made.as_str(), wanted);
-    }
-    end(&rt, alloc);
-}
-
-/// Tests `mend` of texts to IRI references while memory is denied.
-#[test]
-fn texts_past_ascii(rt: HostRuntime) {
-    let alloc = rt.alloc();
-    let made = tried!(&rt; "IriRef::mend", IriRef::<String>::mend(alloc, "/é |"));
-    is_text(&rt, made.as_str(), "/é%20%7C");
-    end(&rt, alloc);
 }
 
 /// Tests `mend_owned` while memory is denied: the text comes back.
@@ -59,19 +29,12 @@ fn owned_texts(rt: HostRuntime) {
     end(&rt, alloc);
 }
 
-/// Tests `trim_link` while memory is denied.
-#[test]
-fn trimmed_links(rt: HostRuntime) {
-    let alloc = rt.alloc();
-    let made = tried!(&rt; "trim_link", trim_link(alloc, " a\nb "));
-    is_text(&rt, made.as_str(), "ab");
-    end(&rt, alloc);
-}
-
-/// Tests `mend_link` while memory is denied.
+/// Tests `trim_link` and `mend_link` while memory is denied.
 #[test]
 fn links_of_pages(rt: HostRuntime) {
     let alloc = rt.alloc();
+    let made = tried!(&rt; "trim_link", trim_link(alloc, " a\nb "));
+    is_text(&rt, made.as_str(), "ab");
     let made = tried!(&rt; "UriRef::mend_link", UriRef::<String>::mend_link(alloc, " a\nb c "));
     is_text(&rt, made.as_str(), "ab%20c");
     end(&rt, alloc);

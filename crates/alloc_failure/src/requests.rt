@@ -1,13 +1,8 @@
 //! What a test prints of its allocations. In a run at most one fails.
 
 use fluent_uri::build::BuildError;
-use fluent_uri::component::SocketError;
-use fluent_uri::normalize::NormalizeError;
-use fluent_uri::pct_enc::DecodeError;
-use fluent_uri::resolve::ResolveError;
 use std::alloc::{AllocError, Global};
 use std::process::Abort;
-use uri_basic::BasicResolveError;
 
 /// An error that may say that an allocation failed.
 pub trait MayBeOutOfMemory {
@@ -26,42 +21,6 @@ impl MayBeOutOfMemory for BuildError {
     /// Returns whether the error of a builder in a test of denied memory is `OutOfMemory`.
     fn is_out_of_memory(&self) -> bool {
         matches!(*self, BuildError::OutOfMemory)
-    }
-}
-
-impl MayBeOutOfMemory for DecodeError {
-    /// Returns whether the error of decoding in a test of denied memory is `OutOfMemory`.
-    fn is_out_of_memory(&self) -> bool {
-        matches!(self, DecodeError::OutOfMemory)
-    }
-}
-
-impl MayBeOutOfMemory for NormalizeError {
-    /// Returns whether the error of normalising in a test of denied memory is `OutOfMemory`.
-    fn is_out_of_memory(&self) -> bool {
-        matches!(*self, NormalizeError::OutOfMemory)
-    }
-}
-
-impl MayBeOutOfMemory for ResolveError {
-    /// Returns whether the error of resolving in a test of denied memory is `OutOfMemory`.
-    fn is_out_of_memory(&self) -> bool {
-        matches!(*self, ResolveError::OutOfMemory)
-    }
-}
-
-impl MayBeOutOfMemory for BasicResolveError {
-    /// Returns whether the error of the basic algorithm in a test of denied memory is
-    /// `OutOfMemory`.
-    fn is_out_of_memory(&self) -> bool {
-        matches!(*self, BasicResolveError::OutOfMemory)
-    }
-}
-
-impl MayBeOutOfMemory for SocketError {
-    /// Returns whether the error of `socket_target` in a test of denied memory is `OutOfMemory`.
-    fn is_out_of_memory(&self) -> bool {
-        matches!(*self, SocketError::OutOfMemory)
     }
 }
 

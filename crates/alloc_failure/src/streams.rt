@@ -1,6 +1,5 @@
-//! `run` of `uri_streams`: if an allocation fails it says so, and wrote a prefix of its output;
-//! else
-//! it writes what it always does.
+//! `run` of `uri_streams`: if an allocation fails, it says so, and wrote a prefix of its output.
+//! Else it writes what it always does.
 use crate::awaits::ExpectedOutput;
 use crate::requests::{end, report};
 use crate::values::holds;
@@ -56,118 +55,105 @@ fn on_fields(command: Command<'_>) -> Job<'_> {
     }
 }
 
-/// Checks that `urilines` writes this text for the input, or in a second run if memory is denied.
-fn written<R: Abort + Print>(rt: &R, alloc: Global, command: Command<'_>, input: &str, text: &str) {
-    written_by(rt, alloc, &on_fields(command), input, text);
+/// Checks that the job writes this text for the input, in a second run if memory is denied.
+fn written<R: Abort + Print>(rt: &R, alloc: Global, job: &Job<'_>, input: &str, text: &str) {
+    if !writes(rt, alloc, job, input, text) {
+        let is_written = writes(rt, alloc, job, input, text);
+        holds(rt, is_written, "the output, with memory");
+    }
 }
 
-/// Checks that the job writes this text for the input, or in a second run if memory is denied.
-fn written_by<R: Abort + Print>(rt: &R, alloc: Global, job: &Job<'_>, input: &str, text: &str) {
-    if !writes(rt, alloc, job, input, text) {
-        holds(
-            rt,
-            writes(rt, alloc, job, input, text),
-            "the output, with memory",
+/// Tests the commands of `urilines` that make one text of another while memory is denied.
+#[test]
+fn texts_of_lines(rt: HostRuntime) {
+    let base = Uri::<&str>::parse("s:/a").expect(&rt, "base");
+    for (command, input, text) in [
+        // The third line does not fit into the buffer.
+        (
+            LineCommand::Normalize(KindName::Uri, RuleSet::DefaultPorts),
+            "a S:%7e b\n\nc s:0123456789012345 d\n",
+            "a s:~ b\nerror: no field 2\nc s:0123456789012345 d\n",
+        ),
+        (
+            LineCommand::Resolve(Base::Uri(base), false),
+            "a b\na c\n",
+            "a s:/b\na s:/c\n",
+        ),
+        (
+            LineCommand::Resolve(Base::Uri(base), true),
+            "a %2e\na .//b\n",
+            "a s:/%2e\na error: target has no authority, and its path would start with '//'\n",
+        ),
+        (
+            LineCommand::Mend(KindName::UriRef),
+            "a b|c\na //a\\@b\n",
+            "a b%7Cc\na error: unexpected character at index 3\n",
+        ),
+    ] {
+        written(
+            &rt,
+            rt.alloc(),
+            &on_fields(Command::Each(command)),
+            input,
+            text,
         );
     }
-    end(rt, alloc);
+    end(&rt, rt.alloc());
 }
 
-/// Tests `urilines normalize` while memory is denied.
+/// Tests the commands of `urilines` that read lines or pass them on while memory is denied.
 #[test]
-fn normalized_lines(rt: HostRuntime) {
-    let command = Command::Each(LineCommand::Normalize(KindName::Uri, RuleSet::DefaultPorts));
-    // The third line does not fit into the buffer.
-    let input = "a S:%7e b\n\nc s:0123456789012345 d\n";
-    let text = "a s:~ b\nerror: no field 2\nc s:0123456789012345 d\n";
-    written(&rt, rt.alloc(), command, input, text);
-}
-
-/// Tests `urilines resolve` while memory is denied.
-#[test]
-fn resolved_lines(rt: HostRuntime) {
-    let base = Uri::<&str>::parse("s:/a").expect(&rt, "base");
-    let command = Command::Each(LineCommand::Resolve(Base::Uri(base), false));
-    written(&rt, rt.alloc(), command, "a b\na c\n", "a s:/b\na s:/c\n");
-}
-
-/// Tests `urilines resolve --basic` while memory is denied.
-#[test]
-fn lines_resolved_by_the_basic_algorithm(rt: HostRuntime) {
-    let base = Uri::<&str>::parse("s:/a").expect(&rt, "base");
-    let command = Command::Each(LineCommand::Resolve(Base::Uri(base), true));
-    let text = "a s:/%2e\na error: target has no authority, and its path would start with '//'\n";
-    written(&rt, rt.alloc(), command, "a %2e\na .//b\n", text);
-}
-
-/// Tests `urilines parse` while memory is denied.
-#[test]
-fn parsed_lines(rt: HostRuntime) {
-    let command = Command::Each(LineCommand::Parse(KindName::IriRef));
-    let text = "a {\"path\":\"b\",\"query\":\"c\"}\n";
-    written(&rt, rt.alloc(), command, "a b?c\n", text);
-}
-
-/// Tests `urilines query` while memory is denied.
-#[test]
-fn queried_lines(rt: HostRuntime) {
-    let command = Command::Each(LineCommand::Query(KindName::IriRef));
-    let text = "a [[\"b\",\"\\\"\"],[\"c\",\"\"]]\n";
-    written(&rt, rt.alloc(), command, "a ?b=%22&c\n", text);
-}
-
-/// Tests `urilines check` while memory is denied.
-#[test]
-fn checked_lines(rt: HostRuntime) {
-    let command = Command::Each(LineCommand::Check(KindName::Uri, true));
-    written(&rt, rt.alloc(), command, "a s:\na b\n", "a b\n");
-}
-
-/// Tests `urilines mend` while memory is denied.
-#[test]
-fn mended_lines(rt: HostRuntime) {
-    let command = Command::Each(LineCommand::Mend(KindName::UriRef));
-    let text = "a b%7Cc\na error: unexpected character at index 3\n";
-    written(&rt, rt.alloc(), command, "a b|c\na //a\\@b\n", text);
+fn lines_that_are_read(rt: HostRuntime) {
+    for (command, input, text) in [
+        (
+            LineCommand::Parse(KindName::IriRef),
+            "a b?c\n",
+            "a {\"path\":\"b\",\"query\":\"c\"}\n",
+        ),
+        (
+            LineCommand::Query(KindName::IriRef),
+            "a ?b=%22&c\n",
+            "a [[\"b\",\"\\\"\"],[\"c\",\"\"]]\n",
+        ),
+        (
+            LineCommand::Check(KindName::Uri, true),
+            "a s:\na b\n",
+            "a b\n",
+        ),
+    ] {
+        written(
+            &rt,
+            rt.alloc(),
+            &on_fields(Command::Each(command)),
+            input,
+            text,
+        );
+    }
+    end(&rt, rt.alloc());
 }
 
 /// Tests `urilines --mend` while memory is denied: the line breaks are dropped from a text that NUL
 /// ends.
 #[test]
 fn lines_mended_first(rt: HostRuntime) {
-    let mut job = on_fields(Command::Each(LineCommand::Normalize(
-        KindName::Uri,
-        RuleSet::DefaultPorts,
-    )));
+    let command = LineCommand::Normalize(KindName::Uri, RuleSet::DefaultPorts);
+    let mut job = on_fields(Command::Each(command));
     job.is_mended = true;
     job.is_null = true;
-    written_by(&rt, rt.alloc(), &job, "a S:b\n|c\0", "a s:b%7Cc\0");
+    written(&rt, rt.alloc(), &job, "a S:b\n|c\0", "a s:b%7Cc\0");
+    end(&rt, rt.alloc());
 }
 
-/// Tests `urilines unique` while memory is denied.
+/// Tests the commands of `urilines` that remember lines while memory is denied.
 #[test]
-fn unique_lines(rt: HostRuntime) {
+fn lines_that_are_remembered(rt: HostRuntime) {
     let hasher = RandomState::new(&rt).expect(&rt, "random numbers");
     let command = Command::Unique(KindName::Uri, RuleSet::DefaultPorts, hasher);
-    written(
-        &rt,
-        rt.alloc(),
-        command,
-        "a s:a\nb S:a\nc s:b\n",
-        "a s:a\nc s:b\n",
-    );
-}
-
-/// Tests `urilines links` while memory is denied.
-#[test]
-fn noted_lines(rt: HostRuntime) {
+    let (input, text) = ("a s:a\nb S:a\nc s:b\n", "a s:a\nc s:b\n");
+    written(&rt, rt.alloc(), &on_fields(command), input, text);
     let base = Uri::<&str>::parse("s:/a").expect(&rt, "base");
-    let text = "a new 0 s:/b\na known 0 s:/b\n";
-    written(
-        &rt,
-        rt.alloc(),
-        Command::Links(base, RuleSet::DefaultPorts),
-        "a b\na %62\n",
-        text,
-    );
+    let command = Command::Links(base, RuleSet::DefaultPorts);
+    let (input, text) = ("a b\na %62\n", "a new 0 s:/b\na known 0 s:/b\n");
+    written(&rt, rt.alloc(), &on_fields(command), input, text);
+    end(&rt, rt.alloc());
 }

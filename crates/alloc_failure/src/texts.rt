@@ -1,16 +1,12 @@
-//! Texts that are percent-encoded: what grows one, and what decodes it.
-use crate::requests::{end, report, succeeds, tried};
-use crate::values::{holds, is_text};
+//! Texts that grow, which a denied request leaves as they were, and copies.
+use crate::requests::{end, report, tried};
+use crate::values::{encoded, holds, is_encoded, is_text, parsed};
 use fluent_uri::pct_enc::encoder::{Data, Path};
-use fluent_uri::pct_enc::{CowSlice, CowStr, DecodeError, EStr, EString};
+use fluent_uri::pct_enc::{CowSlice, CowStr, EString};
 use integration_tests::comparison::equal;
 use std::alloc::AllocError;
 use std::process::Abort;
-
-/// Makes a percent-encoded path of a literal for a test of denied memory, or ends the test.
-fn path<'a, R: Abort>(rt: &R, text: &'a str) -> EStr<'a, Path> {
-    EStr::new(text).expect(rt, text)
-}
+use uri_parts::kind::IriKind;
 
 /// Prints that a call that appends was denied memory, and checks that it left the text as it was.
 fn assert_unchanged<R: Abort + Print>(rt: &R, call: &str, text: &EString<Path>, left: &str) {
@@ -25,7 +21,7 @@ fn new_and_pushed_texts(rt: HostRuntime) {
     let made = tried!(&rt; "with_capacity", EString::<Path>::with_capacity(alloc, 9));
     is_text(&rt, made.as_str(), "");
     holds(&rt, made.capacity() >= 9, "capacity");
-    let owned = tried!(&rt; "to_owned", path(&rt, "a%20b").to_owned(alloc));
+    let owned = tried!(&rt; "to_owned", encoded::<_, Path>(&rt, "a%20b").to_owned(alloc));
     is_text(&rt, owned.as_str(), "a%20b");
     let mut text = EString::<Path>::new(alloc);
     if let Err(AllocError) = text.push('a') {
@@ -33,7 +29,7 @@ fn new_and_pushed_texts(rt: HostRuntime) {
         text.push('a').expect(&rt, "memory");
     }
     is_text(&rt, text.as_str(), "a");
-    let more = path(&rt, "/01234567890123456789");
+    let more = encoded(&rt, "/01234567890123456789");
     if let Err(AllocError) = text.push_estr(more) {
         assert_unchanged(&rt, "push_estr", &text, "a");
         text.push_estr(more).expect(&rt, "memory");
@@ -69,55 +65,31 @@ fn encoded_bytes(rt: HostRuntime) {
     end(&rt, rt.alloc());
 }
 
-/// Tests a path that is decoded to bytes while memory is denied.
+/// Tests copies of decoded bytes and texts while memory is denied.
 #[test]
-fn decoded_bytes(rt: HostRuntime) {
+fn copies(rt: HostRuntime) {
     let alloc = rt.alloc();
-    let text = path(&rt, "0123456%C3%A9%FF89");
-    let bytes = tried!(&rt; "to_bytes", text.decode().to_bytes(alloc));
-    let wanted = b"0123456\xC3\xA9\xFF89".as_slice();
-    equal(bytes.as_slice(), wanted).expect(&rt, "to_bytes");
+    let wanted = b"\xC3\xA9\xFF".as_slice();
     let copied = tried!(&rt; "CowSlice::into_owned", CowSlice::Borrowed(wanted).into_owned(alloc));
     equal(copied.as_slice(), wanted).expect(&rt, "CowSlice::into_owned");
-    end(&rt, alloc);
-}
-
-/// Tests a path that is decoded to a text while memory is denied.
-#[test]
-fn decoded_texts(rt: HostRuntime) {
-    let alloc = rt.alloc();
-    let text = path(&rt, "0123456%C3%A989");
-    let decoded = tried!(&rt; "to_string", text.decode().to_string(alloc));
-    is_text(&rt, decoded.as_str(), "0123456é89");
     let copied = tried!(&rt; "CowStr::into_owned", CowStr::Borrowed("é").into_owned(alloc));
     is_text(&rt, copied.as_str(), "é");
     end(&rt, alloc);
 }
 
-/// Tests a path that is decoded by `to_string_lossy` while memory is denied.
+/// Tests a copy of an IRI that gets another fragment while memory is denied.
 #[test]
-fn lossy_texts(rt: HostRuntime) {
-    let alloc = rt.alloc();
-    let text = path(&rt, "0123456%C3%A9%FF89");
-    let decoded = tried!(&rt; "to_string_lossy", text.decode().to_string_lossy(alloc));
-    is_text(&rt, decoded.as_str(), "0123456é\u{FFFD}89");
-    end(&rt, alloc);
-}
-
-/// Tests that decoding what is not UTF-8 returns all of its bytes, or `OutOfMemory` if memory is
-/// denied.
-#[test]
-fn bytes_that_are_not_utf8(rt: HostRuntime) {
-    let text = path(&rt, "0123456%FF8%C3%A9%FF");
-    match text.decode().to_string(rt.alloc()) {
-        Err(DecodeError::NotUtf8(bytes)) => {
-            let wanted = b"0123456\xFF8\xC3\xA9\xFF".as_slice();
-            equal(bytes.as_slice(), wanted).expect(&rt, "to_string");
-        }
-        other => {
-            let has_succeeded = succeeds(&rt, "to_string of no text", &other);
-            equal(has_succeeded, false).expect(&rt, "to_string");
-        }
+fn fragments(rt: HostRuntime) {
+    let given = Some(encoded(&rt, "0123456789012345678901234567890123456789"));
+    let iri = parsed::<_, IriKind>(&rt, "s:é#f");
+    let mut owned = tried!(&rt; "to_owned", iri.to_owned(rt.alloc()));
+    if let Err(AllocError) = owned.set_fragment(given) {
+        report(&rt, "set_fragment");
+        is_text(&rt, owned.as_str(), "s:é#f");
+        is_encoded(&rt, owned.fragment(), "f");
+        owned.set_fragment(given).expect(&rt, "memory");
     }
+    let wanted = "s:é#0123456789012345678901234567890123456789";
+    is_text(&rt, owned.as_str(), wanted);
     end(&rt, rt.alloc());
 }

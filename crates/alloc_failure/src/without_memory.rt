@@ -1,38 +1,19 @@
-//! Calls that do not allocate, so that none of them meets a failed allocation.
+//! Calls that could allocate and do not, so that none of them meets a failed allocation. What gets
+//! no allocator, nor a value that keeps one, has none to request memory of.
 use crate::requests::{end, tried};
 use crate::values::{encoded, holds, is_encoded, is_text, parsed};
 use fluent_uri::build::Builder;
 use fluent_uri::build::state::FragmentEnd;
-use fluent_uri::component::{Scheme, SocketError, SocketTarget};
+use fluent_uri::component::{SocketError, SocketTarget};
 use fluent_uri::normalize::Normalizer;
 use fluent_uri::pct_enc::encoder::{Fragment, Path};
 use fluent_uri::pct_enc::{CowStr, EStr, EString};
 use fluent_uri::resolve::{ResolveError, Resolver};
-use fluent_uri::{ConvertError, Iri, IriRef, Reference, Uri, UriRef};
+use fluent_uri::{Iri, IriRef, Reference, UriRef};
 use integration_tests::comparison::equal;
 use std::alloc::Global;
 use uri_links::links::{Outcome, Register};
 use uri_parts::kind::{IriKind, IriRefKind, Kind, UriKind, UriRefKind};
-
-const TEXT: &str = "s://u@h:1/a/b?q#f";
-
-/// Tests that parsing and the components request no memory.
-#[test]
-fn parsed_texts(rt: HostRuntime) {
-    let uri = parsed::<_, UriKind>(&rt, TEXT);
-    is_text(&rt, uri.scheme().as_str(), "s");
-    let authority = uri.authority().expect(&rt, "authority");
-    is_encoded(&rt, authority.userinfo(), "u");
-    is_text(&rt, authority.host(), "h");
-    is_encoded(&rt, authority.port(), "1");
-    is_text(&rt, parsed::<_, IriKind>(&rt, TEXT).path().as_str(), "/a/b");
-    is_encoded(&rt, parsed::<_, UriRefKind>(&rt, TEXT).query(), "q");
-    let wide = parsed::<_, IriRefKind>(&rt, TEXT);
-    is_encoded(&rt, wide.fragment(), "f");
-    is_text(&rt, wide.strip_fragment().as_str(), "s://u@h:1/a/b?q");
-    holds(&rt, Uri::<&str>::parse("a b").is_err(), "no URI");
-    end(&rt, rt.alloc());
-}
 
 /// Returns whether the empty text is of the kind, for a test of calls that request no memory.
 fn is_empty_of_kind<K: Kind>(alloc: Global) -> bool {
@@ -59,16 +40,6 @@ fn owned_texts(rt: HostRuntime) {
     end(&rt, alloc);
 }
 
-/// Tests that conversions to other kinds that fail request no memory.
-#[test]
-fn conversions(rt: HostRuntime) {
-    let refused = Uri::try_from(parsed::<_, IriKind>(&rt, "s:é")).err();
-    equal(refused, Some(ConvertError::NotAscii { index: 2 })).expect(&rt, "not ASCII");
-    let refused = Uri::try_from(parsed::<_, UriRefKind>(&rt, "/a")).err();
-    equal(refused, Some(ConvertError::NoScheme)).expect(&rt, "no scheme");
-    end(&rt, rt.alloc());
-}
-
 /// Tests that decoding to a text requests no memory if nothing is percent-encoded.
 #[test]
 fn texts_without_octets(rt: HostRuntime) {
@@ -91,21 +62,26 @@ fn bytes_without_octets(rt: HostRuntime) {
     end(&rt, alloc);
 }
 
-/// Tests that encoding and decoding a single octet requests no memory.
+/// Tests that what fits the capacity of an encoded text requests no memory.
 #[test]
-fn octets(rt: HostRuntime) {
-    is_text(&rt, EStr::<Path>::encode_byte(255).as_str(), "%FF");
-    equal(encoded::<_, Path>(&rt, "%C3").decode().count(), 1).expect(&rt, "decode");
-    let mut grown = EString::<Path>::new(rt.alloc());
-    grown.clear();
-    equal((grown.capacity(), grown.as_str()), (0, "")).expect(&rt, "EString::new");
+fn texts_within_capacity(rt: HostRuntime) {
+    let mut text = tried!(&rt; "with_capacity", EString::<Path>::with_capacity(rt.alloc(), 5));
+    text.push('a').expect(&rt, "room");
+    text.push_estr(encoded(&rt, "/%41")).expect(&rt, "room");
+    is_text(&rt, text.as_str(), "a/%41");
+    let empty = EString::<Path>::new(rt.alloc());
+    equal((empty.capacity(), empty.as_str()), (0, "")).expect(&rt, "EString::new");
     end(&rt, rt.alloc());
 }
 
-/// Tests that `socket_target` requests no memory for a name without percent-encoded octets.
+/// Tests that `socket_target` requests no memory for an invalid port, nor for a name without
+/// percent-encoded octets.
 #[test]
 fn where_to_connect(rt: HostRuntime) {
     let alloc = rt.alloc();
+    let far = parsed::<_, UriRefKind>(&rt, "//%41:65536").authority();
+    let refused = far.expect(&rt, "an authority").socket_target(alloc, 1);
+    equal(refused.err(), Some(SocketError::InvalidPort)).expect(&rt, "a port");
     let named = parsed::<_, UriRefKind>(&rt, "//h").authority();
     match named
         .expect(&rt, "//h")
@@ -120,24 +96,14 @@ fn where_to_connect(rt: HostRuntime) {
     end(&rt, alloc);
 }
 
-/// Tests that `socket_target` requests no memory for an invalid port, nor `default_port` any.
-#[test]
-fn ports(rt: HostRuntime) {
-    let far = parsed::<_, UriRefKind>(&rt, "//%41:65536").authority();
-    let refused = far.expect(&rt, "an authority").socket_target(rt.alloc(), 1);
-    equal(refused.err(), Some(SocketError::InvalidPort)).expect(&rt, "a port");
-    let scheme = Scheme::new("http").expect(&rt, "a scheme");
-    equal(scheme.default_port(), Some(80)).expect(&rt, "a port");
-    end(&rt, rt.alloc());
-}
-
 /// Bases against which `//g` has no target, each with the error.
 const REFUSED: &[(&str, ResolveError)] = &[
     ("foo:bar", ResolveError::InvalidReferenceAgainstOpaqueBase),
     ("s:/a#f", ResolveError::BaseWithFragment),
 ];
 
-/// Tests that `resolve_against` requests no memory for a reference that has no target.
+/// Tests that `resolve_against` and a `Resolver` request no memory for a reference that has no
+/// target.
 #[test]
 fn references_without_a_target(rt: HostRuntime) {
     let alloc = rt.alloc();
@@ -145,22 +111,7 @@ fn references_without_a_target(rt: HostRuntime) {
     for &(text, error) in REFUSED {
         let base = parsed::<_, UriKind>(&rt, text);
         equal(reference.resolve_against(alloc, &base).err(), Some(error)).expect(&rt, text);
-    }
-    let wide = parsed::<_, IriRefKind>(&rt, "//g");
-    let base = parsed::<_, IriKind>(&rt, "foo:bar");
-    let error = ResolveError::InvalidReferenceAgainstOpaqueBase;
-    equal(wide.resolve_against(alloc, &base).err(), Some(error)).expect(&rt, "an IRI");
-    end(&rt, alloc);
-}
-
-/// Tests that a `Resolver` requests no memory for a reference that has no target.
-#[test]
-fn resolvers_without_a_target(rt: HostRuntime) {
-    let alloc = rt.alloc();
-    let reference = parsed::<_, UriRefKind>(&rt, "//g");
-    for &(text, error) in REFUSED {
-        let resolver = Resolver::with_base(parsed::<_, UriKind>(&rt, text));
-        equal(resolver.resolve(alloc, &reference).err(), Some(error)).expect(&rt, text);
+        let resolver = Resolver::with_base(base);
         let refused = resolver.resolve_normalized(alloc, &reference, &Normalizer::new());
         equal(refused.err(), Some(error)).expect(&rt, text);
     }

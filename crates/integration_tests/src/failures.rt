@@ -6,12 +6,10 @@ use std::alloc::Global;
 use std::io::{self, BufReader, ErrorKind, Read, Write};
 use std::process::Abort;
 use uri_commands::sink::Sink;
-use uri_streams::command::{KindName, LineCommand};
+use uri_streams::command::{Command, KindName, LineCommand};
 use uri_streams::failure::Failure;
-use uri_streams::job::OnError;
 use uri_streams::run::{Tally, Unwatched, run};
 use uri_streams::source::Source;
-use uri_streams::status::status;
 
 /// Runs `normalize uri` over a reader and a writer. Returns how that ended, and the writer.
 fn ended<R: Read + Drop, W: Write>(
@@ -24,7 +22,8 @@ fn ended<R: Read + Drop, W: Write>(
         Ok(reader) => reader,
         Err(error) => return (Err(Failure::Input(error)), out.into_inner()),
     };
-    let job = with_defaults(LineCommand::Normalize(KindName::Uri, RuleSet::DefaultPorts));
+    let command = LineCommand::Normalize(KindName::Uri, RuleSet::DefaultPorts);
+    let job = with_defaults(Command::Each(command));
     let mut err = Sink::new(Vec::new(alloc));
     let mut reader = Source::new(reader);
     let got = run(alloc, &job, &mut reader, &mut out, &mut err, &mut Unwatched);
@@ -57,16 +56,21 @@ impl Read for Denies {
     }
 }
 
-/// Tests that a run whose reader fails after an interruption has the reader's error.
+/// Tests that a run whose reader fails after an interruption has the reader's error, and wrote what
+/// is of the lines before it.
 #[test]
 fn the_error_is_that_of_the_reader(rt: HostRuntime) {
-    let reader = b"HTTP://a/\nx".as_slice().chain(Denies {
-        was_interrupted: false,
-    });
-    let (got, out) = ended(rt.alloc(), reader, Vec::new(rt.alloc()));
-    equal(matches!(got, Err(Failure::Input(_))), true).expect(&rt, "read");
-    equal(failure_kind(&got), Some(ErrorKind::PermissionDenied)).expect(&rt, "kind");
-    equal(out.as_slice(), b"http://a/\n".as_slice()).expect(&rt, "output");
+    let input: &[u8] = b"HTTP://a/\nHTTP://b/\nx";
+    for at in 0..input.len() {
+        let reader = input[..at].chain(Denies {
+            was_interrupted: false,
+        });
+        let (got, out) = ended(rt.alloc(), reader, Vec::new(rt.alloc()));
+        equal(matches!(got, Err(Failure::Input(_))), true).expect(&rt, "read");
+        equal(failure_kind(&got), Some(ErrorKind::PermissionDenied)).expect(&rt, "kind");
+        let whole = input[..at].iter().filter(|&&byte| byte == b'\n').count();
+        equal(out.len(), 10 * whole).expect(&rt, "output");
+    }
 }
 
 /// A writer that takes so many bytes, and then fails.
@@ -98,15 +102,6 @@ fn the_error_is_that_of_the_write_that_failed(rt: HostRuntime) {
         let (got, _) = ended(rt.alloc(), input, TakesThenFails(taken));
         equal(failure_kind(&got), Some(ErrorKind::BrokenPipe)).expect(&rt, "kind");
     }
-}
-
-/// Tests that a run whose writer takes nothing more ends with `WriteZero`.
-#[test]
-fn a_writer_that_takes_nothing_fails(rt: HostRuntime) {
-    let mut room = [0u8; 4];
-    let input: &[u8] = b"HTTP://a/\n";
-    let (got, _) = ended(rt.alloc(), input, room.as_mut_slice());
-    equal(failure_kind(&got), Some(ErrorKind::WriteZero)).expect(&rt, "kind");
 }
 
 /// A writer that holds what it takes until a flush that is not interrupted.
@@ -160,28 +155,63 @@ fn a_flush_is_made_again_or_fails(rt: HostRuntime) {
     }
 }
 
-/// How a run ends, why its error output failed, and its status.
-const STATUSES: [(Option<ErrorKind>, Option<ErrorKind>, u8); 5] = [
-    (None, None, 1),
-    (None, Some(ErrorKind::BrokenPipe), 1),
-    (None, Some(ErrorKind::StorageFull), 3),
-    (Some(ErrorKind::BrokenPipe), None, 0),
-    (Some(ErrorKind::BrokenPipe), Some(ErrorKind::StorageFull), 3),
-];
+/// A writer and a reader that are interrupted before each call that succeeds.
+#[derive(Drop)]
+struct Interrupted<T> {
+    inner: T,
+    is_next: bool,
+}
 
-/// Tests that a run whose error output is full has status 3.
-#[test]
-fn a_full_error_output_has_a_status(rt: HostRuntime) {
-    for (output, report, wanted) in STATUSES {
-        let ended = match output {
-            None => Ok(Tally {
-                lines: 1,
-                errors: 1,
-            }),
-            Some(kind) => Err(Failure::Output(io::Error::from(kind))),
-        };
-        let report = report.map(io::Error::from);
-        let got = status(OnError::Stderr, &ended, report.as_ref());
-        equal(got, wanted).expect(&rt, "status");
+impl<T> Interrupted<T> {
+    /// Returns whether this call of a test of `urilines` is interrupted: each second one is not.
+    fn interrupts(&mut self) -> bool {
+        self.is_next = !self.is_next;
+        self.is_next
     }
+}
+
+impl<R: Read> Read for Interrupted<R> {
+    /// Reads the input of a test of `urilines`, and is interrupted before that.
+    fn read(&mut self, buf: &mut [u8]) -> io::Result<usize> {
+        if self.interrupts() {
+            return Err(io::Error::from(ErrorKind::Interrupted));
+        }
+        self.inner.read(buf)
+    }
+}
+
+impl<W: Write> Write for Interrupted<W> {
+    /// Writes the output of a test of `urilines`, and is interrupted before that.
+    fn write(&mut self, buf: &[u8]) -> io::Result<usize> {
+        if self.interrupts() {
+            return Err(io::Error::from(ErrorKind::Interrupted));
+        }
+        self.inner.write(buf)
+    }
+
+    /// Flushes the output of a test of `urilines`, and is interrupted before that.
+    fn flush(&mut self) -> io::Result<()> {
+        if self.interrupts() {
+            return Err(io::Error::from(ErrorKind::Interrupted));
+        }
+        self.inner.flush()
+    }
+}
+
+/// Tests that a run of `urilines` goes on after reads, writes and flushes that are interrupted.
+#[test]
+fn interrupted_calls_are_made_again(rt: HostRuntime) {
+    let input: &[u8] = b"HTTP://a/\nHTTP://b/\nx:";
+    let reader = Interrupted {
+        inner: input,
+        is_next: false,
+    };
+    let writer = Interrupted {
+        inner: Vec::new(rt.alloc()),
+        is_next: false,
+    };
+    let (got, out) = ended(rt.alloc(), reader, writer);
+    equal(got.is_ok(), true).expect(&rt, "run");
+    let wanted = b"http://a/\nhttp://b/\nx:\n".as_slice();
+    equal(out.inner.as_slice(), wanted).expect(&rt, "output");
 }

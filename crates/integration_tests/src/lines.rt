@@ -1,6 +1,6 @@
 //! What the programs of the calling guide print for stored lines, and what its functions return.
-use crate::commands::owned;
 use crate::comparison::{equal, prints};
+use crate::words::owned;
 use cookbook::attributes::note_attribute;
 use cookbook::frontier::Frontier;
 use cookbook::links::print_page;

@@ -1,7 +1,6 @@
-//! What `vectors` prints for rows that hold, for rows that differ and for malformed rows, and the
-//! status that it ends with.
+//! What `vectors` prints for rows that differ and for malformed rows, and the status that it ends
+//! with. Its stored run has rows that hold.
 use crate::comparison::equal;
-use crate::writers::FailsAfter;
 use std::alloc::Global;
 use std::process::Abort;
 use test_vectors::run::run;
@@ -14,25 +13,6 @@ fn prints<R: Abort>(rt: &R, alloc: Global, text: &str, status: u8, lines: &str) 
     let mut out = Vec::new(alloc);
     equal(run(alloc, rows.as_slice(), &mut out), status).expect(rt, lines);
     equal(out.as_slice(), lines.as_bytes()).expect(rt, lines);
-}
-
-/// Rows of each sort that hold, with comments, a blank line, columns, and texts with escapes.
-const HOLD: &str = "\
-# rows that hold
-
-error  uri   foo              -> UnexpectedChar 3
-error  uri   foo\\sbar         -> UnexpectedChar 3
-parse  iri   s:\\u{e9}?\\3{ab}  -> scheme=s path=é query=ababab
-normalize-under uri S://h:1 s 1 -> s://h
-resolve uri s:/a/b ../c -> s:/c
-to-string-lossy a%20b -> owned a\\sb
-";
-
-/// Tests that `vectors` counts the rows that hold.
-#[test]
-fn rows_that_hold_are_counted(rt: HostRuntime) {
-    prints(&rt, rt.alloc(), HOLD, 0, "rows 6 failed 0\n");
-    prints(&rt, rt.alloc(), "", 0, "rows 0 failed 0\n");
 }
 
 /// Rows of which each differs in one thing, and one among them that holds.
@@ -97,17 +77,4 @@ rows 9 failed 9
 #[test]
 fn malformed_rows_are_named(rt: HostRuntime) {
     prints(&rt, rt.alloc(), MALFORMED, 1, FAULTS);
-}
-
-/// Tests that `vectors` ends with status 1 if a write fails.
-#[test]
-fn failing_write_is_status_one(rt: HostRuntime) {
-    let alloc = rt.alloc();
-    let row = "error uri foo -> UnexpectedChar 3";
-    let mut rows: Vec<Row<'_>> = Vec::new(alloc);
-    push_rows(alloc, "f", row.as_bytes(), &mut rows).expect(&rt, row);
-    for writes in 0..2 {
-        let status = run(alloc, rows.as_slice(), &mut FailsAfter(writes));
-        equal((writes, status), (writes, 1)).expect(&rt, "status");
-    }
 }

@@ -1,25 +1,10 @@
 //! IP addresses (RFC 3986, section 3.2.2).
 #![tactic(auto)]
 
-ghost use Rattle.std.specs.Prelude.{◌≡◌, ◌∷◌, []};
-ghost use Rattle.fluent_uri.specs.Addresses.{IsSameAddress, ipv4_octets};
+ghost use Rattle.fluent_uri.specs.Addresses.{IsSameAddress};
 
 use fluent_uri::net::{IpAddr, Ipv4Addr, Ipv6Addr};
 use std::net;
-
-/// A caller makes an address of four octets, and reads them.
-pub fn octets_of_an_address() -> [u8; 4]
-    ensures { result ≡ 192 ∷ 0 ∷ 2 ∷ 1 ∷ [] }
-{
-    Ipv4Addr::new(192, 0, 2, 1).octets()
-}
-
-/// A caller makes an address of eight segments, and reads them.
-pub fn segments_of_an_address() -> [u16; 8]
-    ensures { result ≡ 8193 ∷ 3512 ∷ 0 ∷ 0 ∷ 0 ∷ 0 ∷ 0 ∷ 1 ∷ [] }
-{
-    Ipv6Addr::new(0x2001, 0xdb8, 0, 0, 0, 0, 0, 1).segments()
-}
 
 /// A caller listens at the loopback address of either version.
 pub fn loopback(wants_ipv6: bool) -> IpAddr {
@@ -46,12 +31,12 @@ pub fn for_std(address: IpAddr) -> net::IpAddr
     address.to_std()
 }
 
-/// A caller hands an IPv4 address to std.
-pub fn ipv4_for_std(address: Ipv4Addr) -> net::Ipv4Addr {
-    address.to_std()
+/// A caller reads the octets of an IPv4 address, and hands it to std.
+pub fn ipv4_for_std(address: Ipv4Addr) -> ([u8; 4], net::Ipv4Addr) {
+    (address.octets(), address.to_std())
 }
 
-/// A caller hands an IPv6 address to std.
-pub fn ipv6_for_std(address: Ipv6Addr) -> net::Ipv6Addr {
-    address.to_std()
+/// A caller reads the segments of an IPv6 address, and hands it to std.
+pub fn ipv6_for_std(address: Ipv6Addr) -> ([u16; 8], net::Ipv6Addr) {
+    (address.segments(), address.to_std())
 }

@@ -2,7 +2,7 @@
 #![tactic(auto)]
 
 use fluent_uri::pct_enc::EString;
-use fluent_uri::pct_enc::encoder::{Encoder, IPath, Path, Query, Userinfo};
+use fluent_uri::pct_enc::encoder::{Encoder, Path, Query, Userinfo};
 use std::alloc::AllocError;
 
 /// A caller appends the literal character `/` to the path of a URI, which allows it.
@@ -10,19 +10,9 @@ pub fn begin_a_segment(path: &mut EString<Path>) -> Result<(), AllocError> {
     path.push('/')
 }
 
-/// A caller appends the literal character `/` to the path of an IRI, which allows it.
-pub fn begin_a_segment_of_an_iri(path: &mut EString<IPath>) -> Result<(), AllocError> {
-    path.push('/')
-}
-
 /// A caller appends the literal character `&` to a query, which allows it.
 pub fn begin_a_pair(query: &mut EString<Query>) -> Result<(), AllocError> {
     query.push('&')
-}
-
-/// A caller appends the literal character `=` to a query, which allows it.
-pub fn begin_a_value(query: &mut EString<Query>) -> Result<(), AllocError> {
-    query.push('=')
 }
 
 /// A caller appends the literal character `:` to userinfo, which allows it.

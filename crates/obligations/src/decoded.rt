@@ -1,7 +1,7 @@
 //! Texts and bytes that are decoded (RFC 3986, section 2.1).
 #![tactic(auto)]
 
-ghost use Rattle.std.specs.Prelude.{◌≡◌, IfOk, string_bytes};
+ghost use Rattle.std.specs.Prelude.{◌≡◌, IfOk};
 ghost use Rattle.fluent_uri.specs.Cows.{cow_items, cow_text};
 ghost use Rattle.fluent_uri.specs.Decodes.{decoded};
 
@@ -29,38 +29,6 @@ pub fn text<'a>(alloc: Global, text: Decode<'a>) -> Result<CowStr<'a>, DecodeErr
 /// A caller gets a text to show, whatever bytes are decoded.
 pub fn shown<'a>(alloc: Global, text: Decode<'a>) -> Result<CowStr<'a>, AllocError> {
     text.to_string_lossy(alloc)
-}
-
-/// A caller reads decoded bytes, and keeps them.
-pub fn kept_bytes(alloc: Global, bytes: CowSlice<'_, u8>) -> Result<Vec<u8>, AllocError>
-    ensures { IfOk result (λ kept. kept.items ≡ cow_items bytes.entry) }
-{
-    let _length = bytes.as_slice().len();
-    bytes.into_owned(alloc)
-}
-
-/// A caller reads a decoded text, and keeps it.
-pub fn kept_text(alloc: Global, text: CowStr<'_>) -> Result<String, AllocError>
-    ensures { IfOk result (λ kept. string_bytes kept ≡ cow_text text.entry) }
-{
-    let _length = text.as_str().len();
-    text.into_owned(alloc)
-}
-
-/// A caller learns whether bytes were decoded into memory of their own.
-pub fn are_owned(bytes: &CowSlice<'_, u8>) -> bool {
-    match bytes {
-        CowSlice::Borrowed(_) => false,
-        CowSlice::Owned(_) => true,
-    }
-}
-
-/// A caller learns whether a text was decoded into memory of its own.
-pub fn is_owned(text: &CowStr<'_>) -> bool {
-    match text {
-        CowStr::Borrowed(_) => false,
-        CowStr::Owned(_) => true,
-    }
 }
 
 /// A caller learns whether a text begins with an octet, by its first chunk.

@@ -1,16 +1,11 @@
 //! Texts cut at a reserved character.
 #![tactic(auto)]
 
-use fluent_uri::pct_enc::encoder::{IPath, Path, Query};
+use fluent_uri::pct_enc::encoder::{Path, Query};
 use fluent_uri::pct_enc::{EStr, Split};
 
 /// A caller cuts the path of a URI at each `/`, a literal delimiter.
 pub fn segments(path: EStr<'_, Path>) -> Split<'_, Path> {
-    path.split('/')
-}
-
-/// A caller cuts the path of an IRI at each `/`, a literal delimiter.
-pub fn segments_of_an_iri(path: EStr<'_, IPath>) -> Split<'_, IPath> {
     path.split('/')
 }
 

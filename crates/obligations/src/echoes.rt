@@ -1,39 +1,10 @@
 //! What is decoded is what was given.
 ghost use Rattle.std.specs.Prelude.{◌≡◌, IfErr, IfOk, string_bytes};
-ghost use Rattle.fluent_uri.specs.Cows.{cow_items};
 
 use fluent_uri::laws;
-use fluent_uri::pct_enc::encoder::{Data, IData, IQuery, Path, Query};
-use fluent_uri::pct_enc::{CowSlice, CowStr, DecodeError, EStr, EString};
-use std::alloc::{AllocError, Global};
-
-/// A caller percent-encodes a text as data of the query of a URI, and decodes it again, and knows
-/// that it is the same text.
-pub fn echoed(alloc: Global, text: &str) -> Result<String, DecodeError>
-    ensures text { IfOk result (λ s. string_bytes s ≡ text.now) }
-    ensures error { IfErr result (λ e. e ≡ DecodeError.OutOfMemory) }
-{
-    let mut encoded = EString::<Query>::new(alloc);
-    encoded.encode_str::<Data>(text)?;
-    match encoded.as_estr().decode().to_string(alloc)? {
-        CowStr::Borrowed(text) => Ok(String::from_str(alloc, text)?),
-        CowStr::Owned(text) => Ok(text),
-    }
-}
-
-/// A caller percent-encodes a text as data of the query of an IRI, and decodes it again, and knows
-/// that it is the same text.
-pub fn echoed_in_an_iri(alloc: Global, text: &str) -> Result<String, DecodeError>
-    ensures text { IfOk result (λ s. string_bytes s ≡ text.now) }
-    ensures error { IfErr result (λ e. e ≡ DecodeError.OutOfMemory) }
-{
-    let mut encoded = EString::<IQuery>::new(alloc);
-    encoded.encode_str::<IData>(text)?;
-    match encoded.as_estr().decode().to_string(alloc)? {
-        CowStr::Borrowed(text) => Ok(String::from_str(alloc, text)?),
-        CowStr::Owned(text) => Ok(text),
-    }
-}
+use fluent_uri::pct_enc::encoder::{Data, Query};
+use fluent_uri::pct_enc::{CowStr, DecodeError, EString};
+use std::alloc::Global;
 
 /// A caller percent-encodes a text as data of a query, and decodes it again: by the law alone it is
 /// the same text.

@@ -2,7 +2,7 @@
 #![tactic(auto)]
 
 use fluent_uri::pct_enc::encoder::{
-    Data, Encoder, Fragment, IData, IPath, IQuery, Path, Query, RegName, Userinfo,
+    Data, Encoder, Fragment, IData, IPath, IQuery, Path, Query, Userinfo,
 };
 use fluent_uri::pct_enc::{Decode, EStr, EString};
 use std::alloc::AllocError;
@@ -10,16 +10,6 @@ use std::alloc::AllocError;
 /// A caller appends data to a path, percent-encoded.
 pub fn encode_for_a_path(path: &mut EString<Path>, text: &str) -> Result<(), AllocError> {
     path.encode_str::<Data>(text)
-}
-
-/// A caller appends data to a query, percent-encoded.
-pub fn encode_for_a_query(query: &mut EString<Query>, text: &str) -> Result<(), AllocError> {
-    query.encode_str::<Data>(text)
-}
-
-/// A caller appends data to a registered name, percent-encoded.
-pub fn encode_for_a_name(name: &mut EString<RegName>, text: &str) -> Result<(), AllocError> {
-    name.encode_str::<Data>(text)
 }
 
 /// A caller appends data to the query of an IRI, percent-encoded.

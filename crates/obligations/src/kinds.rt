@@ -1,97 +1,41 @@
-//! The calls of `Uri`, `UriRef`, `Iri` and `IriRef` that `docs/RUST.md` lists, each with what
-//! a caller may say of the text.
+//! Calls of `Uri`, `UriRef`, `Iri` and `IriRef`, each with what a caller may say of the text.
 #![tactic(auto)]
 
-ghost use Rattle.std.specs.Prelude.{◌≡◌, ◌↔◌, ◌∷◌, IfErr, IfOk, IsOk, None, Ok, Some, []};
+ghost use Rattle.std.specs.Prelude.{◌≡◌, ◌↔◌, ◌∷◌, IfErr, IfOk, IsOk, Ok, Some, []};
 ghost use Rattle.std.specs.Prelude.{option_map, string_bytes};
 ghost use Rattle.std.specs.Result.{result_err};
 ghost use Rattle.fluent_uri.specs.Components.{components};
-ghost use Rattle.fluent_uri.specs.EncodedTexts.{text_of};
-ghost use Rattle.fluent_uri.specs.Fragments.{IsWithFragment};
 ghost use Rattle.fluent_uri.specs.Grammar.{IsOfKind, iri, iri_ref, uri, uri_ref};
 ghost use Rattle.fluent_uri.specs.Iris.{iri_ref_text, iri_text};
-ghost use Rattle.fluent_uri.specs.Normalizers.{IsNormalForm};
+ghost use Rattle.fluent_uri.specs.Prelude.{reference_text};
 ghost use Rattle.fluent_uri.specs.Refusals.{refusal};
-ghost use Rattle.fluent_uri.specs.SchemeRules.{default_rules};
 ghost use Rattle.fluent_uri.specs.Schemes.{scheme_text};
 ghost use Rattle.fluent_uri.specs.Target.{resolution_of_texts};
 ghost use Rattle.fluent_uri.specs.Uris.{uri_ref_text, uri_text};
 
 use fluent_uri::build::BuildError;
-use fluent_uri::component::{Authority, IAuthority, Scheme};
-use fluent_uri::kind::{IriKind, IriRefKind, Kind, UriKind, UriRefKind};
+use fluent_uri::component::{Authority, Host, HostOf, IAuthority, IHost, Scheme};
+use fluent_uri::kind::{IriKind, IriRefKind, Kind, RefKind, UriKind, UriRefKind};
 use fluent_uri::pct_enc::EStr;
-use fluent_uri::pct_enc::encoder::{Fragment, IFragment, IPath, Path, Query};
+use fluent_uri::pct_enc::encoder::{IFragment, IPath, IRegName, Path, Query, RegName};
 use fluent_uri::resolve::ResolveError;
 use fluent_uri::{ConvertError, Iri, IriRef, ParseError, Reference, Uri, UriRef};
 use std::alloc::{AllocError, Global};
-use std::cmp::Ordering;
 use std::convert::{TryFrom, TryInto};
-use std::fmt;
 use std::hash::{Hash, Hasher};
 
-/// A caller gets the text of a URI, by `String::from`.
-pub fn string_of_uri(value: Uri<String>) -> String
-    ensures { string_bytes result ≡ uri_text value }
+/// A caller gets the text of a reference, by `String::from`.
+pub fn string_of<K: Kind>(value: Reference<K, String>) -> String
+    ensures { string_bytes result ≡ reference_text value }
 {
     String::from(value)
 }
 
-/// A caller gets the text of a URI reference, by `String::from`.
-pub fn string_of_uri_ref(value: UriRef<String>) -> String
-    ensures { string_bytes result ≡ uri_ref_text value }
+/// A caller gets the empty reference, by `default`.
+pub fn empty<'a, K: RefKind>() -> Reference<K, &'a str>
+    ensures { reference_text result ≡ [] }
 {
-    String::from(value)
-}
-
-/// A caller gets the text of an IRI, by `String::from`.
-pub fn string_of_iri(value: Iri<String>) -> String
-    ensures { string_bytes result ≡ iri_text value }
-{
-    String::from(value)
-}
-
-/// A caller gets the text of an IRI reference, by `String::from`.
-pub fn string_of_iri_ref(value: IriRef<String>) -> String
-    ensures { string_bytes result ≡ iri_ref_text value }
-{
-    String::from(value)
-}
-
-/// A caller gets the text of a URI, by `into`.
-pub fn uri_into_string(value: Uri<String>) -> String
-    ensures { string_bytes result ≡ uri_text value }
-{
-    value.into()
-}
-
-/// A caller gets the text of a URI reference, by `into`.
-pub fn uri_ref_into_string(value: UriRef<String>) -> String
-    ensures { string_bytes result ≡ uri_ref_text value }
-{
-    value.into()
-}
-
-/// A caller gets the text of an IRI, by `into`.
-pub fn iri_into_string(value: Iri<String>) -> String
-    ensures { string_bytes result ≡ iri_text value }
-{
-    value.into()
-}
-
-/// A caller gets the text of an IRI reference, by `into`.
-pub fn iri_ref_into_string(value: IriRef<String>) -> String
-    ensures { string_bytes result ≡ iri_ref_text value }
-{
-    value.into()
-}
-
-/// A caller parses a text as a URI, by `try_from`.
-pub fn uri_of_text(text: &str) -> Result<Uri<&str>, ParseError>
-    ensures accepts { IsOk result ↔ IsOfKind uri text.now }
-    ensures text { IfOk result (λ value. uri_text value ≡ text.now) }
-{
-    Uri::try_from(text)
+    Reference::<K, &str>::default()
 }
 
 /// A caller parses a `String` as an IRI reference over the text itself, by `try_from`.
@@ -100,20 +44,6 @@ pub fn iri_ref_of_string(text: String) -> Result<IriRef<String>, (ParseError, St
     ensures back { IfErr result (λ rejected. string_bytes rejected.1 ≡ string_bytes text) }
 {
     IriRef::try_from(text)
-}
-
-/// A caller gets the empty URI reference, by `default`.
-pub fn empty_uri_ref<'a>() -> UriRef<&'a str>
-    ensures { uri_ref_text result ≡ [] }
-{
-    UriRef::<&str>::default()
-}
-
-/// A caller gets the empty IRI reference, by `default`.
-pub fn empty_iri_ref<'a>() -> IriRef<&'a str>
-    ensures { iri_ref_text result ≡ [] }
-{
-    IriRef::<&str>::default()
 }
 
 /// A caller calls `scheme` of an IRI, which has one.
@@ -128,6 +58,11 @@ pub fn scheme_of_iri_ref(value: &IriRef<String>) -> Option<Scheme<'_>>
     ensures { option_map scheme_text result ≡ (components (iri_ref_text value.now)).scheme }
 {
     value.scheme()
+}
+
+/// A caller asks whether an IRI reference has a scheme, and gets it.
+pub fn scheme_if_any<'a>(value: IriRef<&'a str>) -> (bool, Option<Scheme<'a>>) {
+    (value.has_scheme(), value.scheme())
 }
 
 /// A caller asks whether a URI reference has no scheme, by `has_scheme`.
@@ -148,6 +83,14 @@ pub fn authorities<'a>(
     (value.authority(), other.authority())
 }
 
+/// A caller names the encoder of registered names in a host of a URI, and of an IRI.
+pub fn hosts<'a>(
+    host: Host<'a>,
+    other: IHost<'a>,
+) -> (HostOf<EStr<'a, RegName>>, HostOf<EStr<'a, IRegName>>) {
+    (host, other)
+}
+
 /// A caller calls `path` and `query` of a URI reference.
 pub fn path_and_query(value: &UriRef<String>) -> (EStr<'_, Path>, Option<EStr<'_, Query>>) {
     (value.path(), value.query())
@@ -160,64 +103,22 @@ pub fn path_and_fragment<'a>(
     (value.path(), value.fragment())
 }
 
-/// A caller gets a copy of an IRI that owns its text: `to_owned` of what is borrowed.
-pub fn copy_of(alloc: Global, value: &Iri<String>) -> Result<Iri<String>, AllocError>
-    ensures { IfOk result (λ copy. iri_text copy ≡ iri_text value.now) }
-{
-    value.borrow().to_owned(alloc)
-}
-
-/// A caller gets the text of an IRI reference, by `into_string`.
-pub fn text_of_iri_ref(value: IriRef<String>) -> String
-    ensures { string_bytes result ≡ iri_ref_text value }
-{
-    value.into_string()
-}
-
-/// A caller gets a URI without its fragment, by `strip_fragment`.
-pub fn without_fragment(value: &Uri<String>) -> Uri<&str>
-    ensures { IsWithFragment (uri_text value.now) None (uri_text result) }
-{
-    value.strip_fragment()
-}
-
-/// A caller gets a copy of a URI with another fragment, by `with_fragment` over a `&str`, which is
-/// kept.
-pub fn with_fragment(
-    alloc: Global,
-    value: Uri<&str>,
-    fragment: EStr<'_, Fragment>,
-) -> Result<Uri<String>, AllocError>
-    ensures { IfOk result (λ made.
-        IsWithFragment (uri_text value.entry) (Some (text_of fragment.entry)) (uri_text made)) }
-{
-    value.with_fragment(alloc, Some(fragment))
-}
-
-/// A caller removes the fragment of an IRI reference, by `set_fragment` with `None`, which never
-/// fails.
-pub fn remove_fragment(value: &mut IriRef<String>) -> Result<(), AllocError>
-    ensures { IsOk result }
-{
-    value.set_fragment(None)
-}
-
-/// A caller calls `normalize` of an IRI reference that owns its text.
-pub fn normalized(alloc: Global, value: &IriRef<String>) -> Result<IriRef<String>, AllocError>
-    ensures { IfOk result (λ normal.
-        IsNormalForm iri_ref default_rules (iri_ref_text value.now) (iri_ref_text normal)) }
-{
-    value.normalize(alloc)
-}
-
 /// A caller converts an IRI to a URI, by `to_uri`.
 pub fn encoded(alloc: Global, value: &Iri<String>) -> Result<Uri<String>, AllocError> {
     value.to_uri(alloc)
 }
 
-/// A caller converts an IRI reference to a URI reference, by `to_uri_ref`.
-pub fn encoded_ref(alloc: Global, value: IriRef<&str>) -> Result<UriRef<String>, AllocError> {
-    value.to_uri_ref(alloc)
+/// A caller gets the target of an IRI reference against an IRI, the kind of its base, by
+/// `resolve_against`.
+pub fn target_of(
+    alloc: Global,
+    value: &IriRef<String>,
+    base: &Iri<&str>,
+) -> Result<Iri<String>, ResolveError>
+    ensures { IfOk result (λ target.
+        resolution_of_texts (iri_text base.now) (iri_ref_text value.now) ≡ Ok (iri_text target)) }
+{
+    value.resolve_against(alloc, base)
 }
 
 /// A caller gets a URI as each wider kind, by `From`.
@@ -253,13 +154,6 @@ pub fn narrowest(value: IriRef<String>) -> Result<Uri<String>, (ConvertError, Ir
     value.try_into()
 }
 
-/// A caller gets a clone of a URI reference that is `Copy`: it is the same value.
-pub fn clone_of<'a>(value: &UriRef<&'a str>) -> Result<UriRef<&'a str>, AllocError>
-    ensures { IfOk result (λ copy. copy ≡ value.now) }
-{
-    value.clone()
-}
-
 /// A caller gets an IRI over a `&str` twice: it is copied.
 pub fn twice(value: Iri<&str>) -> (Iri<&str>, Iri<&str>) {
     (value, value)
@@ -270,37 +164,9 @@ pub fn is_equal_or_less(value: &Iri<String>, other: &Iri<String>) -> bool {
     value == other || value < other
 }
 
-/// A caller compares two URI references, by `cmp`.
-pub fn order_of(value: UriRef<&str>, other: UriRef<&str>) -> Ordering {
-    value.cmp(&other)
-}
-
 /// A caller hashes a URI that owns its text.
 pub fn feed_hash<H: Hasher>(value: &Uri<String>, state: &mut H) {
     value.hash(state)
-}
-
-/// A caller prints an IRI by `{:?}`.
-pub fn write_parts<W: fmt::Write>(out: &mut W, value: Iri<&str>) -> fmt::Result {
-    write!(out, "{value:?}")
-}
-
-/// A caller prints an IRI reference by `{}`.
-pub fn write_text<W: fmt::Write>(out: &mut W, value: &IriRef<String>) -> fmt::Result {
-    write!(out, "{value}")
-}
-
-/// A caller gets the target of an IRI reference against an IRI, the kind of its base, by
-/// `resolve_against`.
-pub fn target_of(
-    alloc: Global,
-    value: &IriRef<String>,
-    base: &Iri<&str>,
-) -> Result<Iri<String>, ResolveError>
-    ensures { IfOk result (λ target.
-        resolution_of_texts (iri_text base.now) (iri_ref_text value.now) ≡ Ok (iri_text target)) }
-{
-    value.resolve_against(alloc, base)
 }
 
 /// A caller builds an IRI, beginning with its scheme.

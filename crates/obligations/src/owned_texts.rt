@@ -1,20 +1,11 @@
 //! Encoded texts that a caller holds or lengthens (RFC 3986, section 2.1).
 #![tactic(auto)]
 
-ghost use Rattle.std.specs.Prelude.{◌≡◌, ◌==◌, ◌≤◌, ◌++◌, [], IfOk, OnOk, length, string_bytes};
-ghost use Rattle.fluent_uri.specs.EStrings.{owned_capacity, owned_text};
-ghost use Rattle.fluent_uri.specs.EncodedTexts.{text_of};
+ghost use Rattle.std.specs.Prelude.{◌≡◌, ◌==◌, [], length, string_bytes};
+ghost use Rattle.fluent_uri.specs.EStrings.{owned_text};
 
-use fluent_uri::pct_enc::encoder::{Encoder, PathEncoder, Query};
+use fluent_uri::pct_enc::encoder::{Encoder, PathEncoder};
 use fluent_uri::pct_enc::{EStr, EString};
-use std::alloc::{AllocError, Global};
-
-/// A caller keeps an encoded text.
-pub fn kept<E: Encoder>(alloc: Global, text: EStr<'_, E>) -> Result<EString<E>, AllocError>
-    ensures { IfOk result (λ kept. owned_text kept ≡ text_of text.entry) }
-{
-    text.to_owned(alloc)
-}
 
 /// A caller learns whether an encoded text is short and has nothing to decode.
 pub fn is_short_and_plain<E: Encoder>(text: EStr<'_, E>) -> bool {
@@ -24,21 +15,6 @@ pub fn is_short_and_plain<E: Encoder>(text: EStr<'_, E>) -> bool {
 /// A caller learns whether a path of any kind begins with `/`, by either test.
 pub fn is_rooted<E: PathEncoder>(path: EStr<'_, E>) -> bool {
     path.is_absolute() && !path.is_rootless()
-}
-
-/// A caller begins a query, with memory for what will be appended.
-pub fn begun(alloc: Global) -> Result<EString<Query>, AllocError>
-    ensures text { IfOk result (λ query. owned_text query ≡ []) }
-    ensures capacity { IfOk result (λ query. 64 ≤ owned_capacity query) }
-{
-    EString::<Query>::with_capacity(alloc, 64)
-}
-
-/// A caller appends an encoded text to another.
-pub fn lengthened<E: Encoder>(text: &mut EString<E>, more: EStr<'_, E>) -> Result<(), AllocError>
-    ensures { OnOk result (owned_text text.new ≡ owned_text text.old ++ text_of more.entry) }
-{
-    text.push_estr(more)
 }
 
 /// A caller learns whether a text fits into its memory with one byte more.

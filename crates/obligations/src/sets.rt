@@ -2,10 +2,10 @@
 #![tactic(auto)]
 
 ghost use Rattle.std.specs.Prelude.{◌≡◌, ◌↔◌, IsTrue};
-ghost use Rattle.fluent_uri.specs.Sets.{IsSubset, allows, difference, union};
+ghost use Rattle.fluent_uri.specs.Sets.{IsSubset, difference, union};
 ghost use Rattle.fluent_uri.specs.Tables.{set_of};
 
-use fluent_uri::pct_enc::Table;
+use fluent_uri::pct_enc::{Table, table};
 
 /// A caller gets the set of the characters of either of two sets, but for those of a third.
 pub fn of_two_but_of_a_third(one: Table, other: Table, third: Table) -> Table
@@ -26,16 +26,14 @@ pub fn is_narrower(one: &Table, other: &Table) -> bool
     one.is_subset(other)
 }
 
-/// A caller learns whether a set has octets.
-pub fn has_octets(table: &Table) -> bool
-    ensures { result ≡ (set_of table.now).pct_encoded }
-{
-    table.allows_pct_encoded()
-}
-
-/// A caller learns whether a set has a character.
-pub fn has_character(table: &Table, ch: char) -> bool
-    ensures { result ≡ allows (set_of table.now) ch }
-{
-    table.allows(ch)
+/// A caller names the constants for components of IRIs.
+pub fn constants_for_iris() -> [Table; 6] {
+    [
+        table::IUSERINFO,
+        table::IREG_NAME,
+        table::ISEGMENT_NZ_NC,
+        table::IPATH,
+        table::IQUERY,
+        table::IFRAGMENT,
+    ]
 }

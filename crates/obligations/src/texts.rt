@@ -7,7 +7,7 @@ ghost use Rattle.fluent_uri.specs.EncodedTexts.{text_of};
 
 use fluent_uri::component::{Authority, Scheme};
 use fluent_uri::pct_enc::EStr;
-use fluent_uri::pct_enc::encoder::{Encoder, Path};
+use fluent_uri::pct_enc::encoder::Encoder;
 
 /// A caller makes an encoded text after testing that it is valid for the encoder, and else the
 /// empty one.
@@ -31,15 +31,6 @@ pub fn empty_authority() -> Authority<'static>
     ensures { authority_text result ≡ [] }
 {
     Authority::new_empty()
-}
-
-/// A caller makes a path after testing that the text is valid for `Path`, and else the empty one.
-pub fn path_or_empty(text: &str) -> EStr<'_, Path> {
-    if EStr::<Path>::new(text).is_some() {
-        EStr::new_or_panic(text)
-    } else {
-        EStr::EMPTY
-    }
 }
 
 /// A caller makes a scheme after testing that the text is one.

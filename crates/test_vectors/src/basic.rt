@@ -1,7 +1,6 @@
 //! Targets by the basic algorithm (RFC 3986, section 5.2).
 
 use crate::fields::{RowError, Words};
-use crate::operation::Setting;
 use crate::references::{self, parsed, say_error};
 use fluent_uri::RiMaybeRef;
 use fluent_uri::kind::RefKind;
@@ -42,7 +41,7 @@ pub(crate) fn resolve_both<K: RefKind>(
     reference: &str,
     words: &mut Words,
 ) -> Result<(), RowError> {
-    references::resolve::<K>(alloc, Setting::Defaults, base, reference, words)?;
+    references::resolve::<K>(alloc, true, base, reference, words)?;
     let basic = target_words::<K>(alloc, base, reference)?;
     let is_same = basic.as_str() == words.as_str();
     Ok(words.unless(is_same, "and another by the basic algorithm")?)

@@ -1,13 +1,15 @@
 //! What is asked of values of the four kinds as others, and with other fragments.
 
 use crate::fields::{RowError, Words};
-use crate::operation::Kind;
+use crate::kinds::Kind;
 use crate::references::{parsed, say_error};
 use fluent_uri::pct_enc::EStr;
 use fluent_uri::pct_enc::encoder::Encoder;
 use fluent_uri::{ConvertError, Iri, IriRef, Reference, Uri, UriRef};
 use std::alloc::{AllocError, Global};
 use uri_parts::kind::{self, IriKind, IriRefKind};
+
+const NO_CONVERSION: RowError = RowError::Malformed("no such conversion");
 
 /// Appends to a row's result the text as another kind, borrowed and, where it differs, owned.
 pub(crate) fn convert(
@@ -37,8 +39,15 @@ fn convert_uri(
         Kind::UriRef => widened(UriRef::from(value), UriRef::from(owned), words),
         Kind::Iri => widened(Iri::from(value), Iri::from(owned), words),
         Kind::IriRef => widened(IriRef::from(value), IriRef::from(owned), words),
-        Kind::Uri => Err(RowError::NoConversion),
+        Kind::Uri => Err(NO_CONVERSION),
     }
+}
+
+/// Calls `narrowed` for the conversion to a kind. It is a macro, since the calls differ by type.
+macro_rules! narrowed_to {
+    ($kind:ident; $alloc:expr, $value:expr, $owned:expr, $words:expr) => {
+        narrowed($alloc, $value, $kind::try_from($value), $kind::try_from($owned), $words)
+    };
 }
 
 /// Appends to a row's result a URI reference as another kind, or the error.
@@ -50,15 +59,9 @@ fn convert_uri_ref(
 ) -> Result<(), RowError> {
     let owned = value.to_owned(alloc)?;
     match to {
-        Kind::Uri => narrowed(
-            alloc,
-            value,
-            Uri::try_from(value),
-            Uri::try_from(owned),
-            words,
-        ),
+        Kind::Uri => narrowed_to!(Uri; alloc, value, owned, words),
         Kind::IriRef => widened(IriRef::from(value), IriRef::from(owned), words),
-        _ => Err(RowError::NoConversion),
+        _ => Err(NO_CONVERSION),
     }
 }
 
@@ -71,15 +74,9 @@ fn convert_iri(
 ) -> Result<(), RowError> {
     let owned = value.to_owned(alloc)?;
     match to {
-        Kind::Uri => narrowed(
-            alloc,
-            value,
-            Uri::try_from(value),
-            Uri::try_from(owned),
-            words,
-        ),
+        Kind::Uri => narrowed_to!(Uri; alloc, value, owned, words),
         Kind::IriRef => widened(IriRef::from(value), IriRef::from(owned), words),
-        _ => Err(RowError::NoConversion),
+        _ => Err(NO_CONVERSION),
     }
 }
 
@@ -92,30 +89,10 @@ fn convert_iri_ref(
 ) -> Result<(), RowError> {
     let owned = value.to_owned(alloc)?;
     match to {
-        Kind::Uri => narrowed(
-            alloc,
-            value,
-            Uri::try_from(value),
-            Uri::try_from(owned),
-            words,
-        ),
-        Kind::UriRef => {
-            narrowed(
-                alloc,
-                value,
-                UriRef::try_from(value),
-                UriRef::try_from(owned),
-                words,
-            )
-        }
-        Kind::Iri => narrowed(
-            alloc,
-            value,
-            Iri::try_from(value),
-            Iri::try_from(owned),
-            words,
-        ),
-        Kind::IriRef => Err(RowError::NoConversion),
+        Kind::Uri => narrowed_to!(Uri; alloc, value, owned, words),
+        Kind::UriRef => narrowed_to!(UriRef; alloc, value, owned, words),
+        Kind::Iri => narrowed_to!(Iri; alloc, value, owned, words),
+        Kind::IriRef => Err(NO_CONVERSION),
     }
 }
 
@@ -180,7 +157,7 @@ pub(crate) fn to_uri(
             let encoded = uri_ref_of_owned(alloc, value)?;
             Ok(words.unless_said("owned", encoded.as_str())?)
         }
-        _ => Err(RowError::NotAnIri),
+        _ => Err(RowError::Malformed("not an IRI")),
     }
 }
 
@@ -248,7 +225,7 @@ fn replace_fragment<K: kind::Kind>(
 /// Returns the fragment that a row gives as `#` and its text, or none.
 fn fragment<E: Encoder>(given: &str) -> Result<Option<EStr<'_, E>>, RowError> {
     match given.strip_prefix('#') {
-        Some(text) => Ok(Some(EStr::new(text).ok_or(RowError::NotAFragment)?)),
+        Some(text) => Ok(Some(EStr::new(text).ok_or(RowError::Malformed("not a fragment"))?)),
         None => Ok(None),
     }
 }

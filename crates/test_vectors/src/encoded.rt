@@ -1,7 +1,6 @@
 //! What is asked of percent-encoded texts.
 
 use crate::fields::{RowError, Words};
-use crate::operation::{PathOperation, SubstringOperation};
 use crate::parsed::say_cow;
 use crate::references::parsed;
 use fluent_uri::pct_enc::encoder::{
@@ -11,9 +10,11 @@ use fluent_uri::pct_enc::{CowSlice, CowStr, DecodeError, EStr, EString, Table, t
 use std::alloc::{AllocError, Global};
 use uri_parts::kind::IriRefKind;
 
+const NO_ENCODER: RowError = RowError::Malformed("no such encoder");
+
 /// Makes a percent-encoded path of a row's text, or returns why the row is malformed.
 fn path(text: &str) -> Result<EStr<'_, IPath>, RowError> {
-    EStr::new(text).ok_or(RowError::NotAPath)
+    EStr::new(text).ok_or(RowError::Malformed("not a path"))
 }
 
 /// Appends to a row's result bytes as hexadecimal numbers.
@@ -27,20 +28,20 @@ fn say_bytes(alloc: Global, bytes: &[u8], words: &mut Words) -> Result<(), Alloc
 /// Appends to a row's result what a path decodes to, or its segments.
 pub(crate) fn say_decoded_path(
     alloc: Global,
-    ask: PathOperation,
+    operation: &str,
     text: &str,
     words: &mut Words,
 ) -> Result<(), RowError> {
     let path = path(text)?;
-    match ask {
-        PathOperation::Bytes => Ok(say_decoded(alloc, &path.decode().to_bytes(alloc)?, words)?),
-        PathOperation::Text => match path.decode().to_string(alloc) {
+    match operation {
+        "to-bytes" => Ok(say_decoded(alloc, &path.decode().to_bytes(alloc)?, words)?),
+        "to-string" => match path.decode().to_string(alloc) {
             Ok(text) => Ok(say_cow(&text, words)?),
             Err(error) => say_undecoded(alloc, error, words),
         },
-        PathOperation::Lossy => Ok(say_cow(&path.decode().to_string_lossy(alloc)?, words)?),
-        PathOperation::Read => say_decodings(alloc, text, words),
-        PathOperation::Segments => Ok(say_segments(path, words)?),
+        "to-string-lossy" => Ok(say_cow(&path.decode().to_string_lossy(alloc)?, words)?),
+        "read" => say_decodings(alloc, text, words),
+        _ => Ok(say_segments(path, words)?),
     }
 }
 
@@ -118,7 +119,7 @@ fn compare_decoded(
 
 /// Appends to a row's result the substrings of a path that the row asks for.
 pub(crate) fn say_substrings(
-    ask: SubstringOperation,
+    operation: &str,
     text: &str,
     delimiter: &str,
     words: &mut Words,
@@ -128,17 +129,17 @@ pub(crate) fn say_substrings(
         "/" => '/',
         ";" => ';',
         "," => ',',
-        _ => return Err(RowError::NoDelimiter),
+        _ => return Err(RowError::Malformed("no such delimiter")),
     };
-    let cut = match ask {
-        SubstringOperation::Split => {
+    let cut = match operation {
+        "split" => {
             for piece in path.split(delimiter) {
                 words.text(piece.as_str())?;
             }
             return Ok(());
         }
-        SubstringOperation::First => path.split_once(delimiter),
-        SubstringOperation::Last => path.rsplit_once(delimiter),
+        "split-once" => path.split_once(delimiter),
+        _ => path.rsplit_once(delimiter),
     };
     match cut {
         Some((before, after)) => {
@@ -159,7 +160,7 @@ pub(crate) fn is_valid(encoder: &str, text: &str) -> Result<bool, RowError> {
         "query" => keeps::<Query>(text),
         "fragment" => keeps::<Fragment>(text),
         "ipath" => keeps::<IPath>(text),
-        _ => return Err(RowError::NoEncoder),
+        _ => return Err(NO_ENCODER),
     })
 }
 
@@ -184,7 +185,7 @@ pub(crate) fn encode(
         "query" => say_encoded::<Query>(alloc, bytes, is_text, words),
         "data" => say_encoded::<Data>(alloc, bytes, is_text, words),
         "idata" => say_encoded::<IData>(alloc, bytes, is_text, words),
-        _ => Err(RowError::NoEncoder),
+        _ => Err(NO_ENCODER),
     }
 }
 
@@ -196,7 +197,7 @@ fn say_encoded<E: Encoder>(
     words: &mut Words,
 ) -> Result<(), RowError> {
     if !E::table().is_subset(&E::table()) || !E::table().allows_pct_encoded() {
-        return Err(RowError::NoEncoder);
+        return Err(NO_ENCODER);
     }
     let mut text = EString::<E>::new(alloc);
     match std::str::from_utf8(bytes) {
@@ -225,7 +226,7 @@ fn named_table(name: &str) -> Result<Table, RowError> {
         "path" => table::PATH,
         "query" => table::QUERY,
         "fragment" => table::FRAGMENT,
-        _ => return Err(RowError::NoTable),
+        _ => return Err(RowError::Malformed("no such table")),
     })
 }
 

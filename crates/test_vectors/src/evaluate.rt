@@ -1,79 +1,120 @@
 //! The result of what a row asks.
 
 use crate::fields::{Fields, RowError, Words};
-use crate::operation::{Kind, Operation, Order, PairOperation, SubstringOperation, ValueOperation};
-use crate::settings::RowPort;
-use crate::{
-    ascii_hosts, basic, conversions, encoded, mending, orders, references, relative, rules,
-};
+use crate::kinds::Kind;
+use crate::references::{normalize, scheme};
+use crate::settings::{EveryScheme, RowPort};
+use crate::{ascii_hosts, basic, conversions, encoded, mending, orders, references, relative};
 use fluent_uri::component::Scheme;
 use fluent_uri::kind::{BaseKind, RefKind};
 use fluent_uri::net::{IpAddr, Ipv4Addr, Ipv6Addr};
-use fluent_uri::normalize::{DefaultPorts, StandardRules};
+use fluent_uri::normalize::{DefaultPorts, Normalizer, StandardRules};
 use std::alloc::Global;
 use std::hash::{DefaultHasher, Hash, Hasher};
 use uri_parts::kind::{self, IriKind, IriRefKind, UriKind, UriRefKind};
+
+const NO_OPERATION: RowError = RowError::Malformed("no such operation");
 
 /// Returns the words of a row's result: what its operation gives of its fields.
 pub(crate) fn evaluate(alloc: Global, asked: &str) -> Result<Words, RowError> {
     let mut fields = Fields::new(alloc, asked);
     let mut words = Words::new(alloc);
-    let operation = Operation::named(fields.word()?)?;
-    say(alloc, operation, &mut fields, &mut words)?;
+    let operation = fields.word()?;
+    if is_of_pair(operation) {
+        evaluate_pair(alloc, operation, &mut fields, &mut words)?;
+    } else {
+        say(alloc, operation, &mut fields, &mut words)?;
+    }
     if fields.is_at_end() {
         Ok(words)
     } else {
-        Err(RowError::FieldLeft)
+        Err(RowError::Malformed("a field too many"))
     }
 }
 
-/// Appends to a row's result what its operation gives of its fields.
+/// Returns whether a word of a row is one of these.
+fn is_one_of(word: &str, words: &[&str]) -> bool {
+    for &one in words {
+        if one == word {
+            return true;
+        }
+    }
+    false
+}
+
+/// Returns whether a row asks something of a base and a reference or a target.
+fn is_of_pair(operation: &str) -> bool {
+    operation.starts_with("resolve")
+        || operation.starts_with("swap")
+        || operation.starts_with("relativize")
+}
+
+/// The operations on a percent-encoded path.
+const OF_PATH: &[&str] = &[
+    "to-bytes",
+    "to-string",
+    "to-string-lossy",
+    "read",
+    "segments",
+];
+
+/// Those on a path and a delimiter.
+const OF_DELIMITER: &[&str] = &["split", "split-once", "rsplit-once"];
+
+/// Those on the value of a text that change nothing.
+const OF_COMPONENTS: &[&str] = &["parse", "authority", "host", "ipv6", "port", "socket"];
+
+/// Appends to a row's result what its operation gives of its fields, if it is not of a pair.
 fn say(
     alloc: Global,
-    operation: Operation,
+    operation: &str,
     fields: &mut Fields<'_>,
     words: &mut Words,
 ) -> Result<(), RowError> {
+    if operation.starts_with("compare") {
+        return evaluate_order(alloc, operation, fields, words);
+    }
+    if is_one_of(operation, OF_PATH) {
+        return encoded::say_decoded_path(alloc, operation, fields.text()?.as_str(), words);
+    }
+    if is_one_of(operation, OF_DELIMITER) {
+        return say_substrings(operation, fields, words);
+    }
     match operation {
-        Operation::ValueOperation(ask) => evaluate_value(alloc, ask, fields, words),
-        Operation::PairOperation(ask) => evaluate_pair(alloc, ask, fields, words),
-        Operation::PathOperation(ask) => encoded::say_decoded_path(
-            alloc,
-            ask,
-            fields.text()?.as_str(),
-            words,
-        ),
-        Operation::SubstringOperation(ask) => say_substrings(ask, fields, words),
-        Operation::Compare(order) => evaluate_order(alloc, order, fields, words),
-        Operation::IsValid => is_valid(fields, words),
-        Operation::Encode => encode(alloc, fields, words),
-        Operation::EncodeBytes => encode_bytes(alloc, fields, words),
-        Operation::Scheme => say_scheme(fields.text()?.as_str(), words),
-        Operation::SameScheme => same_scheme(fields, words),
-        Operation::DefaultPort => default_port(alloc, fields.text()?.as_str(), words),
-        Operation::Table => encoded::table(alloc, fields.word()?, words),
-        Operation::PrintIpv4 => print_ipv4(alloc, fields, words),
-        Operation::PrintIpv6 => print_ipv6(alloc, fields, words),
+        "is-valid" => is_valid(fields, words),
+        "encode" => encode(alloc, fields, words),
+        "encode-bytes" => encode_bytes(alloc, fields, words),
+        "scheme" => say_scheme(fields.text()?.as_str(), words),
+        "same-scheme" => same_scheme(fields, words),
+        "default-port" => default_port(alloc, fields.text()?.as_str(), words),
+        "table" => encoded::table(alloc, fields.word()?, words),
+        "print-ipv4" => print_ipv4(alloc, fields, words),
+        "print-ipv6" => print_ipv6(alloc, fields, words),
+        _ => evaluate_value(alloc, operation, fields, words),
     }
 }
 
 /// Takes a kind and a text from a row's fields, and appends what the row asks of them.
 fn evaluate_value(
     alloc: Global,
-    ask: ValueOperation,
+    operation: &str,
     fields: &mut Fields<'_>,
     words: &mut Words,
 ) -> Result<(), RowError> {
     let kind = Kind::named(fields.word()?)?;
-    let text = fields.text()?;
-    match ask {
-        ValueOperation::Convert(to) => conversions::convert(alloc, kind, to, text.as_str(), words),
-        ValueOperation::ToUri => conversions::to_uri(alloc, kind, text.as_str(), words),
+    let given = fields.text()?;
+    let text = given.as_str();
+    match operation {
+        "to-uri" => conversions::convert(alloc, kind, Kind::Uri, text, words),
+        "to-uri-ref" => conversions::convert(alloc, kind, Kind::UriRef, text, words),
+        "to-iri" => conversions::convert(alloc, kind, Kind::Iri, text, words),
+        "to-iri-ref" => conversions::convert(alloc, kind, Kind::IriRef, text, words),
+        "encode-as-uri" => conversions::to_uri(alloc, kind, text, words),
         _ => match kind {
-            Kind::Uri => of_kind::<UriKind>(alloc, ask, text.as_str(), fields, words),
-            Kind::UriRef => of_kind::<UriRefKind>(alloc, ask, text.as_str(), fields, words),
-            Kind::Iri => of_kind::<IriKind>(alloc, ask, text.as_str(), fields, words),
-            Kind::IriRef => of_kind::<IriRefKind>(alloc, ask, text.as_str(), fields, words),
+            Kind::Uri => of_kind::<UriKind>(alloc, operation, text, fields, words),
+            Kind::UriRef => of_kind::<UriRefKind>(alloc, operation, text, fields, words),
+            Kind::Iri => of_kind::<IriKind>(alloc, operation, text, fields, words),
+            Kind::IriRef => of_kind::<IriRefKind>(alloc, operation, text, fields, words),
         },
     }
 }
@@ -81,27 +122,68 @@ fn evaluate_value(
 /// Appends to a row's result what the row asks of a text of this kind.
 fn of_kind<K: kind::Kind>(
     alloc: Global,
-    ask: ValueOperation,
+    operation: &str,
     text: &str,
     fields: &mut Fields<'_>,
     words: &mut Words,
 ) -> Result<(), RowError> {
-    match ask {
-        ValueOperation::Error => references::error::<K>(alloc, text, words),
-        ValueOperation::StripFragment => conversions::strip_fragment::<K>(alloc, text, words),
-        ValueOperation::WithFragment => {
+    match operation {
+        "error" => references::error::<K>(alloc, text, words),
+        "strip-fragment" => conversions::strip_fragment::<K>(alloc, text, words),
+        "with-fragment" => {
             conversions::with_fragment::<K>(alloc, text, fields.text()?.as_str(), words)
         }
-        ValueOperation::Mend => mending::mend::<K>(alloc, text, words),
-        ValueOperation::NormalizeByRules(ask) => rules::normalize::<K>(alloc, ask, text, words),
-        ValueOperation::IsNormal(Order::ByRules) => {
-            orders::is_normal::<K, _>(alloc, StandardRules, text, words)
+        "mend" => mending::mend::<K>(alloc, text, words),
+        "is-normal" => orders::is_normal::<K, _>(alloc, DefaultPorts, text, words),
+        "is-normal-by-rules" => orders::is_normal::<K, _>(alloc, StandardRules, text, words),
+        "ascii-host" => ascii_hosts::ascii_host::<K>(alloc, text, words),
+        _ if is_one_of(operation, OF_COMPONENTS) => {
+            references::evaluate::<K>(alloc, operation, text, words)
         }
-        ValueOperation::IsNormal(_) => {
-            orders::is_normal::<K, _>(alloc, DefaultPorts, text, words)
+        _ => normal_form::<K>(alloc, operation, text, fields, words),
+    }
+}
+
+/// Appends to a row's result the normal form of a text of this kind by the normaliser that the row
+/// names, or the error of the text.
+fn normal_form<K: kind::Kind>(
+    alloc: Global,
+    operation: &str,
+    text: &str,
+    fields: &mut Fields<'_>,
+    words: &mut Words,
+) -> Result<(), RowError> {
+    let normalizer = Normalizer::new();
+    match operation {
+        "normalize" => normalize::<K, _>(alloc, normalizer, text, words),
+        "normalize-strict" => {
+            normalize::<K, _>(alloc, normalizer.allow_path_underflow(false), text, words)
         }
-        ValueOperation::AsciiHost => ascii_hosts::ascii_host::<K>(alloc, text, words),
-        _ => references::evaluate::<K>(alloc, ask, text, fields, words),
+        "normalize-under" => {
+            let (name, port) = (fields.word()?, fields.number()?);
+            let scheme = match name {
+                "*" => None,
+                word => Some(scheme(word)?),
+            };
+            let rules = RowPort { scheme, port };
+            normalize::<K, _>(alloc, normalizer.default_port_with(rules), text, words)
+        }
+        "normalize-by-rules" => {
+            let by_rules = normalizer.scheme_rules_with(StandardRules);
+            normalize::<K, _>(alloc, by_rules, text, words)
+        }
+        "normalize-by-rules-strict" => {
+            let strict = normalizer.allow_path_underflow(false);
+            normalize::<K, _>(alloc, strict.scheme_rules_with(StandardRules), text, words)
+        }
+        "normalize-by-every-rule" => {
+            let (scheme, port) = (None, 80);
+            let by_rules = normalizer
+                .scheme_rules_with(EveryScheme)
+                .default_port_with(RowPort { scheme, port });
+            normalize::<K, _>(alloc, by_rules, text, words)
+        }
+        _ => Err(NO_OPERATION),
     }
 }
 
@@ -109,7 +191,7 @@ fn of_kind<K: kind::Kind>(
 /// asks of them.
 fn evaluate_pair(
     alloc: Global,
-    ask: PairOperation,
+    operation: &str,
     fields: &mut Fields<'_>,
     words: &mut Words,
 ) -> Result<(), RowError> {
@@ -117,12 +199,12 @@ fn evaluate_pair(
     let (base, other) = (fields.text()?, fields.text()?);
     let texts = (base.as_str(), other.as_str());
     match kind {
-        Kind::Uri => of_base::<UriKind, UriRefKind>(alloc, ask, texts, words),
-        Kind::Iri if matches!(ask, PairOperation::SwapAsUris) => {
+        Kind::Uri => of_base::<UriKind, UriRefKind>(alloc, operation, texts, words),
+        Kind::Iri if operation == "swap-as-uris" => {
             references::swap_as_uris(alloc, texts.0, texts.1, words)
         }
-        Kind::Iri => of_base::<IriKind, IriRefKind>(alloc, ask, texts, words),
-        _ => Err(RowError::NotABase),
+        Kind::Iri => of_base::<IriKind, IriRefKind>(alloc, operation, texts, words),
+        _ => Err(RowError::Malformed("a base is a `uri` or an `iri`")),
     }
 }
 
@@ -130,24 +212,26 @@ fn evaluate_pair(
 /// kind `K` or a target.
 fn of_base<B: BaseKind, K: RefKind>(
     alloc: Global,
-    ask: PairOperation,
+    operation: &str,
     (base, other): (&str, &str),
     words: &mut Words,
 ) -> Result<(), RowError> {
-    match ask {
-        PairOperation::Resolve(way) => references::resolve::<K>(alloc, way, base, other, words),
-        PairOperation::Swap => references::swap::<K>(alloc, base, other, words),
-        PairOperation::SwapAsUris => Err(RowError::NotABase),
-        PairOperation::ResolveByRules => rules::resolve::<K>(alloc, base, other, words),
-        PairOperation::ResolveBasic => basic::resolve::<K>(alloc, base, other, words),
-        PairOperation::ResolveBoth => basic::resolve_both::<K>(alloc, base, other, words),
-        PairOperation::Relativize => relative::relativize::<B>(alloc, false, base, other, words),
-        PairOperation::RelativizePath => {
-            relative::relativize::<B>(alloc, true, base, other, words)
+    match operation {
+        "resolve" => references::resolve::<K>(alloc, true, base, other, words),
+        "resolve-strict" => references::resolve::<K>(alloc, false, base, other, words),
+        "resolve-normalized" => {
+            references::resolve_normalized::<K, _>(alloc, DefaultPorts, base, other, words)
         }
-        PairOperation::RelativizeBack => {
-            relative::relativize_back::<B, K>(alloc, base, other, words)
+        "resolve-by-rules" => {
+            references::resolve_normalized::<K, _>(alloc, StandardRules, base, other, words)
         }
+        "swap" => references::swap::<K>(alloc, base, other, words),
+        "resolve-basic" => basic::resolve::<K>(alloc, base, other, words),
+        "resolve-both" => basic::resolve_both::<K>(alloc, base, other, words),
+        "relativize" => relative::relativize::<B>(alloc, false, base, other, words),
+        "relativize-path" => relative::relativize::<B>(alloc, true, base, other, words),
+        "relativize-back" => relative::relativize_back::<B, K>(alloc, base, other, words),
+        _ => Err(NO_OPERATION),
     }
 }
 
@@ -155,7 +239,7 @@ fn of_base<B: BaseKind, K: RefKind>(
 /// order of their normal forms.
 fn evaluate_order(
     alloc: Global,
-    order: Order,
+    operation: &str,
     fields: &mut Fields<'_>,
     words: &mut Words,
 ) -> Result<(), RowError> {
@@ -163,39 +247,40 @@ fn evaluate_order(
     let (one, other) = (fields.text()?, fields.text()?);
     let texts = (one.as_str(), other.as_str());
     match kind {
-        Kind::Uri => of_texts::<UriKind>(alloc, order, texts, fields, words),
-        Kind::UriRef => of_texts::<UriRefKind>(alloc, order, texts, fields, words),
-        Kind::Iri => of_texts::<IriKind>(alloc, order, texts, fields, words),
-        Kind::IriRef => of_texts::<IriRefKind>(alloc, order, texts, fields, words),
+        Kind::Uri => of_texts::<UriKind>(alloc, operation, texts, fields, words),
+        Kind::UriRef => of_texts::<UriRefKind>(alloc, operation, texts, fields, words),
+        Kind::Iri => of_texts::<IriKind>(alloc, operation, texts, fields, words),
+        Kind::IriRef => of_texts::<IriRefKind>(alloc, operation, texts, fields, words),
     }
 }
 
 /// Appends to a row's result the order of the normal forms of two texts of this kind.
 fn of_texts<K: kind::Kind>(
     alloc: Global,
-    order: Order,
+    operation: &str,
     texts: (&str, &str),
     fields: &mut Fields<'_>,
     words: &mut Words,
 ) -> Result<(), RowError> {
-    match order {
-        Order::ByPorts => orders::compare::<K, _>(alloc, DefaultPorts, texts, words),
-        Order::Under => {
+    match operation {
+        "compare" => orders::compare::<K, _>(alloc, DefaultPorts, texts, words),
+        "compare-by-rules" => orders::compare::<K, _>(alloc, StandardRules, texts, words),
+        "compare-under" => {
             let (scheme, port) = (None, fields.number()?);
             orders::compare::<K, _>(alloc, RowPort { scheme, port }, texts, words)
         }
-        Order::ByRules => orders::compare::<K, _>(alloc, StandardRules, texts, words),
+        _ => Err(NO_OPERATION),
     }
 }
 
 /// Takes a path and a delimiter from a row's fields, and appends the substrings that it asks for.
 fn say_substrings(
-    ask: SubstringOperation,
+    operation: &str,
     fields: &mut Fields<'_>,
     words: &mut Words,
 ) -> Result<(), RowError> {
     let (text, delimiter) = (fields.text()?, fields.word()?);
-    encoded::say_substrings(ask, text.as_str(), delimiter, words)
+    encoded::say_substrings(operation, text.as_str(), delimiter, words)
 }
 
 /// Takes an encoder and a text from a row's fields, and appends whether it allows the text.
@@ -223,11 +308,6 @@ fn say_scheme(text: &str, words: &mut Words) -> Result<(), RowError> {
         Some(scheme) => words.text(scheme.as_str())?,
         None => words.verbatim("none")?,
     })
-}
-
-/// Makes a scheme of a row's text, or returns why the row is malformed.
-fn scheme(text: &str) -> Result<Scheme<'_>, RowError> {
-    Scheme::new(text).ok_or(RowError::NotAScheme)
 }
 
 /// Returns the hash of a scheme, for a row that compares two.
@@ -276,7 +356,7 @@ fn say_address(alloc: Global, address: IpAddr, words: &mut Words) -> Result<(), 
 fn octet(fields: &mut Fields<'_>) -> Result<u8, RowError> {
     match u8::try_from(fields.number()?) {
         Ok(octet) => Ok(octet),
-        Err(_) => Err(RowError::OverAnOctet),
+        Err(_) => Err(RowError::Malformed("a number is over 255")),
     }
 }
 

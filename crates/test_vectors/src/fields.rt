@@ -5,36 +5,17 @@ use fluent_uri::resolve::ResolveError;
 use std::alloc::{AllocError, Global};
 use std::fmt;
 
-/// Why a row has no result; all but the first are malformed rows.
+/// Why a row has no result.
 #[derive(Clone, Copy)]
 pub(crate) enum RowError {
     OutOfMemory,
-    FieldMissing,
-    FieldLeft,
-    NotANumber,
-    OverAnOctet,
-    NotAByte,
-    MalformedEscape,
-    EscapeNotClosed,
-    NoCharacter,
-    NoKind,
-    NoOperation,
-    NoEncoder,
-    NoTable,
-    NoDelimiter,
-    NoConversion,
-    NoArrow,
-    NoAuthority,
-    NotOfKind,
-    NotAScheme,
-    NotAFragment,
-    NotAPath,
-    NotAnIri,
-    NoTarget,
-    NoNormalForm,
-    NotABase,
-    NotOfAValue,
+    /// What is malformed in the row.
+    Malformed(&'static str),
 }
+
+const NOT_A_NUMBER: RowError = RowError::Malformed("a field is not a number");
+
+const MALFORMED_ESCAPE: RowError = RowError::Malformed("an escape is malformed");
 
 impl From<AllocError> for RowError {
     /// Returns why a row has no result, for a failed allocation.
@@ -48,49 +29,28 @@ impl From<NormalizeError> for RowError {
     fn from(error: NormalizeError) -> RowError {
         match error {
             NormalizeError::OutOfMemory => RowError::OutOfMemory,
-            NormalizeError::PathUnderflow => RowError::NoNormalForm,
+            NormalizeError::PathUnderflow => RowError::Malformed("no normal form"),
         }
     }
 }
 
 impl From<ResolveError> for RowError {
     /// Returns why a row has no result, for a reference without a target.
-    fn from(_: ResolveError) -> RowError {
-        RowError::NoTarget
+    fn from(error: ResolveError) -> RowError {
+        match error {
+            ResolveError::OutOfMemory => RowError::OutOfMemory,
+            _ => RowError::Malformed("no target"),
+        }
     }
 }
 
 impl fmt::Display for RowError {
     /// Writes why a row has no result.
     fn fmt<W: fmt::Write>(&self, f: &mut fmt::Formatter<W>) -> fmt::Result {
-        f.write_str(match *self {
-            RowError::OutOfMemory => "out of memory",
-            RowError::FieldMissing => "a field is missing",
-            RowError::FieldLeft => "a field too many",
-            RowError::NotANumber => "a field is not a number",
-            RowError::OverAnOctet => "a number is over 255",
-            RowError::NotAByte => "a byte is malformed",
-            RowError::MalformedEscape => "an escape is malformed",
-            RowError::EscapeNotClosed => "an escape has no `}`",
-            RowError::NoCharacter => "no such character",
-            RowError::NoKind => "no such kind",
-            RowError::NoOperation => "no such operation",
-            RowError::NoEncoder => "no such encoder",
-            RowError::NoTable => "no such table",
-            RowError::NoDelimiter => "no such delimiter",
-            RowError::NoConversion => "no such conversion",
-            RowError::NoArrow => "no ` -> `",
-            RowError::NoAuthority => "no authority",
-            RowError::NotOfKind => "a text is not of its kind",
-            RowError::NotAScheme => "not a scheme",
-            RowError::NotAFragment => "not a fragment",
-            RowError::NotAPath => "not a path",
-            RowError::NotAnIri => "not an IRI",
-            RowError::NoTarget => "no target",
-            RowError::NoNormalForm => "no normal form",
-            RowError::NotABase => "a base is a `uri` or an `iri`",
-            RowError::NotOfAValue => "not asked of this value",
-        })
+        match *self {
+            RowError::OutOfMemory => f.write_str("out of memory"),
+            RowError::Malformed(what) => f.write_str(what),
+        }
     }
 }
 
@@ -113,7 +73,7 @@ impl<'a> Fields<'a> {
     /// Takes the next field of a row as it is written.
     pub(crate) fn word(&mut self) -> Result<&'a str, RowError> {
         if self.rest.is_empty() {
-            return Err(RowError::FieldMissing);
+            return Err(RowError::Malformed("a field is missing"));
         }
         match self.rest.split_once(' ') {
             Some((word, rest)) => {
@@ -138,7 +98,7 @@ impl<'a> Fields<'a> {
     pub(crate) fn number(&mut self) -> Result<u16, RowError> {
         match self.word()?.parse::<u16>() {
             Ok(number) => Ok(number),
-            Err(_) => Err(RowError::NotANumber),
+            Err(_) => Err(NOT_A_NUMBER),
         }
     }
 
@@ -146,7 +106,7 @@ impl<'a> Fields<'a> {
     pub(crate) fn hexadecimal(&mut self) -> Result<u16, RowError> {
         match u16::from_str_radix(self.word()?, 16) {
             Ok(number) => Ok(number),
-            Err(_) => Err(RowError::NotANumber),
+            Err(_) => Err(NOT_A_NUMBER),
         }
     }
 
@@ -156,7 +116,7 @@ impl<'a> Fields<'a> {
         for pair in self.word()?.split(',') {
             match u8::from_str_radix(pair, 16) {
                 Ok(byte) => bytes.extend_from_slice(&[byte])?,
-                Err(_) => return Err(RowError::NotAByte),
+                Err(_) => return Err(RowError::Malformed("a byte is malformed")),
             }
         }
         Ok(bytes)
@@ -194,17 +154,17 @@ fn push_escaped(alloc: Global, piece: &str, text: &mut String) -> Result<(), Row
         return Ok(());
     }
     let Some((head, tail)) = piece.split_once('{') else {
-        return Err(RowError::MalformedEscape);
+        return Err(MALFORMED_ESCAPE);
     };
     let Some((body, rest)) = tail.split_once('}') else {
-        return Err(RowError::EscapeNotClosed);
+        return Err(RowError::Malformed("an escape has no `}`"));
     };
     if head == "u" {
         text.push(character(body)?)?;
     } else {
         match head.parse::<usize>() {
             Ok(times) => text.push_str(body.repeat(alloc, times)?.as_str())?,
-            Err(_) => return Err(RowError::MalformedEscape),
+            Err(_) => return Err(MALFORMED_ESCAPE),
         }
     }
     text.push_str(rest)?;
@@ -214,8 +174,8 @@ fn push_escaped(alloc: Global, piece: &str, text: &mut String) -> Result<(), Row
 /// Returns the character whose number an escape in a row has in hexadecimal digits.
 fn character(digits: &str) -> Result<char, RowError> {
     match u32::from_str_radix(digits, 16) {
-        Ok(number) => char::from_u32(number).ok_or(RowError::NoCharacter),
-        Err(_) => Err(RowError::MalformedEscape),
+        Ok(number) => char::from_u32(number).ok_or(RowError::Malformed("no such character")),
+        Err(_) => Err(MALFORMED_ESCAPE),
     }
 }
 

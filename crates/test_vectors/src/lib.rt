@@ -8,15 +8,14 @@ mod conversions;
 mod encoded;
 mod evaluate;
 mod fields;
+mod kinds;
 mod mending;
-mod operation;
 mod orders;
 mod parsed;
 mod references;
 mod relative;
 mod row;
-mod rules;
 pub mod run;
 mod settings;
 
-pub use row::{Row, push_rows};
+pub use row::{Outcome, Row, push_rows, run_row};

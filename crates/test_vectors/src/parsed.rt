@@ -1,7 +1,7 @@
 //! What the accessors of a value return, as words.
 
 use crate::fields::{RowError, Words};
-use fluent_uri::component::{Authority, HostOf, Scheme, SocketTarget};
+use fluent_uri::component::{Authority, HostOf, Scheme, SocketError, SocketTarget};
 use fluent_uri::pct_enc::encoder::Encoder;
 use fluent_uri::pct_enc::{CowStr, EStr};
 use fluent_uri::{ParseError, ParseErrorKind, Reference, RiMaybeRef};
@@ -93,6 +93,7 @@ pub(crate) fn say_socket<U: Encoder, R: Encoder>(
             say_cow(&name, words)?;
             words.verbatim(format!(in alloc; "{port}")?.as_str())
         }
+        Err(SocketError::OutOfMemory) => Err(AllocError),
         Err(error) => words.verbatim(format!(in alloc; "{error:?}")?.as_str()),
     }
 }
@@ -134,5 +135,5 @@ pub(crate) fn say_parse_error(
 pub(crate) fn authority_of<K: Kind>(
     value: Reference<K, &str>,
 ) -> Result<Authority<'_, K::UserinfoE, K::RegNameE>, RowError> {
-    value.authority().ok_or(RowError::NoAuthority)
+    value.authority().ok_or(RowError::Malformed("no authority"))
 }

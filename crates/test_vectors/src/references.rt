@@ -1,17 +1,15 @@
 //! What is asked of values of the four kinds.
 
-use crate::fields::{Fields, RowError, Words};
-use crate::operation::{Setting, ValueOperation};
+use crate::fields::{RowError, Words};
 use crate::parsed::{
     authority_of, say_authority, say_components, say_host, say_parse_error, say_port, say_socket,
 };
-use crate::settings::RowPort;
-use fluent_uri::Reference;
 use fluent_uri::component::{Authority, HostOf, Scheme};
 use fluent_uri::kind::RefKind;
 use fluent_uri::normalize::{NormalizeError, Normalizer, SchemeRules};
 use fluent_uri::pct_enc::encoder::Encoder;
 use fluent_uri::resolve::{ResolveError, Resolver};
+use fluent_uri::{ParseError, Reference};
 use std::alloc::Global;
 use std::convert::{AsStr, TryFrom};
 use std::fmt::Debug;
@@ -21,93 +19,76 @@ use uri_parts::kind::{IriKind, IriRefKind, Kind, UriRefKind};
 pub(crate) fn parsed<K: Kind>(text: &str) -> Result<Reference<K, &str>, RowError> {
     match Reference::<K, &str>::parse(text) {
         Ok(value) => Ok(value),
-        Err(_) => Err(RowError::NotOfKind),
+        Err(_) => Err(RowError::Malformed("a text is not of its kind")),
     }
+}
+
+/// Makes a scheme of a row's text, or returns why the row is malformed.
+pub(crate) fn scheme(text: &str) -> Result<Scheme<'_>, RowError> {
+    Scheme::new(text).ok_or(RowError::Malformed("not a scheme"))
 }
 
 /// Appends to a row's result what a value of the text returns, or the error of the text.
 pub(crate) fn evaluate<K: Kind>(
     alloc: Global,
-    ask: ValueOperation,
+    operation: &str,
     text: &str,
-    fields: &mut Fields<'_>,
     words: &mut Words,
 ) -> Result<(), RowError> {
     match Reference::<K, &str>::try_from(text) {
-        Ok(value) => of_parsed(alloc, ask, (value, text), fields, words),
-        Err(error) => match ask {
-            ValueOperation::Ipv6 => Ok(words.verbatim("none")?),
-            _ => Ok(words.verbatim(format!(in alloc; "error: {error}")?.as_str())?),
+        Ok(value) => match operation {
+            "parse" => {
+                say_components(&value, words)?;
+                Ok(words.unless(value.as_str() == text, "of another text")?)
+            }
+            _ => of_authority(alloc, operation, authority_of(value)?, words),
+        },
+        Err(error) => match operation {
+            "ipv6" => Ok(words.verbatim("none")?),
+            _ => say_message(alloc, error, words),
         },
     }
 }
 
-/// Appends to a row's result what the row asks of a parsed value.
-fn of_parsed<K: Kind>(
-    alloc: Global,
-    ask: ValueOperation,
-    (value, text): (Reference<K, &str>, &str),
-    fields: &mut Fields<'_>,
-    words: &mut Words,
-) -> Result<(), RowError> {
-    match ask {
-        ValueOperation::Parse => {
-            say_components(&value, words)?;
-            Ok(words.unless(value.as_str() == text, "of another text")?)
-        }
-        ValueOperation::Normalize(setting) => normalize(alloc, setting, value, fields, words),
-        _ => of_authority(alloc, ask, authority_of(value)?, words),
-    }
+/// Appends to a row's result the message of a parse error.
+fn say_message(alloc: Global, error: ParseError, words: &mut Words) -> Result<(), RowError> {
+    Ok(words.verbatim(format!(in alloc; "error: {error}")?.as_str())?)
 }
 
 /// Appends to a row's result what the row asks of an authority.
 fn of_authority<U: Encoder, R: Encoder>(
     alloc: Global,
-    ask: ValueOperation,
+    operation: &str,
     authority: Authority<'_, U, R>,
     words: &mut Words,
 ) -> Result<(), RowError> {
-    match ask {
-        ValueOperation::Authority => Ok(say_authority(authority, words)?),
-        ValueOperation::Host => Ok(say_host(alloc, authority, words)?),
-        ValueOperation::Ipv6 => match authority.host_parsed() {
+    match operation {
+        "authority" => Ok(say_authority(authority, words)?),
+        "host" => Ok(say_host(alloc, authority, words)?),
+        "ipv6" => match authority.host_parsed() {
             HostOf::Ipv6(_) => Ok(say_host(alloc, authority, words)?),
             _ => Ok(words.verbatim("none")?),
         },
-        ValueOperation::Port => Ok(say_port(alloc, authority, words)?),
-        ValueOperation::Socket => Ok(say_socket(alloc, authority, words)?),
-        _ => Err(RowError::NotOfAValue),
+        "port" => Ok(say_port(alloc, authority, words)?),
+        _ => Ok(say_socket(alloc, authority, words)?),
     }
 }
 
-/// Appends to a row's result the normal form of a value by a normaliser with the row's setting.
-fn normalize<K: Kind>(
+/// Appends to a row's result the normal form of a text, or the error of the text.
+pub(crate) fn normalize<K: Kind, S: SchemeRules>(
     alloc: Global,
-    setting: Setting,
-    value: Reference<K, &str>,
-    fields: &mut Fields<'_>,
+    normalizer: Normalizer<S>,
+    text: &str,
     words: &mut Words,
 ) -> Result<(), RowError> {
-    let normalizer = Normalizer::new();
-    match setting {
-        Setting::Defaults => normalized(alloc, &normalizer, value, words),
-        Setting::Strict => {
-            normalized(alloc, &normalizer.allow_path_underflow(false), value, words)
-        }
-        Setting::Other => {
-            let (scheme, port) = (fields.word()?, fields.number()?);
-            let scheme = match scheme {
-                "*" => None,
-                scheme => Some(Scheme::new(scheme).ok_or(RowError::NotAScheme)?),
-            };
-            let normalizer = normalizer.default_port_with(RowPort { scheme, port });
-            normalized(alloc, &normalizer, value, words)
-        }
+    match Reference::<K, &str>::try_from(text) {
+        Ok(value) => normalized(alloc, &normalizer, value, words),
+        Err(error) => say_message(alloc, error, words),
     }
 }
 
 /// Appends to a row's result the normal form, and that of the normal form where it is another.
-pub(crate) fn normalized<K: Kind, S: SchemeRules>(
+fn normalized<K: Kind, S: SchemeRules>(
     alloc: Global,
     normalizer: &Normalizer<S>,
     value: Reference<K, &str>,
@@ -136,7 +117,7 @@ fn normalized_again<K: Kind, S: SchemeRules>(
 }
 
 /// Appends to a row's result the error of normalising.
-pub(crate) fn say_normalize_error(
+fn say_normalize_error(
     alloc: Global,
     error: NormalizeError,
     words: &mut Words,
@@ -175,23 +156,36 @@ pub(crate) fn error<K: Kind>(alloc: Global, text: &str, words: &mut Words) -> Re
 /// Appends to a row's result the target of a reference, or the error.
 pub(crate) fn resolve<K: RefKind>(
     alloc: Global,
-    way: Setting,
+    allow_underflow: bool,
     base: &str,
     reference: &str,
     words: &mut Words,
 ) -> Result<(), RowError> {
-    let reference = parsed::<K>(reference)?;
-    let is_strict = matches!(way, Setting::Strict);
-    let resolver = Resolver::with_base(parsed::<K::Base>(base)?).allow_path_underflow(!is_strict);
-    let target = match way {
-        Setting::Other => resolver.resolve_normalized(alloc, &reference, &Normalizer::new()),
-        _ => resolver.resolve(alloc, &reference),
-    };
+    let resolver = Resolver::with_base(parsed::<K::Base>(base)?);
+    let resolver = resolver.allow_path_underflow(allow_underflow);
+    say_target(
+        alloc,
+        resolver.resolve(alloc, &parsed::<K>(reference)?),
+        words,
+    )
+}
+
+/// Appends to a row's result the normal form of a target under the rules, or the error.
+pub(crate) fn resolve_normalized<K: RefKind, S: SchemeRules>(
+    alloc: Global,
+    rules: S,
+    base: &str,
+    reference: &str,
+    words: &mut Words,
+) -> Result<(), RowError> {
+    let resolver = Resolver::with_base(parsed::<K::Base>(base)?);
+    let normalizer = Normalizer::new().scheme_rules_with(rules);
+    let target = resolver.resolve_normalized(alloc, &parsed::<K>(reference)?, &normalizer);
     say_target(alloc, target, words)
 }
 
 /// Appends to a row's result the target that a resolver returned, or the error.
-pub(crate) fn say_target<K: Kind>(
+fn say_target<K: Kind>(
     alloc: Global,
     target: Result<Reference<K, String>, ResolveError>,
     words: &mut Words,

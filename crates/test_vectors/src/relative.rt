@@ -2,7 +2,6 @@
 
 use crate::basic;
 use crate::fields::{RowError, Words};
-use crate::operation::Setting;
 use crate::references::{self, parsed};
 use fluent_uri::kind::{BaseKind, RefKind};
 use std::alloc::Global;
@@ -43,13 +42,7 @@ pub(crate) fn relativize_back<B: BaseKind, K: RefKind>(
     let reference = reference::<B>(alloc, false, base, target)?;
     words.text(reference.as_str())?;
     let mut back = Words::new(alloc);
-    references::resolve::<K>(
-        alloc,
-        Setting::Defaults,
-        base,
-        reference.as_str(),
-        &mut back,
-    )?;
+    references::resolve::<K>(alloc, true, base, reference.as_str(), &mut back)?;
     words.unless(back.is_text(target)?, "not back")?;
     let basic = basic::target_words::<K>(alloc, base, reference.as_str())?;
     Ok(words.unless(basic.is_text(target)?, "lost")?)

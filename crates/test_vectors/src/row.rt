@@ -59,16 +59,38 @@ impl From<RowError> for Difference {
 impl Row<'_> {
     /// Compares the result of a row with the expected one.
     pub(crate) fn check(&self, alloc: Global) -> Result<(), Difference> {
-        let Some((asked, wanted)) = self.text.split_once(" -> ") else {
-            return Err(Difference::RowError(RowError::NoArrow));
-        };
-        let expected = canonical(alloc, wanted)?;
-        let got = evaluate(alloc, asked)?;
-        if got.as_str() == expected.as_str() {
-            Ok(())
-        } else {
-            Err(Difference::Answer { expected, got })
-        }
+        check(alloc, self.text.as_str())
+    }
+}
+
+/// Compares the result of a row's text with the expected one.
+fn check(alloc: Global, text: &str) -> Result<(), Difference> {
+    let Some((asked, wanted)) = text.split_once(" -> ") else {
+        return Err(Difference::RowError(RowError::Malformed("no ` -> `")));
+    };
+    let expected = canonical(alloc, wanted)?;
+    let got = evaluate(alloc, asked)?;
+    if got.as_str() == expected.as_str() {
+        Ok(())
+    } else {
+        Err(Difference::Answer { expected, got })
+    }
+}
+
+/// What a row comes to.
+#[derive(Clone, Copy)]
+pub enum Outcome {
+    Holds,
+    Differs,
+    OutOfMemory,
+}
+
+/// Returns what the text of a row comes to: whether it holds, if no request for memory is denied.
+pub fn run_row(alloc: Global, text: &str) -> Outcome {
+    match check(alloc, text) {
+        Ok(()) => Outcome::Holds,
+        Err(Difference::RowError(RowError::OutOfMemory)) => Outcome::OutOfMemory,
+        Err(_) => Outcome::Differs,
     }
 }
 

@@ -1,5 +1,5 @@
 //! IP addresses: their texts, and their order (RFC 3986, section 3.2.2; RFC 5952).
-ghost use Rattle.std.specs.Prelude.{◌≡◌, IfOk, IsSorted, true};
+ghost use Rattle.std.specs.Prelude.{◌≡◌, true};
 ghost use Rattle.std.specs.BTreeMap.{get_by};
 ghost use Rattle.std.specs.Cmp.Lexicographic.{slice_cmp};
 ghost use Rattle.std.specs.Net.Text.{ipv4_text, ipv6_text};
@@ -9,7 +9,6 @@ ghost use Rattle.fluent_uri.specs.Hosts.{Ipv4, Ipv6, bracketed, host_kind};
 
 use fluent_uri::laws;
 use fluent_uri::net::{IpAddr, Ipv4Addr, Ipv6Addr};
-use std::alloc::AllocError;
 use std::cmp::Ordering;
 use std::collections::BTreeMap;
 
@@ -73,34 +72,6 @@ pub fn order_of_ipv6(before: Ipv4Addr, one: Ipv6Addr, other: Ipv6Addr) -> (bool,
         IpAddr::V4(before).cmp(&last).is_lt(),
         last.cmp(&IpAddr::V6(other)),
     )
-}
-
-/// Returns whether a value is less than another, by `<`, which agrees with `cmp`.
-fn is_less<T: Ord>(one: &T, other: &T) -> bool
-    ensures { result ≡ is_lt (T.cmp one.now other.now) }
-{
-    one < other
-}
-
-/// A caller that compares addresses of both versions by `<` proves that it compares the octets of
-/// those of IPv4.
-pub fn is_below(one: Ipv4Addr, other: Ipv4Addr) -> bool
-    ensures { result ≡ is_lt (slice_cmp nat_cmp (ipv4_octets one) (ipv4_octets other)) }
-{
-    laws::ip_addresses_compare_by_version_first();
-    is_less(&IpAddr::V4(one), &IpAddr::V4(other))
-}
-
-/// A caller that sorts addresses proves that they are in the order of which the laws speak.
-///
-/// # Errors
-///
-/// Only if allocation fails.
-pub fn sorted_addresses(mut addresses: Vec<IpAddr>) -> Result<Vec<IpAddr>, AllocError>
-    ensures { IfOk result (λ made. IsSorted ⟦<IpAddr as Ord>⟧.cmp made.items) }
-{
-    addresses.sort()?;
-    Ok(addresses)
 }
 
 /// A caller with a map whose keys are addresses proves that a value is found by that order.

@@ -1,15 +1,12 @@
 //! The texts of the kinds, in the words of the RFCs (RFC 3986, section 3; RFC 3987, section 2.2).
-ghost use Rattle.std.specs.Prelude.{◌≡◌, ◌↔◌, IfOk, IsOk, []};
+ghost use Rattle.std.specs.Prelude.{◌↔◌, IfOk, IsOk};
 ghost use Rattle.fluent_uri.specs.ComponentSets.{IsWithin};
 ghost use Rattle.fluent_uri.specs.Grammar.{IsTextOf, Kind, iri, iri_ref};
 ghost use Rattle.fluent_uri.specs.GrammarInWords.{IsInGrammar};
 ghost use Rattle.uri_abnf.specs.Abnf.{IsOf};
 ghost use Rattle.uri_abnf.specs.Derivations.{start_rule};
-ghost use Rattle.uri_abnf.specs.Rfc3986.{URI};
 
-use fluent_uri::component::Authority;
-use fluent_uri::pct_enc::encoder::{RegName, Userinfo};
-use fluent_uri::{Iri, ParseError, Reference, Uri, kind, laws};
+use fluent_uri::{Iri, ParseError, Reference, kind, laws};
 
 /// A caller proves that a text follows the grammar in the words of the RFC if it is parsed as an
 /// IRI.
@@ -37,18 +34,6 @@ pub fn parsed_by_printed_rule<K: kind::Kind>(text: &str) -> Result<Reference<K, 
     Reference::<K, &str>::parse(text)
 }
 
-/// A caller proves that a URI that is parsed is of the rule `URI`, of RFC 3986, appendix A.
-///
-/// # Errors
-///
-/// Those of `Uri::parse`.
-pub fn of_the_rule_uri(text: &str) -> Result<&str, ParseError>
-    ensures { IfOk result (λ same. IsOf URI same.now) }
-{
-    uri_abnf::of_the_printed_grammar::<kind::UriKind>();
-    Ok(Uri::<&str>::parse(text)?.as_str())
-}
-
 /// A caller proves that a text of any kind whose texts are IRI references is an IRI reference.
 pub fn widened(text: &str)
     ensures { (kind : Kind) → IsWithin kind iri_ref → IsTextOf kind text.now
@@ -56,11 +41,4 @@ pub fn widened(text: &str)
 {
     laws::four_kinds_have_component_sets();
     laws::texts_are_of_wider_kinds_too();
-}
-
-/// A caller proves that the text of the empty authority is empty.
-pub fn empty_authority() -> &'static str
-    ensures { result.now ≡ [] }
-{
-    Authority::<'static, Userinfo, RegName>::new_empty().as_str()
 }

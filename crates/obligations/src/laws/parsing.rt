@@ -1,38 +1,13 @@
 //! Parsing (RFC 3986, section 4.1), and the errors of texts (`docs/PARSE_ERRORS.md`).
-ghost use Rattle.std.specs.Prelude.{◌≡◌, ◌≤◌, ℕ, is_none, option_map, string_bytes, take};
-ghost use Rattle.std.specs.Result.{result_err};
+ghost use Rattle.std.specs.Prelude.{◌≡◌, ◌≤◌, ℕ, is_none, take};
 ghost use Rattle.std.specs.Str.{IsCharBoundary};
-ghost use Rattle.fluent_uri.specs.Grammar.{uri};
 ghost use Rattle.fluent_uri.specs.Prefixes.{valid_prefix};
 ghost use Rattle.fluent_uri.specs.Refusals.{refusal};
 ghost use Rattle.fluent_uri.specs.Sets.{path_set};
 ghost use Rattle.fluent_uri.specs.Tokens.{IsValidFor};
 
 use fluent_uri::kind::Kind;
-use fluent_uri::{ParseError, Reference, Uri, laws};
-use std::convert::TryFrom;
-
-/// A caller proves that `parse` returns the defined error of a text, and a URI if it has none.
-pub fn uri_or_its_error(text: &str) -> Result<Uri<&str>, ParseError>
-    ensures { result_err result ≡ refusal uri text.now }
-{
-    Uri::<&str>::parse(text)
-}
-
-/// A caller proves the same of `parse` of an owned text.
-pub fn owned_or_its_error(text: String) -> Result<Uri<String>, (ParseError, String)>
-    ensures { option_map (λ refused. refused.0) (result_err result)
-        ≡ refusal uri (string_bytes text) }
-{
-    Uri::<String>::parse(text)
-}
-
-/// A caller proves the same of `try_from`.
-pub fn converted_or_its_error(text: &str) -> Result<Uri<&str>, ParseError>
-    ensures { result_err result ≡ refusal uri text.now }
-{
-    Uri::<&str>::try_from(text)
-}
+use fluent_uri::{Reference, laws};
 
 /// A caller proves that a text is accepted exactly if its defined error is none.
 pub fn accepts_without_error<K: Kind>(text: &str) -> bool

@@ -1,11 +1,9 @@
 //! Resolving and normalising, in either order (RFC 3986, sections 5.2 and 6.2.2).
-ghost use Rattle.std.specs.Prelude.{◌≡◌, ◌⊎◌, IfErr, IfOk};
-ghost use Rattle.fluent_uri.specs.Components.{components};
+ghost use Rattle.std.specs.Prelude.{◌≡◌, IfOk};
 ghost use Rattle.fluent_uri.specs.Grammar.{iri};
 ghost use Rattle.fluent_uri.specs.Iris.{iri_ref_text};
 ghost use Rattle.fluent_uri.specs.Iris.{iri_text};
 ghost use Rattle.fluent_uri.specs.NormalTargets.{IsNormalFormOfTarget};
-ghost use Rattle.fluent_uri.specs.Resolving.{IsErrorWithUnderflowAllowed};
 ghost use Rattle.fluent_uri.specs.SchemeRules.{default_rules};
 ghost use Rattle.fluent_uri.specs.Uris.{uri_text};
 
@@ -14,35 +12,6 @@ use fluent_uri::normalize::Normalizer;
 use fluent_uri::resolve::{ResolveError, Resolver};
 use fluent_uri::{Iri, IriRef, Uri, UriRef};
 use std::alloc::Global;
-
-/// A caller proves that the normalised target of the normal forms of a base and a reference is that
-/// of the two, and returns it.
-///
-/// # Errors
-///
-/// `OutOfMemory`, or that of `Resolver::resolve_normalized` for the two.
-pub fn normal_target(
-    alloc: Global,
-    base: Iri<&str>,
-    reference: IriRef<&str>,
-) -> Result<Iri<String>, ResolveError>
-    ensures target { IfOk result (λ normal. IsNormalFormOfTarget iri default_rules
-        (iri_text base.entry) (iri_ref_text reference.entry) (iri_text normal)) }
-    ensures error { IfErr result (λ error. (error ≡ ResolveError.OutOfMemory) ⊎
-        IsErrorWithUnderflowAllowed (components (iri_text base.entry))
-        (components (iri_ref_text reference.entry)) error) }
-{
-    let _base_text = base.as_str();
-    let _reference_text = reference.as_str();
-    let normal_base = base.normalize(alloc)?;
-    let normal_reference = reference.normalize(alloc)?;
-    let target = Resolver::with_base(normal_base).resolve_normalized(
-        alloc,
-        &normal_reference,
-        &Normalizer::new(),
-    )?;
-    Ok(target)
-}
 
 /// A caller proves that it makes no difference whether a base and a link are normalised before the
 /// link is resolved: returns the normal form of its target, and that of the target of their normal
