@@ -1,12 +1,12 @@
 use Rattle.std.proofs.Common.{length, ◌-◌, ◌≡◌, ◌≤◌, ◌<◌, ℕ, true}
-use Rattle.uri_ops.specs.Models.Unchanged.{stays_at}
-use Rattle.uri_ops.proofs.normalize.kept_octets.is_kept.Given as goal
+use Rattle.uri_ops.specs.Models.Unchanged.{is_unchanged_at}
+use Rattle.uri_ops.proofs.normalize.unchanged_octets.is_unchanged_from.Given as goal
 
 abbrev pub invariant-loop-end : goal.invariant-loop-end
 invariant-loop-end l = record {
   from : l.start ≤ l.i;
   within : l.i ≤ length l.bytes;
-  kept : (k : ℕ) → l.start ≤ k → k < l.i → stays_at l.alone l.limit l.bytes k ≡ true;
+  unchanged : (k : ℕ) → l.start ≤ k → k < l.i → is_unchanged_at l.alone l.limit l.bytes k ≡ true;
 }
 
 abbrev pub decreases-loop-end : goal.decreases-loop-end

@@ -1,5 +1,5 @@
 use Rattle.uri_ops.proofs.Normal.LiteralBlocks.{special-lanes-are-not-literal, special-mask-is-below}
-use Rattle.uri_ops.proofs.normalize.kept_octets.lanes_of_special_bytes.Goals as goal
+use Rattle.uri_ops.proofs.normalize.unchanged_octets.lanes_of_special_bytes.Goals as goal
 
 pub returns-clause-below : goal.returns-clause-below
 returns-clause-below c = special-mask-is-below c.args.bytes.now c.args.at

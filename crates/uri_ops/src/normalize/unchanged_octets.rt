@@ -4,8 +4,8 @@ ghost use Rattle.std.specs.Prelude.{◌≡◌, ◌+◌, ◌≤◌, ◌<◌, ◌=
 ghost use Rattle.std.specs.Prelude.{slice_index, true};
 ghost use Rattle.std.specs.Int.{bit_at};
 ghost use Rattle.uri_ops.specs.Models.Unchanged.{IsLiteralRun, is_dot_after_slash};
-ghost use Rattle.uri_ops.specs.Models.Unchanged.{is_dot_kept_at, is_kept_octet, is_literal_at};
-ghost use Rattle.uri_ops.specs.Models.Unchanged.{stays_at};
+ghost use Rattle.uri_ops.specs.Models.Unchanged.{is_dot_unchanged_at, is_literal_at};
+ghost use Rattle.uri_ops.specs.Models.Unchanged.{is_unchanged_at, is_unchanged_octet};
 
 use uri_pct::lanes::{LANES, lanes_equal_to};
 use uri_pct::table::characters;
@@ -108,19 +108,19 @@ const FIRST_DIGITS: &[u8; 256] =
     by_digit!(1, 1, 2, 4, 8, 16, 32, 64, 128, 128; 128, 128, 128, 128, 128, 128);
 
 /// The ASCII characters whose octets normalising leaves: those that are not unreserved.
-const KEPT: u128 = !characters::UNRESERVED;
+const UNCHANGED_OCTETS: u128 = !characters::UNRESERVED;
 
 /// Gives the classes of the first digits with which a digit ends an octet that normalising leaves.
-/// An octet past ASCII stays with any.
+/// An octet past ASCII is unchanged with any.
 macro_rules! classes_with {
     ($digit:literal) => {
-        ((KEPT >> $digit & KEPT >> 16 + $digit & 1)
-            | (KEPT >> 32 + $digit & 1) << 1
-            | (KEPT >> 48 + $digit & 1) << 2
-            | (KEPT >> 64 + $digit & 1) << 3
-            | (KEPT >> 80 + $digit & 1) << 4
-            | (KEPT >> 96 + $digit & 1) << 5
-            | (KEPT >> 112 + $digit & 1) << 6
+        ((UNCHANGED_OCTETS >> $digit & UNCHANGED_OCTETS >> 16 + $digit & 1)
+            | (UNCHANGED_OCTETS >> 32 + $digit & 1) << 1
+            | (UNCHANGED_OCTETS >> 48 + $digit & 1) << 2
+            | (UNCHANGED_OCTETS >> 64 + $digit & 1) << 3
+            | (UNCHANGED_OCTETS >> 80 + $digit & 1) << 4
+            | (UNCHANGED_OCTETS >> 96 + $digit & 1) << 5
+            | (UNCHANGED_OCTETS >> 112 + $digit & 1) << 6
             | 1 << 7) as u8
     };
 }
@@ -135,11 +135,11 @@ const SECOND_DIGITS: &[u8; 256] = by_digit!(
 );
 
 /// Returns whether normalising leaves the octet with these digits: they are in upper case, and it
-/// is not decoded. An octet past ASCII stays if no component may have characters past ASCII
-/// (`alone`).
+/// is not decoded. An octet past ASCII is unchanged if no component may have characters
+/// past ASCII (`alone`).
 #[inline(always)]
-fn are_digits_kept(alone: bool, high: u8, low: u8) -> bool
-    ensures { result ≡ true → is_kept_octet alone high low ≡ true }
+fn are_digits_unchanged(alone: bool, high: u8, low: u8) -> bool
+    ensures { result ≡ true → is_unchanged_octet alone high low ≡ true }
 {
     let classes: u8 = if alone { 255 } else { 127 };
     FIRST_DIGITS[usize::from(high)] & SECOND_DIGITS[usize::from(low)] & classes != 0
@@ -147,17 +147,17 @@ fn are_digits_kept(alone: bool, high: u8, low: u8) -> bool
 
 /// Returns where a run of octets ends that begins at `start` and of which normalising leaves each.
 #[inline(always)]
-fn kept_octets_end(alone: bool, bytes: &[u8], start: usize) -> usize
+fn unchanged_octets_end(alone: bool, bytes: &[u8], start: usize) -> usize
     requires { start ≤ length bytes.now }
     ensures from { start ≤ result }
     ensures within { result ≤ length bytes.now }
-    ensures kept { (limit k : ℕ) → start ≤ k → k < result
-        → stays_at alone limit bytes.now k ≡ true }
+    ensures unchanged { (limit k : ℕ) → start ≤ k → k < result
+        → is_unchanged_at alone limit bytes.now k ≡ true }
 {
     let mut end = start;
     while bytes.len() - end >= 3
         && bytes[end] == b'%'
-        && are_digits_kept(alone, bytes[end + 1], bytes[end + 2])
+        && are_digits_unchanged(alone, bytes[end + 1], bytes[end + 2])
     {
         end += 3;
     }
@@ -166,9 +166,9 @@ fn kept_octets_end(alone: bool, bytes: &[u8], start: usize) -> usize
 
 /// Returns `true` only if no dot segment before `limit` begins with the dot at `at`, which is after
 /// a `/`.
-fn is_dot_kept(bytes: &[u8], at: usize, limit: usize) -> bool
+fn is_dot_unchanged(bytes: &[u8], at: usize, limit: usize) -> bool
     requires { at < length bytes.now }
-    ensures { result ≡ true → is_dot_kept_at limit bytes.now at ≡ true }
+    ensures { result ≡ true → is_dot_unchanged_at limit bytes.now at ≡ true }
 {
     if limit <= at {
         return true;
@@ -178,21 +178,21 @@ fn is_dot_kept(bytes: &[u8], at: usize, limit: usize) -> bool
 }
 
 /// Returns `true` only if normalising leaves each octet of the text from `start` on, and the text
-/// has no formatting character there, and before `limit` no dot segment. Octets past ASCII stay
-/// only if no component may have characters past ASCII (`alone`).
+/// has no formatting character there, and before `limit` no dot segment. Octets past ASCII are
+/// unchanged only if no component may have characters past ASCII (`alone`).
 #[inline(always)]
-pub(crate) fn is_kept(alone: bool, bytes: &[u8], start: usize, limit: usize) -> bool
+pub(crate) fn is_unchanged_from(alone: bool, bytes: &[u8], start: usize, limit: usize) -> bool
     requires later { 0 < start }
     requires within { start ≤ length bytes.now }
     ensures { result ≡ true → (k : ℕ) → start ≤ k → k < length bytes.now
-        → stays_at alone limit bytes.now k ≡ true }
+        → is_unchanged_at alone limit bytes.now k ≡ true }
 {
     let mut i = start;
     while let Some(end) = literal_end(bytes, i) {
-        i = if bytes[end] == b'.' && is_dot_kept(bytes, end, limit) {
+        i = if bytes[end] == b'.' && is_dot_unchanged(bytes, end, limit) {
             end + 1
         } else {
-            kept_octets_end(alone, bytes, end)
+            unchanged_octets_end(alone, bytes, end)
         };
         if i == end {
             return false;

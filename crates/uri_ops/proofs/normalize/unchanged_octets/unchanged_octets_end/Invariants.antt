@@ -1,12 +1,13 @@
 use Rattle.std.proofs.Common.{length, ◌-◌, ◌≡◌, ◌≤◌, ◌<◌, ℕ, true}
-use Rattle.uri_ops.specs.Models.Unchanged.{stays_at}
-use Rattle.uri_ops.proofs.normalize.kept_octets.kept_octets_end.Given as goal
+use Rattle.uri_ops.specs.Models.Unchanged.{is_unchanged_at}
+use Rattle.uri_ops.proofs.normalize.unchanged_octets.unchanged_octets_end.Given as goal
 
 abbrev pub invariant-loop-end : goal.invariant-loop-end
 invariant-loop-end l = record {
   from : l.start ≤ l.end;
   within : l.end ≤ length l.bytes;
-  kept : (limit k : ℕ) → l.start ≤ k → k < l.end → stays_at l.alone limit l.bytes k ≡ true;
+  unchanged : (limit k : ℕ) → l.start ≤ k → k < l.end
+      → is_unchanged_at l.alone limit l.bytes k ≡ true;
 }
 
 abbrev pub decreases-loop-end : goal.decreases-loop-end

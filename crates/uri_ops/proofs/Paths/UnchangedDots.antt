@@ -1,4 +1,5 @@
--- Paths whose octets stay, and in which no dot after a `/` begins a dot segment: they have none.
+-- Paths whose octets are unchanged, and in which no dot after a `/` begins a dot segment: they have
+-- none.
 use Rattle.std.proofs.Common.{◌≡◌, ℕ, zero, suc, ◌+◌, ◌-◌, ◌<◌, ◌≤◌, Bool, true, false, not, ◌&&◌, ◌||◌, List, [], ◌∷◌, ◌++◌, length, get_or, eqb, ltb, leb, ap, arith, refl, sym, ◌∙◌, ⊎_elim}
 use Rattle.std.specs.Prelude.{codes}
 use Rattle.std.proofs.lemmas.Bool.{and_from, and_parts, cases_Bool, eqb-true, false≢true, leb-true, ltb-true, not-true, not_from_false, or_cases, or_from, or_left, or_right}
@@ -6,30 +7,30 @@ use Rattle.std.proofs.lemmas.Bool.Decides.{nat_tests}
 use Rattle.std.proofs.lemmas.List.{get_or-append-add, get_or_append_left}
 use Rattle.uri_pct.specs.Sets.{is_one_of}
 use Rattle.uri_ops.specs.Dots.{IsAbsolute, is_dot_segment, lacks_dot_segments, segments}
-use Rattle.uri_ops.specs.Models.Unchanged.{IsKept, is_dot_kept_at, is_kept, is_kept_octet, keeps_digits}
-use Rattle.uri_ops.proofs.Normal.UnchangedBytes.{kept-text-splits}
+use Rattle.uri_ops.specs.Models.Unchanged.{HasUnchangedOctets, is_dot_unchanged_at, has_unchanged_octets, is_unchanged_octet, keeps_digits}
+use Rattle.uri_ops.proofs.Normal.UnchangedBytes.{unchanged-text-splits}
 use Rattle.uri_ops.proofs.Paths.DotStarts.{segment-without-dot-start-is-dotless}
 use Rattle.uri_ops.proofs.Paths.Segments.{AllPass, is_dotless}
 use Rattle.uri_ops.proofs.Paths.SlashedSegments.{slashed, slashed-of-segments-is-text-after-slash}
 use Rattle.uri_ops.proofs.Paths.TakenSegments.{absolute-path-is-slash-and-rest}
 
--- kept dots: what is after a dot begins with another byte than `.`, `/` and `%`
+-- unchanged dots: what is after a dot begins with another byte than `.`, `/` and `%`
 abbrev goes_on : List ℕ → Bool
 goes_on [] = false
 goes_on (d ∷ rest) = not (is_one_of (codes "./%") d)
 
--- kept dots: such a text is after each dot that is after a `/`; slash: one is before the text
+-- unchanged dots: such a text is after each dot that is after a `/`; slash: one is before the text
 unfoldable dots_go_on : Bool → List ℕ → Bool
 dots_go_on slash [] = true
 dots_go_on slash (c ∷ rest) = (not (eqb c 46 && slash) || goes_on rest)
     && dots_go_on (eqb c 47) rest
 
--- kept dots: a `/` is before an index of a text, or before the text
+-- unchanged dots: a `/` is before an index of a text, or before the text
 abbrev is_after_slash_at : Bool → List ℕ → ℕ → Bool
 is_after_slash_at slash text zero = slash
 is_after_slash_at slash text (suc k) = eqb (get_or text k 0) 47
 
--- kept dots: if the dot at an index is after a `/`, another byte than `.`, `/` and `%` is next
+-- unchanged dots: if the dot at an index is after a `/`, another byte than `.`, `/` and `%` is next
 abbrev DotGoesOn : Bool → List ℕ → ℕ → Type 0
 DotGoesOn slash text k = get_or text k 0 ≡ 46 → is_after_slash_at slash text k ≡ true
     → (k + 1 < length text) × (is_one_of (codes "./%") (get_or text (k + 1) 0) ≡ false)
@@ -63,7 +64,7 @@ later-dot-goes-on slash c rest k each dot after =
     before zero e = e
     before (suc k) e = e
 
--- kept dots: dots that go on at each index do so in the text
+-- unchanged dots: dots that go on at each index do so in the text
 dots-go-on-by-index : (slash : Bool) (text : List ℕ)
     → ((k : ℕ) → k < length text → DotGoesOn slash text k) → dots_go_on slash text ≡ true
 unfolding dots_go_on
@@ -73,59 +74,61 @@ dots-go-on-by-index slash (c ∷ rest) each = and_from _ _
     (dots-go-on-by-index (eqb c 47) rest
     (λ k h. later-dot-goes-on slash c rest k (each (suc k) (omega (arith, h)))))
 
--- kept dots: the octet of a dot is not kept
-octet-of-dot-is-not-kept : (alone : Bool) → is_kept_octet alone 50 69 ≡ true → ⊥
-octet-of-dot-is-not-kept alone e =
+-- unchanged dots: the octet of a dot is not unchanged
+octet-of-dot-is-not-unchanged : (alone : Bool) → is_unchanged_octet alone 50 69 ≡ true → ⊥
+octet-of-dot-is-not-unchanged alone e =
     false≢true (and_parts (alone || true) false (and_parts true _ e).1).1
 
--- kept dots: the digits of an octet that stays do not encode a dot
-digits-of-dot-are-not-kept : (alone : Bool) (high low : ℕ) → is_kept_octet alone high low ≡ true
+-- unchanged dots: the digits of an unchanged octet do not encode a dot
+digits-of-dot-are-not-unchanged : (alone : Bool) (high low : ℕ)
+    → is_unchanged_octet alone high low ≡ true
     → (eqb high 50 && (eqb low 69 || eqb low 101)) ≡ false
-digits-of-dot-are-not-kept alone high low kept = ⊎_elim
+digits-of-dot-are-not-unchanged alone high low same = ⊎_elim
     (λ (e : (eqb high 50 && (eqb low 69 || eqb low 101)) ≡ true).
     let p = and_parts (eqb high 50) (eqb low 69 || eqb low 101) e in
-    let two : is_kept_octet alone 50 low ≡ true =
-    ap (λ n. is_kept_octet alone n low) (sym (eqb-true high 50 p.0)) ∙ kept in
+    let two : is_unchanged_octet alone 50 low ≡ true =
+    ap (λ n. is_unchanged_octet alone n low) (sym (eqb-true high 50 p.0)) ∙ same in
     absurd (⊎_elim
-    (λ (l : eqb low 69 ≡ true). octet-of-dot-is-not-kept alone
-    (ap (is_kept_octet alone 50) (sym (eqb-true low 69 l)) ∙ two))
+    (λ (l : eqb low 69 ≡ true). octet-of-dot-is-not-unchanged alone
+    (ap (is_unchanged_octet alone 50) (sym (eqb-true low 69 l)) ∙ two))
     (λ (l : eqb low 69 ≡ false). false≢true
-    (ap (is_kept_octet alone 50)
+    (ap (is_unchanged_octet alone 50)
     (sym (eqb-true low 101 (sym (ap (λ b. b || eqb low 101) l) ∙ p.1))) ∙ two))
     (cases_Bool (eqb low 69))))
     (λ e. e)
     (cases_Bool (eqb high 50 && (eqb low 69 || eqb low 101)))
 
--- kept dots: a segment that begins with another octet than that of a dot is no dot segment
-segment-with-kept-octet-is-none : (alone : Bool) (s : List ℕ) → keeps_digits alone s ≡ true
+-- unchanged dots: a segment that begins with another octet than that of a dot is no dot segment
+segment-with-unchanged-octet-is-none : (alone : Bool) (s : List ℕ) → keeps_digits alone s ≡ true
     → is_dot_segment (37 ∷ s) ≡ false
-segment-with-kept-octet-is-none alone [] kept = refl
-segment-with-kept-octet-is-none alone (high ∷ []) kept = grind (arith, nat_tests)
-segment-with-kept-octet-is-none alone (high ∷ low ∷ s) kept =
-    let other = digits-of-dot-are-not-kept alone high low kept in
+segment-with-unchanged-octet-is-none alone [] same = refl
+segment-with-unchanged-octet-is-none alone (high ∷ []) same = grind (arith, nat_tests)
+segment-with-unchanged-octet-is-none alone (high ∷ low ∷ s) same =
+    let other = digits-of-dot-are-not-unchanged alone high low same in
     grind (arith, nat_tests, other)
 
--- kept dots: nor is one that goes on after a dot
+-- unchanged dots: nor is one that goes on after a dot
 segment-that-goes-on-is-none : (d : ℕ) (s : List ℕ) → is_one_of (codes "./%") d ≡ false
     → is_dot_segment (46 ∷ d ∷ s) ≡ false
 segment-that-goes-on-is-none d s e = grind (arith, nat_tests)
 
--- kept dots: the first segment of a text after a `/` is no dot segment
-first-kept-segment-is-none : (alone : Bool) (s : List ℕ) (segs : List (List ℕ)) → IsKept alone s
+-- unchanged dots: the first segment of a text after a `/` is no dot segment
+first-unchanged-segment-is-none : (alone : Bool) (s : List ℕ) (segs : List (List ℕ))
+    → HasUnchangedOctets alone s
     → dots_go_on true (s ++ slashed segs) ≡ true → is_dot_segment s ≡ false
 unfolding dots_go_on slashed
-first-kept-segment-is-none alone [] segs kept dots = refl
-first-kept-segment-is-none alone (c ∷ s) segs kept dots = ⊎_elim
+first-unchanged-segment-is-none alone [] segs same dots = refl
+first-unchanged-segment-is-none alone (c ∷ s) segs same dots = ⊎_elim
     (λ (dot : eqb c 46 ≡ true).
     let first = (and_parts (not (eqb c 46 && true) || goes_on (s ++ slashed segs)) _ dots).0 in
     ap (λ b. is_dot_segment (b ∷ s)) (eqb-true c 46 dot)
     ∙ after-dot s segs (sym (ap (λ b. not (b && true) || goes_on (s ++ slashed segs)) dot) ∙ first))
     (λ (other : eqb c 46 ≡ false). ⊎_elim
     (λ (percent : eqb c 37 ≡ true).
-    let p = and_parts _ (is_kept alone s) kept in
+    let p = and_parts _ (has_unchanged_octets alone s) same in
     let digits = (and_parts (not (eqb c 0xE2)) _ p.0).1 in
     ap (λ b. is_dot_segment (b ∷ s)) (eqb-true c 37 percent)
-    ∙ segment-with-kept-octet-is-none alone s
+    ∙ segment-with-unchanged-octet-is-none alone s
     (sym (ap (λ b. not b || keeps_digits alone s) percent) ∙ digits))
     (λ e. segment-without-dot-start-is-dotless c s (or_from (eqb c 46) (eqb c 37) other e))
     (cases_Bool (eqb c 37)))
@@ -137,7 +140,7 @@ first-kept-segment-is-none alone (c ∷ s) segs kept dots = ⊎_elim
     after-dot [] (t ∷ segs) e = absurd (false≢true e)
     after-dot (d ∷ s) segs e = segment-that-goes-on-is-none d s (not-true _ e)
 
--- kept dots: dots that go on in a text do so in a suffix of it
+-- unchanged dots: dots that go on in a text do so in a suffix of it
 dots-go-on-in-suffix : (slash : Bool) (s rest : List ℕ) → dots_go_on slash (s ++ rest) ≡ true
     → (b : Bool) × (dots_go_on b rest ≡ true)
 unfolding dots_go_on
@@ -145,34 +148,34 @@ dots-go-on-in-suffix slash [] rest e = (slash, e)
 dots-go-on-in-suffix slash (c ∷ s) rest e = dots-go-on-in-suffix (eqb c 47) s rest
     (and_parts (not (eqb c 46 && slash) || goes_on (s ++ rest)) _ e).1
 
--- kept dots: the segments of a text, each after a `/`, are no dot segments
-kept-segments-are-dotless : (alone slash : Bool) (segs : List (List ℕ))
-    → IsKept alone (slashed segs) → dots_go_on slash (slashed segs) ≡ true
+-- unchanged dots: the segments of a text, each after a `/`, are no dot segments
+unchanged-segments-are-dotless : (alone slash : Bool) (segs : List (List ℕ))
+    → HasUnchangedOctets alone (slashed segs) → dots_go_on slash (slashed segs) ≡ true
     → AllPass is_dotless segs
 unfolding dots_go_on slashed
-kept-segments-are-dotless alone slash [] kept dots = refl
-kept-segments-are-dotless alone slash (s ∷ segs) kept dots =
-    let apart = kept-text-splits alone s (slashed segs) kept in
+unchanged-segments-are-dotless alone slash [] same dots = refl
+unchanged-segments-are-dotless alone slash (s ∷ segs) same dots =
+    let apart = unchanged-text-splits alone s (slashed segs) same in
     let more = dots-go-on-in-suffix true s (slashed segs) dots in
-    and_from _ _ (not_from_false _ (first-kept-segment-is-none alone s segs apart.0 dots))
-    (kept-segments-are-dotless alone more.0 segs apart.1 more.1)
+    and_from _ _ (not_from_false _ (first-unchanged-segment-is-none alone s segs apart.0 dots))
+    (unchanged-segments-are-dotless alone more.0 segs apart.1 more.1)
 
--- kept dots: a path that is kept has no dot segment if each dot after a `/`, also one before the
--- path, goes on
-path-is-dotless-by-index : (alone : Bool) (path : List ℕ) → IsKept alone path
+-- unchanged dots: a path whose octets are unchanged has no dot segment if each dot after a `/`,
+-- also one before the path, goes on
+path-is-dotless-by-index : (alone : Bool) (path : List ℕ) → HasUnchangedOctets alone path
     → ((k : ℕ) → k < length path → DotGoesOn true path k) → lacks_dot_segments path ≡ true
 unfolding dots_go_on
-path-is-dotless-by-index alone path kept each =
+path-is-dotless-by-index alone path same each =
     let whole = slashed-of-segments-is-text-after-slash path in
-    kept-segments-are-dotless alone false (segments path)
-    (ap (is_kept alone) whole ∙ kept)
+    unchanged-segments-are-dotless alone false (segments path)
+    (ap (has_unchanged_octets alone) whole ∙ same)
     (ap (dots_go_on false) whole ∙ dots-go-on-by-index true path each)
 
--- kept dots: what is known of the dots of a text holds of those of its path
+-- unchanged dots: what is known of the dots of a text holds of those of its path
 module _ (before path tail : List ℕ) (start : ℕ) (later : 0 < start)
     (early : start ≤ length before)
-    (stays : (k : ℕ) → start ≤ k → k < length before + length path
-    → is_dot_kept_at (length before + length path) (before ++ (path ++ tail)) k ≡ true) where
+    (each : (k : ℕ) → start ≤ k → k < length before + length path
+    → is_dot_unchanged_at (length before + length path) (before ++ (path ++ tail)) k ≡ true) where
   abbrev text : List ℕ
   text = before ++ (path ++ tail)
 
@@ -199,7 +202,7 @@ module _ (before path tail : List ℕ) (start : ℕ) (later : 0 < start)
       let other = not (is_one_of (codes "./%") (get_or text (k + 1) 0)) in
       let rest : (leb limit k || (ltb (k + 1) limit && other)) ≡ true =
       sym (ap (λ b. not b || (leb limit k || (ltb (k + 1) limit && other))) found)
-      ∙ stays k (omega (arith, early)) (omega (arith, h)) in
+      ∙ each k (omega (arith, early)) (omega (arith, h)) in
       ⊎_elim
       (λ (past : leb limit k ≡ true).
       let over = leb-true limit k past in
@@ -215,9 +218,9 @@ module _ (before path tail : List ℕ) (start : ℕ) (later : 0 < start)
       ))
       (or_cases (leb limit k) (ltb (k + 1) limit && other) rest)
 
-  -- paths: one in a text, which begins with `/` and is kept, has no dot segment if no dot segment
-  -- begins with a dot after a `/` of the text from an index on
-  pub path-is-dotless-in-text : (alone : Bool) → IsAbsolute path → IsKept alone path
+  -- paths: one in a text, which begins with `/` and whose octets are unchanged, has no dot segment
+  -- if no dot segment begins with a dot after a `/` of the text from an index on
+  pub path-is-dotless-in-text : (alone : Bool) → IsAbsolute path → HasUnchangedOctets alone path
       → lacks_dot_segments path ≡ true
-  path-is-dotless-in-text alone absolute kept = path-is-dotless-by-index alone path kept
+  path-is-dotless-in-text alone absolute same = path-is-dotless-by-index alone path same
       (dot-of-path-goes-on absolute)

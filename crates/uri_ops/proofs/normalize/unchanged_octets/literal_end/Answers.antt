@@ -3,7 +3,7 @@ use Rattle.std.specs.Int.{trailing_zeros}
 use Rattle.uri_pct.proofs.LaneScans.LaneBits.{is_set_bit}
 use Rattle.uri_ops.specs.Models.Unchanged.{IsLiteralRun, is_literal_at}
 use Rattle.uri_ops.proofs.Normal.LiteralBlocks.{MarksIndices, first-bit-is-of-block, indices-before-first-bit-pass, indices-pass-where-mask-is-zero, shifted-mask-marks-later-indices}
-use Rattle.uri_ops.proofs.normalize.kept_octets.literal_end.Goals as goal
+use Rattle.uri_ops.proofs.normalize.unchanged_octets.literal_end.Goals as goal
 
 -- what a block's mask says
 block : (bs : List ℕ) (i mask : ℕ) → mask < 2 ^ 16

@@ -20,7 +20,7 @@ use Rattle.std.proofs.lemmas.Bool.Decides.{nat_tests}
 abbrev pub set_without_octets : TableSet → TableSet
 set_without_octets set = record set { pct_encoded = false }
 
--- valid prefixes: how far literal characters are kept as they are, by the first character
+-- valid prefixes: how far literal characters are unchanged, by the first character
 literal_prefix_by_first_char : (set : TableSet) (text rest : List ℕ) (c : ℕ) → IsUtf8 text
     → text ≡ encode_utf8 c ++ rest → valid_prefix (set_without_octets set) text
     ≡ cond (allows set c) (valid_prefix (set_without_octets set) rest + len_utf8 c) 0
@@ -28,51 +28,54 @@ unfolding allows_past_ascii
 literal_prefix_by_first_char set text rest c u e = valid_prefix_by_first_char
     (set_without_octets set) text rest c u e refl
 
--- valid prefixes: so many bytes at the start of the text are encoded as they are
-abbrev IsKept : TableSet → List ℕ → ℕ → Type 0
-IsKept set text n = print (encode_text set text)
+-- valid prefixes: encoding leaves the first n bytes of the text unchanged
+abbrev HasUnchangedPrefix : TableSet → List ℕ → ℕ → Type 0
+HasUnchangedPrefix set text n = print (encode_text set text)
     ≡ take n text ++ print (encode_text set (drop n text))
 
--- valid prefixes: an allowed character before a prefix that is kept as it is lengthens that prefix
-kept_run_with_allowed_char_before_is_kept : (set : TableSet) (c n : ℕ) (rest : List ℕ)
+-- valid prefixes: an allowed character before an unchanged prefix lengthens it
+prefix_with_allowed_char_before_is_unchanged : (set : TableSet) (c n : ℕ) (rest : List ℕ)
     → IsUtf8 (encode_utf8 c ++ rest)
-    → allows set c ≡ true → IsKept set rest n → IsKept set (encode_utf8 c ++ rest) (n + len_utf8 c)
-kept_run_with_allowed_char_before_is_kept set c n rest u allowed kept =
+    → allows set c ≡ true → HasUnchangedPrefix set rest n
+    → HasUnchangedPrefix set (encode_utf8 c ++ rest) (n + len_utf8 c)
+prefix_with_allowed_char_before_is_unchanged set c n rest u allowed unchanged =
     let text : List ℕ = encode_utf8 c ++ rest in
     let size : n + len_utf8 c ≡ length (encode_utf8 c) + n = omega (arith, length-encode c) in
     let suffix = print (encode_text set (drop n rest)) in
     ap print (encode_text-by-first-char set text rest c u refl)
     ∙ print-append (encode_char set c) (encode_text set rest)
     ∙ ap (λ x. x ++ print (encode_text set rest)) (allowed_char_is_printed_literally set c allowed)
-    ∙ ap (λ x. encode_utf8 c ++ x) kept ∙ sym (append_assoc (encode_utf8 c) (take n rest) suffix)
+    ∙ ap (λ x. encode_utf8 c ++ x) unchanged
+    ∙ sym (append_assoc (encode_utf8 c) (take n rest) suffix)
     ∙ ap (λ x. x ++ suffix) (sym (take-append-add (encode_utf8 c) rest n))
     ∙ ap (λ x. take (length (encode_utf8 c) + n) text ++ print (encode_text set x))
     (sym (drop-append-add (encode_utf8 c) rest n))
     ∙ ap (λ k. take k text ++ print (encode_text set (drop k text))) (sym size)
 
--- valid prefixes: the longest prefix of characters of the set, without octets, is kept as it is
-literal_prefix_of_chars_is_kept : (set : TableSet) (cs : List ℕ) → all_scalars cs ≡ true
-    → IsKept set (encode_utf8_all cs) (valid_prefix (set_without_octets set) (encode_utf8_all cs))
+-- valid prefixes: the longest prefix of characters of the set, without octets, is unchanged
+literal_prefix_of_chars_is_unchanged : (set : TableSet) (cs : List ℕ) → all_scalars cs ≡ true
+    → HasUnchangedPrefix set (encode_utf8_all cs)
+    (valid_prefix (set_without_octets set) (encode_utf8_all cs))
 unfolding valid_prefix_from
-literal_prefix_of_chars_is_kept set [] s = refl
-literal_prefix_of_chars_is_kept set (c ∷ cs) s =
+literal_prefix_of_chars_is_unchanged set [] s = refl
+literal_prefix_of_chars_is_unchanged set (c ∷ cs) s =
     let rest : List ℕ = encode_utf8_all cs in
     let text : List ℕ = encode_utf8 c ++ rest in
     let u : IsUtf8 text = (c ∷ cs, (s, refl)) in
     let first = literal_prefix_by_first_char set text rest c u refl in
     ⊎_elim
-    (λ a. subst (IsKept set text) (sym (first ∙ cond-true _ _ _ a))
-    (kept_run_with_allowed_char_before_is_kept set c (valid_prefix (set_without_octets set) rest)
-    rest u a (literal_prefix_of_chars_is_kept set cs (and_parts _ (all_scalars cs) s).1)))
-    (λ a. subst (IsKept set text) (sym (first ∙ cond-false _ _ _ a)) refl)
+    (λ a. subst (HasUnchangedPrefix set text) (sym (first ∙ cond-true _ _ _ a))
+    (prefix_with_allowed_char_before_is_unchanged set c (valid_prefix (set_without_octets set) rest)
+    rest u a (literal_prefix_of_chars_is_unchanged set cs (and_parts _ (all_scalars cs) s).1)))
+    (λ a. subst (HasUnchangedPrefix set text) (sym (first ∙ cond-false _ _ _ a)) refl)
     (cases_Bool (allows set c))
 
--- valid prefixes: what is scanned of a text by a set without octets is kept as it is
-literal_prefix_of_text_is_kept : (set : TableSet) (text : List ℕ) → IsUtf8 text
-    → IsKept set text (valid_prefix (set_without_octets set) text)
-literal_prefix_of_text_is_kept set text u = subst
-    (λ t. IsKept set t (valid_prefix (set_without_octets set) t)) u.1.1
-    (literal_prefix_of_chars_is_kept set u.0 u.1.0)
+-- valid prefixes: what is scanned of a text by a set without octets is unchanged
+literal_prefix_of_text_is_unchanged : (set : TableSet) (text : List ℕ) → IsUtf8 text
+    → HasUnchangedPrefix set text (valid_prefix (set_without_octets set) text)
+literal_prefix_of_text_is_unchanged set text u = subst
+    (λ t. HasUnchangedPrefix set t (valid_prefix (set_without_octets set) t)) u.1.1
+    (literal_prefix_of_chars_is_unchanged set u.0 u.1.0)
 
 -- valid prefixes: the run of allowed characters from `start` on is encoded as itself
 pub allowed_run_is_encoded_as_itself : (set : TableSet) (text : List ℕ) (start end : ℕ)
@@ -82,7 +85,7 @@ pub allowed_run_is_encoded_as_itself : (set : TableSet) (text : List ℕ) (start
 allowed_run_is_encoded_as_itself set text start end u here e =
     let n = valid_prefix (set_without_octets set) (drop start text) in
     let size : n ≡ end - start = omega (arith, e) in
-    literal_prefix_of_text_is_kept set (drop start text) (IsUtf8-drop text start u here)
+    literal_prefix_of_text_is_unchanged set (drop start text) (IsUtf8-drop text start u here)
     ∙ ap (λ x. take n (drop start text) ++ print (encode_text set x))
     (drop-drop n start text ∙ ap (λ k. drop k text) (sym e))
     ∙ ap (λ k. take k (drop start text) ++ print (encode_text set (drop end text))) size
@@ -164,8 +167,8 @@ pub disallowed_run_is_not_empty : (set : TableSet) (text : List ℕ) (start end 
 disallowed_run_is_not_empty set text start end c ordered joined allowed first =
     grind (arith, nat_tests)
 
--- valid prefixes: after a run that is kept and one that is encoded,
--- what was appended and the rest, encoded, still make the whole
+-- valid prefixes: after an unchanged run and one that is encoded, what was
+-- appended and the rest, encoded, still make the whole
 pub encoded_text_after_two_runs : (set : TableSet) (out mid new text all : List ℕ)
     (start end next : ℕ)
     → IsEncodedBy (λ bytes. bytes) set text start end
