@@ -1,5 +1,5 @@
 use Rattle.std.proofs.Common.{◌≡◌, ◌++◌, ℕ, List, get_or, length}
-use Rattle.uri_ops.proofs.read_back.normal_path.begins_with_two_slashes.Given as goal
+use Rattle.uri_ops.proofs.read_back.normal_path.is_read_with_two_slashes.Given as goal
 
 abbrev pub invariant-loop-byte : goal.invariant-loop-byte
 invariant-loop-byte g l =
