@@ -101,7 +101,7 @@ fn of_kind<K: kind::Kind>(
             orders::is_normal::<K, _>(alloc, DefaultPorts, text, words)
         }
         ValueOperation::AsciiHost => ascii_hosts::ascii_host::<K>(alloc, text, words),
-        _ => references::evaluate::<K>(alloc, ask, text, fields, words),
+        _ => references::evaluate_text::<K>(alloc, ask, text, fields, words),
     }
 }
 
@@ -231,7 +231,7 @@ fn scheme(text: &str) -> Result<Scheme<'_>, RowError> {
 }
 
 /// Returns the hash of a scheme, for a row that compares two.
-fn hash_of(scheme: Scheme<'_>) -> u64 {
+fn hash_of_scheme(scheme: Scheme<'_>) -> u64 {
     let mut state = DefaultHasher::new();
     scheme.hash(&mut state);
     state.finish()
@@ -251,7 +251,7 @@ fn compare_schemes(
 ) -> Result<(), RowError> {
     let is_equal = first == second;
     words.verbatim(if is_equal { "equal" } else { "different" })?;
-    let has_equal_hash = hash_of(first) == hash_of(second);
+    let has_equal_hash = hash_of_scheme(first) == hash_of_scheme(second);
     Ok(words.unless(has_equal_hash == is_equal, "by another hash")?)
 }
 

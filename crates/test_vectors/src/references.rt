@@ -26,7 +26,7 @@ pub(crate) fn parsed<K: Kind>(text: &str) -> Result<Reference<K, &str>, RowError
 }
 
 /// Appends to a row's result what a value of the text returns, or the error of the text.
-pub(crate) fn evaluate<K: Kind>(
+pub(crate) fn evaluate_text<K: Kind>(
     alloc: Global,
     ask: ValueOperation,
     text: &str,

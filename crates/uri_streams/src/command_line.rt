@@ -17,12 +17,11 @@ use std::fmt::{self, Display};
 use std::hash::RandomState;
 pub use uri_commands::kinds::kind_named;
 use uri_commands::refusal::CommandError;
-
-/// How many bytes the text of a line may have, if `--max-line` doesn't say it: 1 MiB.
 use uri_commands::table::{
     CHECK, LINKS, MEND, NORMALIZE, PARSE, QUERY, RELATIVIZE, RESOLVE, UNIQUE,
 };
 
+/// How many bytes the text of a line may have, if `--max-line` doesn't say it: 1 MiB.
 const MAX_LINE: u32 = 1024 * 1024;
 
 /// The name of a command on the command line of `urilines`.

@@ -1,7 +1,7 @@
 -- A text of the kind is its own normal form exactly if normalising returns it.
 use Rattle.fluent_uri_c.proofs.Common.{◌≡◌, ◌↔◌, true, subst, reference_text}
 use Rattle.fluent_uri_c.proofs.Orders.{form-by-set, own-normal-result}
-use Rattle.fluent_uri_c.proofs.order.is_own_normal_form.Goals as goal
+use Rattle.fluent_uri_c.proofs.order.are_bytes_own_normal_form.Goals as goal
 
 pub returns-in-Ok : goal.returns-in-Ok
 returns-in-Ok g c =
