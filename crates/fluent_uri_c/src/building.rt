@@ -98,7 +98,7 @@ fn part<'a, R: Rule>(text: &'a [u8], span: Span, which: u32) -> Result<Option<&'
 }
 
 /// Returns the components of an authority that C gives as spans of a text, if there is a host.
-fn authority<'a, K: Kind>(
+fn given_authority<'a, K: Kind>(
     text: &'a [u8],
     spans: &ComponentSpans,
 ) -> Result<Option<AuthorityTexts<'a>>, Rejection>
@@ -200,7 +200,7 @@ fn given_parts<'a, K: Kind>(text: &'a [u8], spans: &ComponentSpans) -> Result<Te
     ensures rejected { result_err result ≡ parts_rejection K.kind text.now spans.now }
 {
     let scheme = part::<SchemeRule>(text, spans.scheme, 5)?;
-    let authority = authority::<K>(text, spans)?;
+    let authority = given_authority::<K>(text, spans)?;
     let tail = given_tail::<K>(text, spans)?;
     Ok(Texts {
         scheme,

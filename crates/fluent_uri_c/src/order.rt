@@ -77,7 +77,7 @@ pub extern "C" fn fluent_uri_compare(kind: u32, options: u32, one: &[u8], other:
 }
 
 /// Returns whether bytes are a text of the kind that is its own normal form.
-fn is_own_normal_form<K: Kind>(rules: RuleSet, text: &[u8]) -> bool
+fn are_bytes_own_normal_form<K: Kind>(rules: RuleSet, text: &[u8]) -> bool
     ensures { (result ≡ true) ↔ (normal_result rules K.kind text.now ≡ Ok text.now) }
 {
     match parsed::<K>(text) {
@@ -97,10 +97,10 @@ fn is_own_normal_form_by_numbers(kind: u32, options: u32, text: &[u8]) -> bool
         return false;
     };
     match kind {
-        0 => is_own_normal_form::<UriKind>(rules, text),
-        1 => is_own_normal_form::<UriRefKind>(rules, text),
-        2 => is_own_normal_form::<IriKind>(rules, text),
-        3 => is_own_normal_form::<IriRefKind>(rules, text),
+        0 => are_bytes_own_normal_form::<UriKind>(rules, text),
+        1 => are_bytes_own_normal_form::<UriRefKind>(rules, text),
+        2 => are_bytes_own_normal_form::<IriKind>(rules, text),
+        3 => are_bytes_own_normal_form::<IriRefKind>(rules, text),
         _ => false,
     }
 }

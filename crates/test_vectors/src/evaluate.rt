@@ -138,7 +138,7 @@ fn of_kind<K: kind::Kind>(
         "is-normal-by-rules" => orders::is_normal::<K, _>(alloc, StandardRules, text, words),
         "ascii-host" => ascii_hosts::ascii_host::<K>(alloc, text, words),
         _ if is_one_of(operation, OF_COMPONENTS) => {
-            references::evaluate::<K>(alloc, operation, text, words)
+            references::evaluate_text::<K>(alloc, operation, text, words)
         }
         _ => normal_form::<K>(alloc, operation, text, fields, words),
     }
@@ -311,7 +311,7 @@ fn say_scheme(text: &str, words: &mut Words) -> Result<(), RowError> {
 }
 
 /// Returns the hash of a scheme, for a row that compares two.
-fn hash_of(scheme: Scheme<'_>) -> u64 {
+fn hash_of_scheme(scheme: Scheme<'_>) -> u64 {
     let mut state = DefaultHasher::new();
     scheme.hash(&mut state);
     state.finish()
@@ -331,7 +331,7 @@ fn compare_schemes(
 ) -> Result<(), RowError> {
     let is_equal = first == second;
     words.verbatim(if is_equal { "equal" } else { "different" })?;
-    let has_equal_hash = hash_of(first) == hash_of(second);
+    let has_equal_hash = hash_of_scheme(first) == hash_of_scheme(second);
     Ok(words.unless(has_equal_hash == is_equal, "by another hash")?)
 }
 

@@ -11,7 +11,7 @@ use uri_order::NormalOrder;
 use uri_parts::kind::Kind;
 
 /// Returns the word that rows have for an order.
-fn name_of(order: Ordering) -> &'static str {
+fn word_of_order(order: Ordering) -> &'static str {
     match order {
         Ordering::Less => "less",
         Ordering::Equal => "equal",
@@ -38,7 +38,7 @@ pub(crate) fn compare<K: Kind, S: SchemeRules + Copy>(
     let (one, other) = (parsed::<K>(one)?, parsed::<K>(other)?);
     let order = NormalOrder::new().scheme_rules_with(rules);
     let met = order.cmp(&one, &other);
-    words.verbatim(name_of(met))?;
+    words.verbatim(word_of_order(met))?;
     let is_reversed = order.cmp(&other, &one) == met.reverse();
     words.unless(is_reversed, "but not reversed")?;
     let is_equal = met == Ordering::Equal;

@@ -113,7 +113,7 @@ pub(crate) fn say_cow(text: &CowStr<'_>, words: &mut Words) -> Result<(), AllocE
 }
 
 /// Returns the name that rows have for a kind of parse error.
-fn name_of(kind: ParseErrorKind) -> &'static str {
+fn name_of_error_kind(kind: ParseErrorKind) -> &'static str {
     match kind {
         ParseErrorKind::InvalidPctEncodedOctet => "InvalidPctEncodedOctet",
         ParseErrorKind::UnexpectedChar => "UnexpectedChar",
@@ -127,7 +127,7 @@ pub(crate) fn say_parse_error(
     error: ParseError,
     words: &mut Words,
 ) -> Result<(), AllocError> {
-    let (kind, index) = (name_of(error.kind()), error.index());
+    let (kind, index) = (name_of_error_kind(error.kind()), error.index());
     words.verbatim(format!(in alloc; "{kind} {index}")?.as_str())
 }
 

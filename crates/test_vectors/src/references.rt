@@ -29,7 +29,7 @@ pub(crate) fn scheme(text: &str) -> Result<Scheme<'_>, RowError> {
 }
 
 /// Appends to a row's result what a value of the text returns, or the error of the text.
-pub(crate) fn evaluate<K: Kind>(
+pub(crate) fn evaluate_text<K: Kind>(
     alloc: Global,
     operation: &str,
     text: &str,

@@ -9,5 +9,5 @@ pub mod LiteralBlocks
 pub mod UnchangedBytes
 pub mod UnchangedParts
 pub mod UnchangedTexts
-pub mod SettledPrefixes
+pub mod UnchangedPrefixes
 pub mod UnchangedPaths

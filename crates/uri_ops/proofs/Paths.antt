@@ -24,4 +24,4 @@ pub mod MergedPaths
 pub mod GuardedPaths
 pub mod SlashBlocks
 pub mod FoundDotSegments
-pub mod KeptDots
+pub mod UnchangedDots

@@ -7,7 +7,7 @@ use Rattle.uri_parts.specs.Grammar.{Kind}
 use Rattle.uri_ops.specs.Meaning.{bare_meaning_of}
 
 -- a byte of an IRI in its URI: one past ASCII is percent-encoded with upper-case digits, any other
--- stays as it is
+-- is unchanged
 abbrev pub encode_byte_past_ascii : ℕ → List ℕ
 encode_byte_past_ascii b = if nat_lt b 128 then b ∷ [] else text_of_token (Octet b)
 

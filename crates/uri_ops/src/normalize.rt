@@ -15,7 +15,6 @@ pub(crate) mod decode_unreserved;
 pub(crate) mod decoded_paths;
 #[doc(hidden)]
 pub mod formatting;
-pub(crate) mod kept_octets;
 pub(crate) mod literal_runs;
 pub(crate) mod normal_authority;
 #[doc(hidden)]
@@ -30,6 +29,7 @@ pub mod ruled_parts;
 pub(crate) mod short_components;
 #[doc(hidden)]
 pub mod unchanged;
+pub(crate) mod unchanged_octets;
 
 use crate::normalize::normal_text::written_normal_text;
 use crate::normalize::normalized::Normalized;

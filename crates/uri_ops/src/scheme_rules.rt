@@ -91,7 +91,7 @@ impl SchemeRules for DefaultPorts {
 /// | `file` | the host `localhost` is left out | RFC 8089, section 2 |
 ///
 /// No document gives another scheme with a default port such a rule. Rules on the text of a path or
-/// a query are not applied: `mailto:Joe@Example.COM` stays as it is, though it is equivalent to
+/// a query are not applied: `mailto:Joe@Example.COM` is unchanged, though it is equivalent to
 /// `mailto:Joe@example.com` by RFC 3986, section 6.2.3.
 ///
 /// The target of an `OPTIONS` request must not be normalised by them: there an empty path is not

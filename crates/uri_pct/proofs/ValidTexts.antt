@@ -10,7 +10,7 @@ pub mod Delimiters
 pub mod Literals
 pub mod Allowed
 pub mod Appending
-pub mod KeptPrefixes
+pub mod UnchangedPrefixes
 pub mod LongestPrefixes
 pub mod RestoredTexts
 pub mod Growing

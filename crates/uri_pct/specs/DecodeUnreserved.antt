@@ -85,7 +85,7 @@ encode_formatting set ts = flat_map (formatting_as_octets set) ts
 abbrev pub decode_unreserved : TableSet → List ℕ → List Token
 decode_unreserved set text = encode_formatting set (decode_tokens set (tokens text))
 
--- the token with a literal ASCII letter in lower case; an octet stays as it is
+-- the token with a literal ASCII letter in lower case; an octet is unchanged
 abbrev pub lower_token : Token → Token
 lower_token (Char c) = Char (to_ascii_lowercase c)
 lower_token (Octet value) = Octet value

@@ -33,7 +33,7 @@ fn allowed_end(table: &Table, text: &str, start: usize) -> usize
     requires { IsCharBoundary text.now start }
     ensures from { start ≤ result }
     ensures boundary { IsCharBoundary text.now result }
-    ensures kept { IsEncodedBy (λ bytes. bytes) (set_of table.now) text.now start result }
+    ensures unchanged { IsEncodedBy (λ bytes. bytes) (set_of table.now) text.now start result }
     ensures stop { (c : ℕ) (rest : List ℕ) → drop result text.now ≡ encode_utf8 c ++ rest
         → allows (set_of table.now) c ≡ false }
 {
@@ -65,7 +65,8 @@ fn disallowed_end(table: &Table, text: &str, start: usize) -> usize
     end
 }
 
-/// Appends the text percent-encoded: characters that the table allows stay, others become octets.
+/// Appends the text percent-encoded: characters that the table allows are unchanged, and others
+/// become octets.
 ///
 /// After an error, part of it may have been appended.
 #[doc(hidden)]
@@ -87,8 +88,8 @@ pub fn push_text(table: &Table, text: &str, out: &mut String) -> Result<(), Allo
     Ok(())
 }
 
-/// Appends the bytes percent-encoded: characters
-/// that the table allows stay, and other bytes become octets.
+/// Appends the bytes percent-encoded: characters that the table allows are unchanged, and other
+/// bytes become octets.
 ///
 /// After an error, part of it may have been appended.
 pub(crate) fn push_bytes(table: &Table, bytes: &[u8], out: &mut String) -> Result<(), AllocError>
@@ -105,8 +106,8 @@ pub(crate) fn push_bytes(table: &Table, bytes: &[u8], out: &mut String) -> Resul
     Ok(())
 }
 
-/// Appends the text percent-encoded: characters that the table allows stay,
-/// others become octets. After an error `out` is as it was.
+/// Appends the text percent-encoded: characters that the table allows are unchanged, and others
+/// become octets. After an error `out` is as it was.
 pub(crate) fn append_text(table: &Table, text: &str, out: &mut String) -> Result<(), AllocError>
     ensures ok { OnOk result
         (string_bytes out.new ≡ string_bytes out.old
@@ -121,8 +122,8 @@ pub(crate) fn append_text(table: &Table, text: &str, out: &mut String) -> Result
     Ok(())
 }
 
-/// Appends the bytes percent-encoded: characters that the table allows stay,
-/// and other bytes become octets. After an error `out` is as it was.
+/// Appends the bytes percent-encoded: characters that the table allows are unchanged, and other
+/// bytes become octets. After an error `out` is as it was.
 pub(crate) fn append_bytes(table: &Table, bytes: &[u8], out: &mut String) -> Result<(), AllocError>
     ensures ok { OnOk result
         (string_bytes out.new ≡ string_bytes out.old

@@ -26,14 +26,14 @@ pub(crate) fn query_json(
         string_bytes line ≡ spec.query_json (option_map text_of query.entry)) }
 {
     let mut out = String::from_str(alloc, "[")?;
-    push_query(alloc, &mut out, query)?;
+    push_query_pairs(alloc, &mut out, query)?;
     out.push_str("]")?;
     Ok(out)
 }
 
 /// Appends the decoded pairs of a query to a JSON array, or nothing if there is no query.
 #[tactic(auto, using(fluent_uri::proofs::Calling::calling))]
-fn push_query(
+fn push_query_pairs(
     alloc: Global,
     out: &mut String,
     query: Option<EStr<'_, IQuery>>,

@@ -168,19 +168,20 @@ encoding-and-recomposing-authority-swap p =
     (encoding-keeps-delimiters (codes ":") [] p.port refl refl))
 
 -- IRIs as URIs: encoding characters past ASCII leaves the digits of a port
-port-digits-stay-when-encoded : (text : List ℕ) → IsUtf8 text → IsValidFor digit_set text
+port-digits-are-unchanged-when-encoded : (text : List ℕ) → IsUtf8 text → IsValidFor digit_set text
     → encode_past_ascii text
     ≡ text
-port-digits-stay-when-encoded text u e = ascii-text-is-its-own-encoding text
+port-digits-are-unchanged-when-encoded text u e = ascii-text-is-its-own-encoding text
     (text-passing-ascii-test-is-ascii is_ascii_digit text
     (sym (valid_ascii_text is_ascii_digit refl text u) ∙ e))
 
 -- IRIs as URIs: encoding characters past ASCII leaves the port, if there is one
-port-stays-when-encoded : (port : Option (List ℕ)) → IfSome port IsUtf8
+port-is-unchanged-when-encoded : (port : Option (List ℕ)) → IfSome port IsUtf8
     → IfSome port (IsValidFor digit_set)
     → option_map encode_past_ascii port ≡ port
-port-stays-when-encoded None u h = refl
-port-stays-when-encoded (Some digits) u h = ap Some (port-digits-stay-when-encoded digits u h)
+port-is-unchanged-when-encoded None u h = refl
+port-is-unchanged-when-encoded (Some digits) u h =
+    ap Some (port-digits-are-unchanged-when-encoded digits u h)
 
 -- IRIs as URIs: if a component, when there is one, has P, its encoded form has what P implies
 encoded-component-has-property : (o : Option (List ℕ)) (P Q : List ℕ → Type 0)
@@ -242,7 +243,7 @@ module _ (kind : Kind) (sets : HasComponentSets kind) (a : List ℕ) (u : IsUtf8
         (encoded-part-is-valid-for-ascii_set users sets.userinfo.octets x h)) user;
     host = host.host;
     port = subst (λ o. IfSome o (IsValidFor digit_set))
-        (sym (port-stays-when-encoded _ utf8.port grammar.port)) grammar.port;
+        (sym (port-is-unchanged-when-encoded _ utf8.port grammar.port)) grammar.port;
   }
 
   pub encoded-authority-is-of-ascii_kind : is_authority (ascii_kind kind) (encode_past_ascii a)
@@ -263,7 +264,7 @@ module _ (kind : Kind) (sets : HasComponentSets kind) (a : List ℕ) (u : IsUtf8
     host,
     decode_unreserved-encoded_option,
     user,
-    port-stays-when-encoded,
+    port-is-unchanged-when-encoded,
     utf8,
     grammar,
     parts-of-encoded-authority-are-encoded,

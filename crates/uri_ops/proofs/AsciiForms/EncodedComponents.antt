@@ -93,11 +93,11 @@ encoded-query-lacks-its-end (Some q) u h = encoding-keeps-lacked-delimiters (cod
 
 -- IRIs as URIs: a test that is false for an absent component is so when the text is encoded;
 -- x, y: the test before and after
-absent-component-stays-when-encoded : (o : Option (List ℕ)) (x y : Bool) → y ≡ x
+absent-component-is-absent-when-encoded : (o : Option (List ℕ)) (x y : Bool) → y ≡ x
     → IfNone o (x ≡ false)
     → IfNone (option_map encode_past_ascii o) (y ≡ false)
-absent-component-stays-when-encoded None x y e h = e ∙ h
-absent-component-stays-when-encoded (Some a) x y e h = tt
+absent-component-is-absent-when-encoded None x y e h = e ∙ h
+absent-component-is-absent-when-encoded (Some a) x y e h = tt
 
 -- IRIs as URIs: a split of a text into components, encoded, is a split of the encoded text
 encoded-text-splits-into-encoded-components : (text : List ℕ) (p : Components) → IsUtf8 text
@@ -109,9 +109,9 @@ encoded-text-splits-into-encoded-components text p u v split = record {
   authority = encoded-authority-lacks-its-ends _ _ v.authority split.authority;
   path = encoding-keeps-lacked-delimiters (codes "?#") refl p.path v.path split.path;
   query = encoded-query-lacks-its-end _ v.query split.query;
-  no_scheme = absent-component-stays-when-encoded _ _ _ (encoding-keeps-has_scheme _ u)
+  no_scheme = absent-component-is-absent-when-encoded _ _ _ (encoding-keeps-has_scheme _ u)
       split.no_scheme;
-  no_authority = absent-component-stays-when-encoded _ _ _ (encoding-keeps-two-slashes _)
+  no_authority = absent-component-is-absent-when-encoded _ _ _ (encoding-keeps-two-slashes _)
       split.no_authority;
 }
 

@@ -42,15 +42,16 @@ schemes-are-ascii s u e =
     (sym (valid_ascii_text is_scheme_char percent-is-no-scheme-character s u) ∙ p.1)
 
 -- IRIs as URIs: encoding characters past ASCII leaves a scheme
-scheme-stays-when-encoded : (s : List ℕ) → IsUtf8 s → is_scheme s ≡ true → encode_past_ascii s ≡ s
-scheme-stays-when-encoded s u e = ascii-text-is-its-own-encoding s (schemes-are-ascii s u e)
+scheme-is-unchanged-when-encoded : (s : List ℕ) → IsUtf8 s → is_scheme s ≡ true
+    → encode_past_ascii s ≡ s
+scheme-is-unchanged-when-encoded s u e = ascii-text-is-its-own-encoding s (schemes-are-ascii s u e)
 
 -- IRIs as URIs: encoding characters past ASCII leaves the scheme as it is
-pub schemes-stay-when-encoded : (o : Option (List ℕ))
+pub schemes-are-unchanged-when-encoded : (o : Option (List ℕ))
     → IfSome o (λ s. IsUtf8 s × (is_scheme s ≡ true))
     → option_map encode_past_ascii o ≡ o
-schemes-stay-when-encoded None h = refl
-schemes-stay-when-encoded (Some s) h = ap Some (scheme-stays-when-encoded s h.0 h.1)
+schemes-are-unchanged-when-encoded None h = refl
+schemes-are-unchanged-when-encoded (Some s) h = ap Some (scheme-is-unchanged-when-encoded s h.0 h.1)
 
 -- IRIs as URIs: encoding characters past ASCII brings no `:` into the first segment of a path
 encoding-adds-no-colon-first : (path : List ℕ) → IsUtf8 path → has_colon_in_first_segment path
@@ -106,7 +107,7 @@ module _ (kind : Kind) (sets : HasComponentSets kind) where
       → ArePartsOfKind (ascii_kind kind) (encoded_components p)
   encoded-components-are-of-ascii_kind p parts = record {
     scheme = subst (λ o. IfSome o (λ s. IsUtf8 s × (is_scheme s ≡ true)))
-        (sym (schemes-stay-when-encoded _ parts.scheme)) parts.scheme;
+        (sym (schemes-are-unchanged-when-encoded _ parts.scheme)) parts.scheme;
     authority = encoded-authority-if-some-is-of-ascii_kind _ parts.authority;
     path = encoded-part-is-valid-for-ascii_set _ sets.path.octets _ parts.path;
     query = encoded-component-is-for-ascii_set _ sets.query.octets _ parts.query;
@@ -149,7 +150,7 @@ module _ (kind : Kind) (sets : HasComponentSets kind) where
   encoding-keeps-components_meaning ports p parts = grind (
     arith,
     nat_tests,
-    schemes-stay-when-encoded,
+    schemes-are-unchanged-when-encoded,
     encoding-keeps-optional-authority-meaning,
     encoding-keeps-path-meaning,
     decode_unreserved-encoded_option,

@@ -293,7 +293,7 @@ directory-and-encoding-swap = rooted _
     ∙ sym (ap encode_past_ascii (directory-by-segments s _ f))))
 
 -- IRIs as URIs: removing the dot segments of an absolute path
--- and encoding it may swap, and other paths stay
+-- and encoding it may swap, and other paths are unchanged
 pub dotless_if_absolute-and-encoding-swap : (path : List ℕ) → IsUtf8 path
     → dotless_if_absolute (encode_past_ascii path) ≡ encode_past_ascii (dotless_if_absolute path)
 dotless_if_absolute-and-encoding-swap path u =

@@ -18,7 +18,7 @@ use Rattle.uri_ops.specs.Models.EncodedPlaces.{ArePositionsOrdered, AreAuthority
 use Rattle.uri_ops.specs.Models.Written.{authority_parts_at, positions_by_authority_parts}
 use Rattle.uri_ops.proofs.AsciiForms.EncodedAuthorities.{parts-of-encoded-authority-are-encoded, encoded_authority_parts, encoding-and-recomposing-authority-swap}
 use Rattle.uri_ops.proofs.AsciiForms.EncodedComponents.{components-of-encoded-text-are-encoded, encoded_components, encoding-keeps-delimiters}
-use Rattle.uri_ops.proofs.AsciiForms.EncodedMeanings.{schemes-stay-when-encoded}
+use Rattle.uri_ops.proofs.AsciiForms.EncodedMeanings.{schemes-are-unchanged-when-encoded}
 use Rattle.uri_ops.proofs.AsciiForms.EncodedPaths.{encoding-of-append-is-append, encoding-of-nil-is-nil, encoding-starts-with-ascii-byte}
 use Rattle.uri_ops.proofs.Normal.NormalTexts.{text-has-parts-of-kind}
 use Rattle.uri_ops.proofs.Normal.WrittenPlaces.{positions-with-parts-are-of-components, option_map-adding-zero-is-unchanged, length-with-delimiter-before, length-with-delimiter-after, positions-of-parts-are-of-text, pushed-authority-parts-have-positions, pushed-components-have-positions}
@@ -230,7 +230,7 @@ module _ (kind : Kind) (sets : HasComponentSets kind) (text : List ℕ) (w : IsT
       (encoding-of-append-is-append _ _) (position-encoded-after-prefix _ _ _ _
       text-splits-before-path scheme-and-authority-have-their-length) (position-encoded-after-prefix
       _ _ _ _ text-splits-before-query text-through-path-has-its-length)
-      (ap (option_map length) (sym (schemes-stay-when-encoded _ p.scheme))
+      (ap (option_map length) (sym (schemes-are-unchanged-when-encoded _ p.scheme))
       ∙ sym (option_map-adding-zero-is-unchanged _)) (authority-positions-move-with-encoding _ sets
       _ S _ _ _ text-is-scheme-and-remainder delimited-scheme-has-its-length p.authority)
       (query-end-moves-with-encoding _ _ F _ _ text-splits-before-query

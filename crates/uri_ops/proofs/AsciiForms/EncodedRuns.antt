@@ -40,14 +40,14 @@ encoding-grows-by-octet bytes i h high = ap encode_past_ascii (take-one-more-byt
     ∙ append-nil (octet_text (get_or bytes i 0)))
 
 -- IRIs as URIs: a prefix of bytes below 128 is its own encoding
-pub ascii-run-stays-when-encoded : (bytes : List ℕ) (n : ℕ) → n ≤ length bytes
+pub ascii-run-is-unchanged-when-encoded : (bytes : List ℕ) (n : ℕ) → n ≤ length bytes
     → ((k : ℕ) → k < n → get_or bytes k 0 < 128) → encode_past_ascii (take n bytes) ≡ take n bytes
-ascii-run-stays-when-encoded bytes zero h low = encoding-of-nil-is-nil
-ascii-run-stays-when-encoded bytes (suc n) h low =
+ascii-run-is-unchanged-when-encoded bytes zero h low = encoding-of-nil-is-nil
+ascii-run-is-unchanged-when-encoded bytes (suc n) h low =
     let e : n + 1 ≡ suc n = omega arith in
     subst (λ m. encode_past_ascii (take m bytes) ≡ take m bytes) e
     (ascii-prefix-grows-by-byte bytes n (omega arith) (low n (omega arith))
-    (ascii-run-stays-when-encoded bytes n (omega arith) (λ k l. low k (omega arith))))
+    (ascii-run-is-unchanged-when-encoded bytes n (omega arith) (λ k l. low k (omega arith))))
 
 -- IRIs as URIs: an ASCII byte adds one byte to the encoded text
 pub ascii-byte-adds-one : (bytes : List ℕ) (i : ℕ) → i < length bytes → get_or bytes i 0 < 128

@@ -94,12 +94,12 @@ no_pieces_after_all_bytes : (k : ℕ) (bytes : List ℕ) → length bytes ≤ k
 no_pieces_after_all_bytes k bytes all = pieces_from_are_pieces_after_skipped_bytes k bytes
     ∙ ap utf8_pieces (drop_all k bytes all) ∙ no_bytes_have_no_pieces 0
 
--- unreserved octets: a piece that is not the bytes of a decodable character stays octets
-undecodable_piece_stays_octets : (set : TableSet) (p : Piece) (bytes : List ℕ)
+-- unreserved octets: a piece that is not the bytes of a decodable character is unchanged
+undecodable_piece_is_unchanged : (set : TableSet) (p : Piece) (bytes : List ℕ)
     → piece_bytes p ≡ bytes → IsOfCharacter p → EndInNoDecodable set bytes
     → decode_piece set p ≡ map Octet bytes
-undecodable_piece_stays_octets set (IllFormed own) bytes e of none = ap (map Octet) e
-undecodable_piece_stays_octets set (WellFormed own) bytes e of none = ⊎_elim
+undecodable_piece_is_unchanged set (IllFormed own) bytes e of none = ap (map Octet) e
+undecodable_piece_is_unchanged set (WellFormed own) bytes e of none = ⊎_elim
     (λ t. absurd (none [] (char_of own) of.0 t (sym e ∙ sym of.1)))
     (λ f. cond-false _ _ _ f ∙ ap (map Octet) e)
     (cases_Bool (is_decodable set (char_of own)))
@@ -114,13 +114,13 @@ rest_ends_in_no_decodable set x bytes none before c scalar decodable e =
 abbrev decoded_from : TableSet → ℕ → List ℕ → List Token
 decoded_from set k bytes = flat_map (decode_piece set) (pieces_from k bytes)
 
--- unreserved octets: the bytes that one more byte lengthens to a piece stay octets
-lengthened_piece_stays_octets : (set : TableSet) (x : ℕ) (xs : List ℕ) (v : ℕ)
+-- unreserved octets: the octets that one more lengthens to a piece are unchanged
+lengthened_piece_is_unchanged : (set : TableSet) (x : ℕ) (xs : List ℕ) (v : ℕ)
     → LengthensFirstPiece (following_ranges x) x xs v
     → EndInNoDecodable set (x ∷ xs ++ v ∷ [])
     → decoded_from set 0 (x ∷ xs ++ v ∷ []) ≡ decoded_from set 0 (x ∷ xs) ++ Octet v ∷ []
 unfolding pieces_from
-lengthened_piece_stays_octets set x xs v h none =
+lengthened_piece_is_unchanged set x xs v h none =
     let row = following_ranges x in
     let long : length (xs ++ v ∷ []) ≡ suc (length xs) =
     length-append xs (v ∷ []) ∙ omega arith in
@@ -130,7 +130,7 @@ lengthened_piece_stays_octets set x xs v h none =
     ap (λ t. decode_piece set (first_piece row x (xs ++ v ∷ [])) ++ flat_map (decode_piece set) t)
     (no_pieces_after_all_bytes _ (xs ++ v ∷ []) (omega arith))
     ∙ append-nil _
-    ∙ undecodable_piece_stays_octets set (first_piece row x (xs ++ v ∷ [])) (x ∷ xs ++ v ∷ [])
+    ∙ undecodable_piece_is_unchanged set (first_piece row x (xs ++ v ∷ [])) (x ∷ xs ++ v ∷ [])
     whole (first_piece_is_of_character x (xs ++ v ∷ []) _ refl) none
     ∙ ap (λ t. Octet x ∷ t) (map-append Octet xs (v ∷ []))
     ∙ ap (λ t. t ++ Octet v ∷ []) (sym (append-nil (map Octet (x ∷ xs)))
@@ -139,26 +139,27 @@ lengthened_piece_stays_octets set x xs v h none =
     ∙ ap (λ p. decode_piece set p ++ flat_map (decode_piece set)
     (pieces_from (first_piece_tail_len row xs) xs)) (sym h.2))
 
--- unreserved octets: after the first k bytes, the last byte of a run stays an octet, if no
+-- unreserved octets: after the first k bytes, the last octet of a run is unchanged, if no
 -- decodable character ends there
-last_byte_stays_octet_from : (set : TableSet) (k : ℕ) (run : List ℕ) (v : ℕ) → k ≤ length run
+last_octet_of_run_is_unchanged_from : (set : TableSet) (k : ℕ) (run : List ℕ) (v : ℕ)
+    → k ≤ length run
     → EndInNoDecodable set (run ++ v ∷ [])
     → decoded_from set k (run ++ v ∷ []) ≡ decoded_from set k run ++ Octet v ∷ []
 unfolding pieces_from
-last_byte_stays_octet_from set (suc k) [] v small none = absurd (omega arith)
-last_byte_stays_octet_from set (suc k) (x ∷ xs) v small none =
-    last_byte_stays_octet_from set k xs v (omega arith)
+last_octet_of_run_is_unchanged_from set (suc k) [] v small none = absurd (omega arith)
+last_octet_of_run_is_unchanged_from set (suc k) (x ∷ xs) v small none =
+    last_octet_of_run_is_unchanged_from set k xs v (omega arith)
     (rest_ends_in_no_decodable set x (xs ++ v ∷ []) none)
-last_byte_stays_octet_from set zero [] v small none =
+last_octet_of_run_is_unchanged_from set zero [] v small none =
     let row = following_ranges v in
     let one : piece_bytes (first_piece row v []) ≡ v ∷ [] =
     first_piece_has_first_bytes row v [] ∙ ap (λ t. v ∷ t) (take_all _ [] (omega arith)) in
     ap (λ t. decode_piece set (first_piece row v []) ++ flat_map (decode_piece set) t)
     (no_bytes_have_no_pieces (first_piece_tail_len row []))
     ∙ append-nil _
-    ∙ undecodable_piece_stays_octets set (first_piece row v []) (v ∷ []) one
+    ∙ undecodable_piece_is_unchanged set (first_piece row v []) (v ∷ []) one
     (first_piece_is_of_character v [] _ refl) none
-last_byte_stays_octet_from set zero (x ∷ xs) v small none =
+last_octet_of_run_is_unchanged_from set zero (x ∷ xs) v small none =
     let row = following_ranges x in
     ⊎_elim
     (λ keeps.
@@ -167,21 +168,21 @@ last_byte_stays_octet_from set zero (x ∷ xs) v small none =
     ∙ ap (λ n. decode_piece set (first_piece row x xs) ++ decoded_from set n (xs ++ v ∷ []))
     keeps.0
     ∙ ap (λ t. decode_piece set (first_piece row x xs) ++ t)
-    (last_byte_stays_octet_from set (first_piece_tail_len row xs) xs v
+    (last_octet_of_run_is_unchanged_from set (first_piece_tail_len row xs) xs v
     (first_piece_tail_is_within_rest row xs)
     (rest_ends_in_no_decodable set x (xs ++ v ∷ []) none))
     ∙ sym (append_assoc (decode_piece set (first_piece row x xs))
     (decoded_from set (first_piece_tail_len row xs) xs) (Octet v ∷ [])))
-    (λ lengthens. lengthened_piece_stays_octets set x xs v lengthens none)
+    (λ lengthens. lengthened_piece_is_unchanged set x xs v lengthens none)
     (one_more_byte_keeps_or_lengthens row x xs v)
 
--- unreserved octets: the last byte of a run stays an octet, if no decodable character ends there
-last_byte_of_run_stays_octet : (set : TableSet) (run : List ℕ) (v : ℕ)
+-- unreserved octets: the last octet of a run is unchanged, if no decodable character ends there
+last_octet_of_run_is_unchanged : (set : TableSet) (run : List ℕ) (v : ℕ)
     → EndInNoDecodable set (run ++ v ∷ [])
     → decode_run set (run ++ v ∷ []) ≡ decode_run set run ++ Octet v ∷ []
 unfolding decode_run
-last_byte_of_run_stays_octet set run v none =
-    last_byte_stays_octet_from set 0 run v (omega arith) none
+last_octet_of_run_is_unchanged set run v none =
+    last_octet_of_run_is_unchanged_from set 0 run v (omega arith) none
 
 -- unreserved octets: a run of octets ends in no decodable character if its tokens do not
 run_ends_in_no_decodable : (set : TableSet) (run : List ℕ) (v : ℕ)
@@ -192,21 +193,21 @@ run_ends_in_no_decodable set run v none before c scalar decodable e =
     (sym (map-append Octet run (v ∷ [])) ∙ ap (map Octet) e
     ∙ map-append Octet before (encode_utf8 c))
 
--- unreserved octets: after a run, the last octet stays, if no decodable character ends there
-last_octet_stays_after_run : (set : TableSet) (run : List ℕ) (ts : List Token) (v : ℕ)
+-- unreserved octets: after a run, the last octet is unchanged, if no decodable character ends there
+last_octet_is_unchanged_after_run : (set : TableSet) (run : List ℕ) (ts : List Token) (v : ℕ)
     → TokensEndInNoDecodable set (map Octet run ++ (ts ++ Octet v ∷ []))
     → decode_after_run set run (ts ++ Octet v ∷ []) ≡ decode_after_run set run ts ++ Octet v ∷ []
 unfolding decode_after_run
-last_octet_stays_after_run set run [] v none =
-    last_byte_of_run_stays_octet set run v (run_ends_in_no_decodable set run v none)
-last_octet_stays_after_run set run (Octet u ∷ ts) v none =
-    last_octet_stays_after_run set (run ++ u ∷ []) ts v
+last_octet_is_unchanged_after_run set run [] v none =
+    last_octet_of_run_is_unchanged set run v (run_ends_in_no_decodable set run v none)
+last_octet_is_unchanged_after_run set run (Octet u ∷ ts) v none =
+    last_octet_is_unchanged_after_run set (run ++ u ∷ []) ts v
     (λ before c scalar decodable e. none before c scalar decodable
     (sym (ap (λ t. t ++ (ts ++ Octet v ∷ [])) (map-append Octet run (u ∷ []))
     ∙ append_assoc (map Octet run) (Octet u ∷ []) (ts ++ Octet v ∷ [])) ∙ e))
-last_octet_stays_after_run set run (Char d ∷ ts) v none =
+last_octet_is_unchanged_after_run set run (Char d ∷ ts) v none =
     ap (λ x. decode_run set run ++ Char d ∷ x)
-    (last_octet_stays_after_run set [] ts v
+    (last_octet_is_unchanged_after_run set [] ts v
     (λ before c scalar decodable e. none (map Octet run ++ Char d ∷ before) c scalar decodable
     (ap (λ t. map Octet run ++ Char d ∷ t) e
     ∙ sym (append_assoc (map Octet run) (Char d ∷ before) (map Octet (encode_utf8 c))))))
@@ -216,25 +217,26 @@ last_octet_stays_after_run set run (Char d ∷ ts) v none =
 abbrev pub decoded : TableSet → List Token → List Token
 decoded set ts = encode_formatting set (decode_tokens set ts)
 
--- unreserved octets: the last octet stays, if no decodable character ends there
-pub last_octet_stays : (set : TableSet) (ts : List Token) (v : ℕ)
+-- unreserved octets: the last octet is unchanged, if no decodable character ends there
+pub last_octet_is_unchanged : (set : TableSet) (ts : List Token) (v : ℕ)
     → TokensEndInNoDecodable set (ts ++ Octet v ∷ [])
     → decoded set (ts ++ Octet v ∷ []) ≡ decoded set ts ++ Octet v ∷ []
-last_octet_stays set ts v none =
-    ap (encode_formatting set) (last_octet_stays_after_run set [] ts v none)
+last_octet_is_unchanged set ts v none =
+    ap (encode_formatting set) (last_octet_is_unchanged_after_run set [] ts v none)
     ∙ flat_map-append (formatting_as_octets set) (decode_tokens set ts) (Octet v ∷ [])
 
--- unreserved octets: a last character stays, as octets if it is a formatting character
-pub last_character_stays : (set : TableSet) (ts : List Token) (c : ℕ)
+-- unreserved octets: a last character is decoded alone: it becomes octets if it is a formatting
+-- character
+pub last_character_is_decoded_alone : (set : TableSet) (ts : List Token) (c : ℕ)
     → decoded set (ts ++ Char c ∷ []) ≡ decoded set ts ++ formatting_as_octets set (Char c)
 unfolding decode_after_run decode_run pieces_from
-last_character_stays set ts c =
+last_character_is_decoded_alone set ts c =
     ap (encode_formatting set) (char_separates_decoded_tokens set ts c [])
     ∙ flat_map-append (formatting_as_octets set) (decode_tokens set ts) (Char c ∷ [])
     ∙ ap (λ t. decoded set ts ++ t) (append-nil (formatting_as_octets set (Char c)))
 
--- unreserved octets: the last octets that are a decodable character become it, or stay octets if it
--- is a formatting character
+-- unreserved octets: the last octets that are a decodable character become it, or are unchanged if
+-- it -- is a formatting character
 pub last_decodable_is_decoded : (set : TableSet) (ts : List Token) (c : ℕ) → IsScalar c
     → is_decodable set c ≡ true
     → decoded set (ts ++ map Octet (encode_utf8 c))
@@ -243,4 +245,4 @@ last_decodable_is_decoded set ts c scalar decodable =
     ap (λ t. decoded set (ts ++ t)) (sym (append-nil (map Octet (encode_utf8 c))))
     ∙ ap (encode_formatting set)
     (decodable_char_octets_decode_as_char set ts c [] scalar decodable)
-    ∙ last_character_stays set ts c
+    ∙ last_character_is_decoded_alone set ts c

@@ -14,12 +14,12 @@ use Rattle.uri_pct.specs.DecodeUnreserved.{is_bidi_formatting, is_never_literal,
 use Rattle.uri_pct.specs.Pieces.{pieces_from}
 use Rattle.uri_pct.proofs.UnreservedDecoding.Formatting.{ascii_char_separates_encode_formatting}
 use Rattle.uri_pct.proofs.ValidTexts.Allowed.{decodable_char_is_printable}
-use Rattle.uri_ops.proofs.Meanings.Cased.{octets-stay-when-lowered}
+use Rattle.uri_ops.proofs.Meanings.Cased.{octets-are-unchanged-when-lowered}
 use Rattle.uri_ops.proofs.Meanings.WrittenFormatting.{set_allows_formatting_by_ucschar}
 use Rattle.uri_ops.specs.Models.Decodings.{lowered_if, lowered_code_if, cased_append}
 use Rattle.uri_ops.specs.FromEnd.LastTokens.{EndsIn, EndsInDecodable, TokensEndInNoDecodable}
 use Rattle.uri_ops.specs.FromEnd.NormalComponents.{normal_component}
-use Rattle.uri_ops.proofs.FromEnd.LastOctets.{decoded, last_octet_stays, last_character_stays, last_decodable_is_decoded}
+use Rattle.uri_ops.proofs.FromEnd.LastOctets.{decoded, last_octet_is_unchanged, last_character_is_decoded_alone, last_decodable_is_decoded}
 use Rattle.uri_ops.proofs.FromEnd.LastTokens.{empty_text_has_no_tokens}
 use Rattle.uri_ops.proofs.FromEnd.LastDecodables.{char_has_one_to_four_bytes}
 
@@ -41,7 +41,7 @@ pub never_literal_char_is_written_as_octets : (set : TableSet) (lowers : Bool) (
     ≡ print (map Octet (encode_utf8 c))
 never_literal_char_is_written_as_octets set lowers c e =
     ap (λ ts. print (lowered_if lowers ts)) (cond-true _ _ _ e)
-    ∙ ap print (octets-stay-when-lowered lowers (encode_utf8 c))
+    ∙ ap print (octets-are-unchanged-when-lowered lowers (encode_utf8 c))
 
 -- normal texts: any other character is written in lower case
 lowered_char_is_written : (set : TableSet) (c : ℕ) → is_never_literal set c ≡ false
@@ -111,7 +111,7 @@ pub last_char_is_written_last : (set : TableSet) (lowers : Bool) (text before : 
     ++ print (lowered_if lowers (formatting_as_octets set (Char c)))
 last_char_is_written_last set lowers text before c ends =
     last_tokens_are_written_last set lowers text before (Char c ∷ []) _ ends
-    (last_character_stays set (tokens before) c)
+    (last_character_is_decoded_alone set (tokens before) c)
 
 -- normal texts: a decodable character whose octets are last is written last
 pub last_decodable_is_written_last : (set : TableSet) (lowers : Bool) (text before : List ℕ) (c : ℕ)
@@ -133,7 +133,7 @@ pub last_octet_is_written_last : (set : TableSet) (lowers : Bool) (text before :
     ≡ normal_component lowers set before ++ text_of_token (Octet value)
 last_octet_is_written_last set lowers text before value ends none =
     last_tokens_are_written_last set lowers text before (Octet value ∷ []) _ ends
-    (last_octet_stays set (tokens before) value
+    (last_octet_is_unchanged set (tokens before) value
     (λ front c scalar decodable e. none front c scalar decodable (ends.tokens ∙ e)))
     ∙ ap (λ t. normal_component lowers set before ++ t) (octet_is_written lowers value)
 

@@ -20,14 +20,14 @@ use Rattle.uri_ops.proofs.Meanings.UnreservedCodes.{unreserved-octet-prints-its-
 
 -- ASCII suffixes: a text begins with the old one, and what is after it is ASCII
 pub record AppendsAscii (old new : List ℕ) : Type 0 where
-  pub kept : take (length old) new ≡ old
+  pub unchanged : take (length old) new ≡ old
   pub ascii : IsAscii (drop (length old) new)
 
 -- ASCII suffixes: a text is the old one and its suffix
 text-is-old-and-suffix : (old new : List ℕ) → AppendsAscii old new
     → new ≡ old ++ drop (length old) new
 text-is-old-and-suffix old new a = sym (take-append-drop (length old) new)
-    ∙ ap (λ x. x ++ drop (length old) new) a.kept
+    ∙ ap (λ x. x ++ drop (length old) new) a.unchanged
 
 -- ASCII suffixes: a text itself has an empty suffix
 pub no-suffix-is-ascii : (old : List ℕ) → AppendsAscii old old
@@ -41,7 +41,7 @@ longer-suffix-is-ascii old out new more a pushed ascii =
     let joined : new ≡ old ++ (suffix ++ more) = pushed
     ∙ ap (λ x. x ++ more) (text-is-old-and-suffix old out a) ∙ append_assoc old suffix more in
     record {
-      kept = ap (take (length old)) joined ∙ take-append_seam old (suffix ++ more);
+      unchanged = ap (take (length old)) joined ∙ take-append_seam old (suffix ++ more);
       ascii = subst IsAscii
           (sym (ap (drop (length old)) joined ∙ drop-append_seam old (suffix ++ more)))
           (IsAscii-append suffix more a.ascii ascii);

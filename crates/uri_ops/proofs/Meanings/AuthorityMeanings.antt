@@ -143,21 +143,22 @@ port_meaning-keeps-property default (Some digits) P h = kept
     kept true = tt
     kept false = h
 
--- meanings of ports: a port that is kept is its own meaning without a default; t: whether it is
--- left out
-kept-port-is-its-bare-meaning : (default : Option ℕ) (digits : List ℕ) (t : Bool)
+-- meanings of ports: an unchanged port is its own meaning without a default; t: whether it is left
+-- out
+unchanged-port-is-its-bare-meaning : (default : Option ℕ) (digits : List ℕ) (t : Bool)
     → (is_empty digits || is_default default digits) ≡ t
     → port_meaning None (cond t None (Some digits)) ≡ cond t None (Some digits)
-kept-port-is-its-bare-meaning default digits true e = refl
-kept-port-is-its-bare-meaning default [] false e = cc
-kept-port-is-its-bare-meaning default (d ∷ digits) false e = refl
+unchanged-port-is-its-bare-meaning default digits true e = refl
+unchanged-port-is-its-bare-meaning default [] false e = cc
+unchanged-port-is-its-bare-meaning default (d ∷ digits) false e = refl
 
 -- meanings of ports: the meaning of a port under a default is its own meaning without one
 port_meaning-is-its-own-bare-meaning : (default : Option ℕ) (port : Option (List ℕ))
     → port_meaning None (port_meaning default port) ≡ port_meaning default port
 port_meaning-is-its-own-bare-meaning default None = refl
 port_meaning-is-its-own-bare-meaning default (Some digits) =
-    kept-port-is-its-bare-meaning default digits (is_empty digits || is_default default digits) refl
+    unchanged-port-is-its-bare-meaning default digits
+    (is_empty digits || is_default default digits) refl
 
 module _ (kind : Kind) (sets : HasComponentSets kind) (default : Option ℕ) (a : List ℕ)
     (u : IsUtf8 a) (e : is_authority kind a ≡ true) where

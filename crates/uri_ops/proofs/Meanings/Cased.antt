@@ -35,12 +35,13 @@ print-of-characters-is-text text u = print-of-characters-is-their-utf8 (chars te
     ∙ encodes-chars text u
 
 -- meanings in lower case: bytes past ASCII have no letters to lower
-pub bytes-past-ascii-stay-when-lowered : (bytes : List ℕ) → ArePastAscii bytes
+pub bytes-past-ascii-are-unchanged-when-lowered : (bytes : List ℕ) → ArePastAscii bytes
     → str_to_ascii_lowercase bytes ≡ bytes
-bytes-past-ascii-stay-when-lowered [] past = refl
-bytes-past-ascii-stay-when-lowered (b ∷ bytes) past = ap (λ x. x ∷ str_to_ascii_lowercase bytes)
+bytes-past-ascii-are-unchanged-when-lowered [] past = refl
+bytes-past-ascii-are-unchanged-when-lowered (b ∷ bytes) past =
+    ap (λ x. x ∷ str_to_ascii_lowercase bytes)
     (lowercase_keeps_char_past_ascii b (All-head (λ x. 128 ≤ x) b bytes past)) ∙ ap (λ x. b ∷ x)
-    (bytes-past-ascii-stay-when-lowered bytes (All-tail (λ x. 128 ≤ x) b bytes past))
+    (bytes-past-ascii-are-unchanged-when-lowered bytes (All-tail (λ x. 128 ≤ x) b bytes past))
 
 -- meanings in lower case: bytes without ASCII are past ASCII
 bytes-without-ascii-are-past-ascii : (bytes : List ℕ) → list_all is_no_ascii_byte bytes ≡ true
@@ -51,16 +52,17 @@ bytes-without-ascii-are-past-ascii (b ∷ bytes) e =
     All-cons (λ x. 128 ≤ x) b bytes (leb-true 128 b p.0)
     (bytes-without-ascii-are-past-ascii bytes p.1)
 
--- meanings in lower case: a character past ASCII stays in lower case
-character-past-ascii-stays-when-lowered : (c : ℕ) → 128 ≤ c → map to_ascii_lowercase (encode_utf8 c)
+-- meanings in lower case: a character past ASCII is unchanged in lower case
+character-past-ascii-is-unchanged-when-lowered : (c : ℕ) → 128 ≤ c
+    → map to_ascii_lowercase (encode_utf8 c)
     ≡ encode_utf8 c
-character-past-ascii-stays-when-lowered c h =
+character-past-ascii-is-unchanged-when-lowered c h =
     let w = char_has_encoding c in
     let first : 128 ≤ w.first = subst (λ x. 128 ≤ slice_index x 0)
     (append-nil (encode_utf8 c) ∙ w.joined) (char_past_ascii_begins_past_ascii c [] h) in
     ap (map to_ascii_lowercase) w.joined
     ∙ ap (λ x. x ∷ map to_ascii_lowercase w.more) (lowercase_keeps_char_past_ascii w.first first)
-    ∙ ap (λ x. w.first ∷ x) (bytes-past-ascii-stay-when-lowered w.more
+    ∙ ap (λ x. w.first ∷ x) (bytes-past-ascii-are-unchanged-when-lowered w.more
     (bytes-without-ascii-are-past-ascii w.more w.high))
     ∙ sym w.joined
 
@@ -71,7 +73,7 @@ lowering-and-utf8-swap-for-character c = ⊎_elim
     (λ h. encode_ascii (to_ascii_lowercase c) (lowercase_ascii c h)
     ∙ sym (ap (map to_ascii_lowercase) (encode_ascii c h)))
     (λ h. ap encode_utf8 (lowercase_keeps_char_past_ascii c h)
-    ∙ sym (character-past-ascii-stays-when-lowered c h)) (cases_lt c 128)
+    ∙ sym (character-past-ascii-is-unchanged-when-lowered c h)) (cases_lt c 128)
 
 -- meanings in lower case: lowering characters and writing them in UTF-8 may swap
 lowering-and-utf8-swap : (cs : List ℕ)
@@ -140,9 +142,10 @@ lowered-text-is-utf8 text u = (
 abbrev pub AllowsDecodable : TableSet → TableSet → Type 0
 AllowsDecodable decodable set = (c : ℕ) → allows decodable c ≡ is_decodable set c
 
--- meanings in lower case: a character that is not unreserved stays in lower case
-not-unreserved-stays-when-lowered : (c : ℕ) → is_unreserved c ≡ false → to_ascii_lowercase c ≡ c
-not-unreserved-stays-when-lowered c e = grind (arith, nat_tests)
+-- meanings in lower case: a character that is not unreserved is unchanged in lower case
+not-unreserved-is-unchanged-when-lowered : (c : ℕ) → is_unreserved c ≡ false
+    → to_ascii_lowercase c ≡ c
+not-unreserved-is-unchanged-when-lowered c e = grind (arith, nat_tests)
 
 -- meanings in lower case: an unreserved character is one in lower case
 lowered-unreserved-is-unreserved : (c : ℕ) → is_unreserved c ≡ true
@@ -151,10 +154,10 @@ lowered-unreserved-is-unreserved c e = grind (arith, nat_tests)
 
 -- meanings in lower case: percent-encoded octets have no letters to lower; lowers: whether letters
 -- are lowered
-pub octets-stay-when-lowered : (lowers : Bool) (bytes : List ℕ)
+pub octets-are-unchanged-when-lowered : (lowers : Bool) (bytes : List ℕ)
     → lowered_if lowers (map Octet bytes) ≡ map Octet bytes
-octets-stay-when-lowered true bytes = lowering_keeps_octets bytes
-octets-stay-when-lowered false bytes = refl
+octets-are-unchanged-when-lowered true bytes = lowering_keeps_octets bytes
+octets-are-unchanged-when-lowered false bytes = refl
 
 module _ (decodable set : TableSet) (same : AllowsDecodable decodable set) where
   decode_piece-is-encode_piece : (p : Piece) → IsOfCharacter p → decode_piece set p
@@ -182,11 +185,17 @@ module _ (decodable set : TableSet) (same : AllowsDecodable decodable set) where
       → is_decodable set (to_ascii_lowercase c) ≡ true
   unfolding is_decodable
   lowered-decodable-is-decodable c e =
-      grind (arith, nat_tests, lowered-unreserved-is-unreserved, not-unreserved-stays-when-lowered)
+      grind (
+        arith,
+        nat_tests,
+        lowered-unreserved-is-unreserved,
+        not-unreserved-is-unchanged-when-lowered,
+      )
 
-  undecodable-stays-when-lowered : (c : ℕ) → is_decodable set c ≡ false → to_ascii_lowercase c ≡ c
+  undecodable-is-unchanged-when-lowered : (c : ℕ) → is_decodable set c ≡ false
+      → to_ascii_lowercase c ≡ c
   unfolding is_decodable
-  undecodable-stays-when-lowered c e = not-unreserved-stays-when-lowered c
+  undecodable-is-unchanged-when-lowered c e = not-unreserved-is-unchanged-when-lowered c
       (or_parts (is_unreserved c) (allows_past_ascii set c) e).0
 
   encode_char-and-lowering-swap : (c : ℕ)
@@ -194,7 +203,7 @@ module _ (decodable set : TableSet) (same : AllowsDecodable decodable set) where
   encode_char-and-lowering-swap c = ⊎_elim
       (λ e. cond-true _ _ _ (same (to_ascii_lowercase c) ∙ lowered-decodable-is-decodable c e)
       ∙ sym (ap (map lower_token) (cond-true _ _ _ (same c ∙ e))))
-      (λ e. ap (encode_char decodable) (undecodable-stays-when-lowered c e)
+      (λ e. ap (encode_char decodable) (undecodable-is-unchanged-when-lowered c e)
       ∙ cond-false _ _ _ (same c ∙ e) ∙ sym (lowering_keeps_octets _)
       ∙ sym (ap (map lower_token) (cond-false _ _ _ (same c ∙ e)))) (cases_Bool _)
 

@@ -60,7 +60,7 @@ unfolding is_decodable
 ascii-is-decodable-if-unreserved set b low =
     grind (arith, nat_tests, false_from_ne_true, allowed_past_ascii_is_scalar, or-false)
 
--- meanings, decoded: an octet is decoded to its character if it is unreserved, else kept
+-- meanings, decoded: an octet is decoded to its character if it is unreserved, else unchanged
 decode_octet-is-character-if-unreserved : (b : ℕ)
     → cond (is_unreserved b) (Char b ∷ []) (Octet b ∷ []) ≡ decode_octet (Octet b) ∷ []
 decode_octet-is-character-if-unreserved b = ⊎_elim (λ e. rw e refl) (λ e. rw e refl)
@@ -167,15 +167,17 @@ pub uppercase-octet-prints-itself : (high low : ℕ) → is_ascii_hexdigit high 
 uppercase-octet-prints-itself high low h l hu lu =
     grind (arith, nat_tests, uppercase-digit-is-its-glyph)
 
--- meanings, decoded: an octet of a reserved character with digits in upper case is kept as it is;
+-- meanings, decoded: an octet of a reserved character with digits in upper case is unchanged;
 -- alone: the set lacks characters past ASCII
-pub uppercase-reserved-octet-stays : {text : List ℕ} {i high low : ℕ} → IsOctetAt text i high low
+pub uppercase-reserved-octet-is-unchanged : {text : List ℕ} {i high low : ℕ}
+    → IsOctetAt text i high low
     → (set : TableSet) (alone : Bool) → (ltb high 97 && ltb low 97) ≡ true
     → is_unreserved (16 * digit_value high + digit_value low) ≡ false
     → (alone ≡ true → LacksPastAscii set)
     → (alone || ltb (16 * digit_value high + digit_value low) 128) ≡ true
     → KeepsPrefixWhenDecoded false set (drop i text) 3
-uppercase-reserved-octet-stays {text} {i} {high} {low} at set alone upper reserved none itself =
+uppercase-reserved-octet-is-unchanged {text} {i} {high} {low} at set alone upper reserved none
+    itself =
     let p = and_parts (ltb high 97) (ltb low 97) upper in
     let suffix = drop (i + 3) text in
     first-octet-token-is-decoded-alone false set (drop i text) suffix _ alone at.token none itself

@@ -74,16 +74,16 @@ lowering-of-append-is-append true xs ys = map-append to_ascii_lowercase xs ys
 lowering-of-append-is-append false xs ys = refl
 
 -- meanings, decoded: of a text, the empty prefix is copied
-pub empty-prefix-stays : (lowers : Bool) (set : TableSet) (text : List ℕ)
+pub empty-prefix-is-unchanged : (lowers : Bool) (set : TableSet) (text : List ℕ)
     → KeepsPrefixWhenDecoded lowers set text 0
-empty-prefix-stays true set text = refl
-empty-prefix-stays false set text = refl
+empty-prefix-is-unchanged true set text = refl
+empty-prefix-is-unchanged false set text = refl
 
 -- meanings, decoded: two prefixes that are copied, one after the other, are one
-kept-prefixes-join : (lowers : Bool) (set : TableSet) (text : List ℕ) (n m : ℕ)
+unchanged-prefixes-join : (lowers : Bool) (set : TableSet) (text : List ℕ) (n m : ℕ)
     → KeepsPrefixWhenDecoded lowers set text n → KeepsPrefixWhenDecoded lowers set (drop n text) m
     → KeepsPrefixWhenDecoded lowers set text (n + m)
-kept-prefixes-join lowers set text n m first next = grind (
+unchanged-prefixes-join lowers set text n m first next = grind (
   arith,
   nat_tests,
   append_assoc,
@@ -100,26 +100,27 @@ suffix-of-suffix-by-positions text done end order = drop-drop (end - done) done 
 
 -- meanings, decoded: after one prefix that is copied, the next one is; done, end: where the first
 -- begins and ends, m: the length of the next
-pub kept-prefix-grows : (lowers : Bool) (set : TableSet) (text : List ℕ) (done end m : ℕ)
+pub unchanged-prefix-grows : (lowers : Bool) (set : TableSet) (text : List ℕ) (done end m : ℕ)
     → done ≤ end
     → KeepsPrefixWhenDecoded lowers set (drop done text) (end - done)
     → KeepsPrefixWhenDecoded lowers set (drop end text) m
     → KeepsPrefixWhenDecoded lowers set (drop done text) (end + m - done)
-kept-prefix-grows lowers set text done end m order first next =
+unchanged-prefix-grows lowers set text done end m order first next =
     let count : end - done + m ≡ end + m - done = omega arith in
-    subst (KeepsPrefixWhenDecoded lowers set (drop done text)) count (kept-prefixes-join lowers set
+    subst (KeepsPrefixWhenDecoded lowers set (drop done text)) count
+    (unchanged-prefixes-join lowers set
     (drop done text) (end - done) m first (subst (λ x. KeepsPrefixWhenDecoded lowers set x m)
     (sym (suffix-of-suffix-by-positions text done end order)) next))
 
 -- meanings, decoded: after a prefix that is copied (from done to end), what is appended and the
 -- rest, decoded, still make the whole
-pub kept-prefix-is-pushed : (lowers : Bool) (set : TableSet) (text out new whole : List ℕ)
+pub unchanged-prefix-is-pushed : (lowers : Bool) (set : TableSet) (text out new whole : List ℕ)
     (done end : ℕ)
     → done ≤ end → KeepsPrefixWhenDecoded lowers set (drop done text) (end - done)
     → new ≡ out ++ lowered_text_if lowers (take (end - done) (drop done text))
     → out ++ decoded_text lowers set (drop done text) ≡ whole
     → new ++ decoded_text lowers set (drop end text) ≡ whole
-kept-prefix-is-pushed lowers set text out new whole done end order prefix pushed total =
+unchanged-prefix-is-pushed lowers set text out new whole done end order prefix pushed total =
     grind (arith, nat_tests, suffix-of-suffix-by-positions, append_assoc)
 
 -- general fact on valid texts, for decoding meanings: what is valid after n and then m bytes is
@@ -208,10 +209,12 @@ decoded-empty-text-is-empty true set = ap (λ ts. print (map lower_token ts))
 decoded-empty-text-is-empty false set = ap print (decode_run-of-nil-is-nil set)
 
 -- meanings, decoded: a prefix of n bytes that is copied is one from 0 on
-pub kept-prefix-is-kept-from-zero : (lowers : Bool) (set : TableSet) (text : List ℕ) (n : ℕ)
+pub unchanged-prefix-is-unchanged-from-zero : (lowers : Bool) (set : TableSet) (text : List ℕ)
+    (n : ℕ)
     → KeepsPrefixWhenDecoded lowers set text n
     → KeepsPrefixWhenDecoded lowers set (drop 0 text) (n - 0)
-kept-prefix-is-kept-from-zero lowers set text n = subst (KeepsPrefixWhenDecoded lowers set text)
+unchanged-prefix-is-unchanged-from-zero lowers set text n =
+    subst (KeepsPrefixWhenDecoded lowers set text)
     (omega arith)
 
 -- meanings, decoded: the last prefix that is copied completes what is appended; done, end: where it
@@ -229,7 +232,7 @@ last-prefix-is-pushed lowers set text out new whole done end order over prefix p
     let none : drop end text ≡ [] = drop_all end text over in
     sym (append-nil new) ∙ ap (λ x. new ++ x) (sym (decoded-empty-text-is-empty lowers set))
     ∙ ap (λ x. new ++ decoded_text lowers set x) (sym none)
-    ∙ kept-prefix-is-pushed lowers set text out new whole done end order prefix
+    ∙ unchanged-prefix-is-pushed lowers set text out new whole done end order prefix
     (pushed ∙ ap (λ x. out ++ lowered_text_if lowers x) (sym all)) total
 
 -- meanings, decoded: if the first byte of a text is not `%` (37), the prefix of one byte has none
@@ -281,7 +284,7 @@ character_step lowers set bytes text out new whole i same u b v inside small oth
     record {
       boundary = IsCharBoundary-after_ascii text i u below small_text;
       valid = suffix-of-suffix-is-valid text i 1 p.valid;
-      total = kept-prefix-is-pushed lowers set text out new whole i (i + 1) (omega arith)
+      total = unchanged-prefix-is-pushed lowers set text out new whole i (i + 1) (omega arith)
           (subst (KeepsPrefixWhenDecoded lowers set rest) one (p.prefix lowers set))
           (pushed ∙ ap (λ x. out ++ lowered_text_if lowers x) (sym taken)) total;
     }

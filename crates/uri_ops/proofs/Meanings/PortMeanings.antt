@@ -34,20 +34,21 @@ pub bare-authority-meaning-with_default : (kind : Kind) (default : Option ℕ) (
 bare-authority-meaning-with_default kind default authority =
     grind (arith, nat_tests, port_meaning-of-bare-port_meaning)
 
--- meanings of ports: a port that is kept is its own meaning under the default; t: whether it is
--- left out
-kept-port-is-its-port_meaning : (default : Option ℕ) (digits : List ℕ) (t : Bool)
+-- meanings of ports: an unchanged port is its own meaning under the default; t: whether it is left
+-- out
+unchanged-port-is-its-port_meaning : (default : Option ℕ) (digits : List ℕ) (t : Bool)
     → (is_empty digits || is_default default digits) ≡ t
     → port_meaning default (cond t None (Some digits)) ≡ cond t None (Some digits)
-kept-port-is-its-port_meaning default digits true e = refl
-kept-port-is-its-port_meaning default digits false e = cond-false _ _ _ e
+unchanged-port-is-its-port_meaning default digits true e = refl
+unchanged-port-is-its-port_meaning default digits false e = cond-false _ _ _ e
 
 -- meanings of ports: leaving a default port out twice is leaving it out once
 port_meaning-is-idempotent : (default : Option ℕ) (port : Option (List ℕ))
     → port_meaning default (port_meaning default port) ≡ port_meaning default port
 port_meaning-is-idempotent default None = refl
 port_meaning-is-idempotent default (Some digits) =
-    kept-port-is-its-port_meaning default digits (is_empty digits || is_default default digits) refl
+    unchanged-port-is-its-port_meaning default digits
+    (is_empty digits || is_default default digits) refl
 
 -- meanings of ports: twice without a default port, an authority's meaning is as once without it
 with_default-is-idempotent : (default : Option ℕ) (a : AuthorityMeaning)

@@ -13,7 +13,7 @@ use Rattle.uri_pct.specs.Tables.{set_of}
 use Rattle.uri_pct.specs.Tokens.{Octet, tokens, print, IsValidFor}
 use Rattle.uri_ops.specs.declared.normalize.decode_unreserved.Decoding.{Decoding}
 use Rattle.uri_ops.specs.Models.Decodings.{AppendsDecodedParts, decoded_parts, lowered_if, lowered_text_if}
-use Rattle.uri_ops.proofs.Meanings.Cased.{AllowsDecodable, print-lowers-characters, octets-stay-when-lowered, decoded-pieces-are-encoded-text, bytes-past-ascii-stay-when-lowered, lowered-pieces-are-encoded-lowered-text}
+use Rattle.uri_ops.proofs.Meanings.Cased.{AllowsDecodable, print-lowers-characters, octets-are-unchanged-when-lowered, decoded-pieces-are-encoded-text, bytes-past-ascii-are-unchanged-when-lowered, lowered-pieces-are-encoded-lowered-text}
 use Rattle.uri_ops.proofs.Meanings.DecodedParts.{decoded_parts-of-run, decoded_parts-are-decoded-tokens}
 
 -- meanings, decoded past ASCII: a literal part of a text is written in lower case if lowers
@@ -35,14 +35,15 @@ decoded-octets-past-ascii-are-encoded-text false decodable set text same u past 
 decoded-octets-past-ascii-are-encoded-text true decodable set text same u past = ap
     (λ ts. print (map lower_token ts)) (decoded_parts-of-run set (utf8_pieces text))
     ∙ ap print (lowered-pieces-are-encoded-lowered-text decodable set same text u) ∙ ap
-    (λ bytes. print (encode_text decodable bytes)) (bytes-past-ascii-stay-when-lowered text past)
+    (λ bytes. print (encode_text decodable bytes))
+    (bytes-past-ascii-are-unchanged-when-lowered text past)
 
--- meanings, decoded past ASCII: ill-formed bytes stay octets
-pub ill-formed-octets-stay-octets : (lowers : Bool) (set : TableSet) (bytes : List ℕ)
+-- meanings, decoded past ASCII: ill-formed octets are unchanged
+pub ill-formed-octets-are-unchanged : (lowers : Bool) (set : TableSet) (bytes : List ℕ)
     → print (lowered_if lowers (decoded_parts set (Decoded (IllFormed bytes) ∷ [])))
     ≡ print (map Octet bytes)
-ill-formed-octets-stay-octets lowers set bytes =
-    grind (arith, nat_tests, append-nil, octets-stay-when-lowered)
+ill-formed-octets-are-unchanged lowers set bytes =
+    grind (arith, nat_tests, append-nil, octets-are-unchanged-when-lowered)
 
 -- meanings, decoded past ASCII: a `Decoding` to which the decoded parts are appended has appended
 -- these parts; s, t: before and after

@@ -57,19 +57,21 @@ unfolding is_byte_E2
 no-byte-E2-no-formatting text u e = characters-without-byte-E2-are-no-formatting (chars text)
     (ap (list_any is_byte_E2) (encodes-chars text u) ∙ e)
 
--- meanings, bidirectional text: characters without formatting characters stay as they are
-characters-without-formatting-stay : (cs : List ℕ) → list_any is_bidi_formatting cs ≡ false
+-- meanings, bidirectional text: characters without formatting characters are unchanged
+characters-without-formatting-are-unchanged : (cs : List ℕ) → list_any is_bidi_formatting cs ≡ false
     → flat_map encoded_formatting_char cs ≡ encode_utf8_all cs
-characters-without-formatting-stay [] e = refl
-characters-without-formatting-stay (c ∷ cs) e =
+characters-without-formatting-are-unchanged [] e = refl
+characters-without-formatting-are-unchanged (c ∷ cs) e =
     let p = or_parts (is_bidi_formatting c) (list_any is_bidi_formatting cs) e in
     ap (λ x. x ++ flat_map encoded_formatting_char cs) (cond-false _ _ _ p.0)
-    ∙ ap (λ x. encode_utf8 c ++ x) (characters-without-formatting-stay cs p.1)
+    ∙ ap (λ x. encode_utf8 c ++ x) (characters-without-formatting-are-unchanged cs p.1)
 
--- meanings, bidirectional text: a text without formatting characters stays when they are encoded
-pub text-without-formatting-stays : (text : List ℕ) → IsUtf8 text
+-- meanings, bidirectional text: a text without formatting characters is unchanged when they are
+-- encoded
+pub text-without-formatting-is-unchanged : (text : List ℕ) → IsUtf8 text
     → list_any is_bidi_formatting (chars text) ≡ false → encoded_formatting_text text ≡ text
-text-without-formatting-stays text u e = characters-without-formatting-stay (chars text) e
+text-without-formatting-is-unchanged text u e =
+    characters-without-formatting-are-unchanged (chars text) e
     ∙ encodes-chars text u
 
 -- meanings, bidirectional text: the text of an octet has no formatting character
@@ -83,7 +85,8 @@ printed-token-has-formatting-encoded : (set : TableSet) (t : Token)
     → (set.ucschar && set.pct_encoded) ≡ true
     → is_printable t ≡ true
     → flat_map encoded_formatting_char (chars_of_token t) ≡ print (formatting_as_octets set t)
-printed-token-has-formatting-encoded set (Octet v) both e = characters-without-formatting-stay
+printed-token-has-formatting-encoded set (Octet v) both e =
+    characters-without-formatting-are-unchanged
     (chars_of_token (Octet v)) (printable-octet-has-no-formatting v e)
     ∙ chars_of_token_encode_to_its_text (Octet v) e
 printed-token-has-formatting-encoded set (Char c) both e =

@@ -1,4 +1,5 @@
--- Texts without formatting characters whose octets stay: byte by byte, and in the parts of a text.
+-- Texts without formatting characters whose octets are unchanged: byte by byte, and in the parts of
+-- a text.
 use Rattle.std.proofs.Common.{◌≡◌, ℕ, ◌+◌, ◌<◌, ◌≤◌, Bool, true, false, eqb, List, [], ◌∷◌, ◌++◌, not, length, get_or, refl, sym, ap, ◌∙◌, arith, ◌||◌, ◌&&◌, ⊎_elim, suc, ◌-◌, subst}
 use Rattle.std.specs.Prelude.{Option, Some, None, IfSome}
 use Rattle.std.specs.Char.{is_ascii_hexdigit}
@@ -6,13 +7,13 @@ use Rattle.std.specs.List.{list_any}
 use Rattle.std.proofs.lemmas.Bool.{and_parts, and_from, cases_lt, not-true, not_from_false, or_from, or_left, or_parts}
 use Rattle.std.proofs.lemmas.Bool.Decides.{nat_tests}
 use Rattle.uri_parts.specs.Components.{marked}
-use Rattle.uri_ops.specs.Models.Unchanged.{IsKept, is_kept, is_kept_at, is_kept_octet, keeps_digits, is_dot_kept_at, is_literal_at, is_literal_byte, stays_at}
+use Rattle.uri_ops.specs.Models.Unchanged.{HasUnchangedOctets, has_unchanged_octets, is_octet_unchanged_at, is_unchanged_octet, keeps_digits, is_dot_unchanged_at, is_literal_at, is_literal_byte, is_unchanged_at}
 
 -- unchanged texts: at a byte that begins neither an octet nor a formatting character, a text is
--- kept
-pub literal-byte-is-kept : (alone : Bool) (bs : List ℕ) (k : ℕ)
-    → is_literal_byte (get_or bs k 0) ≡ true → is_kept_at alone bs k ≡ true
-literal-byte-is-kept alone bs k e = grind (arith, nat_tests, or_parts, not-true)
+-- unchanged
+pub literal-byte-is-unchanged : (alone : Bool) (bs : List ℕ) (k : ℕ)
+    → is_literal_byte (get_or bs k 0) ≡ true → is_octet_unchanged_at alone bs k ≡ true
+literal-byte-is-unchanged alone bs k e = grind (arith, nat_tests, or_parts, not-true)
 
 -- unchanged texts: a hexadecimal digit begins neither an octet nor a formatting character
 hexdigit-is-literal : (h : ℕ) → is_ascii_hexdigit h ≡ true → is_literal_byte h ≡ true
@@ -22,124 +23,129 @@ hexdigit-is-literal h e = grind (arith, nat_tests)
 hexdigit-is-no-dot : (h : ℕ) → is_ascii_hexdigit h ≡ true → eqb h 46 ≡ false
 hexdigit-is-no-dot h e = grind (arith, nat_tests)
 
--- unchanged texts: at an octet that is kept a text is kept
-kept-octet-is-kept : (alone : Bool) (bs : List ℕ) (k : ℕ) → get_or bs k 0 ≡ 37
-    → is_kept_octet alone (get_or bs (k + 1) 0) (get_or bs (k + 2) 0) ≡ true
-    → is_kept_at alone bs k ≡ true
-kept-octet-is-kept alone bs k percent e = rw (percent, e) refl
+-- unchanged texts: at an unchanged octet a text is unchanged
+unchanged-octet-is-so-at-its-index : (alone : Bool) (bs : List ℕ) (k : ℕ) → get_or bs k 0 ≡ 37
+    → is_unchanged_octet alone (get_or bs (k + 1) 0) (get_or bs (k + 2) 0) ≡ true
+    → is_octet_unchanged_at alone bs k ≡ true
+unchanged-octet-is-so-at-its-index alone bs k percent e = rw (percent, e) refl
 
--- unchanged texts: the three bytes of an octet that is kept are kept
-octet-is-kept-at-each-byte : (alone : Bool) (bs : List ℕ) (i : ℕ) → get_or bs i 0 ≡ 37
-    → is_kept_octet alone (get_or bs (i + 1) 0) (get_or bs (i + 2) 0) ≡ true
+-- unchanged texts: the three bytes of an unchanged octet are unchanged
+octet-is-unchanged-at-each-byte : (alone : Bool) (bs : List ℕ) (i : ℕ) → get_or bs i 0 ≡ 37
+    → is_unchanged_octet alone (get_or bs (i + 1) 0) (get_or bs (i + 2) 0) ≡ true
     → (k : ℕ) → i ≤ k → k < i + 3
-    → (is_kept_at alone bs k ≡ true) × (eqb (get_or bs k 0) 46 ≡ false)
-octet-is-kept-at-each-byte alone bs i percent octet k from to =
+    → (is_octet_unchanged_at alone bs k ≡ true) × (eqb (get_or bs k 0) 46 ≡ false)
+octet-is-unchanged-at-each-byte alone bs i percent octet k from to =
     let digits = and_parts (is_ascii_hexdigit (get_or bs (i + 1) 0)) _ (and_parts _ _ octet).0 in
     ⊎_elim
     (λ (first : k < i + 1).
     let same : i ≡ k = omega (arith, from, first) in
-    subst (λ n. (is_kept_at alone bs n ≡ true) × (eqb (get_or bs n 0) 46 ≡ false)) same
-    (kept-octet-is-kept alone bs i percent octet, ap (λ b. eqb b 46) percent))
+    subst (λ n. (is_octet_unchanged_at alone bs n ≡ true) × (eqb (get_or bs n 0) 46 ≡ false)) same
+    (unchanged-octet-is-so-at-its-index alone bs i percent octet, ap (λ b. eqb b 46) percent))
     (λ (after : i + 1 ≤ k). ⊎_elim
     (λ (second : k < i + 2).
     let same : i + 1 ≡ k = omega (arith, after, second) in
-    subst (λ n. (is_kept_at alone bs n ≡ true) × (eqb (get_or bs n 0) 46 ≡ false)) same
-    (hexdigit-is-kept alone bs (i + 1) digits.0))
+    subst (λ n. (is_octet_unchanged_at alone bs n ≡ true) × (eqb (get_or bs n 0) 46 ≡ false)) same
+    (hexdigit-is-unchanged alone bs (i + 1) digits.0))
     (λ (last : i + 2 ≤ k).
     let same : i + 2 ≡ k = omega (arith, last, to) in
-    subst (λ n. (is_kept_at alone bs n ≡ true) × (eqb (get_or bs n 0) 46 ≡ false)) same
-    (hexdigit-is-kept alone bs (i + 2) digits.1))
+    subst (λ n. (is_octet_unchanged_at alone bs n ≡ true) × (eqb (get_or bs n 0) 46 ≡ false)) same
+    (hexdigit-is-unchanged alone bs (i + 2) digits.1))
     (cases_lt k (i + 2)))
     (cases_lt k (i + 1))
   where
-    hexdigit-is-kept : (alone : Bool) (bs : List ℕ) (k : ℕ)
+    hexdigit-is-unchanged : (alone : Bool) (bs : List ℕ) (k : ℕ)
         → is_ascii_hexdigit (get_or bs k 0) ≡ true
-        → (is_kept_at alone bs k ≡ true) × (eqb (get_or bs k 0) 46 ≡ false)
-    hexdigit-is-kept alone bs k e = (
-      literal-byte-is-kept alone bs k (hexdigit-is-literal (get_or bs k 0) e),
+        → (is_octet_unchanged_at alone bs k ≡ true) × (eqb (get_or bs k 0) 46 ≡ false)
+    hexdigit-is-unchanged alone bs k e = (
+      literal-byte-is-unchanged alone bs k (hexdigit-is-literal (get_or bs k 0) e),
       hexdigit-is-no-dot (get_or bs k 0) e,
     )
 
 -- unchanged texts: normalising leaves what is at an index where neither an octet nor a formatting
 -- character begins, and no dot is after a `/`
-pub literal-index-stays : (alone : Bool) (limit : ℕ) (bs : List ℕ) (k : ℕ)
-    → is_literal_at bs k ≡ true → stays_at alone limit bs k ≡ true
-literal-index-stays alone limit bs k e =
+pub literal-index-is-unchanged : (alone : Bool) (limit : ℕ) (bs : List ℕ) (k : ℕ)
+    → is_literal_at bs k ≡ true → is_unchanged_at alone limit bs k ≡ true
+literal-index-is-unchanged alone limit bs k e =
     let p = and_parts (is_literal_byte (get_or bs k 0)) _ e in
-    and_from _ _ (literal-byte-is-kept alone bs k p.0) (or_left _ _ p.1)
+    and_from _ _ (literal-byte-is-unchanged alone bs k p.0) (or_left _ _ p.1)
 
--- unchanged texts: it leaves each byte of an octet that is kept
-pub kept-octet-stays : (alone : Bool) (limit : ℕ) (bs : List ℕ) (i : ℕ) → get_or bs i 0 ≡ 37
-    → is_kept_octet alone (get_or bs (i + 1) 0) (get_or bs (i + 2) 0) ≡ true
-    → (k : ℕ) → i ≤ k → k < i + 3 → stays_at alone limit bs k ≡ true
-kept-octet-stays alone limit bs i percent octet k from to =
-    let p = octet-is-kept-at-each-byte alone bs i percent octet k from to in
+-- unchanged texts: it leaves each byte of an unchanged octet
+pub each-byte-of-unchanged-octet-is-unchanged : (alone : Bool) (limit : ℕ) (bs : List ℕ) (i : ℕ)
+    → get_or bs i 0 ≡ 37
+    → is_unchanged_octet alone (get_or bs (i + 1) 0) (get_or bs (i + 2) 0) ≡ true
+    → (k : ℕ) → i ≤ k → k < i + 3 → is_unchanged_at alone limit bs k ≡ true
+each-byte-of-unchanged-octet-is-unchanged alone limit bs i percent octet k from to =
+    let p = octet-is-unchanged-at-each-byte alone bs i percent octet k from to in
     and_from _ _ p.0 (or_left _ _ (not_from_false _
     (ap (λ b. b && eqb (get_or bs (k - 1) 0) 47) p.1)))
 
 -- unchanged texts: it leaves a dot after a `/` with which no dot segment begins
-pub kept-dot-stays : (alone : Bool) (limit : ℕ) (bs : List ℕ) (k : ℕ) → get_or bs k 0 ≡ 46
-    → is_dot_kept_at limit bs k ≡ true → stays_at alone limit bs k ≡ true
-kept-dot-stays alone limit bs k dot e = and_from _ _
-    (literal-byte-is-kept alone bs k (ap is_literal_byte dot)) e
+pub dot-that-begins-no-segment-is-unchanged : (alone : Bool) (limit : ℕ) (bs : List ℕ) (k : ℕ)
+    → get_or bs k 0 ≡ 46
+    → is_dot_unchanged_at limit bs k ≡ true → is_unchanged_at alone limit bs k ≡ true
+dot-that-begins-no-segment-is-unchanged alone limit bs k dot e = and_from _ _
+    (literal-byte-is-unchanged alone bs k (ap is_literal_byte dot)) e
 
--- unchanged texts: digits that are kept at their indices are kept
-digits-are-kept-by-index : (alone : Bool) (text : List ℕ)
-    → is_kept_octet alone (get_or text 0 0) (get_or text 1 0) ≡ true
+-- unchanged texts: digits that are unchanged at their indices are unchanged
+digits-are-unchanged-by-index : (alone : Bool) (text : List ℕ)
+    → is_unchanged_octet alone (get_or text 0 0) (get_or text 1 0) ≡ true
     → keeps_digits alone text ≡ true
-digits-are-kept-by-index alone [] e = refl
-digits-are-kept-by-index alone (high ∷ []) e = refl
-digits-are-kept-by-index alone (high ∷ low ∷ text) e = e
+digits-are-unchanged-by-index alone [] e = refl
+digits-are-unchanged-by-index alone (high ∷ []) e = refl
+digits-are-unchanged-by-index alone (high ∷ low ∷ text) e = e
 
--- unchanged texts: an octet or a byte that is kept at its index is kept
-head-is-kept-by-index : (alone : Bool) (b : ℕ) (text : List ℕ)
-    → is_kept_at alone (b ∷ text) 0 ≡ true
+-- unchanged texts: an octet or a byte that is unchanged at its index is unchanged
+head-is-unchanged-by-index : (alone : Bool) (b : ℕ) (text : List ℕ)
+    → is_octet_unchanged_at alone (b ∷ text) 0 ≡ true
     → (not (eqb b 0xE2) && (not (eqb b 37) || keeps_digits alone text)) ≡ true
-head-is-kept-by-index alone b text e =
+head-is-unchanged-by-index alone b text e =
     let p = and_parts (not (eqb b 0xE2)) _ e in
-    and_from _ _ p.0 (either (eqb b 37) (is_kept_octet alone (get_or text 0 0) (get_or text 1 0))
-    p.1 (digits-are-kept-by-index alone text))
+    and_from _ _ p.0 (either (eqb b 37)
+    (is_unchanged_octet alone (get_or text 0 0) (get_or text 1 0)) p.1
+    (digits-are-unchanged-by-index alone text))
   where
     either : {other : Bool} (percent octet : Bool) → (not percent || octet) ≡ true
         → (octet ≡ true → other ≡ true) → (not percent || other) ≡ true
     either true octet e f = f e
     either false octet e f = refl
 
--- unchanged texts: a text is kept at an index as a longer one is at the next
-kept-at-next-index : (alone : Bool) (b : ℕ) (text : List ℕ) (k : ℕ)
-    → is_kept_at alone (b ∷ text) (suc k) ≡ is_kept_at alone text k
-kept-at-next-index alone b text k =
+-- unchanged texts: a text is unchanged at an index as a longer one is at the next
+unchanged-at-next-index : (alone : Bool) (b : ℕ) (text : List ℕ) (k : ℕ)
+    → is_octet_unchanged_at alone (b ∷ text) (suc k) ≡ is_octet_unchanged_at alone text k
+unchanged-at-next-index alone b text k =
     let first : suc k + 1 ≡ suc (k + 1) = omega arith in
     let second : suc k + 2 ≡ suc (k + 2) = omega arith in
     λ i. not (eqb (get_or text k 0) 0xE2) && (not (eqb (get_or text k 0) 37)
-    || is_kept_octet alone (get_or (b ∷ text) (first i) 0) (get_or (b ∷ text) (second i) 0))
+    || is_unchanged_octet alone (get_or (b ∷ text) (first i) 0) (get_or (b ∷ text) (second i) 0))
 
--- unchanged texts: a text that is kept at each index is kept
-pub bytes-kept-by-index-are-kept : (alone : Bool) (bs : List ℕ)
-    → ((k : ℕ) → k < length bs → is_kept_at alone bs k ≡ true) → IsKept alone bs
-bytes-kept-by-index-are-kept alone [] each = refl
-bytes-kept-by-index-are-kept alone (b ∷ text) each =
-    and_from _ _ (head-is-kept-by-index alone b text (each 0 (omega arith)))
-    (bytes-kept-by-index-are-kept alone text (λ k h.
-    sym (kept-at-next-index alone b text k) ∙ each (suc k) (omega (arith, h))))
+-- unchanged texts: the octets of a text that is unchanged at each index are unchanged
+pub bytes-unchanged-by-index-are-unchanged : (alone : Bool) (bs : List ℕ)
+    → ((k : ℕ) → k < length bs → is_octet_unchanged_at alone bs k ≡ true)
+    → HasUnchangedOctets alone bs
+bytes-unchanged-by-index-are-unchanged alone [] each = refl
+bytes-unchanged-by-index-are-unchanged alone (b ∷ text) each =
+    and_from _ _ (head-is-unchanged-by-index alone b text (each 0 (omega arith)))
+    (bytes-unchanged-by-index-are-unchanged alone text (λ k h.
+    sym (unchanged-at-next-index alone b text k) ∙ each (suc k) (omega (arith, h))))
 
--- unchanged texts: the digits that a text begins with are kept in each prefix
-digits-of-prefix-are-kept : (alone : Bool) (xs ys : List ℕ) → keeps_digits alone (xs ++ ys) ≡ true
+-- unchanged texts: the digits that a text begins with are unchanged in each prefix
+digits-of-prefix-are-unchanged : (alone : Bool) (xs ys : List ℕ)
+    → keeps_digits alone (xs ++ ys) ≡ true
     → keeps_digits alone xs ≡ true
-digits-of-prefix-are-kept alone [] ys e = refl
-digits-of-prefix-are-kept alone (high ∷ []) ys e = refl
-digits-of-prefix-are-kept alone (high ∷ low ∷ xs) ys e = e
+digits-of-prefix-are-unchanged alone [] ys e = refl
+digits-of-prefix-are-unchanged alone (high ∷ []) ys e = refl
+digits-of-prefix-are-unchanged alone (high ∷ low ∷ xs) ys e = e
 
--- unchanged texts: if a text is kept, so are both halves
-pub kept-text-splits : (alone : Bool) (xs ys : List ℕ) → IsKept alone (xs ++ ys)
-    → IsKept alone xs × IsKept alone ys
-kept-text-splits alone [] ys e = (refl, e)
-kept-text-splits alone (b ∷ xs) ys e =
-    let p = and_parts _ (is_kept alone (xs ++ ys)) e in
+-- unchanged texts: if the octets of a text are unchanged, so are those of both halves
+pub unchanged-text-splits : (alone : Bool) (xs ys : List ℕ) → HasUnchangedOctets alone (xs ++ ys)
+    → HasUnchangedOctets alone xs × HasUnchangedOctets alone ys
+unchanged-text-splits alone [] ys e = (refl, e)
+unchanged-text-splits alone (b ∷ xs) ys e =
+    let p = and_parts _ (has_unchanged_octets alone (xs ++ ys)) e in
     let q = and_parts (not (eqb b 0xE2)) _ p.0 in
-    let rest = kept-text-splits alone xs ys p.1 in (
+    let rest = unchanged-text-splits alone xs ys p.1 in (
       and_from _ _ (and_from _ _ q.0 (either (eqb b 37) _ _ q.1
-          (digits-of-prefix-are-kept alone xs ys))) rest.0,
+          (digits-of-prefix-are-unchanged alone xs ys))) rest.0,
       rest.1,
     )
   where
@@ -148,18 +154,22 @@ kept-text-splits alone (b ∷ xs) ys e =
     either true long short e f = f e
     either false long short e f = refl
 
--- unchanged texts: if a component with its delimiters (before, suffix) is kept, so is the component
-pub delimited-component-of-kept-is-kept : (alone : Bool) (before suffix : List ℕ)
-    (o : Option (List ℕ)) → IsKept alone (marked before o suffix) → IfSome o (IsKept alone)
-delimited-component-of-kept-is-kept alone before suffix None e = tt
-delimited-component-of-kept-is-kept alone before suffix (Some part) e =
-    (kept-text-splits alone before part (kept-text-splits alone (before ++ part) suffix e).0).1
+-- unchanged texts: the octets of a component are unchanged if they are with its delimiters (before,
+-- suffix)
+pub delimited-component-of-unchanged-is-unchanged : (alone : Bool) (before suffix : List ℕ)
+    (o : Option (List ℕ)) → HasUnchangedOctets alone (marked before o suffix) → IfSome o
+    (HasUnchangedOctets alone)
+delimited-component-of-unchanged-is-unchanged alone before suffix None e = tt
+delimited-component-of-unchanged-is-unchanged alone before suffix (Some part) e =
+    let prefix = (unchanged-text-splits alone (before ++ part) suffix e).0 in
+    (unchanged-text-splits alone before part prefix).1
 
--- unchanged texts: a text that is kept has no E2, with which formatting characters begin
-pub kept-text-lacks-byte-E2 : (alone : Bool) (text : List ℕ) → IsKept alone text
+-- unchanged texts: a text whose octets are unchanged has no E2, with which formatting
+-- characters begin
+pub unchanged-text-lacks-byte-E2 : (alone : Bool) (text : List ℕ) → HasUnchangedOctets alone text
     → list_any (λ b. eqb b 0xE2) text ≡ false
-kept-text-lacks-byte-E2 alone [] e = refl
-kept-text-lacks-byte-E2 alone (b ∷ text) e =
-    let p = and_parts _ (is_kept alone text) e in
+unchanged-text-lacks-byte-E2 alone [] e = refl
+unchanged-text-lacks-byte-E2 alone (b ∷ text) e =
+    let p = and_parts _ (has_unchanged_octets alone text) e in
     let q = and_parts (not (eqb b 0xE2)) _ p.0 in
-    or_from _ _ (not-true _ q.0) (kept-text-lacks-byte-E2 alone text p.1)
+    or_from _ _ (not-true _ q.0) (unchanged-text-lacks-byte-E2 alone text p.1)

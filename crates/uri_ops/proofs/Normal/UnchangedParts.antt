@@ -1,4 +1,4 @@
--- Parts of a text that are printed as they are: components whose octets stay, and hosts.
+-- Parts of a text that are printed as they are: components whose octets are unchanged, and hosts.
 use Rattle.std.proofs.Common.{◌≡◌, ℕ, ◌+◌, ◌*◌, ◌≤◌, ◌<◌, Bool, true, false, eqb, ltb, List, [], ◌∷◌, ◌++◌, map, refl, sym, ap, subst, ◌∙◌, ◌&&◌, ◌||◌, append-nil, option_map, arith, length, take, drop, zero, suc, ⊎_elim}
 use Rattle.std.specs.Prelude.{Option, Some, None, IfSome}
 use Rattle.std.specs.Char.{digit_value, is_ascii_hexdigit}
@@ -22,7 +22,7 @@ use Rattle.uri_parts.proofs.Authorities.Authority.{names_exclude_delimiters}
 use Rattle.uri_ops.specs.ComponentSets.{HasComponentSets}
 use Rattle.uri_ops.specs.Meaning.{host_meaning}
 use Rattle.uri_ops.specs.Models.Decodings.{decoded_text}
-use Rattle.uri_ops.specs.Models.Unchanged.{IsKept, is_kept_octet}
+use Rattle.uri_ops.specs.Models.Unchanged.{HasUnchangedOctets, is_unchanged_octet}
 use Rattle.uri_ops.specs.Normal.{host_text}
 use Rattle.uri_ops.proofs.Meanings.AuthorityMeanings.{kind-sets-lack-authority-delimiters}
 use Rattle.uri_ops.proofs.Meanings.Cased.{print-lowers-characters}
@@ -30,13 +30,14 @@ use Rattle.uri_ops.proofs.Meanings.HostMeanings.{meaning-of-name-is-lowered-deco
 use Rattle.uri_ops.proofs.Meanings.DecodedOctets.{decode_tokens-after-chars, leading-octet-is-decoded-alone, uppercase-octet-prints-itself}
 use Rattle.uri_ops.proofs.Meanings.DecodedParts.{decode_run-of-nil-is-nil}
 use Rattle.uri_ops.proofs.Meanings.DecodedPrefixes.{decoded-empty-text-is-empty, octet-with-digit-below-8-is-ascii, text-before-percent-is-literal-prefix}
-use Rattle.uri_ops.proofs.Meanings.WrittenFormatting.{decoding-without-formatting-is-complete, encoding-formatting-completes-decoding, no-byte-E2-no-formatting, text-without-formatting-stays}
-use Rattle.uri_ops.proofs.Normal.UnchangedBytes.{kept-text-lacks-byte-E2, kept-text-splits}
+use Rattle.uri_ops.proofs.Meanings.WrittenFormatting.{decoding-without-formatting-is-complete, encoding-formatting-completes-decoding, no-byte-E2-no-formatting, text-without-formatting-is-unchanged}
+use Rattle.uri_ops.proofs.Normal.UnchangedBytes.{unchanged-text-lacks-byte-E2, unchanged-text-splits}
 
--- unchanged texts: an octet is decoded by itself if it is kept
-kept-octet-is-decoded-alone : (alone : Bool) (high low : ℕ) → is_kept_octet alone high low ≡ true
+-- unchanged texts: an octet is decoded by itself if it is unchanged
+unchanged-octet-is-decoded-alone : (alone : Bool) (high low : ℕ)
+    → is_unchanged_octet alone high low ≡ true
     → (alone || ltb (16 * digit_value high + digit_value low) 128) ≡ true
-kept-octet-is-decoded-alone alone high low e =
+unchanged-octet-is-decoded-alone alone high low e =
     let p = and_parts _ _ e in
     let digits = and_parts (is_ascii_hexdigit high) (is_ascii_hexdigit low) p.0 in
     let last = and_parts (alone || ltb high 56) _ (and_parts _ _ p.1).1 in
@@ -49,11 +50,12 @@ kept-octet-is-decoded-alone alone high low e =
     grind (arith, nat_tests))
     (or_cases alone (ltb high 56) last.0)
 
--- unchanged texts: an octet that is kept is printed with its digits
-kept-octet-prints-itself : (alone : Bool) (high low : ℕ) → is_kept_octet alone high low ≡ true
+-- unchanged texts: an unchanged octet is printed with its digits
+unchanged-octet-prints-itself : (alone : Bool) (high low : ℕ)
+    → is_unchanged_octet alone high low ≡ true
     → print (decode_octet (Octet (16 * digit_value high + digit_value low)) ∷ [])
     ≡ 37 ∷ high ∷ low ∷ []
-kept-octet-prints-itself alone high low e =
+unchanged-octet-prints-itself alone high low e =
     let p = and_parts _ _ e in
     let digits = and_parts (is_ascii_hexdigit high) (is_ascii_hexdigit low) p.0 in
     let upper = and_parts (ltb high 97) (ltb low 97) (and_parts _ _ p.1).0 in
@@ -63,28 +65,32 @@ kept-octet-prints-itself alone high low e =
     (ltb-true high 97 upper.0) (ltb-true low 97 upper.1))
 
 module _ (set : TableSet) (alone : Bool) (none : alone ≡ true → LacksPastAscii set) where
-  -- unchanged texts: an octet that is kept at the start of a text is its own decoded form
-  kept-octet-decodes-to-itself : (text : List ℕ) (o : BeginsWithOctet text) → IsKept alone text
+  -- unchanged texts: an unchanged octet at the start of a text is its own decoded form
+  unchanged-octet-decodes-to-itself : (text : List ℕ) (o : BeginsWithOctet text)
+      → HasUnchangedOctets alone text
       → decoded_text false set text ≡ 37 ∷ o.high ∷ o.low ∷ decoded_text false set o.suffix
-  kept-octet-decodes-to-itself text o kept =
-      let p = and_parts _ _ (subst (IsKept alone) o.joined kept) in
-      let octet : is_kept_octet alone o.high o.low ≡ true = p.0 in
+  unchanged-octet-decodes-to-itself text o same =
+      let p = and_parts _ _ (subst (HasUnchangedOctets alone) o.joined same) in
+      let octet : is_unchanged_octet alone o.high o.low ≡ true = p.0 in
       leading-octet-is-decoded-alone false set text o alone none
-      (kept-octet-is-decoded-alone alone o.high o.low octet)
+      (unchanged-octet-is-decoded-alone alone o.high o.low octet)
       ∙ ap (λ x. x ++ decoded_text false set o.suffix)
-      (kept-octet-prints-itself alone o.high o.low octet)
+      (unchanged-octet-prints-itself alone o.high o.low octet)
 
-  -- unchanged texts: what follows a prefix of a kept text is kept
-  suffix-of-kept-is-kept : (text : List ℕ) (n : ℕ) → IsKept alone text → IsKept alone (drop n text)
-  suffix-of-kept-is-kept text n kept = (kept-text-splits alone (take n text) (drop n text)
-      (subst (IsKept alone) (sym (take-append-drop n text)) kept)).1
+  -- unchanged texts: what follows a prefix of an unchanged text is unchanged
+  suffix-of-unchanged-is-unchanged : (text : List ℕ) (n : ℕ) → HasUnchangedOctets alone text
+      → HasUnchangedOctets alone (drop n text)
+  suffix-of-unchanged-is-unchanged text n same =
+      (unchanged-text-splits alone (take n text) (drop n text)
+      (subst (HasUnchangedOctets alone) (sym (take-append-drop n text)) same)).1
 
-  -- unchanged texts: a kept text of at most n bytes is its own decoded form
-  kept-text-is-decoded : (n : ℕ) (text : List ℕ) → length text ≤ n → IsUtf8 text
-      → IsValidFor widest_set text → IsKept alone text → decoded_text false set text ≡ text
-  kept-text-is-decoded n [] short u v kept = decoded-empty-text-is-empty false set
-  kept-text-is-decoded zero (b ∷ rest) short u v kept = absurd (omega (arith, short))
-  kept-text-is-decoded (suc n) (b ∷ rest) short u v kept = ⊎_elim
+  -- unchanged texts: an unchanged text of at most n bytes is its own decoded form
+  unchanged-text-is-decoded : (n : ℕ) (text : List ℕ) → length text ≤ n → IsUtf8 text
+      → IsValidFor widest_set text → HasUnchangedOctets alone text
+      → decoded_text false set text ≡ text
+  unchanged-text-is-decoded n [] short u v same = decoded-empty-text-is-empty false set
+  unchanged-text-is-decoded zero (b ∷ rest) short u v same = absurd (omega (arith, short))
+  unchanged-text-is-decoded (suc n) (b ∷ rest) short u v same = ⊎_elim
       (λ (percent : eqb b 37 ≡ true).
       let text : List ℕ = b ∷ rest in
       let o = bytes_from_percent_begin_with_octet text text refl u v
@@ -93,10 +99,10 @@ module _ (set : TableSet) (alone : Bool) (none : alone ≡ true → LacksPastAsc
       let long = ap length o.joined in
       let utf8 : IsUtf8 o.suffix = subst IsUtf8 three
       (IsUtf8-drop text 3 u (boundary_after_octet text u o)) in
-      kept-octet-decodes-to-itself text o kept
-      ∙ ap (λ x. 37 ∷ o.high ∷ o.low ∷ x) (kept-text-is-decoded n o.suffix
+      unchanged-octet-decodes-to-itself text o same
+      ∙ ap (λ x. 37 ∷ o.high ∷ o.low ∷ x) (unchanged-text-is-decoded n o.suffix
       (omega (arith, long, short)) utf8 o.valid
-      (subst (IsKept alone) three (suffix-of-kept-is-kept text 3 kept)))
+      (subst (HasUnchangedOctets alone) three (suffix-of-unchanged-is-unchanged text 3 same)))
       ∙ sym o.joined)
       (λ (other : eqb b 37 ≡ false).
       let text : List ℕ = b ∷ rest in
@@ -105,9 +111,9 @@ module _ (set : TableSet) (alone : Bool) (none : alone ≡ true → LacksPastAsc
       let p = text-before-percent-is-literal-prefix text m u v refl in
       let long = length-drop m text in
       p.prefix false set
-      ∙ ap (λ x. take m text ++ x) (kept-text-is-decoded n (drop m text)
+      ∙ ap (λ x. take m text ++ x) (unchanged-text-is-decoded n (drop m text)
       (omega (arith, long, short, some)) (IsUtf8-drop text m u p.boundary) p.valid
-      (suffix-of-kept-is-kept text m kept))
+      (suffix-of-unchanged-is-unchanged text m same))
       ∙ take-append-drop m text)
       (cases_Bool (eqb b 37))
     where
@@ -115,28 +121,30 @@ module _ (set : TableSet) (alone : Bool) (none : alone ≡ true → LacksPastAsc
           → 0 < position_or_len (λ c. eqb c 37) (b ∷ rest)
       first-percent-is-after-another-byte b rest e = rw e (omega arith)
 
-  -- unchanged texts: a kept text is its own normal form, as a component
-  pub kept-decodes-to-itself : LacksPercent set → (text : List ℕ) → IsUtf8 text
-      → IsValidFor set text → IsKept alone text → print (decode_unreserved set text) ≡ text
-  kept-decodes-to-itself percent text u valid kept =
+  -- unchanged texts: an unchanged text is its own normal form, as a component
+  pub unchanged-text-decodes-to-itself : LacksPercent set → (text : List ℕ) → IsUtf8 text
+      → IsValidFor set text → HasUnchangedOctets alone text
+      → print (decode_unreserved set text) ≡ text
+  unchanged-text-decodes-to-itself percent text u valid same =
       let v = valid_for_superset set widest_set text (every_set_is_subset_of_widest set percent)
       valid in
-      let decoded = kept-text-is-decoded (length text) text (omega arith) u v kept in
+      let decoded = unchanged-text-is-decoded (length text) text (omega arith) u v same in
       ⊎_elim
       (λ both. sym (encoding-formatting-completes-decoding false set text both v)
       ∙ ap encoded_formatting_text decoded
-      ∙ text-without-formatting-stays text u (no-byte-E2-no-formatting text u
-      (kept-text-lacks-byte-E2 alone text kept)))
+      ∙ text-without-formatting-is-unchanged text u (no-byte-E2-no-formatting text u
+      (unchanged-text-lacks-byte-E2 alone text same)))
       (λ lacking. sym (decoding-without-formatting-is-complete false set text lacking) ∙ decoded)
       (cases_Bool (set.ucschar && set.pct_encoded))
 
   -- unchanged texts: the same of a component that may be absent
-  pub kept-option-decodes-to-itself : LacksPercent set → (o : Option (List ℕ)) → IfSome o IsUtf8
-      → IfSome o (IsValidFor set) → IfSome o (IsKept alone)
+  pub unchanged-option-decodes-to-itself : LacksPercent set → (o : Option (List ℕ))
+      → IfSome o IsUtf8
+      → IfSome o (IsValidFor set) → IfSome o (HasUnchangedOctets alone)
       → option_map print (option_map (decode_unreserved set) o) ≡ o
-  kept-option-decodes-to-itself percent None u v kept = refl
-  kept-option-decodes-to-itself percent (Some text) u v kept = ap Some
-      (kept-decodes-to-itself percent text u v kept)
+  unchanged-option-decodes-to-itself percent None u v same = refl
+  unchanged-option-decodes-to-itself percent (Some text) u v same = ap Some
+      (unchanged-text-decodes-to-itself percent text u v same)
 
 -- unchanged texts: encoding formatting characters keeps characters of which none is one
 encode_formatting-keeps-literal-characters : (set : TableSet) (cs : List ℕ)

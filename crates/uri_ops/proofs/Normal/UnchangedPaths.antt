@@ -7,21 +7,23 @@ use Rattle.uri_parts.specs.Components.{Components, components, marked, starts}
 use Rattle.uri_parts.specs.Positions.{positions_of}
 use Rattle.uri_parts.proofs.Splitting.Recompose.{equal-to-true-is-IsTrue, recompose-components}
 use Rattle.uri_ops.specs.Dots.{IsAbsolute, lacks_dot_segments, underflows}
-use Rattle.uri_ops.specs.Models.Unchanged.{IsKept, IsUnchangedPath, is_dot_kept_at, is_kept_at, is_literal_byte, stays_at}
-use Rattle.uri_ops.proofs.Normal.UnchangedBytes.{bytes-kept-by-index-are-kept, kept-text-splits, literal-byte-is-kept}
+use Rattle.uri_ops.specs.Models.Unchanged.{HasUnchangedOctets, IsUnchangedPath, is_dot_unchanged_at, is_octet_unchanged_at, is_literal_byte, is_unchanged_at}
+use Rattle.uri_ops.proofs.Normal.UnchangedBytes.{bytes-unchanged-by-index-are-unchanged, unchanged-text-splits, literal-byte-is-unchanged}
 use Rattle.uri_ops.proofs.Normal.WrittenPlaces.{length-with-delimiter-after, length-with-delimiter-before}
 use Rattle.uri_ops.proofs.Paths.DotLaws.{remove-dots-of-dotless, dotless-path-does-not-underflow}
-use Rattle.uri_ops.proofs.Paths.KeptDots.{path-is-dotless-in-text}
+use Rattle.uri_ops.proofs.Paths.UnchangedDots.{path-is-dotless-in-text}
 
--- unchanged paths: a text in which each byte stays from an index on, after literal bytes
+-- unchanged paths: a text in which each byte is unchanged from an index on, after literal bytes
 module _ (alone : Bool) (text : List ℕ) (start limit : ℕ) (later : 0 < start)
     (literal : (k : ℕ) → k < start → is_literal_byte (get_or text k 0) ≡ true)
-    (stays : (k : ℕ) → start ≤ k → k < length text → stays_at alone limit text k ≡ true) where
-  -- it is kept
-  pub text-that-stays-is-kept : IsKept alone text
-  text-that-stays-is-kept = bytes-kept-by-index-are-kept alone text (λ k h. ⊎_elim
-      (λ (before : k < start). literal-byte-is-kept alone text k (literal k before))
-      (λ (after : start ≤ k). (and_parts (is_kept_at alone text k) _ (stays k after h)).0)
+    (each : (k : ℕ) → start ≤ k → k < length text
+    → is_unchanged_at alone limit text k ≡ true) where
+  -- its octets are unchanged
+  pub text-has-unchanged-octets : HasUnchangedOctets alone text
+  text-has-unchanged-octets =
+      bytes-unchanged-by-index-are-unchanged alone text (λ k h. ⊎_elim
+      (λ (before : k < start). literal-byte-is-unchanged alone text k (literal k before))
+      (λ (after : start ≤ k). (and_parts (is_octet_unchanged_at alone text k) _ (each k after h)).0)
       (cases_lt k start))
 
   abbrev p : Components
@@ -46,11 +48,11 @@ module _ (alone : Bool) (text : List ℕ) (start limit : ℕ) (later : 0 < start
       (marked (codes "//") p.authority []) in
       omega (arith, scheme, authority, both)
 
-  path-is-kept : IsKept alone p.path
-  path-is-kept =
-      let rest = (kept-text-splits alone before (p.path ++ tail)
-      (subst (IsKept alone) text-is-around-path text-that-stays-is-kept)).1 in
-      (kept-text-splits alone p.path tail rest).0
+  path-has-unchanged-octets : HasUnchangedOctets alone p.path
+  path-has-unchanged-octets =
+      let rest = (unchanged-text-splits alone before (p.path ++ tail)
+      (subst (HasUnchangedOctets alone) text-is-around-path text-has-unchanged-octets)).1 in
+      (unchanged-text-splits alone p.path tail rest).0
 
   module _ (early : is_some p.scheme ≡ true → start ≤ (positions_of p).path_start)
       (ends : is_some p.scheme ≡ true → limit ≡ (positions_of p).path_end) where
@@ -64,15 +66,16 @@ module _ (alone : Bool) (text : List ℕ) (start limit : ℕ) (later : 0 < start
         ap length text-is-around-path ∙ length-append before (p.path ++ tail)
         ∙ ap (λ n. length before + n) (length-append p.path tail) in
         path-is-dotless-in-text before p.path tail start later (omega (arith, first, from))
-        (λ k h to. ap (λ t. is_dot_kept_at (length before + length p.path) t k)
+        (λ k h to. ap (λ t. is_dot_unchanged_at (length before + length p.path) t k)
         (sym text-is-around-path)
-        ∙ ap (λ n. is_dot_kept_at n text k) (sym end)
-        ∙ (and_parts (is_kept_at alone text k) _ (stays k h (omega (arith, long, to)))).1)
-        alone absolute path-is-kept
+        ∙ ap (λ n. is_dot_unchanged_at n text k) (sym end)
+        ∙ (and_parts (is_octet_unchanged_at alone text k) _
+        (each k h (omega (arith, long, to)))).1)
+        alone absolute path-has-unchanged-octets
 
     -- and normalising leaves its path, if the limit is the end of that under a scheme
-    pub path-of-text-that-stays-is-unchanged : IsUnchangedPath p.scheme p.path
-    path-of-text-that-stays-is-unchanged = ⊎_elim
+    pub path-of-unchanged-text-is-unchanged : IsUnchangedPath p.scheme p.path
+    path-of-unchanged-text-is-unchanged = ⊎_elim
         (λ (e : (is_some p.scheme && starts 47 p.path) ≡ true).
         let both = and_parts (is_some p.scheme) (starts 47 p.path) e in
         let absolute : IsAbsolute p.path = equal-to-true-is-IsTrue _ both.1 in

@@ -16,15 +16,15 @@ use Rattle.uri_parts.proofs.Authorities.Authority.{is_authority_for-sound}
 use Rattle.uri_parts.proofs.Splitting.Recompose.{components-are-split-of-text}
 use Rattle.uri_ops.specs.ComponentSets.{HasComponentSets}
 use Rattle.uri_ops.specs.Meaning.{authority_meaning, host_meaning, meaning_of}
-use Rattle.uri_ops.specs.Models.Unchanged.{AreUnchanged, IsKept, IsUnchangedHost, IsUnchangedPort, KindLacksPastAscii}
+use Rattle.uri_ops.specs.Models.Unchanged.{AreUnchanged, HasUnchangedOctets, IsUnchangedHost, IsUnchangedPort, KindLacksPastAscii}
 use Rattle.uri_ops.specs.Normal.{default_port_of, host_text, normal_authority, normal_path, normal_text}
 use Rattle.uri_ops.specs.Target.{guarded}
 use Rattle.uri_ops.proofs.Meanings.AllowedParts.{is_set_text, set-text-is-valid}
 use Rattle.uri_ops.proofs.Meanings.AuthorityMeanings.{PartsUtf8, authority-parts-are-utf8}
 use Rattle.uri_ops.proofs.Meanings.TextParts.{AreUtf8, ArePartsOfKind, components-of-utf8-are-utf8}
 use Rattle.uri_ops.proofs.Normal.NormalTexts.{text-has-parts-of-kind}
-use Rattle.uri_ops.proofs.Normal.UnchangedBytes.{delimited-component-of-kept-is-kept, kept-text-lacks-byte-E2, kept-text-splits}
-use Rattle.uri_ops.proofs.Normal.UnchangedParts.{kept-decodes-to-itself, kept-option-decodes-to-itself, lower-name-is-its-normal-form}
+use Rattle.uri_ops.proofs.Normal.UnchangedBytes.{delimited-component-of-unchanged-is-unchanged, unchanged-text-lacks-byte-E2, unchanged-text-splits}
+use Rattle.uri_ops.proofs.Normal.UnchangedParts.{unchanged-text-decodes-to-itself, unchanged-option-decodes-to-itself, lower-name-is-its-normal-form}
 
 -- unchanged texts: the host of an authority passes the test of hosts
 host-of-authority-is-host : (users names : TableSet) (a : List ℕ)
@@ -36,99 +36,104 @@ host-of-authority-is-host users names a e =
 module _ (kind : Kind) (sets : HasComponentSets kind) (alone : Bool)
     (none : alone ≡ true → KindLacksPastAscii kind) where
   module _ (default : Option ℕ) where
-    -- unchanged texts: an authority whose host and port are kept is its own normal form
-    kept-authority-is-its-normal-form : (a : List ℕ) → IsUtf8 a → is_authority kind a ≡ true
-        → IsKept alone a → IsUnchangedHost (authority_parts a).host
+    -- unchanged texts: an authority whose host and port are unchanged is its own normal form
+    unchanged-authority-is-its-normal-form : (a : List ℕ) → IsUtf8 a → is_authority kind a ≡ true
+        → HasUnchangedOctets alone a → IsUnchangedHost (authority_parts a).host
         → IsUnchangedPort default (authority_parts a).port
         → normal_authority (authority_meaning kind default a) ≡ a
-    kept-authority-is-its-normal-form a u e kept host port =
+    unchanged-authority-is-its-normal-form a u e octets host port =
         let parts : AuthorityParts = authority_parts a in
         let grammar = is_authority_for-sound kind.userinfo kind.reg_name a e in
         let utf8 : PartsUtf8 parts = authority-parts-are-utf8 parts.userinfo parts.port parts.host
         (subst IsUtf8 (sym grammar.whole) u) in
-        let apart = kept-text-splits alone (marked [] parts.userinfo (codes "@"))
+        let apart = unchanged-text-splits alone (marked [] parts.userinfo (codes "@"))
         (parts.host ++ marked (codes ":") parts.port [])
-        (subst (IsKept alone) (sym grammar.whole) kept) in
-        let user_kept = kept-option-decodes-to-itself kind.userinfo alone
+        (subst (HasUnchangedOctets alone) (sym grammar.whole) octets) in
+        let user_same = unchanged-option-decodes-to-itself kind.userinfo alone
         (λ e. (none e).userinfo) sets.userinfo.percent parts.userinfo utf8.userinfo
         grammar.userinfo
-        (delimited-component-of-kept-is-kept alone [] (codes "@") parts.userinfo apart.0) in
-        let host_bytes : IsKept alone parts.host =
-        (kept-text-splits alone parts.host (marked (codes ":") parts.port []) apart.1).0 in
-        let host_kept : host_text (host_meaning kind.reg_name parts.host (host_kind parts.host))
+        (delimited-component-of-unchanged-is-unchanged alone []
+        (codes "@") parts.userinfo apart.0) in
+        let host_bytes : HasUnchangedOctets alone parts.host =
+        (unchanged-text-splits alone parts.host (marked (codes ":") parts.port []) apart.1).0 in
+        let host_same : host_text (host_meaning kind.reg_name parts.host (host_kind parts.host))
         ≡ parts.host = ⊎_elim
         (λ begins. host.1 begins kind.reg_name
         (host-of-authority-is-host kind.userinfo kind.reg_name a e))
         (λ name. lower-name-is-its-normal-form kind sets parts.host utf8.host
-        (host.0 name).1 (kept-text-lacks-byte-E2 alone parts.host host_bytes) (host.0 name).0 name)
+        (host.0 name).1 (unchanged-text-lacks-byte-E2 alone parts.host host_bytes)
+        (host.0 name).0 name)
         (cases_Bool (starts 91 parts.host)) in
         (λ i. recompose_authority (record {
-          userinfo = user_kept i;
-          host = host_kept i;
+          userinfo = user_same i;
+          host = host_same i;
           port = port i;
         }))
         ∙ grammar.whole
 
     -- unchanged texts: the same of an authority that may be absent
-    kept-authority-if-some-is-normal : (o : Option (List ℕ))
-        → IfSome o (λ a. IsUtf8 a × (is_authority kind a ≡ true)) → IfSome o (IsKept alone)
+    unchanged-authority-if-some-is-normal : (o : Option (List ℕ))
+        → IfSome o (λ a. IsUtf8 a × (is_authority kind a ≡ true))
+        → IfSome o (HasUnchangedOctets alone)
         → IfSome o (λ a. IsUnchangedHost (authority_parts a).host)
         → IfSome o (λ a. IsUnchangedPort default (authority_parts a).port)
         → option_map normal_authority (option_map (authority_meaning kind default) o) ≡ o
-    kept-authority-if-some-is-normal None h kept host port = refl
-    kept-authority-if-some-is-normal (Some a) h kept host port =
-        ap Some (kept-authority-is-its-normal-form a h.0 h.1 kept host port)
+    unchanged-authority-if-some-is-normal None h octets host port = refl
+    unchanged-authority-if-some-is-normal (Some a) h octets host port =
+        ap Some (unchanged-authority-is-its-normal-form a h.0 h.1 octets host port)
 
 -- unchanged texts: a path gets no guard `/.` if it doesn't begin with `//` or follows an authority
-path-that-needs-no-guard-is-kept : (scheme authority : Option (List ℕ)) (path : List ℕ)
+path-that-needs-no-guard-is-unchanged : (scheme authority : Option (List ℕ)) (path : List ℕ)
     → IfNone authority (has_authority path ≡ false)
     → cond (is_some scheme) (guarded authority path) path ≡ path
-path-that-needs-no-guard-is-kept None authority path h = refl
-path-that-needs-no-guard-is-kept (Some s) None path h = cond-false _ _ _ h
-path-that-needs-no-guard-is-kept (Some s) (Some a) path h = refl
+path-that-needs-no-guard-is-unchanged None authority path h = refl
+path-that-needs-no-guard-is-unchanged (Some s) None path h = cond-false _ _ _ h
+path-that-needs-no-guard-is-unchanged (Some s) (Some a) path h = refl
 
--- a text that is kept, with octets or without, is its own normal text if normalising leaves its
+-- a text whose octets are unchanged is its own normal text if normalising leaves its
 -- components
 pub unchanged-text-is-its-normal-text : (kind : Kind) → HasComponentSets kind
     → (alone : Bool) → (alone ≡ true → KindLacksPastAscii kind)
-    → (ports : PortFunction) (text : List ℕ) → IsTextOf kind text → IsKept alone text
+    → (ports : PortFunction) (text : List ℕ) → IsTextOf kind text → HasUnchangedOctets alone text
     → (let p = components text in AreUnchanged p
     → IfSome p.authority (λ a. IsUnchangedPort (default_port_of ports p.scheme)
     (authority_parts a).port)
     → text ≡ normal_text (meaning_of kind ports text))
-unchanged-text-is-its-normal-text kind sets alone none ports text w bytes kept port =
+unchanged-text-is-its-normal-text kind sets alone none ports text w bytes unchanged port =
     let p : Components = components text in
     let split : IsSplitOf text p = components-are-split-of-text text in
     let utf8 : AreUtf8 p = components-of-utf8-are-utf8 text w.utf8 in
     let parts : ArePartsOfKind kind p = text-has-parts-of-kind kind text w in
-    let from_authority = kept-text-splits alone (marked [] p.scheme (codes ":")) _
-    (subst (IsKept alone) (sym split.whole) bytes) in
-    let from_path = kept-text-splits alone (marked (codes "//") p.authority []) _
+    let from_authority = unchanged-text-splits alone (marked [] p.scheme (codes ":")) _
+    (subst (HasUnchangedOctets alone) (sym split.whole) bytes) in
+    let from_path = unchanged-text-splits alone (marked (codes "//") p.authority []) _
     from_authority.1 in
-    let from_query = kept-text-splits alone p.path _ from_path.1 in
-    let from_fragment = kept-text-splits alone (marked (codes "?") p.query []) _ from_query.1 in
-    let authority = kept-authority-if-some-is-normal kind sets alone none
+    let from_query = unchanged-text-splits alone p.path _ from_path.1 in
+    let from_fragment =
+    unchanged-text-splits alone (marked (codes "?") p.query []) _ from_query.1 in
+    let authority = unchanged-authority-if-some-is-normal kind sets alone none
     (default_port_of ports p.scheme) p.authority parts.authority
-    (delimited-component-of-kept-is-kept alone (codes "//") [] p.authority from_path.0)
-    kept.host port in
-    let query = kept-option-decodes-to-itself kind.query alone (λ e. (none e).query)
+    (delimited-component-of-unchanged-is-unchanged alone (codes "//") [] p.authority from_path.0)
+    unchanged.host port in
+    let query = unchanged-option-decodes-to-itself kind.query alone (λ e. (none e).query)
     sets.query.percent p.query utf8.query (IfSome-weaken p.query
     (λ q. is_set_text kind.query q ≡ true) (IsValidFor kind.query)
     (λ q h. set-text-is-valid kind.query q h) parts.query)
-    (delimited-component-of-kept-is-kept alone (codes "?") [] p.query from_fragment.0) in
-    let fragment = kept-option-decodes-to-itself kind.fragment alone (λ e. (none e).fragment)
+    (delimited-component-of-unchanged-is-unchanged alone (codes "?") [] p.query from_fragment.0) in
+    let fragment = unchanged-option-decodes-to-itself kind.fragment alone (λ e. (none e).fragment)
     sets.fragment.percent p.fragment utf8.fragment (IfSome-weaken p.fragment
     (λ f. is_set_text kind.fragment f ≡ true) (IsValidFor kind.fragment)
     (λ f h. set-text-is-valid kind.fragment f h) parts.fragment)
-    (delimited-component-of-kept-is-kept alone (codes "#") [] p.fragment from_fragment.1) in
-    let decoded = ap (λ x. print (decode_unreserved kind.path x)) kept.path.dotless
-    ∙ kept-decodes-to-itself kind.path alone (λ e. (none e).path) sets.path.percent p.path
+    (delimited-component-of-unchanged-is-unchanged alone
+    (codes "#") [] p.fragment from_fragment.1) in
+    let decoded = ap (λ x. print (decode_unreserved kind.path x)) unchanged.path.dotless
+    ∙ unchanged-text-decodes-to-itself kind.path alone (λ e. (none e).path) sets.path.percent p.path
     utf8.path (set-text-is-valid kind.path p.path parts.path) from_query.0 in
     let path : normal_path (meaning_of kind ports text) ≡ p.path =
-    (λ i. cond (is_some (kept.scheme i)) (guarded (authority i) (decoded i)) (decoded i))
-    ∙ path-that-needs-no-guard-is-kept p.scheme p.authority p.path split.no_authority in
+    (λ i. cond (is_some (unchanged.scheme i)) (guarded (authority i) (decoded i)) (decoded i))
+    ∙ path-that-needs-no-guard-is-unchanged p.scheme p.authority p.path split.no_authority in
     sym split.whole ∙ sym (λ i. recompose (record {
-      scheme = kept.scheme i;
+      scheme = unchanged.scheme i;
       authority = authority i;
       path = path i;
       query = query i;

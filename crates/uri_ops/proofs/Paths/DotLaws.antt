@@ -88,7 +88,7 @@ segments-of-dotless-path-are-dotless segs e f =
     (and_parts true (list_all is_dotless segs)
     (sym (ap (list_all is_dotless) (segments-of-slashed-segments segs e)) ∙ f)).1
 
--- removing dot segments: a path that has none stays (RFC 3986, section 5.2.4)
+-- removing dot segments: a path that has none is unchanged (RFC 3986, section 5.2.4)
 pub remove-dots-of-dotless : (path : List ℕ) → IsAbsolute path → lacks_dot_segments path ≡ true
     → remove_dot_segments path ≡ path
 remove-dots-of-dotless =

@@ -31,7 +31,8 @@ removing-dots-keeps-leading-slash path =
     (λ e. eq_true_from_IsTrue _ (removing-dots-keeps-absolute path (equal-to-true-is-IsTrue _ e))
     ∙ sym e) (λ e. refl)
 
--- removing dot segments: twice is the same as once for an absolute path; any other path stays
+-- removing dot segments: twice is the same as once for an absolute path; any other path is
+-- unchanged
 pub dotless_if_absolute-is-idempotent : (path : List ℕ)
     → dotless_if_absolute (dotless_if_absolute path) ≡ dotless_if_absolute path
 dotless_if_absolute-is-idempotent path = ⊎_elim

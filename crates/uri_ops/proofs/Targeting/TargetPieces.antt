@@ -52,13 +52,13 @@ prefix-with-last-slash-is-directory-of-base b slash prefix absolute place last d
       place = first-bytes-are-prefix b.path prefix (slash + 1) text;
     }
 
--- resolving: a path without dot segments after an authority stays
-dotless-path-after-authority-stays : (authority : Option (List ℕ)) (path : List ℕ)
+-- resolving: a path without dot segments after an authority is unchanged
+dotless-path-after-authority-is-unchanged : (authority : Option (List ℕ)) (path : List ℕ)
     → is_some authority ≡ true
     → IsAbsolute path → lacks_dot_segments path ≡ true
     → guarded authority (dotless_if_absolute path) ≡
     path
-dotless-path-after-authority-stays authority path some absolute dotless =
+dotless-path-after-authority-is-unchanged authority path some absolute dotless =
     sym (path-after-authority-needs-no-guard authority (dotless_if_absolute path) some)
     ∙ cond-true (starts 47 path) _ _ (eq_true_from_IsTrue _ absolute)
     ∙ remove-dots-of-dotless path absolute dotless
@@ -170,13 +170,14 @@ absolute-path-after-authority-is-joined b r prefix (h, e, n) some dotless f =
       before = f ∙ sym (append-nil (before_path b));
       target = ap with_final_path t
           ∙ (λ i. record b {
-            path = dotless-path-after-authority-stays b.authority r.path some absolute dotless i;
+            path = dotless-path-after-authority-is-unchanged b.authority r.path some absolute
+                dotless i;
             query = r.query;
             fragment = r.fragment;
           });
     }
 
--- a reference without a path, of a base whose path stays
+-- a reference without a path, of a base whose path is unchanged
 module _ (b r : Components) (prefix : List ℕ) (s : is_some r.scheme ≡ false)
     (a : is_some r.authority ≡ false)
     (e : is_empty r.path ≡ true) (some : is_some b.authority ≡ true) (absolute : IsAbsolute b.path)
@@ -185,9 +186,9 @@ module _ (b r : Components) (prefix : List ℕ) (s : is_some r.scheme ≡ false)
       ≡ record b { query = query_or b.query r.query; fragment = r.fragment }
   dotted_target-without-path-keeps-base-path = grind (arith, nat_tests)
 
-  -- a base's path without dot segments after an authority stays as it is in the target
+  -- a base's path without dot segments after an authority is unchanged in the target
   kept : guarded b.authority (dotless_if_absolute b.path) ≡ b.path
-  kept = dotless-path-after-authority-stays b.authority b.path some absolute dotless
+  kept = dotless-path-after-authority-is-unchanged b.authority b.path some absolute dotless
 
   pub dotless-base-path-does-not-underflow : underflows_if_absolute (dotted_target b r).path ≡ false
   dotless-base-path-does-not-underflow = ap (λ (c : Components). underflows_if_absolute c.path)

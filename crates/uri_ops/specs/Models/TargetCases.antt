@@ -1,6 +1,7 @@
 -- The cases of the pseudocode of RFC 3986, section 5.2.2, and what each takes from a base and a
 -- reference.
-use Rattle.std.specs.Prelude.{◌≡◌, true, false, List, ℕ, [], ◌++◌, codes, IfSome, is_some, length, option_map, unwrap_or}
+use Rattle.std.specs.Prelude.{◌≡◌, true, false, List, ℕ, [], ◌++◌, codes, IfSome, Option, is_some, length, option_map, unwrap_or}
+use Rattle.std.specs.Borrow.{Bor}
 use Rattle.uri_pct.specs.Delimiters.{slash}
 use Rattle.uri_parts.specs.Components.{Components, IsAbemptyPath, marked, starts}
 use Rattle.uri_parts.specs.Positions.{positions_of}
@@ -30,34 +31,32 @@ IsCaseOf r MergedPath =
 abbrev pub with_authority : Components → Components → Components
 with_authority base r = record r { scheme = base.scheme }
 
--- the target of a base and a reference with an empty path, before dot segments are removed
-abbrev pub with_empty_path : Components → Components → Components
-with_empty_path base r =
-    record base { query = query_or base.query r.query; fragment = r.fragment }
-
--- the target of a base and a reference whose path begins with `/`, before dot segments are removed
-abbrev pub with_absolute_path : Components → Components → Components
-with_absolute_path base r =
-    record base { path = r.path; query = r.query; fragment = r.fragment }
-
--- the target of a base and a reference whose path is merged, before dot segments are removed
-abbrev pub with_merged_path : Components → Components → Components
-with_merged_path base r =
-    record base { path = merged base.path r.path; query = r.query; fragment = r.fragment }
+-- the components of the base, with this path, query and fragment: the target of a reference that
+-- has neither a scheme nor an authority, before dot segments are removed
+abbrev pub with_base_authority : Components → List ℕ → Option (List ℕ) → Option (List ℕ)
+    → Components
+with_base_authority base path query fragment =
+    record base { path = path; query = query; fragment = fragment }
 
 -- the target of a base and a reference in this case, before dot segments are removed: a line of the
 -- pseudocode
 abbrev pub target_in_case : TargetCase → Components → Components → Components
 target_in_case WithScheme base r = r
 target_in_case WithAuthority base r = with_authority base r
-target_in_case EmptyPath base r = with_empty_path base r
-target_in_case AbsolutePath base r = with_absolute_path base r
-target_in_case MergedPath base r = with_merged_path base r
+target_in_case EmptyPath base r =
+    with_base_authority base base.path (query_or base.query r.query) r.fragment
+target_in_case AbsolutePath base r = with_base_authority base r.path r.query r.fragment
+target_in_case MergedPath base r =
+    with_base_authority base (merged base.path r.path) r.query r.fragment
+
+-- the path of these pieces: the second, merged with the base's path, if that is the Option
+abbrev pub path_of_pieces : Option (Bor (List ℕ)) → List ℕ → List ℕ
+path_of_pieces base_path path = unwrap_or (option_map (λ base. merged base.now path) base_path) path
 
 -- the path of a target before its dot segments are removed: that of the base or of the reference,
--- or both merged, if the base's is the Option
+-- or both merged
 abbrev pub dotted_path : DottedTarget → List ℕ
-dotted_path d = unwrap_or (option_map (λ base. merged base.now d.path.now) d.base_path) d.path.now
+dotted_path d = path_of_pieces d.base_path d.path.now
 
 -- these pieces of a base and a reference are those of a target before its dot segments are removed
 pub record IsDottedTarget (t : Components) (d : DottedTarget) : Type 0 where

@@ -21,8 +21,8 @@ is_literal_byte b = not (b == percent_sign || b == 0xE2)
 -- normalising leaves a percent-encoded octet with these digits: they are in upper case, its
 -- character is not unreserved, and it is of ASCII, unless no component of the text may have
 -- characters past ASCII (alone)
-abbrev pub is_kept_octet : Bool → ℕ → ℕ → Bool
-is_kept_octet alone high low =
+abbrev pub is_unchanged_octet : Bool → ℕ → ℕ → Bool
+is_unchanged_octet alone high low =
     (is_ascii_hexdigit high && is_ascii_hexdigit low) && ((nat_lt high 97 && nat_lt low 97)
     && ((alone || nat_lt high 56) && not (is_unreserved (16 * digit_value high + digit_value low))))
 
@@ -30,25 +30,26 @@ is_kept_octet alone high low =
 abbrev pub keeps_digits : Bool → List ℕ → Bool
 keeps_digits alone [] = true
 keeps_digits alone (high ∷ []) = true
-keeps_digits alone (high ∷ low ∷ text) = is_kept_octet alone high low
+keeps_digits alone (high ∷ low ∷ text) = is_unchanged_octet alone high low
 
 -- normalising leaves each percent-encoded octet of the text, and no formatting character of
 -- bidirectional text is in it; alone: no component of the text may have characters past ASCII
-abbrev pub is_kept : Bool → List ℕ → Bool
-is_kept alone [] = true
-is_kept alone (b ∷ text) = (not (b == 0xE2) && (not (b == percent_sign) || keeps_digits alone text))
-    && is_kept alone text
+abbrev pub has_unchanged_octets : Bool → List ℕ → Bool
+has_unchanged_octets alone [] = true
+has_unchanged_octets alone (b ∷ text) =
+    (not (b == 0xE2) && (not (b == percent_sign) || keeps_digits alone text))
+    && has_unchanged_octets alone text
 
 -- normalising decodes nothing in the text
-abbrev pub IsKept : Bool → List ℕ → Type 0
-IsKept alone text = is_kept alone text ≡ true
+abbrev pub HasUnchangedOctets : Bool → List ℕ → Type 0
+HasUnchangedOctets alone text = has_unchanged_octets alone text ≡ true
 
 -- the same at one index: normalising leaves an octet that begins there, and no formatting character
 -- begins there
-abbrev pub is_kept_at : Bool → List ℕ → ℕ → Bool
-is_kept_at alone text k = not (slice_index text k == 0xE2)
+abbrev pub is_octet_unchanged_at : Bool → List ℕ → ℕ → Bool
+is_octet_unchanged_at alone text k = not (slice_index text k == 0xE2)
     && (not (slice_index text k == percent_sign)
-    || is_kept_octet alone (slice_index text (k + 1)) (slice_index text (k + 2)))
+    || is_unchanged_octet alone (slice_index text (k + 1)) (slice_index text (k + 2)))
 
 -- a dot is at this index of a text, and a `/` before it, as where a dot segment begins
 abbrev pub is_dot_after_slash : List ℕ → ℕ → Bool
@@ -62,13 +63,14 @@ is_literal_at text k = is_literal_byte (slice_index text k) && not (is_dot_after
 
 -- no dot segment begins with the dot that is at this index after a `/`, if it is before the limit
 -- (section 3.3): another byte than `.`, `/` and `%` follows it before the limit
-abbrev pub is_dot_kept_at : ℕ → List ℕ → ℕ → Bool
-is_dot_kept_at limit text k = not (is_dot_after_slash text k) || (nat_le limit k
+abbrev pub is_dot_unchanged_at : ℕ → List ℕ → ℕ → Bool
+is_dot_unchanged_at limit text k = not (is_dot_after_slash text k) || (nat_le limit k
     || (nat_lt (k + 1) limit && not (is_one_of (codes "./%") (slice_index text (k + 1)))))
 
 -- normalising leaves what begins at this index, where it removes dot segments before the limit
-abbrev pub stays_at : Bool → ℕ → List ℕ → ℕ → Bool
-stays_at alone limit text k = is_kept_at alone text k && is_dot_kept_at limit text k
+abbrev pub is_unchanged_at : Bool → ℕ → List ℕ → ℕ → Bool
+is_unchanged_at alone limit text k =
+    is_octet_unchanged_at alone text k && is_dot_unchanged_at limit text k
 
 -- no such byte begins at the indices from start up to end, which is an index of the text
 pub record IsLiteralRun (text : List ℕ) (start end : ℕ) : Type 0 where
@@ -97,8 +99,8 @@ IsUnchangedPort default port = port_meaning default port ≡ port
 
 -- the byte is no letter in upper case, begins no octet, and begins no host in brackets: normalising
 -- leaves a scheme or a host of such bytes, if they are of ASCII
-abbrev pub is_settled_byte : ℕ → Bool
-is_settled_byte b = not (is_ascii_uppercase b)
+abbrev pub is_unchanged_host_byte : ℕ → Bool
+is_unchanged_host_byte b = not (is_ascii_uppercase b)
     && (not (b == percent_sign) && not (b == left_bracket))
 
 -- normalising leaves this path under the scheme, if nothing in it is decoded: it has no dot segment
@@ -107,8 +109,8 @@ pub record IsUnchangedPath (scheme : Option (List ℕ)) (path : List ℕ) : Type
   pub dotless : dotless_path scheme path ≡ path
   pub underflow : path_underflows scheme path ≡ false
 
--- normalising leaves these components, if nothing in them is decoded and the port stays (section
--- 6.2.2)
+-- normalising leaves these components, if nothing in them is decoded and the port is unchanged
+-- (section 6.2.2)
 pub record AreUnchanged (p : Components) : Type 0 where
   pub scheme : normal_scheme p.scheme ≡ p.scheme
   pub host : IfSome p.authority (λ a. IsUnchangedHost (authority_parts a).host)

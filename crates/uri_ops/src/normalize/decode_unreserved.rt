@@ -105,7 +105,7 @@ fn push_decoded_parts(
 }
 
 /// Appends the tokens of the text with decodable octets decoded, and with letters lowered if
-/// `lowers`. It copies runs that stay as they are, and between them decodes octets one by one. At
+/// `lowers`. It copies runs that are unchanged, and between them decodes octets one by one. At
 /// the first octet past ASCII of an IRI it calls `push_decoded_parts`. `first` is the position of
 /// the first octet.
 ///
@@ -200,7 +200,7 @@ fn push_decoded_by_runs(
 
 /// Appends the text with its decodable octets decoded, and with its ASCII letters in lower case,
 /// also those that were octets, if `lowers`. Every other octet gets upper-case digits, formatting
-/// characters of bidirectional text become octets, and all else stays as it is.
+/// characters of bidirectional text become octets, and all else is unchanged.
 ///
 /// After an error, part of it may have been appended.
 ///

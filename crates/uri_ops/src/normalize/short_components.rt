@@ -124,7 +124,7 @@ fn push_short_bytes(alone: bool, lowers: bool, text: &str, out: &mut Vec<u8>) ->
     ensures text { (set : TableSet) → (alone ≡ true → LacksPastAscii set)
         → out.new.items ++ decoded_text lowers set (drop result text.now)
         ≡ out.old.items ++ decoded_text lowers set text.now }
-    ensures kept { take (length out.old.items) out.new.items ≡ out.old.items }
+    ensures unchanged { take (length out.old.items) out.new.items ≡ out.old.items }
     ensures ascii { IsAscii (drop (length out.old.items) out.new.items) }
     ensures boundary { IsCharBoundary text.now result }
     ensures valid { IsValidFor widest_set (drop result text.now) }
@@ -153,7 +153,7 @@ fn push_short_bytes(alone: bool, lowers: bool, text: &str, out: &mut Vec<u8>) ->
 
 /// Appends a short component with decodable octets decoded, and with letters lowered if `lowers`,
 /// and returns true. What it appends is ASCII. If something is past ASCII, or the text has no room,
-/// it returns false, and the text is as before. But octets past ASCII stay octets if `alone`: the
+/// it returns false, and the text is as before. But octets past ASCII are unchanged if `alone`: the
 /// table of the component allows no such character.
 ///
 /// If a text is short, this takes fewer instructions than to find and copy its runs. It calls

@@ -11,15 +11,15 @@ ghost use Rattle.uri_parts.specs.Components.{starts};
 ghost use Rattle.uri_parts.specs.CoreTexts.{core_text};
 ghost use Rattle.uri_ops.specs.Models.Unchanged.{IsUnchangedHost};
 ghost use Rattle.uri_ops.specs.Models.Unchanged.{IsUnchangedPrefix, KindLacksPastAscii};
-ghost use Rattle.uri_ops.specs.Models.Unchanged.{is_literal_byte, is_settled_byte};
+ghost use Rattle.uri_ops.specs.Models.Unchanged.{is_literal_byte, is_unchanged_host_byte};
 ghost use Rattle.uri_ops.specs.Meaning.{host_meaning, meaning_of};
 ghost use Rattle.uri_ops.specs.Normal.{host_text, normal_text};
 ghost use Rattle.uri_ops.specs.Normalizers.{HasNormalText, text_underflows};
 ghost use Rattle.uri_ops.specs.SchemeRules.{meaning_under};
 
-use crate::normalize::kept_octets::is_kept;
 use crate::normalize::normal_authority::{is_bracketed, is_port_unchanged};
 use crate::normalize::ruled_parts::{has_default_host, has_root_path, ruled_authority};
+use crate::normalize::unchanged_octets::is_unchanged_from;
 use crate::read_back::are_equal;
 use crate::read_back::literal_back::LiteralBack;
 use crate::read_back::normal_authority::ipv6_host_of;
@@ -38,10 +38,10 @@ fn lacks_past_ascii<K: Kind>() -> bool
     !K::QueryE::table().allows_some_past_ascii()
 }
 
-/// Returns whether each byte of a scheme or a host is settled, so that normalising keeps it: it is
-/// neither a letter in upper case nor a `%` nor a `[`.
+/// Returns whether normalising leaves each byte of a scheme or of a host that is a name: none is a
+/// letter in upper case, a `%` or a `[`.
 #[inline(never)]
-fn is_settled(text: &str) -> bool
+fn is_name_unchanged(text: &str) -> bool
     ensures lower { result ≡ true → str_to_ascii_lowercase text.now ≡ text.now }
     ensures host { result ≡ true → IsUnchangedHost text.now }
 {
@@ -96,21 +96,22 @@ fn is_address_unchanged(host: &str) -> bool
 }
 
 /// The ASCII characters but `%`, `[` and the letters in upper case.
-const SETTLED: u128 = !(1 << b'%' | 1 << b'[' | ((1 << 0x5B) - (1 << 0x41)));
+const UNCHANGED: u128 = !(1 << b'%' | 1 << b'[' | ((1 << 0x5B) - (1 << 0x41)));
 
-/// The word of `SETTLED` for the characters below 64.
-const SETTLED_LOW: u64 = (SETTLED & 0xFFFF_FFFF_FFFF_FFFF) as u64;
+/// The word of `UNCHANGED` for the characters below 64.
+const UNCHANGED_LOW: u64 = (UNCHANGED & 0xFFFF_FFFF_FFFF_FFFF) as u64;
 
-/// The word of `SETTLED` for the characters from 64 on.
-const SETTLED_HIGH: u64 = (SETTLED >> 64) as u64;
+/// The word of `UNCHANGED` for the characters from 64 on.
+const UNCHANGED_HIGH: u64 = (UNCHANGED >> 64) as u64;
 
-/// Returns `true` only if each of the first bytes of a text, up to `end`, is settled: it is neither
-/// a letter in upper case nor a `%` nor a `[`. It returns `false` for a text that is shorter than a
+/// Returns `true` only if each of the first bytes of a text, up to `end`, is unchanged: none is a
+/// letter in upper case, a `%` or a `[`. It returns `false` for a text that is shorter than a
 /// block.
 #[inline(always)]
-fn is_prefix_settled(bytes: &[u8], end: usize) -> bool
+fn is_prefix_unchanged(bytes: &[u8], end: usize) -> bool
     requires { end ≤ length bytes.now }
-    ensures settled { result ≡ true → list_all is_settled_byte (take end bytes.now) ≡ true }
+    ensures unchanged { result ≡ true
+        → list_all is_unchanged_host_byte (take end bytes.now) ≡ true }
     ensures literal { result ≡ true → (k : ℕ) → k < end
         → is_literal_byte (slice_index bytes.now k) ≡ true }
 {
@@ -118,23 +119,23 @@ fn is_prefix_settled(bytes: &[u8], end: usize) -> bool
         return false;
     }
     let window = &bytes[..end.max(LANES)];
-    end <= run_end(SETTLED_LOW, SETTLED_HIGH, window, 0)
+    end <= run_end(UNCHANGED_LOW, UNCHANGED_HIGH, window, 0)
 }
 
 /// Returns the length of a prefix of the text in which normalising leaves each octet and each
 /// character, if it also leaves the scheme and the host: up to the end of the host, if each byte
-/// there is settled, or else one byte. If it may change one of them, the result is 0.
+/// there is unchanged, or else one byte. If it may change one of them, the result is 0.
 #[inline(always)]
 fn unchanged_prefix_len<K: Kind>(core: Core<K, &str>) -> usize
     ensures { 0 < result → IsUnchangedPrefix (core_text core.entry) result }
 {
     let host_end = core.packed_positions().host_end;
     let bytes = core.as_str().as_bytes();
-    if 0 < host_end && host_end <= bytes.len() && is_prefix_settled(bytes, host_end) {
+    if 0 < host_end && host_end <= bytes.len() && is_prefix_unchanged(bytes, host_end) {
         return host_end;
     }
     if let Some(scheme) = core.scheme() {
-        if !is_settled(scheme.as_str()) {
+        if !is_name_unchanged(scheme.as_str()) {
             return 0;
         }
     }
@@ -144,7 +145,7 @@ fn unchanged_prefix_len<K: Kind>(core: Core<K, &str>) -> usize
             if !is_address_unchanged(host) {
                 return 0;
             }
-        } else if !is_settled(host) {
+        } else if !is_name_unchanged(host) {
             return 0;
         }
     }
@@ -175,7 +176,7 @@ pub(crate) fn is_found_normal_by_ports<K: Kind, S: SchemeRules>(
     } else {
         0
     };
-    is_kept(lacks_past_ascii::<K>(), bytes, start, limit)
+    is_unchanged_from(lacks_past_ascii::<K>(), bytes, start, limit)
         && is_port_unchanged(core.authority(), core.scheme(), rules)
 }
 

@@ -17,7 +17,7 @@ use uri_pct::pct_enc::EStr;
 pub type NormalPathBack<'a> = Joined<LiteralBack<'a>, PathBack<'a>>;
 
 /// Returns whether a text begins with `//`. It is read to its start.
-fn begins_with_two_slashes<A: ReadBack>(text: A) -> bool
+fn is_read_with_two_slashes<A: ReadBack>(text: A) -> bool
     ensures { result ≡ has_authority (A.unread text) }
 {
     let mut text = text;
@@ -36,7 +36,7 @@ fn guard_before(has_authority: bool, path: PathBack<'_>) -> &'static [u8]
     ensures { (authority : Option (List ℕ)) → is_some authority ≡ has_authority
         → result.now ++ path_unread path.entry ≡ guarded authority (path_unread path.entry) }
 {
-    if !has_authority && begins_with_two_slashes(path) {
+    if !has_authority && is_read_with_two_slashes(path) {
         b"/."
     } else {
         b""

@@ -1,12 +1,10 @@
 //! The pieces of a base and a reference that are a target before its dot segments are removed (RFC
 //! 3986, section 5.2.2).
-ghost use Rattle.std.specs.Prelude.{◌≡◌, [], codes, false, is_some};
+ghost use Rattle.std.specs.Prelude.{◌≡◌, ℕ, [], IfSome, List, Option, codes, false, is_some};
 ghost use Rattle.uri_parts.specs.Components.{IsAbemptyPath, marked};
-ghost use Rattle.uri_ops.specs.Models.TargetCases.{IsCaseOf, IsDottedTarget};
-ghost use Rattle.uri_ops.specs.Models.TargetCases.{with_absolute_path as absolute_path_line};
+ghost use Rattle.uri_ops.specs.Models.TargetCases.{IsCaseOf, IsDottedTarget, path_of_pieces};
 ghost use Rattle.uri_ops.specs.Models.TargetCases.{with_authority as authority_line};
-ghost use Rattle.uri_ops.specs.Models.TargetCases.{with_empty_path as empty_path_line};
-ghost use Rattle.uri_ops.specs.Models.TargetCases.{with_merged_path as merged_path_line};
+ghost use Rattle.uri_ops.specs.Models.TargetCases.{with_base_authority as base_authority_line};
 ghost use Rattle.uri_ops.specs.Resolving.{components_of};
 ghost use Rattle.uri_ops.specs.Target.{dotted_target, is_opaque_rejection, query_or};
 
@@ -81,58 +79,29 @@ fn query_or_base_query<'a>(base: &TextView<'a>, reference: &TextView<'a>) -> &'a
     base.query_with_delimiter()
 }
 
-/// Returns the target of a reference whose path is empty: all of the base but for its fragment, and
-/// for its query if the reference has one.
+/// Returns the target of a reference that has neither a scheme nor an authority: what the base has
+/// before its path, then a path and a query, and the reference's fragment. If a path of the base is
+/// given, the path is merged with it (RFC 3986, section 5.2.3).
 #[inline(always)]
-fn with_empty_path<'a>(base: &TextView<'a>, reference: &TextView<'a>) -> DottedTarget<'a>
-    ensures { IsDottedTarget
-        (empty_path_line (components_of base.now) (components_of reference.now)) result }
+fn with_base_authority<'a>(
+    base: &TextView<'a>,
+    reference: &TextView<'a>,
+    base_path: Option<&'a str>,
+    path: &'a str,
+    query: &'a str,
+) -> DottedTarget<'a>
+    requires { IfSome base_path (λ base. IsAbemptyPath base.now) }
+    ensures { (whole : List ℕ) (asked : Option (List ℕ))
+        → path_of_pieces base_path.entry path.now ≡ whole → query.now ≡ marked (codes "?") asked []
+        → IsDottedTarget (base_authority_line (components_of base.now) whole asked
+        (components_of reference.now).fragment) result }
 {
     DottedTarget {
         scheme: "",
         before_path: base.before_path(),
-        base_path: None,
-        path: base.path(),
-        query: query_or_base_query(base, reference),
-        fragment: reference.fragment_with_delimiter(),
-        scheme_end: base.scheme_end(),
-        authority: base.authority(),
-    }
-}
-
-/// Returns the target of a reference whose path begins with `/`: what the base has before its path,
-/// and then the reference.
-#[inline(always)]
-fn with_absolute_path<'a>(base: &TextView<'a>, reference: &TextView<'a>) -> DottedTarget<'a>
-    ensures { IsDottedTarget
-        (absolute_path_line (components_of base.now) (components_of reference.now)) result }
-{
-    DottedTarget {
-        scheme: "",
-        before_path: base.before_path(),
-        base_path: None,
-        path: reference.path(),
-        query: reference.query_with_delimiter(),
-        fragment: reference.fragment_with_delimiter(),
-        scheme_end: base.scheme_end(),
-        authority: base.authority(),
-    }
-}
-
-/// Returns the target of a reference whose path is merged with the base's (RFC 3986, section
-/// 5.2.3).
-#[inline(always)]
-fn with_merged_path<'a>(base: &TextView<'a>, reference: &TextView<'a>) -> DottedTarget<'a>
-    requires { IsAbemptyPath (components_of base.now).path }
-    ensures { IsDottedTarget
-        (merged_path_line (components_of base.now) (components_of reference.now)) result }
-{
-    DottedTarget {
-        scheme: "",
-        before_path: base.before_path(),
-        base_path: Some(base.path()),
-        path: reference.path(),
-        query: reference.query_with_delimiter(),
+        base_path,
+        path,
+        query,
         fragment: reference.fragment_with_delimiter(),
         scheme_end: base.scheme_end(),
         authority: base.authority(),
@@ -155,9 +124,18 @@ pub(crate) fn dotted_target<'a>(
     match case {
         TargetCase::WithScheme => with_scheme(reference),
         TargetCase::WithAuthority => with_authority(base, reference),
-        TargetCase::EmptyPath => with_empty_path(base, reference),
-        TargetCase::AbsolutePath => with_absolute_path(base, reference),
-        TargetCase::MergedPath => with_merged_path(base, reference),
+        TargetCase::EmptyPath => {
+            let query = query_or_base_query(base, reference);
+            with_base_authority(base, reference, None, base.path(), query)
+        }
+        TargetCase::AbsolutePath => {
+            let query = reference.query_with_delimiter();
+            with_base_authority(base, reference, None, reference.path(), query)
+        }
+        TargetCase::MergedPath => {
+            let query = reference.query_with_delimiter();
+            with_base_authority(base, reference, Some(base.path()), reference.path(), query)
+        }
     }
 }
 

@@ -1,9 +1,6 @@
 //! Which case of the pseudocode of RFC 3986, section 5.2.2, a reference is.
-ghost use Rattle.std.specs.Prelude.{◌≡◌};
-ghost use Rattle.uri_parts.specs.Components.{Components};
-ghost use Rattle.uri_ops.specs.Models.TargetCases.{IsCaseOf, target_in_case};
+ghost use Rattle.uri_ops.specs.Models.TargetCases.{IsCaseOf};
 ghost use Rattle.uri_ops.specs.Resolving.{components_of};
-ghost use Rattle.uri_ops.specs.Target.{dotted_target};
 
 use crate::path::slashes::begins_with_slash;
 use crate::resolve::text_view::TextView;
@@ -25,9 +22,7 @@ pub(crate) enum TargetCase {
 
 /// Returns the case of a reference.
 pub(crate) fn target_case(reference: &TextView<'_>) -> TargetCase
-    ensures case { IsCaseOf (components_of reference.now) result }
-    ensures line { (base : Components) → dotted_target base (components_of reference.now)
-        ≡ target_in_case result base (components_of reference.now) }
+    ensures { IsCaseOf (components_of reference.now) result }
 {
     if reference.has_scheme() {
         return TargetCase::WithScheme;

@@ -117,9 +117,9 @@ pub append_keeps_prefix : (old new more : List ℕ) → take (length old) new �
 append_keeps_prefix old new more e = grind (arith, nat_tests, length-take, take-append-le)
 
 -- encoding: if a text begins with a longer one, it begins with what that begins with
-pub kept_prefix-transitive : (old mid new : List ℕ) → take (length old) mid ≡ old
+pub unchanged_prefix-transitive : (old mid new : List ℕ) → take (length old) mid ≡ old
     → take (length mid) new ≡ mid → take (length old) new ≡ old
-kept_prefix-transitive old mid new e f = grind (arith, nat_tests, length-take, take-take)
+unchanged_prefix-transitive old mid new e f = grind (arith, nat_tests, length-take, take-take)
 
 -- encoding: the empty text is encoded as the empty text
 pub empty_text_is_encoded_as_nothing : (set : TableSet) → print (encode_text set []) ≡ []

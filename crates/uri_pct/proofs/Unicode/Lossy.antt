@@ -80,7 +80,7 @@ lossy_text_of_chars_is_their_utf8 [] = refl
 lossy_text_of_chars_is_their_utf8 (c ∷ cs) = ap (λ x. encode_utf8 c ++ x)
     (lossy_text_of_chars_is_their_utf8 cs)
 
--- lossy UTF-8: a text in UTF-8 stays as it is, whatever follows it
+-- lossy UTF-8: a text in UTF-8 is unchanged, whatever follows it
 lossy_text_keeps_utf8_prefix : (text rest : List ℕ) → IsUtf8 text
     → lossy_text (text ++ rest) ≡ text ++ lossy_text rest
 lossy_text_keeps_utf8_prefix text rest u =
@@ -146,7 +146,7 @@ pub utf8_valid_len_prefix_is_utf8 : (bs : List ℕ) → IsUtf8 (take (utf8_valid
 unfolding utf8_valid_len
 utf8_valid_len_prefix_is_utf8 bs = prefix_of_valid_len_is_utf8 bs (length bs)
 
--- lossy UTF-8: a text in UTF-8 stays as it is
+-- lossy UTF-8: a text in UTF-8 is unchanged
 pub lossy_text_of_utf8_is_itself : (bs : List ℕ) → IsUtf8 bs → lossy_text bs ≡ bs
 unfolding pieces_from
 lossy_text_of_utf8_is_itself bs u = ap lossy_text (sym (append-nil bs))

@@ -37,14 +37,14 @@ examples_of_decoded_uri_components = (refl, refl, refl, refl, refl)
 
 -- examples of unreserved octets: in a URI no octet past ASCII is decoded,
 -- and each octet is decoded by itself
-octets_past_ascii_stay_octets_in_uri : (print_decoded path_set (codes "/%c3%a9%61")
+octets_past_ascii_are_unchanged_in_uri : (print_decoded path_set (codes "/%c3%a9%61")
     ≡ codes "/%C3%A9a")
     × (map decode_octet (tokens (codes "%c3%61%41"))
     ≡ decode_unreserved path_set (codes "%c3%61%41"))
 unfolding print_decoded chars encode_utf8 tokens_from_chars is_pct_encoded pieces_from
     following_ranges decode_after_run decode_run
     is_decodable is_bidi_formatting is_never_literal allows_past_ascii
-octets_past_ascii_stay_octets_in_uri = (refl, refl)
+octets_past_ascii_are_unchanged_in_uri = (refl, refl)
 
 -- examples of unreserved octets: a character between two
 -- octets separates them, though together they would be `é`
@@ -90,14 +90,15 @@ unfolding print_decoded iri_component_set chars encode_utf8 tokens_from_chars is
     decode_run is_decodable is_bidi_formatting is_never_literal allows_past_ascii is_ucschar
 formatting_char_keeps_octets_apart = (refl, refl)
 
--- example of unreserved octets: the octets of U+202A, a formatting character, stay in a query
-bidi_embedding_in_query_stays_octets : print_decoded iquery_set (codes "%E2%80%AA")
+-- example of unreserved octets: the octets of U+202A, a formatting character, are unchanged in
+-- a query
+bidi_embedding_in_query_is_unchanged : print_decoded iquery_set (codes "%E2%80%AA")
     ≡ codes "%E2%80%AA"
 unfolding print_decoded iquery_set chars encode_utf8 tokens_from_chars is_pct_encoded pieces_from
     following_ranges
     decode_after_run decode_run is_decodable is_bidi_formatting is_never_literal allows_past_ascii
     is_ucschar is_iprivate
-bidi_embedding_in_query_stays_octets = refl
+bidi_embedding_in_query_is_unchanged = refl
 
 -- examples of unreserved octets: U+202F and U+200D, beside formatting characters, are decoded
 neighbours_of_formatting_chars_are_decoded : (print_decoded (iri_component_set path_set)
@@ -108,14 +109,15 @@ unfolding print_decoded iri_component_set chars encode_utf8 tokens_from_chars is
     decode_run is_decodable is_bidi_formatting is_never_literal allows_past_ascii is_ucschar
 neighbours_of_formatting_chars_are_decoded = (refl, refl)
 
--- example of unreserved octets: the octets of U+200F, a formatting character, stay after 30 octets
-formatting_char_after_30_octets_stays_octets : print_decoded (iri_component_set path_set)
+-- example of unreserved octets: the octets of U+200F, a formatting character, are unchanged
+-- after 30 octets
+formatting_char_after_30_octets_is_unchanged : print_decoded (iri_component_set path_set)
     (repeat 30 (codes "%61") ++ codes "%E2%80%8F")
     ≡ repeat 30 (codes "a") ++ codes "%E2%80%8F"
 unfolding print_decoded iri_component_set chars encode_utf8 tokens_from_chars is_pct_encoded
     pieces_from following_ranges decode_after_run
     decode_run is_decodable is_bidi_formatting is_never_literal allows_past_ascii is_ucschar
-formatting_char_after_30_octets_stays_octets = refl
+formatting_char_after_30_octets_is_unchanged = refl
 
 -- examples of unreserved octets: only a query decodes U+E000
 private_use_is_decoded_in_query_only : (print_decoded iquery_set (codes "%EE%80%80")

@@ -16,27 +16,27 @@ use Rattle.uri_pct.proofs.UnreservedDecoding.Formatting.{encode_formatting_commu
 use Rattle.uri_pct.proofs.UnreservedDecoding.DecodedTokens as DecodedTokens
 
 -- unreserved octets: no octet of a run decodes to a character
-abbrev StaysOctets : TableSet → List ℕ → Type 0
-StaysOctets set run = decode_run set run ≡ map Octet run
+abbrev IsUnchangedRun : TableSet → List ℕ → Type 0
+IsUnchangedRun set run = decode_run set run ≡ map Octet run
 
 -- unreserved octets: no octet of the tokens decodes to a character, after a run of octets
 abbrev IsDecoded : TableSet → List ℕ → List Token → Type 0
-IsDecoded set run [] = StaysOctets set run
+IsDecoded set run [] = IsUnchangedRun set run
 IsDecoded set run (Octet value ∷ ts) = IsDecoded set (run ++ value ∷ []) ts
-IsDecoded set run (Char c ∷ ts) = StaysOctets set run × IsDecoded set [] ts
+IsDecoded set run (Char c ∷ ts) = IsUnchangedRun set run × IsDecoded set [] ts
 
--- unreserved octets: tokens that are decoded already stay, after a run of octets that does
+-- unreserved octets: tokens that are decoded already are unchanged, after an unchanged run
 decoding_decoded_tokens_keeps_them : (set : TableSet) (run : List ℕ) (ts : List Token)
     → IsDecoded set run ts → decode_after_run set run ts ≡ map Octet run ++ ts
 unfolding decode_after_run
-decoding_decoded_tokens_keeps_them set run [] stays = stays ∙ sym (append-nil (map Octet run))
-decoding_decoded_tokens_keeps_them set run (Octet value ∷ ts) stays =
-    decoding_decoded_tokens_keeps_them set (run ++ value ∷ []) ts stays
+decoding_decoded_tokens_keeps_them set run [] same = same ∙ sym (append-nil (map Octet run))
+decoding_decoded_tokens_keeps_them set run (Octet value ∷ ts) same =
+    decoding_decoded_tokens_keeps_them set (run ++ value ∷ []) ts same
     ∙ ap (λ x. x ++ ts) (map-append Octet run (value ∷ []))
     ∙ append_assoc (map Octet run) (Octet value ∷ []) ts
-decoding_decoded_tokens_keeps_them set run (Char c ∷ ts) stays =
-    ap (λ x. x ++ Char c ∷ decode_after_run set [] ts) stays.0
-    ∙ ap (λ x. map Octet run ++ Char c ∷ x) (decoding_decoded_tokens_keeps_them set [] ts stays.1)
+decoding_decoded_tokens_keeps_them set run (Char c ∷ ts) same =
+    ap (λ x. x ++ Char c ∷ decode_after_run set [] ts) same.0
+    ∙ ap (λ x. map Octet run ++ Char c ∷ x) (decoding_decoded_tokens_keeps_them set [] ts same.1)
 
 -- unreserved octets: octets (more) before decoded tokens stay octets,
 -- if they do as the end of the run
@@ -49,35 +49,35 @@ octets_before_decoded_tokens_stay_decoded set run (b ∷ more) ts h =
     (subst (λ r. IsDecoded set r ts) (sym (append_assoc run (b ∷ []) more)) h)
 
 -- unreserved octets: a piece of bytes is not decoded:
--- it is ill-formed, or a character that is kept as octets
+-- it is ill-formed, or a character that is not decoded
 is_undecoded : TableSet → Piece → Bool
 is_undecoded set (WellFormed bytes) = not (is_decodable set (char_of bytes))
 is_undecoded set (IllFormed bytes) = true
 
--- unreserved octets: a piece that is not decoded stays octets
-undecodable_piece_stays_octets : (set : TableSet) (p : Piece) → is_undecoded set p ≡ true
+-- unreserved octets: a piece that is not decoded is unchanged
+undecodable_piece_is_unchanged : (set : TableSet) (p : Piece) → is_undecoded set p ≡ true
     → decode_piece set p ≡ map Octet (piece_bytes p)
 unfolding is_undecoded
-undecodable_piece_stays_octets set (WellFormed bytes) e = cond-false _ _ _ (not-true _ e)
-undecodable_piece_stays_octets set (IllFormed bytes) e = refl
+undecodable_piece_is_unchanged set (WellFormed bytes) e = cond-false _ _ _ (not-true _ e)
+undecodable_piece_is_unchanged set (IllFormed bytes) e = refl
 
--- unreserved octets: pieces that are not decoded stay octets
-undecodable_pieces_stay_octets : (set : TableSet) (ps : List Piece) → list_all (is_undecoded set) ps
-    ≡ true
+-- unreserved octets: pieces that are not decoded are unchanged
+undecodable_pieces_are_unchanged : (set : TableSet) (ps : List Piece)
+    → list_all (is_undecoded set) ps ≡ true
     → flat_map (decode_piece set) ps ≡ map Octet (bytes_of_pieces ps)
-undecodable_pieces_stay_octets set [] e = refl
-undecodable_pieces_stay_octets set (p ∷ ps) e =
+undecodable_pieces_are_unchanged set [] e = refl
+undecodable_pieces_are_unchanged set (p ∷ ps) e =
     let q = and_parts (is_undecoded set p) _ e in
-    ap (λ x. x ++ flat_map (decode_piece set) ps) (undecodable_piece_stays_octets set p q.0)
-    ∙ ap (λ x. map Octet (piece_bytes p) ++ x) (undecodable_pieces_stay_octets set ps q.1)
+    ap (λ x. x ++ flat_map (decode_piece set) ps) (undecodable_piece_is_unchanged set p q.0)
+    ∙ ap (λ x. map Octet (piece_bytes p) ++ x) (undecodable_pieces_are_unchanged set ps q.1)
     ∙ sym (map-append Octet (piece_bytes p) (bytes_of_pieces ps))
 
--- unreserved octets: a run of octets stays, if none of its pieces is decoded
-run_of_undecodable_pieces_stays_octets : (set : TableSet) (ps : List Piece) → ArePiecesOfOwnBytes ps
-    → list_all (is_undecoded set) ps ≡ true → StaysOctets set (bytes_of_pieces ps)
+-- unreserved octets: a run of octets is unchanged, if none of its pieces is decoded
+run_of_undecodable_pieces_is_unchanged : (set : TableSet) (ps : List Piece) → ArePiecesOfOwnBytes ps
+    → list_all (is_undecoded set) ps ≡ true → IsUnchangedRun set (bytes_of_pieces ps)
 unfolding decode_run
-run_of_undecodable_pieces_stays_octets set ps cut e = ap (flat_map (decode_piece set)) cut
-    ∙ undecodable_pieces_stay_octets set ps e
+run_of_undecodable_pieces_is_unchanged set ps cut e = ap (flat_map (decode_piece set)) cut
+    ∙ undecodable_pieces_are_unchanged set ps e
 
 -- unreserved octets: if the pieces of a list are those
 -- of their own bytes, so are the last of them (qs)
@@ -90,25 +90,25 @@ suffix_of_pieces_is_of_own_bytes (p ∷ ps) qs cut = suffix_of_pieces_is_of_own_
 -- unreserved octets: a decoded piece ends the run of octets before it
 decoded_piece_ends_run_before_it : (set : TableSet) (done : List Piece) (p : Piece)
     (ps : List Piece) (ts : List Token)
-    → is_undecoded set p ≡ false → StaysOctets set (bytes_of_pieces done)
+    → is_undecoded set p ≡ false → IsUnchangedRun set (bytes_of_pieces done)
     → IsDecoded set [] (flat_map (decode_piece set) ps ++ ts)
     → IsDecoded set (bytes_of_pieces done) (flat_map (decode_piece set) (p ∷ ps) ++ ts)
 unfolding is_undecoded
-decoded_piece_ends_run_before_it set done (IllFormed bytes) ps ts e stays suffix = cc
-decoded_piece_ends_run_before_it set done (WellFormed bytes) ps ts e stays suffix =
+decoded_piece_ends_run_before_it set done (IllFormed bytes) ps ts e unchanged suffix = cc
+decoded_piece_ends_run_before_it set done (WellFormed bytes) ps ts e unchanged suffix =
     subst (λ x. IsDecoded set (bytes_of_pieces done) ((x ++ flat_map (decode_piece set) ps) ++ ts))
-    (sym (cond-true _ _ _ (not-false _ e))) (stays, suffix)
+    (sym (cond-true _ _ _ (not-false _ e))) (unchanged, suffix)
 
 -- unreserved octets: the tokens of a decoded run are decoded,
--- if the pieces before it stay octets and what follows is decoded
+-- if the pieces before it are unchanged and what follows is decoded
 decoded_run_before_decoded_tokens_is_decoded : (set : TableSet) (done ps : List Piece)
     (ts : List Token)
     → ArePiecesOfOwnBytes (done ++ ps) → list_all (is_undecoded set) done ≡ true
-    → ((run : List ℕ) → StaysOctets set run → IsDecoded set run ts)
+    → ((run : List ℕ) → IsUnchangedRun set run → IsDecoded set run ts)
     → IsDecoded set (bytes_of_pieces done) (flat_map (decode_piece set) ps ++ ts)
 decoded_run_before_decoded_tokens_is_decoded set done [] ts cut undecoded suffix =
     suffix (bytes_of_pieces done)
-    (run_of_undecodable_pieces_stays_octets set done (prefix_of_pieces_is_of_own_bytes done [] cut)
+    (run_of_undecodable_pieces_is_unchanged set done (prefix_of_pieces_is_of_own_bytes done [] cut)
     undecoded)
 decoded_run_before_decoded_tokens_is_decoded set done (p ∷ ps) ts cut undecoded suffix = ⊎_elim
     (λ e.
@@ -126,9 +126,9 @@ decoded_run_before_decoded_tokens_is_decoded set done (p ∷ ps) ts cut undecode
     subst (IsDecoded set (bytes_of_pieces done))
     (sym (append_assoc (decode_piece set p) (flat_map (decode_piece set) ps) ts))
     (subst (λ x. IsDecoded set (bytes_of_pieces done) (x ++ (flat_map (decode_piece set) ps ++ ts)))
-    (sym (undecodable_piece_stays_octets set p e)) octets))
+    (sym (undecodable_piece_is_unchanged set p e)) octets))
     (λ e. decoded_piece_ends_run_before_it set done p ps ts e
-    (run_of_undecodable_pieces_stays_octets set done (prefix_of_pieces_is_of_own_bytes done (p
+    (run_of_undecodable_pieces_is_unchanged set done (prefix_of_pieces_is_of_own_bytes done (p
     ∷ ps) cut) undecoded) (decoded_run_before_decoded_tokens_is_decoded set [] ps ts
     (suffix_of_pieces_is_of_own_bytes (done ++ p ∷ []) ps
     (subst ArePiecesOfOwnBytes (sym (append_assoc done (p ∷ []) ps)) cut)) refl suffix))
@@ -142,13 +142,13 @@ decode_after_run_gives_decoded_tokens set run [] = subst (IsDecoded set [])
     (append-nil (decode_run set run))
     (decoded_run_before_decoded_tokens_is_decoded set [] (utf8_pieces run) []
     (utf8_pieces-are-of-own-bytes run) refl
-    (λ r stays. stays))
+    (λ r unchanged. unchanged))
 decode_after_run_gives_decoded_tokens set run (Octet value ∷ ts) =
     decode_after_run_gives_decoded_tokens set (run ++ value ∷ []) ts
 decode_after_run_gives_decoded_tokens set run (Char c ∷ ts) =
     decoded_run_before_decoded_tokens_is_decoded set [] (utf8_pieces run) (Char c
     ∷ decode_after_run set [] ts) (utf8_pieces-are-of-own-bytes run) refl
-    (λ r stays. (stays, decode_after_run_gives_decoded_tokens set [] ts))
+    (λ r unchanged. (unchanged, decode_after_run_gives_decoded_tokens set [] ts))
 
 -- unreserved octets: decoding unreserved octets twice is decoding them once
 pub decode_tokens_is_idempotent : (set : TableSet) (ts : List Token)
@@ -177,7 +177,7 @@ lowered_decoded_tokens_are_decoded set run (Octet value ∷ ts) h = lowered_deco
 lowered_decoded_tokens_are_decoded set run (Char c ∷ ts) h =
     (h.0, lowered_decoded_tokens_are_decoded set [] ts h.1)
 
--- unreserved octets: decoded tokens in lower case stay when they are decoded again
+-- unreserved octets: decoded tokens in lower case are unchanged when they are decoded again
 pub decoding_keeps_lowered_decoded_tokens : (set : TableSet) (ts : List Token)
     → decode_tokens set (map lower_token (decode_tokens set ts))
     ≡ map lower_token (decode_tokens set ts)

@@ -86,10 +86,10 @@ and_with_false_is_false true false = refl
 and_with_false_is_false false y = refl
 
 -- unreserved octets: an ASCII character is never written as octets
-ascii_char_stays_literal : (set : TableSet) (c : ℕ) → c < 128
+ascii_char_is_unchanged : (set : TableSet) (c : ℕ) → c < 128
     → formatting_as_octets set (Char c) ≡ Char c ∷ []
 unfolding is_never_literal
-ascii_char_stays_literal set c h = cond-false _ _ _
+ascii_char_is_unchanged set c h = cond-false _ _ _
     (ap (λ b. set.ucschar && set.pct_encoded && b) (ascii_char_is_no_formatting_char c h)
     ∙ and_with_false_is_false set.ucschar set.pct_encoded)
 
@@ -152,7 +152,7 @@ pub lowering_keeps_octets : (bytes : List ℕ) → map lower_token (map Octet by
 lowering_keeps_octets [] = refl
 lowering_keeps_octets (b ∷ bytes) = ap (λ ts. Octet b ∷ ts) (lowering_keeps_octets bytes)
 
--- unreserved octets: ASCII letters alone are lowered, so characters past ASCII stay
+-- unreserved octets: ASCII letters alone are lowered, so characters past ASCII are unchanged
 pub lowercase_keeps_char_past_ascii : (c : ℕ) → 128 ≤ c → to_ascii_lowercase c ≡ c
 lowercase_keeps_char_past_ascii c h = grind (arith, nat_tests)
 
@@ -164,7 +164,7 @@ formatting_as_octets_commutes_with_lowering set (Char c) =
     grind (
       arith,
       nat_tests,
-      ascii_char_stays_literal,
+      ascii_char_is_unchanged,
       lowercase_ascii,
       lowercase_keeps_char_past_ascii,
       lowering_keeps_octets,
@@ -187,7 +187,7 @@ pub ascii_char_separates_encode_formatting : (set : TableSet) (ts : List Token) 
     → c < 128 → encode_formatting set (ts ++ Char c ∷ us)
     ≡ encode_formatting set ts ++ Char c ∷ encode_formatting set us
 ascii_char_separates_encode_formatting set ts c us low =
-    grind (arith, nat_tests, flat_map-append, ascii_char_stays_literal)
+    grind (arith, nat_tests, flat_map-append, ascii_char_is_unchanged)
 
 -- unreserved octets: octets are no literal formatting characters
 octets_are_no_literal_formatting : (bytes : List ℕ) (ts : List Token)

@@ -29,18 +29,18 @@ decodable_is_unreserved_in_uri set c alone = rw (alone.0, alone.1)
 decoded_octet_token : ℕ → Token
 decoded_octet_token value = decode_octet (Octet value)
 
--- unreserved octets of a URI: bytes past ASCII stay octets
-bytes_past_ascii_stay_octets : (bytes : List ℕ) → list_all (leb 128) bytes ≡ true
+-- unreserved octets of a URI: octets past ASCII are unchanged
+octets_past_ascii_are_unchanged : (bytes : List ℕ) → list_all (leb 128) bytes ≡ true
     → map decoded_octet_token bytes ≡ map Octet bytes
 unfolding decoded_octet_token
-bytes_past_ascii_stay_octets [] e = refl
-bytes_past_ascii_stay_octets (b ∷ rest) e =
+octets_past_ascii_are_unchanged [] e = refl
+octets_past_ascii_are_unchanged (b ∷ rest) e =
     let p = and_parts (leb 128 b) _ e in
     let high : 128 ≤ b = leb-true 128 b p.0 in
     let reserved : is_unreserved b ≡ false =
     false_from_ne_true _ (λ u. let low = unreserved_is_ascii b u in omega arith) in
     ap (λ t. t ∷ map decoded_octet_token rest) (cond-false _ _ _ reserved)
-    ∙ ap (λ x. Octet b ∷ x) (bytes_past_ascii_stay_octets rest p.1)
+    ∙ ap (λ x. Octet b ∷ x) (octets_past_ascii_are_unchanged rest p.1)
 
 -- unreserved octets of a URI: a byte that may follow a first one is past ASCII
 byte_in_continuation_range_is_past_ascii : (range : ByteRange) (b : ℕ) → is_continuation_range range
@@ -73,12 +73,12 @@ first_piece_tail_is_past_ascii None text inner = refl
 first_piece_tail_is_past_ascii (Some ranges) text inner =
     bytes_in_continuation_ranges_are_past_ascii ranges text inner
 
--- unreserved octets of a URI: a piece of bytes past ASCII stays octets
-piece_past_ascii_stays_octets_in_uri : (set : TableSet) (p : Piece) → LacksPastAscii set
+-- unreserved octets of a URI: a piece of bytes past ASCII is unchanged
+piece_past_ascii_is_unchanged_in_uri : (set : TableSet) (p : Piece) → LacksPastAscii set
     → IsOfCharacter p
     → list_all (leb 128) (piece_bytes p) ≡ true → decode_piece set p ≡ map Octet (piece_bytes p)
-piece_past_ascii_stays_octets_in_uri set (IllFormed bytes) alone h e = refl
-piece_past_ascii_stays_octets_in_uri set (WellFormed bytes) alone h e =
+piece_past_ascii_is_unchanged_in_uri set (IllFormed bytes) alone h e = refl
+piece_past_ascii_is_unchanged_in_uri set (WellFormed bytes) alone h e =
     grind (arith, nat_tests, decodable_is_unreserved_in_uri, unreserved_is_ascii, encode_ascii)
 
 -- unreserved octets of a URI: an ASCII character is decoded as its octet is
@@ -105,10 +105,11 @@ piece_is_decoded_octet_by_octet_in_uri set b rest alone = ⊎_elim
     let past = and_from _ _ (le-leb 128 b high)
     (first_piece_tail_is_past_ascii (following_ranges b) rest
     (following_ranges_are_continuations b)) in
-    piece_past_ascii_stays_octets_in_uri set (first_piece (following_ranges b) b rest) alone
+    piece_past_ascii_is_unchanged_in_uri set (first_piece (following_ranges b) b rest) alone
     (first_piece_is_of_character b rest _ refl) (ap (list_all (leb 128)) bytes ∙ past)
     ∙ ap (map Octet) bytes ∙ sym
-    (bytes_past_ascii_stay_octets (b ∷ take (first_piece_tail_len (following_ranges b) rest) rest)
+    (octets_past_ascii_are_unchanged
+    (b ∷ take (first_piece_tail_len (following_ranges b) rest) rest)
     past))
     (cases_lt b 128)
 

@@ -143,7 +143,8 @@ lowered_token_is_printable : (t : Token) → is_printable t ≡ true → is_prin
 lowered_token_is_printable (Char c) e = grind (arith, nat_tests, lowered_char_is_printable)
 lowered_token_is_printable (Octet value) e = e
 
--- characters of valid texts: a letter in lower case is unreserved, and every other character stays
+-- characters of valid texts: a letter in lower case is unreserved, and every other character is
+-- unchanged
 lowered_char_is_the_same_or_unreserved : (c : ℕ) → (to_ascii_lowercase c ≡ c)
     ⊎ (is_unreserved (to_ascii_lowercase c) ≡ true)
 lowered_char_is_the_same_or_unreserved c = grind (arith, nat_tests)

@@ -4,10 +4,10 @@ use Rattle.std.specs.String.Boundary.{IsSplitPoint}
 use Rattle.std.proofs.lemmas.Str.{IsCharBoundary-from_take, IsUtf8-string_bytes}
 
 -- owned texts: what was there before an append may be cut off again
-pub kept_text_ends_at_split_point : {Z : Type 0} (old new : String Z)
+pub unchanged_text_ends_at_split_point : {Z : Type 0} (old new : String Z)
     → take (length (string_bytes old)) (string_bytes new) ≡ string_bytes old
     → IsSplitPoint (string_bytes new) (length (string_bytes old))
-kept_text_ends_at_split_point old new e =
+unchanged_text_ends_at_split_point old new e =
     let n = length (string_bytes old) in
     let long : n ≤ length (string_bytes new) =
     omega (arith, length-take n (string_bytes new), ap length e) in

@@ -32,7 +32,7 @@ appended_parts_join of_piece s t u ps qs first then =
     ∙ append_assoc s (suffix (pieces_of_parts ps)) (suffix (pieces_of_parts qs))
     ∙ ap (λ x. s ++ x) (sym both)
 
--- a lossy text that takes no parts stays as it is
+-- a lossy text that takes no parts is unchanged
 pub taking_no_parts_keeps_text : (s : LossyText) → TookText s [] s
 taking_no_parts_keeps_text s = record { text = sym (append-nil (string_bytes s.text)) }
 

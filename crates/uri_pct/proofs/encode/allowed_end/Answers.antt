@@ -1,7 +1,7 @@
 use Rattle.std.proofs.Common.{◌≡◌, ◌+◌, drop, arith}
 use Rattle.uri_pct.specs.Prefixes.{valid_prefix}
 use Rattle.uri_pct.specs.Tables.{set_of}
-use Rattle.uri_pct.proofs.ValidTexts.KeptPrefixes.{set_without_octets, allowed_run_is_encoded_as_itself, char_after_allowed_run_is_not_allowed}
+use Rattle.uri_pct.proofs.ValidTexts.UnchangedPrefixes.{set_without_octets, allowed_run_is_encoded_as_itself, char_after_allowed_run_is_not_allowed}
 use Rattle.uri_pct.proofs.encode.allowed_end.Goals as goal
 
 scanned_to : (c : goal.After-scan)
@@ -10,8 +10,9 @@ scanned_to : (c : goal.After-scan)
     (drop c.args.start c.args.text.now)
 scanned_to c = grind arith
 
-pub returns-clause-kept : goal.returns-clause-kept
-returns-clause-kept c = allowed_run_is_encoded_as_itself (set_of c.args.table.now) c.args.text.now
+pub returns-clause-unchanged : goal.returns-clause-unchanged
+returns-clause-unchanged c =
+    allowed_run_is_encoded_as_itself (set_of c.args.table.now) c.args.text.now
     c.args.start c.scan.result c.utf8.text c.requires (scanned_to c)
 
 pub returns-clause-stop : goal.returns-clause-stop

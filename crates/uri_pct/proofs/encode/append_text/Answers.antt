@@ -1,6 +1,6 @@
 use Rattle.std.proofs.Common.{arith}
-use Rattle.uri_pct.proofs.ValidTexts.RestoredTexts.{kept_text_ends_at_split_point}
+use Rattle.uri_pct.proofs.ValidTexts.RestoredTexts.{unchanged_text_ends_at_split_point}
 use Rattle.uri_pct.proofs.encode.append_text.Goals as goal
 
 pub truncate-requires : goal.truncate-requires
-truncate-requires c = grind (arith, kept_text_ends_at_split_point)
+truncate-requires c = grind (arith, unchanged_text_ends_at_split_point)

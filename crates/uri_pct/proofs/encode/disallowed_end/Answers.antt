@@ -1,7 +1,7 @@
 use Rattle.std.proofs.Common.{◌≡◌, ◌+◌, drop, sym, ap, subst, arith, IsCharBoundary}
 use Rattle.std.specs.Char.{len_utf8}
 use Rattle.std.proofs.lemmas.Str.{IsCharBoundary-past_char, IsUtf8-drop}
-use Rattle.uri_pct.proofs.ValidTexts.KeptPrefixes.{empty_run_is_encoded_as_octets, longer_run_is_encoded_as_octets, disallowed_run_is_not_empty}
+use Rattle.uri_pct.proofs.ValidTexts.UnchangedPrefixes.{empty_run_is_encoded_as_octets, longer_run_is_encoded_as_octets, disallowed_run_is_not_empty}
 use Rattle.uri_pct.proofs.encode.disallowed_end.Goals as goal
 
 pub loop-end-init : goal.loop-end-init

@@ -3,7 +3,7 @@ use Rattle.std.specs.Str.Chunks.{utf8_chunks_rest, utf8_chunk_valid, utf8_chunk_
 use Rattle.uri_pct.specs.Encoding.{encode_text}
 use Rattle.uri_pct.specs.Tables.{set_of}
 use Rattle.uri_pct.specs.Tokens.{Octet, print}
-use Rattle.uri_pct.proofs.EncodedTexts.Encodings.{kept_prefix-transitive, encoded_bytes_after_chunk, encoded_bytes_at_end}
+use Rattle.uri_pct.proofs.EncodedTexts.Encodings.{unchanged_prefix-transitive, encoded_bytes_after_chunk, encoded_bytes_at_end}
 use Rattle.uri_pct.proofs.Unicode.Runs.{utf8_pieces-of-std-chunk}
 use Rattle.uri_pct.proofs.encode.push_bytes.Goals as goal
 
@@ -26,7 +26,7 @@ loop-chunk-preserved c =
       total = encoded_bytes_after_chunk set out mid new _ text fault rest _
           (subst IsUtf8 c.valid.ensures c.valid.utf8) pieces first
           then c.loop-chunk.invariant.total;
-      keeps = grind (arith, kept_prefix-transitive);
+      keeps = grind (arith, unchanged_prefix-transitive);
     }
 
 pub returns-clause-ok : goal.returns-clause-ok

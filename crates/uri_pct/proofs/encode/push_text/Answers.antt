@@ -2,8 +2,8 @@ use Rattle.std.proofs.Common.{◌≡◌, ◌-◌, ◌++◌, length, take, drop, 
 use Rattle.std.proofs.lemmas.Str.{IsCharBoundary-start}
 use Rattle.uri_pct.specs.Tables.{set_of}
 use Rattle.uri_pct.specs.Tokens.{Octet, print}
-use Rattle.uri_pct.proofs.EncodedTexts.Encodings.{append_keeps_prefix, kept_prefix-transitive}
-use Rattle.uri_pct.proofs.ValidTexts.KeptPrefixes.{encoded_text_after_two_runs, encoded_text_at_end}
+use Rattle.uri_pct.proofs.EncodedTexts.Encodings.{append_keeps_prefix, unchanged_prefix-transitive}
+use Rattle.uri_pct.proofs.ValidTexts.UnchangedPrefixes.{encoded_text_after_two_runs, encoded_text_at_end}
 use Rattle.uri_pct.proofs.encode.push_text.Goals as goal
 
 pub loop-done-init : goal.loop-done-init
@@ -22,7 +22,7 @@ returns-in_err-push_octets-clause-keeps c =
     let mid = ap (take (length old)) copied
     ∙ append_keeps_prefix old (string_bytes c.loop-done.out) c.range.result.now
     c.loop-done.invariant.keeps in
-    grind (arith, kept_prefix-transitive)
+    grind (arith, unchanged_prefix-transitive)
 
 pub loop-done-preserved : goal.loop-done-preserved
 loop-done-preserved c =
@@ -41,9 +41,9 @@ loop-done-preserved c =
     record {
       boundary = c.disallowed_end-next.ensures.boundary;
       total = encoded_text_after_two_runs (set_of c.args.table.now) out mid new text _ done end next
-          c.allowed_end-end.ensures.kept c.disallowed_end-next.ensures.octets copied octets
+          c.allowed_end-end.ensures.unchanged c.disallowed_end-next.ensures.octets copied octets
           c.loop-done.invariant.total;
-      keeps = grind (arith, kept_prefix-transitive, append_keeps_prefix);
+      keeps = grind (arith, unchanged_prefix-transitive, append_keeps_prefix);
     }
 
 pub returns-clause-ok : goal.returns-clause-ok

@@ -10,7 +10,7 @@ use Rattle.uri_pct.specs.Tokens.{IsValidFor, print}
 use Rattle.uri_ops.specs.Models.Decodings.{decoded_text, lowered_if}
 use Rattle.uri_ops.proofs.Meanings.AsciiSuffixes.{ascii-lacks-byte-E2}
 use Rattle.uri_ops.proofs.Meanings.DecodedPrefixes.{unset-flags-lack-past-ascii}
-use Rattle.uri_ops.proofs.Meanings.WrittenFormatting.{encoding-formatting-completes-decoding, decoding-without-formatting-is-complete, no-byte-E2-no-formatting, text-without-formatting-stays}
+use Rattle.uri_ops.proofs.Meanings.WrittenFormatting.{encoding-formatting-completes-decoding, decoding-without-formatting-is-complete, no-byte-E2-no-formatting, text-without-formatting-is-unchanged}
 use Rattle.uri_ops.proofs.normalize.decode_unreserved.push_decoded.Goals as goal
 
 -- decoding: the text of a component, with formatting characters as octets if the set allows both
@@ -36,7 +36,7 @@ formatting-leaves-ascii : (set : TableSet) (text : List ℕ) → IsAscii text
 formatting-leaves-ascii set text ascii =
     let utf8 = IsUtf8-from_ascii text ascii in
     ⊎_elim
-    (λ e. cond-true _ _ _ e ∙ text-without-formatting-stays text utf8
+    (λ e. cond-true _ _ _ e ∙ text-without-formatting-is-unchanged text utf8
     (no-byte-E2-no-formatting text utf8 (ascii-lacks-byte-E2 text ascii)))
     (λ e. cond-false _ _ _ e)
     (cases_Bool (set.ucschar && set.pct_encoded))

@@ -8,8 +8,8 @@ use Rattle.uri_pct.specs.DecodeUnreserved.{decode_octet}
 use Rattle.uri_pct.specs.Tables.{set_of}
 use Rattle.uri_pct.specs.Tokens.{Octet, print}
 use Rattle.uri_ops.specs.Models.Decodings.{KeepsPrefixWhenDecoded, decoded_text, lowered_if, lowered_text_if}
-use Rattle.uri_ops.proofs.Meanings.DecodedPrefixes.{LiteralPrefix, octet-is-decoded-alone, text-before-percent-is-literal-prefix, empty-prefix-stays, kept-prefix-grows, kept-prefix-is-pushed, last-prefix-is-pushed, suffix-of-suffix-is-valid, decoded-octet-is-pushed, kept-prefix-is-kept-from-zero, unset-flags-lack-past-ascii}
-use Rattle.uri_ops.proofs.Meanings.DecodedOctets.{uppercase-reserved-octet-stays}
+use Rattle.uri_ops.proofs.Meanings.DecodedPrefixes.{LiteralPrefix, octet-is-decoded-alone, text-before-percent-is-literal-prefix, empty-prefix-is-unchanged, unchanged-prefix-grows, unchanged-prefix-is-pushed, last-prefix-is-pushed, suffix-of-suffix-is-valid, decoded-octet-is-pushed, unchanged-prefix-is-unchanged-from-zero, unset-flags-lack-past-ascii}
+use Rattle.uri_ops.proofs.Meanings.DecodedOctets.{uppercase-reserved-octet-is-unchanged}
 use Rattle.uri_ops.proofs.normalize.decode_unreserved.push_decoded_runs.Goals as goal
 use Rattle.uri_ops.proofs.normalize.decode_unreserved.push_decoded_runs.Goals.{else-high-ge56-via-then-high-ge56+else-not-alone, else-high-ge56-via-else-high-ge56}
 
@@ -24,7 +24,7 @@ loop-end-init c =
       start = IsCharBoundary-start text c.utf8.text;
       boundary = p.boundary;
       valid = p.valid;
-      prefix = kept-prefix-is-kept-from-zero c.args.lowers set text c.args.first
+      prefix = unchanged-prefix-is-unchanged-from-zero c.args.lowers set text c.args.first
           (p.prefix c.args.lowers set);
       total = refl;
     }
@@ -56,7 +56,7 @@ loop-end-preserved-then-bytes-end-ne37 c =
       start = holds.start;
       boundary = IsCharBoundary-from_rest text end more holds.boundary.0 p.boundary;
       valid = suffix-of-suffix-is-valid text end more p.valid;
-      prefix = kept-prefix-grows c.args.lowers (set_of c.args.table.now) text
+      prefix = unchanged-prefix-grows c.args.lowers (set_of c.args.table.now) text
           c.loop-end.done end more
           holds.order holds.prefix (p.prefix c.args.lowers (set_of c.args.table.now));
       total = holds.total;
@@ -71,7 +71,7 @@ returns-then-not-alone c =
     let holds = c.loop-end.invariant in
     let pushed = c.in_ok-push_literal-2.ensures
     ∙ ap (λ x. out ++ lowered_text_if lowers x) c.range-then-not-alone.ensures.value in
-    let total = kept-prefix-is-pushed lowers set text out
+    let total = unchanged-prefix-is-pushed lowers set text out
     (string_bytes c.push_literal-then-not-alone.new.out)
     (string_bytes c.args.out.now ++ decoded_text lowers set text) c.loop-end.done c.loop-end.end
     holds.order holds.prefix pushed holds.total in
@@ -94,7 +94,7 @@ loop-end-preserved-in-Some c =
     let at = c.octet_digits-high.ensures in
     let pushed = c.in_ok-push_literal.ensures
     ∙ ap (λ x. out ++ lowered_text_if lowers x) c.range.ensures.value in
-    let total = kept-prefix-is-pushed lowers set text out prefix whole c.loop-end.done end
+    let total = unchanged-prefix-is-pushed lowers set text out prefix whole c.loop-end.done end
     holds.order
     holds.prefix pushed holds.total in
     let none = unset-flags-lack-past-ascii set c.allows_some_past_ascii-alone.result
@@ -112,7 +112,7 @@ loop-end-preserved-in-Some c =
       boundary = c.in_ok-end.ensures.boundary;
       valid = c.in_ok-end.ensures.valid;
       prefix = subst (KeepsPrefixWhenDecoded lowers set (drop next text)) nothing
-          (empty-prefix-stays lowers set (drop next text));
+          (empty-prefix-is-unchanged lowers set (drop next text));
       total = c.in_ok-end.ensures.text set ∙ decoded;
     }
 
@@ -137,7 +137,7 @@ loop-end-preserved-then-are_uppercase_digits c =
     let none = unset-flags-lack-past-ascii set c.allows_some_past_ascii-alone.result
     c.allows_some_past_ascii-alone.ensures in
     let octet : KeepsPrefixWhenDecoded false set (drop end text) 3 =
-    uppercase-reserved-octet-stays at set alone
+    uppercase-reserved-octet-is-unchanged at set alone
     (sym c.are_uppercase_digits.ensures ∙ c.if-are_uppercase_digits.true) c.in_default.ensures none
     (octet-is-decoded-alone at alone either) in
     record {
@@ -145,7 +145,7 @@ loop-end-preserved-then-are_uppercase_digits c =
       start = holds.start;
       boundary = at.boundary;
       valid = at.valid;
-      prefix = kept-prefix-grows c.args.lowers set text c.loop-end.done end 3 holds.order
+      prefix = unchanged-prefix-grows c.args.lowers set text c.loop-end.done end 3 holds.order
           holds.prefix
           (subst (λ lowers. KeepsPrefixWhenDecoded lowers set (drop end text) 3)
           (sym c.if-not-lowers.true)
@@ -167,7 +167,7 @@ loop-end-preserved c =
     let at = c.octet_digits-high.ensures in
     let pushed = c.in_ok-push_literal-3.ensures
     ∙ ap (λ x. out ++ lowered_text_if lowers x) c.range-in-loop-end.ensures.value in
-    let total = kept-prefix-is-pushed lowers set text out prefix whole c.loop-end.done end
+    let total = unchanged-prefix-is-pushed lowers set text out prefix whole c.loop-end.done end
     holds.order
     holds.prefix pushed holds.total in
     let either : (alone ≡ true) ⊎ (c.octet_digits-high.result.0 < 56) =
@@ -186,7 +186,7 @@ loop-end-preserved c =
       boundary = at.boundary;
       valid = at.valid;
       prefix = subst (KeepsPrefixWhenDecoded lowers set (drop (end + 3) text)) nothing
-          (empty-prefix-stays lowers set (drop (end + 3) text));
+          (empty-prefix-is-unchanged lowers set (drop (end + 3) text));
       total = decoded-octet-is-pushed at lowers set prefix (string_bytes c.push_octet.new.out) whole
           alone none either
           (c.in_ok-push_octet.ensures lowers ∙ ap (λ v. prefix

@@ -2,7 +2,7 @@ use Rattle.std.proofs.Common.{◌≤◌, ◌++◌, refl, arith, length, string_b
 use Rattle.std.proofs.lemmas.Result.{on_ok_weaker}
 use Rattle.uri_pct.specs.Tables.{set_of}
 use Rattle.uri_ops.specs.Models.Decodings.{decoded_text}
-use Rattle.uri_ops.proofs.Meanings.DecodedPrefixes.{text-before-percent-is-literal-prefix, kept-prefix-is-kept-from-zero, last-prefix-is-pushed}
+use Rattle.uri_ops.proofs.Meanings.DecodedPrefixes.{text-before-percent-is-literal-prefix, unchanged-prefix-is-unchanged-from-zero, last-prefix-is-pushed}
 use Rattle.uri_ops.proofs.normalize.decode_unreserved.push_decoded_tokens.Goals as goal
 
 pub returns-then-first-text : goal.returns-then-first-text
@@ -15,7 +15,8 @@ returns-then-first-text c =
     let literal = text-before-percent-is-literal-prefix text first c.utf8.text c.requires
     c.unencoded_len-first.ensures in
     let over : length text ≤ first = omega (arith, c.if-first-text.true) in
-    let prefix = kept-prefix-is-kept-from-zero lowers set text first (literal.prefix lowers set) in
+    let prefix =
+    unchanged-prefix-is-unchanged-from-zero lowers set text first (literal.prefix lowers set) in
     let whole = out ++ decoded_text lowers set text in
     let new = string_bytes c.push_literal.new.out in
     on_ok_weaker c.push_literal.result

@@ -12,7 +12,7 @@ put_bytes-requires c =
     let place : length c.as_str-start.result.now ≡ length old = ap length
     (c.as_str-start.ensures.value ∙ sym (ap (λ v. v.items) c.take_bytes-bytes.ensures.value)) in
     let same : c.truncate.new.self.items ≡ old = c.truncate.ensures.items
-    ∙ ap (λ k. take k new) place ∙ c.push_short_bytes-end.ensures.kept in
+    ∙ ap (λ k. take k new) place ∙ c.push_short_bytes-end.ensures.unchanged in
     subst IsUtf8 (sym same) c.take_bytes-bytes.ensures.utf8
 
 pub put_bytes-requires-2 : goal.put_bytes-requires-2
@@ -20,7 +20,7 @@ put_bytes-requires-2 c =
     ascii-suffix-keeps-utf8 c.take_bytes-bytes.result.items c.push_short_bytes-end.new.out.items
     c.take_bytes-bytes.ensures.utf8
     (record {
-      kept = c.push_short_bytes-end.ensures.kept;
+      unchanged = c.push_short_bytes-end.ensures.unchanged;
       ascii = c.push_short_bytes-end.ensures.ascii;
     })
 
@@ -40,7 +40,7 @@ returns-clause-done c = λ _ set none.
     let suffix : drop (length old) new ≡ decoded = sym (append-nil (drop (length old) new))
     ∙ suffix-and-rest-are-text old new [] decoded
     (record {
-      kept = c.push_short_bytes-end.ensures.kept;
+      unchanged = c.push_short_bytes-end.ensures.unchanged;
       ascii = c.push_short_bytes-end.ensures.ascii;
     })
     (append-nil new ∙ pushed) in (

@@ -25,7 +25,7 @@ loop-end-init c = record {
   within = omega arith;
   boundary = IsCharBoundary-start c.args.text.now c.utf8.text;
   valid = c.requires.valid;
-  kept = (no-suffix-is-ascii c.args.out.now.items).kept;
+  unchanged = (no-suffix-is-ascii c.args.out.now.items).unchanged;
   ascii = (no-suffix-is-ascii c.args.out.now.items).ascii;
   room = omega (arith, c.requires.room);
   total = λ set none. refl;
@@ -55,13 +55,13 @@ loop-end-preserved-in-Some c =
     let ascii : c.in-Some.ch < 128 = subst (λ x. x < 128) (sym ch)
     (lowered-code-of-ascii-is-ascii lowers byte small) in
     let suffix = longer-suffix-is-ascii c.args.out.now.items out c.push_reserved.new.self.items
-    (c.in-Some.ch ∷ []) (record { kept = holds.kept; ascii = holds.ascii })
+    (c.in-Some.ch ∷ []) (record { unchanged = holds.unchanged; ascii = holds.ascii })
     c.push_reserved.ensures.items (IsAscii-push [] c.in-Some.ch IsAscii-nil ascii) in
     record {
       within = omega (arith, ap length c.as_bytes-bytes.ensures.value);
       boundary = first.boundary;
       valid = first.valid;
-      kept = suffix.kept;
+      unchanged = suffix.unchanged;
       ascii = suffix.ascii;
       room = omega (
         arith,
@@ -98,14 +98,15 @@ loop-end-preserved c =
     let suffix = longer-suffix-is-ascii c.args.out.now.items out new
     (print (lowered_if lowers
     (decode_octet (Octet (16 * digit_value high + digit_value low)) ∷ [])))
-    (record { kept = holds.kept; ascii = holds.ascii }) c.push_octet_of_digits.ensures.items
+    (record { unchanged = holds.unchanged; ascii = holds.ascii })
+    c.push_octet_of_digits.ensures.items
     (octet-decoded-alone-is-ascii lowers (16 * digit_value high + digit_value low)
     (digits-are-of-byte high low at.high_digit at.low_digit)) in
     record {
       within = omega (arith, at.within);
       boundary = at.boundary;
       valid = at.valid;
-      kept = suffix.kept;
+      unchanged = suffix.unchanged;
       ascii = suffix.ascii;
       room = omega (
         arith,

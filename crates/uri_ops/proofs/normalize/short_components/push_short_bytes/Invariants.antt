@@ -12,7 +12,7 @@ invariant-loop-end l = record {
   within : l.end ≤ length l.text;
   boundary : IsCharBoundary l.text l.end;
   valid : IsValidFor widest_set (drop l.end l.text);
-  kept : take (length l.fn.out.items) l.out.items ≡ l.fn.out.items;
+  unchanged : take (length l.fn.out.items) l.out.items ≡ l.fn.out.items;
   ascii : IsAscii (drop (length l.fn.out.items) l.out.items);
   room : vec_len l.out + (length l.text - l.end) ≤ vec_capacity l.out;
   total : (set : TableSet) → (l.alone ≡ true → LacksPastAscii set)

@@ -7,19 +7,19 @@ use Rattle.uri_parts.specs.AuthorityTexts.{authority_text}
 use Rattle.uri_parts.specs.Components.{Components, components}
 use Rattle.uri_parts.specs.CoreTexts.{core_text}
 use Rattle.uri_parts.specs.Positions.{positions_of}
-use Rattle.uri_ops.specs.Models.Unchanged.{AreUnchanged, IsKept, IsUnchangedPort, IsUnchangedPrefix, stays_at}
+use Rattle.uri_ops.specs.Models.Unchanged.{AreUnchanged, HasUnchangedOctets, IsUnchangedPort, IsUnchangedPrefix, is_unchanged_at}
 use Rattle.uri_ops.specs.Normal.{default_port_of}
 use Rattle.uri_ops.specs.Normalizers.{text_underflows}
-use Rattle.uri_ops.proofs.Normal.UnchangedPaths.{path-of-text-that-stays-is-unchanged, text-that-stays-is-kept}
+use Rattle.uri_ops.proofs.Normal.UnchangedPaths.{path-of-unchanged-text-is-unchanged, text-has-unchanged-octets}
 use Rattle.uri_ops.proofs.Normal.UnchangedTexts.{unchanged-text-is-its-normal-text}
 use Rattle.uri_ops.proofs.TextKinds.FourKinds.{one-of-four-kinds-has-sets}
 use Rattle.uri_ops.proofs.normalize.unchanged.is_found_normal_by_ports.Goals as goal
 use Rattle.uri_ops.proofs.normalize.unchanged.is_found_normal_by_ports.Goals.{then-has_scheme, else-has_scheme}
 
-kept : (g : _) (c : goal.After-is_port_unchanged g) → c.is_kept.result ≡ true
-    → IsKept c.lacks_past_ascii.result (core_text c.args.core)
+unchanged : (g : _) (c : goal.After-is_port_unchanged g) → c.is_unchanged_from.result ≡ true
+    → HasUnchangedOctets c.lacks_past_ascii.result (core_text c.args.core)
     × AreUnchanged (components (core_text c.args.core))
-kept g c e =
+unchanged g c e =
     let text : List ℕ = core_text c.args.core in
     let p : Components = components text in
     let alone = c.lacks_past_ascii.result in
@@ -27,30 +27,30 @@ kept g c e =
     let limit : ℕ = c.if-has_scheme.limit in
     let later : 0 < start = omega (arith, c.if-start-eq0.false) in
     let prefix : IsUnchangedPrefix text start = c.unchanged_prefix_len-start.ensures later in
-    let stays : (k : ℕ) → start ≤ k → k < length text → stays_at alone limit text k ≡ true =
-    subst (λ t. (k : ℕ) → start ≤ k → k < length t → stays_at alone limit t k ≡ true)
-    (c.as_bytes-bytes.ensures.value ∙ c.as_str.ensures.text) (c.is_kept.ensures e) in
+    let each : (k : ℕ) → start ≤ k → k < length text → is_unchanged_at alone limit text k ≡ true =
+    subst (λ t. (k : ℕ) → start ≤ k → k < length t → is_unchanged_at alone limit t k ≡ true)
+    (c.as_bytes-bytes.ensures.value ∙ c.as_str.ensures.text) (c.is_unchanged_from.ensures e) in
     let ends : is_some p.scheme ≡ true → limit ≡ (positions_of p).path_end =
     λ some. elim c.if-has_scheme.branch [
       | then-has_scheme w ↦ w.limit-is ∙ ap (λ q. q.path_end) w.packed_positions.ensures
       | else-has_scheme w ↦ absurd (both_ways _ (sym c.has_scheme.ensures ∙ w.if-has_scheme.false)
           some)
     ] in (
-      text-that-stays-is-kept alone text start limit later prefix.literal stays,
+      text-has-unchanged-octets alone text start limit later prefix.literal each,
       record {
         scheme = prefix.scheme;
         host = prefix.host;
-        path = path-of-text-that-stays-is-unchanged alone text start limit later prefix.literal
-            stays prefix.path ends;
+        path = path-of-unchanged-text-is-unchanged alone text start limit later prefix.literal
+            each prefix.path ends;
       },
     )
 
-pub returns-then-is_kept-clause-text : goal.returns-then-is_kept-clause-text
-returns-then-is_kept-clause-text g c = λ e.
+pub returns-then-is_unchanged_from-clause-text : goal.returns-then-is_unchanged_from-clause-text
+returns-then-is_unchanged_from-clause-text g c = λ e.
     let kind = g.K.Kind.kind in
     let text = core_text c.args.core in
     let ports = (g.S.SchemeRules.rules_of c.args.rules.now).ports in
-    let both = kept g c c.if-is_kept.true in
+    let both = unchanged g c c.if-is_unchanged_from.true in
     let port : IfSome (components text).authority (λ a. IsUnchangedPort
     (default_port_of ports (components text).scheme) (authority_parts a).port) =
     subst (λ o. IfSome o (λ a. IsUnchangedPort
@@ -67,6 +67,8 @@ returns-then-is_kept-clause-text g c = λ e.
       grammar = c.args.core.of_kind;
     }) both.0 both.1 port
 
-pub returns-then-is_kept-clause-underflow : goal.returns-then-is_kept-clause-underflow
+pub returns-then-is_unchanged_from-clause-underflow :
+    goal.returns-then-is_unchanged_from-clause-underflow
 unfolding text_underflows
-returns-then-is_kept-clause-underflow g c = λ e. (kept g c c.if-is_kept.true).1.path.underflow
+returns-then-is_unchanged_from-clause-underflow g c =
+    λ e. (unchanged g c c.if-is_unchanged_from.true).1.path.underflow

@@ -10,14 +10,14 @@ use Rattle.uri_parts.specs.PackedPositions.{packed}
 use Rattle.uri_parts.specs.Positions.{positions_of}
 use Rattle.uri_parts.proofs.Authorities.Authority.{is_authority_for-sound}
 use Rattle.uri_parts.proofs.Splitting.Recompose.{recompose-components}
-use Rattle.uri_ops.specs.Models.Unchanged.{is_literal_byte, is_settled_byte}
+use Rattle.uri_ops.specs.Models.Unchanged.{is_literal_byte, is_unchanged_host_byte}
 use Rattle.uri_ops.proofs.Meanings.TextParts.{ArePartsOfKind}
 use Rattle.uri_ops.proofs.Normal.NormalTexts.{text-has-parts-of-kind}
-use Rattle.uri_ops.proofs.Normal.SettledPrefixes.{host-ends-before-path, settled-prefix-keeps-scheme-and-host}
+use Rattle.uri_ops.proofs.Normal.UnchangedPrefixes.{host-ends-before-path, unchanged-prefix-has-unchanged-scheme-and-host}
 use Rattle.uri_ops.proofs.normalize.unchanged.unchanged_prefix_len.Goals as goal
 
-pub returns-then-is_prefix_settled : goal.returns-then-is_prefix_settled
-returns-then-is_prefix_settled g c = λ some.
+pub returns-then-is_prefix_unchanged : goal.returns-then-is_prefix_unchanged
+returns-then-is_prefix_unchanged g c = λ some.
     let kind : Kind = g.K.Kind.kind in
     let text : List ℕ = core_text c.args.core in
     let p : Components = components text in
@@ -34,16 +34,16 @@ returns-then-is_prefix_settled g c = λ some.
     ap (λ q. q.host_end) c.packed_positions-host_end.ensures in
     let bytes : c.as_bytes-bytes.result.now ≡ text =
     c.as_bytes-bytes.ensures.value ∙ c.as_str.ensures.text in
-    let found = c.is_prefix_settled.ensures in
-    let passed = c.if-is_prefix_settled.true in
+    let found = c.is_prefix_unchanged.ensures in
+    let passed = c.if-is_prefix_unchanged.true in
     let rest = p.path ++ (marked (codes "?") p.query [] ++ marked (codes "#") p.fragment []) in
-    let both = settled-prefix-keeps-scheme-and-host p.scheme p.authority rest whole
+    let both = unchanged-prefix-has-unchanged-scheme-and-host p.scheme p.authority rest whole
     (omega (arith, end, some))
-    (ap (λ t. list_all is_settled_byte (take (packed (positions_of p)).host_end t))
+    (ap (λ t. list_all is_unchanged_host_byte (take (packed (positions_of p)).host_end t))
     (recompose-components text)
-    ∙ ap (λ n. list_all is_settled_byte (take n text)) (sym end)
-    ∙ ap (λ t. list_all is_settled_byte (take host_end t)) (sym bytes)
-    ∙ found.settled passed) in
+    ∙ ap (λ n. list_all is_unchanged_host_byte (take n text)) (sym end)
+    ∙ ap (λ t. list_all is_unchanged_host_byte (take host_end t)) (sym bytes)
+    ∙ found.unchanged passed) in
     let before = host-ends-before-path p whole in
     record {
       scheme = both.0;

@@ -1,0 +1,201 @@
+-- Texts whose bytes up to the end of the host are unchanged: so are the scheme and the host.
+use Rattle.std.proofs.Common.{◌≡◌, ℕ, ◌+◌, ◌<◌, ◌≤◌, ◌||◌, Bool, true, false, eqb, not, List, [], ◌∷◌, ◌++◌, length, get_or, take, refl, sym, ap, ◌∙◌, append_assoc, append-nil, option_map, arith}
+use Rattle.std.specs.Prelude.{codes, Option, Some, None, IfSome, unwrap_or}
+use Rattle.std.specs.Char.{to_ascii_lowercase}
+use Rattle.std.specs.List.{list_all}
+use Rattle.std.specs.Str.{str_to_ascii_lowercase}
+use Rattle.std.proofs.Math.Seq.{take-append-add}
+use Rattle.std.proofs.lemmas.Bool.{agree_below_at, and_from, and_parts, both_ways, not-true}
+use Rattle.std.proofs.lemmas.Bool.Decides.{nat_tests}
+use Rattle.std.proofs.lemmas.List.{get_or-take, length-append, length-take-le, take-take}
+use Rattle.std.proofs.lemmas.List.Elements.{All-from_get_or}
+use Rattle.std.proofs.lemmas.List.Folds.{list_all-append}
+use Rattle.std.proofs.lemmas.List.Sums.{list_all-from_AllPass}
+use Rattle.uri_pct.specs.Masks.{has_bit}
+use Rattle.uri_pct.specs.Models.ByteRuns.{IsLongestRun}
+use Rattle.uri_pct.specs.Texts.{lacks}
+use Rattle.uri_pct.proofs.TableSets.Masks.{has_bit-only-ascii}
+use Rattle.uri_parts.specs.Authority.{authority_parts, recompose_authority}
+use Rattle.uri_parts.specs.Components.{Components, marked, starts}
+use Rattle.uri_parts.specs.PackedPositions.{packed}
+use Rattle.uri_parts.specs.Positions.{authority_at, delimited_length, host_end_of, positions_of}
+use Rattle.uri_ops.specs.declared.normalize.unchanged.TheConstants.{UNCHANGED_HIGH, UNCHANGED_LOW}
+use Rattle.uri_ops.specs.Models.Unchanged.{IsUnchangedHost, is_literal_byte, is_unchanged_host_byte}
+use Rattle.uri_ops.specs.Normal.{normal_scheme}
+use Rattle.uri_ops.proofs.Normal.WrittenPlaces.{length-with-delimiter-after}
+
+-- unchanged bytes: normalising leaves each byte of the text, as one of a scheme or a host
+abbrev pub has_unchanged_host_bytes : List ℕ → Bool
+has_unchanged_host_bytes text = list_all is_unchanged_host_byte text
+
+-- unchanged bytes: the set of the two masks has the unchanged bytes of ASCII
+unchanged-masks-have-unchanged-bytes : (b : ℕ) → has_bit UNCHANGED_LOW UNCHANGED_HIGH b ≡ true
+    → is_unchanged_host_byte b ≡ true
+unfolding has_bit
+unchanged-masks-have-unchanged-bytes b e =
+    let agrees : (not (has_bit UNCHANGED_LOW UNCHANGED_HIGH b) || is_unchanged_host_byte b) ≡ true =
+    agree_below_at (λ c. not (has_bit UNCHANGED_LOW UNCHANGED_HIGH c) || is_unchanged_host_byte c)
+    (λ _. true)
+    128 b refl (has_bit-only-ascii UNCHANGED_LOW UNCHANGED_HIGH b e) in
+    sym (ap (λ x. not x || is_unchanged_host_byte b) e) ∙ agrees
+
+-- unchanged bytes: a run of bytes of the set, in a window of a text, is an unchanged prefix
+pub run-of-unchanged-bytes-is-unchanged-prefix : (bytes window : List ℕ) (limit end last : ℕ)
+    → window ≡ take limit bytes → end ≤ limit → end ≤ length bytes
+    → IsLongestRun (has_bit UNCHANGED_LOW UNCHANGED_HIGH) window 0 last → end ≤ last
+    → has_unchanged_host_bytes (take end bytes) ≡ true
+run-of-unchanged-bytes-is-unchanged-prefix bytes window limit end last same within inside run over =
+    let prefix = take end bytes in
+    let whole : take end window ≡ prefix = ap (take end) same ∙ take-take end limit bytes within in
+    let long : length prefix ≡ end = length-take-le end bytes inside in
+    list_all-from_AllPass is_unchanged_host_byte prefix
+    (All-from_get_or (λ b. is_unchanged_host_byte b ≡ true) prefix 0 (λ k h.
+    let before : k < end = omega (arith, h, long) in
+    unchanged-masks-have-unchanged-bytes (get_or prefix k 0)
+    (ap (λ x. has_bit UNCHANGED_LOW UNCHANGED_HIGH (get_or x k 0)) (sym whole)
+    ∙ ap (has_bit UNCHANGED_LOW UNCHANGED_HIGH) (get_or-take end window k 0 before)
+    ∙ run.pass k (omega arith) (omega (arith, before, over)))))
+
+-- unchanged bytes: the bytes of the two masks begin neither octets nor formatting characters
+unchanged-masks-have-literal-bytes : (b : ℕ) → has_bit UNCHANGED_LOW UNCHANGED_HIGH b ≡ true
+    → is_literal_byte b ≡ true
+unfolding has_bit
+unchanged-masks-have-literal-bytes b e =
+    let agrees : (not (has_bit UNCHANGED_LOW UNCHANGED_HIGH b) || is_literal_byte b) ≡ true =
+    agree_below_at (λ c. not (has_bit UNCHANGED_LOW UNCHANGED_HIGH c) || is_literal_byte c)
+    (λ _. true)
+    128 b refl (has_bit-only-ascii UNCHANGED_LOW UNCHANGED_HIGH b e) in
+    sym (ap (λ x. not x || is_literal_byte b) e) ∙ agrees
+
+-- unchanged bytes: nor do those of a run of the set, in a window of a text
+pub run-of-unchanged-bytes-is-literal : (bytes window : List ℕ) (limit end last : ℕ)
+    → window ≡ take limit bytes → end ≤ limit
+    → IsLongestRun (has_bit UNCHANGED_LOW UNCHANGED_HIGH) window 0 last → end ≤ last
+    → (k : ℕ) → k < end → is_literal_byte (get_or bytes k 0) ≡ true
+run-of-unchanged-bytes-is-literal bytes window limit end last same within run over k h =
+    unchanged-masks-have-literal-bytes (get_or bytes k 0)
+    (ap (has_bit UNCHANGED_LOW UNCHANGED_HIGH)
+    (sym (ap (λ w. get_or w k 0) same ∙ get_or-take limit bytes k 0 (omega (arith, h, within))))
+    ∙ run.pass k (omega arith) (omega (arith, h, over)))
+
+-- unchanged bytes: an unchanged text is in lower case
+pub unchanged_bytes_are_lower : (text : List ℕ) → has_unchanged_host_bytes text ≡ true
+    → str_to_ascii_lowercase text ≡ text
+unchanged_bytes_are_lower [] e = refl
+unchanged_bytes_are_lower (b ∷ text) e =
+    let p = and_parts (is_unchanged_host_byte b) (has_unchanged_host_bytes text) e in
+    let same : to_ascii_lowercase b ≡ b = let h = p.0 in grind (arith, nat_tests) in
+    λ i. same i ∷ unchanged_bytes_are_lower text p.1 i
+
+-- unchanged bytes: an unchanged text has no `%` (37)
+unchanged-bytes-lack-percent : (text : List ℕ) → has_unchanged_host_bytes text ≡ true
+    → lacks 37 text ≡ true
+unchanged-bytes-lack-percent [] e = refl
+unchanged-bytes-lack-percent (b ∷ text) e =
+    let p = and_parts (is_unchanged_host_byte b) (has_unchanged_host_bytes text) e in
+    let other : not (eqb b 37) ≡ true = (and_parts _ _ (and_parts _ _ p.0).1).0 in
+    and_from _ _ other (unchanged-bytes-lack-percent text p.1)
+
+-- unchanged bytes: an unchanged text does not begin with `[` (91)
+unchanged-bytes-begin-without-bracket : (text : List ℕ) → has_unchanged_host_bytes text ≡ true
+    → starts 91 text ≡ false
+unchanged-bytes-begin-without-bracket [] e = refl
+unchanged-bytes-begin-without-bracket (b ∷ text) e = grind (arith, nat_tests, not-true)
+
+-- unchanged bytes: a host whose bytes are unchanged is unchanged
+pub host_of_unchanged_bytes_is_unchanged : (host : List ℕ) → has_unchanged_host_bytes host ≡ true
+    → IsUnchangedHost host
+host_of_unchanged_bytes_is_unchanged host e = (
+  λ name. (unchanged_bytes_are_lower host e, unchanged-bytes-lack-percent host e),
+  λ bracket. absurd (both_ways _ (unchanged-bytes-begin-without-bracket host e) bracket),
+)
+
+-- unchanged bytes: an unchanged prefix of two texts has the first text, and a prefix of the
+-- second
+unchanged-prefix-splits : (n : ℕ) (xs ys : List ℕ)
+    → has_unchanged_host_bytes (take (length xs + n) (xs ++ ys)) ≡ true
+    → (has_unchanged_host_bytes xs ≡ true) × (has_unchanged_host_bytes (take n ys) ≡ true)
+unchanged-prefix-splits n xs ys e = grind (arith, nat_tests, list_all-append, take-append-add)
+
+-- unchanged bytes: a scheme is unchanged if its bytes are, with the `:` after it
+scheme-of-unchanged-bytes-is-unchanged : (scheme : Option (List ℕ))
+    → has_unchanged_host_bytes (marked [] scheme (codes ":")) ≡ true → normal_scheme scheme ≡ scheme
+scheme-of-unchanged-bytes-is-unchanged None e = refl
+scheme-of-unchanged-bytes-is-unchanged (Some s) e = ap Some (unchanged_bytes_are_lower s
+    (and_parts _ _ (sym (list_all-append is_unchanged_host_byte s (codes ":")) ∙ e)).0)
+
+-- unchanged bytes: the bytes of a host are unchanged if those of its authority are, up to its end
+unchanged-prefix-of-authority-has-its-host : (a rest : List ℕ)
+    → recompose_authority (authority_parts a) ≡ a
+    → has_unchanged_host_bytes (take (host_end_of a) (a ++ rest)) ≡ true
+    → has_unchanged_host_bytes (authority_parts a).host ≡ true
+unchanged-prefix-of-authority-has-its-host a rest whole e =
+    let p = authority_parts a in
+    let user = marked [] p.userinfo (codes "@") in
+    let port = marked (codes ":") p.port [] in
+    let joined : user ++ (p.host ++ (port ++ rest)) ≡ a ++ rest =
+    ap (λ x. user ++ x) (sym (append_assoc p.host port rest))
+    ∙ sym (append_assoc user (p.host ++ port) rest) ∙ ap (λ x. x ++ rest) whole in
+    let long = length-with-delimiter-after p.userinfo 64 in
+    let count : length user + (length p.host + 0) ≡ host_end_of a = omega (arith, long) in
+    let after = (unchanged-prefix-splits (length p.host + 0) user (p.host ++ (port ++ rest))
+    (ap (λ x. has_unchanged_host_bytes (take (length user + (length p.host + 0)) x)) joined
+    ∙ ap (λ n. has_unchanged_host_bytes (take n (a ++ rest))) count ∙ e)).1 in
+    (unchanged-prefix-splits 0 p.host (port ++ rest) after).0
+
+-- unchanged bytes: where the host of these components ends in their text, or 0
+abbrev end_of_host : Option (List ℕ) → Option (List ℕ) → ℕ
+end_of_host scheme authority = unwrap_or (option_map (λ a. a.host_end)
+    (option_map (authority_at (delimited_length 1 scheme + 2)) authority)) 0
+
+-- unchanged bytes: the scheme and the host are unchanged if the bytes up to the end of the host
+-- are
+pub unchanged-prefix-has-unchanged-scheme-and-host : (scheme authority : Option (List ℕ))
+    (rest : List ℕ)
+    → ((a : List ℕ) → authority ≡ Some a → recompose_authority (authority_parts a) ≡ a)
+    → 0 < end_of_host scheme authority
+    → has_unchanged_host_bytes (take (end_of_host scheme authority)
+    (marked [] scheme (codes ":") ++ (marked (codes "//") authority [] ++ rest))) ≡ true
+    → (normal_scheme scheme ≡ scheme)
+    × IfSome authority (λ a. IsUnchangedHost (authority_parts a).host)
+unchanged-prefix-has-unchanged-scheme-and-host scheme None rest whole some e =
+    absurd (omega (arith, some))
+unchanged-prefix-has-unchanged-scheme-and-host scheme (Some a) rest whole some e =
+    let first = marked [] scheme (codes ":") in
+    let long = length-with-delimiter-after scheme 58 in
+    let count : end_of_host scheme (Some a) ≡ length first + (2 + host_end_of a) =
+    omega (arith, long) in
+    let parts =
+    unchanged-prefix-splits (2 + host_end_of a) first ((codes "//" ++ (a ++ [])) ++ rest)
+    (ap (λ n. has_unchanged_host_bytes (take n (first ++ ((codes "//" ++ (a ++ [])) ++ rest))))
+    (sym count) ∙ e)
+    in
+    let plain : (codes "//" ++ (a ++ [])) ++ rest ≡ codes "//" ++ (a ++ rest) =
+    ap (λ x. (codes "//" ++ x) ++ rest) (append-nil a) in
+    let authority = (unchanged-prefix-splits (host_end_of a) (codes "//") (a ++ rest)
+    (ap (λ x. has_unchanged_host_bytes (take (2 + host_end_of a) x)) (sym plain) ∙ parts.1)).1 in (
+      scheme-of-unchanged-bytes-is-unchanged scheme parts.0,
+      host_of_unchanged_bytes_is_unchanged (authority_parts a).host
+          (unchanged-prefix-of-authority-has-its-host a rest (whole a refl) authority),
+    )
+
+-- unchanged bytes: the host of these components ends in their text before the path begins
+pub host-ends-before-path : (p : Components)
+    → ((a : List ℕ) → p.authority ≡ Some a → recompose_authority (authority_parts a) ≡ a)
+    → (packed (positions_of p)).host_end ≤ (positions_of p).path_start
+host-ends-before-path p whole = by-authority p.scheme p.authority whole
+  where
+    by-authority : (scheme authority : Option (List ℕ))
+        → ((a : List ℕ) → authority ≡ Some a → recompose_authority (authority_parts a) ≡ a)
+        → end_of_host scheme authority
+        ≤ delimited_length 1 scheme + delimited_length 2 authority
+    by-authority scheme None whole = omega arith
+    by-authority scheme (Some a) whole =
+        let parts = authority_parts a in
+        let user = marked [] parts.userinfo (codes "@") in
+        let port = marked (codes ":") parts.port [] in
+        let long = length-with-delimiter-after parts.userinfo 64 in
+        let first = length-append user (parts.host ++ port) in
+        let second = length-append parts.host port in
+        let joined = ap length (whole a refl) in
+        omega (arith, long, first, second, joined)
