@@ -1,5 +1,6 @@
 -- Normal texts that are read from their ends, in blocks.
 pub mod Blocks
+pub mod LastAscii
 pub mod LastDecodables
 pub mod LastOctets
 pub mod LastTokens

@@ -112,3 +112,32 @@ pub nothing_is_left_of_either : (size : ℕ) (text left block other rest found :
     → length block < size → left ≡ rest
 nothing_is_left_of_either size text left block other rest found a b same short =
     a.last short ∙ sym (b.last (omega (arith, ap length same)))
+
+-- blocks: what ends a text is read as far as there is room
+pub end_is_read : (text end left before after : List ℕ) → end ++ before ≡ left ++ after
+    → (text ++ end) ++ before ≡ (text ++ left) ++ after
+end_is_read text end left before after e =
+    append_assoc text end before ∙ ap (λ t. text ++ t) e ∙ sym (append_assoc text left after)
+
+-- blocks: where nothing is held, the end of a text is read as far as there is room
+pub end_is_read_if_nothing_is_held : (whole held text end left before after : List ℕ)
+    → whole ≡ text ++ end → held ≡ [] → end ++ before ≡ left ++ after
+    → (whole ++ held) ++ before ≡ (text ++ left) ++ after
+end_is_read_if_nothing_is_held whole held text end left before after e none f =
+    ap (λ t. (whole ++ t) ++ before) none ∙ ap (λ t. t ++ before) (append-nil whole ∙ e)
+    ∙ end_is_read text end left before after f
+
+-- blocks: some of a text is read if there is room
+pub some_is_read : (size end start : ℕ) (text left before after : List ℕ) → length before ≡ size
+    → length after ≡ size → end ≤ size
+    → text ++ drop end before ≡ left ++ drop start after → (0 < start → left ≡ [])
+    → 0 < length text → 0 < end → start < end
+some_is_read size end start text left before after m n within e last some room =
+    let all = ap length e in
+    let first = length-append text (drop end before) in
+    let second = length-append left (drop start after) in
+    let from = length-drop end before in
+    let to = length-drop start after in
+    ⊎_elim (λ fewer. fewer)
+    (λ h. let none = ap length (last (omega arith)) in absurd (omega arith))
+    (cases_lt start end)

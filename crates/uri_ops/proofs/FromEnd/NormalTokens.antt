@@ -93,7 +93,7 @@ octet_is_written true value = refl
 octet_is_written false value = refl
 
 -- normal texts: what the last tokens of a text become is written last
-last_tokens_are_written_last : (set : TableSet) (lowers : Bool) (text before : List ℕ)
+pub last_tokens_are_written_last : (set : TableSet) (lowers : Bool) (text before : List ℕ)
     (ts us : List Token)
     → EndsIn text before ts → decoded set (tokens before ++ ts) ≡ decoded set (tokens before) ++ us
     → normal_component lowers set text

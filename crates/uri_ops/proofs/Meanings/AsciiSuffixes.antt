@@ -91,7 +91,7 @@ unreserved-octet-is-its-code lowers value e =
     ∙ sym (unreserved-octet-prints-its-code lowers value e)
 
 -- ASCII suffixes: the octet of any other character is written as an octet
-reserved-octet-is-written : (lowers : Bool) (value : ℕ) → is_unreserved value ≡ false
+pub reserved-octet-is-written : (lowers : Bool) (value : ℕ) → is_unreserved value ≡ false
     → text_of_token (Octet value) ≡ print (lowered_if lowers (decode_octet (Octet value) ∷ []))
 reserved-octet-is-written true value e = rw e (sym (append-nil (text_of_token (Octet value))))
 reserved-octet-is-written false value e = rw e (sym (append-nil (text_of_token (Octet value))))

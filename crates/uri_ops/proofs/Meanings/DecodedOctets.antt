@@ -78,7 +78,7 @@ ascii-piece-decodes-as-octet set b low =
     ∙ decode_octet-is-character-if-unreserved b
 
 -- meanings, decoded: an ASCII octet at the start is decoded alone
-leading-ascii-octet-decodes-alone : (set : TableSet) (b : ℕ) (us : List Token) → b < 128
+pub leading-ascii-octet-decodes-alone : (set : TableSet) (b : ℕ) (us : List Token) → b < 128
     → decode_tokens set (Octet b ∷ us) ≡ decode_octet (Octet b) ∷ decode_tokens set us
 unfolding decode_after_run
 leading-ascii-octet-decodes-alone set b us low =

@@ -1,6 +1,6 @@
 -- The last token of a text that normalising decodes, and the tokens before it: RFC 3986, section
 -- 6.2.2.2; RFC 3987, section 5.3.2.3.
-use Rattle.std.specs.Prelude.{◌≡◌, ◌≢◌, ℕ, ◌+◌, true, List, [], ◌∷◌, ◌++◌, length, map, slice_index}
+use Rattle.std.specs.Prelude.{◌≡◌, ◌≢◌, ◌≤◌, ◌<◌, ℕ, ◌+◌, true, List, [], ◌∷◌, ◌++◌, length, map, slice_index}
 use Rattle.std.specs.Char.{IsScalar, encode_utf8}
 use Rattle.uri_pct.specs.Sets.{TableSet}
 use Rattle.uri_pct.specs.Chunks.{widest_set}
@@ -16,6 +16,13 @@ pub record EndsIn (text before : List ℕ) (ts : List Token) : Type 0 where
 -- the third byte from the end, if there is one, is not `%`
 abbrev pub LacksPercentThird : List ℕ → Type 0
 LacksPercentThird text = (n : ℕ) → n + 3 ≡ length text → slice_index text n ≢ percent_sign
+
+-- the bytes from the index on are ASCII, and the second byte before each of them is not `%`: so in a
+-- valid text they are in no octet
+pub record IsAsciiSuffix (text : List ℕ) (start : ℕ) : Type 0 where
+  pub within : start ≤ length text
+  pub ascii : (k : ℕ) → start ≤ k → k < length text → slice_index text k < 128
+  pub outside : (k : ℕ) → start ≤ k + 2 → k + 2 < length text → slice_index text k ≢ percent_sign
 
 -- the last token, if there is one, is a character
 abbrev pub EndInNoOctet : List Token → Type 0

@@ -58,7 +58,7 @@ fn codes(lowers: bool) -> &'static [u8; 128]
 /// Returns the code that a single octet of this value decodes to if its character is unreserved,
 /// with a letter lowered if `lowers`.
 #[inline(always)]
-fn unreserved(lowers: bool, value: u8) -> Option<u8>
+pub(crate) fn unreserved(lowers: bool, value: u8) -> Option<u8>
     requires { value < 128 }
     ensures { MatchOption result (is_unreserved value ≡ false)
         (λ ch. (ch ≡ lowered_code_if lowers value) × (is_unreserved value ≡ true)) }

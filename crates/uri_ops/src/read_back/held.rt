@@ -1,8 +1,10 @@
 //! The text of one token of a normal text, read from its end (RFC 3986, section 6.2.2).
-ghost use Rattle.std.specs.Prelude.{◌≡◌, ◌+◌, ◌≤◌, ◌++◌, ◌∷◌, [], MatchOption, encode_utf8, length};
-ghost use Rattle.std.specs.Prelude.{map};
+ghost use Rattle.std.specs.Prelude.{◌≡◌, ◌+◌, ◌≤◌, ◌<◌, ◌++◌, ◌∷◌, [], MatchOption, drop};
+ghost use Rattle.std.specs.Prelude.{encode_utf8, length, map};
 ghost use Rattle.uri_pct.specs.Tokens.{Octet, print, text_of_token};
 
+use crate::read_back::BLOCK;
+use crate::read_back::literal_back::put_back;
 use uri_pct::octet::pct_encoded;
 
 /// The most bytes that the text of a token has: four octets, which are a character.
@@ -75,6 +77,23 @@ impl Held {
             held.push_all(pct_encoded(byte).as_bytes());
         }
         held
+    }
+
+    /// Takes the last bytes that are left and puts them into the block before `end`. Returns where
+    /// they begin.
+    #[inline(always)]
+    pub(crate) fn read_back(&mut self, block: &mut [u8; BLOCK], end: usize) -> usize
+        requires { end ≤ 1024 }
+        ensures text { held_text self.old ++ drop end block.old
+            ≡ held_text self.new ++ drop result block.new }
+        ensures within { result ≤ end }
+        ensures end { 0 < result → held_text self.new ≡ [] }
+    {
+        let held = &self.bytes[..self.len];
+        let left = held.len() - held.len().min(end);
+        let start = put_back(false, &held[left..], block, end);
+        self.len = left;
+        start
     }
 
     /// Takes the last byte that is left.

@@ -1,11 +1,14 @@
 //! The last token of a component, as normalising decodes it (RFC 3986, section 6.2.2.2; RFC 3987,
 //! section 5.3.2.3).
-ghost use Rattle.std.specs.Prelude.{◌≡◌, ◌<◌, ◌∷◌, [], IfSome, MatchOption, false, length};
+ghost use Rattle.std.specs.Prelude.{◌≡◌, ◌≢◌, ◌+◌, ◌≤◌, ◌<◌, ◌∷◌, ℕ, [], IfSome, MatchOption};
+ghost use Rattle.std.specs.Prelude.{false, length, slice_index, true};
 ghost use Rattle.uri_pct.specs.Chunks.{widest_set};
+ghost use Rattle.uri_pct.specs.Delimiters.{percent_sign};
 ghost use Rattle.uri_pct.specs.Tables.{set_of};
 ghost use Rattle.uri_pct.specs.Tokens.{Char, Octet, tokens, IsValidFor};
 ghost use Rattle.uri_ops.specs.FromEnd.LastTokens.{AreDecodable, AreNoDecodable, EndInNoOctet};
-ghost use Rattle.uri_ops.specs.FromEnd.LastTokens.{EndsIn, EndsInDecodable, LacksPercentThird};
+ghost use Rattle.uri_ops.specs.FromEnd.LastTokens.{EndsIn, EndsInDecodable, IsAsciiSuffix};
+ghost use Rattle.uri_ops.specs.FromEnd.LastTokens.{LacksPercentThird};
 ghost use Rattle.uri_ops.specs.FromEnd.LastTokens.{TokensEndInNoDecodable};
 
 use std::str;
@@ -72,6 +75,30 @@ pub(crate) fn split_last_ascii(text: &str) -> Option<(&str, u8)>
         return None;
     }
     Some((&text[..end], byte))
+}
+
+/// Returns whether the byte at an index is ASCII, and the second byte before it is not `%`.
+#[inline(always)]
+fn is_ascii_in_no_octet(bytes: &[u8], at: usize) -> bool
+    requires { at < length bytes.now }
+    ensures ascii { result ≡ true → slice_index bytes.now at < 128 }
+    ensures outside { result ≡ true → (k : ℕ) → k + 2 ≡ at
+        → slice_index bytes.now k ≢ percent_sign }
+{
+    bytes[at].is_ascii() && (at < 2 || bytes[at - 2] != b'%')
+}
+
+/// Returns where the ASCII begins, from `least` on, that ends a text and is in no octet.
+pub(crate) fn ascii_suffix_start(bytes: &[u8], least: usize) -> usize
+    requires { least ≤ length bytes.now }
+    ensures suffix { IsAsciiSuffix bytes.now result }
+    ensures least { least ≤ result }
+{
+    let mut start = bytes.len();
+    while start > least && is_ascii_in_no_octet(bytes, start - 1) {
+        start -= 1;
+    }
+    start
 }
 
 /// Returns the decodable character whose UTF-8 the bytes are, if they are that of one.

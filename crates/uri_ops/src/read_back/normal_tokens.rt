@@ -1,14 +1,16 @@
 //! The normal text of the last token of a component (RFC 3986, sections 6.2.2.1 and 6.2.2.2; RFC
 //! 3987, sections 4.1 and 5.3.2.3).
-ghost use Rattle.std.specs.Prelude.{◌≡◌, ◌<◌, ◌++◌, length};
+ghost use Rattle.std.specs.Prelude.{◌≡◌, ◌<◌, ◌++◌, ◌∷◌, [], length};
 ghost use Rattle.uri_pct.specs.Chunks.{widest_set};
-ghost use Rattle.uri_pct.specs.DecodeUnreserved.{formatting_as_octets, is_never_literal};
+ghost use Rattle.uri_pct.specs.DecodeUnreserved.{decode_octet, formatting_as_octets};
+ghost use Rattle.uri_pct.specs.DecodeUnreserved.{is_never_literal};
 ghost use Rattle.uri_pct.specs.Tables.{set_of};
-ghost use Rattle.uri_pct.specs.Tokens.{Char, print, IsValidFor};
+ghost use Rattle.uri_pct.specs.Tokens.{Char, Octet, print, IsValidFor};
 ghost use Rattle.uri_ops.specs.Models.Decodings.{lowered_code_if, lowered_if};
 ghost use Rattle.uri_ops.specs.FromEnd.Held.{held_text};
 ghost use Rattle.uri_ops.specs.FromEnd.NormalComponents.{normal_component};
 
+use crate::normalize::octets::unreserved;
 use crate::read_back::held::Held;
 use crate::read_back::last_tokens::{split_last_char, split_last_decodable, split_last_octet};
 use uri_pct::table::Table;
@@ -50,6 +52,19 @@ fn normal_char(table: &Table, lowers: bool, ch: char) -> Held
     }
 }
 
+/// Returns the normal text of an octet of ASCII, decoded if its character is unreserved, with a
+/// letter in lower case if `lowers`.
+fn normal_octet(lowers: bool, value: u8) -> Held
+    requires { value < 128 }
+    ensures text { held_text result ≡ print (lowered_if lowers (decode_octet (Octet value) ∷ [])) }
+    ensures some { 0 < length (held_text result) }
+{
+    match unreserved(lowers, value) {
+        Some(ch) => Held::character(char::from(ch)),
+        None => Held::octet(value),
+    }
+}
+
 /// Returns the normal text of the last token of a component, with a letter in lower case if
 /// `lowers`, and the text before the token.
 pub(crate) fn split_last_token<'a>(table: &Table, lowers: bool, text: &'a str) -> (&'a str, Held)
@@ -64,6 +79,9 @@ pub(crate) fn split_last_token<'a>(table: &Table, lowers: bool, text: &'a str) -
         let (before, ch) = split_last_char(text);
         return (before, normal_char(table, lowers, ch));
     };
+    if value.is_ascii() {
+        return (before, normal_octet(lowers, value));
+    }
     if let Some((before, ch)) = split_last_decodable(table, text) {
         return (before, normal_char(table, lowers, ch));
     }

@@ -1,12 +1,13 @@
 //! A component of a normal text, read from its end (RFC 3986, section 6.2.2.2; RFC 3987, sections
 //! 4.1 and 5.3.2.3).
-ghost use Rattle.std.specs.Prelude.{◌≡◌, ◌≤◌, ◌<◌, ◌++◌, ◌∷◌, [], IfSome, None, drop};
+ghost use Rattle.std.specs.Prelude.{◌≡◌, ◌≤◌, ◌<◌, ◌++◌, ◌∷◌, [], IfSome, None, drop, length};
 ghost use Rattle.uri_pct.specs.Chunks.{widest_set};
 ghost use Rattle.uri_pct.specs.Tables.{set_of};
 ghost use Rattle.uri_pct.specs.Tokens.{IsValidFor};
 
 use crate::read_back::held::Held;
-use crate::read_back::last_tokens::split_last_ascii;
+use crate::read_back::last_tokens::{ascii_suffix_start, split_last_ascii};
+use crate::read_back::literal_back::put_back;
 use crate::read_back::normal_tokens::{normal_ascii, split_last_token};
 use crate::read_back::{BLOCK, ReadBack};
 use uri_pct::table::Table;
@@ -23,6 +24,7 @@ pub struct OctetsBack<'a> {
 }
 
 impl<'a> OctetsBack<'a> {
+    ghost use Rattle.uri_ops.specs.FromEnd.Held.{held_text};
     ghost use Rattle.uri_ops.specs.FromEnd.NormalComponents.{normal_component};
     ghost use Rattle.uri_ops.specs.FromEnd.OctetsBack.{octets_unread};
 
@@ -63,6 +65,32 @@ impl<'a> OctetsBack<'a> {
         self.held.pop()
     }
 
+    /// Takes the ASCII that ends what is left and is in no octet, or the last token, and puts its
+    /// last bytes into the block before `end`. Returns where they begin.
+    fn read_last(&mut self, block: &mut [u8; BLOCK], end: usize) -> usize
+        requires end { end ≤ 1024 }
+        requires room { 0 < end }
+        requires some { 0 < length self.old.rest.now }
+        requires none { held_text self.old.held ≡ [] }
+        ensures text { octets_unread self.old ++ drop end block.old
+            ≡ octets_unread self.new ++ drop result block.new }
+        ensures fewer { result < end }
+        ensures held { 0 < result → held_text self.new.held ≡ [] }
+    {
+        let rest = self.rest;
+        let bytes = rest.as_bytes();
+        let least = bytes.len().saturating_sub(end);
+        let start = ascii_suffix_start(bytes, least);
+        if start == bytes.len() {
+            let (before, held) = split_last_token(&self.table, self.lowers, rest);
+            self.rest = before;
+            self.held = held;
+            return self.held.read_back(block, end);
+        }
+        self.rest = &rest[..start];
+        put_back(self.lowers, &bytes[start..], block, end)
+    }
+
     /// Takes the last bytes that are left and puts them into the block before `end`. Returns where
     /// they begin.
     pub(crate) fn read_back(&mut self, block: &mut [u8; BLOCK], end: usize) -> usize
@@ -72,15 +100,11 @@ impl<'a> OctetsBack<'a> {
         ensures within { result ≤ end }
         ensures end { 0 < result → octets_unread self.new ≡ [] }
     {
-        let mut end = end;
-        while end > 0 {
-            let Some(byte) = self.next_back() else {
-                return end;
-            };
-            end -= 1;
-            block[end] = byte;
+        let mut start = self.held.read_back(block, end);
+        while start > 0 && !self.rest.is_empty() {
+            start = self.read_last(block, start);
         }
-        end
+        start
     }
 }
 

@@ -2,6 +2,8 @@
 use Rattle.std.proofs.Common.{◌++◌, sym, ap, ◌∙◌}
 use Rattle.uri_pct.specs.Tables.{set_of}
 use Rattle.uri_ops.specs.FromEnd.NormalComponents.{normal_component}
+use Rattle.std.proofs.lemmas.Bool.{ltb-true}
+use Rattle.uri_ops.proofs.FromEnd.LastAscii.{last_ascii_octet_is_written_last}
 use Rattle.uri_ops.proofs.FromEnd.NormalTokens.{last_char_is_written_last, char_has_text, last_decodable_is_written_last, last_octet_is_written_last}
 use Rattle.uri_ops.proofs.read_back.normal_tokens.split_last_token.Goals as goal
 
@@ -12,6 +14,14 @@ returns-in_default-clause-text c =
     last_char_is_written_last set c.args.lowers c.args.text.now before
     c.split_last_char-ch.result.1 c.split_last_char-ch.ensures
     ∙ ap (λ t. normal_component c.args.lowers set before ++ t) (sym c.normal_char.ensures)
+
+pub returns-then-is_ascii-clause-text : goal.returns-then-is_ascii-clause-text
+returns-then-is_ascii-clause-text c =
+    let set = set_of c.args.table.now in
+    let before = c.in-Some.before.now in
+    last_ascii_octet_is_written_last set c.args.lowers c.args.text.now before c.in-Some.value
+    c.in-Some.ensures (ltb-true _ _ (sym c.is_ascii.ensures ∙ c.if-is_ascii.true))
+    ∙ ap (λ t. normal_component c.args.lowers set before ++ t) (sym c.normal_octet.ensures.text)
 
 pub returns-in_default-clause-some : goal.returns-in_default-clause-some
 returns-in_default-clause-some c = char_has_text (set_of c.args.table.now) c.args.lowers

@@ -1,15 +1,18 @@
--- The bytes that were taken are in the block from `end` on.
-use Rattle.std.proofs.Common.{◌≡◌, ◌≤◌, ◌++◌, length, drop}
+-- The bytes that were taken are in the block from `start` on, and what was held is among them if
+-- the block is not full.
+use Rattle.std.proofs.Common.{◌≡◌, ◌≤◌, ◌<◌, ◌++◌, [], length, drop}
+use Rattle.uri_ops.specs.FromEnd.Held.{held_text}
 use Rattle.uri_ops.specs.FromEnd.OctetsBack.{octets_unread}
 use Rattle.uri_ops.proofs.read_back.octets_back.OctetsBack.read_back.Given as goal
 
-abbrev pub invariant-loop-end : goal.invariant-loop-end
-invariant-loop-end l = record {
+abbrev pub invariant-loop-start : goal.invariant-loop-start
+invariant-loop-start l = record {
   size : length l.block ≡ 1024;
-  within : l.end ≤ l.initial.end;
-  text : octets_unread l.initial.self ++ drop l.initial.end l.initial.block
-      ≡ octets_unread l.self ++ drop l.end l.block;
+  within : l.start ≤ l.fn.end;
+  text : octets_unread l.fn.self ++ drop l.fn.end l.fn.block
+      ≡ octets_unread l.self ++ drop l.start l.block;
+  held : 0 < l.start → held_text l.self.held ≡ [];
 }
 
-abbrev pub decreases-loop-end : goal.decreases-loop-end
-decreases-loop-end l = l.end
+abbrev pub decreases-loop-start : goal.decreases-loop-start
+decreases-loop-start l = l.start

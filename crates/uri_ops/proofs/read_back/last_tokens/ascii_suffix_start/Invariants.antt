@@ -1,0 +1,13 @@
+-- What was passed is ASCII, and in no octet.
+use Rattle.std.proofs.Common.{◌≤◌}
+use Rattle.uri_ops.specs.FromEnd.LastTokens.{IsAsciiSuffix}
+use Rattle.uri_ops.proofs.read_back.last_tokens.ascii_suffix_start.Given as goal
+
+abbrev pub invariant-loop-start : goal.invariant-loop-start
+invariant-loop-start l = record {
+  suffix : IsAsciiSuffix l.bytes l.start;
+  least : l.least ≤ l.start;
+}
+
+abbrev pub decreases-loop-start : goal.decreases-loop-start
+decreases-loop-start l = l.start

@@ -1,0 +1,10 @@
+-- Where no text is left and the block is not full, nothing is held.
+use Rattle.std.proofs.Common.{sym}
+use Rattle.uri_pct.specs.Tables.{set_of}
+use Rattle.uri_ops.proofs.FromEnd.NormalTokens.{nothing_is_left}
+use Rattle.uri_ops.proofs.read_back.octets_back.OctetsBack.read_back.Goals as goal
+
+pub returns-else-not-is_empty-clause-end : goal.returns-else-not-is_empty-clause-end
+returns-else-not-is_empty-clause-end c = λ room.
+    nothing_is_left c.loop-start.self.lowers (set_of c.loop-start.self.table)
+    c.loop-start.self.rest.now _ (sym c.if-not-is_empty.ensures) (c.loop-start.invariant.held room)
