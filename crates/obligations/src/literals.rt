@@ -10,69 +10,56 @@ use fluent_uri::pct_enc::encoder::{
 use fluent_uri::pct_enc::{EStr, EString};
 use std::alloc::{AllocError, Global};
 
-/// A caller makes a literal text for the encoder `Userinfo`, which needs no test.
-pub fn userinfo() -> EStr<'static, Userinfo> {
-    EStr::new_or_panic("user:password")
+/// A caller makes a literal text for each encoder of a part of an authority, which needs no test.
+pub fn of_an_authority() -> (
+    EStr<'static, Userinfo>,
+    EStr<'static, RegName>,
+    EStr<'static, Port>,
+) {
+    (
+        EStr::new_or_panic("user:password"),
+        EStr::new_or_panic("example.com"),
+        EStr::new_or_panic("8080"),
+    )
 }
 
-/// A caller makes a literal text for the encoder `RegName`, which needs no test.
-pub fn reg_name() -> EStr<'static, RegName> {
-    EStr::new_or_panic("example.com")
+/// A caller makes literal texts for encoders of components of URIs.
+pub fn of_a_uri() -> (
+    EStr<'static, Path>,
+    EStr<'static, Query>,
+    EStr<'static, Fragment>,
+) {
+    (
+        EStr::new_or_panic("/a"),
+        EStr::new_or_panic("name=ferret&page=2"),
+        EStr::new_or_panic("nose"),
+    )
 }
 
-/// A caller makes a literal text for the encoder `Port`, which needs no test.
-pub fn port() -> EStr<'static, Port> {
-    EStr::new_or_panic("8080")
+/// A caller makes literal texts for encoders of parts of the authority of an IRI.
+pub fn of_an_iauthority() -> (EStr<'static, IUserinfo>, EStr<'static, IRegName>) {
+    (
+        EStr::new_or_panic("user"),
+        EStr::new_or_panic("example.com"),
+    )
 }
 
-/// A caller makes a literal text for the encoder `Path`, which needs no test.
-pub fn path() -> EStr<'static, Path> {
-    EStr::new_or_panic("/a")
+/// A caller makes literal texts for encoders of components of IRIs.
+pub fn of_an_iri() -> (
+    EStr<'static, IPath>,
+    EStr<'static, IQuery>,
+    EStr<'static, IFragment>,
+) {
+    (
+        EStr::new_or_panic("/rosé/张三"),
+        EStr::new_or_panic("a?b/c"),
+        EStr::new_or_panic("section-2.1"),
+    )
 }
 
-/// A caller makes a literal text for the encoder `Query`, which needs no test.
-pub fn query() -> EStr<'static, Query> {
-    EStr::new_or_panic("name=ferret&page=2")
-}
-
-/// A caller makes a literal text for the encoder `Fragment`, which needs no test.
-pub fn fragment() -> EStr<'static, Fragment> {
-    EStr::new_or_panic("nose")
-}
-
-/// A caller makes a literal text for the encoder `IUserinfo`, which needs no test.
-pub fn iuserinfo() -> EStr<'static, IUserinfo> {
-    EStr::new_or_panic("user")
-}
-
-/// A caller makes a literal text for the encoder `IRegName`, which needs no test.
-pub fn ireg_name() -> EStr<'static, IRegName> {
-    EStr::new_or_panic("example.com")
-}
-
-/// A caller makes a literal text for the encoder `IPath`, which needs no test.
-pub fn ipath() -> EStr<'static, IPath> {
-    EStr::new_or_panic("/over/there")
-}
-
-/// A caller makes a literal text for the encoder `IQuery`, which needs no test.
-pub fn iquery() -> EStr<'static, IQuery> {
-    EStr::new_or_panic("a?b/c")
-}
-
-/// A caller makes a literal text for the encoder `IFragment`, which needs no test.
-pub fn ifragment() -> EStr<'static, IFragment> {
-    EStr::new_or_panic("section-2.1")
-}
-
-/// A caller makes a literal text for the encoder `Data`, which needs no test.
-pub fn data() -> EStr<'static, Data> {
-    EStr::new_or_panic("A-Z_0.9~")
-}
-
-/// A caller makes a literal text for the encoder `IData`, which needs no test.
-pub fn idata() -> EStr<'static, IData> {
-    EStr::new_or_panic("data")
+/// A caller makes literal texts for the encoders of data.
+pub fn of_data() -> (EStr<'static, Data>, EStr<'static, IData>) {
+    (EStr::new_or_panic("A-Z_0.9~"), EStr::new_or_panic("data"))
 }
 
 /// A caller makes the literal scheme `http`, which needs no test.
@@ -88,11 +75,6 @@ pub fn scheme_with_plus() -> Scheme<'static> {
 /// A caller makes a literal path that has percent-encoded octets, which needs no test.
 pub fn path_with_octets() -> EStr<'static, Path> {
     EStr::new_or_panic("/a%20b/%C3%A9")
-}
-
-/// A caller makes a literal path of an IRI that has characters past ASCII.
-pub fn ipath_with_letters() -> EStr<'static, IPath> {
-    EStr::new_or_panic("/rosé/张三")
 }
 
 /// A caller appends a literal character past ASCII to the query of an IRI.

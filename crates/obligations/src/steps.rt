@@ -17,24 +17,14 @@ pub fn begun_uri(alloc: Global) -> Builder<Uri<String>, NonRefStart> {
     Uri::<String>::builder(alloc)
 }
 
-/// A caller begins a URI reference.
-pub fn begun(alloc: Global) -> Builder<UriRef<String>, Start> {
-    UriRef::<String>::builder(alloc)
-}
-
-/// A caller adds a scheme.
-pub fn with_scheme(
-    builder: Builder<UriRef<String>, Start>,
+/// A caller begins a URI reference with a scheme and an authority.
+pub fn begun(
+    alloc: Global,
     scheme: Scheme<'_>,
-) -> Builder<UriRef<String>, SchemeEnd> {
-    builder.scheme(scheme)
-}
-
-/// A caller adds an authority.
-pub fn with_authority(
-    builder: Builder<UriRef<String>, SchemeEnd>,
     authority: Authority<'_>,
 ) -> Builder<UriRef<String>, AuthorityEnd> {
+    let builder: Builder<UriRef<String>, Start> = UriRef::<String>::builder(alloc);
+    let builder: Builder<UriRef<String>, SchemeEnd> = builder.scheme(scheme);
     builder.authority(authority)
 }
 
@@ -54,27 +44,15 @@ pub fn with_port(
     builder.port_with_default(port, 443)
 }
 
-/// A caller adds a path.
-pub fn with_path(
+/// A caller adds what follows an authority.
+pub fn ended(
     builder: Builder<UriRef<String>, AuthorityEnd>,
     path: EStr<'_, Path>,
-) -> Builder<UriRef<String>, PathEnd> {
-    builder.path(path)
-}
-
-/// A caller adds a query.
-pub fn with_query(
-    builder: Builder<UriRef<String>, PathEnd>,
     query: EStr<'_, Query>,
-) -> Builder<UriRef<String>, QueryEnd> {
-    builder.query(query)
-}
-
-/// A caller adds a fragment.
-pub fn with_fragment(
-    builder: Builder<UriRef<String>, QueryEnd>,
     fragment: EStr<'_, Fragment>,
 ) -> Builder<UriRef<String>, FragmentEnd> {
+    let builder: Builder<UriRef<String>, PathEnd> = builder.path(path);
+    let builder: Builder<UriRef<String>, QueryEnd> = builder.query(query);
     builder.fragment(fragment)
 }
 
