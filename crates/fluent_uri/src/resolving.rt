@@ -1,11 +1,10 @@
 //! Resolving references against a base (RFC 3986, section 5.2; RFC 3987, section 6.5).
-ghost use Rattle.std.specs.Prelude.{◌≡◌, IfErr, IfOk, List, Ok, Some, true, ℕ};
+ghost use Rattle.std.specs.Prelude.{◌≡◌, IfErr, IfOk, Ok, true};
 ghost use Rattle.uri_parts.specs.Components.{components};
 ghost use Rattle.uri_ops.specs.Resolved.{IsResolved};
 ghost use Rattle.uri_ops.specs.Resolving.{IsErrorWithUnderflowAllowed};
 ghost use Rattle.uri_ops.specs.Target.{resolution_of_texts};
 ghost use Rattle.fluent_uri.specs.References.{reference_text};
-ghost use Rattle.fluent_uri.specs.Targets.{target_of_texts};
 
 use crate::reference::Reference;
 use crate::roles::RefKind;
@@ -46,12 +45,6 @@ impl<K: RefKind, T: AsStr> Reference<K, T> {
         ensures target { IfOk result (λ target.
             resolution_of_texts (reference_text base.now) (reference_text self.now)
             ≡ Ok (reference_text target)) }
-        ensures target_of_text { IfOk result (λ target. (text : List ℕ)
-            → reference_text self.now ≡ text
-            → resolution_of_texts (reference_text base.now) text ≡ Ok (reference_text target)) }
-        ensures resolves { IfOk result (λ target.
-            target_of_texts (reference_text base.now) (reference_text self.now)
-            ≡ Some (reference_text target)) }
         ensures refusal { IfErr result
             (IsErrorWithUnderflowAllowed (components (reference_text base.now))
             (components (reference_text self.now))) }

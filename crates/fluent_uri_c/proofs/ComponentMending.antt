@@ -4,7 +4,7 @@ use Rattle.fluent_uri_c.proofs.Common.{◌≡◌, ℕ, ◌+◌, ◌-◌, ◌<◌
 use Rattle.std.proofs.lemmas.List.Edits.{between_none}
 use Rattle.uri_pct.specs.Prefixes.{valid_prefix}
 use Rattle.uri_mend.proofs.ComponentProgress.{nothing-is-scanned-after-scan}
-use Rattle.uri_mend.proofs.MendedSteps.{scanned-prefix-is-kept, unscanned-char-is-encoded}
+use Rattle.uri_mend.proofs.MendedSteps.{scanned-prefix-is-unchanged, unscanned-char-is-encoded}
 
 -- mended components for C: the octets of a part of a text
 abbrev octets_between : List ℕ → ℕ → ℕ → List ℕ
@@ -35,7 +35,7 @@ module _ (set : TableSet) (lacks : LacksPercent set) (octets : set.pct_encoded �
       let rest : List ℕ = drop done text in
       let n = valid_prefix set rest in
       let size : n ≡ end - done = omega (arith, here) in
-      scanned-prefix-is-kept set lacks octets rest (IsUtf8-drop text done u at)
+      scanned-prefix-is-unchanged set lacks octets rest (IsUtf8-drop text done u at)
       ∙ ap (λ k. take k rest ++ mended set (drop n rest)) size
       ∙ ap (λ t. take (end - done) rest ++ mended set t)
       (drop-drop n done text ∙ ap (λ k. drop k text) (sym here))

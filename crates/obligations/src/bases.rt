@@ -1,5 +1,4 @@
 //! Code over URIs and IRIs alike, by the kinds of bases and of references.
-#![tactic(auto)]
 
 ghost use Rattle.std.specs.Prelude.{IfOk, IsSomeAnd};
 ghost use Rattle.fluent_uri.specs.Prelude.{reference_text, target_of_texts};

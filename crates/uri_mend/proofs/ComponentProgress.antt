@@ -1,7 +1,7 @@
 -- How far a component was mended: what a scan passes, and the octets after it.
 use Rattle.uri_mend.proofs.Common.{◌≡◌, ℕ, ◌+◌, ◌-◌, ◌≤◌, true, List, [], ◌++◌, take, drop, sym, ap, ◌∙◌, arith, append_assoc, IsUtf8, IsCharBoundary, take-add, append-nil, drop-drop, IsUtf8-drop, chars-nil, valid_prefix, TableSet, LacksPercent, excludes, before_any, from_any, mended, mended_from_chars}
 use Rattle.uri_pct.proofs.ValidTexts.Prefixes.{nothing_is_scanned_after_valid_prefix}
-use Rattle.uri_mend.proofs.ComponentSteps.{scanned-component-stays}
+use Rattle.uri_mend.proofs.ComponentSteps.{scanned-component-is-unchanged}
 
 -- progress: a run of a text that goes on
 pub run-goes-on : (text : List ℕ) (start end n : ℕ) → start ≤ end
@@ -33,7 +33,7 @@ nothing-is-scanned-after-scan set text end stop e =
     ap (λ k. valid_prefix set (drop k text)) e ∙ ap (valid_prefix set) (sym (drop-drop n end text))
     ∙ nothing_is_scanned_after_valid_prefix set (drop end text)
 
--- progress: what is scanned stays
+-- progress: what is scanned is unchanged
 pub scan-goes-on : (marks : List ℕ) (set : TableSet) → LacksPercent set → set.pct_encoded ≡ true
     → excludes set marks ≡ true → (text out whole : List ℕ) (start end stop : ℕ) → IsUtf8 text
     → IsCharBoundary text end → start ≤ end → stop ≡ end + valid_prefix set (drop end text)
@@ -47,7 +47,7 @@ scan-goes-on marks set lacks octets outside text out whole start end stop u at l
     let run = take (end - start) (drop start text) in
     let suffix : drop n rest ≡ drop stop text =
     drop-drop n end text ∙ ap (λ k. drop k text) (sym e) in
-    let parts = scanned-component-stays marks set lacks octets outside rest
+    let parts = scanned-component-is-unchanged marks set lacks octets outside rest
     (IsUtf8-drop text end u at) in
     let left : List ℕ = mended set (before_any marks (drop stop text)) in (
       ap (λ k. (out ++ take (k - start) (drop start text)) ++ left) e

@@ -1,9 +1,10 @@
--- A component within a text, mended from left to right: what a scan passes stays, and the character
+-- A component within a text, mended from left to right: what a scan passes is unchanged, and the
+-- character
 -- where it stops becomes octets, up to the first of the marks that end the component.
 use Rattle.uri_mend.proofs.Common.{◌≡◌, ℕ, ◌+◌, ◌<◌, ◌≤◌, true, false, not, eqb, List, [], ◌∷◌, ◌++◌, ◌&&◌, length, take, drop, map, get_or, refl, sym, ap, subst, ◌∙◌, arith, ⊎_elim, ltb, length-drop, encode_utf8, is_ascii_hexdigit, list_all, IsUtf8, IsCharBoundary, and_from, and_parts, cases_Bool, cases_lt, leb-true, ltb-true, not-true, not_from_false, drop-append-le, get_or-drop, get_or-take, length-take-le, take-append-le, take-take, IsUtf8-take, valid_prefix, TableSet, LacksPercent, is_one_of, IsValidFor, Octet, print, HasEncoding, char_has_encoding, is_no_ascii_byte, excludes, valid_prefix-ends-by-mark, AreAscii, first_mark_is_at_boundary, length_before_marks, test_holds_of_each, before_any, from_any, before_any-past-other, from_any-past-other, cut-at-end-of-text-without-marks, text-is-cut-at-first-mark, mended}
 use Rattle.std.proofs.lemmas.List.Sums.{prefix_len-le-length}
 use Rattle.uri_pct.proofs.ValidTexts.LongestPrefixes.{valid_prefix_ends_at_boundary, valid_prefix_is_longest, valid_prefix_is_valid}
-use Rattle.uri_mend.proofs.MendedSteps.{scanned-prefix-is-kept, unscanned-char-is-encoded}
+use Rattle.uri_mend.proofs.MendedSteps.{scanned-prefix-is-unchanged, unscanned-char-is-encoded}
 
 -- general fact on texts, for components: a boundary of a text is one of its prefix
 boundary-within-prefix : (m n : ℕ) (text : List ℕ) → m ≤ length text → n ≤ m
@@ -101,12 +102,13 @@ module _ (marks : List ℕ) (set : TableSet) (lacks : LacksPercent set)
       (take-take k m rest within) (valid_prefix_is_valid set lacks (before_any marks rest) v)) in
       omega (arith, first, second)
 
-  -- what is scanned stays, and what is after it is mended
-  pub scanned-component-stays : (rest : List ℕ) → IsUtf8 rest → (mended set (before_any marks rest)
+  -- what is scanned is unchanged, and what is after it is mended
+  pub scanned-component-is-unchanged : (rest : List ℕ) → IsUtf8 rest
+      → (mended set (before_any marks rest)
       ≡ take (valid_prefix set rest) rest
       ++ mended set (before_any marks (drop (valid_prefix set rest) rest)))
       × (from_any marks rest ≡ from_any marks (drop (valid_prefix set rest) rest))
-  scanned-component-stays rest u =
+  scanned-component-is-unchanged rest u =
       let m = length_before_marks marks rest in
       let n = valid_prefix set rest in
       let before = before_any marks rest in
@@ -117,16 +119,16 @@ module _ (marks : List ℕ) (set : TableSet) (lacks : LacksPercent set)
         valid_prefix-ends-by-mark marks set lacks outside rest u,
         length-take-le m rest (prefix_len-le-length (λ c. not (is_one_of marks c)) rest),
       ) in
-      let kept : take n rest ≡ take n before =
+      let same : take n rest ≡ take n before =
       ap (take n) (sym cut.whole) ∙ take-append-le n before from few in
       let left : drop n rest ≡ drop n before ++ from =
       ap (drop n) (sym cut.whole) ∙ drop-append-le n before from few in
       let parts = cut-at-end-of-text-without-marks marks (drop n before) from
       (λ k d l. subst (λ b. is_one_of marks b ≡ false) (sym (get_or-drop n before k d))
       (cut.lacks (n + k) d (omega (arith, length-drop n before, l)))) cut.begins in (
-        scanned-prefix-is-kept set lacks octets before (component-is-utf8 rest u) ∙ ap
+        scanned-prefix-is-unchanged set lacks octets before (component-is-utf8 rest u) ∙ ap
             (λ j. take j before ++ mended set (drop j before)) (component-is-scanned-as-text rest u)
-            ∙ ap (λ t. t ++ mended set (drop n before)) (sym kept)
+            ∙ ap (λ t. t ++ mended set (drop n before)) (sym same)
             ∙ ap (λ t. take n rest ++ mended set t) (sym (ap (before_any marks) left ∙ parts.0)),
         sym (ap (from_any marks) left ∙ parts.1),
       )

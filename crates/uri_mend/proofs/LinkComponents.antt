@@ -9,7 +9,7 @@ pub false-scheme-gets-dot-segment : (text : List ℕ) → has_false_scheme text 
 unfolding with_dot_segment
 false-scheme-gets-dot-segment text e = cond-true _ _ _ e
 
--- links: another text stays
+-- links: another text is unchanged
 pub no-false-scheme-gets-nothing : (text : List ℕ) → has_false_scheme text ≡ false
     → with_dot_segment text ≡ text
 unfolding with_dot_segment

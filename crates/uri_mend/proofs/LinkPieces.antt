@@ -1,7 +1,7 @@
 -- A text, cut before its path, and the pieces of the text that it is mended to.
 use Rattle.uri_mend.proofs.Common.{◌≡◌, ℕ, true, false, not, List, [], ◌∷◌, ◌++◌, length, take, drop, refl, sym, ap, subst, ◌∙◌, arith, append_assoc, ◌&&◌, lit<, ◌≤◌, ◌-◌, length-append, IsUtf8, IsCharBoundary, take-append_seam, IsCharBoundary-from_drop, IsCharBoundary-at_seam, has_authority, components, recompose, marked, starts, when, before_any, from_any, after_scheme, after_authority, after_query, codes, cond-true, cond-false, and_parts, both_ways, or_left, allows, Kind, before_any-past-other, from_any-past-other, recompose-components, HasComponentSets, before_path, mended, has_false_scheme, link_components, mended_components, mended_text, mended_query, mended_fragment, mended_tail, IsMendedByPieces, IsPathMendedByPieces, query_of_tail}
 use Rattle.uri_parts.proofs.Parsing.ScanStops.{utf8_after_slashes}
-use Rattle.uri_mend.proofs.MendedMarks.{allowed-ascii-before-text-stays}
+use Rattle.uri_mend.proofs.MendedMarks.{allowed-ascii-before-text-is-unchanged}
 use Rattle.uri_mend.proofs.LinkComponents.{false-scheme-gets-dot-segment, no-false-scheme-gets-nothing}
 
 -- links: what follows a path, as the components have it
@@ -72,13 +72,14 @@ unfolding link_components
 prefix-with-false-scheme text e =
     ap (λ t. before_path (components t)) (false-scheme-gets-dot-segment text e)
 
--- links: a `./` before what is mended stays
-dot-segment-stays : (kind : Kind) → HasComponentSets kind → (path : List ℕ)
+-- links: a `./` before what is mended is unchanged
+dot-segment-is-unchanged : (kind : Kind) → HasComponentSets kind → (path : List ℕ)
     → mended kind.path (46 ∷ 47 ∷ path) ≡ 46 ∷ 47 ∷ mended kind.path path
-dot-segment-stays kind sets path =
+dot-segment-is-unchanged kind sets path =
     let dot : allows kind.path 46 ≡ true = sets.path.unreserved.ascii 46 refl in
-    allowed-ascii-before-text-stays kind.path 46 (47 ∷ path) (lit< tt) refl dot
-    ∙ ap (λ t. 46 ∷ t) (allowed-ascii-before-text-stays kind.path 47 path (lit< tt) refl sets.slash)
+    allowed-ascii-before-text-is-unchanged kind.path 46 (47 ∷ path) (lit< tt) refl dot
+    ∙ ap (λ t. 46 ∷ t) (allowed-ascii-before-text-is-unchanged kind.path 47 path
+    (lit< tt) refl sets.slash)
 
 -- links: a text with a false scheme is mended after `./`
 pub text-with-false-scheme-is-mended : (text : List ℕ) → has_false_scheme text ≡ true
@@ -91,7 +92,7 @@ text-with-false-scheme-is-mended text e kind sets =
     (false-scheme-gets-dot-segment text e) ∙ ap
     (λ t. mended kind.path t ++ end (from_any (codes "?#") (46 ∷ 47 ∷ text)))
     (path-after-dot-segment text) ∙ ap (λ t. t ++ end (from_any (codes "?#") (46 ∷ 47 ∷ text)))
-    (dot-segment-stays kind sets (before_any (codes "?#") text)) ∙ ap
+    (dot-segment-is-unchanged kind sets (before_any (codes "?#") text)) ∙ ap
     (λ t. (46 ∷ 47 ∷ mended kind.path (before_any (codes "?#") text)) ++ end t)
     (end-after-dot-segment text)
 
@@ -158,7 +159,7 @@ unfolding link_components
 path-with-false-scheme text e kind sets =
     ap (λ t. mended kind.path (components t).path) (false-scheme-gets-dot-segment text e)
     ∙ ap (mended kind.path) (path-after-dot-segment text)
-    ∙ dot-segment-stays kind sets (before_any (codes "?#") text)
+    ∙ dot-segment-is-unchanged kind sets (before_any (codes "?#") text)
 
 -- links: the query of a text without a false scheme is that of its tail
 pub query-without-false-scheme : (text : List ℕ) → has_false_scheme text ≡ false

@@ -8,7 +8,7 @@ use Rattle.uri_mend.proofs.LinkComponents.{false-scheme-gets-dot-segment, link-c
 use Rattle.uri_mend.proofs.MendedTokens.{mended-text-is-utf8}
 use Rattle.uri_mend.proofs.MendedLengths.{length-of-mended-text}
 use Rattle.uri_mend.proofs.MendedReferences.{components-of-mended-text, mended-text-is-of-kind}
-use Rattle.uri_mend.proofs.Unchanged.{text-of-kind-can-be-mended, text-of-kind-stays}
+use Rattle.uri_mend.proofs.Unchanged.{text-of-kind-can-be-mended, text-of-kind-is-unchanged}
 
 -- mending: a component that is mended, or none, is UTF-8
 mended-part-is-utf8 : (set : TableSet) (o : Option (List ℕ)) → LacksPercent set → IfSome o IsUtf8
@@ -77,7 +77,7 @@ module _ (kind : Kind) (sets : HasComponentSets kind) (text : List ℕ) (u : IsU
     mendable = mendable;
     text = refl;
     of_kind = mended-text-is-of-kind kind sets text u mendable;
-    unchanged = text-of-kind-stays kind sets text u;
+    unchanged = text-of-kind-is-unchanged kind sets text u;
     split = made-components;
     scheme = λ e. ap (λ (p : Components). p.scheme) (made-prefix e);
     authority = λ e. ap (λ (p : Components). p.authority) (made-prefix e);
@@ -103,7 +103,7 @@ module _ (kind : Kind) (sets : HasComponentSets kind) (text : List ℕ) (u : IsU
       → IsMended kind text made
   equal-to-text-of-kind-is-mended made is same =
       equal-to-mended-text-is-mended made (text-of-kind-can-be-mended kind sets text is)
-      (same ∙ sym (text-of-kind-stays kind sets text u is))
+      (same ∙ sym (text-of-kind-is-unchanged kind sets text u is))
 
   -- mending: the mended text of a text that can be mended is UTF-8
   pub mended-text-of-link-is-utf8 : can_be_mended kind text ≡ true → IsUtf8 (mended_text kind text)

@@ -1,5 +1,5 @@
--- A mended component, from left to right: what a scan passes stays, and the character where it
--- stops becomes octets.
+-- A mended component, from left to right: what a scan passes is unchanged, and the character where
+-- it stops becomes octets.
 use Rattle.uri_mend.proofs.Common.{◌≡◌, ℕ, ◌+◌, true, false, cond, eqb, List, [], ◌∷◌, ◌++◌, length, take, drop, map, refl, sym, ap, subst, ◌∙◌, arith, ⊎_elim, append_assoc, ◌&&◌, encode_utf8, len_utf8, is_ascii_hexdigit, chars, encode_utf8_all, all_scalars, IsUtf8, take-append-add, drop-append-add, cases_Bool, cond-true, cond-false, and_parts, and_from, eqb-true, and_right, append-nil, take_all, drop_all, length-encode, chars_past_char, chars-encodes, encode_ascii, len_utf8_bounds, chars-nil, encodes-chars, scalars-chars, TableSet, LacksPercent, allows, valid_prefix, valid_prefix_from, begins_with_hex_digits, Octet, print, is_pct_encoded, is_valid_for, encode_char, allowed_char_is_printed_literally, disallowed_char_is_encoded_as_octets, hexdigit_is_ascii, encoded_chars_begin_with_same_hex_digits, is_valid_for_is_scanned_to_end, valid_prefix_by_first_byte, mended_from_chars, mended}
 use Rattle.uri_pct.specs.Texts.{has_hex_digits_after}
 use Rattle.uri_pct.proofs.ValidTexts.PrefixSteps.{valid_prefix_by_first_char, valid_prefix_passes_octet}
@@ -13,7 +13,7 @@ mended-by-first-of-chars set c [] e = sym (append-nil (print (encode_char set c)
 mended-by-first-of-chars set c (d ∷ []) e = refl
 mended-by-first-of-chars set c (d ∷ f ∷ cs) e = cond-false _ _ _ e
 
--- mended components: an octet at the start stays
+-- mended components: an octet at the start is unchanged
 pub mended-by-first-octet : (set : TableSet) (c high low : ℕ) (cs : List ℕ)
     → is_pct_encoded c high low ≡ true
     → mended_from_chars set (c ∷ high ∷ low ∷ cs) ≡ c ∷ high ∷ low ∷ mended_from_chars set cs
@@ -40,13 +40,13 @@ octet-text-of-chars c high low cs e =
       encode_ascii low (hexdigit_is_ascii low digits.1),
     ) refl
 
--- mended components: the first n bytes of the text stay as they are
-abbrev IsKept : TableSet → List ℕ → ℕ → Type 0
-IsKept set text n = mended set text ≡ take n text ++ mended set (drop n text)
+-- mended components: the first n bytes of the text are unchanged
+abbrev HasUnchangedPrefix : TableSet → List ℕ → ℕ → Type 0
+HasUnchangedPrefix set text n = mended set text ≡ take n text ++ mended set (drop n text)
 
--- mended components: of any text no bytes at all stay as they are
-no-bytes-are-kept : (set : TableSet) (text : List ℕ) → IsKept set text 0
-no-bytes-are-kept set text = grind arith
+-- mended components: of any text the empty prefix is unchanged
+empty-text-prefix-is-unchanged : (set : TableSet) (text : List ℕ) → HasUnchangedPrefix set text 0
+empty-text-prefix-is-unchanged set text = grind arith
 
 -- general fact on numbers, for scans that stop at once
 sum-with-character-is-not-zero : (n c : ℕ) → n + len_utf8 c ≡ 0 → ⊥
@@ -81,12 +81,12 @@ module _ (set : TableSet) (lacks : LacksPercent set) (octets : set.pct_encoded �
       (λ is. valid_prefix_by_first_char set (encode_utf8_all (c ∷ cs)) (encode_utf8_all cs) c
       (c ∷ cs, (s, refl)) refl (and_right _ _ is)) (cases_Bool (eqb c 37))
 
-  -- an octet before what is kept is kept too
-  kept-after-octet : (c high low : ℕ) (cs : List ℕ) (n : ℕ) → all_scalars cs ≡ true
+  -- an octet before an unchanged prefix is unchanged too
+  prefix-after-octet-is-unchanged : (c high low : ℕ) (cs : List ℕ) (n : ℕ) → all_scalars cs ≡ true
       → all_scalars (c ∷ high ∷ low ∷ cs) ≡ true
-      → is_pct_encoded c high low ≡ true → IsKept set (encode_utf8_all cs) n
-      → IsKept set (encode_utf8_all (c ∷ high ∷ low ∷ cs)) (n + 3)
-  kept-after-octet c high low cs n s all e kept =
+      → is_pct_encoded c high low ≡ true → HasUnchangedPrefix set (encode_utf8_all cs) n
+      → HasUnchangedPrefix set (encode_utf8_all (c ∷ high ∷ low ∷ cs)) (n + 3)
+  prefix-after-octet-is-unchanged c high low cs n s all e same =
       let text = encode_utf8_all cs in
       let P : List ℕ → Type 0 = λ t. mended_from_chars set (c ∷ high ∷ low ∷ cs)
       ≡ take (n + 3) t ++ mended set (drop (n + 3) t) in
@@ -98,15 +98,17 @@ module _ (set : TableSet) (lacks : LacksPercent set) (octets : set.pct_encoded �
       ∙ drop-append-add (c ∷ high ∷ low ∷ []) text n in
       mended-text-of-chars set (c ∷ high ∷ low ∷ cs) all ∙ subst P
       (sym (octet-text-of-chars c high low cs e)) (mended-by-first-octet set c high low cs e
-      ∙ ap (λ x. c ∷ high ∷ low ∷ x) (sym (mended-text-of-chars set cs s) ∙ kept) ∙ sym
+      ∙ ap (λ x. c ∷ high ∷ low ∷ x) (sym (mended-text-of-chars set cs s) ∙ same) ∙ sym
       (ap (λ x. x ++ mended set (drop (n + 3) (c ∷ high ∷ low ∷ text))) prefix
       ∙ ap (λ x. (c ∷ high ∷ low ∷ take n text) ++ mended set x) back))
 
-  -- an allowed character before what is kept is kept too
-  kept-after-allowed-char : (c : ℕ) (cs : List ℕ) (n : ℕ) → all_scalars (c ∷ cs) ≡ true
+  -- an allowed character before an unchanged prefix is unchanged too
+  prefix-after-allowed-char-is-unchanged : (c : ℕ) (cs : List ℕ) (n : ℕ)
+      → all_scalars (c ∷ cs) ≡ true
       → (eqb c 37 && begins_with_hex_digits cs) ≡ false → allows set c ≡ true
-      → IsKept set (encode_utf8_all cs) n → IsKept set (encode_utf8_all (c ∷ cs)) (n + len_utf8 c)
-  kept-after-allowed-char c cs n s e allowed kept =
+      → HasUnchangedPrefix set (encode_utf8_all cs) n
+      → HasUnchangedPrefix set (encode_utf8_all (c ∷ cs)) (n + len_utf8 c)
+  prefix-after-allowed-char-is-unchanged c cs n s e allowed same =
       let rest = encode_utf8_all cs in
       let text : List ℕ = encode_utf8 c ++ rest in
       let size : n + len_utf8 c ≡ length (encode_utf8 c) + n = omega (arith, length-encode c) in
@@ -114,56 +116,61 @@ module _ (set : TableSet) (lacks : LacksPercent set) (octets : set.pct_encoded �
       mended-text-of-chars set (c ∷ cs) s ∙ mended-by-first-of-chars set c cs e
       ∙ ap (λ x. x ++ mended_from_chars set cs) (allowed_char_is_printed_literally set c allowed)
       ∙ ap (λ x. encode_utf8 c ++ x)
-      (sym (mended-text-of-chars set cs (and_parts _ (all_scalars cs) s).1) ∙ kept)
+      (sym (mended-text-of-chars set cs (and_parts _ (all_scalars cs) s).1) ∙ same)
       ∙ sym (append_assoc (encode_utf8 c) (take n rest) suffix)
       ∙ ap (λ x. x ++ suffix) (sym (take-append-add (encode_utf8 c) rest n)) ∙ ap
       (λ x. take (length (encode_utf8 c) + n) text ++ mended set x)
       (sym (drop-append-add (encode_utf8 c) rest n))
       ∙ ap (λ k. take k text ++ mended set (drop k text)) (sym size)
 
-  -- what begins no octet: kept if it is allowed, and else nothing is scanned
-  first-of-chars-kept-or-unscanned : (c : ℕ) (cs : List ℕ) → all_scalars (c ∷ cs) ≡ true
+  -- what begins no octet: unchanged if it is allowed, and else nothing is scanned
+  first-of-chars-unchanged-or-unscanned : (c : ℕ) (cs : List ℕ) → all_scalars (c ∷ cs) ≡ true
       → (eqb c 37 && begins_with_hex_digits cs) ≡ false
-      → IsKept set (encode_utf8_all cs) (valid_prefix set (encode_utf8_all cs))
-      → IsKept set (encode_utf8_all (c ∷ cs)) (valid_prefix set (encode_utf8_all (c ∷ cs)))
-  first-of-chars-kept-or-unscanned c cs s e kept =
+      → HasUnchangedPrefix set (encode_utf8_all cs) (valid_prefix set (encode_utf8_all cs))
+      → HasUnchangedPrefix set (encode_utf8_all (c ∷ cs))
+      (valid_prefix set (encode_utf8_all (c ∷ cs)))
+  first-of-chars-unchanged-or-unscanned c cs s e same =
       let text = encode_utf8_all (c ∷ cs) in
       let first = scan-by-first-of-chars c cs s e in
       ⊎_elim
-      (λ a. subst (IsKept set text) (sym (first ∙ cond-true _ _ _ a))
-      (kept-after-allowed-char c cs (valid_prefix set (encode_utf8_all cs)) s e a kept))
-      (λ a. subst (IsKept set text) (sym (first ∙ cond-false _ _ _ a)) (no-bytes-are-kept set text))
+      (λ a. subst (HasUnchangedPrefix set text) (sym (first ∙ cond-true _ _ _ a))
+      (prefix-after-allowed-char-is-unchanged c cs
+      (valid_prefix set (encode_utf8_all cs)) s e a same))
+      (λ a. subst (HasUnchangedPrefix set text) (sym (first ∙ cond-false _ _ _ a))
+      (empty-text-prefix-is-unchanged set text))
       (cases_Bool (allows set c))
 
-  -- what is scanned of characters stays as it is
-  scanned-prefix-of-chars-is-kept : (cs : List ℕ) → all_scalars cs ≡ true
-      → IsKept set (encode_utf8_all cs) (valid_prefix set (encode_utf8_all cs))
+  -- what is scanned of characters is unchanged
+  scanned-prefix-of-chars-is-unchanged : (cs : List ℕ) → all_scalars cs ≡ true
+      → HasUnchangedPrefix set (encode_utf8_all cs) (valid_prefix set (encode_utf8_all cs))
   unfolding valid_prefix_from begins_with_hex_digits is_pct_encoded
-  scanned-prefix-of-chars-is-kept [] s = no-bytes-are-kept set []
-  scanned-prefix-of-chars-is-kept (c ∷ []) s = first-of-chars-kept-or-unscanned c [] s
-      (and_right _ _ refl) (scanned-prefix-of-chars-is-kept [] refl)
-  scanned-prefix-of-chars-is-kept (c ∷ d ∷ []) s =
-      first-of-chars-kept-or-unscanned c (d ∷ []) s (and_right _ _ (and_right _ _ refl))
-      (scanned-prefix-of-chars-is-kept (d ∷ []) (and_parts _ _ s).1)
-  scanned-prefix-of-chars-is-kept (c ∷ high ∷ low ∷ cs) s =
+  scanned-prefix-of-chars-is-unchanged [] s = empty-text-prefix-is-unchanged set []
+  scanned-prefix-of-chars-is-unchanged (c ∷ []) s = first-of-chars-unchanged-or-unscanned c [] s
+      (and_right _ _ refl) (scanned-prefix-of-chars-is-unchanged [] refl)
+  scanned-prefix-of-chars-is-unchanged (c ∷ d ∷ []) s =
+      first-of-chars-unchanged-or-unscanned c (d ∷ []) s (and_right _ _ (and_right _ _ refl))
+      (scanned-prefix-of-chars-is-unchanged (d ∷ []) (and_parts _ _ s).1)
+  scanned-prefix-of-chars-is-unchanged (c ∷ high ∷ low ∷ cs) s =
       let p = and_parts _ _ s in
       let q = and_parts _ _ p.1 in
       let r = and_parts _ (all_scalars cs) q.1 in
       ⊎_elim
-      (λ is. subst (IsKept set (encode_utf8_all (c ∷ high ∷ low ∷ cs))) (sym
+      (λ is. subst (HasUnchangedPrefix set (encode_utf8_all (c ∷ high ∷ low ∷ cs))) (sym
       (ap (valid_prefix set) (octet-text-of-chars c high low cs is)
-      ∙ scan-passes-octet c high low (encode_utf8_all cs) is)) (kept-after-octet c high low cs
-      (valid_prefix set (encode_utf8_all cs)) r.1 s is (scanned-prefix-of-chars-is-kept cs r.1)))
-      (λ is. first-of-chars-kept-or-unscanned c (high ∷ low ∷ cs) s is
-      (scanned-prefix-of-chars-is-kept (high ∷ low ∷ cs) p.1))
+      ∙ scan-passes-octet c high low (encode_utf8_all cs) is))
+      (prefix-after-octet-is-unchanged c high low cs
+      (valid_prefix set (encode_utf8_all cs)) r.1 s is
+      (scanned-prefix-of-chars-is-unchanged cs r.1)))
+      (λ is. first-of-chars-unchanged-or-unscanned c (high ∷ low ∷ cs) s is
+      (scanned-prefix-of-chars-is-unchanged (high ∷ low ∷ cs) p.1))
       (cases_Bool (is_pct_encoded c high low))
 
-  -- what is scanned of a text stays as it is
-  pub scanned-prefix-is-kept : (text : List ℕ) → IsUtf8 text → mended set text
+  -- what is scanned of a text is unchanged
+  pub scanned-prefix-is-unchanged : (text : List ℕ) → IsUtf8 text → mended set text
       ≡ take (valid_prefix set text) text ++ mended set (drop (valid_prefix set text) text)
-  scanned-prefix-is-kept text u =
-      let P : List ℕ → Type 0 = λ t. IsKept set t (valid_prefix set t) in
-      subst P u.1.1 (scanned-prefix-of-chars-is-kept u.0 u.1.0)
+  scanned-prefix-is-unchanged text u =
+      let P : List ℕ → Type 0 = λ t. HasUnchangedPrefix set t (valid_prefix set t) in
+      subst P u.1.1 (scanned-prefix-of-chars-is-unchanged u.0 u.1.0)
 
   -- a text that is valid for the set is mended as itself
   pub valid-text-is-its-own-mended-text : (text : List ℕ) → IsUtf8 text
@@ -172,7 +179,7 @@ module _ (set : TableSet) (lacks : LacksPercent set) (octets : set.pct_encoded �
   valid-text-is-its-own-mended-text text u valid =
       let whole : valid_prefix set text ≡ length text =
       eqb-true _ _ (sym (is_valid_for_is_scanned_to_end set text lacks u) ∙ valid) in
-      scanned-prefix-is-kept text u ∙ ap (λ n. take n text ++ mended set (drop n text)) whole
+      scanned-prefix-is-unchanged text u ∙ ap (λ n. take n text ++ mended set (drop n text)) whole
       ∙ ap (λ t. t ++ mended set (drop (length text) text)) (take_all _ text (omega arith))
       ∙ ap (λ t. text ++ mended set t) (drop_all (length text) text (omega arith))
       ∙ ap (λ cs. text ++ mended_from_chars set cs) chars-nil ∙ append-nil text

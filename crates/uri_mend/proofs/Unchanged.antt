@@ -155,12 +155,13 @@ unfolding link_components
 link-components-of-text-of-kind kind text h =
     ap components (no-false-scheme-gets-nothing text (text-of-kind-has-no-false-scheme kind text h))
 
--- general fact on options, for mending: a part that is valid stays
-valid-part-stays : (set : TableSet) (o : Option (List ℕ)) → LacksPercent set
+-- general fact on options, for mending: a part that is valid is unchanged
+valid-part-is-unchanged : (set : TableSet) (o : Option (List ℕ)) → LacksPercent set
     → set.pct_encoded ≡ true → IfSome o (λ x. is_set_text set x ≡ true)
     → option_map (mended set) o ≡ o
-valid-part-stays set None lacks octets h = refl
-valid-part-stays set (Some x) lacks octets h = ap Some (valid-text-is-its-own-mended-text set lacks
+valid-part-is-unchanged set None lacks octets h = refl
+valid-part-is-unchanged set (Some x) lacks octets h =
+    ap Some (valid-text-is-its-own-mended-text set lacks
     octets x (set-text-is-utf8 set x h) (set-text-is-valid set x h))
 
 -- general fact on records, for mending: components are equal if path, query and fragment are
@@ -183,26 +184,26 @@ equal-ends-make-equal-components p a q f = λ i. record {
 }
 
 module _ (kind : Kind) (sets : HasComponentSets kind) where
-  -- the components of a text of the kind stay
-  components-of-kind-stay : (text : List ℕ) → IsUtf8 text → IsOfKind kind text
+  -- the components of a text of the kind are unchanged
+  components-of-kind-are-unchanged : (text : List ℕ) → IsUtf8 text → IsOfKind kind text
       → mended_components kind (components text) ≡ components text
-  components-of-kind-stay text u h =
+  components-of-kind-are-unchanged text u h =
       let p = components text in
       let parts = grammar-gives-components-of-kind kind p (components-of-utf8-are-utf8 text u) h in
       equal-ends-make-equal-components p (valid-text-is-its-own-mended-text kind.path
       sets.path.percent sets.path.octets p.path (set-text-is-utf8 kind.path p.path parts.path)
       (set-text-is-valid kind.path p.path parts.path))
-      (valid-part-stays kind.query p.query sets.query.percent sets.query.octets parts.query)
-      (valid-part-stays kind.fragment p.fragment sets.fragment.percent sets.fragment.octets
+      (valid-part-is-unchanged kind.query p.query sets.query.percent sets.query.octets parts.query)
+      (valid-part-is-unchanged kind.fragment p.fragment sets.fragment.percent sets.fragment.octets
       parts.fragment)
 
   -- a text of the kind is mended as itself
-  pub text-of-kind-stays : (text : List ℕ) → IsUtf8 text → IsOfKind kind text
+  pub text-of-kind-is-unchanged : (text : List ℕ) → IsUtf8 text → IsOfKind kind text
       → mended_text kind text ≡ text
   unfolding mended_text
-  text-of-kind-stays text u h =
+  text-of-kind-is-unchanged text u h =
       ap (λ p. recompose (mended_components kind p)) (link-components-of-text-of-kind kind text h)
-      ∙ ap recompose (components-of-kind-stay text u h) ∙ recompose-components text
+      ∙ ap recompose (components-of-kind-are-unchanged text u h) ∙ recompose-components text
 
   -- a text of the kind can be mended
   pub text-of-kind-can-be-mended : (text : List ℕ) → IsOfKind kind text

@@ -6,13 +6,13 @@ use std::simd::prelude::*;
 use uri_pct::lanes::LANES;
 
 /// Grows a buffer to twice its length, and to what is needed for so many bytes from a position on.
-/// What is before the position stays.
+/// What is before the position is unchanged.
 #[inline(never)]
 fn grow(additional: usize, at: usize, out: &mut Vec<u8>) -> Result<(), AllocError>
     requires inside { at ≤ length out.old.items }
     requires full { length out.old.items - at ≤ additional }
     ensures room { OnOk result (at + additional ≤ length out.new.items) }
-    ensures kept { OnOk result (take at out.new.items ≡ take at out.old.items) }
+    ensures unchanged { OnOk result (take at out.new.items ≡ take at out.old.items) }
 {
     let Some(end) = at.checked_add(additional) else {
         return Err(AllocError);
@@ -20,12 +20,12 @@ fn grow(additional: usize, at: usize, out: &mut Vec<u8>) -> Result<(), AllocErro
     out.resize(end.max(out.len().saturating_mul(2)), 0)
 }
 
-/// Makes room in a buffer for so many bytes from a position on. What is before the position stays.
+/// Makes room in a buffer for so many bytes from a position on. What is before it is unchanged.
 #[inline(always)]
 pub(crate) fn make_room(additional: usize, at: usize, out: &mut Vec<u8>) -> Result<(), AllocError>
     requires { at ≤ length out.old.items }
     ensures room { OnOk result (at + additional ≤ length out.new.items) }
-    ensures kept { OnOk result (take at out.new.items ≡ take at out.old.items) }
+    ensures unchanged { OnOk result (take at out.new.items ≡ take at out.old.items) }
 {
     if out.len() - at >= additional {
         return Ok(());

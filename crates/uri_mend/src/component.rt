@@ -33,7 +33,7 @@ const NEVER_HIGH: u64 = (NEVER >> 64) as u64;
 pub(crate) struct Progress {
     /// Up to where the text was mended.
     pub(crate) end: usize,
-    /// Where the run begins that ends there, which stays and is yet to be copied.
+    /// Where the run begins that ends there, which is unchanged and yet to be copied.
     pub(crate) run_start: usize,
     /// Where what is written ends in the buffer.
     pub(crate) at: usize,

@@ -245,7 +245,7 @@ fn mended_string<K: Kind>(
     ensures refused { IfErr result (λ rejected.
         IsMendErrorOf K.kind (string_bytes text) rejected.0) }
     ensures back { IfErr result (λ rejected. rejected.1 ≡ text) }
-    ensures kept { IsOfKind K.kind (string_bytes text)
+    ensures unchanged { IsOfKind K.kind (string_bytes text)
         → IsOkAnd result (λ made. held_text made ≡ text) }
 {
     let error = match parsed::<K>(text.as_str()) {
@@ -279,9 +279,10 @@ fn mended_link<K: Kind>(alloc: Global, text: &str) -> Result<Reference<K, String
 /// `UriRef::<String>::mend(alloc, text)` may be called.
 pub trait Mend<K: Kind> {
     /// Returns the reference that a text is mended to: what its path, its query or its fragment
-    /// must not have is percent-encoded (RFC 3986, sections 2.1 and 2.4), and all else stays.
+    /// must not have is percent-encoded (RFC 3986, sections 2.1 and 2.4), and all else is
+    /// unchanged.
     ///
-    /// A text of the kind stays as it is. The scheme and the authority of a text stay, unless what
+    /// A text of the kind is unchanged. So are the scheme and the authority of a text, unless what
     /// is before its first `:` is no scheme: then `./` is put before the text, which is a path
     /// (section 4.2). No reference of the kind is made of this text by percent-encoding fewer
     /// characters.
@@ -310,7 +311,7 @@ pub trait Mend<K: Kind> {
         ensures refused { IfErr result (λ rejected.
             IsMendErrorOf K.kind (string_bytes text) rejected.0) }
         ensures back { IfErr result (λ rejected. rejected.1 ≡ text) }
-        ensures kept { IsOfKind K.kind (string_bytes text)
+        ensures unchanged { IsOfKind K.kind (string_bytes text)
             → IsOkAnd result (λ made. held_text made ≡ text) };
 
     /// Returns the reference that a link of a page is mended to: `mend` of what `trim_link` leaves.

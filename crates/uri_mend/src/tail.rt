@@ -25,7 +25,7 @@ fn mended_len(p: Progress) -> Result<usize, AllocError>
     }
 }
 
-/// Passes this ASCII character, which stays, if it is next.
+/// Passes this ASCII character, which is unchanged, if it is next.
 #[inline(always)]
 fn pass_mark(text: &str, mark: u8, from: Progress) -> Option<Progress>
     requires ascii { mark < 128 }
