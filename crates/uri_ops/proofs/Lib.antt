@@ -1,3 +1,4 @@
+pub mod Common
 pub mod Paths
 pub mod Meanings
 pub mod Normal

@@ -1,3 +1,4 @@
+pub mod Common
 pub mod Authorities
 pub mod HostForms
 pub mod Splitting

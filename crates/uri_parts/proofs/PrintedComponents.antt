@@ -1,12 +1,6 @@
 -- What `Debug` prints of components is what it prints of their texts.
-use Rattle.std.proofs.Common.{◌≡◌, ℕ, List, refl, ap, ◌∙◌, option_map, arith, Option, Some, None, codes}
-use Rattle.std.specs.Fmt.{debug_option, debug_str}
-use Rattle.std.proofs.lemmas.Bool.Decides.{nat_tests}
+use Rattle.uri_parts.proofs.Common.{◌≡◌, ℕ, List, refl, ap, ◌∙◌, option_map, arith, Option, Some, None, codes, debug_option, debug_str, nat_tests, text_of, host_kind_of, HasRegisteredName, HostKind, debug_host, debug_host_of, debug_field, debug_authority_of, debug_reference_of}
 use Rattle.uri_pct.specs.declared.pct_enc.EStr.{EStr}
-use Rattle.uri_pct.specs.EncodedTexts.{text_of}
-use Rattle.uri_parts.specs.AuthorityTexts.{host_kind_of, HasRegisteredName}
-use Rattle.uri_parts.specs.Hosts.{HostKind}
-use Rattle.uri_parts.specs.Printing.{debug_host, debug_host_of, debug_field, debug_authority_of, debug_reference_of}
 use Rattle.uri_parts.specs.declared.component.HostOf.{HostOf}
 use Rattle.uri_parts.specs.declared.component.HostOf.TheVariants as hosts
 
@@ -27,9 +21,8 @@ debug_host-of-kind (hosts.RegName name) kind text is named =
     ap (λ t. debug_field (codes "RegName") (debug_str t)) named ∙ ap (λ k. debug_host k text) is
 
 -- what the components of an authority print, equal each, make up what it prints
-pub debug_authority_of-equal : {u u' h h' k k' p p' : Option (List ℕ)}
-    → u ≡ u' → h ≡ h' → k ≡ k' → p ≡ p'
-    → debug_authority_of u h k p ≡ debug_authority_of u' h' k' p'
+pub debug_authority_of-equal : {u u' h h' k k' p p' : Option (List ℕ)} → u ≡ u'
+    → h ≡ h' → k ≡ k' → p ≡ p' → debug_authority_of u h k p ≡ debug_authority_of u' h' k' p'
 debug_authority_of-equal {u} {u'} {h} {h'} {k} {k'} {p} {p'} eu eh ek ep = grind (arith, nat_tests)
 
 -- what the components of a reference print, equal each, make up what it prints

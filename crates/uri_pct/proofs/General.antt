@@ -1,7 +1,5 @@
 -- General facts for all crates: on tests, and on components that may be absent.
-use Rattle.std.proofs.Common.{◌≡◌, ℕ, Bool, true, false, ◌||◌, List, refl, rules, option_map, sym, subst, not, cond, eqb, ◌<◌, arith, Option, Some, None, IsTrue, IfSome, is_some, is_none}
-use Rattle.std.proofs.lemmas.Bool.{false≢true}
-use Rattle.std.proofs.lemmas.Bool.Decides.{nat_tests}
+use Rattle.uri_pct.proofs.Common.{◌≡◌, ℕ, Bool, true, false, ◌||◌, List, refl, rules, option_map, sym, subst, not, cond, eqb, ◌<◌, arith, Option, Some, None, IsTrue, IfSome, is_some, is_none, false≢true, nat_tests}
 
 -- what code tests as true is equal to true
 pub eq_true_from_IsTrue : (b : Bool) → IsTrue b → b ≡ true

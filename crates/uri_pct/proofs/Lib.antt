@@ -1,3 +1,4 @@
+pub mod Common
 pub mod General
 pub mod TableSets
 pub mod LaneScans

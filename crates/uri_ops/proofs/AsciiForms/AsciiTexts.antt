@@ -1,33 +1,10 @@
 -- The texts of a kind whose sets have no characters past ASCII have none.
-use Rattle.std.proofs.Common.{◌≡◌, ℕ, zero, suc, ◌<◌, Bool, true, false, eqb, ltb, List, [], ◌∷◌, ◌++◌, take, refl, sym, ap, subst, ◌∙◌, arith, ◌&&◌, ⊎_elim}
-use Rattle.std.specs.Prelude.{codes, Option, Some, None, IfSome}
-use Rattle.std.specs.Char.{is_ascii_hexdigit, is_ascii_digit}
-use Rattle.std.specs.List.{list_all}
-use Rattle.std.specs.Str.{IsUtf8}
-use Rattle.std.proofs.lemmas.List.Folds.{list_all-append}
-use Rattle.std.proofs.lemmas.Bool.{cases_Bool, cases_lt, cond-true, cond-false, and_parts, and_from, lt-ltb, both_ways, eqb-true}
-use Rattle.std.proofs.lemmas.Bool.Decides.{nat_tests}
-use Rattle.uri_pct.specs.Sets.{TableSet, LacksPercent, allows_past_ascii, digit_set, is_userinfo_char}
-use Rattle.uri_pct.specs.Tokens.{IsValidFor}
-use Rattle.uri_pct.specs.Prefixes.{allows_first, begins_with_hex_digits, first_char}
-use Rattle.uri_pct.proofs.ValidTexts.Validity.{valid_from, validity_of_tokens_is_validity_of_bytes, first_byte_past_ascii_is_allowed_by_its_char}
-use Rattle.uri_pct.proofs.Unicode.Characters.{hexdigit_is_ascii}
-use Rattle.uri_parts.specs.Components.{Components, components, marked, recompose}
-use Rattle.uri_parts.specs.Grammar.{Kind, is_scheme, is_authority, IsTextOf}
-use Rattle.uri_parts.specs.Hosts.{HostKind, Ipv4, Ipv6, IpvFuture, RegName, IsHost}
-use Rattle.uri_parts.specs.Authority.{authority_parts}
-use Rattle.uri_parts.proofs.HostForms.Addresses.{ipv6-text-is-address-text}
-use Rattle.uri_parts.proofs.Authorities.Authority.{is_authority_for-sound}
-use Rattle.uri_parts.proofs.HostForms.Hosts.{address-in-brackets-is-utf8}
-use Rattle.uri_parts.proofs.Splitting.Recompose.{recompose-components}
-use Rattle.uri_ops.specs.ComponentSets.{IsComponentSet, HasComponentSets}
-use Rattle.uri_ops.specs.Encoded.{ascii_set, ascii_kind}
+use Rattle.uri_ops.proofs.Common.{◌≡◌, ℕ, zero, suc, ◌<◌, Bool, true, false, eqb, ltb, List, [], ◌∷◌, ◌++◌, take, refl, sym, ap, subst, ◌∙◌, arith, ◌&&◌, ⊎_elim, codes, Option, Some, None, IfSome, is_ascii_hexdigit, is_ascii_digit, list_all, IsUtf8, list_all-append, cases_Bool, cases_lt, cond-true, cond-false, and_parts, and_from, lt-ltb, both_ways, eqb-true, nat_tests, TableSet, LacksPercent, allows_past_ascii, digit_set, is_userinfo_char, IsValidFor, allows_first, begins_with_hex_digits, first_char, valid_from, validity_of_tokens_is_validity_of_bytes, first_byte_past_ascii_is_allowed_by_its_char, hexdigit_is_ascii, Components, components, marked, recompose, Kind, is_authority, IsTextOf, HostKind, Ipv4, Ipv6, IpvFuture, RegName, IsHost, authority_parts, ipv6-text-is-address-text, is_authority_for-sound, address-in-brackets-is-utf8, recompose-components, IsComponentSet, HasComponentSets, ascii_set, ascii_kind, IfSome-weaken, IfSome-combine}
 use Rattle.uri_ops.proofs.Meanings.AsciiCharacters.{valid_ascii_text}
 use Rattle.uri_ops.proofs.Meanings.HostMeanings.{ipvfuture-has-ascii-parts, ipvfuture-is-userinfo-characters}
 use Rattle.uri_ops.proofs.Meanings.AuthorityMeanings.{authority-parts-are-utf8}
 use Rattle.uri_ops.proofs.Meanings.AllowedParts.{is_set_text, set-text-is-utf8, set-text-is-valid}
 use Rattle.uri_ops.proofs.Meanings.TextParts.{ArePartsOfKind}
-use Rattle.uri_pct.proofs.General.{IfSome-weaken, IfSome-combine}
 use Rattle.uri_ops.proofs.Normal.NormalTexts.{text-has-parts-of-kind}
 use Rattle.uri_ops.proofs.AsciiForms.EncodedAuthorities.{text-passing-ascii-test-is-ascii, bracketed-ascii-address-is-ascii, address-text-is-ascii, dotted-decimal-is-ascii}
 use Rattle.uri_ops.proofs.AsciiForms.EncodedMeanings.{schemes-are-ascii}
@@ -56,12 +33,9 @@ module _ (set : TableSet) where
 
   first-byte-of-ascii-set-is-ascii : (b : ℕ) (rest : List ℕ) → allows_first (ascii_set set) b rest
       ≡ true → b < 128
-  first-byte-of-ascii-set-is-ascii b rest e = ⊎_elim
-      (λ h. h)
-      (λ h.
-      absurd (both_ways _ (first_byte_past_ascii_is_allowed_by_its_char (ascii_set set) b rest h
-      ∙ ascii_set-allows-nothing-past-ascii (first_char (b ∷ rest))) e))
-      (cases_lt b 128)
+  first-byte-of-ascii-set-is-ascii b rest e = ⊎_elim (λ h. h) (λ h. absurd
+      (both_ways _ (first_byte_past_ascii_is_allowed_by_its_char (ascii_set set) b rest h
+      ∙ ascii_set-allows-nothing-past-ascii (first_char (b ∷ rest))) e)) (cases_lt b 128)
 
   percent-byte-is-ascii : (b : ℕ) → eqb b 37 ≡ true → b < 128
   percent-byte-is-ascii b e = let d = eqb-true b 37 e in omega arith
@@ -70,28 +44,22 @@ module _ (set : TableSet) where
       → valid_from (ascii_set set) skip bs ≡ true → ascii bs ≡ true
   unfolding valid_from
   valid-for-ascii-set-is-ascii skip [] t e = refl
-  valid-for-ascii-set-is-ascii zero (b ∷ rest) t e = ⊎_elim
-      (λ h.
+  valid-for-ascii-set-is-ascii zero (b ∷ rest) t e = ⊎_elim (λ h.
       let p = and_parts (set.pct_encoded && eqb b 37) (begins_with_hex_digits rest) h in
-      and_from _ _ (lt-ltb b 128
-      (percent-byte-is-ascii b (and_parts set.pct_encoded (eqb b 37) p.0).1))
-      (valid-for-ascii-set-is-ascii 2 rest (octet-digits-are-ascii rest p.1)
-      (sym (cond-true _ _ _ h) ∙ e)))
-      (λ h.
+      and_from _ _ (lt-ltb b 128 (percent-byte-is-ascii b
+      (and_parts set.pct_encoded (eqb b 37) p.0).1)) (valid-for-ascii-set-is-ascii 2 rest
+      (octet-digits-are-ascii rest p.1) (sym (cond-true _ _ _ h) ∙ e))) (λ h.
       let p = and_parts (allows_first (ascii_set set) b rest) _ (sym (cond-false _ _ _ h) ∙ e) in
       let low = first-byte-of-ascii-set-is-ascii b rest p.0 in
-      and_from _ _ (lt-ltb b 128 low)
-      (valid-for-ascii-set-is-ascii 0 rest refl
-      (sym (ap (λ n. valid_from (ascii_set set) n rest)
-      (cond-true _ _ _ (lt-ltb b 128 low))) ∙ p.1)))
-      (cases_Bool ((set.pct_encoded && eqb b 37) && begins_with_hex_digits rest))
+      and_from _ _ (lt-ltb b 128 low) (valid-for-ascii-set-is-ascii 0 rest refl
+      (sym (ap (λ n. valid_from (ascii_set set) n rest) (cond-true _ _ _ (lt-ltb b 128 low)))
+      ∙ p.1))) (cases_Bool ((set.pct_encoded && eqb b 37) && begins_with_hex_digits rest))
   valid-for-ascii-set-is-ascii (suc k) (b ∷ rest) t e =
       let p = and_parts (ltb b 128) (ascii (take k rest)) t in
       and_from _ _ p.0 (valid-for-ascii-set-is-ascii k rest p.1 e)
 
-  text-for-ascii_set-is-ascii : LacksPercent set → (text : List ℕ) → IsUtf8 text
-      → IsValidFor (ascii_set set) text
-      → ascii text ≡ true
+  text-for-ascii_set-is-ascii : LacksPercent set
+      → (text : List ℕ) → IsUtf8 text → IsValidFor (ascii_set set) text → ascii text ≡ true
   text-for-ascii_set-is-ascii lacks text u e = valid-for-ascii-set-is-ascii 0 text refl
       (sym (validity_of_tokens_is_validity_of_bytes (ascii_set set) lacks text u) ∙ e)
 
@@ -136,17 +104,15 @@ module _ (kind : Kind) (sets : HasComponentSets kind) where
       let grammar = is_authority_for-sound _ _ a e in
       let p = authority_parts a in
       let utf8 = authority-parts-are-utf8 _ _ _ (subst IsUtf8 (sym grammar.whole) u) in
-      let user = IfSome-combine _ _ _ _
-      (λ x v h. text-for-ascii_set-is-ascii kind.userinfo sets.userinfo.percent x v h) utf8.userinfo
-      grammar.userinfo in
+      let user = IfSome-combine _ _ _ _ (λ x v h. text-for-ascii_set-is-ascii
+      kind.userinfo sets.userinfo.percent x v h) utf8.userinfo grammar.userinfo in
       let port = IfSome-combine _ _ _ _ port-digits-are-ascii utf8.port grammar.port in
       let host = host-for-ascii_set-is-ascii kind.reg_name sets.reg_name.percent p.host
       grammar.host.0 utf8.host grammar.host.1 in
       let suffix = marked (codes ":") p.port [] in
-      sym (ap ascii grammar.whole)
-      ∙ append-of-ascii-is-ascii (marked [] p.userinfo (codes "@")) (p.host ++ suffix)
-      (delimited-ascii-component-is-ascii [] (codes "@") p.userinfo refl refl user)
-      (append-of-ascii-is-ascii p.host suffix host
+      sym (ap ascii grammar.whole) ∙ append-of-ascii-is-ascii
+      (marked [] p.userinfo (codes "@")) (p.host ++ suffix) (delimited-ascii-component-is-ascii []
+      (codes "@") p.userinfo refl refl user) (append-of-ascii-is-ascii p.host suffix host
       (delimited-ascii-component-is-ascii (codes ":") [] p.port refl refl port))
 
   component-of-ascii_set-is-ascii : (marks : List ℕ) (set : TableSet) → IsComponentSet marks set
@@ -163,17 +129,15 @@ module _ (kind : Kind) (sets : HasComponentSets kind) where
       let a = marked (codes "//") p.authority [] in
       let q = marked (codes "?") p.query [] in
       let f = marked (codes "#") p.fragment [] in
-      let scheme = IfSome-weaken _ _ _
-      (λ x h. schemes-are-ascii x h.0 h.1) parts.scheme in
+      let scheme = IfSome-weaken _ _ _ (λ x h. schemes-are-ascii x h.0 h.1) parts.scheme in
       let authority = IfSome-weaken _ _
       _ (λ x h. authority-of-ascii-kind-is-ascii x h.0 h.1) parts.authority in
       let path = text-for-ascii_set-is-ascii kind.path sets.path.percent p.path
       (set-text-is-utf8 _ _ parts.path) (set-text-is-valid _ _ parts.path) in
       let query = component-of-ascii_set-is-ascii _ _ sets.query _ parts.query in
       let fragment = component-of-ascii_set-is-ascii _ _ sets.fragment _ parts.fragment in
-      append-of-ascii-is-ascii s (a ++ (p.path ++ (q ++ f)))
-      (delimited-ascii-component-is-ascii [] (codes ":") p.scheme refl refl scheme)
-      (append-of-ascii-is-ascii a (p.path ++ (q ++ f))
+      append-of-ascii-is-ascii s (a ++ (p.path ++ (q ++ f))) (delimited-ascii-component-is-ascii []
+      (codes ":") p.scheme refl refl scheme) (append-of-ascii-is-ascii a (p.path ++ (q ++ f))
       (delimited-ascii-component-is-ascii (codes "//") [] p.authority refl refl authority)
       (append-of-ascii-is-ascii p.path (q ++ f) path (append-of-ascii-is-ascii q f
       (delimited-ascii-component-is-ascii (codes "?") [] p.query refl refl query)

@@ -1,32 +1,5 @@
 -- An authority without characters past ASCII is one, and has the meaning of the authority.
-use Rattle.std.proofs.Common.{◌≡◌, ℕ, Bool, true, ltb, List, [], ◌∷◌, ◌++◌, map, refl, sym, ap, subst, ◌∙◌, inl, inr, option_map, arith}
-use Rattle.std.specs.Prelude.{codes, Option, Some, None, IfSome}
-use Rattle.std.specs.Char.{is_ascii_digit}
-use Rattle.std.specs.List.{list_all}
-use Rattle.std.specs.Str.{IsUtf8}
-use Rattle.std.specs.Net.Grammar.{IsDotted}
-use Rattle.std.proofs.lemmas.List.Folds.{list_all-append}
-use Rattle.std.proofs.lemmas.List.Sums.{list_all-from_AllPass}
-use Rattle.std.proofs.lemmas.List.Elements.{All-weaker}
-use Rattle.std.proofs.lemmas.Bool.{and_parts, and_from}
-use Rattle.std.proofs.lemmas.Bool.Decides.{nat_tests}
-use Rattle.std.proofs.NetLemmas.Alphabet.{IsDigitOrDot}
-use Rattle.uri_pct.specs.Sets.{TableSet, digit_set, is_userinfo_char}
-use Rattle.uri_pct.specs.Tokens.{IsValidFor}
-use Rattle.uri_pct.specs.DecodeUnreserved.{decode_unreserved, lower_token}
-use Rattle.uri_pct.proofs.ValidTexts.Cuts.{excludes}
-use Rattle.uri_parts.specs.Components.{marked}
-use Rattle.uri_parts.specs.Hosts.{HostKind, Ipv4, Ipv6, IpvFuture, RegName, IsHost, bracketed, host_kind, ipv4_value}
-use Rattle.uri_parts.specs.Authority.{AuthorityParts, IsAuthorityFor, LackAuthorityDelimiters, authority_parts, recompose_authority}
-use Rattle.uri_parts.specs.Grammar.{Kind, is_authority}
-use Rattle.uri_parts.proofs.Authorities.Authority.{is_authority_for-sound, is_authority_for-complete, authority_parts-are-unique, names_exclude_delimiters}
-use Rattle.uri_parts.proofs.HostForms.Addresses.{is_address_char, is_address_text, ipv6-text-is-address-text}
-use Rattle.uri_parts.proofs.HostForms.Hosts.{is_host-sound, lacking_text_does_not_begin_with, address-in-brackets-is-utf8}
-use Rattle.uri_parts.proofs.TextKinds.GrammarTexts.{valid_text_lacks_excluded_marks}
-use Rattle.uri_parts.proofs.HostForms.Futures.{ipv4-text-is-digits-and-dots}
-use Rattle.uri_ops.specs.ComponentSets.{IsComponentSet, HasComponentSets}
-use Rattle.uri_ops.specs.Encoded.{encode_past_ascii, ascii_set, ascii_kind}
-use Rattle.uri_ops.specs.Meaning.{Name, host_meaning, authority_meaning}
+use Rattle.uri_ops.proofs.Common.{◌≡◌, ℕ, Bool, true, ltb, List, [], ◌∷◌, ◌++◌, map, refl, sym, ap, subst, ◌∙◌, inl, inr, option_map, arith, codes, Option, Some, None, IfSome, is_ascii_digit, list_all, IsUtf8, IsDotted, list_all-append, list_all-from_AllPass, All-weaker, and_parts, and_from, nat_tests, IsDigitOrDot, TableSet, digit_set, is_userinfo_char, IsValidFor, decode_unreserved, lower_token, excludes, marked, HostKind, Ipv4, Ipv6, IpvFuture, RegName, IsHost, bracketed, host_kind, ipv4_value, AuthorityParts, IsAuthorityFor, LackAuthorityDelimiters, authority_parts, recompose_authority, Kind, is_authority, is_authority_for-sound, is_authority_for-complete, authority_parts-are-unique, names_exclude_delimiters, is_address_char, is_address_text, ipv6-text-is-address-text, is_host-sound, lacking_text_does_not_begin_with, address-in-brackets-is-utf8, valid_text_lacks_excluded_marks, ipv4-text-is-digits-and-dots, IsComponentSet, HasComponentSets, encode_past_ascii, ascii_set, ascii_kind, Name, host_meaning, authority_meaning, IfSome-combine}
 use Rattle.uri_ops.proofs.Meanings.AllowedParts.{is_set_text, set-text-from-utf8, set-text-is-utf8, set-text-is-valid}
 use Rattle.uri_ops.proofs.Meanings.AsciiCharacters.{is_ascii_in, valid_ascii_text}
 use Rattle.uri_ops.proofs.Meanings.HostMeanings.{address-characters-are-ascii, ipvfuture-has-ascii-parts, ipvfuture-is-userinfo-characters, meaning-of-name-is-lowered-decoded, unbracketed-valid-text-is-name}
@@ -35,7 +8,6 @@ use Rattle.uri_ops.proofs.AsciiForms.EncodedTokens.{encoded-text-is-utf8}
 use Rattle.uri_ops.proofs.AsciiForms.EncodedDecodings.{encoded-part-is-valid-for-ascii_set, decode_unreserved-of-encoded-text}
 use Rattle.uri_ops.proofs.AsciiForms.EncodedPaths.{encoding-of-append-is-append, ascii-text-is-its-own-encoding, encoding-keeps-leading-delimiter}
 use Rattle.uri_ops.proofs.AsciiForms.EncodedComponents.{encoding-keeps-delimiters}
-use Rattle.uri_pct.proofs.General.{IfSome-combine}
 
 -- IRIs as URIs: a component's set without its characters past ASCII is a component's set
 ascii_set-is-component-set : (marks : List ℕ) (set : TableSet) → IsComponentSet marks set
@@ -50,8 +22,7 @@ ascii_kind-has-component-sets kind sets = grind (arith, nat_tests, ascii_set-is-
 
 -- IRIs as URIs: a text whose bytes pass an ASCII test is ASCII
 pub text-passing-ascii-test-is-ascii : (test : ℕ → Bool) (text : List ℕ)
-    → list_all (is_ascii_in test) text ≡ true
-    → list_all (λ c. ltb c 128) text ≡ true
+    → list_all (is_ascii_in test) text ≡ true → list_all (λ c. ltb c 128) text ≡ true
 text-passing-ascii-test-is-ascii test [] e = refl
 text-passing-ascii-test-is-ascii test (c ∷ text) e =
     let p = and_parts (is_ascii_in test c) (list_all (is_ascii_in test) text) e in
@@ -75,9 +46,8 @@ address-text-is-ascii text e = text-passing-ascii-test-is-ascii is_address_char 
 pub dotted-decimal-is-ascii : (text octets : List ℕ) → IsDotted text octets
     → list_all (λ c. ltb c 128) text ≡ true
 dotted-decimal-is-ascii text octets h =
-    list_all-from_AllPass (λ c. ltb c 128) text
-    (All-weaker IsDigitOrDot (λ c. ltb c 128 ≡ true) below text
-    (ipv4-text-is-digits-and-dots text octets h))
+    list_all-from_AllPass (λ c. ltb c 128) text (All-weaker IsDigitOrDot
+    (λ c. ltb c 128 ≡ true) below text (ipv4-text-is-digits-and-dots text octets h))
   where
     below : (c : ℕ) → IsDigitOrDot c → ltb c 128 ≡ true
     below c (inl range) = grind (arith, nat_tests)
@@ -138,10 +108,9 @@ module _ (names : TableSet) (w : IsComponentSet (codes "/?#[]@:") names)
   encoding-keeps-hosts text IpvFuture u (address, e, future) =
       let ascii_parts = ipvfuture-has-ascii-parts address
       (address-in-brackets-is-utf8 address (subst IsUtf8 e u)) future in
-      encoding-keeps-ascii-hosts names text IpvFuture (address, e, future)
-      (ap (list_all (λ c. ltb c 128)) e ∙ bracketed-ascii-address-is-ascii address
-      (text-passing-ascii-test-is-ascii is_userinfo_char address
-      (ipvfuture-is-userinfo-characters address future ascii_parts)))
+      encoding-keeps-ascii-hosts names text IpvFuture (address, e, future) (ap (list_all (λ
+      c. ltb c 128)) e ∙ bracketed-ascii-address-is-ascii address (text-passing-ascii-test-is-ascii
+      is_userinfo_char address (ipvfuture-is-userinfo-characters address future ascii_parts)))
   encoding-keeps-hosts text (Ipv4 octets) u dotted = encoding-keeps-ascii-hosts names text
       (Ipv4 octets) dotted (dotted-decimal-is-ascii text octets dotted)
   encoding-keeps-hosts text RegName u (valid, other) = encoding-keeps-names text
@@ -168,33 +137,29 @@ encoding-and-recomposing-authority-swap p =
     (encoding-keeps-delimiters (codes ":") [] p.port refl refl))
 
 -- IRIs as URIs: encoding characters past ASCII leaves the digits of a port
-port-digits-are-unchanged-when-encoded : (text : List ℕ) → IsUtf8 text → IsValidFor digit_set text
-    → encode_past_ascii text
-    ≡ text
+port-digits-are-unchanged-when-encoded : (text : List ℕ)
+    → IsUtf8 text → IsValidFor digit_set text → encode_past_ascii text ≡ text
 port-digits-are-unchanged-when-encoded text u e = ascii-text-is-its-own-encoding text
     (text-passing-ascii-test-is-ascii is_ascii_digit text
     (sym (valid_ascii_text is_ascii_digit refl text u) ∙ e))
 
 -- IRIs as URIs: encoding characters past ASCII leaves the port, if there is one
 port-is-unchanged-when-encoded : (port : Option (List ℕ)) → IfSome port IsUtf8
-    → IfSome port (IsValidFor digit_set)
-    → option_map encode_past_ascii port ≡ port
+    → IfSome port (IsValidFor digit_set) → option_map encode_past_ascii port ≡ port
 port-is-unchanged-when-encoded None u h = refl
 port-is-unchanged-when-encoded (Some digits) u h =
     ap Some (port-digits-are-unchanged-when-encoded digits u h)
 
 -- IRIs as URIs: if a component, when there is one, has P, its encoded form has what P implies
-encoded-component-has-property : (o : Option (List ℕ)) (P Q : List ℕ → Type 0)
-    → ((x : List ℕ) → P x → Q (encode_past_ascii x))
-    → IfSome o P → IfSome (option_map encode_past_ascii o) Q
+encoded-component-has-property : (o : Option (List ℕ)) (P Q : List ℕ → Type 0) → ((x : List ℕ)
+    → P x → Q (encode_past_ascii x)) → IfSome o P → IfSome (option_map encode_past_ascii o) Q
 encoded-component-has-property None P Q f h = tt
 encoded-component-has-property (Some x) P Q f h = f x h
 
 -- IRIs as URIs: a component has the same decoded form after its characters past ASCII are encoded
 pub decode_unreserved-encoded_option : (set : TableSet) (o : Option (List ℕ))
-    → IfSome o (λ x. is_set_text set x ≡ true)
-    → option_map (decode_unreserved set) (option_map encode_past_ascii o)
-    ≡ option_map (decode_unreserved set) o
+    → IfSome o (λ x. is_set_text set x ≡ true) → option_map
+    (decode_unreserved set) (option_map encode_past_ascii o) ≡ option_map (decode_unreserved set) o
 decode_unreserved-encoded_option set None h = refl
 decode_unreserved-encoded_option set (Some x) h = ap Some
     (decode_unreserved-of-encoded-text set x h)
@@ -232,15 +197,13 @@ module _ (kind : Kind) (sets : HasComponentSets kind) (a : List ℕ) (u : IsUtf8
   user = IfSome-combine parts.userinfo IsUtf8 (IsValidFor users) (λ x. is_set_text users x ≡ true)
       (λ x v h. set-text-from-utf8 users x v h) utf8.userinfo grammar.userinfo
 
-  encoded-authority-follows-grammar : IsAuthorityFor (ascii_set users) (ascii_set names)
-      (encode_past_ascii a)
-      (encoded_authority_parts parts)
+  encoded-authority-follows-grammar : IsAuthorityFor
+      (ascii_set users) (ascii_set names) (encode_past_ascii a) (encoded_authority_parts parts)
   encoded-authority-follows-grammar = record {
     whole = sym (encoding-and-recomposing-authority-swap _) ∙ ap encode_past_ascii grammar.whole;
-    userinfo = encoded-component-has-property parts.userinfo (λ x. is_set_text users x ≡ true)
-        (IsValidFor (ascii_set users))
-        (λ x h. set-text-is-valid _ _
-        (encoded-part-is-valid-for-ascii_set users sets.userinfo.octets x h)) user;
+    userinfo = encoded-component-has-property parts.userinfo
+        (λ x. is_set_text users x ≡ true) (IsValidFor (ascii_set users)) (λ x h. set-text-is-valid
+        _ _ (encoded-part-is-valid-for-ascii_set users sets.userinfo.octets x h)) user;
     host = host.host;
     port = subst (λ o. IfSome o (IsValidFor digit_set))
         (sym (port-is-unchanged-when-encoded _ utf8.port grammar.port)) grammar.port;

@@ -1,17 +1,7 @@
 -- The components of a text without characters past ASCII are those of the text, without them.
-use Rattle.std.proofs.Common.{◌≡◌, ℕ, ◌<◌, Bool, true, false, not, ltb, List, length, refl, sym, ap, ◌∙◌, ◌&&◌, ⊎_elim, inl, inr, option_map, arith}
-use Rattle.std.specs.Prelude.{codes, Option, Some, None, IfSome, IfNone}
-use Rattle.std.specs.List.{list_all}
-use Rattle.std.specs.Str.{IsUtf8}
-use Rattle.std.proofs.lemmas.Bool.Decides.{nat_tests}
-use Rattle.uri_parts.specs.Components.{Components, IsSplitOf, Lacks, IsAbemptyPath, marked, starts, has_scheme, has_authority, from_any, components, recompose}
-use Rattle.uri_parts.proofs.Splitting.Recompose.{components-are-split-of-text, equal-to-true-is-IsTrue}
-use Rattle.uri_parts.proofs.Splitting.Splits.{only-split-is-components}
-use Rattle.uri_parts.proofs.Authorities.NamesAndPorts.{utf8_before_marks}
-use Rattle.uri_ops.specs.Encoded.{encode_past_ascii}
+use Rattle.uri_ops.proofs.Common.{◌≡◌, ℕ, ◌<◌, Bool, true, false, not, ltb, List, length, refl, sym, ap, ◌∙◌, ◌&&◌, ⊎_elim, inl, inr, option_map, arith, codes, Option, Some, None, IfSome, IfNone, list_all, IsUtf8, nat_tests, Components, IsSplitOf, Lacks, IsAbemptyPath, marked, starts, has_scheme, from_any, components, recompose, components-are-split-of-text, equal-to-true-is-IsTrue, only-split-is-components, utf8_before_marks, encode_past_ascii, eq_true_from_IsTrue}
 use Rattle.uri_ops.proofs.Meanings.TextParts.{AreUtf8, scheme-ends-are-ascii, components-of-utf8-are-utf8}
 use Rattle.uri_ops.proofs.AsciiForms.EncodedPaths.{encoding-of-append-is-append, encoding-of-nil-is-nil, ascii-text-is-its-own-encoding, encoding-keeps-lacked-delimiters, encoding-keeps-leading-delimiter, encoding-keeps-emptiness, encoding-keeps-two-slashes, encoding-and-cutting-swap}
-use Rattle.uri_pct.proofs.General.{eq_true_from_IsTrue}
 use Rattle.uri_ops.proofs.Paths.DotRuns.{not-empty-has-length}
 use Rattle.uri_ops.proofs.Paths.Piecewise.{text-with-bytes-is-not-empty}
 
@@ -45,14 +35,12 @@ encoding-and-recomposing-swap p =
 encoding-keeps-has_scheme : (text : List ℕ) → IsUtf8 text
     → has_scheme (encode_past_ascii text) ≡ has_scheme text
 encoding-keeps-has_scheme text u =
-    let from =
-    (encoding-and-cutting-swap (codes ":/?#") refl text u
+    let from = (encoding-and-cutting-swap (codes ":/?#") refl text u
     (utf8_before_marks (codes ":/?#") text scheme-ends-are-ascii u)).1 in
     ap (λ t. starts 58 t && not (starts 58 (encode_past_ascii text))) from
-    ∙ ap (λ t. t && not (starts 58 (encode_past_ascii text)))
-    (encoding-keeps-leading-delimiter 58 refl (from_any (codes ":/?#") text))
-    ∙ ap (λ t. starts 58 (from_any (codes ":/?#") text) && not t)
-    (encoding-keeps-leading-delimiter 58 refl text)
+    ∙ ap (λ t. t && not (starts 58 (encode_past_ascii text))) (encoding-keeps-leading-delimiter 58
+    refl (from_any (codes ":/?#") text)) ∙ ap (λ t. starts 58 (from_any (codes ":/?#") text)
+    && not t) (encoding-keeps-leading-delimiter 58 refl text)
 
 -- IRIs as URIs: an encoded scheme, if there is one, is not empty and has no delimiter that ends it
 encoded-scheme-lacks-its-ends : (o : Option (List ℕ)) → IfSome o IsUtf8
@@ -67,10 +55,9 @@ encoded-scheme-lacks-its-ends (Some s) u h = (
 -- IRIs as URIs: a path that is empty or begins with `/` is so when encoded
 encoded-abempty-path-is-abempty : (path : List ℕ) → IsAbemptyPath path
     → IsAbemptyPath (encode_past_ascii path)
-encoded-abempty-path-is-abempty path h = ⊎_elim
-    (λ e. inl (ap encode_past_ascii e ∙ encoding-of-nil-is-nil))
-    (λ e. inr (equal-to-true-is-IsTrue _ (encoding-keeps-leading-delimiter 47 refl path
-    ∙ eq_true_from_IsTrue _ e))) h
+encoded-abempty-path-is-abempty path h = ⊎_elim (λ e. inl
+    (ap encode_past_ascii e ∙ encoding-of-nil-is-nil)) (λ e. inr (equal-to-true-is-IsTrue _
+    (encoding-keeps-leading-delimiter 47 refl path ∙ eq_true_from_IsTrue _ e))) h
 
 -- IRIs as URIs: an encoded authority, if there is one, has no delimiter that ends it, and the path
 -- after it is empty or begins with `/`
@@ -85,24 +72,21 @@ encoded-authority-lacks-its-ends (Some a) path u h = (
 )
 
 -- IRIs as URIs: an encoded query, if there is one, has no `#`
-encoded-query-lacks-its-end : (o : Option (List ℕ)) → IfSome o IsUtf8
-    → IfSome o (λ q. Lacks (codes "#") q)
-    → IfSome (option_map encode_past_ascii o) (λ q. Lacks (codes "#") q)
+encoded-query-lacks-its-end : (o : Option (List ℕ)) → IfSome o IsUtf8 → IfSome o (λ q. Lacks
+    (codes "#") q) → IfSome (option_map encode_past_ascii o) (λ q. Lacks (codes "#") q)
 encoded-query-lacks-its-end None u h = tt
 encoded-query-lacks-its-end (Some q) u h = encoding-keeps-lacked-delimiters (codes "#") refl q u h
 
 -- IRIs as URIs: a test that is false for an absent component is so when the text is encoded;
 -- x, y: the test before and after
-absent-component-is-absent-when-encoded : (o : Option (List ℕ)) (x y : Bool) → y ≡ x
-    → IfNone o (x ≡ false)
-    → IfNone (option_map encode_past_ascii o) (y ≡ false)
+absent-component-is-absent-when-encoded : (o : Option (List ℕ)) (x y : Bool)
+    → y ≡ x → IfNone o (x ≡ false) → IfNone (option_map encode_past_ascii o) (y ≡ false)
 absent-component-is-absent-when-encoded None x y e h = e ∙ h
 absent-component-is-absent-when-encoded (Some a) x y e h = tt
 
 -- IRIs as URIs: a split of a text into components, encoded, is a split of the encoded text
 encoded-text-splits-into-encoded-components : (text : List ℕ) (p : Components) → IsUtf8 text
-    → AreUtf8 p → IsSplitOf text p
-    → IsSplitOf (encode_past_ascii text) (encoded_components p)
+    → AreUtf8 p → IsSplitOf text p → IsSplitOf (encode_past_ascii text) (encoded_components p)
 encoded-text-splits-into-encoded-components text p u v split = record {
   whole = sym (encoding-and-recomposing-swap p) ∙ ap encode_past_ascii split.whole;
   scheme = encoded-scheme-lacks-its-ends _ v.scheme split.scheme;

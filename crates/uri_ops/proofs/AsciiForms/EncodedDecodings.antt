@@ -1,17 +1,5 @@
 -- If a text is allowed, so is its form without characters past ASCII, and both decode to the same.
-use Rattle.std.proofs.Common.{◌≡◌, ℕ, true, List, [], ◌∷◌, ◌++◌, map, refl, sym, ap, ◌∙◌, ⊎_elim}
-use Rattle.std.specs.Char.{encode_utf8}
-use Rattle.std.specs.List.{list_all, flat_map}
-use Rattle.std.proofs.lemmas.List.{append-nil}
-use Rattle.std.proofs.lemmas.List.Folds.{list_all-append}
-use Rattle.std.proofs.lemmas.Bool.{cases_lt, cond-true, cond-false, and_parts, and_from, or_right, lt-ltb, le-ltb}
-use Rattle.uri_pct.specs.Sets.{TableSet, allows, allows_past_ascii}
-use Rattle.uri_pct.specs.Tokens.{Token, Char, Octet, tokens, allows_token, is_valid_for}
-use Rattle.uri_pct.specs.DecodeUnreserved.{is_decodable, decode_run, decode_after_run, decode_tokens, encode_formatting, decode_unreserved}
-use Rattle.uri_pct.proofs.ValidTexts.Validity.{ascii_char_is_allowed_iff_in_set, char_past_ascii_is_allowed_by_flags}
-use Rattle.uri_pct.proofs.ValidTexts.Allowed.{allowed_past_ascii_is_scalar}
-use Rattle.uri_pct.proofs.UnreservedDecoding.DecodedTokens.{decodable_char_octets_split_decoding, octets_before_tokens_lengthen_run}
-use Rattle.uri_ops.specs.Encoded.{encode_past_ascii, ascii_set}
+use Rattle.uri_ops.proofs.Common.{◌≡◌, ℕ, true, List, [], ◌∷◌, ◌++◌, map, refl, sym, ap, ◌∙◌, ⊎_elim, encode_utf8, list_all, flat_map, append-nil, list_all-append, cases_lt, cond-true, cond-false, and_parts, and_from, or_right, lt-ltb, le-ltb, TableSet, allows, allows_past_ascii, Token, Char, Octet, tokens, allows_token, is_valid_for, is_decodable, decode_run, decode_after_run, decode_tokens, encode_formatting, decode_unreserved, ascii_char_is_allowed_iff_in_set, char_past_ascii_is_allowed_by_flags, allowed_past_ascii_is_scalar, decodable_char_octets_split_decoding, octets_before_tokens_lengthen_run, encode_past_ascii, ascii_set}
 use Rattle.uri_ops.proofs.Meanings.AllowedParts.{is_set_text, set-text-from-utf8, set-text-is-utf8, set-text-is-valid}
 use Rattle.uri_ops.proofs.AsciiForms.EncodedTokens.{encoded_token, tokens-of-encoded-text, encoded-text-is-utf8}
 
@@ -29,12 +17,10 @@ module _ (set : TableSet) (octets : set.pct_encoded ≡ true) where
       and_from _ _ octets (ascii_set-allows-encoded-tokens ts p.1)
   ascii_set-allows-encoded-tokens (Char c ∷ ts) e =
       let p = and_parts (allows set c) (list_all (allows_token set) ts) e in
-      list_all-append (allows_token (ascii_set set)) (encoded_token (Char c))
-      (flat_map encoded_token ts)
-      ∙ and_from _ _ (⊎_elim
-      (λ h.
-      ap (list_all (allows_token (ascii_set set))) (cond-true _ _ _ (lt-ltb c 128 h))
-      ∙ and_from _ true (ascii_char_is_allowed_iff_in_set (ascii_set set) c h
+      list_all-append
+      (allows_token (ascii_set set)) (encoded_token (Char c)) (flat_map encoded_token ts)
+      ∙ and_from _ _ (⊎_elim (λ h. ap (list_all (allows_token (ascii_set set))) (cond-true _ _ _
+      (lt-ltb c 128 h)) ∙ and_from _ true (ascii_char_is_allowed_iff_in_set (ascii_set set) c h
       ∙ sym (ascii_char_is_allowed_iff_in_set set c h) ∙ p.0) refl)
       (λ h. ap (list_all (allows_token (ascii_set set))) (cond-false _ _ _ (le-ltb c 128 h))
       ∙ ascii_set-allows-octets (encode_utf8 c))
@@ -56,8 +42,7 @@ module _ (set : TableSet) where
   allowed-past-ascii-is-decodable c e = or_right _ _ e
 
   decode_after_run-of-encoded-tokens : (run : List ℕ) (ts : List Token)
-      → list_all (allows_token set) ts
-      ≡ true
+      → list_all (allows_token set) ts ≡ true
       → decode_after_run set run (flat_map encoded_token ts) ≡ decode_after_run set run ts
   unfolding decode_after_run
   decode_after_run-of-encoded-tokens run [] e = refl
@@ -66,21 +51,17 @@ module _ (set : TableSet) where
   decode_after_run-of-encoded-tokens run (Char c ∷ ts) e =
       let p = and_parts (allows set c) (list_all (allows_token set) ts) e in
       let rest = decode_after_run-of-encoded-tokens [] ts p.1 in
-      ⊎_elim
-      (λ h. ap (λ t. decode_after_run set run (t ++ flat_map encoded_token ts))
-      (cond-true _ _ _ (lt-ltb c 128 h)) ∙ ap (λ t. decode_run set run ++ Char c ∷ t) rest)
-      (λ h.
+      ⊎_elim (λ h. ap (λ t. decode_after_run set run (t ++ flat_map encoded_token ts))
+      (cond-true _ _ _ (lt-ltb c 128 h)) ∙ ap (λ t. decode_run set run ++ Char c ∷ t) rest) (λ h.
       let past = sym (char_past_ascii_is_allowed_by_flags set c h) ∙ p.0 in
-      ap (λ t. decode_after_run set run (t ++ flat_map encoded_token ts))
-      (cond-false _ _ _ (le-ltb c 128 h))
+      ap (λ t. decode_after_run set run (t ++ flat_map encoded_token ts)) (cond-false _ _ _
+      (le-ltb c 128 h))
       ∙ octets_before_tokens_lengthen_run set run (encode_utf8 c) (flat_map encoded_token ts)
       ∙ ap (λ r. decode_after_run set (run ++ r) (flat_map encoded_token ts))
       (sym (append-nil (encode_utf8 c)))
       ∙ decodable_char_octets_split_decoding set run c [] (flat_map encoded_token ts)
-      (allowed_past_ascii_is_scalar set c past).1
-      (allowed-past-ascii-is-decodable c past)
-      ∙ ap (λ t. decode_run set run ++ Char c ∷ t) rest)
-      (cases_lt c 128)
+      (allowed_past_ascii_is_scalar set c past).1 (allowed-past-ascii-is-decodable c past)
+      ∙ ap (λ t. decode_run set run ++ Char c ∷ t) rest) (cases_lt c 128)
 
   pub decode_unreserved-of-encoded-text : (text : List ℕ) → is_set_text set text ≡ true
       → decode_unreserved set (encode_past_ascii text) ≡ decode_unreserved set text

@@ -1,25 +1,6 @@
 -- A text without characters past ASCII is of the kind of URIs that goes with its kind. It is
 -- equivalent to the text that it was made from.
-use Rattle.std.proofs.Common.{◌≡◌, ℕ, true, false, eqb, ltb, not, List, refl, sym, ap, subst, ◌∙◌, ◌&&◌, ◌||◌, option_map, arith}
-use Rattle.std.specs.Prelude.{codes, Option, Some, None, IfSome, is_some, slice_index}
-use Rattle.std.specs.Char.{is_ascii_alphabetic}
-use Rattle.std.specs.List.{list_all, list_any}
-use Rattle.std.specs.Str.{IsUtf8}
-use Rattle.std.proofs.lemmas.Bool.{and_parts, and_from, not-true, not_from_false}
-use Rattle.std.proofs.lemmas.Bool.Decides.{nat_tests}
-use Rattle.uri_pct.specs.Sets.{TableSet, is_scheme_char, scheme_set}
-use Rattle.uri_pct.specs.Tokens.{is_valid_for}
-use Rattle.uri_pct.specs.DecodeUnreserved.{decode_unreserved}
-use Rattle.uri_pct.proofs.ValidTexts.MarksInTexts.{AreAscii-by-test}
-use Rattle.uri_parts.specs.Components.{Components, components, before_any}
-use Rattle.uri_parts.specs.Grammar.{Kind, is_scheme, is_authority, has_colon_in_first_segment, components_meet_rules, IsTextOf}
-use Rattle.uri_parts.proofs.Authorities.NamesAndPorts.{utf8_before_marks}
-use Rattle.uri_ops.specs.Target.{dotless_if_absolute}
-use Rattle.uri_ops.specs.ComponentSets.{HasComponentSets}
-use Rattle.uri_parts.specs.Ports.{PortFunction}
-use Rattle.uri_ops.specs.Meaning.{authority_meaning, dotless_path, components_meaning, meaning_of}
-use Rattle.uri_ops.specs.SchemeRules.{Rules, meaning_under, under_rules}
-use Rattle.uri_ops.specs.Encoded.{encode_past_ascii, ascii_set, ascii_kind}
+use Rattle.uri_ops.proofs.Common.{◌≡◌, ℕ, true, false, eqb, ltb, not, List, refl, sym, ap, subst, ◌∙◌, ◌&&◌, ◌||◌, option_map, arith, codes, Option, Some, None, IfSome, is_some, slice_index, is_ascii_alphabetic, list_all, list_any, IsUtf8, and_parts, and_from, not-true, not_from_false, nat_tests, TableSet, is_scheme_char, scheme_set, is_valid_for, decode_unreserved, AreAscii-by-test, Components, before_any, Kind, is_scheme, is_authority, has_colon_in_first_segment, components_meet_rules, IsTextOf, utf8_before_marks, dotless_if_absolute, HasComponentSets, PortFunction, authority_meaning, dotless_path, components_meaning, meaning_of, Rules, meaning_under, under_rules, encode_past_ascii, ascii_set, ascii_kind}
 use Rattle.uri_ops.proofs.Paths.PathCharacters.{lacked-delimiters-fail-test, test-of-delimiters-gives-lacks}
 use Rattle.uri_ops.proofs.Meanings.Lacking.{lacks_any-gives-lacks, lacks-gives-lacks_any}
 use Rattle.uri_ops.proofs.Meanings.AllowedParts.{is_set_text, set-text-is-utf8}
@@ -48,15 +29,13 @@ scheme-is-unchanged-when-encoded s u e = ascii-text-is-its-own-encoding s (schem
 
 -- IRIs as URIs: encoding characters past ASCII leaves the scheme as it is
 pub schemes-are-unchanged-when-encoded : (o : Option (List ℕ))
-    → IfSome o (λ s. IsUtf8 s × (is_scheme s ≡ true))
-    → option_map encode_past_ascii o ≡ o
+    → IfSome o (λ s. IsUtf8 s × (is_scheme s ≡ true)) → option_map encode_past_ascii o ≡ o
 schemes-are-unchanged-when-encoded None h = refl
 schemes-are-unchanged-when-encoded (Some s) h = ap Some (scheme-is-unchanged-when-encoded s h.0 h.1)
 
 -- IRIs as URIs: encoding characters past ASCII brings no `:` into the first segment of a path
 encoding-adds-no-colon-first : (path : List ℕ) → IsUtf8 path → has_colon_in_first_segment path
-    ≡ false
-    → has_colon_in_first_segment (encode_past_ascii path) ≡ false
+    ≡ false → has_colon_in_first_segment (encode_past_ascii path) ≡ false
 encoding-adds-no-colon-first path u e =
     let v = utf8_before_marks (codes "/") path (AreAscii-by-test (codes "/") refl) u in
     ap (list_any (λ c. eqb c 58)) (encoding-and-cutting-swap (codes "/") refl path u v).0
@@ -64,38 +43,32 @@ encoding-adds-no-colon-first path u e =
   where
     no_colon : (s : List ℕ) → IsUtf8 s → list_any (λ c. eqb c 58) s ≡ false
         → list_any (λ c. eqb c 58) (encode_past_ascii s) ≡ false
-    no_colon s v f = lacks_any-gives-lacks 58 (encode_past_ascii s)
-        (lacked-delimiters-fail-test (codes ":") (encode_past_ascii s)
-        (encoding-keeps-lacked-delimiters (codes ":") refl s v
+    no_colon s v f = lacks_any-gives-lacks 58 (encode_past_ascii s) (lacked-delimiters-fail-test
+        (codes ":") (encode_past_ascii s) (encoding-keeps-lacked-delimiters (codes ":") refl s v
         (test-of-delimiters-gives-lacks (codes ":") s (lacks-gives-lacks_any 58 s f))))
 
 -- IRIs as URIs: an encoded component is valid for its set without characters past ASCII
-encoded-component-is-for-ascii_set : (set : TableSet) → set.pct_encoded ≡ true
-    → (o : Option (List ℕ))
-    → IfSome o (λ x. is_set_text set x ≡ true)
+encoded-component-is-for-ascii_set : (set : TableSet)
+    → set.pct_encoded ≡ true → (o : Option (List ℕ)) → IfSome o (λ x. is_set_text set x ≡ true)
     → IfSome (option_map encode_past_ascii o) (λ x. is_set_text (ascii_set set) x ≡ true)
 encoded-component-is-for-ascii_set set octets None h = tt
 encoded-component-is-for-ascii_set set octets (Some x) h = encoded-part-is-valid-for-ascii_set
     set octets x h
 
 module _ (kind : Kind) (sets : HasComponentSets kind) where
-  encoded-authority-if-some-is-of-ascii_kind : (o : Option (List ℕ))
-      → IfSome o (λ a. IsUtf8 a × (is_authority kind a ≡ true))
-      → IfSome (option_map encode_past_ascii o)
-      (λ a. IsUtf8 a × (is_authority (ascii_kind kind) a ≡ true))
+  encoded-authority-if-some-is-of-ascii_kind : (o : Option (List ℕ)) → IfSome o (λ a. IsUtf8 a
+      × (is_authority kind a ≡ true)) → IfSome (option_map encode_past_ascii o) (λ a. IsUtf8 a
+      × (is_authority (ascii_kind kind) a ≡ true))
   encoded-authority-if-some-is-of-ascii_kind None h = tt
   encoded-authority-if-some-is-of-ascii_kind (Some a) h =
       (encoded-text-is-utf8 a h.0, encoded-authority-is-of-ascii_kind kind sets a h.0 h.1)
 
   encoding-keeps-scheme-or-colon-rule : (scheme authority : Option (List ℕ)) (path : List ℕ)
-      → is_set_text kind.path path ≡ true
-      → (is_some scheme
+      → is_set_text kind.path path ≡ true → (is_some scheme
       || (not kind.needs_scheme && (is_some authority || not (has_colon_in_first_segment path))))
-      ≡ true
-      → (is_some (option_map encode_past_ascii scheme)
+      ≡ true → (is_some (option_map encode_past_ascii scheme)
       || (not kind.needs_scheme && (is_some (option_map encode_past_ascii authority)
-      || not (has_colon_in_first_segment (encode_past_ascii path)))))
-      ≡ true
+      || not (has_colon_in_first_segment (encode_past_ascii path))))) ≡ true
   encoding-keeps-scheme-or-colon-rule (Some s) authority path part h = refl
   encoding-keeps-scheme-or-colon-rule None (Some a) path part h = h
   encoding-keeps-scheme-or-colon-rule None None path part h =
@@ -134,10 +107,8 @@ module _ (kind : Kind) (sets : HasComponentSets kind) where
       ap Some (encoding-keeps-authority-meaning kind sets a h.0 h.1 default)
 
   encoding-keeps-path-meaning : (scheme : Option (List ℕ)) (path : List ℕ)
-      → is_set_text kind.path path
-      ≡ true
-      → decode_unreserved kind.path (dotless_path scheme (encode_past_ascii path))
-      ≡ decode_unreserved kind.path (dotless_path scheme path)
+      → is_set_text kind.path path ≡ true → decode_unreserved kind.path (dotless_path scheme
+      (encode_past_ascii path)) ≡ decode_unreserved kind.path (dotless_path scheme path)
   encoding-keeps-path-meaning None path part = decode_unreserved-of-encoded-text kind.path path part
   encoding-keeps-path-meaning (Some s) path part = ap (decode_unreserved kind.path)
       (dotless_if_absolute-and-encoding-swap path (set-text-is-utf8 kind.path path part))

@@ -1,23 +1,6 @@
 -- Without characters past ASCII a text has the same marks, and a path the same dot segments.
-use Rattle.std.proofs.Common.{◌≡◌, ℕ, ◌<◌, ◌≤◌, nat_lt, Bool, true, false, eqb, ltb, not, List, [], ◌∷◌, ◌++◌, map, refl, sym, ap, subst, ◌∙◌, arith, ◌&&◌, ⊎_elim, append-nil, lit<}
-use Rattle.std.specs.Prelude.{codes, Option, is_none as is_absent}
-use Rattle.std.specs.Char.{is_ascii_hexdigit}
-use Rattle.std.specs.List.{list_all, flat_map}
-use Rattle.std.specs.Str.{IsUtf8, is_utf8, encode_utf8_all, all_scalars}
-use Rattle.std.proofs.lemmas.Str.{IsUtf8-from_is_utf8, is_utf8-from_IsUtf8}
-use Rattle.std.proofs.lemmas.List.{map-append}
-use Rattle.std.proofs.lemmas.List.Concat.{flat_map-append}
-use Rattle.std.proofs.lemmas.List.Folds.{list_all-append}
-use Rattle.std.proofs.lemmas.Bool.{cases_Bool, cases_lt, cond-true, cond-false, and_parts, and_from, ltb-true, lt-ltb, le-ltb, not_from_false, false_from_ne_true, both_ways, and_right}
-use Rattle.std.proofs.lemmas.Bool.Decides.{nat_tests}
-use Rattle.uri_pct.specs.Sets.{is_one_of}
-use Rattle.uri_pct.proofs.ValidTexts.MarksInTexts.{test_holds_of_each}
-use Rattle.uri_parts.specs.Components.{Lacks, starts, has_authority, before_any, from_any, IsAbemptyPath}
-use Rattle.uri_parts.proofs.Splitting.Cuts.{IsEmptyOrMarked, text-is-cut-at-first-mark, cut-at-end-of-text-without-marks}
-use Rattle.uri_parts.proofs.TextKinds.GrammarTexts.{utf8_around_ascii_byte}
-use Rattle.uri_ops.specs.Dots.{is_empty, has_slash, remove_dot_segments, underflows, directory, IsAbsolute}
-use Rattle.uri_ops.specs.Target.{dotless_if_absolute, guarded}
-use Rattle.uri_ops.specs.Encoded.{encode_byte_past_ascii, encode_past_ascii}
+use Rattle.uri_ops.proofs.Common.{◌≡◌, ℕ, ◌<◌, ◌≤◌, nat_lt, Bool, true, false, eqb, ltb, not, List, [], ◌∷◌, ◌++◌, map, refl, sym, ap, subst, ◌∙◌, arith, ◌&&◌, ⊎_elim, append-nil, lit<, codes, Option, is_ascii_hexdigit, list_all, flat_map, IsUtf8, is_utf8, encode_utf8_all, all_scalars, IsUtf8-from_is_utf8, is_utf8-from_IsUtf8, map-append, flat_map-append, list_all-append, cases_Bool, cases_lt, cond-true, cond-false, and_parts, and_from, ltb-true, lt-ltb, le-ltb, not_from_false, false_from_ne_true, both_ways, and_right, nat_tests, is_one_of, test_holds_of_each, Lacks, starts, has_authority, before_any, from_any, IsAbemptyPath, IsEmptyOrMarked, text-is-cut-at-first-mark, cut-at-end-of-text-without-marks, utf8_around_ascii_byte, is_empty, has_slash, remove_dot_segments, underflows, directory, IsAbsolute, dotless_if_absolute, guarded, encode_byte_past_ascii, encode_past_ascii, equal-to-true-is-IsTrue}
+use Rattle.std.specs.Prelude.{is_none as is_absent}
 use Rattle.uri_ops.proofs.Paths.Segments.{AllPass, dotless_of, parent}
 use Rattle.uri_ops.proofs.Paths.SlashedSegments.{slashed, NoSlashes, first-segment-and-rest-lack-slashes, remove-dots-by-segments, underflows-by-segments, directory-by-segments}
 use Rattle.uri_ops.proofs.Paths.DotLaws.{property-of-absolute-path-by-segments, rooted}
@@ -28,7 +11,6 @@ use Rattle.uri_ops.proofs.Paths.DotBytes.{single-dot-by-decoded-bytes, double-do
 use Rattle.uri_ops.proofs.Paths.DecodedStarts.{leading-slash-splits-off, second-slash-makes-two-slashes, no-leading-slash-no-two-slashes}
 use Rattle.uri_ops.proofs.Meanings.ComponentEnds.{is_outside_octets}
 use Rattle.uri_ops.proofs.AsciiForms.EncodedTokens.{octet_text, is_byte, byte-digits-have-its-value, utf8-of-character-is-bytes, encoded-text-is-utf8, encoding-keeps-decoded-bytes}
-use Rattle.uri_parts.proofs.Splitting.Recompose.{equal-to-true-is-IsTrue}
 
 -- IRIs as URIs: characters past ASCII are encoded byte by byte, so in each half of a text
 pub encoding-of-append-is-append : (x y : List ℕ) → encode_past_ascii (x ++ y)
@@ -90,8 +72,7 @@ module _ (p : ℕ → Bool) (percent : p 37 ≡ true)
   encoded-bytes-pass-test (b ∷ text) e f =
       let q = and_parts (is_byte b) (list_all is_byte text) e in
       let r = and_parts (p b) (list_all p text) f in
-      ⊎_elim
-      (λ h. ap (list_all p) (encoding-starts-with-ascii-byte b text h)
+      ⊎_elim (λ h. ap (list_all p) (encoding-starts-with-ascii-byte b text h)
       ∙ and_from _ _ r.0 (encoded-bytes-pass-test text q.1 r.1))
       (λ h. ap (list_all p) (encoding-starts-with-octet b text h)
       ∙ list_all-append p (octet_text b) (encode_past_ascii text) ∙ and_from _ _
@@ -103,24 +84,20 @@ module _ (p : ℕ → Bool) (percent : p 37 ≡ true)
   encoding-keeps-tests text u e = encoded-bytes-pass-test text (utf8-text-is-bytes text u) e
 
 -- IRIs as URIs: a character that an octet may be made of is none of the delimiters that octets lack
-character-of-octets-is-no-delimiter : (marks : List ℕ) → list_all is_outside_octets marks
-    ≡ true → (c : ℕ)
-    → is_outside_octets c ≡ false → is_one_of marks c ≡ false
+character-of-octets-is-no-delimiter : (marks : List ℕ) → list_all is_outside_octets marks ≡ true
+    → (c : ℕ) → is_outside_octets c ≡ false → is_one_of marks c ≡ false
 character-of-octets-is-no-delimiter marks e c f = false_from_ne_true _
     (λ m. both_ways _ f (test_holds_of_each is_outside_octets marks e c m))
 
 -- IRIs as URIs: a text without some delimiters lacks them after
 -- its characters past ASCII are encoded too
 pub encoding-keeps-lacked-delimiters : (marks : List ℕ) → list_all is_outside_octets marks ≡ true
-    → (text : List ℕ)
-    → IsUtf8 text → Lacks marks text → Lacks marks (encode_past_ascii text)
-encoding-keeps-lacked-delimiters marks not_in_octets text u lacks =
-    test-of-delimiters-gives-lacks marks (encode_past_ascii text)
-    (encoding-keeps-tests (λ c. not (is_one_of marks c))
+    → (text : List ℕ) → IsUtf8 text → Lacks marks text → Lacks marks (encode_past_ascii text)
+encoding-keeps-lacked-delimiters marks not_in_octets text u lacks = test-of-delimiters-gives-lacks
+    marks (encode_past_ascii text) (encoding-keeps-tests (λ c. not (is_one_of marks c))
     (not_from_false _ (character-of-octets-is-no-delimiter marks not_in_octets 37 refl))
     (λ c h. not_from_false _ (character-of-octets-is-no-delimiter marks not_in_octets c
-    (hex_other c h))) text u
-    (lacked-delimiters-fail-test marks text lacks))
+    (hex_other c h))) text u (lacked-delimiters-fail-test marks text lacks))
   where
     hex_other : (c : ℕ) → is_ascii_hexdigit c ≡ true → is_outside_octets c ≡ false
     hex_other c h = ap (λ t. nat_lt c 128 && (not t && not (eqb c 37))) h ∙ and_right _ _ refl
@@ -129,11 +106,10 @@ encoding-keeps-lacked-delimiters marks not_in_octets text u lacks =
 pub encoding-keeps-leading-delimiter : (mark : ℕ) → is_outside_octets mark ≡ true → (x : List ℕ)
     → starts mark (encode_past_ascii x) ≡ starts mark x
 encoding-keeps-leading-delimiter mark not_in_octets [] = ap (starts mark) encoding-of-nil-is-nil
-encoding-keeps-leading-delimiter mark not_in_octets (b ∷ x) = ⊎_elim
-    (λ h. ap (starts mark) (encoding-starts-with-ascii-byte b x h))
-    (λ h. ap (starts mark) (encoding-starts-with-octet b x h) ∙ percent mark not_in_octets
-    ∙ sym (past mark b not_in_octets h))
-    (cases_lt b 128)
+encoding-keeps-leading-delimiter mark not_in_octets (b ∷ x) =
+    ⊎_elim (λ h. ap (starts mark) (encoding-starts-with-ascii-byte b x h))
+    (λ h. ap (starts mark) (encoding-starts-with-octet b x h)
+    ∙ percent mark not_in_octets ∙ sym (past mark b not_in_octets h)) (cases_lt b 128)
   where
     percent : (mark : ℕ) → is_outside_octets mark ≡ true → eqb 37 mark ≡ false
     percent mark e = grind (arith, nat_tests)
@@ -162,8 +138,7 @@ encoding-keeps-two-slashes x = grind (
 
 -- IRIs as URIs: a text that is empty or begins with a delimiter is so when encoded
 encoding-keeps-empty-or-delimited : (marks : List ℕ) → list_all is_outside_octets marks ≡ true
-    → (x : List ℕ)
-    → IsEmptyOrMarked marks x → IsEmptyOrMarked marks (encode_past_ascii x)
+    → (x : List ℕ) → IsEmptyOrMarked marks x → IsEmptyOrMarked marks (encode_past_ascii x)
 encoding-keeps-empty-or-delimited marks not_in_octets [] begins = subst (IsEmptyOrMarked marks)
     (sym encoding-of-nil-is-nil) tt
 encoding-keeps-empty-or-delimited marks not_in_octets (c ∷ x) begins =
@@ -171,16 +146,13 @@ encoding-keeps-empty-or-delimited marks not_in_octets (c ∷ x) begins =
 
 -- IRIs as URIs: encoding a text and cutting it at the first of some delimiters may swap
 pub encoding-and-cutting-swap : (marks : List ℕ) → list_all is_outside_octets marks ≡ true
-    → (x : List ℕ)
-    → IsUtf8 x
-    → IsUtf8 (before_any marks x)
+    → (x : List ℕ) → IsUtf8 x → IsUtf8 (before_any marks x)
     → (before_any marks (encode_past_ascii x) ≡ encode_past_ascii (before_any marks x))
     × (from_any marks (encode_past_ascii x) ≡ encode_past_ascii (from_any marks x))
 encoding-and-cutting-swap marks not_in_octets x u v =
     let cut = text-is-cut-at-first-mark _ x in
-    let whole : encode_past_ascii x ≡ encode_past_ascii (before_any marks x)
-    ++ encode_past_ascii (from_any marks x) = ap encode_past_ascii (sym cut.whole)
-    ∙ encoding-of-append-is-append _ _ in
+    let whole : encode_past_ascii x ≡ encode_past_ascii (before_any marks x) ++ encode_past_ascii
+    (from_any marks x) = ap encode_past_ascii (sym cut.whole) ∙ encoding-of-append-is-append _ _ in
     let parts = cut-at-end-of-text-without-marks _ _ _
     (encoding-keeps-lacked-delimiters _ not_in_octets _ v cut.lacks)
     (encoding-keeps-empty-or-delimited _ not_in_octets _ cut.begins) in
@@ -207,8 +179,7 @@ segments-of-joined-utf8-are-utf8 s (t ∷ rest) u = let p = utf8_around_ascii_by
 
 -- IRIs as URIs, paths: each segment of a path in UTF-8 is UTF-8
 pub segments-of-utf8-path-are-utf8 : (s : List ℕ) (rest : List (List ℕ))
-    → IsUtf8 (slashed (s ∷ rest))
-    → AllPass is_utf8 (s ∷ rest)
+    → IsUtf8 (slashed (s ∷ rest)) → AllPass is_utf8 (s ∷ rest)
 unfolding slashed
 segments-of-utf8-path-are-utf8 s rest u = segments-of-joined-utf8-are-utf8 s rest
     (utf8_around_ascii_byte [] 47 (s ++ slashed rest) (lit< tt) u).1
@@ -245,14 +216,12 @@ encoded-segments-lack-slashes (s ∷ rest) e f =
 -- IRIs as URIs: removing the dot segments of a path and encoding it may swap
 removing-dots-and-encoding-swap : (path : List ℕ) → IsAbsolute path → IsUtf8 path
     → remove_dot_segments (encode_past_ascii path) ≡ encode_past_ascii (remove_dot_segments path)
-removing-dots-and-encoding-swap = property-of-absolute-path-by-segments _
-    (λ s rest f u.
+removing-dots-and-encoding-swap = property-of-absolute-path-by-segments _ (λ s rest f u.
     let p = segments-of-utf8-path-are-utf8 s _ u in
     ap remove_dot_segments (encoding-of-slashed-is-by-segment _)
-    ∙ remove-dots-by-segments _
-    (encoded-segments-lack-slashes (s ∷ rest) p f)
-    ∙ ap slashed (dotless_of-and-map-swap encode_past_ascii is_utf8 encoding-keeps-dot-segments
-    encoding-of-nil-is-nil (s ∷ rest) p)
+    ∙ remove-dots-by-segments _ (encoded-segments-lack-slashes (s ∷ rest) p f)
+    ∙ ap slashed (dotless_of-and-map-swap encode_past_ascii
+    is_utf8 encoding-keeps-dot-segments encoding-of-nil-is-nil (s ∷ rest) p)
     ∙ sym (encoding-of-slashed-is-by-segment (dotless_of (s ∷ rest)))
     ∙ sym (ap encode_past_ascii (remove-dots-by-segments (s ∷ rest) f)))
 
@@ -260,35 +229,26 @@ removing-dots-and-encoding-swap = property-of-absolute-path-by-segments _
 -- after its characters past ASCII are encoded
 pub encoding-keeps-underflow : (path : List ℕ) → IsAbsolute path → IsUtf8 path
     → underflows (encode_past_ascii path) ≡ underflows path
-encoding-keeps-underflow = property-of-absolute-path-by-segments _
-    (λ s rest f u.
+encoding-keeps-underflow = property-of-absolute-path-by-segments _ (λ s rest f u.
     let p = segments-of-utf8-path-are-utf8 s _ u in
     ap underflows (encoding-of-slashed-is-by-segment _)
-    ∙ underflows-by-segments _
-    (encoded-segments-lack-slashes (s ∷ rest) p f)
+    ∙ underflows-by-segments _ (encoded-segments-lack-slashes (s ∷ rest) p f)
     ∙ underflows_over-of-mapped-segments _ _ encoding-keeps-dot-segments _
-    [] _ p
-    ∙ sym (underflows-by-segments _ f))
+    [] _ p ∙ sym (underflows-by-segments _ f))
 
 -- IRIs as URIs: the directory of a path, encoded, is the directory of the encoded path
 pub directory-and-encoding-swap : (path : List ℕ) → IsAbemptyPath path → IsUtf8 path
     → directory (encode_past_ascii path) ≡ encode_past_ascii (directory path)
 unfolding directory
-directory-and-encoding-swap = rooted _
-    (λ u. ap directory encoding-of-nil-is-nil
-    ∙ sym (encoding-starts-with-ascii-byte 47 [] (lit< tt)
-    ∙ ap (λ t. 47 ∷ t) encoding-of-nil-is-nil))
-    (property-of-absolute-path-by-segments _
-    (λ s rest f u.
+directory-and-encoding-swap = rooted _ (λ u. ap directory encoding-of-nil-is-nil ∙ sym
+    (encoding-starts-with-ascii-byte 47 [] (lit< tt) ∙ ap (λ t. 47 ∷ t) encoding-of-nil-is-nil))
+    (property-of-absolute-path-by-segments _ (λ s rest f u.
     let p = segments-of-utf8-path-are-utf8 s _ u in
     ap directory (encoding-of-slashed-is-by-segment _)
-    ∙ directory-by-segments _ _
-    (encoded-segments-lack-slashes (s ∷ rest) p f)
-    ∙ ap (λ t. slashed (t ++ [] ∷ []))
-    (parent-and-map-swap _ _ encoding-keeps-dot-segments _ p)
+    ∙ directory-by-segments _ _ (encoded-segments-lack-slashes (s ∷ rest) p f)
+    ∙ ap (λ t. slashed (t ++ [] ∷ [])) (parent-and-map-swap _ _ encoding-keeps-dot-segments _ p)
     ∙ ap (λ t. slashed (map encode_past_ascii (parent (s ∷ rest)) ++ t ∷ []))
-    (sym encoding-of-nil-is-nil)
-    ∙ ap slashed (sym (map-append encode_past_ascii _ _))
+    (sym encoding-of-nil-is-nil) ∙ ap slashed (sym (map-append encode_past_ascii _ _))
     ∙ sym (encoding-of-slashed-is-by-segment _)
     ∙ sym (ap encode_past_ascii (directory-by-segments s _ f))))
 
@@ -298,24 +258,20 @@ pub dotless_if_absolute-and-encoding-swap : (path : List ℕ) → IsUtf8 path
     → dotless_if_absolute (encode_past_ascii path) ≡ encode_past_ascii (dotless_if_absolute path)
 dotless_if_absolute-and-encoding-swap path u =
     let first = encoding-keeps-leading-delimiter 47 refl path in
-    ⊎_elim
-    (λ e. cond-true _ _ _ (first ∙ e) ∙ removing-dots-and-encoding-swap path
-    (equal-to-true-is-IsTrue _ e) u
-    ∙ ap encode_past_ascii (sym (cond-true _ _ _ e)))
-    (λ e. cond-false _ _ _ (first ∙ e) ∙ ap encode_past_ascii (sym (cond-false _ _ _ e)))
-    (cases_Bool (starts 47 path))
+    ⊎_elim (λ e. cond-true _ _ _ (first ∙ e)
+    ∙ removing-dots-and-encoding-swap path (equal-to-true-is-IsTrue _ e) u
+    ∙ ap encode_past_ascii (sym (cond-true _ _ _ e))) (λ e. cond-false _ _ _ (first ∙ e)
+    ∙ ap encode_past_ascii (sym (cond-false _ _ _ e))) (cases_Bool (starts 47 path))
 
 -- IRIs as URIs: putting the guard `/.` before a path and encoding it may swap
 pub guarding-and-encoding-swap : (authority other : Option (List ℕ)) (path : List ℕ)
     → is_absent other ≡ is_absent authority
     → guarded other (encode_past_ascii path) ≡ encode_past_ascii (guarded authority path)
 guarding-and-encoding-swap authority other path e =
-    let same : (is_absent other && has_authority (encode_past_ascii path))
-    ≡ (is_absent authority && has_authority path) =
-    ap (λ t. t && has_authority (encode_past_ascii path)) e
+    let same : (is_absent other && has_authority (encode_past_ascii path)) ≡ (is_absent authority
+    && has_authority path) = ap (λ t. t && has_authority (encode_past_ascii path)) e
     ∙ ap (λ t. is_absent authority && t) (encoding-keeps-two-slashes path) in
-    ⊎_elim
-    (λ h. cond-true _ _ _ (same ∙ h)
+    ⊎_elim (λ h. cond-true _ _ _ (same ∙ h)
     ∙ sym (ap encode_past_ascii (cond-true _ _ _ h) ∙ encoding-of-append-is-append (codes "/.") path
     ∙ ap (λ t. t ++ encode_past_ascii path) (ascii-text-is-its-own-encoding (codes "/.") refl)))
     (λ h. cond-false _ _ _ (same ∙ h) ∙ ap encode_past_ascii (sym (cond-false _ _ _ h)))

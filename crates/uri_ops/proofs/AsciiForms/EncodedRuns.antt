@@ -1,18 +1,13 @@
 -- The bytes of a text are encoded in runs.
-use Rattle.std.proofs.Common.{◌≡◌, ℕ, zero, suc, ◌+◌, ◌-◌, ◌<◌, ◌≤◌, List, [], ◌∷◌, ◌++◌, length, get_or, take, drop, sym, ap, subst, ◌∙◌, arith, append_assoc}
-use Rattle.std.proofs.Math.Seq.{take-add}
-use Rattle.std.proofs.lemmas.List.{append-nil, length-append, length-drop, take_all}
-use Rattle.std.proofs.lemmas.Bool.Decides.{nat_tests}
-use Rattle.uri_ops.specs.Encoded.{encode_past_ascii}
+use Rattle.uri_ops.proofs.Common.{◌≡◌, ℕ, zero, suc, ◌+◌, ◌-◌, ◌<◌, ◌≤◌, List, [], ◌∷◌, ◌++◌, length, get_or, take, drop, sym, ap, subst, ◌∙◌, arith, append_assoc, take-add, append-nil, length-append, length-drop, take_all, nat_tests, encode_past_ascii}
 use Rattle.uri_ops.proofs.AsciiForms.EncodedTokens.{octet_text}
 use Rattle.uri_ops.proofs.AsciiForms.EncodedPaths.{encoding-of-append-is-append, encoding-of-nil-is-nil, encoding-starts-with-ascii-byte, encoding-starts-with-octet}
 use Rattle.uri_ops.proofs.Paths.DotStarts.{take-one-more-byte}
 
 -- IRIs as URIs: if a prefix is its own encoding, and the next byte is ASCII,
 -- the prefix with it is too
-pub ascii-prefix-grows-by-byte : (bytes : List ℕ) (i : ℕ) → i < length bytes
-    → get_or bytes i 0 < 128
-    → encode_past_ascii (take i bytes) ≡ take i bytes
+pub ascii-prefix-grows-by-byte : (bytes : List ℕ) (i : ℕ)
+    → i < length bytes → get_or bytes i 0 < 128 → encode_past_ascii (take i bytes) ≡ take i bytes
     → encode_past_ascii (take (i + 1) bytes) ≡ take (i + 1) bytes
 ascii-prefix-grows-by-byte bytes i h low e =
     let m = take-one-more-byte bytes i h in
@@ -23,9 +18,8 @@ ascii-prefix-grows-by-byte bytes i h low e =
 
 -- IRIs as URIs: the encoding of a prefix, and an ASCII run after it, is the encoding of both
 pub encoding-grows-by-ascii-run : (bytes : List ℕ) (i n : ℕ)
-    → encode_past_ascii (take n (drop i bytes)) ≡ take n (drop i bytes)
-    → encode_past_ascii (take (i + n) bytes) ≡ encode_past_ascii (take i bytes) ++ take n
-    (drop i bytes)
+    → encode_past_ascii (take n (drop i bytes)) ≡ take n (drop i bytes) → encode_past_ascii
+    (take (i + n) bytes) ≡ encode_past_ascii (take i bytes) ++ take n (drop i bytes)
 encoding-grows-by-ascii-run bytes i n e =
     grind (arith, nat_tests, take-add, encoding-of-append-is-append)
 
@@ -60,9 +54,8 @@ ascii-byte-adds-one bytes i h low =
     ∙ ap (λ t. get_or bytes i 0 ∷ t) encoding-of-nil-is-nil)) ∙ length-append more _
 
 -- IRIs as URIs: a byte past ASCII makes the encoded text three bytes longer
-pub byte-past-ascii-adds-three : (bytes : List ℕ) (i : ℕ) → i < length bytes
-    → 128 ≤ get_or bytes i 0
-    → length (encode_past_ascii (take (i + 1) bytes))
+pub byte-past-ascii-adds-three : (bytes : List ℕ) (i : ℕ)
+    → i < length bytes → 128 ≤ get_or bytes i 0 → length (encode_past_ascii (take (i + 1) bytes))
     ≡ length (encode_past_ascii (take i bytes)) + 3
 byte-past-ascii-adds-three bytes i h high = ap length (encoding-grows-by-octet bytes i h high)
     ∙ length-append (encode_past_ascii (take i bytes)) (octet_text (get_or bytes i 0))
@@ -87,9 +80,8 @@ pushed-ascii-run-is-encoding old out new bytes i n all_are_ascii o e =
 -- IRIs as URIs: appending the `%XX` of byte i continues the encoded text:
 -- old is what was there, bytes what is encoded
 pub pushed-octet-is-encoding : (old mid new bytes : List ℕ) (i : ℕ) → i < length bytes
-    → 128 ≤ get_or bytes i 0
-    → mid ≡ old ++ encode_past_ascii (take i bytes) → new ≡ mid ++ octet_text (get_or bytes i 0)
-    → new ≡ old ++ encode_past_ascii (take (i + 1) bytes)
+    → 128 ≤ get_or bytes i 0 → mid ≡ old ++ encode_past_ascii (take i bytes) → new
+    ≡ mid ++ octet_text (get_or bytes i 0) → new ≡ old ++ encode_past_ascii (take (i + 1) bytes)
 pushed-octet-is-encoding old mid new bytes i h high o e =
     grind (arith, nat_tests, octet_text, append_assoc, encoding-grows-by-octet)
 
@@ -98,9 +90,8 @@ pub nothing-pushed-is-encoding : (old : List ℕ) → old ≡ old ++ encode_past
 nothing-pushed-is-encoding old = sym (ap (λ t. old ++ t) encoding-of-nil-is-nil ∙ append-nil old)
 
 -- IRIs as URIs: a run of n bytes that begins at i ends within the bytes
-pub end-of-run-is-within-bytes : (bytes : List ℕ) (i n : ℕ) → i ≤ length bytes
-    → n ≤ length (slice_from bytes i)
-    → i + n ≤ length bytes
+pub end-of-run-is-within-bytes : (bytes : List ℕ) (i n : ℕ)
+    → i ≤ length bytes → n ≤ length (slice_from bytes i) → i + n ≤ length bytes
 end-of-run-is-within-bytes bytes i n h k = grind (arith, nat_tests, slice_from-is-drop, length-drop)
 
 pub ruleset encoded_runs = (

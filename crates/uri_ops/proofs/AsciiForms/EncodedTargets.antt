@@ -1,19 +1,5 @@
 -- Without characters past ASCII a base and a reference come to the same target without them.
-use Rattle.std.proofs.Common.{◌≡◌, ℕ, Bool, true, false, cond, List, [], ◌∷◌, ◌++◌, refl, sym, ap, subst, ◌∙◌, ◌&&◌, ⊎_elim, option_map, arith}
-use Rattle.std.specs.Prelude.{Option, Some, None, Result, Ok, Err, is_some, is_none, is_ok}
-use Rattle.std.specs.Result.{result_map_both}
-use Rattle.std.specs.List.{list_all}
-use Rattle.std.specs.Str.{IsUtf8, is_utf8}
-use Rattle.std.proofs.lemmas.Str.{IsUtf8-append, IsUtf8-nil, IsUtf8-from_is_utf8, is_utf8-from_IsUtf8}
-use Rattle.std.proofs.lemmas.Bool.{cases_Bool, cond_both, and_parts, and_from, and_left, false≢true}
-use Rattle.std.proofs.lemmas.Bool.Decides.{nat_tests}
-use Rattle.uri_parts.specs.Components.{Components, starts, IsAbemptyPath, components, recompose}
-use Rattle.uri_parts.proofs.Splitting.Recompose.{components-are-split-of-text, equal-to-true-is-IsTrue, components_of_parts}
-use Rattle.uri_ops.specs.Dots.{is_empty, underflows, directory}
-use Rattle.uri_ops.specs.Target.{TargetError, is_opaque_rejection, merged, dotted_target, dotless_if_absolute, guarded, target_of, target_underflows, resolution_of}
-use Rattle.uri_ops.specs.Encoded.{encode_past_ascii}
-use Rattle.uri_ops.specs.Resolving.{IsTargetOfEncoded, IsErrorForEncoded, IsTarget, IsErrorFor}
-use Rattle.uri_ops.specs.declared.resolve.error.ResolveError.{ResolveError}
+use Rattle.uri_ops.proofs.Common.{◌≡◌, ℕ, Bool, true, false, cond, List, [], ◌∷◌, ◌++◌, refl, sym, ap, subst, ◌∙◌, ◌&&◌, ⊎_elim, option_map, arith, Option, Some, None, Result, Ok, Err, is_some, is_none, is_ok, result_map_both, list_all, IsUtf8, is_utf8, IsUtf8-append, IsUtf8-nil, IsUtf8-from_is_utf8, is_utf8-from_IsUtf8, cases_Bool, cond_both, and_parts, and_from, and_left, false≢true, nat_tests, Components, starts, IsAbemptyPath, components, recompose, components-are-split-of-text, equal-to-true-is-IsTrue, components_of_parts, is_empty, underflows, directory, TargetError, is_opaque_rejection, merged, dotted_target, dotless_if_absolute, guarded, target_of, target_underflows, resolution_of, encode_past_ascii, IsTargetOfEncoded, IsErrorForEncoded, IsTarget, IsErrorFor, ResolveError, is_none-option_map, is_some-option_map, not_some_is_none}
 use Rattle.uri_ops.proofs.Paths.Segments.{AllPass, appended-segments-pass-test}
 use Rattle.uri_ops.proofs.Paths.SlashedSegments.{slashed, directory-by-segments, parent-segments-pass-test}
 use Rattle.uri_ops.proofs.Paths.DotLaws.{property-of-absolute-path-by-segments, rooted}
@@ -23,7 +9,6 @@ use Rattle.uri_ops.proofs.Targeting.Swaps.{merging-base-is-not-opaque, base-that
 use Rattle.uri_ops.proofs.AsciiForms.EncodedPaths.{encoding-of-append-is-append, encoding-keeps-leading-delimiter, encoding-keeps-emptiness, segments-of-utf8-path-are-utf8, encoding-keeps-underflow, directory-and-encoding-swap, dotless_if_absolute-and-encoding-swap, guarding-and-encoding-swap}
 use Rattle.uri_ops.proofs.AsciiForms.EncodedComponents.{encoded_components, encoding-and-recomposing-swap, components-of-encoded-text-are-encoded}
 use Rattle.uri_ops.proofs.Targeting.RefusalOrder.{result_or_target_error, map-of-result_or_error, rejected-results-are-equal, ok-result-has-no-opaque-rejection}
-use Rattle.uri_pct.proofs.General.{is_none-option_map, is_some-option_map, not_some_is_none}
 use Rattle.uri_ops.specs.declared.resolve.error.ResolveError.TheVariants as Of
 
 -- IRIs as URIs, paths: segments in UTF-8, all but the first after a `/`, are UTF-8 together
@@ -61,8 +46,7 @@ directory-of-utf8-is-utf8 = rooted (λ path. IsUtf8 path → IsUtf8 (directory p
 -- is encoded as that query is
 choosing-query-and-encoding-swap : (q base : Option (List ℕ))
     → cond (is_some (option_map encode_past_ascii q)) (option_map encode_past_ascii q)
-    (option_map encode_past_ascii base)
-    ≡ option_map encode_past_ascii (cond (is_some q) q base)
+    (option_map encode_past_ascii base) ≡ option_map encode_past_ascii (cond (is_some q) q base)
 choosing-query-and-encoding-swap None base = refl
 choosing-query-and-encoding-swap (Some x) base = refl
 
@@ -74,12 +58,9 @@ merging-and-encoding-swap path p h u =
 
 -- IRIs as URIs: a reference without scheme and authority (p, q, f: its path, query and fragment)
 -- has the same target before dot segments are removed, encoded
-dotted_target-of-encoded-without-authority : (base : Components) (p : List ℕ)
-    (q f : Option (List ℕ))
-    → AreUtf8 base
-    → (is_empty p ≡ false → IsAbemptyPath base.path)
-    → dotted_target (encoded_components base)
-    (encoded_components (components_of_parts None None p q f))
+dotted_target-of-encoded-without-authority : (base : Components) (p : List ℕ) (q f : Option
+    (List ℕ)) → AreUtf8 base → (is_empty p ≡ false → IsAbemptyPath base.path) → dotted_target
+    (encoded_components base) (encoded_components (components_of_parts None None p q f))
     ≡ encoded_components (dotted_target base (components_of_parts None None p q f))
 dotted_target-of-encoded-without-authority base p q f u rooted = grind (
   arith,
@@ -104,9 +85,8 @@ dotted_target-of-encoded-components base None None p q f u rooted =
     grind (arith, nat_tests, dotted_target-of-encoded-without-authority)
 
 -- IRIs as URIs, targets: the path of a target, before its dot segments are removed, is UTF-8
-dotted_target-path-is-utf8 : (base r : Components) → AreUtf8 base → AreUtf8 r
-    → (is_none r.scheme ≡ true → is_empty r.path ≡ false → IsAbemptyPath base.path)
-    → IsUtf8 (dotted_target base r).path
+dotted_target-path-is-utf8 : (base r : Components) → AreUtf8 base → AreUtf8 r → (is_none r.scheme
+    ≡ true → is_empty r.path ≡ false → IsAbemptyPath base.path) → IsUtf8 (dotted_target base r).path
 dotted_target-path-is-utf8 base r u v rooted =
     cond_both (is_some r.scheme) r _ (λ (t : Components). IsUtf8 t.path) (λ _. v.path)
     (λ s. cond_both (is_some r.authority) _ _ (λ (t : Components). IsUtf8 t.path) (λ _. v.path)
@@ -133,9 +113,8 @@ guarding-dotless-path-and-encoding-swap t u =
 
 -- IRIs as URIs: encoded components resolve to the encoded target; r: the reference
 target_of-encoded-components : (base r : Components) → AreUtf8 base → AreUtf8 r
-    → (is_none r.scheme ≡ true → is_empty r.path ≡ false → IsAbemptyPath base.path)
-    → target_of (encoded_components base) (encoded_components r)
-    ≡ encoded_components (target_of base r)
+    → (is_none r.scheme ≡ true → is_empty r.path ≡ false → IsAbemptyPath base.path) → target_of
+    (encoded_components base) (encoded_components r) ≡ encoded_components (target_of base r)
 unfolding with_guarded_dotless_path
 target_of-encoded-components base r u v rooted =
     ap with_guarded_dotless_path (dotted_target-of-encoded-components _ _ _ _ _ _ u rooted)
@@ -143,9 +122,8 @@ target_of-encoded-components base r u v rooted =
 
 -- IRIs as URIs: encoding base and reference (r) doesn't change
 -- whether an opaque base rejects the reference
-encoding-keeps-opaque-rejection : (base r : Components)
-    → is_opaque_rejection (encoded_components base) (encoded_components r)
-    ≡ is_opaque_rejection base r
+encoding-keeps-opaque-rejection : (base r : Components) → is_opaque_rejection
+    (encoded_components base) (encoded_components r) ≡ is_opaque_rejection base r
 encoding-keeps-opaque-rejection base r = grind (
   arith,
   nat_tests,
@@ -157,10 +135,9 @@ encoding-keeps-opaque-rejection base r = grind (
 )
 
 -- IRIs as URIs, targets: the path of a base with which a path is merged is empty or begins with `/`
-accepting-base-path-is-rooted : (b t : List ℕ) → is_opaque_rejection (components b) (components t)
-    ≡ false
-    → is_none (components t).scheme ≡ true → is_empty (components t).path ≡ false
-    → IsAbemptyPath (components b).path
+accepting-base-path-is-rooted : (b t : List ℕ)
+    → is_opaque_rejection (components b) (components t) ≡ false → is_none (components t).scheme
+    ≡ true → is_empty (components t).path ≡ false → IsAbemptyPath (components b).path
 accepting-base-path-is-rooted b t e s p = base-that-is-not-opaque-has-abempty-path _ _
     (merging-base-is-not-opaque (components b) (components t) e s p)
     (components-are-split-of-text b).authority
@@ -181,12 +158,11 @@ resolving-and-encoding-swap b t u v =
     (components-of-utf8-are-utf8 t v) (accepting-base-path-is-rooted b t e))
     ∙ sym (encoding-and-recomposing-swap _) in
     ap (λ x. resolution_of x (components (encode_past_ascii t)))
-    (components-of-encoded-text-are-encoded b u) ∙ ap
-    (λ x. resolution_of (encoded_components base) x) (components-of-encoded-text-are-encoded t v)
-    ∙ ap (λ x. result_or_target_error x
-    (is_opaque_rejection (encoded_components base) (encoded_components r))
-    (recompose (target_of (encoded_components base) (encoded_components r)))) fragment ∙ ap
-    (λ x. result_or_target_error (is_some base.fragment) x
+    (components-of-encoded-text-are-encoded b u) ∙ ap (λ x. resolution_of
+    (encoded_components base) x) (components-of-encoded-text-are-encoded t v) ∙ ap (λ x.
+    result_or_target_error x (is_opaque_rejection (encoded_components base) (encoded_components r))
+    (recompose (target_of (encoded_components base) (encoded_components r)))) fragment
+    ∙ ap (λ x. result_or_target_error (is_some base.fragment) x
     (recompose (target_of (encoded_components base) (encoded_components r)))) opaque
     ∙ rejected-results-are-equal _ _ _ _ target ∙ sym (map-of-result_or_error _ _ _ _)
 
@@ -195,9 +171,8 @@ encoding-keeps-absolute-path-underflow : (path : List ℕ) → IsUtf8 path
     → (starts 47 (encode_past_ascii path) && underflows (encode_past_ascii path))
     ≡ (starts 47 path && underflows path)
 encoding-keeps-absolute-path-underflow path u = ap (λ x. x && underflows (encode_past_ascii path))
-    (encoding-keeps-leading-delimiter 47 refl path) ∙ ⊎_elim
-    (λ e. ap (λ x. starts 47 path && x)
-    (encoding-keeps-underflow path (equal-to-true-is-IsTrue _ e) u))
+    (encoding-keeps-leading-delimiter 47 refl path) ∙ ⊎_elim (λ e. ap
+    (λ x. starts 47 path && x) (encoding-keeps-underflow path (equal-to-true-is-IsTrue _ e) u))
     (λ e. and_left _ _ e ∙ sym (and_left _ _ e)) (cases_Bool (starts 47 path))
 
 -- IRIs as URIs: a target underflows exactly if the encoded target does; b, t: base and reference
@@ -212,10 +187,9 @@ encoding-keeps-target-underflow b t target u v e =
     let a = ok-result-has-no-opaque-rejection _ _ _ _ e in
     let merge = accepting-base-path-is-rooted b t a.0 in
     ap (λ x. target_underflows x (components (encode_past_ascii t)))
-    (components-of-encoded-text-are-encoded b u) ∙ ap
-    (λ x. target_underflows (encoded_components base) x)
-    (components-of-encoded-text-are-encoded t v) ∙ ap
-    (λ (x : Components). starts 47 x.path && underflows x.path)
+    (components-of-encoded-text-are-encoded b u) ∙ ap (λ x. target_underflows
+    (encoded_components base) x) (components-of-encoded-text-are-encoded t v)
+    ∙ ap (λ (x : Components). starts 47 x.path && underflows x.path)
     (dotted_target-of-encoded-components _ _ _ _ _ _ (components-of-utf8-are-utf8 b u) merge)
     ∙ encoding-keeps-absolute-path-underflow _ (dotted_target-path-is-utf8 _ r
     (components-of-utf8-are-utf8 b u) (components-of-utf8-are-utf8 t v) merge)

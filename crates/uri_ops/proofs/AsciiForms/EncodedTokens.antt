@@ -1,23 +1,8 @@
 -- The tokens of a text without characters past ASCII: the octets of each are in its place.
-use Rattle.std.proofs.Common.{◌≡◌, ℕ, ◌+◌, ◌*◌, ◌/◌, ◌%◌, ◌<◌, ◌≤◌, Bool, true, false, cond, eqb, ltb, List, [], ◌∷◌, ◌++◌, get_or, map, refl, sym, ap, subst, ◌∙◌, arith, ◌&&◌, ⊎_elim, append_assoc}
-use Rattle.std.specs.Char.{IsScalar, encode_utf8, digit_value, is_ascii_hexdigit}
-use Rattle.std.specs.Fmt.{digit_glyph}
-use Rattle.std.specs.List.{list_all, flat_map}
-use Rattle.std.specs.Str.{chars, IsUtf8, encode_utf8_all, all_scalars}
-use Rattle.std.proofs.lemmas.Str.{chars-encodes, chars-IsAscii, encode_ascii}
-use Rattle.std.proofs.lemmas.List.{append-nil}
-use Rattle.std.proofs.lemmas.List.Concat.{flat_map-append}
-use Rattle.std.proofs.lemmas.List.Folds.{list_all-append}
-use Rattle.std.proofs.lemmas.Bool.{cases_Bool, cases_lt, agree_below_at, cond-true, cond-false, and_left, and_right, and_from, and_parts, eqb-true, ltb-true, lt-ltb, le-ltb}
-use Rattle.std.proofs.lemmas.Bool.Decides.{nat_tests}
-use Rattle.uri_pct.specs.Tokens.{Token, Char, Octet, tokens, tokens_from_chars, bytes_decoded_from, bytes_of_one_token, is_pct_encoded, text_of_token}
-use Rattle.uri_pct.specs.Prefixes.{begins_with_hex_digits}
-use Rattle.uri_pct.proofs.Unicode.Characters.{char_has_encoding, is_no_ascii_byte, char_past_ascii_begins_past_ascii, hexdigit_is_ascii}
-use Rattle.uri_ops.specs.Encoded.{encode_byte_past_ascii, encode_past_ascii}
+use Rattle.uri_ops.proofs.Common.{◌≡◌, ℕ, ◌+◌, ◌*◌, ◌/◌, ◌%◌, ◌<◌, ◌≤◌, Bool, true, false, cond, eqb, ltb, List, [], ◌∷◌, ◌++◌, get_or, map, refl, sym, ap, subst, ◌∙◌, arith, ◌&&◌, ⊎_elim, append_assoc, IsScalar, encode_utf8, digit_value, is_ascii_hexdigit, digit_glyph, list_all, flat_map, chars, IsUtf8, encode_utf8_all, all_scalars, chars-encodes, chars-IsAscii, encode_ascii, append-nil, flat_map-append, list_all-append, cases_Bool, cases_lt, agree_below_at, cond-true, cond-false, and_left, and_right, and_from, and_parts, eqb-true, ltb-true, lt-ltb, le-ltb, nat_tests, Token, Char, Octet, tokens, tokens_from_chars, bytes_decoded_from, bytes_of_one_token, is_pct_encoded, text_of_token, begins_with_hex_digits, char_has_encoding, is_no_ascii_byte, char_past_ascii_begins_past_ascii, hexdigit_is_ascii, encode_byte_past_ascii, encode_past_ascii, chars_not_pct_encoded_begin_no_octet}
 use Rattle.uri_ops.proofs.Meanings.AsciiCharacters.{ascii-bytes-are-ascii-text, ascii-bytes-are-utf8}
 use Rattle.uri_pct.proofs.TableSets.Constants.{past_ascii_is_no_hexdigit}
 use Rattle.uri_pct.proofs.EncodedTexts.Encodings.{octets_decode_to_their_bytes}
-use Rattle.uri_pct.proofs.ValidTexts.Validity.{chars_not_pct_encoded_begin_no_octet}
 
 -- IRIs as URIs: the digits that a byte is written with are hexadecimal, and have its value
 abbrev has_two_hex_digits : ℕ → Bool
@@ -93,8 +78,7 @@ bytes-past-ascii-encode-to-octets (b ∷ bs) e =
 -- IRIs as URIs: the bytes of a character are encoded as the character is
 encoding-of-character-bytes : (c : ℕ) → flat_map encode_byte_past_ascii (encode_utf8 c)
     ≡ encoded_char c
-encoding-of-character-bytes c = ⊎_elim
-    (λ h. ap (flat_map encode_byte_past_ascii) (encode_ascii c h)
+encoding-of-character-bytes c = ⊎_elim (λ h. ap (flat_map encode_byte_past_ascii) (encode_ascii c h)
     ∙ append-nil (encode_byte_past_ascii c)
     ∙ cond-true _ _ _ (lt-ltb c 128 h) ∙ sym (cond-true _ _ _ (lt-ltb c 128 h)))
     (λ h. bytes-past-ascii-encode-to-octets _ (character-past-ascii-has-no-ascii-byte c h)
@@ -215,9 +199,8 @@ encoding-keeps-two-leading-hex-digits (c ∷ cs) = ⊎_elim
 -- IRIs as URIs: if the tokens of encoded characters are right,
 -- so they are with one more character that begins no octet
 tokens-of-encoded-character : (c : ℕ) (cs : List ℕ) → all_scalars (c ∷ cs) ≡ true
-    → (eqb c 37 && begins_with_hex_digits cs) ≡ false
-    → tokens_from_chars (encoded_chars cs) ≡ flat_map encoded_token (tokens_from_chars cs)
-    → tokens_from_chars (encoded_chars (c ∷ cs))
+    → (eqb c 37 && begins_with_hex_digits cs) ≡ false → tokens_from_chars (encoded_chars cs)
+    ≡ flat_map encoded_token (tokens_from_chars cs) → tokens_from_chars (encoded_chars (c ∷ cs))
     ≡ flat_map encoded_token (tokens_from_chars (c ∷ cs))
 unfolding encoded_chars
 tokens-of-encoded-character c cs s e ih = grind (
@@ -256,11 +239,10 @@ unfolding encoded_chars tokens_from_chars
 tokens-of-encoded-octet c h l rest e ih =
     let p = parts c h l e in
     ap (λ t. tokens_from_chars (t ++ (encoded_char h ++ (encoded_char l ++ encoded_chars rest))))
-    (cond-true _ _ _ (lt-ltb c 128 p.0))
-    ∙ ap (λ t. tokens_from_chars (c ∷ (t ++ (encoded_char l ++ encoded_chars rest))))
-    (cond-true _ _ _ (lt-ltb h 128 p.1))
-    ∙ ap (λ t. tokens_from_chars (c ∷ h ∷ (t ++ encoded_chars rest)))
-    (cond-true _ _ _ (lt-ltb l 128 p.2))
+    (cond-true _ _ _ (lt-ltb c 128 p.0)) ∙ ap (λ t. tokens_from_chars
+    (c ∷ (t ++ (encoded_char l ++ encoded_chars rest)))) (cond-true _ _ _ (lt-ltb h 128 p.1))
+    ∙ ap (λ t. tokens_from_chars (c ∷ h ∷ (t ++ encoded_chars rest))) (cond-true _ _ _
+    (lt-ltb l 128 p.2))
     ∙ cond-true _ _ _ e ∙ ap (λ ts. Octet (16 * digit_value h + digit_value l) ∷ ts) ih
     ∙ sym (ap (flat_map encoded_token) (cond-true _ _ _ e))
   where
@@ -288,11 +270,9 @@ tokens-of-encoded-characters (c ∷ h ∷ l ∷ rest) s =
     let p = and_parts _ (all_scalars (h ∷ l ∷ rest)) s in
     let q = and_parts _ (all_scalars (l ∷ rest)) p.1 in
     let r = and_parts _ (all_scalars rest) q.1 in
-    ⊎_elim
-    (λ e. tokens-of-encoded-octet c h l rest e (tokens-of-encoded-characters rest r.1))
-    (λ e. tokens-of-encoded-character c (h ∷ l ∷ rest) s
-    (chars_not_pct_encoded_begin_no_octet c h l rest e)
-    (tokens-of-encoded-characters (h ∷ l ∷ rest) p.1)) (cases_Bool (is_pct_encoded c h l))
+    ⊎_elim (λ e. tokens-of-encoded-octet c h l rest e (tokens-of-encoded-characters rest r.1))
+    (λ e. tokens-of-encoded-character c (h ∷ l ∷ rest) s (chars_not_pct_encoded_begin_no_octet c h
+    l rest e) (tokens-of-encoded-characters (h ∷ l ∷ rest) p.1)) (cases_Bool (is_pct_encoded c h l))
 
 -- IRIs as URIs: the tokens of an encoded text are those of the text, each encoded
 pub tokens-of-encoded-text : (text : List ℕ) → IsUtf8 text
@@ -303,9 +283,8 @@ tokens-of-encoded-text text u =
     ∙ encoding-is-character-by-character u.0 in
     ap tokens_from_chars (chars-IsAscii (encode_past_ascii text)
     (ascii-bytes-are-ascii-text (encode_past_ascii text) (encoded-text-is-ascii text u)) ∙ joined)
-    ∙ tokens-of-encoded-characters u.0 u.1.0
-    ∙ ap (λ cs. flat_map encoded_token (tokens_from_chars cs))
-    (sym (ap chars same ∙ chars-encodes u.0 u.1.0))
+    ∙ tokens-of-encoded-characters u.0 u.1.0 ∙ ap (λ cs. flat_map encoded_token
+    (tokens_from_chars cs)) (sym (ap chars same ∙ chars-encodes u.0 u.1.0))
 
 -- IRIs as URIs: an encoded token decodes to the bytes of the token
 encoded-token-has-same-bytes : (t : Token) → bytes_decoded_from (encoded_token t)

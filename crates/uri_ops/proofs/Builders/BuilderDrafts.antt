@@ -1,18 +1,5 @@
 -- What each step of a builder makes of its draft: the text of the parts so changed.
-use Rattle.std.proofs.Common.{◌≡◌, ℕ, Bool, true, false, List, ◌++◌, length, sym, ap, ◌∙◌, append_assoc, refl, string_bytes, arith}
-use Rattle.std.specs.Prelude.{codes, Some, is_none}
-use Rattle.std.specs.Str.{IsUtf8}
-use Rattle.std.proofs.lemmas.Str.{is_utf8-from_IsUtf8}
-use Rattle.std.proofs.lemmas.Bool.{and_parts, and_from, false≢true}
-use Rattle.std.proofs.lemmas.Bool.Decides.{nat_tests}
-use Rattle.uri_pct.specs.Sets.{TableSet}
-use Rattle.uri_pct.specs.Tokens.{is_valid_for}
-use Rattle.uri_parts.specs.Grammar.{is_scheme}
-use Rattle.uri_ops.specs.declared.build.draft.Draft.{Draft}
-use Rattle.uri_ops.specs.declared.build.lengths.Lengths.{Lengths}
-use Rattle.uri_ops.specs.BuilderParts.{AddsOrFails, AddsUnlessFailed, BuilderParts, is_scheme_text, is_text_for, with_authority, with_fragment, with_path, with_query, with_scheme}
-use Rattle.uri_ops.specs.Builders.{draft_parts, lacks_query_and_fragment, lacks_all, lacks_authority, lacks_path}
-use Rattle.uri_ops.specs.Drafts.{after_part, parts_in}
+use Rattle.uri_ops.proofs.Common.{◌≡◌, ℕ, Bool, true, false, List, ◌++◌, length, sym, ap, ◌∙◌, append_assoc, refl, string_bytes, arith, codes, Some, is_none, IsUtf8, is_utf8-from_IsUtf8, and_parts, and_from, false≢true, nat_tests, TableSet, is_valid_for, is_scheme, Draft, Lengths, AddsOrFails, AddsUnlessFailed, BuilderParts, is_scheme_text, is_text_for, with_authority, with_fragment, with_path, with_query, with_scheme, draft_parts, lacks_query_and_fragment, lacks_all, lacks_authority, lacks_path, after_part, parts_in}
 use Rattle.uri_ops.proofs.Builders.BuilderSteps.{text-with-authority-is-draft, text-with-fragment-is-draft, text-with-path-is-draft, text-with-query-is-draft, text-with-scheme-is-draft}
 use Rattle.uri_ops.proofs.Builders.Drafting.{IsDraftOfParts, absent-part-has-no-length}
 
@@ -36,9 +23,8 @@ step-adds-to-contents change given part contents taken made new keeps same from 
         (sym e ∙ ap (λ p. p.failed) (added e) ∙ keeps ∙ marked))
 
 -- building: a valid text in UTF-8 is one that a builder may write for the set
-pub valid_utf8_is_text_for_set : (set : TableSet) (x : List ℕ) → IsUtf8 x
-    → is_valid_for set x ≡ true
-    → is_text_for set x ≡ true
+pub valid_utf8_is_text_for_set : (set : TableSet) (x : List ℕ)
+    → IsUtf8 x → is_valid_for set x ≡ true → is_text_for set x ≡ true
 unfolding is_text_for
 valid_utf8_is_text_for_set set x u e = and_from _ _ (is_utf8-from_IsUtf8 x u) e
 
@@ -57,21 +43,18 @@ scheme-rule-gives-scheme-text x u e = and_from _ _ (is_utf8-from_IsUtf8 x u) e
 
 -- building: the parts that a draft holds are those before, changed,
 -- unless it is marked failed (f, g)
-pub change-of-parts-unless-failed : (change : BuilderParts → BuilderParts) (before after : Lengths)
-    (text new : List ℕ)
-    (f g : Bool)
-    → (g ≡ false → f ≡ false)
-    → (g ≡ false → parts_in after new false ≡ change (parts_in before text false)) → g ≡ false
-    → parts_in after new g ≡ change (parts_in before text f)
+pub change-of-parts-unless-failed : (change : BuilderParts → BuilderParts)
+    (before after : Lengths) (text new : List ℕ) (f g : Bool) → (g ≡ false → f ≡ false)
+    → (g ≡ false → parts_in after new false ≡ change (parts_in before text false))
+    → g ≡ false → parts_in after new g ≡ change (parts_in before text f)
 change-of-parts-unless-failed change before after text new f g kept step e =
     grind (arith, nat_tests)
 
 -- building: two texts that are appended to a draft, one after the other, are appended,
 -- unless it is marked failed (f, g)
 pub appended-twice-is-appended : (text one two first second : List ℕ) (f g : Bool)
-    → (g ≡ false → f ≡ false)
-    → (f ≡ false → first ≡ text ++ one) → (g ≡ false → second ≡ first ++ two)
-    → g ≡ false → second ≡ text ++ (one ++ two)
+    → (g ≡ false → f ≡ false) → (f ≡ false → first ≡ text ++ one)
+    → (g ≡ false → second ≡ first ++ two) → g ≡ false → second ≡ text ++ (one ++ two)
 appended-twice-is-appended text one two first second f g kept a b e =
     grind (arith, nat_tests, append_assoc)
 
@@ -109,9 +92,8 @@ module _ (a : Draft) (x : List ℕ) where
       (absent-part-has-no-length 1 a.lengths.fragment from_fragment q.1)
 
   pub draft-with-authority : (a.failed ≡ false → lacks_authority (draft_parts a) ≡ true)
-      → a.failed ≡ false
-      → IsDraftOfParts (with_authority x parts) (record a.lengths { authority = Some (length x) })
-      (text ++ (codes "//" ++ x))
+      → a.failed ≡ false → IsDraftOfParts (with_authority x parts) (record a.lengths
+      { authority = Some (length x) }) (text ++ (codes "//" ++ x))
   draft-with-authority lacks whole =
       let s = and_parts (is_none parts.authority) (lacks_path parts) (lacks whole) in
       let p = and_parts (is_none parts.path) (lacks_query_and_fragment parts) s.1 in
@@ -132,9 +114,8 @@ module _ (a : Draft) (x : List ℕ) where
       (absent-part-has-no-length 1 a.lengths.fragment from_fragment q.1)
 
   pub draft-with-query : (a.failed ≡ false → lacks_query_and_fragment (draft_parts a) ≡ true)
-      → a.failed ≡ false
-      → IsDraftOfParts (with_query x parts) (record a.lengths { query = Some (length x) })
-      (text ++ (codes "?" ++ x))
+      → a.failed ≡ false → IsDraftOfParts (with_query x parts) (record a.lengths
+      { query = Some (length x) }) (text ++ (codes "?" ++ x))
   draft-with-query lacks whole =
       let q = and_parts (is_none parts.query) (is_none parts.fragment) (lacks whole) in
       text-with-query-is-draft a.lengths text (a.ok whole) x
@@ -142,18 +123,15 @@ module _ (a : Draft) (x : List ℕ) where
       (absent-part-has-no-length 1 a.lengths.fragment from_fragment q.1)
 
   pub draft-with-fragment : (a.failed ≡ false → is_none (draft_parts a).fragment ≡ true)
-      → a.failed ≡ false
-      → IsDraftOfParts (with_fragment x parts) (record a.lengths { fragment = Some (length x) })
-      (text ++ (codes "#" ++ x))
+      → a.failed ≡ false → IsDraftOfParts (with_fragment x parts) (record a.lengths
+      { fragment = Some (length x) }) (text ++ (codes "#" ++ x))
   draft-with-fragment lacks whole = text-with-fragment-is-draft a.lengths text (a.ok whole) x
       (absent-part-has-no-length 1 a.lengths.fragment from_fragment (lacks whole))
 
 -- building: the parts of a draft b that goes on from draft a by a text are those of a, changed
-pub change-of-draft-by-appending : (change : BuilderParts → BuilderParts) (a b : Draft)
-    (lengths : Lengths)
-    (more : List ℕ)
-    → (b.failed ≡ false → a.failed ≡ false) → b.lengths ≡ lengths
-    → (b.failed ≡ false → string_bytes b.text ≡ string_bytes a.text ++ more)
+pub change-of-draft-by-appending : (change : BuilderParts → BuilderParts)
+    (a b : Draft) (lengths : Lengths) (more : List ℕ) → (b.failed ≡ false → a.failed ≡ false)
+    → b.lengths ≡ lengths → (b.failed ≡ false → string_bytes b.text ≡ string_bytes a.text ++ more)
     → (a.failed ≡ false → parts_in lengths (string_bytes a.text ++ more) false
     ≡ change (parts_in a.lengths (string_bytes a.text) false))
     → b.failed ≡ false → draft_parts b ≡ change (parts_in a.lengths (string_bytes a.text) a.failed)

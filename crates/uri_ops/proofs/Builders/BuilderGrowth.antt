@@ -1,24 +1,7 @@
 -- What a step inside an authority makes of a draft: the authority, which ends the text, goes on.
-use Rattle.std.proofs.Common.{◌≡◌, ℕ, ◌+◌, ◌-◌, Bool, true, false, ◌&&◌, List, [], ◌∷◌, ◌++◌, length, take, drop, refl, sym, ap, subst, ◌∙◌, arith, length-append, string_bytes}
-use Rattle.std.specs.Prelude.{codes, Option, Some, None, is_none, option_map}
-use Rattle.std.specs.Option.{option_map_or}
-use Rattle.std.specs.Str.{IsUtf8}
+use Rattle.uri_ops.proofs.Common.{◌≡◌, ℕ, ◌+◌, ◌-◌, Bool, true, false, ◌&&◌, List, [], ◌∷◌, ◌++◌, length, take, drop, refl, sym, ap, subst, ◌∙◌, arith, length-append, string_bytes, codes, Option, Some, None, is_none, option_map, option_map_or, IsUtf8, IsUtf8-from_is_utf8, and_parts, false≢true, nat_tests, digit_set, is_valid_for, Kind, Draft, Lengths, BuilderParts, is_authority_text, is_text_for, lacks_host_and_port, lacks_port, with_more_authority, any_authority, draft_parts, ends_in_authority, HasComponentSets, is_empty, after_part, part_in, parts_in, IsHostText}
 use Rattle.std.specs.String.{string_len}
 use Rattle.std.specs.declared.string.String.{String}
-use Rattle.std.proofs.lemmas.Str.{IsUtf8-from_is_utf8}
-use Rattle.std.proofs.lemmas.Bool.{and_parts, false≢true}
-use Rattle.std.proofs.lemmas.Bool.Decides.{nat_tests}
-use Rattle.uri_pct.specs.Sets.{digit_set}
-use Rattle.uri_pct.specs.Tokens.{is_valid_for}
-use Rattle.uri_parts.specs.Grammar.{Kind}
-use Rattle.uri_ops.specs.declared.build.draft.Draft.{Draft}
-use Rattle.uri_ops.specs.declared.build.lengths.Lengths.{Lengths}
-use Rattle.uri_ops.specs.BuilderParts.{BuilderParts, is_authority_text, is_text_for, lacks_host_and_port, lacks_port, with_more_authority}
-use Rattle.uri_ops.specs.Builders.{any_authority, draft_parts, ends_in_authority, lacks_query_and_fragment, lacks_path}
-use Rattle.uri_ops.specs.ComponentSets.{HasComponentSets}
-use Rattle.uri_ops.specs.Dots.{is_empty}
-use Rattle.uri_ops.specs.Drafts.{after_part, part_in, parts_in}
-use Rattle.uri_ops.specs.HostParts.{IsHostText}
 use Rattle.uri_ops.proofs.Builders.BuilderAuthorities.{host-extends-authority, port-extends-authority, userinfo-begins-authority}
 use Rattle.uri_ops.proofs.Builders.BuilderSteps.{text-with-more-authority-is-draft}
 use Rattle.uri_ops.proofs.Builders.Drafting.{IsDraftOfParts, absent-part-has-no-length}
@@ -29,10 +12,9 @@ ExtendsAuthority kind takes then x = (a : List ℕ) → is_authority_text kind a
     → (is_authority_text kind (a ++ x) ≡ true) × (then (a ++ x) ≡ true)
 
 -- building: a userinfo with its `@` continues an authority that is empty
-pub userinfo-extends-authority : (kind : Kind) → HasComponentSets kind → (user : List ℕ)
-    → IsUtf8 user
-    → is_valid_for kind.userinfo user ≡ true → ExtendsAuthority kind is_empty lacks_host_and_port
-    (user ++ codes "@")
+pub userinfo-extends-authority : (kind : Kind)
+    → HasComponentSets kind → (user : List ℕ) → IsUtf8 user → is_valid_for kind.userinfo user ≡ true
+    → ExtendsAuthority kind is_empty lacks_host_and_port (user ++ codes "@")
 userinfo-extends-authority kind sets user u valid [] e t =
     let h = userinfo-begins-authority kind sets user u valid in
     (h.rule, ap (λ (p : _). is_empty p.host && is_none p.port) h.parts)
@@ -47,9 +29,8 @@ host-extends-open-authority kind sets host h = λ a e t. let p = host-extends-au
 
 -- building: an authority that has no port is one with `:` and digits after it
 authority-with-port-is-authority : (kind : Kind) → HasComponentSets kind → (digits : List ℕ)
-    → IsUtf8 digits
-    → is_valid_for digit_set digits ≡ true → (a : List ℕ) → is_authority_text kind a ≡ true
-    → lacks_port a ≡ true → is_authority_text kind (a ++ (codes ":" ++ digits)) ≡ true
+    → IsUtf8 digits → is_valid_for digit_set digits ≡ true → (a : List ℕ) → is_authority_text kind a
+    ≡ true → lacks_port a ≡ true → is_authority_text kind (a ++ (codes ":" ++ digits)) ≡ true
 authority-with-port-is-authority kind sets digits u valid a e t =
     (port-extends-authority kind sets a digits e t u valid).rule
 

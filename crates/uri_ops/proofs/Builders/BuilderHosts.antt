@@ -1,28 +1,8 @@
 -- The hosts and ports that a builder takes are hosts, and digits.
-use Rattle.std.proofs.Common.{◌≡◌, ℕ, ◌<◌, ◌^◌, Bool, true, ltb, List, [], ◌∷◌, refl, arith, inl, inr}
-use Rattle.std.specs.Prelude.{codes}
-use Rattle.std.specs.Char.{digit_value, is_ascii_digit}
-use Rattle.std.specs.Fmt.{decimal}
-use Rattle.std.specs.List.{list_all}
-use Rattle.std.specs.Str.{IsUtf8}
+use Rattle.uri_ops.proofs.Common.{◌≡◌, ℕ, ◌<◌, ◌^◌, Bool, true, ltb, List, [], ◌∷◌, refl, arith, inl, inr, codes, digit_value, is_ascii_digit, decimal, list_all, IsUtf8, and_from, nat_tests, All-weaker, list_all-from_AllPass, IsDigitOrDot, TableSet, LacksPercent, digit_set, is_valid_for, excludes, Ipv4, Ipv6, IsIpv4Text, IsIpv6Text, bracketed, host_kind, ipv6-text-is-address-text, is_host-sound, lacking_text_does_not_begin_with, valid_text_lacks_excluded_marks, ipv4-text-is-digits-and-dots, is_text_for, IsHostText}
 use Rattle.std.specs.Str.Parse.{AllDigits}
-use Rattle.std.proofs.lemmas.Bool.{and_from}
-use Rattle.std.proofs.lemmas.Bool.Decides.{nat_tests}
 use Rattle.std.proofs.lemmas.Fmt.{decimal_is_IsNumeral}
 use Rattle.std.proofs.lemmas.Str.Parse.{digit_from_value}
-use Rattle.std.proofs.lemmas.List.Elements.{All-weaker}
-use Rattle.std.proofs.lemmas.List.Sums.{list_all-from_AllPass}
-use Rattle.std.proofs.NetLemmas.Alphabet.{IsDigitOrDot}
-use Rattle.uri_pct.specs.Sets.{TableSet, LacksPercent, digit_set}
-use Rattle.uri_pct.specs.Tokens.{is_valid_for}
-use Rattle.uri_pct.proofs.ValidTexts.Cuts.{excludes}
-use Rattle.uri_parts.specs.Hosts.{Ipv4, Ipv6, IsIpv4Text, IsIpv6Text, bracketed, host_kind}
-use Rattle.uri_parts.proofs.HostForms.Addresses.{ipv6-text-is-address-text}
-use Rattle.uri_parts.proofs.HostForms.Hosts.{is_host-sound, lacking_text_does_not_begin_with}
-use Rattle.uri_parts.proofs.TextKinds.GrammarTexts.{valid_text_lacks_excluded_marks}
-use Rattle.uri_parts.proofs.HostForms.Futures.{ipv4-text-is-digits-and-dots}
-use Rattle.uri_ops.specs.BuilderParts.{is_text_for}
-use Rattle.uri_ops.specs.HostParts.{IsHostText}
 use Rattle.uri_ops.proofs.Builders.BuilderDrafts.{valid_utf8_is_text_for_set}
 use Rattle.uri_ops.proofs.Meanings.HostMeanings.{unbracketed-valid-text-is-host, address-text-is-utf8, bracketed-utf8-is-utf8}
 use Rattle.uri_ops.proofs.Meanings.AllowedParts.{set-text-is-utf8, set-text-is-valid}
@@ -49,8 +29,7 @@ ipv4-text-is-host names text octets h = record {
 
 -- building: the text of an IPv6 address in brackets is a host
 pub bracketed-ipv6-text-is-host : (names : TableSet) (text segments : List ℕ)
-    → IsIpv6Text text segments
-    → IsHostText names (bracketed text)
+    → IsIpv6Text text segments → IsHostText names (bracketed text)
 bracketed-ipv6-text-is-host names text segments h = record {
   utf8 = bracketed-utf8-is-utf8 _ (address-text-is-utf8 _ (ipv6-text-is-address-text _ _ h));
   host = (Ipv6 segments, (text, refl, h));
@@ -65,9 +44,8 @@ valid-name-is-host names percent outside text u valid =
       utf8 = u;
       host = (
         host_kind text,
-        is_host-sound names text
-            (unbracketed-valid-text-is-host names text
-            (lacking_text_does_not_begin_with (codes "[") text 91 refl lacks) valid),
+        is_host-sound names text (unbracketed-valid-text-is-host
+            names text (lacking_text_does_not_begin_with (codes "[") text 91 refl lacks) valid),
       );
     }
 

@@ -1,40 +1,15 @@
 -- The text of a builder's parts is of its kind, with these components, exactly if nothing is
 -- rejected.
-use Rattle.std.proofs.Common.{◌≡◌, ℕ, ◌<◌, Bool, true, false, not, ◌&&◌, ◌||◌, List, [], ◌∷◌, ◌++◌, length, refl, sym, ap, subst, ◌∙◌, inl, inr, cond, string_bytes, arith}
-use Rattle.std.specs.Prelude.{codes, Option, Some, None, IfSome, IfNone, is_some, unwrap_or, slice_index}
-use Rattle.std.specs.Char.{is_ascii_alphabetic}
-use Rattle.std.specs.Str.{IsUtf8}
-use Rattle.std.proofs.lemmas.Str.{IsUtf8-from_is_utf8}
-use Rattle.std.proofs.lemmas.Bool.{and_parts, and_from, cond-true, cond-false, false≢true, not-true, not_from_false}
-use Rattle.std.proofs.lemmas.Bool.Decides.{nat_tests}
-use Rattle.uri_pct.specs.Sets.{TableSet, scheme_set}
-use Rattle.uri_pct.specs.Tokens.{is_valid_for}
-use Rattle.uri_parts.specs.Positions.{positions_of}
-use Rattle.uri_parts.specs.Components.{IsSplitOf, IsAbemptyPath, Lacks, has_authority, has_scheme, components, marked, starts}
-use Rattle.uri_parts.specs.Grammar.{IsOfKind, Kind, components_meet_rules, has_colon_in_first_segment, absent_or_passes, is_authority, is_scheme}
-use Rattle.uri_parts.proofs.Splitting.Marks.{query_text, IsEmptyOrMarked-query_text}
-use Rattle.uri_parts.proofs.Splitting.Recompose.{components-are-split-of-text, equal-to-true-is-IsTrue}
-use Rattle.uri_parts.proofs.Splitting.Relative.{scheme_set_lacks_percent, scheme_set_excludes_delimiters}
-use Rattle.uri_parts.proofs.TextKinds.GrammarTexts.{valid_text_lacks_excluded_marks}
-use Rattle.uri_parts.proofs.Splitting.Splits.{only-split-is-components}
-use Rattle.uri_parts.proofs.TextKinds.KindSets.{scheme-rule-holds-without-need}
+use Rattle.uri_ops.proofs.Common.{◌≡◌, ℕ, ◌<◌, Bool, true, false, not, ◌&&◌, ◌||◌, List, [], ◌∷◌, ◌++◌, length, refl, sym, ap, subst, ◌∙◌, inl, inr, cond, string_bytes, arith, codes, Option, Some, None, IfSome, IfNone, is_some, unwrap_or, slice_index, is_ascii_alphabetic, IsUtf8, IsUtf8-from_is_utf8, and_parts, and_from, cond-true, cond-false, false≢true, not-true, not_from_false, nat_tests, TableSet, scheme_set, is_valid_for, positions_of, IsSplitOf, IsAbemptyPath, Lacks, has_authority, has_scheme, components, marked, starts, IsOfKind, Kind, components_meet_rules, has_colon_in_first_segment, absent_or_passes, is_authority, is_scheme, query_text, IsEmptyOrMarked-query_text, components-are-split-of-text, equal-to-true-is-IsTrue, scheme_set_lacks_percent, scheme_set_excludes_delimiters, valid_text_lacks_excluded_marks, only-split-is-components, scheme-rule-holds-without-need, BuilderParts, MeetsOrFailed, as_components, is_authority_text, is_scheme_text, is_text_for, meet_rules, parts_text, IsTextOfParts, refusal, build_error_of_path, HasComponentSets, is_empty, Draft, draft_parts, is_at_end, eq_true_from_IsTrue, authority_has_abempty_path}
 use Rattle.uri_ops.specs.declared.build.error.BuildError.{BuildError}
 use Rattle.uri_ops.specs.declared.build.error.BuildError.TheVariants.{FirstPathSegmentContainsColon, NonemptyRootlessPath, PathStartsWithDoubleSlash}
-use Rattle.uri_ops.specs.BuilderParts.{BuilderParts, MeetsOrFailed, as_components, is_authority_text, is_scheme_text, is_text_for, meet_rules, parts_text}
-use Rattle.uri_ops.specs.Built.{IsTextOfParts, refusal, build_error_of_path}
-use Rattle.uri_ops.specs.ComponentSets.{HasComponentSets}
-use Rattle.uri_ops.specs.Dots.{is_empty}
-use Rattle.uri_ops.specs.declared.build.draft.Draft.{Draft}
-use Rattle.uri_ops.specs.Builders.{draft_parts, has_path, is_at_end}
 use Rattle.uri_ops.proofs.Builders.PartRules.{in-order-parts-pass-their-test}
 use Rattle.uri_ops.proofs.Builders.BuilderAuthorities.{authority-lacks-its-ends, authority-text-meets-rule, authority-text-is-utf8}
 use Rattle.uri_ops.proofs.Builders.Drafting.{meet_rules-gives-rules}
 use Rattle.uri_ops.proofs.Meanings.ComponentEnds.{no_scheme, path-set-excludes-its-ends, query-set-excludes-its-end}
 use Rattle.uri_ops.proofs.Meanings.AllowedParts.{is_set_text, set-text-from-utf8, empty-text-is-set-text, set-text-is-utf8, set-text-is-valid}
-use Rattle.uri_pct.proofs.General.{eq_true_from_IsTrue}
 use Rattle.uri_ops.proofs.Meanings.TextParts.{ArePartsOfKind, components-of-kind-meet-grammar}
 use Rattle.uri_ops.proofs.Normal.NormalComponents.{text-with-first-letter-is-not-empty}
-use Rattle.uri_parts.proofs.Splitting.Places.{authority_has_abempty_path}
 
 -- building: a text that passes a builder's test of a set is UTF-8 and valid for it
 text-for-set-is-set-text : (set : TableSet) (x : List ℕ) → is_text_for set x ≡ true
@@ -59,8 +34,7 @@ passing-option-has-property (Some x) test P f h = f x h
 
 -- building: a path that passes its test, or the empty one for none, is UTF-8 and valid
 passing-path-is-set-text : (set : TableSet) (o : Option (List ℕ))
-    → absent_or_passes o (is_text_for set) ≡ true
-    → is_set_text set (unwrap_or o []) ≡ true
+    → absent_or_passes o (is_text_for set) ≡ true → is_set_text set (unwrap_or o []) ≡ true
 passing-path-is-set-text set None h = empty-text-is-set-text set
 passing-path-is-set-text set (Some x) h = text-for-set-is-set-text set x h
 
@@ -72,11 +46,10 @@ record IsAcceptedPath (scheme authority : Option (List ℕ)) (path : List ℕ) :
 
 -- building: the first of the three errors that the path of a builder's parts may have
 first_build_error : Option (List ℕ) → Option (List ℕ) → List ℕ → Option BuildError
-first_build_error scheme authority path = cond (is_some authority)
-    (cond (is_empty path || starts 47 path) None (Some NonemptyRootlessPath)) (cond
-    (has_authority path) (Some PathStartsWithDoubleSlash) (cond
-    (not (is_some scheme) && has_colon_in_first_segment path) (Some FirstPathSegmentContainsColon)
-    None))
+first_build_error scheme authority path = cond
+    (is_some authority) (cond (is_empty path || starts 47 path) None (Some NonemptyRootlessPath))
+    (cond (has_authority path) (Some PathStartsWithDoubleSlash) (cond (not (is_some scheme)
+    && has_colon_in_first_segment path) (Some FirstPathSegmentContainsColon) None))
 
 -- general fact on options, for a builder's error: one that is there is not None
 some-is-not-none : {A : Type 0} {x : A} → Some x ≡ None → ⊥
@@ -90,8 +63,7 @@ no-error-means-test-passed false x e = absurd (some-is-not-none e)
 -- building: if a test decides an error (x) and there is none,
 -- the test failed and the rest has no error
 no-error-means-no-cause : (t : Bool) (x : BuildError) (rest : Option BuildError)
-    → cond t (Some x) rest ≡ None
-    → (t ≡ false) × (rest ≡ None)
+    → cond t (Some x) rest ≡ None → (t ≡ false) × (rest ≡ None)
 no-error-means-no-cause true x rest e = absurd (some-is-not-none e)
 no-error-means-no-cause false x rest e = (refl, e)
 
@@ -115,13 +87,11 @@ abempty-is-empty-or-slash-first (c ∷ path) (inr t) = eq_true_from_IsTrue _ t
 path-without-build-error-is-accepted : (scheme authority : Option (List ℕ)) (path : List ℕ)
     → first_build_error scheme authority path ≡ None → IsAcceptedPath scheme authority path
 unfolding first_build_error
-path-without-build-error-is-accepted scheme (Some a) path e =
-    record {
-      rooted = empty-or-slash-first-is-abempty path (no-error-means-test-passed _ _ e);
-      no_authority = tt;
-      no_colon =
-          or_true scheme;
-    }
+path-without-build-error-is-accepted scheme (Some a) path e = record {
+  rooted = empty-or-slash-first-is-abempty path (no-error-means-test-passed _ _ e);
+  no_authority = tt;
+  no_colon = or_true scheme;
+}
   where
     or_true : (o : Option (List ℕ)) → (is_some o || true) ≡ true
     or_true None = refl
@@ -133,8 +103,7 @@ path-without-build-error-is-accepted (Some s) None path e =
 
 -- building: if a path is accepted after the scheme and the authority there is no error
 accepted-path-has-no-build-error : (scheme authority : Option (List ℕ)) (path : List ℕ)
-    → IsAcceptedPath scheme authority path
-    → first_build_error scheme authority path ≡ None
+    → IsAcceptedPath scheme authority path → first_build_error scheme authority path ≡ None
 unfolding first_build_error
 accepted-path-has-no-build-error scheme (Some a) path p = cond-true _ _ _
     (abempty-is-empty-or-slash-first path p.rooted)
@@ -150,9 +119,8 @@ refusal-is-first_build_error p = refl
 
 -- general fact on booleans, for a builder's rules: needs, s, r: whether a scheme is needed, is
 -- there, or may be missing before the path
-scheme-rule-from-need-and-colon-rules : (needs s r : Bool) → (s || not needs) ≡ true
-    → (s || r) ≡ true
-    → (s || (not needs && r)) ≡ true
+scheme-rule-from-need-and-colon-rules : (needs s r : Bool)
+    → (s || not needs) ≡ true → (s || r) ≡ true → (s || (not needs && r)) ≡ true
 scheme-rule-from-need-and-colon-rules needs true r a b = refl
 scheme-rule-from-need-and-colon-rules needs false r a b = and_from _ _ a b
 
@@ -173,16 +141,14 @@ module _ (kind : Kind) (sets : HasComponentSets kind) (p : BuilderParts)
       let r = meet_rules-gives-rules _ p rules in
       record {
         scheme = passing-option-has-property _ _ _ scheme-text-is-utf8-scheme r.scheme;
-        authority = passing-option-has-property p.authority (is_authority_text kind)
-            (λ a. IsUtf8 a × (is_authority kind a ≡ true))
-            (λ a h. (authority-text-is-utf8 kind a h, authority-text-meets-rule kind a h))
-            r.authority;
+        authority = passing-option-has-property
+            p.authority (is_authority_text kind) (λ a. IsUtf8 a × (is_authority kind a ≡ true)) (λ
+            a h. (authority-text-is-utf8 kind a h, authority-text-meets-rule kind a h)) r.authority;
         path = path-is-set-text;
         query = passing-option-has-property p.query (is_text_for kind.query)
             (λ q. is_set_text kind.query q ≡ true) (text-for-set-is-set-text kind.query) r.query;
-        fragment = passing-option-has-property p.fragment (is_text_for kind.fragment)
-            (λ f. is_set_text kind.fragment f ≡ true) (text-for-set-is-set-text kind.fragment)
-            r.fragment;
+        fragment = passing-option-has-property p.fragment (is_text_for kind.fragment) (λ f.
+            is_set_text kind.fragment f ≡ true) (text-for-set-is-set-text kind.fragment) r.fragment;
         needs = scheme-rule-from-need-and-colon-rules kind.needs_scheme (is_some p.scheme) _ needs
             pass.no_colon;
       }
@@ -201,8 +167,7 @@ module _ (kind : Kind) (sets : HasComponentSets kind) (p : BuilderParts)
       (authority-lacks-its-ends kind sets a h, r)
 
   scheme-text-lacks-its-ends : (scheme : Option (List ℕ)) → absent_or_passes scheme is_scheme_text
-      ≡ true
-      → IfSome scheme (λ s. (0 < length s) × Lacks (codes ":/?#") s)
+      ≡ true → IfSome scheme (λ s. (0 < length s) × Lacks (codes ":/?#") s)
   scheme-text-lacks-its-ends None h = tt
   scheme-text-lacks-its-ends (Some s) h =
       let r = scheme-text-is-utf8-scheme s h in
@@ -212,11 +177,9 @@ module _ (kind : Kind) (sets : HasComponentSets kind) (p : BuilderParts)
             (codes ":/?#") scheme_set_lacks_percent scheme_set_excludes_delimiters s r.0 q.1,
       )
 
-  accepted-parts-without-scheme-have-none : (scheme authority : Option (List ℕ)) (path : List ℕ)
-      (query fragment : Option (List ℕ))
-      → IsAcceptedPath scheme authority path
-      → IfNone scheme
-      (has_scheme (marked [] scheme (codes ":")
+  accepted-parts-without-scheme-have-none : (scheme authority : Option (List ℕ))
+      (path : List ℕ) (query fragment : Option (List ℕ)) → IsAcceptedPath scheme authority path
+      → IfNone scheme (has_scheme (marked [] scheme (codes ":")
       ++ (marked (codes "//") authority [] ++ (path ++ query_text query fragment))) ≡ false)
   accepted-parts-without-scheme-have-none (Some s) authority path query fragment pass = tt
   accepted-parts-without-scheme-have-none None (Some a) path query fragment pass = refl
@@ -246,8 +209,7 @@ module _ (kind : Kind) (sets : HasComponentSets kind) (p : BuilderParts)
 
   -- where nothing is rejected
   pub accepted-parts-have-their-text : (is_some p.scheme || not kind.needs_scheme) ≡ true
-      → refusal p ≡ None
-      → IsTextOfParts kind p
+      → refusal p ≡ None → IsTextOfParts kind p
   unfolding path_or_empty
   accepted-parts-have-their-text needs e =
       let pass = path-without-build-error-is-accepted _ _ _
@@ -287,8 +249,7 @@ module _ (kind : Kind) (sets : HasComponentSets kind) (d : Draft) (whole : d.fai
   built-text-is-of-kind e = subst (IsOfKind kind) (d.ok whole).whole
       (built-draft-is-text-of-parts e).of_kind
 
-  pub built-positions-are-of-parts : refusal (draft_parts d) ≡ None
-      → positions_of (components (string_bytes d.text))
-      ≡ positions_of (as_components (draft_parts d))
+  pub built-positions-are-of-parts : refusal (draft_parts d) ≡ None → positions_of
+      (components (string_bytes d.text)) ≡ positions_of (as_components (draft_parts d))
   built-positions-are-of-parts e = ap positions_of (ap components (sym (d.ok whole).whole)
       ∙ (built-draft-is-text-of-parts e).components)

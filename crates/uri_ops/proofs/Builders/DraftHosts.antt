@@ -1,27 +1,6 @@
 -- Each step of a builder knows where the host is in the authority.
-use Rattle.std.proofs.Common.{◌≡◌, ℕ, ◌+◌, Bool, true, false, List, [], ◌∷◌, ◌++◌, length, refl, sym, ap, subst, ◌∙◌, arith, length-append}
-use Rattle.std.specs.Prelude.{codes, Option, Some, None, IfSome, option_map, unwrap_or}
-use Rattle.std.specs.Option.{option_map_or}
-use Rattle.std.specs.Str.{IsUtf8, is_utf8}
-use Rattle.std.proofs.lemmas.Str.{IsUtf8-from_is_utf8}
-use Rattle.std.proofs.lemmas.Bool.{and_parts, false≢true}
-use Rattle.std.proofs.lemmas.Bool.Decides.{nat_tests}
-use Rattle.uri_pct.specs.Sets.{TableSet, digit_set}
-use Rattle.uri_pct.specs.Tokens.{is_valid_for}
-use Rattle.uri_parts.specs.Authority.{AuthorityParts, authority_parts, is_authority_for}
-use Rattle.uri_parts.specs.Components.{marked}
-use Rattle.uri_parts.specs.Grammar.{Kind, absent_or_passes}
-use Rattle.uri_parts.specs.Positions.{host_end_of, host_start_of, delimited_length}
-use Rattle.uri_parts.proofs.Authorities.Authority.{is_authority_for-sound}
-use Rattle.uri_ops.specs.declared.build.draft.Draft.{Draft}
-use Rattle.uri_ops.specs.declared.build.lengths.Lengths.{Lengths}
+use Rattle.uri_ops.proofs.Common.{◌≡◌, ℕ, ◌+◌, Bool, true, false, List, [], ◌∷◌, ◌++◌, length, refl, sym, ap, subst, ◌∙◌, arith, length-append, codes, Option, Some, None, IfSome, option_map, unwrap_or, option_map_or, IsUtf8, IsUtf8-from_is_utf8, and_parts, false≢true, nat_tests, TableSet, digit_set, is_valid_for, AuthorityParts, authority_parts, is_authority_for, marked, Kind, absent_or_passes, host_end_of, host_start_of, delimited_length, is_authority_for-sound, Draft, Lengths, AddsUnlessFailed, BuilderParts, MeetsOrFailed, is_authority_text, is_text_for, lacks_host_and_port, lacks_port, with_authority, with_more_authority, draft_parts, ends_in_authority, is_in_order, HasComponentSets, is_empty, IsHostText, IsHostAtIfSome, IsHostAt, HasRightHostRange}
 use Rattle.uri_ops.specs.declared.build.places.HostRange.{HostRange}
-use Rattle.uri_ops.specs.BuilderParts.{AddsUnlessFailed, BuilderParts, MeetsOrFailed, is_authority_text, is_text_for, lacks_host_and_port, lacks_port, with_authority, with_more_authority}
-use Rattle.uri_ops.specs.Builders.{draft_parts, ends_in_authority, lacks_path, is_in_order}
-use Rattle.uri_ops.specs.ComponentSets.{HasComponentSets}
-use Rattle.uri_ops.specs.Dots.{is_empty}
-use Rattle.uri_ops.specs.HostParts.{IsHostText}
-use Rattle.uri_ops.specs.Models.DraftPlaces.{IsHostAtIfSome, IsHostAt, HasRightHostRange}
 use Rattle.uri_ops.proofs.Builders.BuilderAuthorities.{authority-text-meets-rule, host-extends-authority, port-extends-authority, userinfo-begins-authority}
 use Rattle.uri_ops.proofs.Builders.Drafting.{meet_rules-gives-rules}
 use Rattle.uri_ops.proofs.Builders.PartRules.{in-order-parts-pass-their-test, failure-is-kept}
@@ -61,8 +40,7 @@ empty-authority-has-host-range place s t = record { start = s; end = t; inside =
 
 -- building: if there is an authority, the positions are those of its host
 pub host-range-of-some-authority : (place : HostRange) (o : Option (List ℕ))
-    → IsHostAtIfSome place o
-    → IfSome o (IsHostAt place)
+    → IsHostAtIfSome place o → IfSome o (IsHostAt place)
 host-range-of-some-authority place None has = tt
 host-range-of-some-authority place (Some a) has = has a refl
 
@@ -74,10 +52,9 @@ host-range-if-some-authority place o h = λ a e. subst (λ t. IfSome t (IsHostAt
 
 -- building: a step that leaves the authority as it is leaves the host's positions
 pub host-range-stays-with-authority : (change : BuilderParts → BuilderParts) (d e : Draft)
-    → AddsUnlessFailed change (draft_parts d) (draft_parts e) → (change (draft_parts d)).failed
-    ≡ d.failed
-    → (change (draft_parts d)).authority ≡ (draft_parts d).authority
-    → e.host ≡ d.host → HasRightHostRange d → HasRightHostRange e
+    → AddsUnlessFailed change (draft_parts d) (draft_parts e)
+    → (change (draft_parts d)).failed ≡ d.failed → (change (draft_parts d)).authority
+    ≡ (draft_parts d).authority → e.host ≡ d.host → HasRightHostRange d → HasRightHostRange e
 host-range-stays-with-authority change d e adds same authority host knows whole =
     grind (arith, nat_tests, failure-is-kept)
 
@@ -120,9 +97,8 @@ module _ (kind : Kind) (needs : Bool) (d e : Draft) (x : List ℕ) (takes : List
 
 -- by userinfo, by a host, and by a port
 module _ (kind : Kind) (sets : HasComponentSets kind) (old new : HostRange) (len : ℕ) where
-  pub host-range-after-userinfo : (user : List ℕ) → IsUtf8 user → is_valid_for kind.userinfo user
-      ≡ true
-      → new.start ≡ len → new.end ≡ len
+  pub host-range-after-userinfo : (user : List ℕ)
+      → IsUtf8 user → is_valid_for kind.userinfo user ≡ true → new.start ≡ len → new.end ≡ len
       → (a : List ℕ) → is_authority_text kind a ≡ true → is_empty a ≡ true → IsHostAt old a
       → len ≡ length (a ++ (user ++ codes "@")) → IsHostAt new (a ++ (user ++ codes "@"))
   host-range-after-userinfo user u valid s t [] rule empty at n =
@@ -140,12 +116,10 @@ module _ (kind : Kind) (sets : HasComponentSets kind) (old new : HostRange) (len
       }
   host-range-after-userinfo user u valid s t (c ∷ a) rule empty at n = absurd (false≢true empty)
 
-  pub host-range-after-host : (host : List ℕ) → IsHostText kind.reg_name host → new.start
-      ≡ old.start
-      → new.end ≡ len
+  pub host-range-after-host : (host : List ℕ)
+      → IsHostText kind.reg_name host → new.start ≡ old.start → new.end ≡ len
       → (a : List ℕ) → is_authority_text kind a ≡ true → lacks_host_and_port a ≡ true
-      → IsHostAt old a
-      → len ≡ length (a ++ host) → IsHostAt new (a ++ host)
+      → IsHostAt old a → len ≡ length (a ++ host) → IsHostAt new (a ++ host)
   host-range-after-host host text s t a rule takes at n =
       let h = host-extends-authority _ sets a _ rule takes text in
       let start : host_start_of (a ++ host) ≡ host_start_of a =

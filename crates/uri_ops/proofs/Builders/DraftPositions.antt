@@ -1,16 +1,6 @@
 -- Where the parts of a builder are in its text.
-use Rattle.std.proofs.Common.{◌≡◌, ℕ, ◌+◌, ◌≤◌, List, [], ◌++◌, length, refl, sym, ap, subst, ◌∙◌, arith, length-append, string_bytes, option_map, false}
-use Rattle.std.specs.Prelude.{codes, Option, Some, None, IfSome, unwrap_or}
-use Rattle.std.proofs.lemmas.Bool.Decides.{nat_tests}
-use Rattle.uri_parts.specs.Components.{Components, marked}
-use Rattle.uri_parts.specs.Positions.{authority_at, delimited_length, positions_of}
-use Rattle.uri_ops.specs.declared.build.draft.Draft.{Draft}
-use Rattle.uri_ops.specs.declared.build.lengths.Lengths.{Lengths}
+use Rattle.uri_ops.proofs.Common.{◌≡◌, ℕ, ◌+◌, ◌≤◌, List, [], ◌++◌, length, refl, sym, ap, subst, ◌∙◌, arith, length-append, string_bytes, option_map, false, codes, Option, Some, None, IfSome, unwrap_or, nat_tests, Components, marked, authority_at, delimited_length, positions_of, Draft, Lengths, BuilderParts, as_components, parts_text, draft_parts, lengths_of, IsHostAt, HasRightHostRange, authority_positions_from_length, positions_from_lengths, delimited_len}
 use Rattle.uri_ops.specs.declared.build.places.HostRange.{HostRange}
-use Rattle.uri_ops.specs.BuilderParts.{BuilderParts, as_components, parts_text}
-use Rattle.uri_ops.specs.Builders.{draft_parts}
-use Rattle.uri_ops.specs.Drafts.{lengths_of}
-use Rattle.uri_ops.specs.Models.DraftPlaces.{IsHostAt, HasRightHostRange, authority_positions_from_length, positions_from_lengths, delimited_len}
 use Rattle.uri_ops.proofs.Builders.DraftHosts.{host-range-of-some-authority}
 use Rattle.uri_ops.proofs.Normal.WrittenPlaces.{length-with-delimiter-after, length-with-delimiter-before}
 
@@ -28,16 +18,14 @@ delimited_len-of-path-length (Some x) = omega arith
 
 -- building: the positions of an authority at place, from its length and the host's positions
 authority-positions-from-its-length : (place : ℕ) (host : HostRange) (o : Option (List ℕ))
-    → IfSome o (IsHostAt host)
-    → option_map (authority_positions_from_length place host) (option_map length o)
-    ≡ option_map (authority_at place) o
+    → IfSome o (IsHostAt host) → option_map (authority_positions_from_length place host)
+    (option_map length o) ≡ option_map (authority_at place) o
 authority-positions-from-its-length place host None h = refl
 authority-positions-from-its-length place host (Some a) h = grind (arith, nat_tests)
 
 -- building: the end of a query at place, from its length
-query-end-from-its-length : (place : ℕ) (o : Option (List ℕ))
-    → option_map (λ n. place + 1 + n) (option_map length o)
-    ≡ option_map (λ q. place + 1 + length q) o
+query-end-from-its-length : (place : ℕ) (o : Option (List ℕ)) → option_map (λ n. place
+    + 1 + n) (option_map length o) ≡ option_map (λ q. place + 1 + length q) o
 query-end-from-its-length place None = refl
 query-end-from-its-length place (Some q) = refl
 
@@ -45,21 +33,19 @@ query-end-from-its-length place (Some q) = refl
 positions-from-lengths-are-of-parts : (p : BuilderParts) (host : HostRange)
     → IfSome p.authority (IsHostAt host)
     → positions_from_lengths (lengths_of p) host ≡ positions_of (as_components p)
-positions-from-lengths-are-of-parts p host h =
-    grind (
-      arith,
-      nat_tests,
-      delimited_len-of-component-length,
-      delimited_len-of-path-length,
-      authority-positions-from-its-length,
-      query-end-from-its-length,
-    )
+positions-from-lengths-are-of-parts p host h = grind (
+  arith,
+  nat_tests,
+  delimited_len-of-component-length,
+  delimited_len-of-path-length,
+  authority-positions-from-its-length,
+  query-end-from-its-length,
+)
 
 -- building: the parts with their delimiters, up to the query, are no longer than the text
-part-lengths-are-within-text : (p : BuilderParts)
-    → delimited_len 1 (option_map length p.scheme) + delimited_len 2 (option_map length p.authority)
-    + delimited_len 0 (option_map length p.path) + delimited_len 1 (option_map length p.query)
-    ≤ length (parts_text p)
+part-lengths-are-within-text : (p : BuilderParts) → delimited_len 1 (option_map length p.scheme)
+    + delimited_len 2 (option_map length p.authority) + delimited_len 0 (option_map length p.path)
+    + delimited_len 1 (option_map length p.query) ≤ length (parts_text p)
 part-lengths-are-within-text p =
     let c : Components = as_components p in
     let S : List ℕ = marked [] c.scheme (codes ":") in
@@ -83,15 +69,13 @@ part-lengths-are-within-text p =
 
 -- building: the host begins within the authority, if there is one
 host-start-is-within-authority-length : (host : HostRange) (o : Option (List ℕ))
-    → IfSome o (IsHostAt host)
-    → IfSome (option_map length o) (λ n. host.start ≤ n)
+    → IfSome o (IsHostAt host) → IfSome (option_map length o) (λ n. host.start ≤ n)
 host-start-is-within-authority-length host None h = tt
 host-start-is-within-authority-length host (Some a) h = omega (arith, h.start, h.end, h.inside)
 
 -- building: the host ends within the authority, if there is one
 host-end-is-within-authority-length : (host : HostRange) (o : Option (List ℕ))
-    → IfSome o (IsHostAt host)
-    → IfSome (option_map length o) (λ n. host.end ≤ n)
+    → IfSome o (IsHostAt host) → IfSome (option_map length o) (λ n. host.end ≤ n)
 host-end-is-within-authority-length host None h = tt
 host-end-is-within-authority-length host (Some a) h = h.inside
 
@@ -117,15 +101,12 @@ module _ (d : Draft) (whole : d.failed ≡ false) (knows : HasRightHostRange d) 
   pub part-lengths-fit-in-text : delimited_len 1 d.lengths.scheme
       + delimited_len 2 d.lengths.authority + delimited_len 0 d.lengths.path
       + delimited_len 1 d.lengths.query ≤ length (string_bytes d.text)
-  part-lengths-fit-in-text =
-      subst (λ (l : Lengths). delimited_len 1 l.scheme + delimited_len 2 l.authority
-      + delimited_len 0 l.path + delimited_len 1 l.query
-      ≤ length (string_bytes d.text)) counted
-      (subst (λ t. delimited_len 1 (option_map length parts.scheme)
+  part-lengths-fit-in-text = subst (λ (l : Lengths). delimited_len 1 l.scheme
+      + delimited_len 2 l.authority + delimited_len 0 l.path + delimited_len 1 l.query ≤ length
+      (string_bytes d.text)) counted (subst (λ t. delimited_len 1 (option_map length parts.scheme)
       + delimited_len 2 (option_map length parts.authority) + delimited_len 0
-      (option_map length parts.path)
-      + delimited_len 1 (option_map length parts.query) ≤ length t) text-of-parts-is-draft-text
-      (part-lengths-are-within-text parts))
+      (option_map length parts.path) + delimited_len 1 (option_map length parts.query)
+      ≤ length t) text-of-parts-is-draft-text (part-lengths-are-within-text parts))
 
   pub host-start-is-in-authority : IfSome d.lengths.authority (λ n. d.host.start ≤ n)
   host-start-is-in-authority =

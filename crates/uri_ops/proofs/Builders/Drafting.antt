@@ -1,22 +1,11 @@
 -- The text of the parts of a builder: parsing it gives the parts, and a text with these parts is
 -- such a text.
-use Rattle.std.proofs.Common.{◌≡◌, ℕ, ◌+◌, Bool, true, false, List, [], ◌++◌, length, drop, refl, sym, ap, ◌∙◌, arith, append_assoc, append-nil, length-append}
-use Rattle.std.specs.Prelude.{codes, Option, Some, None, option_map, unwrap_or, is_none}
-use Rattle.std.proofs.lemmas.Bool.{and_from, false≢true}
-use Rattle.std.proofs.Math.Seq.{drop-append_seam, take-append_seam}
-use Rattle.std.proofs.lemmas.Bool.Decides.{nat_tests}
-use Rattle.uri_parts.specs.Components.{marked, recompose}
-use Rattle.uri_parts.specs.Grammar.{Kind, absent_or_passes}
-use Rattle.uri_parts.proofs.Splitting.Recompose.{components_of_parts}
-use Rattle.uri_ops.specs.declared.build.lengths.Lengths.{Lengths}
-use Rattle.uri_ops.specs.BuilderParts.{BuilderParts, is_authority_text, is_scheme_text, is_text_for, meet_rules, parts_text}
-use Rattle.uri_ops.specs.Drafts.{IsDraft, after_part, lengths_of, part_in, parts_in}
+use Rattle.uri_ops.proofs.Common.{◌≡◌, ℕ, ◌+◌, Bool, true, false, List, [], ◌++◌, length, drop, refl, sym, ap, ◌∙◌, arith, append_assoc, append-nil, length-append, codes, Option, Some, None, option_map, unwrap_or, is_none, and_from, false≢true, drop-append_seam, take-append_seam, nat_tests, marked, recompose, Kind, absent_or_passes, components_of_parts, Lengths, BuilderParts, is_authority_text, is_scheme_text, is_text_for, meet_rules, parts_text, IsDraft, after_part, lengths_of, part_in, parts_in}
 
 -- building: a component with its delimiters (before,
 -- suffix) is passed over by its length, to the rest
-after_part-skips-delimited-component : (before suffix : List ℕ) (marks : ℕ) → marks
-    ≡ length before + length suffix
-    → (o : Option (List ℕ)) (rest : List ℕ)
+after_part-skips-delimited-component : (before suffix : List ℕ) (marks : ℕ)
+    → marks ≡ length before + length suffix → (o : Option (List ℕ)) (rest : List ℕ)
     → after_part marks (option_map length o) (marked before o suffix ++ rest) ≡ rest
 after_part-skips-delimited-component before suffix marks e None rest = refl
 after_part-skips-delimited-component before suffix marks e (Some x) rest =
@@ -39,14 +28,12 @@ path-is-component-without-delimiters (Some x) = sym (append-nil x)
 
 -- general fact on records, for a builder's parts: they are equal if each component is
 builder-parts-of-equal-components : {s1 s2 a1 a2 p1 p2 q1 q2 f1 f2 : Option (List ℕ)}
-    {failed : Bool} → s1 ≡ s2 → a1 ≡ a2
-    → p1 ≡ p2 → q1 ≡ q2 → f1 ≡ f2
-    → (let x : BuilderParts = record {
+    {failed : Bool}
+    → s1 ≡ s2 → a1 ≡ a2 → p1 ≡ p2 → q1 ≡ q2 → f1 ≡ f2 → (let x : BuilderParts = record {
       scheme = s1;
       authority = a1;
       path = p1;
-      query =
-          q1;
+      query = q1;
       fragment = f1;
       failed = failed;
     } in x)
@@ -103,9 +90,8 @@ pub record IsDraftOfParts (p : BuilderParts) (lengths : Lengths) (text : List �
 
 -- building: a text is the draft of a builder's parts,
 -- if it is their text and the lengths are theirs
-pub text-of-parts-is-their-draft : (p : BuilderParts) (lengths : Lengths) (text : List ℕ)
-    → p.failed ≡ false
-    → lengths ≡ lengths_of p → text ≡ parts_text p → IsDraftOfParts p lengths text
+pub text-of-parts-is-their-draft : (p : BuilderParts) (lengths : Lengths) (text : List ℕ) → p.failed
+    ≡ false → lengths ≡ lengths_of p → text ≡ parts_text p → IsDraftOfParts p lengths text
 text-of-parts-is-their-draft p lengths text f n t =
     grind (arith, nat_tests, text-of-parts-is-draft, parts-from-their-lengths-and-text)
 
@@ -130,8 +116,7 @@ rules-give-meet_rules kind p r = and_from _ _ r.scheme
 
 -- building: a part that is not there has no length
 pub absent-part-has-no-length : (mark : ℕ) (n : Option ℕ) (text : List ℕ)
-    → is_none (part_in mark n text) ≡ true
-    → n ≡ None
+    → is_none (part_in mark n text) ≡ true → n ≡ None
 absent-part-has-no-length mark None text e = refl
 absent-part-has-no-length mark (Some n) text e = absurd (false≢true e)
 

@@ -1,14 +1,5 @@
 -- What each step keeps of a builder's parts: each meets its rule, and they are at the next place.
-use Rattle.std.proofs.Common.{◌≡◌, ℕ, Bool, true, false, ◌&&◌, ◌||◌, List, [], ◌++◌, refl, sym, ap, ◌∙◌, arith}
-use Rattle.std.specs.Prelude.{Option, Some, None, is_some, is_none, option_map}
-use Rattle.std.specs.Option.{option_map_or}
-use Rattle.std.proofs.lemmas.Bool.{and_parts, and_from, false≢true}
-use Rattle.std.proofs.lemmas.Bool.Decides.{nat_tests}
-use Rattle.uri_parts.specs.Grammar.{Kind, absent_or_passes}
-use Rattle.uri_ops.specs.BuilderParts.{AddsUnlessFailed, BuilderParts, MeetsOrFailed, is_authority_text, is_scheme_text, is_text_for, meet_rules, with_authority, with_fragment, with_more_authority, with_path, with_query, with_scheme}
-use Rattle.uri_ops.specs.Builders.{any_authority, ends_in_authority, has_path, has_path_before_fragment, has_path_last, has_needed_scheme, is_fresh, lacks_query_and_fragment, lacks_all, lacks_authority, lacks_path, is_in_order}
-use Rattle.uri_ops.specs.Dots.{is_empty}
-use Rattle.uri_pct.proofs.General.{second-holds-if-first-is-false}
+use Rattle.uri_ops.proofs.Common.{◌≡◌, ℕ, Bool, true, false, ◌&&◌, ◌||◌, List, [], ◌++◌, refl, sym, ap, ◌∙◌, arith, Option, Some, None, is_some, is_none, option_map, option_map_or, and_parts, and_from, false≢true, nat_tests, Kind, absent_or_passes, AddsUnlessFailed, BuilderParts, MeetsOrFailed, is_authority_text, is_scheme_text, is_text_for, meet_rules, with_authority, with_fragment, with_more_authority, with_path, with_query, with_scheme, any_authority, ends_in_authority, has_path, has_path_before_fragment, has_path_last, has_needed_scheme, is_fresh, lacks_query_and_fragment, lacks_all, lacks_authority, lacks_path, is_in_order, is_empty, second-holds-if-first-is-false}
 use Rattle.uri_ops.proofs.Builders.BuilderGrowth.{ExtendsAuthority}
 use Rattle.uri_ops.proofs.Builders.Drafting.{rules-give-meet_rules, meet_rules-gives-rules}
 
@@ -23,9 +14,8 @@ in-order-parts-pass-their-test test needs p h whole =
 
 -- building: a new builder has no parts, unless it is marked failed;
 -- the Bool is whether the kind needs a scheme
-pub fresh-builder-lacks-all-parts : (needs : Bool) (p : BuilderParts) → is_fresh needs p ≡ true
-    → p.failed ≡ false
-    → lacks_all p ≡ true
+pub fresh-builder-lacks-all-parts : (needs : Bool) (p : BuilderParts)
+    → is_fresh needs p ≡ true → p.failed ≡ false → lacks_all p ≡ true
 unfolding is_fresh
 fresh-builder-lacks-all-parts needs p h whole = second-holds-if-first-is-false p.failed _ whole h
 
@@ -88,30 +78,22 @@ module _ (change : BuilderParts → BuilderParts) (p q : BuilderParts)
           ∙ then (failure-is-kept e)
 
 module _ (kind : Kind) (needs : Bool) (p q : BuilderParts) (x : List ℕ) where
-  pub parts-with-scheme-meet-rules : AddsUnlessFailed (with_scheme x) p q → MeetsOrFailed kind p
-      → is_scheme_text x ≡ true
-      → MeetsOrFailed kind q
+  pub parts-with-scheme-meet-rules : AddsUnlessFailed (with_scheme x) p q
+      → MeetsOrFailed kind p → is_scheme_text x ≡ true → MeetsOrFailed kind q
   parts-with-scheme-meet-rules adds meets rule = changed-parts-meet-rules
-      (with_scheme x) p q adds refl kind
-      (λ e. let r = meet_rules-gives-rules kind p (meets e) in
+      (with_scheme x) p q adds refl kind (λ e. let r = meet_rules-gives-rules kind p (meets e) in
       rules-give-meet_rules kind (with_scheme x p) (assumption r))
 
-  pub parts-with-scheme-are-in-order : AddsUnlessFailed (with_scheme x) p q → is_fresh needs p ≡
-      true
-      → is_in_order lacks_authority needs q ≡ true
-  parts-with-scheme-are-in-order adds before = changed-parts-are-in-order (with_scheme x) p q adds
-      refl lacks_authority needs
-      (λ e. and_from _ _ refl
-      (and_parts (is_none p.scheme) (lacks_authority p)
-      (fresh-builder-lacks-all-parts needs p before e)).1)
+  pub parts-with-scheme-are-in-order : AddsUnlessFailed (with_scheme x) p q
+      → is_fresh needs p ≡ true → is_in_order lacks_authority needs q ≡ true
+  parts-with-scheme-are-in-order adds before = changed-parts-are-in-order
+      (with_scheme x) p q adds refl lacks_authority needs (λ e. and_from _ _ refl (and_parts
+      (is_none p.scheme) (lacks_authority p) (fresh-builder-lacks-all-parts needs p before e)).1)
 
-  pub parts-with-authority-meet-rules : AddsUnlessFailed (with_authority x) p q → MeetsOrFailed kind
-      p
-      → is_authority_text kind x ≡ true
-      → MeetsOrFailed kind q
-  parts-with-authority-meet-rules adds meets rule = changed-parts-meet-rules (with_authority x) p q
-      adds refl kind
-      (λ e. let r = meet_rules-gives-rules kind p (meets e) in
+  pub parts-with-authority-meet-rules : AddsUnlessFailed (with_authority x) p q
+      → MeetsOrFailed kind p → is_authority_text kind x ≡ true → MeetsOrFailed kind q
+  parts-with-authority-meet-rules adds meets rule = changed-parts-meet-rules
+      (with_authority x) p q adds refl kind (λ e. let r = meet_rules-gives-rules kind p (meets e) in
       rules-give-meet_rules kind (with_authority x p) (assumption r))
 
   parts_before_authority_lack_path : is_in_order lacks_authority needs p ≡ true → p.failed ≡ false
@@ -120,71 +102,55 @@ module _ (kind : Kind) (needs : Bool) (p q : BuilderParts) (x : List ℕ) where
       grind (arith, nat_tests, in-order-parts-pass-their-test)
 
   pub parts-with-authority-are-in-order : AddsUnlessFailed (with_authority x) p q
-      → is_in_order lacks_authority needs p
-      ≡ true
-      → is_in_order lacks_path needs q ≡ true
+      → is_in_order lacks_authority needs p ≡ true → is_in_order lacks_path needs q ≡ true
   parts-with-authority-are-in-order adds before = changed-parts-are-in-order (with_authority x) p q
       adds refl lacks_path needs
       (λ e. let h = parts_before_authority_lack_path before e in and_from _ _ h.0 h.1)
 
   pub parts-with-begun-authority-are-in-order : AddsUnlessFailed (with_authority []) p q
-      → is_in_order lacks_authority needs p
-      ≡ true
+      → is_in_order lacks_authority needs p ≡ true
       → is_in_order (ends_in_authority is_empty) needs q ≡ true
   parts-with-begun-authority-are-in-order adds before = changed-parts-are-in-order
-      (with_authority []) p q adds refl (ends_in_authority is_empty) needs
-      (λ e. let h = parts_before_authority_lack_path before e in and_from _ _ h.0
-      (and_from _ _ refl h.1))
+      (with_authority []) p q adds refl (ends_in_authority is_empty) needs (λ e.
+      let h = parts_before_authority_lack_path before e in and_from _ _ h.0 (and_from _ _ refl h.1))
 
-  pub parts-with-path-meet-rules : AddsUnlessFailed (with_path x) p q → MeetsOrFailed kind p
-      → is_text_for kind.path x
-      ≡ true
-      → MeetsOrFailed kind q
+  pub parts-with-path-meet-rules : AddsUnlessFailed (with_path x) p q
+      → MeetsOrFailed kind p → is_text_for kind.path x ≡ true → MeetsOrFailed kind q
   parts-with-path-meet-rules adds meets rule = changed-parts-meet-rules
-      (with_path x) p q adds refl kind
-      (λ e. let r = meet_rules-gives-rules kind p (meets e) in
+      (with_path x) p q adds refl kind (λ e. let r = meet_rules-gives-rules kind p (meets e) in
       rules-give-meet_rules kind (with_path x p) (assumption r))
 
-  pub parts-with-path-are-in-order : AddsUnlessFailed (with_path x) p q → is_in_order lacks_path
-      needs p
-      ≡ true
-      → is_in_order has_path_last needs q ≡ true
+  pub parts-with-path-are-in-order : AddsUnlessFailed (with_path x) p q
+      → is_in_order lacks_path needs p ≡ true → is_in_order has_path_last needs q ≡ true
   parts-with-path-are-in-order adds before = changed-parts-are-in-order (with_path x) p q adds refl
       has_path_last needs
       (λ e. let h = in-order-parts-pass-their-test lacks_path needs p before e in
       and_from _ _ h.0 (and_from _ _ refl
       (and_parts (is_none p.path) (lacks_query_and_fragment p) h.1).1))
 
-  pub parts-with-query-meet-rules : AddsUnlessFailed (with_query x) p q → MeetsOrFailed kind p
-      → is_text_for kind.query x
-      ≡ true
-      → MeetsOrFailed kind q
+  pub parts-with-query-meet-rules : AddsUnlessFailed (with_query x) p q
+      → MeetsOrFailed kind p → is_text_for kind.query x ≡ true → MeetsOrFailed kind q
   parts-with-query-meet-rules adds meets rule = changed-parts-meet-rules
-      (with_query x) p q adds refl kind
-      (λ e. let r = meet_rules-gives-rules kind p (meets e) in
+      (with_query x) p q adds refl kind (λ e. let r = meet_rules-gives-rules kind p (meets e) in
       rules-give-meet_rules kind (with_query x p) (assumption r))
 
   pub parts-with-query-are-in-order : AddsUnlessFailed (with_query x) p q
       → is_in_order has_path_last needs p ≡ true
       → is_in_order has_path_before_fragment needs q ≡ true
   parts-with-query-are-in-order adds before =
-      changed-parts-are-in-order (with_query x) p q adds refl has_path_before_fragment needs
-      (λ e.
+      changed-parts-are-in-order (with_query x) p q adds refl has_path_before_fragment needs (λ e.
       let h = in-order-parts-pass-their-test has_path_last needs p before e in
       let s = and_parts (is_some p.path) (lacks_query_and_fragment p) h.1 in
       and_from _ _ h.0 (and_from _ _ s.0 (and_parts (is_none p.query) (is_none p.fragment) s.1).1))
 
   pub parts-with-fragment-meet-rules : AddsUnlessFailed (with_fragment x) p q → MeetsOrFailed kind p
       → is_text_for kind.fragment x ≡ true → MeetsOrFailed kind q
-  parts-with-fragment-meet-rules adds meets rule = changed-parts-meet-rules (with_fragment x) p q
-      adds refl kind
-      (λ e. let r = meet_rules-gives-rules kind p (meets e) in
+  parts-with-fragment-meet-rules adds meets rule = changed-parts-meet-rules
+      (with_fragment x) p q adds refl kind (λ e. let r = meet_rules-gives-rules kind p (meets e) in
       rules-give-meet_rules kind (with_fragment x p) (assumption r))
 
   pub parts-with-fragment-are-in-order : AddsUnlessFailed (with_fragment x) p q
-      → is_in_order has_path_before_fragment needs p
-      ≡ true
-      → is_in_order has_path needs q ≡ true
+      → is_in_order has_path_before_fragment needs p ≡ true → is_in_order has_path needs q ≡ true
   parts-with-fragment-are-in-order adds before = changed-parts-are-in-order (with_fragment x) p q
       adds refl has_path needs
       (λ e. let h = in-order-parts-pass-their-test has_path_before_fragment needs p before e in
@@ -214,12 +180,10 @@ module _ (kind : Kind) (needs : Bool) (p q : BuilderParts) (x : List ℕ) (takes
       (and_parts _ _ h.1).0
 
   pub parts-with-longer-authority-meet-rules : MeetsOrFailed kind q
-  parts-with-longer-authority-meet-rules f =
-      changed-parts-meet-rules (with_more_authority x) p q adds refl kind
-      (λ e. let r = meet_rules-gives-rules kind p (meets e) in
-      rules-give-meet_rules kind (with_more_authority x p)
-      (assumption (r, authority-of-parts-is-extended f e)))
-      f
+  parts-with-longer-authority-meet-rules f = changed-parts-meet-rules (with_more_authority x)
+      p q adds refl kind (λ e. let r = meet_rules-gives-rules kind p (meets e) in
+      rules-give-meet_rules kind
+      (with_more_authority x p) (assumption (r, authority-of-parts-is-extended f e))) f
 
   pub parts-with-longer-authority-are-in-order : is_in_order (ends_in_authority then) needs q ≡ true
   unfolding is_in_order

@@ -1,11 +1,6 @@
 -- Texts that are read from their ends in blocks.
-use Rattle.std.proofs.Common.{◌≡◌, ℕ, ◌<◌, ◌≤◌, ◌+◌, ◌-◌, Bool, true, false, List, [], ◌∷◌, ◌++◌, length, take, drop, refl, sym, ap, ◌∙◌, arith, append_assoc, ⊎_elim}
-use Rattle.std.proofs.Math.Seq.{drop-append_seam, take-append_seam}
-use Rattle.std.proofs.lemmas.Bool.{cases_lt}
-use Rattle.std.proofs.lemmas.List.{append-nil, length-append, length-drop, map-append, nil_from_length, take-append-drop, take_all}
-use Rattle.std.specs.Char.{to_ascii_lowercase}
+use Rattle.uri_ops.proofs.Common.{◌≡◌, ℕ, ◌<◌, ◌≤◌, ◌+◌, ◌-◌, Bool, true, false, List, [], ◌∷◌, ◌++◌, length, take, drop, refl, sym, ap, ◌∙◌, arith, append_assoc, ⊎_elim, drop-append_seam, take-append_seam, cases_lt, append-nil, length-append, length-drop, map-append, nil_from_length, take-append-drop, take_all, to_ascii_lowercase, cased}
 use Rattle.uri_ops.specs.FromEnd.Blocks.{IsLastBlock}
-use Rattle.uri_ops.specs.FromEnd.Literals.{cased}
 
 -- texts in lower case or not: two texts, one after the other
 cased_texts_append : (lowers : Bool) (one other : List ℕ)
@@ -21,37 +16,30 @@ literal_is_read lowers n text before after e =
     ap (λ t. cased lowers t ++ before) (sym (take-append-drop n text))
     ∙ ap (λ t. t ++ before) (cased_texts_append lowers (take n text) (drop n text))
     ∙ append_assoc (cased lowers (take n text)) (cased lowers (drop n text)) before
-    ∙ ap (λ t. cased lowers (take n text) ++ t)
-    (ap (λ t. cased lowers t ++ before) (sym (take_all (length text - n) (drop n text)
-    (omega (arith, length-drop n text)))) ∙ sym e)
+    ∙ ap (λ t. cased lowers (take n text) ++ t) (ap (λ t. cased lowers t ++ before)
+    (sym (take_all (length text - n) (drop n text) (omega (arith, length-drop n text)))) ∙ sym e)
 
 -- paths: the segments before the current one stay when bytes of that are read
-pub segment_is_read : (prefix slash segment left before after : List ℕ)
-    → segment ++ before ≡ left ++ after
-    → (prefix ++ (slash ++ segment)) ++ before ≡ (prefix ++ (slash ++ left)) ++ after
+pub segment_is_read : (prefix slash segment left before after : List ℕ) → segment ++ before ≡ left
+    ++ after → (prefix ++ (slash ++ segment)) ++ before ≡ (prefix ++ (slash ++ left)) ++ after
 segment_is_read prefix slash segment left before after e =
     append_assoc prefix (slash ++ segment) before
     ∙ ap (λ t. prefix ++ t) (append_assoc slash segment before ∙ ap (λ t. slash ++ t) e
-    ∙ sym (append_assoc slash left after))
-    ∙ sym (append_assoc prefix (slash ++ left) after)
+    ∙ sym (append_assoc slash left after)) ∙ sym (append_assoc prefix (slash ++ left) after)
 
 -- paths: a `/` is read if nothing is left after it
 pub slash_is_read : (prefix segment before : List ℕ) (slash : ℕ) → segment ≡ []
     → (prefix ++ ((slash ∷ []) ++ segment)) ++ before ≡ (prefix ++ ([] ++ segment)) ++ slash ∷ before
-slash_is_read prefix segment before slash none = rw none
-    (append_assoc prefix (slash ∷ []) before
+slash_is_read prefix segment before slash none = rw none (append_assoc prefix (slash ∷ []) before
     ∙ ap (λ t. t ++ slash ∷ before) (sym (append-nil prefix)))
 
 -- blocks: what is put at the end of a block that is otherwise empty is the last block
 pub bytes_at_end_are_last_block : (size start : ℕ) (text left before after : List ℕ)
-    → length before ≡ size → length after ≡ size → start ≤ size
-    → text ++ drop size before ≡ left ++ drop start after → (0 < start → left ≡ [])
-    → IsLastBlock size text left (drop start after)
+    → length before ≡ size → length after ≡ size → start ≤ size → text ++ drop size before ≡ left
+    ++ drop start after → (0 < start → left ≡ []) → IsLastBlock size text left (drop start after)
 bytes_at_end_are_last_block size start text left before after m n within e last = record {
-  whole = sym (append-nil text)
-      ∙ ap (λ t. text ++ t) (sym (nil_from_length (drop size before)
-      (omega (arith, length-drop size before))))
-      ∙ e;
+  whole = sym (append-nil text) ∙ ap (λ t. text ++ t)
+      (sym (nil_from_length (drop size before) (omega (arith, length-drop size before)))) ∙ e;
   within = omega (arith, length-drop start after);
   last = λ h. last (omega (arith, length-drop start after));
 }
@@ -67,22 +55,15 @@ last_blocks_have_one_length size text left block other rest found a b same =
     ap length same ∙ ap length b.whole ∙ length-append rest found in
     let small = a.within in
     let low = b.within in
-    ⊎_elim
-    (λ h.
+    ⊎_elim (λ h.
     let none = ap length (a.last h) in
-    ⊎_elim
-    (λ g.
+    ⊎_elim (λ g.
     let nil = ap length (b.last g) in
     omega (arith, none, nil))
-    (λ g. omega (arith, none))
-    (cases_lt (length found) size))
-    (λ h. ⊎_elim
-    (λ g.
+    (λ g. omega (arith, none)) (cases_lt (length found) size)) (λ h. ⊎_elim (λ g.
     let nil = ap length (b.last g) in
-    omega (arith, nil))
-    (λ g. omega arith)
-    (cases_lt (length found) size))
-    (cases_lt (length block) size)
+    omega
+    (arith, nil)) (λ g. omega arith) (cases_lt (length found) size)) (cases_lt (length block) size)
 
 -- blocks: equal texts have equal last blocks
 pub equal_texts_have_equal_last_blocks : (size : ℕ) (text left block other rest found : List ℕ)
@@ -129,9 +110,8 @@ end_is_read_if_nothing_is_held whole held text end left before after e none f =
 
 -- blocks: some of a text is read if there is room
 pub some_is_read : (size end start : ℕ) (text left before after : List ℕ) → length before ≡ size
-    → length after ≡ size → end ≤ size
-    → text ++ drop end before ≡ left ++ drop start after → (0 < start → left ≡ [])
-    → 0 < length text → 0 < end → start < end
+    → length after ≡ size → end ≤ size → text ++ drop end before ≡ left ++ drop start after
+    → (0 < start → left ≡ []) → 0 < length text → 0 < end → start < end
 some_is_read size end start text left before after m n within e last some room =
     let all = ap length e in
     let first = length-append text (drop end before) in
@@ -139,5 +119,4 @@ some_is_read size end start text left before after m n within e last some room =
     let from = length-drop end before in
     let to = length-drop start after in
     ⊎_elim (λ fewer. fewer)
-    (λ h. let none = ap length (last (omega arith)) in absurd (omega arith))
-    (cases_lt start end)
+    (λ h. let none = ap length (last (omega arith)) in absurd (omega arith)) (cases_lt start end)

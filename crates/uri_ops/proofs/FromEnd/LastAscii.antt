@@ -1,25 +1,8 @@
 -- A component that ends in ASCII: its last characters are written as they are, but for case, and its
 -- last octet is decoded by itself.
-use Rattle.std.proofs.Common.{◌≡◌, ℕ, ◌-◌, ◌<◌, ◌≤◌, inl, Bool, true, false, List, [], ◌∷◌, ◌++◌, length, get_or, take, drop, refl, sym, ap, ◌∙◌, subst, arith, ⊎_elim, append_assoc, length-append}
-use Rattle.std.specs.List.{flat_map}
-use Rattle.std.specs.Str.{IsUtf8}
-use Rattle.std.proofs.lemmas.Bool.{cases_Bool}
-use Rattle.std.proofs.lemmas.List.{append-nil, get_or_append_left, get_or_at, length-drop, length-take, take-append-drop, take_all}
-use Rattle.std.proofs.lemmas.List.Concat.{flat_map-append}
-use Rattle.std.proofs.lemmas.Str.{IsUtf8-append, encode_ascii}
-use Rattle.uri_pct.specs.Chunks.{widest_set}
-use Rattle.uri_pct.specs.DecodeUnreserved.{decode_after_run, decode_octet, decode_piece, decode_run, encode_formatting, formatting_as_octets, decode_tokens}
-use Rattle.uri_pct.specs.Pieces.{pieces_from, utf8_pieces}
-use Rattle.uri_pct.specs.Sets.{TableSet, is_unreserved}
-use Rattle.uri_pct.specs.Tokens.{IsValidFor, Token, Char, Octet, print, tokens}
+use Rattle.uri_ops.proofs.Common.{◌≡◌, ℕ, ◌-◌, ◌<◌, inl, Bool, true, false, List, [], ◌∷◌, ◌++◌, length, get_or, take, drop, refl, sym, ap, ◌∙◌, subst, arith, ⊎_elim, append_assoc, length-append, flat_map, IsUtf8, cases_Bool, append-nil, get_or_append_left, get_or_at, length-drop, length-take, take-append-drop, take_all, flat_map-append, IsUtf8-append, encode_ascii, widest_set, decode_after_run, decode_octet, decode_piece, decode_run, encode_formatting, formatting_as_octets, decode_tokens, pieces_from, utf8_pieces, TableSet, is_unreserved, IsValidFor, Token, Char, Octet, print, tokens, byte_below_80_or_from_c0_is_no_continuation, utf8_pieces_are_cut_at_non_continuation, ascii_char_separates_encode_formatting, IsAsciiSuffix, LacksPercentThird, cased, normal_component, lowered_code_if, lowered_if}
 use Rattle.uri_pct.proofs.Unicode.AsciiOctets.{ascii_byte_is_utf8}
-use Rattle.uri_pct.proofs.Unicode.CharacterPieces.{byte_below_80_or_from_c0_is_no_continuation}
-use Rattle.uri_pct.proofs.Unicode.Pieces.{utf8_pieces_are_cut_at_non_continuation}
-use Rattle.uri_pct.proofs.UnreservedDecoding.Formatting.{ascii_char_separates_encode_formatting}
-use Rattle.uri_ops.specs.FromEnd.LastTokens.{EndsIn, IsAsciiSuffix, LacksPercentThird}
-use Rattle.uri_ops.specs.FromEnd.Literals.{cased}
-use Rattle.uri_ops.specs.FromEnd.NormalComponents.{normal_component}
-use Rattle.uri_ops.specs.Models.Decodings.{lowered_code_if, lowered_if}
+use Rattle.uri_ops.specs.FromEnd.LastTokens.{EndsIn}
 use Rattle.uri_ops.proofs.FromEnd.LastOctets.{decoded}
 use Rattle.uri_ops.proofs.FromEnd.LastTokens.{last_char_is_last_token, no_octet_ends_text}
 use Rattle.uri_ops.proofs.FromEnd.NormalTokens.{last_ascii_is_written_last, last_tokens_are_written_last}
@@ -37,42 +20,34 @@ last_ascii_byte_is_decoded_alone set run b low =
 
 -- unreserved octets: after a run, the last octet is decoded by itself, if it is of ASCII
 last_ascii_octet_is_decoded_after_run : (set : TableSet) (run : List ℕ) (ts : List Token) (b : ℕ)
-    → b < 128
-    → decode_after_run set run (ts ++ Octet b ∷ [])
+    → b < 128 → decode_after_run set run (ts ++ Octet b ∷ [])
     ≡ decode_after_run set run ts ++ decode_octet (Octet b) ∷ []
 unfolding decode_after_run
 last_ascii_octet_is_decoded_after_run set run [] b low =
     last_ascii_byte_is_decoded_alone set run b low
 last_ascii_octet_is_decoded_after_run set run (Octet u ∷ ts) b low =
     last_ascii_octet_is_decoded_after_run set (run ++ u ∷ []) ts b low
-last_ascii_octet_is_decoded_after_run set run (Char d ∷ ts) b low =
-    ap (λ us. decode_run set run ++ Char d ∷ us)
-    (last_ascii_octet_is_decoded_after_run set [] ts b low)
-    ∙ sym (append_assoc (decode_run set run) (Char d ∷ decode_after_run set [] ts)
-    (decode_octet (Octet b) ∷ []))
+last_ascii_octet_is_decoded_after_run set run (Char d ∷ ts) b low = ap (λ us. decode_run set run
+    ++ Char d ∷ us) (last_ascii_octet_is_decoded_after_run set [] ts b low) ∙ sym (append_assoc
+    (decode_run set run) (Char d ∷ decode_after_run set [] ts) (decode_octet (Octet b) ∷ []))
 
 -- unreserved octets: what an octet of ASCII is decoded to is no formatting character
 decoded_ascii_octet_is_no_formatting : (set : TableSet) (b : ℕ) → b < 128
     → encode_formatting set (decode_octet (Octet b) ∷ []) ≡ decode_octet (Octet b) ∷ []
-decoded_ascii_octet_is_no_formatting set b low = ⊎_elim
-    (λ e. rw e (ascii_char_separates_encode_formatting set [] b [] low))
-    (λ e. rw e refl)
-    (cases_Bool (is_unreserved b))
+decoded_ascii_octet_is_no_formatting set b low =
+    ⊎_elim (λ e. rw e (ascii_char_separates_encode_formatting set [] b [] low))
+    (λ e. rw e refl) (cases_Bool (is_unreserved b))
 
 -- normal texts: a last octet of ASCII is written last, decoded if its character is unreserved
 pub last_ascii_octet_is_written_last : (set : TableSet) (lowers : Bool) (text before : List ℕ)
-    (b : ℕ)
-    → EndsIn text before (Octet b ∷ []) → b < 128
-    → normal_component lowers set text
+    (b : ℕ) → EndsIn text before (Octet b ∷ []) → b < 128 → normal_component lowers set text
     ≡ normal_component lowers set before ++ print (lowered_if lowers (decode_octet (Octet b) ∷ []))
 last_ascii_octet_is_written_last set lowers text before b ends low =
     last_tokens_are_written_last set lowers text before (Octet b ∷ []) _ ends
-    (ap (encode_formatting set)
-    (last_ascii_octet_is_decoded_after_run set [] (tokens before) b low)
-    ∙ flat_map-append (formatting_as_octets set) (decode_tokens set (tokens before))
-    (decode_octet (Octet b) ∷ [])
-    ∙ ap (λ ts. decoded set (tokens before) ++ ts)
-    (decoded_ascii_octet_is_no_formatting set b low))
+    (ap (encode_formatting set) (last_ascii_octet_is_decoded_after_run set [] (tokens before) b low)
+    ∙ flat_map-append
+    (formatting_as_octets set) (decode_tokens set (tokens before)) (decode_octet (Octet b) ∷ [])
+    ∙ ap (λ ts. decoded set (tokens before) ++ ts) (decoded_ascii_octet_is_no_formatting set b low))
 
 -- normal texts: no characters are none in any case
 no_characters_are_cased : (lowers : Bool) → cased lowers [] ≡ []
@@ -86,13 +61,11 @@ first_character_is_cased true c run = refl
 first_character_is_cased false c run = refl
 
 -- cuts of valid texts: what is after a first byte of ASCII is ASCII that is in no octet too
-ascii_suffix_without_first_byte : (before run : List ℕ) (c : ℕ)
-    → IsAsciiSuffix (before ++ c ∷ run) (length before)
-    → IsAsciiSuffix ((before ++ c ∷ []) ++ run) (length (before ++ c ∷ []))
+ascii_suffix_without_first_byte : (before run : List ℕ) (c : ℕ) → IsAsciiSuffix (before ++ c
+    ∷ run) (length before) → IsAsciiSuffix ((before ++ c ∷ []) ++ run) (length (before ++ c ∷ []))
 ascii_suffix_without_first_byte before run c h =
     subst (λ t. IsAsciiSuffix t (length (before ++ c ∷ [])))
-    (sym (append_assoc before (c ∷ []) run))
-    (let more = length-append before (c ∷ []) in
+    (sym (append_assoc before (c ∷ []) run)) (let more = length-append before (c ∷ []) in
     record {
       within = omega (arith, length-append before (c ∷ run), more);
       ascii = λ k from under. h.ascii k (omega (arith, more)) under;
@@ -131,34 +104,29 @@ ascii_run_is_written_last set lowers before (c ∷ run) utf8 valid h =
     let low : c < 128 = subst (λ b. b < 128) (get_or_at before c run 0 _ refl)
     (h.ascii (length before) (omega arith) (omega (arith, length-append before (c ∷ run)))) in
     let wide : IsUtf8 longer = IsUtf8-append before (c ∷ []) utf8 (ascii_byte_is_utf8 c low) in
-    let rest = ascii_run_is_written_last set lowers longer run wide
-    (subst (IsValidFor widest_set) (sym whole) valid) (ascii_suffix_without_first_byte before run c h)
-    in
+    let rest = ascii_run_is_written_last set lowers longer run wide (subst (IsValidFor widest_set)
+    (sym whole) valid) (ascii_suffix_without_first_byte before run c h) in
     let ends : EndsIn longer before (Char c ∷ []) = last_char_is_last_token longer before c wide utf8
     (ap (λ t. before ++ t) (sym (encode_ascii c low))) rest.valid
     (no_octet_ends_text longer wide rest.valid (ascii_suffix_begins_in_no_octet before run c h)) in
-    let last : normal_component lowers set longer
-    ≡ normal_component lowers set before ++ lowered_code_if lowers c ∷ [] =
-    sym (append-nil (normal_component lowers set longer))
-    ∙ last_ascii_is_written_last set lowers longer before [] [] c _ ends low refl refl refl
-    ∙ ap (λ t. t ++ lowered_code_if lowers c ∷ []) (append-nil (normal_component lowers set before))
-    in
+    let last : normal_component lowers set longer ≡ normal_component lowers set before
+    ++ lowered_code_if lowers c ∷ [] = sym (append-nil (normal_component lowers set longer))
+    ∙ last_ascii_is_written_last set lowers longer before [] [] c _ ends low refl refl refl ∙ ap
+    (λ t. t ++ lowered_code_if lowers c ∷ []) (append-nil (normal_component lowers set before)) in
     record {
-      text = ap (normal_component lowers set) (sym whole) ∙ rest.text
-          ∙ ap (λ t. t ++ cased lowers run) last
-          ∙ append_assoc (normal_component lowers set before) (lowered_code_if lowers c ∷ [])
-          (cased lowers run)
-          ∙ ap (λ t. normal_component lowers set before ++ t)
-          (sym (first_character_is_cased lowers c run));
+      text = ap (normal_component lowers set) (sym whole)
+          ∙ rest.text ∙ ap (λ t. t ++ cased lowers run) last
+          ∙ append_assoc (normal_component lowers set before) (lowered_code_if lowers c
+          ∷ []) (cased lowers run) ∙ ap (λ t. normal_component lowers set before
+          ++ t) (sym (first_character_is_cased lowers c run));
       valid = ends.valid;
     }
 
 -- normal texts: a suffix of ASCII that is in no octet is written last, but for case as it is
 pub ascii_suffix_is_written_last : (set : TableSet) (lowers : Bool) (text : List ℕ) (start : ℕ)
     → IsUtf8 (take start text) → IsValidFor widest_set text → IsAsciiSuffix text start
-    → (normal_component lowers set text
-    ≡ normal_component lowers set (take start text) ++ cased lowers (drop start text))
-    × IsValidFor widest_set (take start text)
+    → (normal_component lowers set text ≡ normal_component lowers set (take start text)
+    ++ cased lowers (drop start text)) × IsValidFor widest_set (take start text)
 ascii_suffix_is_written_last set lowers text start utf8 valid h =
     let before = take start text in
     let run = drop start text in
@@ -166,27 +134,22 @@ ascii_suffix_is_written_last set lowers text start utf8 valid h =
     let within = h.within in
     let size : length before ≡ start = omega (arith, length-take start text) in
     let written = ascii_run_is_written_last set lowers before run utf8
-    (subst (IsValidFor widest_set) (sym whole) valid)
-    (subst (IsAsciiSuffix (before ++ run)) (sym size)
-    (subst (λ t. IsAsciiSuffix t start) (sym whole) h)) in
+    (subst (IsValidFor widest_set) (sym whole) valid) (subst (IsAsciiSuffix (before ++ run))
+    (sym size) (subst (λ t. IsAsciiSuffix t start) (sym whole) h)) in
     (ap (normal_component lowers set) (sym whole) ∙ written.text, written.valid)
 
 -- normal texts: the bytes of a suffix of ASCII that is in no octet are written last
-pub ascii_end_is_written_last : (set : TableSet) (lowers : Bool) (bytes text prefix : List ℕ)
-    (start : ℕ)
-    → bytes ≡ text → prefix ≡ take start text → IsUtf8 prefix → IsValidFor widest_set text
-    → IsAsciiSuffix bytes start
-    → (normal_component lowers set text
-    ≡ normal_component lowers set prefix
-    ++ cased lowers (take (length bytes - start) (drop start bytes)))
-    × IsValidFor widest_set prefix
+pub ascii_end_is_written_last : (set : TableSet) (lowers : Bool)
+    (bytes text prefix : List ℕ) (start : ℕ) → bytes ≡ text → prefix ≡ take start text
+    → IsUtf8 prefix → IsValidFor widest_set text → IsAsciiSuffix bytes start
+    → (normal_component lowers set text ≡ normal_component lowers set prefix
+    ++ cased lowers (take (length bytes - start) (drop start bytes))) × IsValidFor widest_set prefix
 ascii_end_is_written_last set lowers bytes text prefix start same cut utf8 valid h =
     let written = ascii_suffix_is_written_last set lowers text start (subst IsUtf8 cut utf8) valid
     (subst (λ t. IsAsciiSuffix t start) same h) in
     let end : drop start text ≡ take (length bytes - start) (drop start bytes) =
-    ap (drop start) (sym same)
-    ∙ sym (take_all (length bytes - start) (drop start bytes)
-    (omega (arith, length-drop start bytes))) in (
+    ap (drop start) (sym same) ∙ sym (take_all (length bytes - start)
+    (drop start bytes) (omega (arith, length-drop start bytes))) in (
       written.0 ∙ ap (λ t. normal_component lowers set t ++ cased lowers (drop start text)) (sym cut)
           ∙ ap (λ t. normal_component lowers set prefix ++ cased lowers t) end,
       subst (IsValidFor widest_set) (sym cut) written.1,

@@ -1,11 +1,5 @@
 -- Whether the octets of a decodable character end tokens: at most four octets from the end say it.
-use Rattle.std.proofs.Common.{◌≡◌, ℕ, ◌<◌, ◌≤◌, ◌⊎◌, inl, inr, List, [], ◌∷◌, ◌++◌, length, map, set, refl, sym, ap, ◌∙◌, arith, ⊎_elim}
-use Rattle.std.specs.Char.{encode_utf8}
-use Rattle.std.proofs.lemmas.List.{append-nil, length-append}
-use Rattle.std.proofs.lemmas.Str.{encode_same, length-encode, len_utf8_bounds}
-use Rattle.uri_pct.specs.Sets.{TableSet}
-use Rattle.uri_pct.specs.Tokens.{Token, Octet}
-use Rattle.uri_ops.specs.FromEnd.LastTokens.{EndInNoOctet, EndInNoDecodable, TokensEndInNoDecodable}
+use Rattle.uri_ops.proofs.Common.{◌≡◌, ℕ, ◌<◌, ◌≤◌, ◌⊎◌, inl, inr, List, [], ◌∷◌, ◌++◌, length, map, set, refl, sym, ap, ◌∙◌, arith, ⊎_elim, encode_utf8, append-nil, length-append, encode_same, length-encode, len_utf8_bounds, TableSet, Token, Octet, EndInNoOctet, EndInNoDecodable, TokensEndInNoDecodable}
 
 -- UTF-8: a character has from one to four bytes
 pub char_has_one_to_four_bytes : (c : ℕ) → (1 ≤ length (encode_utf8 c))
@@ -82,9 +76,8 @@ no_decodable_ends_after_no_octet set all ts bs same no_octet none before c scala
     (octets_end_octets_or_are_more ts before bs (encode_utf8 c) (sym same ∙ e))
 
 -- unreserved octets: only the last four octets may be those of a last character
-pub no_decodable_ends_with_four_octets : (set : TableSet) (all ts : List Token) (bs : List ℕ)
-    → all ≡ ts ++ map Octet bs → 4 ≤ length bs → EndInNoDecodable set bs
-    → TokensEndInNoDecodable set all
+pub no_decodable_ends_with_four_octets : (set : TableSet) (all ts : List Token) (bs : List ℕ) → all
+    ≡ ts ++ map Octet bs → 4 ≤ length bs → EndInNoDecodable set bs → TokensEndInNoDecodable set all
 no_decodable_ends_with_four_octets set all ts bs same four none before c scalar decodable e =
     ⊎_elim (λ among. none among.0 c scalar decodable among.1)
     (λ more. let few = char_has_one_to_four_bytes c in absurd (omega arith))

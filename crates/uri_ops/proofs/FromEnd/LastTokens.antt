@@ -1,20 +1,9 @@
 -- The last token of a valid text: an octet if the third byte from the end is `%`, else a character.
-use Rattle.std.proofs.Common.{◌≡◌, ℕ, suc, ◌+◌, ◌-◌, ◌*◌, ◌<◌, ◌≤◌, ◌⊎◌, inl, inr, true, false, List, [], ◌∷◌, ◌++◌, length, get_or, take, drop, refl, sym, ap, ◌∙◌, subst, arith, ⊎_elim, append_assoc, eqb, lit<}
-use Rattle.std.specs.List.{list_all}
-use Rattle.std.specs.Char.{IsScalar, encode_utf8, digit_value, is_ascii_hexdigit}
-use Rattle.std.specs.Str.{chars, all_scalars, IsUtf8}
-use Rattle.std.proofs.lemmas.Bool.{cases_Bool, cond-true, cond-false, and_parts, and_from, and_right, ne_eqb}
-use Rattle.std.proofs.lemmas.List.{take-append-drop, drop_more, length-drop, get_or-drop, get_or_at, length-append, append-nil, take_at, drop_at, nil_from_length, take_all, take_more}
-use Rattle.std.proofs.lemmas.List.Folds.{list_all-append}
-use Rattle.std.proofs.lemmas.Str.{chars-append, chars-nil, IsUtf8-take, IsUtf8-drop, IsCharBoundary-before_ascii, chars-encodes, cons_from_encodes, IsCharBoundary-from_take, encode_ascii}
-use Rattle.uri_pct.specs.Chunks.{widest_set}
-use Rattle.uri_pct.specs.Tokens.{Token, Char, Octet, is_pct_encoded, tokens_from_chars, tokens, allows_token, is_valid_for, IsValidFor}
+use Rattle.uri_ops.proofs.Common.{◌≡◌, ℕ, suc, ◌+◌, ◌-◌, ◌*◌, ◌<◌, ◌≤◌, ◌⊎◌, inl, inr, true, false, List, [], ◌∷◌, ◌++◌, length, get_or, take, drop, refl, sym, ap, ◌∙◌, subst, arith, ⊎_elim, append_assoc, eqb, lit<, list_all, IsScalar, encode_utf8, digit_value, is_ascii_hexdigit, chars, all_scalars, IsUtf8, cases_Bool, cond-true, cond-false, and_parts, and_from, and_right, ne_eqb, take-append-drop, drop_more, length-drop, get_or-drop, get_or_at, length-append, append-nil, take_at, drop_at, nil_from_length, take_all, take_more, list_all-append, chars-append, chars-nil, IsUtf8-take, IsUtf8-drop, IsCharBoundary-before_ascii, chars-encodes, cons_from_encodes, IsCharBoundary-from_take, encode_ascii, widest_set, Token, Char, Octet, is_pct_encoded, tokens_from_chars, tokens, allows_token, is_valid_for, IsValidFor, BeginsWithOctet, bytes_from_percent_begin_with_octet, valid_text_has_printable_tokens, EndInNoOctet, LacksPercentThird}
 use Rattle.uri_pct.specs.Representation.{RepresentsToken, Represents}
-use Rattle.uri_pct.proofs.Decodings.Decoding.{BeginsWithOctet, bytes_from_percent_begin_with_octet}
 use Rattle.uri_pct.proofs.UnreservedDecoding.Representations.{text_represents_its_printable_tokens}
-use Rattle.uri_pct.proofs.ValidTexts.Allowed.{valid_text_has_printable_tokens}
 use Rattle.uri_pct.proofs.ValidTexts.TokenCuts.{ascii_byte_is_first_of_chars}
-use Rattle.uri_ops.specs.FromEnd.LastTokens.{EndsIn, EndInNoOctet, LacksPercentThird}
+use Rattle.uri_ops.specs.FromEnd.LastTokens.{EndsIn}
 
 -- cuts of valid texts: two characters of which the second is `%` (37) are no octet with a third
 percent_is_no_first_digit : (c d : ℕ) → is_pct_encoded c 37 d ≡ false
@@ -42,9 +31,8 @@ percent_separates_tokens_of_chars (c ∷ []) ds = char_before_percent_is_own_tok
 percent_separates_tokens_of_chars (c ∷ d ∷ []) ds = cond-false _ _ _
     (percent_is_no_second_digit c d)
     ∙ ap (λ ts. Char c ∷ ts) (char_before_percent_is_own_token d ds)
-percent_separates_tokens_of_chars (c ∷ high ∷ low ∷ cs) ds = ⊎_elim
-    (λ e. rw e (ap (λ ts. Octet (16 * digit_value high + digit_value low) ∷ ts)
-    (percent_separates_tokens_of_chars cs ds)))
+percent_separates_tokens_of_chars (c ∷ high ∷ low ∷ cs) ds = ⊎_elim (λ e. rw e (ap (λ ts. Octet
+    (16 * digit_value high + digit_value low) ∷ ts) (percent_separates_tokens_of_chars cs ds)))
     (λ e. rw e (ap (λ ts. Char c ∷ ts) (percent_separates_tokens_of_chars (high ∷ low ∷ cs) ds)))
     (cases_Bool (is_pct_encoded c high low))
 
@@ -64,16 +52,13 @@ texts_around_percent_are_valid : (before after : List ℕ) → IsUtf8 before
     → IsValidFor widest_set before × IsValidFor widest_set (37 ∷ after)
 unfolding is_valid_for
 texts_around_percent_are_valid before after u valid = and_parts _ _
-    (sym (list_all-append (allows_token widest_set) (tokens before) (tokens (37 ∷ after)))
-    ∙ sym (ap (list_all (allows_token widest_set)) (percent_separates_tokens before after u))
-    ∙ valid)
+    (sym (list_all-append (allows_token widest_set) (tokens before) (tokens (37 ∷ after))) ∙ sym
+    (ap (list_all (allows_token widest_set)) (percent_separates_tokens before after u)) ∙ valid)
 
 -- cuts of valid texts: the last octet, where the text is cut before its `%`
 octet_from_last_percent : (text : List ℕ) (n : ℕ) → IsUtf8 text → IsValidFor widest_set text
-    → n + 3 ≡ length text → get_or text n 0 ≡ 37
-    → IsValidFor widest_set (take n text)
-    × (tokens text ≡ tokens (take n text) ++ tokens (drop n text))
-    × BeginsWithOctet (drop n text)
+    → n + 3 ≡ length text → get_or text n 0 ≡ 37 → IsValidFor widest_set (take n text)
+    × (tokens text ≡ tokens (take n text) ++ tokens (drop n text)) × BeginsWithOctet (drop n text)
 octet_from_last_percent text n u valid long percent =
     let boundary = IsCharBoundary-before_ascii text n (omega arith) (omega arith) in
     let prefix = IsUtf8-take text n u boundary in
@@ -84,15 +69,13 @@ octet_from_last_percent text n u valid long percent =
     let both = texts_around_percent_are_valid (take n text) (drop (n + 1) text) prefix
     (sym (ap (is_valid_for widest_set) joined) ∙ valid) in
     let first : get_or (drop n text) 0 0 ≡ 37 = ap (λ t. get_or t 0 0) cut in
-    let some : eqb (length (drop n text)) 0 ≡ false =
-    ap (λ t. eqb (length t) 0) cut ∙ ne_eqb (suc (length (drop (n + 1) text))) 0 (λ e. omega arith)
-    in (
+    let some : eqb (length (drop n text)) 0 ≡ false = ap (λ t. eqb (length t) 0) cut
+    ∙ ne_eqb (suc (length (drop (n + 1) text))) 0 (λ e. omega arith) in (
       both.0,
       ap tokens joined ∙ percent_separates_tokens (take n text) (drop (n + 1) text) prefix
           ∙ ap (λ t. tokens (take n text) ++ tokens t) (sym cut),
       bytes_from_percent_begin_with_octet (drop n text) (drop n text) refl
-          (IsUtf8-drop text n u boundary)
-          (ap (is_valid_for widest_set) cut ∙ both.1) some first,
+          (IsUtf8-drop text n u boundary) (ap (is_valid_for widest_set) cut ∙ both.1) some first,
     )
 
 -- cuts of valid texts: the empty text has no tokens
@@ -109,14 +92,12 @@ pub record EndsInOctetAt (text : List ℕ) (n : ℕ) : Type 0 where
 
 -- cuts of valid texts: an octet ends a text if the third byte from the end, the n-th, is `%` (37)
 pub percent_third_from_end_begins_last_octet : (text : List ℕ) (n : ℕ) → IsUtf8 text
-    → IsValidFor widest_set text → n + 3 ≡ length text → get_or text n 0 ≡ 37
-    → EndsInOctetAt text n
+    → IsValidFor widest_set text → n + 3 ≡ length text → get_or text n 0 ≡ 37 → EndsInOctetAt text n
 percent_third_from_end_begins_last_octet text n u valid long percent =
     let p = octet_from_last_percent text n u valid long percent in
     let o = p.2 in
     let three : length (drop n text) ≡ 3 = length-drop n text ∙ omega arith in
-    let none : o.suffix ≡ [] =
-    nil_from_length o.suffix (omega (arith, ap length o.joined)) in
+    let none : o.suffix ≡ [] = nil_from_length o.suffix (omega (arith, ap length o.joined)) in
     let high : o.high ≡ get_or text (n + 1) 0 =
     sym (ap (λ t. get_or t 1 0) o.joined) ∙ get_or-drop n text 1 0 in
     let low : o.low ≡ get_or text (n + 2) 0 =
@@ -125,10 +106,9 @@ percent_third_from_end_begins_last_octet text n u valid long percent =
       high = ap is_ascii_hexdigit (sym high) ∙ o.high_digit;
       low = ap is_ascii_hexdigit (sym low) ∙ o.low_digit;
       ends = record {
-        tokens = p.1 ∙ ap (λ ts. tokens (take n text) ++ ts)
-            (o.first ∙ ap (λ ts. Octet (16 * digit_value o.high + digit_value o.low) ∷ ts)
-            (empty_text_has_no_tokens o.suffix none)
-            ∙ ap (λ h. Octet (16 * digit_value h + digit_value o.low) ∷ []) high
+        tokens = p.1 ∙ ap (λ ts. tokens (take n text) ++ ts) (o.first ∙ ap (λ
+            ts. Octet (16 * digit_value o.high + digit_value o.low) ∷ ts) (empty_text_has_no_tokens
+            o.suffix none) ∙ ap (λ h. Octet (16 * digit_value h + digit_value o.low) ∷ []) high
             ∙ ap (λ l. Octet (16 * digit_value (get_or text (n + 1) 0) + digit_value l) ∷ []) low);
         valid = p.0;
       };
@@ -194,32 +174,24 @@ no_octet_ends_text text u valid none ts value e =
 
 -- cuts of valid texts: the last of these characters is a token by itself, or an octet ends them
 last_char_is_own_token_or_ends_octet : (cs : List ℕ) (c : ℕ)
-    → (tokens_from_chars (cs ++ c ∷ []) ≡ tokens_from_chars cs ++ Char c ∷ [])
-    ⊎ ((ts : List Token) × ((value : ℕ)
-    × (tokens_from_chars (cs ++ c ∷ []) ≡ ts ++ Octet value ∷ [])))
+    → (tokens_from_chars (cs ++ c ∷ []) ≡ tokens_from_chars cs ++ Char c ∷ []) ⊎ ((ts : List Token)
+    × ((value : ℕ) × (tokens_from_chars (cs ++ c ∷ []) ≡ ts ++ Octet value ∷ [])))
 unfolding tokens_from_chars
 last_char_is_own_token_or_ends_octet [] c = inl refl
 last_char_is_own_token_or_ends_octet (a ∷ []) c = inl refl
-last_char_is_own_token_or_ends_octet (a ∷ b ∷ []) c = ⊎_elim
-    (λ e. inr ([], (16 * digit_value b + digit_value c, cond-true _ _ _ e)))
-    (λ e. inl (cond-false _ _ _ e))
-    (cases_Bool (is_pct_encoded a b c))
+last_char_is_own_token_or_ends_octet (a ∷ b ∷ []) c =
+    ⊎_elim (λ e. inr ([], (16 * digit_value b + digit_value c, cond-true _ _ _ e)))
+    (λ e. inl (cond-false _ _ _ e)) (cases_Bool (is_pct_encoded a b c))
 last_char_is_own_token_or_ends_octet (a ∷ b ∷ d ∷ cs) c =
     let first = Octet (16 * digit_value b + digit_value d) in
-    ⊎_elim
-    (λ e. ⊎_elim
-    (λ own. inl (cond-true _ _ _ e ∙ ap (λ ts. first ∷ ts) own
-    ∙ ap (λ ts. ts ++ Char c ∷ []) (sym (cond-true _ _ _ e))))
-    (λ octet. inr
+    ⊎_elim (λ e. ⊎_elim (λ own. inl (cond-true _ _ _ e ∙ ap (λ ts. first ∷ ts) own
+    ∙ ap (λ ts. ts ++ Char c ∷ []) (sym (cond-true _ _ _ e)))) (λ octet. inr
     (first ∷ octet.0, (octet.1.0, cond-true _ _ _ e ∙ ap (λ ts. first ∷ ts) octet.1.1)))
     (last_char_is_own_token_or_ends_octet cs c))
-    (λ e. ⊎_elim
-    (λ own. inl (cond-false _ _ _ e ∙ ap (λ ts. Char a ∷ ts) own
-    ∙ ap (λ ts. ts ++ Char c ∷ []) (sym (cond-false _ _ _ e))))
-    (λ octet. inr
+    (λ e. ⊎_elim (λ own. inl (cond-false _ _ _ e ∙ ap (λ ts. Char a ∷ ts) own
+    ∙ ap (λ ts. ts ++ Char c ∷ []) (sym (cond-false _ _ _ e)))) (λ octet. inr
     (Char a ∷ octet.0, (octet.1.0, cond-false _ _ _ e ∙ ap (λ ts. Char a ∷ ts) octet.1.1)))
-    (last_char_is_own_token_or_ends_octet (b ∷ d ∷ cs) c))
-    (cases_Bool (is_pct_encoded a b d))
+    (last_char_is_own_token_or_ends_octet (b ∷ d ∷ cs) c)) (cases_Bool (is_pct_encoded a b d))
 
 -- cuts of texts: what ends a text, as the bytes of one character, is a Unicode scalar value
 last_char_is_scalar : (text before : List ℕ) (c : ℕ) → IsUtf8 text → IsUtf8 before
@@ -243,22 +215,17 @@ pub last_char_is_last_token : (text before : List ℕ) (c : ℕ) → IsUtf8 text
 unfolding is_valid_for
 last_char_is_last_token text before c all u joined valid none =
     let scalar = last_char_is_scalar text before c all u joined in
-    let one : chars (encode_utf8 c) ≡ c ∷ [] =
-    ap chars (sym (append-nil (encode_utf8 c)))
-    ∙ chars-encodes (c ∷ []) (and_from _ true scalar refl)
-    in
+    let one : chars (encode_utf8 c) ≡ c ∷ [] = ap chars (sym (append-nil (encode_utf8 c)))
+    ∙ chars-encodes (c ∷ []) (and_from _ true scalar refl) in
     let cs : chars text ≡ chars before ++ c ∷ [] =
     ap chars joined ∙ chars-append before (encode_utf8 c) u ∙ ap (λ t. chars before ++ t) one in
-    ⊎_elim
-    (λ own.
+    ⊎_elim (λ own.
     let last : tokens text ≡ tokens before ++ Char c ∷ [] = ap tokens_from_chars cs ∙ own in
     record {
       tokens = last;
-      valid = (and_parts _ _
-          (sym (list_all-append (allows_token widest_set) (tokens before) (Char c ∷ []))
-          ∙ sym (ap (list_all (allows_token widest_set)) last) ∙ valid)).0;
-    })
-    (λ octet. absurd (none octet.0 octet.1.0 (ap tokens_from_chars cs ∙ octet.1.1)))
+      valid = (and_parts _ _ (sym (list_all-append (allows_token widest_set) (tokens before)
+          (Char c ∷ [])) ∙ sym (ap (list_all (allows_token widest_set)) last) ∙ valid)).0;
+    }) (λ octet. absurd (none octet.0 octet.1.0 (ap tokens_from_chars cs ∙ octet.1.1)))
     (last_char_is_own_token_or_ends_octet (chars before) c)
 
 -- cuts of valid texts: what ends a text ends an equal one
@@ -281,9 +248,8 @@ last_ascii_is_last_token bytes text before c same cut some last low u prefix val
     let lacking : LacksPercentThird text = subst LacksPercentThird same none in
     let joined : text ≡ before ++ encode_utf8 c =
     sym (take_all (m + 1) text (omega (arith, ap length same)))
-    ∙ take_more text m 0 (omega (arith, ap length same))
-    ∙ ap (λ t. t ++ get_or text m 0 ∷ []) (sym cut)
-    ∙ ap (λ b. before ++ b ∷ []) (ap (λ t. get_or t m 0) (sym same) ∙ sym last)
+    ∙ take_more text m 0 (omega (arith, ap length same)) ∙ ap (λ t. t ++ get_or text m 0
+    ∷ []) (sym cut) ∙ ap (λ b. before ++ b ∷ []) (ap (λ t. get_or t m 0) (sym same) ∙ sym last)
     ∙ ap (λ t. before ++ t) (sym (encode_ascii c low)) in
     last_char_is_last_token text before c u prefix joined valid
     (no_octet_ends_text text u valid lacking)

@@ -1,23 +1,6 @@
 -- The components of a normal text, in the pieces that they are read in.
-use Rattle.std.proofs.Common.{◌≡◌, ℕ, Bool, true, false, List, [], ◌++◌, refl, sym, ap, ◌∙◌, cond, eqb, length, option_map}
-use Rattle.std.specs.Prelude.{Option, Some, None, is_some}
-use Rattle.std.specs.Str.{str_to_ascii_lowercase}
-use Rattle.std.proofs.lemmas.Bool.{cond-false, cond-true, eqb-true}
-use Rattle.std.proofs.lemmas.List.{append-nil, nil_from_length}
-use Rattle.uri_pct.specs.DecodeUnreserved.{decode_unreserved}
-use Rattle.uri_pct.specs.Sets.{TableSet}
-use Rattle.uri_pct.specs.Tokens.{print}
-use Rattle.uri_pct.proofs.General.{is_some-option_map}
-use Rattle.uri_parts.specs.Components.{Components, starts}
-use Rattle.uri_parts.specs.Grammar.{Kind}
-use Rattle.uri_parts.specs.Hosts.{host_kind, ipv4_value, ipv6_value, literal_kind, literal_of, name_kind}
-use Rattle.uri_parts.specs.Ports.{PortFunction}
-use Rattle.uri_ops.specs.Dots.{remove_dot_segments}
-use Rattle.uri_ops.specs.Meaning.{components_meaning, dotless_path, host_meaning}
-use Rattle.uri_ops.specs.Normal.{host_text, normal_authority, normal_path, normal_path_text}
-use Rattle.uri_ops.specs.Target.{guarded}
+use Rattle.uri_ops.proofs.Common.{◌≡◌, ℕ, Bool, true, false, List, [], ◌++◌, refl, sym, ap, ◌∙◌, cond, eqb, length, option_map, Option, Some, None, is_some, str_to_ascii_lowercase, cond-false, cond-true, eqb-true, append-nil, nil_from_length, decode_unreserved, TableSet, print, is_some-option_map, Components, starts, Kind, host_kind, ipv4_value, ipv6_value, literal_kind, literal_of, name_kind, PortFunction, remove_dot_segments, components_meaning, dotless_path, host_meaning, host_text, normal_authority, normal_path, normal_path_text, guarded, normal_component}
 use Rattle.uri_ops.specs.FromEnd.Addresses.{ipv6_host_text}
-use Rattle.uri_ops.specs.FromEnd.NormalComponents.{normal_component}
 use Rattle.uri_ops.proofs.FromEnd.NormalTokens.{nothing_is_left}
 
 -- normal texts: of an empty component nothing is written
@@ -101,9 +84,8 @@ pub host_with_address_is_its_text : (names : TableSet) (host : List ℕ) → sta
 unfolding host_kind
 host_with_address_is_its_text names host s some =
     let kind = cond-true _ _ _ s in
-    ap ipv6_host_text kind
-    ∙ by_value (ipv6_value (literal_of host)) (λ e. some (ap ipv6_host_text kind ∙ e))
-    ∙ sym (ap (λ k. host_text (host_meaning names host k)) kind)
+    ap ipv6_host_text kind ∙ by_value (ipv6_value (literal_of host)) (λ e. some
+    (ap ipv6_host_text kind ∙ e)) ∙ sym (ap (λ k. host_text (host_meaning names host k)) kind)
   where
     by_value : (value : Option (List ℕ)) → (ipv6_host_text (literal_kind value) ≡ [] → ⊥)
         → ipv6_host_text (literal_kind value)

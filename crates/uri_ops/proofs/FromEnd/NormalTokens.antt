@@ -1,54 +1,32 @@
 -- The normal text of a component, with that of its last token at its end.
-use Rattle.std.proofs.Common.{◌≡◌, ℕ, ◌<◌, Bool, true, false, List, [], ◌∷◌, ◌++◌, length, map, refl, sym, ap, ◌∙◌, arith, eqb, ⊎_elim}
-use Rattle.std.specs.Prelude.{◌&&◌, ◌||◌, ◌==◌}
-use Rattle.std.specs.Char.{IsScalar, encode_utf8, to_ascii_lowercase}
-use Rattle.std.specs.Int.{is_in_range}
-use Rattle.std.proofs.lemmas.Bool.{cases_Bool, cond-true, cond-false, and_parts, eqb-true}
-use Rattle.std.proofs.lemmas.Bool.Decides.{nat_tests}
-use Rattle.std.proofs.lemmas.List.{append-nil, nil_from_length}
-use Rattle.std.proofs.lemmas.Str.{encode_ascii}
-use Rattle.std.proofs.lemmas.Str.Ascii.{lowercase_ascii}
-use Rattle.uri_pct.specs.Sets.{TableSet, allows}
-use Rattle.uri_pct.specs.Tokens.{Token, Char, Octet, tokens, text_of_token, print}
-use Rattle.uri_pct.specs.DecodeUnreserved.{is_bidi_formatting, is_never_literal, formatting_as_octets, decode_after_run, decode_run}
-use Rattle.uri_pct.specs.Pieces.{pieces_from}
-use Rattle.uri_pct.proofs.UnreservedDecoding.Formatting.{ascii_char_separates_encode_formatting}
-use Rattle.uri_pct.proofs.ValidTexts.Allowed.{decodable_char_is_printable}
+use Rattle.uri_ops.proofs.Common.{◌≡◌, ℕ, ◌<◌, Bool, true, false, List, [], ◌∷◌, ◌++◌, length, map, refl, sym, ap, ◌∙◌, arith, eqb, ⊎_elim, ◌&&◌, ◌||◌, ◌==◌, IsScalar, encode_utf8, to_ascii_lowercase, is_in_range, cases_Bool, cond-true, cond-false, and_parts, eqb-true, nat_tests, append-nil, nil_from_length, encode_ascii, lowercase_ascii, TableSet, allows, Token, Char, Octet, tokens, text_of_token, print, is_bidi_formatting, is_never_literal, formatting_as_octets, decode_after_run, decode_run, pieces_from, ascii_char_separates_encode_formatting, decodable_char_is_printable, lowered_if, lowered_code_if, cased_append, EndsInDecodable, TokensEndInNoDecodable, normal_component}
 use Rattle.uri_ops.proofs.Meanings.Cased.{octets-are-unchanged-when-lowered}
 use Rattle.uri_ops.proofs.Meanings.WrittenFormatting.{set_allows_formatting_by_ucschar}
-use Rattle.uri_ops.specs.Models.Decodings.{lowered_if, lowered_code_if, cased_append}
-use Rattle.uri_ops.specs.FromEnd.LastTokens.{EndsIn, EndsInDecodable, TokensEndInNoDecodable}
-use Rattle.uri_ops.specs.FromEnd.NormalComponents.{normal_component}
+use Rattle.uri_ops.specs.FromEnd.LastTokens.{EndsIn}
 use Rattle.uri_ops.proofs.FromEnd.LastOctets.{decoded, last_octet_is_unchanged, last_character_is_decoded_alone, last_decodable_is_decoded}
 use Rattle.uri_ops.proofs.FromEnd.LastTokens.{empty_text_has_no_tokens}
 use Rattle.uri_ops.proofs.FromEnd.LastDecodables.{char_has_one_to_four_bytes}
 
 -- normal texts: which characters a set never has literally, as the code tests it
-pub never_literal_by_tests : (set : TableSet) (c : ℕ) → is_never_literal set c
-    ≡ (allows set 0x200E && set.pct_encoded
-    && (c == 0x200E || c == 0x200F || is_in_range 0x202A 0x202E c))
+pub never_literal_by_tests : (set : TableSet) (c : ℕ) → is_never_literal set c ≡ (allows set 0x200E
+    && set.pct_encoded && (c == 0x200E || c == 0x200F || is_in_range 0x202A 0x202E c))
 unfolding is_never_literal is_bidi_formatting
-never_literal_by_tests set c = ap (λ b. b && set.pct_encoded
-    && (c == 0x200E || c == 0x200F || is_in_range 0x202A 0x202E c))
-    (sym (set_allows_formatting_by_ucschar set))
+never_literal_by_tests set c = ap (λ b. b && set.pct_encoded && (c == 0x200E
+    || c == 0x200F || is_in_range 0x202A 0x202E c)) (sym (set_allows_formatting_by_ucschar set))
 
 pub ruleset never_literals = (never_literal_by_tests, nat_tests)
 
 -- normal texts: a formatting character is written as octets
 pub never_literal_char_is_written_as_octets : (set : TableSet) (lowers : Bool) (c : ℕ)
-    → is_never_literal set c ≡ true
-    → print (lowered_if lowers (formatting_as_octets set (Char c)))
+    → is_never_literal set c ≡ true → print (lowered_if lowers (formatting_as_octets set (Char c)))
     ≡ print (map Octet (encode_utf8 c))
-never_literal_char_is_written_as_octets set lowers c e =
-    ap (λ ts. print (lowered_if lowers ts)) (cond-true _ _ _ e)
-    ∙ ap print (octets-are-unchanged-when-lowered lowers (encode_utf8 c))
+never_literal_char_is_written_as_octets set lowers c e = ap (λ ts. print (lowered_if lowers ts))
+    (cond-true _ _ _ e) ∙ ap print (octets-are-unchanged-when-lowered lowers (encode_utf8 c))
 
 -- normal texts: any other character is written in lower case
-lowered_char_is_written : (set : TableSet) (c : ℕ) → is_never_literal set c ≡ false
-    → print (lowered_if true (formatting_as_octets set (Char c)))
-    ≡ encode_utf8 (to_ascii_lowercase c)
-lowered_char_is_written set c e =
-    ap (λ ts. print (lowered_if true ts)) (cond-false _ _ _ e)
+lowered_char_is_written : (set : TableSet) (c : ℕ) → is_never_literal set c ≡ false → print
+    (lowered_if true (formatting_as_octets set (Char c))) ≡ encode_utf8 (to_ascii_lowercase c)
+lowered_char_is_written set c e = ap (λ ts. print (lowered_if true ts)) (cond-false _ _ _ e)
     ∙ append-nil (encode_utf8 (to_ascii_lowercase c))
 
 -- normal texts: any other character is written as it is
@@ -76,15 +54,12 @@ literal_char_has_text set false c e =
 -- normal texts: a character has some text
 pub char_has_text : (set : TableSet) (lowers : Bool) (c : ℕ) (text : List ℕ)
     → text ≡ print (lowered_if lowers (formatting_as_octets set (Char c))) → 0 < length text
-char_has_text set lowers c text same = ⊎_elim
-    (λ e.
+char_has_text set lowers c text same = ⊎_elim (λ e.
     let bytes = char_has_one_to_four_bytes c in
     let some = octets_of_bytes_have_text (encode_utf8 c) (omega arith) in
-    omega (arith, ap length (same ∙ never_literal_char_is_written_as_octets set lowers c e)))
-    (λ e.
+    omega (arith, ap length (same ∙ never_literal_char_is_written_as_octets set lowers c e))) (λ e.
     let some = literal_char_has_text set lowers c e in
-    omega (arith, ap length same))
-    (cases_Bool (is_never_literal set c))
+    omega (arith, ap length same)) (cases_Bool (is_never_literal set c))
 
 -- normal texts: an octet is written with upper-case digits
 octet_is_written : (lowers : Bool) (value : ℕ)
@@ -94,30 +69,25 @@ octet_is_written false value = refl
 
 -- normal texts: what the last tokens of a text become is written last
 pub last_tokens_are_written_last : (set : TableSet) (lowers : Bool) (text before : List ℕ)
-    (ts us : List Token)
-    → EndsIn text before ts → decoded set (tokens before ++ ts) ≡ decoded set (tokens before) ++ us
-    → normal_component lowers set text
+    (ts us : List Token) → EndsIn text before ts → decoded set (tokens before ++ ts)
+    ≡ decoded set (tokens before) ++ us → normal_component lowers set text
     ≡ normal_component lowers set before ++ print (lowered_if lowers us)
 last_tokens_are_written_last set lowers text before ts us ends e =
-    ap (λ all. print (lowered_if lowers (decoded set all))) ends.tokens
-    ∙ ap (λ all. print (lowered_if lowers all)) e
-    ∙ cased_append lowers (decoded set (tokens before)) us
+    ap (λ all. print (lowered_if lowers (decoded set all))) ends.tokens ∙ ap
+    (λ all. print (lowered_if lowers all)) e ∙ cased_append lowers (decoded set (tokens before)) us
 
 -- normal texts: a last character is written last
 pub last_char_is_written_last : (set : TableSet) (lowers : Bool) (text before : List ℕ) (c : ℕ)
     → EndsIn text before (Char c ∷ [])
-    → normal_component lowers set text
-    ≡ normal_component lowers set before
+    → normal_component lowers set text ≡ normal_component lowers set before
     ++ print (lowered_if lowers (formatting_as_octets set (Char c)))
-last_char_is_written_last set lowers text before c ends =
-    last_tokens_are_written_last set lowers text before (Char c ∷ []) _ ends
-    (last_character_is_decoded_alone set (tokens before) c)
+last_char_is_written_last set lowers text before c ends = last_tokens_are_written_last set
+    lowers text before (Char c ∷ []) _ ends (last_character_is_decoded_alone set (tokens before) c)
 
 -- normal texts: a decodable character whose octets are last is written last
 pub last_decodable_is_written_last : (set : TableSet) (lowers : Bool) (text before : List ℕ) (c : ℕ)
     → EndsInDecodable set text before c
-    → normal_component lowers set text
-    ≡ normal_component lowers set before
+    → normal_component lowers set text ≡ normal_component lowers set before
     ++ print (lowered_if lowers (formatting_as_octets set (Char c)))
 last_decodable_is_written_last set lowers text before c ends =
     let scalar : IsScalar c =
@@ -126,14 +96,12 @@ last_decodable_is_written_last set lowers text before c ends =
     (last_decodable_is_decoded set (tokens before) c scalar ends.0)
 
 -- normal texts: a last octet is written last, if no decodable character ends there
-pub last_octet_is_written_last : (set : TableSet) (lowers : Bool) (text before : List ℕ)
-    (value : ℕ)
-    → EndsIn text before (Octet value ∷ []) → TokensEndInNoDecodable set (tokens text)
-    → normal_component lowers set text
+pub last_octet_is_written_last : (set : TableSet) (lowers : Bool) (text before : List ℕ) (value : ℕ)
+    → EndsIn text before (Octet value ∷ [])
+    → TokensEndInNoDecodable set (tokens text) → normal_component lowers set text
     ≡ normal_component lowers set before ++ text_of_token (Octet value)
-last_octet_is_written_last set lowers text before value ends none =
-    last_tokens_are_written_last set lowers text before (Octet value ∷ []) _ ends
-    (last_octet_is_unchanged set (tokens before) value
+last_octet_is_written_last set lowers text before value ends none = last_tokens_are_written_last set
+    lowers text before (Octet value ∷ []) _ ends (last_octet_is_unchanged set (tokens before) value
     (λ front c scalar decodable e. none front c scalar decodable (ends.tokens ∙ e)))
     ∙ ap (λ t. normal_component lowers set before ++ t) (octet_is_written lowers value)
 
@@ -173,14 +141,12 @@ ascii_char_is_written set false c low = ap print (ascii_char_is_lowered_alone se
 -- normal texts: a last ASCII character is written last, as its code
 pub last_ascii_is_written_last : (set : TableSet) (lowers : Bool) (text before held left : List ℕ)
     (c byte : ℕ) → EndsIn text before (Char c ∷ []) → c < 128 → byte ≡ lowered_code_if lowers c
-    → held ≡ [] → left ≡ []
-    → normal_component lowers set text ++ held
+    → held ≡ [] → left ≡ [] → normal_component lowers set text ++ held
     ≡ (normal_component lowers set before ++ left) ++ byte ∷ []
-last_ascii_is_written_last set lowers text before held left c byte ends low same e f =
-    ap (λ t. normal_component lowers set text ++ t) e
-    ∙ append-nil (normal_component lowers set text)
+last_ascii_is_written_last set lowers text before held left c byte ends low same e f = ap
+    (λ t. normal_component lowers set text ++ t) e ∙ append-nil (normal_component lowers set text)
     ∙ last_char_is_written_last set lowers text before c ends
-    ∙ ap (λ t. normal_component lowers set before ++ t)
-    (ascii_char_is_written set lowers c low ∙ ap (λ b. b ∷ []) (sym same))
+    ∙ ap (λ t. normal_component lowers set before ++ t) (ascii_char_is_written set lowers c low
+    ∙ ap (λ b. b ∷ []) (sym same))
     ∙ ap (λ t. t ++ byte ∷ []) (sym (append-nil (normal_component lowers set before))
     ∙ ap (λ t. normal_component lowers set before ++ t) (sym f))

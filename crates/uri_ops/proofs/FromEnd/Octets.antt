@@ -1,16 +1,11 @@
 -- The decimal digits of an octet.
-use Rattle.std.proofs.Common.{◌≡◌, ℕ, ◌/◌, ◌%◌, ◌<◌, ◌^◌, ◌≤◌, Bool, List, [], ◌∷◌, ◌++◌, ltb, arith, inl, inr, cond}
-use Rattle.std.proofs.lemmas.Bool.{cases_lt}
-use Rattle.std.proofs.lemmas.Bool.Decides.{nat_tests}
+use Rattle.uri_ops.proofs.Common.{◌≡◌, ℕ, ◌/◌, ◌%◌, ◌<◌, ◌^◌, ◌≤◌, [], ◌∷◌, ◌++◌, ltb, arith, inl, inr, cases_lt, nat_tests, digit_char, decimal}
 use Rattle.std.proofs.lemmas.Fmt.{decimal_digit, decimal_step}
-use Rattle.std.specs.Char.{digit_char}
-use Rattle.std.specs.Fmt.{decimal}
 use Rattle.uri_parts.proofs.HostForms.AddressTexts.{unless_leading}
 
 -- a number below 1000 is its decimal digits, without leading zeros
-pub decimal_has_no_leading_zeros : (n : ℕ) → n < 1000 → decimal n
-    ≡ unless_leading (ltb n 100) (n / 100)
-    ++ (unless_leading (ltb n 10) (n / 10 % 10) ++ digit_char (n % 10) ∷ [])
+pub decimal_has_no_leading_zeros : (n : ℕ) → n < 1000 → decimal n ≡ unless_leading (ltb n 100) (n
+    / 100) ++ (unless_leading (ltb n 10) (n / 10 % 10) ++ digit_char (n % 10) ∷ [])
 decimal_has_no_leading_zeros n small = elim (cases_lt n 10) [
   | inl one ↦ rw (decimal_digit n one) (grind (arith, nat_tests))
   | inr more ↦ elim (cases_lt n 100) [

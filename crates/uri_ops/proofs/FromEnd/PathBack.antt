@@ -1,18 +1,7 @@
 -- Paths that are read from their end: their segments are decoded one by one.
-use Rattle.std.proofs.Common.{◌≡◌, ℕ, Bool, true, false, cond, List, [], ◌∷◌, ◌++◌, refl, sym, ap, ◌∙◌, subst}
-use Rattle.std.specs.Prelude.{codes}
-use Rattle.std.specs.Str.{IsUtf8}
-use Rattle.std.proofs.lemmas.List.{append-nil}
-use Rattle.uri_pct.specs.Chunks.{widest_set}
-use Rattle.uri_pct.specs.Sets.{TableSet, unreserved_set}
-use Rattle.uri_pct.specs.Tokens.{IsValidFor}
-use Rattle.uri_pct.proofs.Decodings.Decoding.{every_set_is_subset_of_widest}
-use Rattle.uri_ops.specs.Dots.{IsAbsolute, remove_dot_segments}
+use Rattle.uri_ops.proofs.Common.{◌≡◌, ℕ, Bool, true, false, cond, List, [], ◌∷◌, ◌++◌, refl, sym, ap, ◌∙◌, subst, codes, IsUtf8, append-nil, widest_set, TableSet, unreserved_set, IsValidFor, every_set_is_subset_of_widest, IsAbsolute, remove_dot_segments, print_decoded, normal_component, segments_left}
 use Rattle.uri_ops.proofs.Meanings.AllowedParts.{decoding-splits-at-slash, empty-text-is-set-text, print_decoded-of-nil-is-nil, set-text-from-utf8, set-text-is-utf8, set-text-is-valid}
-use Rattle.uri_pct.proofs.UnreservedDecoding.Printing.{print_decoded}
 use Rattle.uri_ops.proofs.Paths.DecodedPaths.{dotless-set-text-is-set-text, set-text-splits}
-use Rattle.uri_ops.specs.FromEnd.NormalComponents.{normal_component}
-use Rattle.uri_ops.specs.FromEnd.SegmentsLeft.{segments_left}
 use Rattle.uri_ops.proofs.FromEnd.SegmentsLeft.{segments_left-of-nothing}
 
 -- paths: one that decodes
@@ -36,16 +25,14 @@ text-before-slash-is-decodable true left h = (decodable-text-splits left [] h).0
 text-before-slash-is-decodable false left h = subst IsDecodableText (append-nil left) h
 
 -- segments left: they decode, if the path does
-pub segments_left-are-decodable : (path : List ℕ) (dot : Bool) → IsAbsolute path
-    → IsDecodableText path
-    → remove_dot_segments path ≡ segments_left path ++ cond dot (codes "/") []
-    → IsDecodableText (segments_left path)
+pub segments_left-are-decodable : (path : List ℕ) (dot : Bool)
+    → IsAbsolute path → IsDecodableText path → remove_dot_segments path
+    ≡ segments_left path ++ cond dot (codes "/") [] → IsDecodableText (segments_left path)
 segments_left-are-decodable path dot h valid e =
     let t = dotless-set-text-is-set-text widest_set refl
     (every_set_is_subset_of_widest unreserved_set refl) refl path h
     (set-text-from-utf8 widest_set path valid.0 valid.1) in
-    text-before-slash-is-decodable dot (segments_left path)
-    (subst IsDecodableText e (
+    text-before-slash-is-decodable dot (segments_left path) (subst IsDecodableText e (
       set-text-is-utf8 widest_set (remove_dot_segments path) t,
       set-text-is-valid widest_set (remove_dot_segments path) t,
     ))
@@ -65,9 +52,8 @@ module _ (set : TableSet) where
   component-of-nothing = print_decoded-of-nil-is-nil set
 
   -- paths: a path is written before its last `/` (47) and after it
-  component-with-segment : (left segment : List ℕ) → IsUtf8 left
-      → normal_component false set (left ++ 47 ∷ segment)
-      ≡ normal_component false set left ++ 47 ∷ normal_component false set segment
+  component-with-segment : (left segment : List ℕ) → IsUtf8 left → normal_component false set (left
+      ++ 47 ∷ segment) ≡ normal_component false set left ++ 47 ∷ normal_component false set segment
   unfolding print_decoded
   component-with-segment left segment u = decoding-splits-at-slash set left segment u
 
@@ -77,38 +63,30 @@ module _ (set : TableSet) where
       ≡ normal_component false set left ++ (cond dot (codes "/") [] ++ [])
   component-with-last-slash true left u = component-with-segment left [] u
       ∙ ap (λ t. normal_component false set left ++ 47 ∷ t) component-of-nothing
-  component-with-last-slash false left u =
-      ap (normal_component false set) (append-nil left)
+  component-with-last-slash false left u = ap (normal_component false set) (append-nil left)
       ∙ sym (append-nil (normal_component false set left))
 
   pub unread-of-dotted-path : (text octets : List ℕ) → octets ≡ normal_component false set text
       → normal_component false set (segments_left []) ++ ([] ++ octets)
       ≡ normal_component false set text
-  unread-of-dotted-path text octets e =
-      ap (λ t. t ++ octets) (ap (normal_component false set) segments_left-of-nothing
-      ∙ component-of-nothing)
-      ∙ e
+  unread-of-dotted-path text octets e = ap (λ t. t ++ octets)
+      (ap (normal_component false set) segments_left-of-nothing ∙ component-of-nothing) ∙ e
 
   pub unread-of-dotless-path : (dot : Bool) (left removed octets : List ℕ) → IsUtf8 left
-      → removed ≡ left ++ cond dot (codes "/") []
-      → octets ≡ normal_component false set []
+      → removed ≡ left ++ cond dot (codes "/") [] → octets ≡ normal_component false set []
       → normal_component false set left ++ (cond dot (codes "/") [] ++ octets)
       ≡ normal_component false set removed
-  unread-of-dotless-path dot left removed octets u e f =
-      ap (λ t. normal_component false set left ++ (cond dot (codes "/") [] ++ t))
-      (f ∙ component-of-nothing)
-      ∙ sym (component-with-last-slash dot left u)
-      ∙ ap (normal_component false set) (sym e)
+  unread-of-dotless-path dot left removed octets u e f = ap (λ t. normal_component false set left
+      ++ (cond dot (codes "/") [] ++ t)) (f ∙ component-of-nothing)
+      ∙ sym (component-with-last-slash dot left u) ∙ ap (normal_component false set) (sym e)
 
   pub unread-of-begun-segment : (slashed : Bool) (whole left segment octets before : List ℕ)
       → slashed ≡ false → before ≡ [] → IsUtf8 left → whole ≡ left ++ 47 ∷ segment
-      → octets ≡ normal_component false set segment
-      → normal_component false set left ++ (codes "/" ++ octets)
-      ≡ normal_component false set whole ++ (cond slashed (codes "/") [] ++ before)
+      → octets ≡ normal_component false set segment → normal_component false set left ++ (codes "/"
+      ++ octets) ≡ normal_component false set whole ++ (cond slashed (codes "/") [] ++ before)
   unread-of-begun-segment slashed whole left segment octets before none read u e f =
       ap (λ t. normal_component false set left ++ 47 ∷ t) f
-      ∙ sym (component-with-segment left segment u)
-      ∙ ap (normal_component false set) (sym e)
+      ∙ sym (component-with-segment left segment u) ∙ ap (normal_component false set) (sym e)
       ∙ sym (append-nil (normal_component false set whole))
       ∙ sym (ap (λ t. normal_component false set whole ++ t)
       (ap (λ b. cond b (codes "/") [] ++ before) none ∙ read))
@@ -116,8 +94,6 @@ module _ (set : TableSet) where
   pub unread-of-read-path : (slashed : Bool) (whole octets : List ℕ)
       → slashed ≡ false → octets ≡ [] → whole ≡ []
       → normal_component false set whole ++ (cond slashed (codes "/") [] ++ octets) ≡ []
-  unread-of-read-path slashed whole octets none read e =
-      ap (λ t. normal_component false set whole ++ t)
-      (ap (λ b. cond b (codes "/") [] ++ octets) none ∙ read)
-      ∙ append-nil (normal_component false set whole)
-      ∙ ap (normal_component false set) e ∙ component-of-nothing
+  unread-of-read-path slashed whole octets none read e = ap (λ t. normal_component false set whole
+      ++ t) (ap (λ b. cond b (codes "/") [] ++ octets) none ∙ read) ∙ append-nil
+      (normal_component false set whole) ∙ ap (normal_component false set) e ∙ component-of-nothing

@@ -1,33 +1,21 @@
 -- The segments that are left of a path, from the last one.
-use Rattle.std.proofs.Common.{◌≡◌, ℕ, zero, suc, ◌+◌, Bool, true, false, cond, not, List, [], ◌∷◌, ◌++◌, ◌-◌, ◌<◌, ◌||◌, length, eqb, refl, sym, ap, subst, ◌∙◌, add-one, inl, inr, ⊎_elim, arith, lit<, Option, Some, None, MatchOption, Bor}
+use Rattle.uri_ops.proofs.Common.{◌≡◌, ℕ, zero, suc, ◌+◌, Bool, true, false, cond, not, List, [], ◌∷◌, ◌++◌, ◌-◌, ◌<◌, ◌||◌, length, eqb, refl, sym, ap, subst, ◌∙◌, add-one, inl, inr, ⊎_elim, arith, lit<, Option, Some, None, MatchOption, Bor, append-nil, length-append, codes, and_from, and_parts, cond-false, cond-true, false≢true, not-true, not_from_false, or_parts, or_right, lacks, eq_true_from_IsTrue, IsAbemptyPath, cons_is_not_nil, equal-to-true-is-IsTrue, IsAbsolute, before_last_slash, has_slash, is_dot_segment, is_empty, is_double_dot, is_single_dot, remove_dot_segments, is_abempty_path, segments_left, with_segment, without_last_segments}
 use Rattle.std.specs.Str.Pattern.{RFindsChar, SplitsAroundMatch}
-use Rattle.std.proofs.lemmas.List.{append-nil, length-append}
-use Rattle.std.specs.Prelude.{codes}
-use Rattle.std.proofs.lemmas.Bool.{and_from, and_parts, cond-false, cond-true, false≢true, not-true, not_from_false, or_parts, or_right}
-use Rattle.uri_pct.specs.Texts.{lacks}
 use Rattle.uri_pct.proofs.ValidTexts.Delimiters.{rsplit_once_cuts_at_last}
-use Rattle.uri_pct.proofs.General.{eq_true_from_IsTrue}
-use Rattle.uri_parts.specs.Components.{IsAbemptyPath}
-use Rattle.uri_parts.proofs.Splitting.Marks.{cons_is_not_nil}
-use Rattle.uri_parts.proofs.Splitting.Recompose.{equal-to-true-is-IsTrue}
-use Rattle.uri_ops.specs.Dots.{IsAbsolute, before_last_slash, has_slash, is_dot_segment, is_empty, is_double_dot, is_single_dot, remove_dot_segments}
 use Rattle.uri_ops.proofs.Paths.Segments.{closing, closing-of-append, dotless_of, dotless_of-with-empty-last, end_of, next_output, step_of, appended-segments-pass-test, steps, segments-after-steps-pass-test}
 use Rattle.uri_ops.proofs.Paths.SlashedSegments.{NoSlashes, before_last_slash-of-append, lacks_slash, before_last_slash-of-slashed-is-popped, slashed, remove-dots-by-segments, slashed-of-append, slashed-of-push}
 use Rattle.uri_ops.proofs.Paths.DotLaws.{property-of-absolute-path-by-segments, rooted, segments-with-empty-last-lack-slashes}
 use Rattle.uri_ops.proofs.Paths.LastSlashes.{before_last_slash-of-directory}
-use Rattle.uri_ops.specs.FromEnd.SegmentsLeft.{is_abempty_path, segments_left, with_segment, without_last_segments}
 
 -- segments left: they are what the steps over the segments leave
 segments_left-by-steps : (xs : List (List ℕ)) → NoSlashes xs
     → segments_left (slashed xs) ≡ slashed (steps [] xs)
 unfolding segments_left
-segments_left-by-steps xs lack =
-    ap (λ t. before_last_slash (remove_dot_segments t)) (sym (slashed-of-push xs []))
-    ∙ ap before_last_slash (remove-dots-by-segments (xs ++ [] ∷ [])
-    (segments-with-empty-last-lack-slashes xs lack)
-    ∙ ap slashed (dotless_of-with-empty-last xs) ∙ slashed-of-push (steps [] xs) [])
-    ∙ before_last_slash-of-directory (slashed (steps [] xs) ++ 47 ∷ [])
-    (slashed (steps [] xs), refl)
+segments_left-by-steps xs lack = ap (λ t. before_last_slash (remove_dot_segments t))
+    (sym (slashed-of-push xs [])) ∙ ap before_last_slash (remove-dots-by-segments (xs ++ [] ∷ [])
+    (segments-with-empty-last-lack-slashes xs lack) ∙ ap slashed (dotless_of-with-empty-last xs)
+    ∙ slashed-of-push (steps [] xs) []) ∙ before_last_slash-of-directory (slashed (steps [] xs)
+    ++ 47 ∷ []) (slashed (steps [] xs), refl)
 
 -- removing dot segments: the steps over segments and a last one are a step after those over the
 -- segments
@@ -40,10 +28,8 @@ steps-of-push output (x ∷ xs) s = steps-of-push (step_of output x) xs s
 -- segments left: one more segment changes their text as it changes their list; single, double:
 -- whether it is `.`, or `..`
 with_segment-by-steps : (single double : Bool) (output : List (List ℕ)) (s : List ℕ)
-    → NoSlashes output
-    → slashed (next_output single double output s)
-    ≡ cond single (slashed output)
-    (cond double (before_last_slash (slashed output)) (slashed output ++ 47 ∷ s))
+    → NoSlashes output → slashed (next_output single double output s) ≡ cond single
+    (slashed output) (cond double (before_last_slash (slashed output)) (slashed output ++ 47 ∷ s))
 unfolding next_output
 with_segment-by-steps true double output s lack = refl
 with_segment-by-steps false true output s lack =
@@ -51,18 +37,15 @@ with_segment-by-steps false true output s lack =
 with_segment-by-steps false false output s lack = slashed-of-push output s
 
 -- segments left: a segment without `/` after segments without any
-pushed-segments-lack-slashes : (xs : List (List ℕ)) (s : List ℕ) → NoSlashes xs
-    → has_slash s ≡ false
-    → NoSlashes (xs ++ s ∷ [])
+pushed-segments-lack-slashes : (xs : List (List ℕ)) (s : List ℕ)
+    → NoSlashes xs → has_slash s ≡ false → NoSlashes (xs ++ s ∷ [])
 pushed-segments-lack-slashes xs s lack free = appended-segments-pass-test lacks_slash xs (s ∷ [])
     lack (and_from _ _ (not_from_false _ free) refl)
 
-segments_left-of-pushed-segment : (xs : List (List ℕ)) → NoSlashes xs → (s : List ℕ)
-    → has_slash s ≡ false
-    → segments_left (slashed xs ++ 47 ∷ s) ≡ with_segment (segments_left (slashed xs)) s
+segments_left-of-pushed-segment : (xs : List (List ℕ)) → NoSlashes xs → (s : List ℕ) → has_slash s
+    ≡ false → segments_left (slashed xs ++ 47 ∷ s) ≡ with_segment (segments_left (slashed xs)) s
 unfolding step_of
-segments_left-of-pushed-segment xs lack s free =
-    ap segments_left (sym (slashed-of-push xs s))
+segments_left-of-pushed-segment xs lack s free = ap segments_left (sym (slashed-of-push xs s))
     ∙ segments_left-by-steps (xs ++ s ∷ []) (pushed-segments-lack-slashes xs s lack free)
     ∙ ap slashed (steps-of-push [] xs s)
     ∙ with_segment-by-steps (is_single_dot s) (is_double_dot s) (steps [] xs) s
@@ -76,21 +59,18 @@ segments_left-of-nothing = segments_left-by-steps [] refl
 
 -- paths: what holds of `/` before each of some segments, or of none, holds of each path that is
 -- empty or begins with `/`
-property-of-path-by-segments : (P : List ℕ → Type 0)
-    → ((xs : List (List ℕ)) → NoSlashes xs → P (slashed xs))
-    → (path : List ℕ) → IsAbemptyPath path → P path
+property-of-path-by-segments : (P : List ℕ → Type 0) → ((xs : List (List ℕ))
+    → NoSlashes xs → P (slashed xs)) → (path : List ℕ) → IsAbemptyPath path → P path
 unfolding slashed
 property-of-path-by-segments P each = rooted P (each [] refl)
     (property-of-absolute-path-by-segments P (λ s rest lack. each (s ∷ rest) lack))
 
 -- segments left: those of a path with one more segment are those of the path, changed by it
 pub segments_left-with-segment : (prefix : List ℕ) → IsAbemptyPath prefix → (s : List ℕ)
-    → has_slash s ≡ false
-    → segments_left (prefix ++ 47 ∷ s) ≡ with_segment (segments_left prefix) s
+    → has_slash s ≡ false → segments_left (prefix ++ 47 ∷ s) ≡ with_segment (segments_left prefix) s
 segments_left-with-segment = property-of-path-by-segments
-    (λ prefix. (s : List ℕ) → has_slash s ≡ false
-    → segments_left (prefix ++ 47 ∷ s) ≡ with_segment (segments_left prefix) s)
-    segments_left-of-pushed-segment
+    (λ prefix. (s : List ℕ) → has_slash s ≡ false → segments_left (prefix ++ 47 ∷ s)
+    ≡ with_segment (segments_left prefix) s) segments_left-of-pushed-segment
 
 -- removing dot segments: a last dot segment leaves a `/`
 slashed-of-end : (dot : Bool) → slashed (end_of dot) ≡ cond dot (codes "/") []
@@ -98,33 +78,27 @@ unfolding slashed
 slashed-of-end true = refl
 slashed-of-end false = refl
 
-removing-dots-of-pushed-segment : (xs : List (List ℕ)) → NoSlashes xs → (s : List ℕ)
-    → has_slash s ≡ false
-    → remove_dot_segments (slashed xs ++ 47 ∷ s)
+removing-dots-of-pushed-segment : (xs : List (List ℕ))
+    → NoSlashes xs → (s : List ℕ) → has_slash s ≡ false → remove_dot_segments (slashed xs ++ 47 ∷ s)
     ≡ segments_left (slashed xs ++ 47 ∷ s) ++ cond (is_dot_segment s) (codes "/") []
 unfolding dotless_of closing
 removing-dots-of-pushed-segment xs lack s free =
     let all = xs ++ s ∷ [] in
     let none = pushed-segments-lack-slashes xs s lack free in
-    ap remove_dot_segments (sym (slashed-of-push xs s))
-    ∙ remove-dots-by-segments all none
-    ∙ slashed-of-append (steps [] all) (closing all)
-    ∙ ap (λ t. slashed (steps [] all) ++ t)
-    (ap slashed (closing-of-append xs s []) ∙ slashed-of-end (is_dot_segment s))
-    ∙ ap (λ t. t ++ cond (is_dot_segment s) (codes "/") [])
-    (sym (segments_left-by-steps all none) ∙ ap segments_left (slashed-of-push xs s))
+    ap remove_dot_segments (sym (slashed-of-push xs s)) ∙ remove-dots-by-segments all none
+    ∙ slashed-of-append (steps [] all) (closing all) ∙ ap (λ t. slashed (steps [] all)
+    ++ t) (ap slashed (closing-of-append xs s []) ∙ slashed-of-end (is_dot_segment s))
+    ∙ ap (λ t. t ++ cond (is_dot_segment s) (codes "/") []) (sym (segments_left-by-steps all none)
+    ∙ ap segments_left (slashed-of-push xs s))
 
 -- removing dot segments: what is left of a path is the segments that are left, and a `/` if it ends
 -- in a dot segment
-pub removing-dots-leaves-segments_left : (prefix : List ℕ) → IsAbemptyPath prefix → (s : List ℕ)
-    → has_slash s ≡ false
-    → remove_dot_segments (prefix ++ 47 ∷ s)
+pub removing-dots-leaves-segments_left : (prefix : List ℕ) → IsAbemptyPath prefix
+    → (s : List ℕ) → has_slash s ≡ false → remove_dot_segments (prefix ++ 47 ∷ s)
     ≡ segments_left (prefix ++ 47 ∷ s) ++ cond (is_dot_segment s) (codes "/") []
-removing-dots-leaves-segments_left = property-of-path-by-segments
-    (λ prefix. (s : List ℕ) → has_slash s ≡ false
-    → remove_dot_segments (prefix ++ 47 ∷ s)
-    ≡ segments_left (prefix ++ 47 ∷ s) ++ cond (is_dot_segment s) (codes "/") [])
-    removing-dots-of-pushed-segment
+removing-dots-leaves-segments_left = property-of-path-by-segments (λ prefix. (s : List ℕ)
+    → has_slash s ≡ false → remove_dot_segments (prefix ++ 47 ∷ s) ≡ segments_left (prefix
+    ++ 47 ∷ s) ++ cond (is_dot_segment s) (codes "/") []) removing-dots-of-pushed-segment
 
 -- segments left: none is left of no segments, however many double dots take some
 pub without_last_segments-of-nothing : (climbs : ℕ) → without_last_segments climbs [] ≡ []
@@ -135,12 +109,10 @@ without_last_segments-of-nothing (suc climbs) = without_last_segments-of-nothing
 -- what a segment is to double dots after it
 module _ (s left : List ℕ) where
   pub double-dot-takes-one-more : is_single_dot s ≡ false → is_double_dot s ≡ true → (climbs : ℕ)
-      → without_last_segments climbs (with_segment left s)
-      ≡ without_last_segments (climbs + 1) left
+      → without_last_segments climbs (with_segment left s) ≡ without_last_segments (climbs + 1) left
   unfolding without_last_segments
-  double-dot-takes-one-more e f climbs =
-      ap (without_last_segments climbs) (cond-false _ _ _ e ∙ cond-true _ _ _ f)
-      ∙ ap (λ n. without_last_segments n left) (sym (add-one climbs))
+  double-dot-takes-one-more e f climbs = ap (without_last_segments climbs) (cond-false _ _ _ e
+      ∙ cond-true _ _ _ f) ∙ ap (λ n. without_last_segments n left) (sym (add-one climbs))
 
   pub other-segment-is-left : is_dot_segment s ≡ false → with_segment left s ≡ left ++ 47 ∷ s
   other-segment-is-left e =
@@ -149,16 +121,14 @@ module _ (s left : List ℕ) where
 
   pub other-segment-is-taken : is_dot_segment s ≡ false
       → has_slash s ≡ false → (climbs : ℕ) → (climbs ≡ 0 → ⊥)
-      → without_last_segments climbs (with_segment left s)
-      ≡ without_last_segments (climbs - 1) left
+      → without_last_segments climbs (with_segment left s) ≡ without_last_segments (climbs - 1) left
   unfolding without_last_segments
   other-segment-is-taken e free zero some = absurd (some refl)
   other-segment-is-taken e free (suc climbs) some =
       let fewer : suc climbs - 1 ≡ climbs = omega arith in
       ap (without_last_segments climbs) (ap before_last_slash (other-segment-is-left e)
-      ∙ before_last_slash-of-append left (47 ∷ s) refl
-      ∙ ap (λ t. left ++ t) (cond-false _ _ _ free) ∙ append-nil left)
-      ∙ ap (λ n. without_last_segments n left) (sym fewer)
+      ∙ before_last_slash-of-append left (47 ∷ s) refl ∙ ap (λ t. left ++ t) (cond-false _ _ _ free)
+      ∙ append-nil left) ∙ ap (λ n. without_last_segments n left) (sym fewer)
 
 -- paths: a text that lacks `/` has none
 text-lacking-slash-has-none : (text : List ℕ) → lacks 47 text ≡ true → has_slash text ≡ false
@@ -172,8 +142,7 @@ path-lacking-slash-is-empty : (path : List ℕ) → IsAbemptyPath path → lacks
     → path ≡ []
 path-lacking-slash-is-empty [] h e = refl
 path-lacking-slash-is-empty (c ∷ path) h e = ⊎_elim (λ none. none)
-    (λ a. absurd (false≢true
-    (sym (not-true _ (and_parts (not (eqb c 47)) (lacks 47 path) e).0)
+    (λ a. absurd (false≢true (sym (not-true _ (and_parts (not (eqb c 47)) (lacks 47 path) e).0)
     ∙ eq_true_from_IsTrue _ a))) h
 
 -- paths: what is before the last `/` of a path, and the segment after it
@@ -190,10 +159,9 @@ prefix-before-slash-is-rooted (c ∷ prefix) segment h = ⊎_elim
     (λ e. absurd (cons_is_not_nil c (prefix ++ 47 ∷ segment) e)) (λ a. inr a) h
 
 -- paths: what `rsplit_once` returns for a path that is empty or begins with `/`
-pub cut-at-last-slash : (path : List ℕ) → IsAbemptyPath path
-    → (cut : Option (Bor (List ℕ) × Bor (List ℕ)))
-    → MatchOption cut (RFindsChar 47 path None)
-    (λ x. SplitsAroundMatch (RFindsChar 47) path x.0.now x.1.now)
+pub cut-at-last-slash : (path : List ℕ)
+    → IsAbemptyPath path → (cut : Option (Bor (List ℕ) × Bor (List ℕ))) → MatchOption cut
+    (RFindsChar 47 path None) (λ x. SplitsAroundMatch (RFindsChar 47) path x.0.now x.1.now)
     → MatchOption cut (path ≡ []) (λ x. IsCutAtLastSlash path x.0.now x.1.now)
 cut-at-last-slash path h None found = path-lacking-slash-is-empty path h
     (rsplit_once_cuts_at_last 47 path None found (lit< tt))

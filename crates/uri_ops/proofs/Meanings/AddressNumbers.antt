@@ -1,16 +1,10 @@
 -- The numbers of an IPv6 address are eight of 16 bits, so its text by RFC 5952 is one of an address
 -- with these numbers.
-use Rattle.std.proofs.Common.{◌≡◌, ℕ, ◌+◌, ◌-◌, ◌*◌, ◌<◌, ◌^◌, Bool, true, false, List, [], ◌∷◌, ◌++◌, length, replicate, All, refl, sym, ap, subst, arith, ⊎_elim, inl, inr, lit<, length-append}
+use Rattle.uri_ops.proofs.Common.{◌≡◌, ℕ, ◌+◌, ◌-◌, ◌*◌, ◌<◌, ◌^◌, Bool, true, List, [], ◌∷◌, ◌++◌, length, replicate, All, refl, sym, ap, subst, arith, ⊎_elim, inl, inr, lit<, length-append, IsDotted, IsGroup, IsGroupsAfter, IsColonHex, ipv6_text, cases_lt, get_or_past, length-replicate, All-nil, All-cons, All-append, All-replicate, All-get_or, nat_tests}
 use Rattle.std.specs.Net.Addr.{segments_of}
-use Rattle.std.specs.Net.Grammar.{IsDotted, IsGroup, IsGroupsAfter, IsColonHex}
-use Rattle.std.specs.Net.Text.{ipv6_text}
 use Rattle.std.proofs.Math.Nat.{pow-le-pow_right}
 use Rattle.std.proofs.NetLemmas.Texts.{IsColonHex-ipv6_text}
-use Rattle.std.proofs.lemmas.Bool.{cases_lt}
 use Rattle.std.proofs.lemmas.Int.Digits.{digits_value-lt}
-use Rattle.std.proofs.lemmas.List.{get_or_past, length-replicate}
-use Rattle.std.proofs.lemmas.List.Elements.{All-nil, All-cons, All-append, All-replicate, All-get_or}
-use Rattle.std.proofs.lemmas.Bool.Decides.{nat_tests}
 
 -- meanings of hosts: every number of an IPv6 address has 16 bits
 abbrev Fit16Bits : List ℕ → Type 0
@@ -23,12 +17,10 @@ group-fits-16-bits group s h = grind (arith, nat_tests, digits_value-lt, pow-le-
 -- meanings of hosts: an IPv4 address at the end of an IPv6 address makes groups of 16 bits
 ipv4-segments-fit-16-bits : (text octets : List ℕ) → IsDotted text octets
     → Fit16Bits (segments_of octets)
-ipv4-segments-fit-16-bits text octets h =
-    subst (λ o. Fit16Bits (segments_of o)) (sym h.value)
-    (All-cons (λ n. n < 2 ^ 16) (h.a * 256 + h.b) ((h.c * 256 + h.d) ∷ [])
-    (two h.a h.b h.fit.0 h.fit.1)
-    (All-cons (λ n. n < 2 ^ 16) (h.c * 256 + h.d) [] (two h.c h.d h.fit.2 h.fit.3)
-    (All-nil (λ n. n < 2 ^ 16))))
+ipv4-segments-fit-16-bits text octets h = subst
+    (λ o. Fit16Bits (segments_of o)) (sym h.value) (All-cons (λ n. n < 2 ^ 16) (h.a * 256 + h.b)
+    ((h.c * 256 + h.d) ∷ []) (two h.a h.b h.fit.0 h.fit.1) (All-cons (λ n. n < 2 ^ 16)
+    (h.c * 256 + h.d) [] (two h.c h.d h.fit.2 h.fit.3) (All-nil (λ n. n < 2 ^ 16))))
   where
     two : (a b : ℕ) → a < 256 → b < 256 → a * 256 + b < 2 ^ 16
     two a b p q = let same : 65536 ≡ 2 ^ 16 = refl in omega arith
@@ -36,8 +28,7 @@ ipv4-segments-fit-16-bits text octets h =
 -- meanings of hosts: the groups of an IPv6 address have 16 bits; ipv4: whether an IPv4 address ends
 -- them, lead: what is before each
 groups-fit-16-bits : (ipv4 : Bool) (lead text segments : List ℕ)
-    → IsGroupsAfter ipv4 lead text segments
-    → Fit16Bits segments
+    → IsGroupsAfter ipv4 lead text segments → Fit16Bits segments
 groups-fit-16-bits ipv4 lead text [] h = All-nil (λ n. n < 2 ^ 16)
 groups-fit-16-bits ipv4 lead text (s ∷ segments) (inl (group, rest, e, is_group, more)) =
     All-cons (λ n. n < 2 ^ 16) s segments (group-fits-16-bits group s is_group)

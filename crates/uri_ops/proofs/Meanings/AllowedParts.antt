@@ -1,21 +1,5 @@
 -- Texts that a set allows, cut at `/`, and their decoded forms as printed.
-use Rattle.std.proofs.Common.{◌≡◌, ℕ, ◌+◌, ◌*◌, Bool, true, false, eqb, List, [], ◌∷◌, ◌++◌, refl, ap, ◌∙◌, ◌&&◌, ⊎_elim, lit<, arith}
-use Rattle.std.specs.Char.{digit_value, is_ascii_hexdigit}
-use Rattle.std.specs.List.{list_all}
-use Rattle.std.specs.Str.{chars, IsUtf8, is_utf8}
-use Rattle.std.proofs.lemmas.Str.{IsUtf8-from_is_utf8, is_utf8-from_IsUtf8, IsUtf8-nil, chars-append, encode_ascii}
-use Rattle.std.proofs.lemmas.List.Concat.{flat_map-append}
-use Rattle.std.proofs.lemmas.List.Folds.{list_all-append}
-use Rattle.std.proofs.lemmas.Bool.{cases_Bool, cond-false, and_right, and_parts, and_from}
-use Rattle.std.proofs.lemmas.Bool.Decides.{nat_tests}
-use Rattle.uri_pct.specs.Sets.{TableSet, LacksPercent, IsSubset, unreserved_set, allows}
-use Rattle.uri_pct.specs.Tokens.{Token, Char, Octet, tokens, tokens_from_chars, bytes_decoded_from, is_pct_encoded, print, allows_token, is_valid_for, IsValidFor}
-use Rattle.uri_pct.specs.DecodeUnreserved.{is_printable, decode_unreserved, decode_run, decode_after_run, decode_tokens, encode_formatting}
-use Rattle.uri_pct.specs.Pieces.{pieces_from}
-use Rattle.uri_pct.proofs.UnreservedDecoding.Printing.{print_decoded, printed_tokens_parse_to_themselves, printed_tokens_are_utf8, char_but_percent_is_its_own_token}
-use Rattle.uri_pct.proofs.ValidTexts.Allowed.{valid_text_has_printable_tokens}
-use Rattle.uri_pct.proofs.UnreservedDecoding.DecodedTokens.{printed_decode_unreserved_stays_valid, decode_unreserved_keeps_bytes, char_separates_decoded_tokens}
-use Rattle.uri_pct.proofs.UnreservedDecoding.Formatting.{ascii_char_separates_encode_formatting}
+use Rattle.uri_ops.proofs.Common.{◌≡◌, ℕ, ◌+◌, ◌*◌, Bool, true, false, eqb, List, [], ◌∷◌, ◌++◌, refl, ap, ◌∙◌, ◌&&◌, ⊎_elim, lit<, arith, digit_value, is_ascii_hexdigit, list_all, chars, IsUtf8, is_utf8, IsUtf8-from_is_utf8, is_utf8-from_IsUtf8, IsUtf8-nil, chars-append, encode_ascii, flat_map-append, list_all-append, cases_Bool, cond-false, and_right, and_parts, and_from, nat_tests, TableSet, LacksPercent, IsSubset, unreserved_set, allows, Token, Char, Octet, tokens, tokens_from_chars, bytes_decoded_from, is_pct_encoded, print, allows_token, is_valid_for, IsValidFor, is_printable, decode_unreserved, decode_run, decode_after_run, decode_tokens, encode_formatting, pieces_from, print_decoded, printed_tokens_parse_to_themselves, printed_tokens_are_utf8, char_but_percent_is_its_own_token, valid_text_has_printable_tokens, printed_decode_unreserved_stays_valid, decode_unreserved_keeps_bytes, char_separates_decoded_tokens, ascii_char_separates_encode_formatting}
 use Rattle.uri_pct.proofs.UnreservedDecoding.DecodedTwice.{decode_unreserved_is_idempotent}
 use Rattle.uri_pct.proofs.UnreservedDecoding.DecodedTokens as DecodedTokens
 
@@ -85,8 +69,7 @@ module _ (set : TableSet) (lacks : LacksPercent set) where
       ∙ decode_unreserved_keeps_bytes set text
 
   pub decoded-set-text-is-set-text : IsSubset unreserved_set set → (text : List ℕ)
-      → is_set_text set text ≡ true
-      → is_set_text set (print_decoded set text) ≡ true
+      → is_set_text set text ≡ true → is_set_text set (print_decoded set text) ≡ true
   unfolding print_decoded
   decoded-set-text-is-set-text wide text e = set-text-from-utf8 set _ (decoded-text-is-utf8 _ e)
       (printed_decode_unreserved_stays_valid set _ lacks wide (set-text-is-valid set _ e))
@@ -114,9 +97,8 @@ tokens_from_chars-splits-at-slash (c ∷ []) (d ∷ ds) = cond-false _ _ _
 tokens_from_chars-splits-at-slash (c ∷ d ∷ []) ds = cond-false _ _ _
     (slash-is-no-second-hex-digit c d)
     ∙ ap (λ ts. Char c ∷ ts) (tokens_from_chars-splits-at-slash (d ∷ []) ds)
-tokens_from_chars-splits-at-slash (c ∷ h ∷ l ∷ cs) ds = ⊎_elim
-    (λ e. rw e (ap (λ ts. Octet (16 * digit_value h + digit_value l) ∷ ts)
-    (tokens_from_chars-splits-at-slash cs ds)))
+tokens_from_chars-splits-at-slash (c ∷ h ∷ l ∷ cs) ds = ⊎_elim (λ e. rw e (ap (λ ts. Octet
+    (16 * digit_value h + digit_value l) ∷ ts) (tokens_from_chars-splits-at-slash cs ds)))
     (λ e. rw e (ap (λ ts. Char c ∷ ts) (tokens_from_chars-splits-at-slash (h ∷ l ∷ cs) ds)))
     (cases_Bool (is_pct_encoded c h l))
 
@@ -137,9 +119,8 @@ tokens-split-at-slash x y u = ap tokens_from_chars
 decode_unreserved-splits-at-slash : (set : TableSet) (x y : List ℕ) → IsUtf8 x
     → decode_unreserved set (x ++ 47 ∷ y) ≡ decode_unreserved set x ++ Char 47
     ∷ decode_unreserved set y
-decode_unreserved-splits-at-slash set x y u = ap (encode_formatting set)
-    (ap (decode_tokens set) (tokens-split-at-slash x y u)
-    ∙ char_separates_decoded_tokens set _ 47 _)
+decode_unreserved-splits-at-slash set x y u = ap (encode_formatting set) (ap (decode_tokens set)
+    (tokens-split-at-slash x y u) ∙ char_separates_decoded_tokens set _ 47 _)
     ∙ ascii_char_separates_encode_formatting set _ 47 _ (lit< tt)
 
 -- meanings, by tokens: tokens are written on each side of a `/` (47) by themselves

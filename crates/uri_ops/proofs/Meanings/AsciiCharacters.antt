@@ -1,17 +1,6 @@
 -- Texts without octets and without characters past ASCII, such as schemes, and the same in lower
 -- case.
-use Rattle.std.proofs.Common.{◌≡◌, ℕ, zero, suc, Bool, true, false, eqb, ltb, List, [], ◌∷◌, refl, sym, ap, ◌∙◌, arith}
-use Rattle.std.specs.Prelude.{slice_index}
-use Rattle.std.specs.Char.{is_ascii_alphabetic, to_ascii_lowercase}
-use Rattle.std.specs.List.{list_all}
-use Rattle.std.specs.Str.{IsUtf8, IsAscii, str_to_ascii_lowercase}
-use Rattle.std.proofs.lemmas.Str.{IsUtf8-from_ascii}
-use Rattle.std.proofs.lemmas.Str.Ascii.{lowercase_ascii, lowercase-lowercase}
-use Rattle.std.proofs.lemmas.Bool.{and_left, and_right, and_from, cond-false, eqb-true, both_ways, false_from_ne_true, and_parts, cond-true, lt-ltb, ltb-true}
-use Rattle.std.proofs.lemmas.Bool.Decides.{nat_tests}
-use Rattle.uri_pct.specs.Sets.{TableSet, LacksPercent, is_scheme_char}
-use Rattle.uri_pct.proofs.ValidTexts.Validity.{valid_from, validity_by_first_byte, validity_of_tokens_is_validity_of_bytes, ascii_first_byte_is_allowed_iff_in_set}
-use Rattle.uri_parts.specs.Grammar.{is_scheme}
+use Rattle.uri_ops.proofs.Common.{◌≡◌, ℕ, zero, suc, Bool, true, false, eqb, ltb, List, [], ◌∷◌, refl, sym, ap, ◌∙◌, arith, slice_index, is_ascii_alphabetic, to_ascii_lowercase, list_all, IsUtf8, IsAscii, str_to_ascii_lowercase, IsUtf8-from_ascii, lowercase_ascii, lowercase-lowercase, and_left, and_right, and_from, cond-false, eqb-true, both_ways, false_from_ne_true, and_parts, cond-true, lt-ltb, ltb-true, nat_tests, TableSet, LacksPercent, is_scheme_char, valid_from, validity_by_first_byte, validity_of_tokens_is_validity_of_bytes, ascii_first_byte_is_allowed_iff_in_set, is_scheme}
 pub use Rattle.uri_parts.proofs.TextKinds.AsciiSets.{is_ascii_in, valid_ascii_text}
 use Rattle.uri_ops.proofs.Meanings.AllowedParts.{is_set_text, set-text-from-utf8}
 
@@ -25,9 +14,8 @@ ascii-in-test-is-ascii test (b ∷ bs) e (suc i) = ascii-in-test-is-ascii test b
     (and_parts (is_ascii_in test b) _ e).1 i
 
 -- meanings of schemes: ASCII characters that pass a test are UTF-8
-pub ascii-in-test-is-utf8 : (test : ℕ → Bool) (text : List ℕ) → list_all (is_ascii_in test) text
-    ≡ true
-    → IsUtf8 text
+pub ascii-in-test-is-utf8 : (test : ℕ → Bool) (text : List ℕ)
+    → list_all (is_ascii_in test) text ≡ true → IsUtf8 text
 ascii-in-test-is-utf8 test text e = IsUtf8-from_ascii text (ascii-in-test-is-ascii test text e)
 
 -- meanings of schemes: the test that every character passes
@@ -71,10 +59,9 @@ ascii-in-test-is-valid-for-set set test lacks within (b ∷ bs) e =
     ∙ ascii-in-test-is-valid-for-set set test lacks within bs p.1)
 
 -- meanings of schemes: ASCII characters that pass a test are valid for a set that has them all
-pub ascii-in-test-is-set-text : (set : TableSet) (test : ℕ → Bool) → LacksPercent set
-    → test 37 ≡ false
-    → ((c : ℕ) → test c ≡ true → set.ascii c ≡ true) → (text : List ℕ)
-    → list_all (is_ascii_in test) text ≡ true → is_set_text set text ≡ true
+pub ascii-in-test-is-set-text : (set : TableSet) (test : ℕ → Bool)
+    → LacksPercent set → test 37 ≡ false → ((c : ℕ) → test c ≡ true → set.ascii c ≡ true)
+    → (text : List ℕ) → list_all (is_ascii_in test) text ≡ true → is_set_text set text ≡ true
 ascii-in-test-is-set-text set test percent lacks within text e =
     let u = ascii-in-test-is-utf8 test text e in
     set-text-from-utf8 set text u (validity_of_tokens_is_validity_of_bytes set percent text u
@@ -92,10 +79,9 @@ ascii-passes-wider-test test wide within (c ∷ text) e =
     (ascii-passes-wider-test test wide within text p.1)
 
 -- meanings of schemes: a text passes an ASCII test in lower case, if each lowered character does
-pub lowered-ascii-passes-test : (test : ℕ → Bool)
-    → ((c : ℕ) → test c ≡ true → test (to_ascii_lowercase c) ≡ true)
-    → (text : List ℕ) → list_all (is_ascii_in test) text ≡ true
-    → list_all (is_ascii_in test) (str_to_ascii_lowercase text) ≡ true
+pub lowered-ascii-passes-test : (test : ℕ → Bool) → ((c : ℕ) → test c ≡ true
+    → test (to_ascii_lowercase c) ≡ true) → (text : List ℕ) → list_all (is_ascii_in test) text
+    ≡ true → list_all (is_ascii_in test) (str_to_ascii_lowercase text) ≡ true
 lowered-ascii-passes-test test keeps [] e = refl
 lowered-ascii-passes-test test keeps (c ∷ text) e =
     let p = and_parts (is_ascii_in test c) (list_all (is_ascii_in test) text) e in
@@ -121,8 +107,7 @@ lowered-letter-is-letter c e = grind (arith, nat_tests)
 
 -- meanings of schemes: a text whose first byte is a letter has one in lower case too
 lowered-text-keeps-leading-letter : (text : List ℕ) → is_ascii_alphabetic (slice_index text 0)
-    ≡ true
-    → is_ascii_alphabetic (slice_index (str_to_ascii_lowercase text) 0) ≡ true
+    ≡ true → is_ascii_alphabetic (slice_index (str_to_ascii_lowercase text) 0) ≡ true
 lowered-text-keeps-leading-letter [] e = e
 lowered-text-keeps-leading-letter (c ∷ text) e = lowered-letter-is-letter c e
 

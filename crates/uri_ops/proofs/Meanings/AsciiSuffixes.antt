@@ -1,21 +1,7 @@
 -- What is appended to a text is ASCII: characters, and octets that are decoded or written as they
 -- are.
-use Rattle.std.proofs.Common.{◌≡◌, ℕ, ◌+◌, ◌*◌, ◌<◌, Bool, true, false, List, [], ◌∷◌, ◌++◌, length, take, drop, refl, sym, ap, subst, ◌∙◌, append_assoc, take_all, arith, ⊎_elim, append-nil, eqb, suc}
-use Rattle.std.specs.Char.{digit_value, is_ascii_hexdigit}
-use Rattle.std.specs.List.{list_any}
-use Rattle.std.specs.Str.{IsAscii, IsUtf8}
-use Rattle.std.proofs.lemmas.Bool.{cases_Bool}
-use Rattle.std.proofs.lemmas.Bool.Decides.{nat_tests}
-use Rattle.std.proofs.lemmas.List.{drop_all, take-append-drop}
-use Rattle.std.proofs.Math.Seq.{take-append_seam, drop-append_seam}
-use Rattle.std.proofs.lemmas.Str.{IsAscii-append, IsAscii-drop, IsAscii-take, IsUtf8-append, IsUtf8-from_ascii, encode_ascii}
-use Rattle.std.proofs.lemmas.Str.Ascii.{IsAscii-nil, IsAscii-push, lowercase_ascii}
-use Rattle.uri_pct.specs.DecodeUnreserved.{decode_octet}
-use Rattle.uri_pct.specs.Sets.{is_unreserved}
-use Rattle.uri_pct.specs.Tokens.{Octet, print, text_of_token}
+use Rattle.uri_ops.proofs.Common.{◌≡◌, ℕ, ◌+◌, ◌*◌, ◌<◌, Bool, true, false, List, [], ◌∷◌, ◌++◌, length, take, drop, refl, sym, ap, subst, ◌∙◌, append_assoc, take_all, arith, ⊎_elim, append-nil, eqb, suc, digit_value, is_ascii_hexdigit, list_any, IsAscii, IsUtf8, cases_Bool, nat_tests, drop_all, take-append-drop, take-append_seam, drop-append_seam, IsAscii-append, IsAscii-drop, IsAscii-take, IsUtf8-append, IsUtf8-from_ascii, encode_ascii, IsAscii-nil, IsAscii-push, lowercase_ascii, decode_octet, is_unreserved, Octet, print, text_of_token, unreserved_is_ascii, lowered_code_if, lowered_if}
 use Rattle.uri_pct.proofs.Decodings.OctetTexts.{octet_entry_is_printed_octet, octet_table_is_ascii}
-use Rattle.uri_pct.proofs.ValidTexts.Allowed.{unreserved_is_ascii}
-use Rattle.uri_ops.specs.Models.Decodings.{lowered_code_if, lowered_if}
 use Rattle.uri_ops.proofs.Meanings.UnreservedCodes.{unreserved-octet-prints-its-code}
 
 -- ASCII suffixes: a text begins with the old one, and what is after it is ASCII
@@ -42,9 +28,8 @@ longer-suffix-is-ascii old out new more a pushed ascii =
     ∙ ap (λ x. x ++ more) (text-is-old-and-suffix old out a) ∙ append_assoc old suffix more in
     record {
       unchanged = ap (take (length old)) joined ∙ take-append_seam old (suffix ++ more);
-      ascii = subst IsAscii
-          (sym (ap (drop (length old)) joined ∙ drop-append_seam old (suffix ++ more)))
-          (IsAscii-append suffix more a.ascii ascii);
+      ascii = subst IsAscii (sym (ap (drop (length old)) joined
+          ∙ drop-append_seam old (suffix ++ more))) (IsAscii-append suffix more a.ascii ascii);
     }
 
 -- ASCII suffixes: after a text in UTF-8, an ASCII suffix leaves it UTF-8

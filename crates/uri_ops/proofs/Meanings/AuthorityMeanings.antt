@@ -1,42 +1,16 @@
 -- An authority that is printed from its meaning is one, lacks the marks that would end it, and has
 -- that meaning.
-use Rattle.std.proofs.Common.{◌≡◌, ℕ, Bool, true, false, cond, not, List, [], ◌∷◌, ◌++◌, refl, sym, ap, subst, ◌∙◌, ◌||◌, arith, append_assoc, append-nil, option_map}
-use Rattle.std.specs.Prelude.{codes, Option, Some, None, IfSome}
-use Rattle.std.specs.List.{list_any, list_all}
-use Rattle.std.specs.Str.{IsUtf8}
-use Rattle.std.proofs.lemmas.Str.{IsUtf8-append, IsUtf8-nil}
-use Rattle.std.proofs.lemmas.Bool.{and_parts, and_from, or_parts, or_from, not_from_false, not-true}
-use Rattle.std.proofs.lemmas.Bool.Decides.{nat_tests}
-use Rattle.uri_pct.specs.Sets.{TableSet, is_one_of, digit_set}
-use Rattle.uri_pct.specs.Tokens.{IsValidFor}
-use Rattle.uri_pct.specs.DecodeUnreserved.{decode_unreserved}
-use Rattle.uri_pct.proofs.ValidTexts.Cuts.{excludes}
-use Rattle.uri_pct.proofs.ValidTexts.MarksInTexts.{test_holds_of_each}
-use Rattle.uri_parts.specs.Components.{Lacks, marked}
-use Rattle.uri_parts.specs.Hosts.{HostKind, IsHost, host_kind}
-use Rattle.uri_parts.specs.Authority.{AuthorityParts, IsAuthorityFor, LackAuthorityDelimiters, authority_parts, recompose_authority}
-use Rattle.uri_parts.specs.Grammar.{Kind, is_authority}
-use Rattle.uri_parts.proofs.Authorities.Authority.{is_authority_for-sound, is_authority_for-complete, authority_parts-are-unique, names_exclude_delimiters}
-use Rattle.uri_parts.proofs.HostForms.Futures.{joined-texts-lack-marks}
-use Rattle.uri_parts.proofs.HostForms.Hosts.{is_host-complete}
-use Rattle.uri_parts.proofs.TextKinds.GrammarTexts.{utf8_around_ascii_byte, valid_text_lacks_excluded_marks}
-use Rattle.uri_ops.specs.Dots.{is_empty}
-use Rattle.uri_parts.specs.Ports.{is_default}
-use Rattle.uri_ops.specs.ComponentSets.{HasComponentSets}
-use Rattle.uri_ops.specs.Meaning.{AuthorityMeaning, host_meaning, port_meaning, authority_meaning}
-use Rattle.uri_ops.specs.Normal.{normal_parts}
+use Rattle.uri_ops.proofs.Common.{◌≡◌, ℕ, Bool, true, false, cond, not, List, [], ◌∷◌, ◌++◌, refl, sym, ap, subst, ◌∙◌, ◌||◌, arith, append_assoc, append-nil, option_map, codes, Option, Some, None, IfSome, list_any, list_all, IsUtf8, IsUtf8-append, IsUtf8-nil, and_parts, and_from, or_parts, or_from, not_from_false, not-true, nat_tests, TableSet, is_one_of, digit_set, IsValidFor, decode_unreserved, excludes, test_holds_of_each, Lacks, marked, HostKind, IsHost, host_kind, AuthorityParts, IsAuthorityFor, LackAuthorityDelimiters, authority_parts, recompose_authority, Kind, is_authority, is_authority_for-sound, is_authority_for-complete, authority_parts-are-unique, names_exclude_delimiters, joined-texts-lack-marks, is_host-complete, utf8_around_ascii_byte, valid_text_lacks_excluded_marks, is_empty, is_default, HasComponentSets, AuthorityMeaning, host_meaning, port_meaning, authority_meaning, normal_parts, IfSome-combine, IfSome-weaken}
 use Rattle.uri_ops.proofs.Meanings.AllowedParts.{is_set_text, set-text-from-utf8, set-text-is-utf8, set-text-is-valid}
 use Rattle.uri_ops.proofs.Meanings.AsciiCharacters.{ascii-bytes-are-utf8}
 use Rattle.uri_ops.proofs.Paths.PathCharacters.{test-of-delimiters-gives-lacks}
 use Rattle.uri_ops.proofs.Meanings.ComponentEnds.{ends-are-excluded-from-set, fewer-characters-are-excluded-too}
 use Rattle.uri_ops.proofs.Meanings.HostMeanings.{IsHostWithMeaning, normal-host-has-meaning}
 use Rattle.uri_ops.proofs.Normal.NormalComponents.{NormalAuthoritiesKeepMeaning, normal-component-is-part, normal-component-decodes-as-component, part-lacks-excluded-characters}
-use Rattle.uri_pct.proofs.General.{IfSome-combine, IfSome-weaken}
 
 -- meanings of authorities: a set that has none of some delimiters excludes each of them
-no-delimiter-allowed-excludes-each : (set : TableSet) (marks : List ℕ) → list_any set.ascii marks
-    ≡ false
-    → list_all (λ c. not (set.ascii c)) marks ≡ true
+no-delimiter-allowed-excludes-each : (set : TableSet) (marks : List ℕ)
+    → list_any set.ascii marks ≡ false → list_all (λ c. not (set.ascii c)) marks ≡ true
 no-delimiter-allowed-excludes-each set [] e = refl
 no-delimiter-allowed-excludes-each set (m ∷ marks) e = let p = or_parts _ _ e in
     and_from _ _ (not_from_false _ p.0) (no-delimiter-allowed-excludes-each set marks p.1)
@@ -66,8 +40,7 @@ pub record PartsUtf8 (p : AuthorityParts) : Type 0 where
 
 -- meanings of authorities: host and port of a text in UTF-8 are UTF-8
 host-and-port-of-utf8-are-utf8 : (host : List ℕ) (port : Option (List ℕ))
-    → IsUtf8 (host ++ marked (codes ":") port [])
-    → IsUtf8 host × IfSome port IsUtf8
+    → IsUtf8 (host ++ marked (codes ":") port []) → IsUtf8 host × IfSome port IsUtf8
 host-and-port-of-utf8-are-utf8 host None u = (subst IsUtf8 (append-nil host) u, tt)
 host-and-port-of-utf8-are-utf8 host (Some digits) u =
     let apart = utf8_around_ascii_byte host 58 (digits ++ []) (omega arith) u in
@@ -106,8 +79,7 @@ recomposed-authority-is-utf8 p u = IsUtf8-append _ _ (userinfo-with-at-sign-is-u
 
 -- meanings of authorities: a userinfo with its `@`, if there is one, has no `/`, `?` or `#`
 userinfo-with-at-sign-lacks-authority-ends : (userinfo : Option (List ℕ))
-    → IfSome userinfo (Lacks (codes "/?#"))
-    → Lacks (codes "/?#") (marked [] userinfo (codes "@"))
+    → IfSome userinfo (Lacks (codes "/?#")) → Lacks (codes "/?#") (marked [] userinfo (codes "@"))
 userinfo-with-at-sign-lacks-authority-ends None h = test-of-delimiters-gives-lacks
     (codes "/?#") [] refl
 userinfo-with-at-sign-lacks-authority-ends (Some user) h = joined-texts-lack-marks (codes "/?#")
@@ -133,8 +105,7 @@ authority-text-lacks-its-ends p user host port = joined-texts-lack-marks (codes 
 
 -- meanings of ports: what holds of a port, if there is one, holds of the one that its meaning keeps
 port_meaning-keeps-property : (default : Option ℕ) (port : Option (List ℕ)) (P : List ℕ → Type 0)
-    → IfSome port P
-    → IfSome (port_meaning default port) P
+    → IfSome port P → IfSome (port_meaning default port) P
 port_meaning-keeps-property default None P h = tt
 port_meaning-keeps-property default (Some digits) P h = kept
     (is_empty digits || is_default default digits)
@@ -156,9 +127,8 @@ unchanged-port-is-its-bare-meaning default (d ∷ digits) false e = refl
 port_meaning-is-its-own-bare-meaning : (default : Option ℕ) (port : Option (List ℕ))
     → port_meaning None (port_meaning default port) ≡ port_meaning default port
 port_meaning-is-its-own-bare-meaning default None = refl
-port_meaning-is-its-own-bare-meaning default (Some digits) =
-    unchanged-port-is-its-bare-meaning default digits
-    (is_empty digits || is_default default digits) refl
+port_meaning-is-its-own-bare-meaning default (Some digits) = unchanged-port-is-its-bare-meaning
+    default digits (is_empty digits || is_default default digits) refl
 
 module _ (kind : Kind) (sets : HasComponentSets kind) (default : Option ℕ) (a : List ℕ)
     (u : IsUtf8 a) (e : is_authority kind a ≡ true) where
@@ -191,10 +161,8 @@ module _ (kind : Kind) (sets : HasComponentSets kind) (default : Option ℕ) (a 
     where
       found : (text : List ℕ) (h : HostKind) → IsUtf8 text → IsHost names text h
           → IsHost names text (host_kind text)
-      found text h v is_h = subst (IsHost names text)
-          (sym (is_host-complete names apart.names_percent
-          (names_exclude_delimiters users names apart) text h
-          v is_h).kind) is_h
+      found text h v is_h = subst (IsHost names text) (sym (is_host-complete names
+          apart.names_percent (names_exclude_delimiters users names apart) text h v is_h).kind) is_h
 
   user : IfSome parts.userinfo (λ x. is_set_text users x ≡ true)
   user = IfSome-combine parts.userinfo IsUtf8 (IsValidFor users) (λ x. is_set_text users x ≡ true)
@@ -235,8 +203,7 @@ module _ (kind : Kind) (sets : HasComponentSets kind) (default : Option ℕ) (a 
   bare-meaning-of-normal-authority : authority_meaning kind None (recompose_authority normal)
       ≡ authority_meaning kind default a
   bare-meaning-of-normal-authority =
-      let of_parts : AuthorityParts → AuthorityMeaning =
-      λ p. record {
+      let of_parts : AuthorityParts → AuthorityMeaning = λ p. record {
         userinfo = option_map (decode_unreserved users) p.userinfo;
         host = host_meaning names p.host (host_kind p.host);
         port = port_meaning None p.port;
@@ -252,15 +219,12 @@ module _ (kind : Kind) (sets : HasComponentSets kind) (default : Option ℕ) (a 
       grind (arith, nat_tests, fewer-characters-are-excluded-too, ends-are-excluded-from-set)
 
   normal-authority-lacks-its-ends : Lacks (codes "/?#") (recompose_authority normal)
-  normal-authority-lacks-its-ends =
-      authority-text-lacks-its-ends normal
-      (part-lacks-excluded-characters users (codes "/?#[]@") sets.userinfo
-      (codes "/?#") userinfo-set-excludes-authority-ends
-      normal.userinfo normal-userinfo-is-set-text) host.lacks
+  normal-authority-lacks-its-ends = authority-text-lacks-its-ends normal
+      (part-lacks-excluded-characters users (codes "/?#[]@") sets.userinfo (codes "/?#")
+      userinfo-set-excludes-authority-ends normal.userinfo normal-userinfo-is-set-text) host.lacks
       (IfSome-combine normal.port IsUtf8 (IsValidFor digit_set) (Lacks (codes "/?#"))
       (λ x v h. valid_text_lacks_excluded_marks digit_set (codes "/?#") refl refl x v h)
-      normal-authority-parts-are-utf8.port
-      normal-authority-follows-grammar.port)
+      normal-authority-parts-are-utf8.port normal-authority-follows-grammar.port)
 
 -- meanings of authorities: an authority written from its meaning is one, and has that meaning
 pub normal-authorities-are-authorities : (kind : Kind) → HasComponentSets kind

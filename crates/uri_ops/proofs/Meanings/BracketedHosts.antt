@@ -1,18 +1,7 @@
 -- What a host means, by whether it begins with `[`.
-use Rattle.std.proofs.Common.{◌≡◌, ℕ, true, false, List, map, refl, sym, arith}
-use Rattle.std.specs.Prelude.{Option, Some, None}
-use Rattle.std.specs.Str.{str_to_ascii_lowercase}
-use Rattle.std.proofs.lemmas.Bool.Decides.{nat_tests}
-use Rattle.uri_pct.specs.DecodeUnreserved.{decode_unreserved, lower_token}
-use Rattle.uri_pct.specs.Sets.{TableSet}
-use Rattle.uri_pct.specs.Tokens.{print}
-use Rattle.uri_parts.specs.Components.{starts}
-use Rattle.uri_parts.specs.Hosts.{IpvFuture, host_kind, literal_kind, name_kind}
-use Rattle.uri_parts.specs.AuthorityTexts.{host_kind_of}
+use Rattle.uri_ops.proofs.Common.{◌≡◌, ℕ, true, false, List, map, refl, sym, arith, Option, Some, None, str_to_ascii_lowercase, nat_tests, decode_unreserved, lower_token, TableSet, print, starts, IpvFuture, host_kind, literal_kind, name_kind, host_kind_of, host_meaning, host_text}
 use Rattle.uri_parts.specs.declared.component.HostOf.{HostOf}
 use Rattle.uri_parts.specs.declared.net.Ipv6Addr.{Ipv6Addr}
-use Rattle.uri_ops.specs.Meaning.{host_meaning}
-use Rattle.uri_ops.specs.Normal.{host_text}
 use Rattle.uri_parts.specs.declared.component.HostOf.TheVariants as Of
 
 -- meanings of hosts: an IPv4 address is written as a name is, decoded and in lower case

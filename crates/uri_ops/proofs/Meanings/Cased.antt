@@ -1,26 +1,6 @@
 -- What is written of a part, as it is or with its letters lowered.
-use Rattle.std.proofs.Common.{◌≡◌, ℕ, ◌≤◌, Bool, true, false, List, [], ◌∷◌, ◌++◌, map, refl, sym, ap, subst, ◌∙◌, arith, ⊎_elim}
-use Rattle.std.specs.Prelude.{slice_index}
-use Rattle.std.specs.List.{list_all, flat_map, All}
-use Rattle.std.specs.Char.{encode_utf8, to_ascii_lowercase}
-use Rattle.std.specs.Str.{chars, encode_utf8_all, all_scalars, IsUtf8, str_to_ascii_lowercase}
-use Rattle.std.proofs.lemmas.Bool.{cases_Bool, cond-true, cond-false, and_parts, and_from, or_parts, cases_lt, leb-true}
-use Rattle.std.proofs.lemmas.Bool.Decides.{nat_tests}
-use Rattle.std.proofs.lemmas.List.{append-nil, map-append}
-use Rattle.std.proofs.lemmas.List.Elements.{All-nil, All-cons, All-head, All-tail}
-use Rattle.std.proofs.lemmas.Str.{encodes-chars, scalars-chars, chars-encodes, encode_ascii}
-use Rattle.std.proofs.lemmas.Str.Ascii.{lowercase_ascii}
-use Rattle.uri_pct.specs.Encoding.{encode_char, encode_text, encode_piece}
-use Rattle.uri_pct.specs.Parts.{ArePastAscii}
-use Rattle.uri_pct.specs.Pieces.{Piece, WellFormed, IllFormed, IsOfCharacter, utf8_pieces}
-use Rattle.uri_pct.specs.DecodeUnreserved.{is_decodable, decode_piece, lower_token}
-use Rattle.uri_pct.specs.Sets.{TableSet, allows, allows_past_ascii, is_unreserved}
-use Rattle.uri_pct.specs.Tokens.{Char, Octet, print}
-use Rattle.uri_pct.proofs.Unicode.CharacterPieces.{utf8_pieces-are-of-characters}
-use Rattle.uri_pct.proofs.Unicode.Characters.{char_has_encoding, char_past_ascii_begins_past_ascii, is_no_ascii_byte}
+use Rattle.uri_ops.proofs.Common.{◌≡◌, ℕ, ◌≤◌, Bool, true, false, List, [], ◌∷◌, ◌++◌, map, refl, sym, ap, subst, ◌∙◌, arith, ⊎_elim, slice_index, list_all, flat_map, All, encode_utf8, to_ascii_lowercase, chars, encode_utf8_all, all_scalars, IsUtf8, str_to_ascii_lowercase, cases_Bool, cond-true, cond-false, and_parts, and_from, or_parts, cases_lt, leb-true, nat_tests, append-nil, map-append, All-nil, All-cons, All-head, All-tail, encodes-chars, scalars-chars, chars-encodes, encode_ascii, lowercase_ascii, encode_char, encode_text, encode_piece, ArePastAscii, Piece, WellFormed, IllFormed, IsOfCharacter, utf8_pieces, is_decodable, decode_piece, lower_token, TableSet, allows, allows_past_ascii, is_unreserved, Char, Octet, print, utf8_pieces-are-of-characters, char_has_encoding, char_past_ascii_begins_past_ascii, is_no_ascii_byte, lowered_if, lowered_text_if, lowering_keeps_octets, lowercase_keeps_char_past_ascii}
 use Rattle.uri_pct.proofs.EncodedTexts.Encodings.{pieces_of_text_are_encoded_as_text}
-use Rattle.uri_ops.specs.Models.Decodings.{lowered_if, lowered_text_if}
-use Rattle.uri_pct.proofs.UnreservedDecoding.Formatting.{lowering_keeps_octets, lowercase_keeps_char_past_ascii}
 
 -- meanings in lower case: literal tokens are written as the UTF-8 of their characters
 print-of-characters-is-their-utf8 : (cs : List ℕ) → print (map Char cs) ≡ encode_utf8_all cs
@@ -29,8 +9,7 @@ print-of-characters-is-their-utf8 (c ∷ cs) = ap (λ x. encode_utf8 c ++ x)
     (print-of-characters-is-their-utf8 cs)
 
 -- meanings in lower case: the characters of a text, written as tokens, are the text
-print-of-characters-is-text : (text : List ℕ) → IsUtf8 text → print (map Char (chars text))
-    ≡ text
+print-of-characters-is-text : (text : List ℕ) → IsUtf8 text → print (map Char (chars text)) ≡ text
 print-of-characters-is-text text u = print-of-characters-is-their-utf8 (chars text)
     ∙ encodes-chars text u
 
@@ -38,10 +17,9 @@ print-of-characters-is-text text u = print-of-characters-is-their-utf8 (chars te
 pub bytes-past-ascii-are-unchanged-when-lowered : (bytes : List ℕ) → ArePastAscii bytes
     → str_to_ascii_lowercase bytes ≡ bytes
 bytes-past-ascii-are-unchanged-when-lowered [] past = refl
-bytes-past-ascii-are-unchanged-when-lowered (b ∷ bytes) past =
-    ap (λ x. x ∷ str_to_ascii_lowercase bytes)
-    (lowercase_keeps_char_past_ascii b (All-head (λ x. 128 ≤ x) b bytes past)) ∙ ap (λ x. b ∷ x)
-    (bytes-past-ascii-are-unchanged-when-lowered bytes (All-tail (λ x. 128 ≤ x) b bytes past))
+bytes-past-ascii-are-unchanged-when-lowered (b ∷ bytes) past = ap (λ x. x ∷ str_to_ascii_lowercase
+    bytes) (lowercase_keeps_char_past_ascii b (All-head (λ x. 128 ≤ x) b bytes past)) ∙ ap (λ x. b
+    ∷ x) (bytes-past-ascii-are-unchanged-when-lowered bytes (All-tail (λ x. 128 ≤ x) b bytes past))
 
 -- meanings in lower case: bytes without ASCII are past ASCII
 bytes-without-ascii-are-past-ascii : (bytes : List ℕ) → list_all is_no_ascii_byte bytes ≡ true
@@ -53,9 +31,8 @@ bytes-without-ascii-are-past-ascii (b ∷ bytes) e =
     (bytes-without-ascii-are-past-ascii bytes p.1)
 
 -- meanings in lower case: a character past ASCII is unchanged in lower case
-character-past-ascii-is-unchanged-when-lowered : (c : ℕ) → 128 ≤ c
-    → map to_ascii_lowercase (encode_utf8 c)
-    ≡ encode_utf8 c
+character-past-ascii-is-unchanged-when-lowered : (c : ℕ)
+    → 128 ≤ c → map to_ascii_lowercase (encode_utf8 c) ≡ encode_utf8 c
 character-past-ascii-is-unchanged-when-lowered c h =
     let w = char_has_encoding c in
     let first : 128 ≤ w.first = subst (λ x. 128 ≤ slice_index x 0)
@@ -63,15 +40,13 @@ character-past-ascii-is-unchanged-when-lowered c h =
     ap (map to_ascii_lowercase) w.joined
     ∙ ap (λ x. x ∷ map to_ascii_lowercase w.more) (lowercase_keeps_char_past_ascii w.first first)
     ∙ ap (λ x. w.first ∷ x) (bytes-past-ascii-are-unchanged-when-lowered w.more
-    (bytes-without-ascii-are-past-ascii w.more w.high))
-    ∙ sym w.joined
+    (bytes-without-ascii-are-past-ascii w.more w.high)) ∙ sym w.joined
 
 -- meanings in lower case: lowering a character and writing it in UTF-8 may swap
 lowering-and-utf8-swap-for-character : (c : ℕ)
     → encode_utf8 (to_ascii_lowercase c) ≡ map to_ascii_lowercase (encode_utf8 c)
-lowering-and-utf8-swap-for-character c = ⊎_elim
-    (λ h. encode_ascii (to_ascii_lowercase c) (lowercase_ascii c h)
-    ∙ sym (ap (map to_ascii_lowercase) (encode_ascii c h)))
+lowering-and-utf8-swap-for-character c = ⊎_elim (λ h. encode_ascii (to_ascii_lowercase c)
+    (lowercase_ascii c h) ∙ sym (ap (map to_ascii_lowercase) (encode_ascii c h)))
     (λ h. ap encode_utf8 (lowercase_keeps_char_past_ascii c h)
     ∙ sym (character-past-ascii-is-unchanged-when-lowered c h)) (cases_lt c 128)
 
@@ -123,9 +98,8 @@ lowered-scalars-are-scalars (c ∷ cs) e =
 -- meanings in lower case: the characters of a text in lower case are its characters in lower case
 chars-of-lowered-text-are-lowered : (text : List ℕ) → IsUtf8 text
     → chars (str_to_ascii_lowercase text) ≡ map to_ascii_lowercase (chars text)
-chars-of-lowered-text-are-lowered text u =
-    ap (λ x. chars (str_to_ascii_lowercase x)) (sym (encodes-chars _ u))
-    ∙ ap chars (sym (lowering-and-utf8-swap _))
+chars-of-lowered-text-are-lowered text u = ap (λ x. chars (str_to_ascii_lowercase x))
+    (sym (encodes-chars _ u)) ∙ ap chars (sym (lowering-and-utf8-swap _))
     ∙ chars-encodes _ (lowered-scalars-are-scalars (chars text) (scalars-chars _ u))
 
 -- meanings in lower case: a text in lower case is UTF-8
@@ -177,20 +151,18 @@ module _ (decodable set : TableSet) (same : AllowsDecodable decodable set) where
   pub decoded-pieces-are-encoded-text : (text : List ℕ) → IsUtf8 text
       → flat_map (decode_piece set) (utf8_pieces text) ≡ encode_text decodable text
   decoded-pieces-are-encoded-text text u = decoding-pieces-is-encoding-them (utf8_pieces text)
-      (utf8_pieces-are-of-characters text)
-      ∙ pieces_of_text_are_encoded_as_text decodable text u
+      (utf8_pieces-are-of-characters text) ∙ pieces_of_text_are_encoded_as_text decodable text u
 
   -- a character is encoded in lower case as it is encoded
   lowered-decodable-is-decodable : (c : ℕ) → is_decodable set c ≡ true
       → is_decodable set (to_ascii_lowercase c) ≡ true
   unfolding is_decodable
-  lowered-decodable-is-decodable c e =
-      grind (
-        arith,
-        nat_tests,
-        lowered-unreserved-is-unreserved,
-        not-unreserved-is-unchanged-when-lowered,
-      )
+  lowered-decodable-is-decodable c e = grind (
+    arith,
+    nat_tests,
+    lowered-unreserved-is-unreserved,
+    not-unreserved-is-unchanged-when-lowered,
+  )
 
   undecodable-is-unchanged-when-lowered : (c : ℕ) → is_decodable set c ≡ false
       → to_ascii_lowercase c ≡ c
@@ -207,9 +179,8 @@ module _ (decodable set : TableSet) (same : AllowsDecodable decodable set) where
       ∙ cond-false _ _ _ (same c ∙ e) ∙ sym (lowering_keeps_octets _)
       ∙ sym (ap (map lower_token) (cond-false _ _ _ (same c ∙ e)))) (cases_Bool _)
 
-  encoding-characters-and-lowering-swap : (cs : List ℕ)
-      → flat_map (encode_char decodable) (map to_ascii_lowercase cs)
-      ≡ map lower_token (flat_map (encode_char decodable) cs)
+  encoding-characters-and-lowering-swap : (cs : List ℕ) → flat_map (encode_char decodable)
+      (map to_ascii_lowercase cs) ≡ map lower_token (flat_map (encode_char decodable) cs)
   encoding-characters-and-lowering-swap [] = refl
   encoding-characters-and-lowering-swap (c ∷ cs) = ap
       (λ ts. ts ++ flat_map (encode_char decodable) (map to_ascii_lowercase cs))

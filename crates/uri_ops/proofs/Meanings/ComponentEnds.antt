@@ -1,18 +1,5 @@
 -- Where components end: the marks that a set excludes, and the texts that begin with no scheme.
-use Rattle.std.proofs.Common.{◌≡◌, ℕ, Bool, true, false, eqb, not, nat_lt, List, [], ◌∷◌, ◌++◌, take, drop, refl, sym, ap, ◌∙◌, ◌&&◌, ⊎_elim, arith}
-use Rattle.std.specs.Prelude.{codes}
-use Rattle.std.specs.Char.{is_ascii_hexdigit}
-use Rattle.std.specs.List.{list_all, list_any}
-use Rattle.std.proofs.lemmas.Bool.{cases_Bool, and_parts, and_from, and_left, or_parts, or_left, both_ways, not_from_false}
-use Rattle.std.proofs.lemmas.Bool.Decides.{nat_tests}
-use Rattle.uri_pct.specs.Sets.{TableSet, is_one_of}
-use Rattle.uri_pct.proofs.ValidTexts.Cuts.{excludes}
-use Rattle.uri_pct.proofs.ValidTexts.MarksInTexts.{length_before_mark_at_start_is_zero, length_before_marks_counts_other_byte}
-use Rattle.uri_parts.specs.Components.{starts, has_scheme, before_any, from_any}
-use Rattle.uri_parts.specs.Grammar.{has_colon_in_first_segment, Kind}
-use Rattle.uri_parts.proofs.Splitting.Cuts.{IsEmptyOrMarked}
-use Rattle.uri_parts.proofs.Splitting.Relative.{question_or_hash_ends_scheme, question_or_hash_is_no_colon}
-use Rattle.uri_ops.specs.ComponentSets.{HasComponentSets}
+use Rattle.uri_ops.proofs.Common.{◌≡◌, ℕ, Bool, true, false, eqb, not, nat_lt, List, [], ◌∷◌, ◌++◌, take, drop, refl, sym, ap, ◌∙◌, ◌&&◌, ⊎_elim, arith, codes, is_ascii_hexdigit, list_all, list_any, cases_Bool, and_parts, and_from, and_left, or_parts, or_left, both_ways, not_from_false, nat_tests, TableSet, is_one_of, excludes, length_before_mark_at_start_is_zero, length_before_marks_counts_other_byte, starts, has_scheme, before_any, from_any, has_colon_in_first_segment, Kind, IsEmptyOrMarked, question_or_hash_ends_scheme, question_or_hash_is_no_colon, HasComponentSets}
 
 -- meanings of components: an ASCII character other than `%` and hexadecimal digits, as a delimiter
 abbrev pub is_outside_octets : ℕ → Bool
@@ -32,33 +19,28 @@ ends-are-excluded-from-set (m ∷ marks) set e f =
 
 -- meanings of components: a set that excludes some characters and more excludes the former
 pub fewer-characters-are-excluded-too : (some more : List ℕ) (set : TableSet)
-    → excludes set (some ++ more) ≡ true
-    → excludes set some ≡ true
+    → excludes set (some ++ more) ≡ true → excludes set some ≡ true
 fewer-characters-are-excluded-too [] more set e = refl
 fewer-characters-are-excluded-too (m ∷ some) more set e = let p = and_parts _ _ e in
     and_from _ _ p.0 (fewer-characters-are-excluded-too some more set p.1)
 
 -- recomposing meanings: in a path without `:` in its first segment, and `?` or `#` after it, `:` is
 -- not the first delimiter
-path-without-colon-meets-no-colon-first : (path tail : List ℕ) → has_colon_in_first_segment path
-    ≡ false
-    → IsEmptyOrMarked (codes "?#") tail
-    → starts 58 (from_any (codes ":/?#") (path ++ tail)) ≡ false
+path-without-colon-meets-no-colon-first : (path tail : List ℕ)
+    → has_colon_in_first_segment path ≡ false
+    → IsEmptyOrMarked (codes "?#") tail → starts 58 (from_any (codes ":/?#") (path ++ tail)) ≡ false
 path-without-colon-meets-no-colon-first [] [] e begins = refl
 path-without-colon-meets-no-colon-first [] (c ∷ tail) e begins = ap
     (λ n. starts 58 (drop n (c ∷ tail))) (length_before_mark_at_start_is_zero (codes ":/?#") c tail
     (question_or_hash_ends_scheme c begins)) ∙ question_or_hash_is_no_colon c begins
-path-without-colon-meets-no-colon-first (c ∷ path) tail e begins = ⊎_elim
-    (λ m. ap (λ n. starts 58 (drop n (c ∷ (path ++ tail))))
-    (length_before_mark_at_start_is_zero (codes ":/?#") c (path ++ tail) m) ∙ first c path e)
-    (λ m.
+path-without-colon-meets-no-colon-first (c ∷ path) tail e begins =
+    ⊎_elim (λ m. ap (λ n. starts 58 (drop n (c ∷ (path ++ tail))))
+    (length_before_mark_at_start_is_zero (codes ":/?#") c (path ++ tail) m) ∙ first c path e) (λ m.
     let past = ap (λ n. drop n (c ∷ (path ++ tail)))
     (length_before_marks_counts_other_byte (codes ":/?#") c (path ++ tail) m) in
-    ap (starts 58) past
-    ∙ path-without-colon-meets-no-colon-first path tail
-    (or_parts (eqb c 58) (has_colon_in_first_segment path)
-    (sym (ap (list_any (λ d. eqb d 58)) (before_other c path (no_slash c m))) ∙ e)).1 begins)
-    (cases_Bool (is_one_of (codes ":/?#") c))
+    ap (starts 58) past ∙ path-without-colon-meets-no-colon-first path tail (or_parts (eqb c 58)
+    (has_colon_in_first_segment path) (sym (ap (list_any (λ d. eqb d 58))
+    (before_other c path (no_slash c m))) ∙ e)).1 begins) (cases_Bool (is_one_of (codes ":/?#") c))
   where
     no_slash : (c : ℕ) → is_one_of (codes ":/?#") c ≡ false → is_one_of (codes "/") c ≡ false
     no_slash c e = grind (arith, nat_tests)
@@ -73,19 +55,14 @@ path-without-colon-meets-no-colon-first (c ∷ path) tail e begins = ⊎_elim
 
     first : (c : ℕ) (path : List ℕ) → has_colon_in_first_segment (c ∷ path) ≡ false
         → eqb c 58 ≡ false
-    first c path e = ⊎_elim
-        (λ h.
-        absurd
-        (both_ways _ e (ap (list_any (λ d. eqb d 58))
-        (before_other c path (colon_no_slash c h)) ∙ or_left _ _ h)))
-        (λ h. h)
-        (cases_Bool (eqb c 58))
+    first c path e = ⊎_elim (λ h. absurd (both_ways _ e
+        (ap (list_any (λ d. eqb d 58)) (before_other c path (colon_no_slash c h)) ∙ or_left _ _ h)))
+        (λ h. h) (cases_Bool (eqb c 58))
 
 -- recomposing meanings: a path whose first segment has no `:` has no scheme, whatever query or
 -- fragment follows it
 pub no_scheme : (path tail : List ℕ) → has_colon_in_first_segment path ≡ false
-    → IsEmptyOrMarked (codes "?#") tail
-    → has_scheme (path ++ tail) ≡ false
+    → IsEmptyOrMarked (codes "?#") tail → has_scheme (path ++ tail) ≡ false
 no_scheme path tail e begins = and_left _ _
     (path-without-colon-meets-no-colon-first path tail e begins)
 

@@ -1,24 +1,7 @@
 -- Texts in which each `%` begins an octet.
-use Rattle.std.proofs.Common.{◌≡◌, ℕ, Bool, true, false, not, eqb, List, refl, subst, arith, inl, inr}
-use Rattle.std.specs.Prelude.{Option, Some, None}
-use Rattle.std.specs.Net.Grammar.{IsDotted}
-use Rattle.std.proofs.lemmas.Bool.Decides.{nat_tests}
-use Rattle.std.proofs.lemmas.List.Elements.{All-weaker}
-use Rattle.std.proofs.lemmas.List.Sums.{list_all-from_AllPass}
-use Rattle.std.proofs.NetLemmas.Alphabet.{IsDigitOrDot}
-use Rattle.uri_pct.specs.Chunks.{widest_set}
-use Rattle.uri_pct.specs.Sets.{TableSet, LacksPercent}
-use Rattle.uri_pct.specs.Tables.{set_of}
-use Rattle.uri_pct.specs.Tokens.{IsValidFor}
+use Rattle.uri_ops.proofs.Common.{◌≡◌, ℕ, Bool, true, false, not, eqb, List, refl, subst, arith, inl, inr, Option, Some, None, IsDotted, nat_tests, All-weaker, list_all-from_AllPass, IsDigitOrDot, widest_set, TableSet, LacksPercent, set_of, IsValidFor, every_set_is_subset_of_widest, valid_for_superset, starts, ipv4_value, is_host, reg_name_host_is_valid, ipv4_value-sound, ipv4-text-is-digits-and-dots}
 use Rattle.uri_pct.specs.declared.table.Table.{Table}
-use Rattle.uri_pct.proofs.Decodings.Decoding.{every_set_is_subset_of_widest}
-use Rattle.uri_pct.proofs.ValidTexts.EStrs.{valid_for_superset}
 use Rattle.uri_pct.proofs.TableSets.Percent.{lacks_percent}
-use Rattle.uri_parts.specs.Components.{starts}
-use Rattle.uri_parts.specs.Hosts.{ipv4_value, is_host}
-use Rattle.uri_parts.proofs.Authorities.AuthorityPlaces.{reg_name_host_is_valid}
-use Rattle.uri_parts.proofs.HostForms.Addresses.{ipv4_value-sound}
-use Rattle.uri_parts.proofs.HostForms.Futures.{ipv4-text-is-digits-and-dots}
 use Rattle.uri_ops.proofs.Meanings.AllowedParts.{set-text-is-valid}
 use Rattle.uri_ops.proofs.Meanings.AsciiCharacters.{is_ascii_in, ascii-in-test-is-set-text}
 
@@ -41,9 +24,8 @@ digit-or-dot-is-no-percent c (inr dot) = grind (arith, nat_tests)
 dotted-decimal-is-decodable : (text octets : List ℕ) → IsDotted text octets
     → IsValidFor widest_set text
 dotted-decimal-is-decodable text octets h =
-    set-text-is-valid widest_set text
-    (ascii-in-test-is-set-text widest_set is_no_percent refl refl (λ c e. e) text
-    (list_all-from_AllPass (is_ascii_in is_no_percent) text
+    set-text-is-valid widest_set text (ascii-in-test-is-set-text widest_set is_no_percent refl refl
+    (λ c e. e) text (list_all-from_AllPass (is_ascii_in is_no_percent) text
     (All-weaker IsDigitOrDot (λ c. is_ascii_in is_no_percent c ≡ true)
     (λ c d. digit-or-dot-is-no-percent c d) text (ipv4-text-is-digits-and-dots text octets h))))
 

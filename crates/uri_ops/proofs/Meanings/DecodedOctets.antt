@@ -1,24 +1,6 @@
 -- Decoding of characters, and of an octet, at the start of a text.
-use Rattle.std.proofs.Common.{◌≡◌, ℕ, ◌+◌, ◌*◌, ◌<◌, Bool, true, false, cond, eqb, ltb, not, List, [], ◌∷◌, ◌++◌, take, drop, map, refl, sym, ap, ◌∙◌, arith, ◌&&◌, ◌||◌, ⊎_elim, append_assoc}
-use Rattle.std.specs.List.{flat_map}
-use Rattle.std.specs.Char.{encode_utf8, digit_value, is_ascii_hexdigit, IsScalar}
-use Rattle.std.specs.Fmt.{digit_glyph}
-use Rattle.std.proofs.Math.Bool.{or-false}
-use Rattle.std.proofs.Math.Utf8.{low_scalar}
-use Rattle.std.proofs.lemmas.Bool.{agree_below_at, cases_Bool, cond-false, and_parts, ltb-true, false_from_ne_true}
-use Rattle.std.proofs.lemmas.List.{append-nil}
-use Rattle.std.proofs.lemmas.Str.{encode_ascii}
-use Rattle.std.proofs.lemmas.Bool.Decides.{nat_tests}
-use Rattle.uri_pct.specs.Parts.{Decoded}
-use Rattle.uri_pct.specs.Pieces.{WellFormed, utf8_pieces}
-use Rattle.uri_pct.specs.DecodeUnreserved.{LacksPastAscii, is_decodable, decode_octet, decode_piece, decode_run, decode_after_run, decode_tokens}
-use Rattle.uri_pct.specs.Sets.{TableSet, is_unreserved}
-use Rattle.uri_pct.specs.Tokens.{Token, Char, Octet, tokens, text_of_token, print}
+use Rattle.uri_ops.proofs.Common.{◌≡◌, ℕ, ◌+◌, ◌*◌, ◌<◌, Bool, true, false, cond, eqb, ltb, not, List, [], ◌∷◌, ◌++◌, take, drop, map, refl, sym, ap, ◌∙◌, arith, ◌&&◌, ◌||◌, ⊎_elim, append_assoc, flat_map, encode_utf8, digit_value, is_ascii_hexdigit, IsScalar, digit_glyph, or-false, low_scalar, agree_below_at, cases_Bool, cond-false, and_parts, ltb-true, false_from_ne_true, append-nil, encode_ascii, nat_tests, Decoded, WellFormed, utf8_pieces, LacksPastAscii, is_decodable, decode_octet, decode_piece, decode_run, decode_after_run, decode_tokens, TableSet, is_unreserved, Token, Char, Octet, tokens, text_of_token, print, first_char_is_first_piece, char_of_utf8_is_the_char, allowed_past_ascii_is_scalar, BeginsWithOctet, IsOctetAt, KeepsPrefixWhenDecoded, decoded_parts, lowered_if, cased_append, decoded_text}
 use Rattle.uri_pct.proofs.UnreservedDecoding.Octets.{text_is_decoded_octet_by_octet_in_uri}
-use Rattle.uri_pct.proofs.Unicode.CharacterPieces.{first_char_is_first_piece, char_of_utf8_is_the_char}
-use Rattle.uri_pct.proofs.ValidTexts.Allowed.{allowed_past_ascii_is_scalar}
-use Rattle.uri_pct.proofs.Decodings.Decoding.{BeginsWithOctet}
-use Rattle.uri_ops.specs.Models.Decodings.{IsOctetAt, KeepsPrefixWhenDecoded, decoded_parts, lowered_if, cased_append, decoded_text}
 use Rattle.uri_ops.proofs.Meanings.DecodedParts.{decode_run-of-nil-is-nil, decoded_parts-of-run}
 use Rattle.uri_pct.proofs.UnreservedDecoding.Formatting as Formatting
 
@@ -41,8 +23,7 @@ decode_run-of-leading-character set c more scalar = ap (flat_map (decode_piece s
 -- meanings, decoded: after some octets (their bytes are more) and a character, decoding goes on
 -- with the character by itself
 decode_after_run-of-leading-character : (set : TableSet) (c : ℕ) (more : List ℕ) (ts : List Token)
-    → IsScalar c
-    → decode_after_run set (encode_utf8 c ++ more) ts
+    → IsScalar c → decode_after_run set (encode_utf8 c ++ more) ts
     ≡ decode_piece set (WellFormed (encode_utf8 c)) ++ decode_after_run set more ts
 unfolding decode_after_run
 decode_after_run-of-leading-character set c more [] scalar = decode_run-of-leading-character set c
@@ -97,9 +78,8 @@ decoded-part-of-ascii-octet lowers set b low =
     let piece = decode_piece set (WellFormed (encode_utf8 b)) in
     ap (λ ts. print (lowered_if lowers ts))
     (decoded_parts-of-run set (utf8_pieces (b ∷ [])) ∙ ap (decode_run set) (sym joined)
-    ∙ decode_run-of-leading-character set b [] (low_scalar b (omega arith))
-    ∙ ap (λ ts. piece ++ ts) (decode_run-of-nil-is-nil set)
-    ∙ append-nil piece ∙ ascii-piece-decodes-as-octet set b low)
+    ∙ decode_run-of-leading-character set b [] (low_scalar b (omega arith)) ∙ ap (λ ts. piece ++ ts)
+    (decode_run-of-nil-is-nil set) ∙ append-nil piece ∙ ascii-piece-decodes-as-octet set b low)
 
 -- meanings, decoded: each octet by itself, where a set has no characters past ASCII, as of URIs
 tokens-without-past-ascii-decode-alone : (set : TableSet) (text : List ℕ) → LacksPastAscii set
@@ -111,9 +91,8 @@ tokens-without-past-ascii-decode-alone set text none = sym
 -- meanings, decoded: an octet token at the start is decoded alone, if its byte is ASCII or the set
 -- lacks characters past ASCII (alone)
 leading-octet-token-decodes-alone : (set : TableSet) (text suffix : List ℕ) (value : ℕ)
-    (alone : Bool) → tokens text ≡ Octet value ∷ tokens suffix
-    → (alone ≡ true → LacksPastAscii set) → (alone || ltb value 128) ≡ true
-    → decode_tokens set (tokens text)
+    (alone : Bool) → tokens text ≡ Octet value ∷ tokens suffix → (alone ≡ true → LacksPastAscii set)
+    → (alone || ltb value 128) ≡ true → decode_tokens set (tokens text)
     ≡ decode_octet (Octet value) ∷ decode_tokens set (tokens suffix)
 leading-octet-token-decodes-alone set text suffix value alone first none e = grind (
   arith,
@@ -139,12 +118,11 @@ abbrev pub first_value : {text : List ℕ} → BeginsWithOctet text → ℕ
 first_value o = 16 * digit_value o.high + digit_value o.low
 
 -- meanings, decoded: the same of an octet with its digits
-pub leading-octet-is-decoded-alone : (lowers : Bool) (set : TableSet) (text : List ℕ)
-    (o : BeginsWithOctet text) (alone : Bool)
+pub leading-octet-is-decoded-alone :
+    (lowers : Bool) (set : TableSet) (text : List ℕ) (o : BeginsWithOctet text) (alone : Bool)
     → (alone ≡ true → LacksPastAscii set) → (alone || ltb (first_value o) 128) ≡ true
-    → decoded_text lowers set text
-    ≡ print (lowered_if lowers (decode_octet (Octet (first_value o)) ∷ []))
-    ++ decoded_text lowers set o.suffix
+    → decoded_text lowers set text ≡ print (lowered_if lowers
+    (decode_octet (Octet (first_value o)) ∷ [])) ++ decoded_text lowers set o.suffix
 leading-octet-is-decoded-alone lowers set text o alone none e =
     first-octet-token-is-decoded-alone lowers set text o.suffix (first_value o) alone o.first none e
 
@@ -160,9 +138,8 @@ unfolding is_glyph
 uppercase-digit-is-its-glyph h digit upper = grind (arith, nat_tests, agree_below_at)
 
 -- meanings, decoded: an octet with digits in upper case is written as it is
-pub uppercase-octet-prints-itself : (high low : ℕ) → is_ascii_hexdigit high ≡ true
-    → is_ascii_hexdigit low ≡ true
-    → high < 97 → low < 97
+pub uppercase-octet-prints-itself : (high low : ℕ)
+    → is_ascii_hexdigit high ≡ true → is_ascii_hexdigit low ≡ true → high < 97 → low < 97
     → text_of_token (Octet (16 * digit_value high + digit_value low)) ≡ 37 ∷ high ∷ low ∷ []
 uppercase-octet-prints-itself high low h l hu lu =
     grind (arith, nat_tests, uppercase-digit-is-its-glyph)
@@ -170,11 +147,9 @@ uppercase-octet-prints-itself high low h l hu lu =
 -- meanings, decoded: an octet of a reserved character with digits in upper case is unchanged;
 -- alone: the set lacks characters past ASCII
 pub uppercase-reserved-octet-is-unchanged : {text : List ℕ} {i high low : ℕ}
-    → IsOctetAt text i high low
-    → (set : TableSet) (alone : Bool) → (ltb high 97 && ltb low 97) ≡ true
-    → is_unreserved (16 * digit_value high + digit_value low) ≡ false
-    → (alone ≡ true → LacksPastAscii set)
-    → (alone || ltb (16 * digit_value high + digit_value low) 128) ≡ true
+    → IsOctetAt text i high low → (set : TableSet) (alone : Bool) → (ltb high 97 && ltb low 97)
+    ≡ true → is_unreserved (16 * digit_value high + digit_value low) ≡ false → (alone ≡ true
+    → LacksPastAscii set) → (alone || ltb (16 * digit_value high + digit_value low) 128) ≡ true
     → KeepsPrefixWhenDecoded false set (drop i text) 3
 uppercase-reserved-octet-is-unchanged {text} {i} {high} {low} at set alone upper reserved none
     itself =

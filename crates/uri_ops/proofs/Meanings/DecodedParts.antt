@@ -1,21 +1,5 @@
 -- Decoding the parts of a text gives the decoding of its tokens.
-use Rattle.std.proofs.Common.{◌≡◌, ℕ, true, List, [], ◌∷◌, ◌++◌, map, refl, sym, ap, ◌∙◌, append_assoc, arith}
-use Rattle.std.specs.List.{list_all, flat_map}
-use Rattle.std.specs.Char.{encode_utf8, IsScalar}
-use Rattle.std.specs.Str.{chars, IsUtf8}
-use Rattle.std.proofs.lemmas.Bool.{and_parts, and_from}
-use Rattle.std.proofs.lemmas.List.{append-nil, map-append}
-use Rattle.std.proofs.lemmas.List.Concat.{flat_map-append}
-use Rattle.std.proofs.lemmas.Str.{IsUtf8-encode, chars-append, chars-encodes}
-use Rattle.std.proofs.lemmas.Bool.Decides.{nat_tests}
-use Rattle.uri_pct.specs.Chunks.{Chunk, Text, Byte, prepend_to_chunks, chunks_of_tokens, widest_set}
-use Rattle.uri_pct.specs.Parts.{Decoded, parts_from, parts}
-use Rattle.uri_pct.specs.Pieces.{Piece, utf8_pieces, pieces_from}
-use Rattle.uri_pct.specs.DecodeUnreserved.{is_printable, decode_piece, decode_run, decode_after_run, decode_tokens}
-use Rattle.uri_pct.specs.Sets.{TableSet}
-use Rattle.uri_pct.specs.Tokens.{Token, Char, Octet, tokens, IsValidFor}
-use Rattle.uri_pct.proofs.ValidTexts.Allowed.{valid_text_has_printable_tokens}
-use Rattle.uri_ops.specs.Models.Decodings.{decoded_parts}
+use Rattle.uri_ops.proofs.Common.{◌≡◌, ℕ, true, List, [], ◌∷◌, ◌++◌, map, refl, sym, ap, ◌∙◌, append_assoc, arith, list_all, flat_map, encode_utf8, IsScalar, chars, IsUtf8, and_parts, and_from, append-nil, map-append, flat_map-append, IsUtf8-encode, chars-append, chars-encodes, nat_tests, Chunk, Text, Byte, prepend_to_chunks, chunks_of_tokens, widest_set, Decoded, parts_from, parts, Piece, utf8_pieces, pieces_from, is_printable, decode_piece, decode_run, decode_after_run, decode_tokens, TableSet, Token, Char, Octet, tokens, IsValidFor, valid_text_has_printable_tokens, decoded_parts}
 use Rattle.uri_pct.proofs.Unicode.PartPieces.{printable_char_is_scalar}
 
 module _ (set : TableSet) where
@@ -69,10 +53,9 @@ module _ (set : TableSet) where
   decoded_parts-of-token-chunks run (Char c ∷ ts) e =
       let p = and_parts (is_printable (Char c)) _ e in
       let scalar = printable_char_is_scalar c p.0 in
-      decoded_parts-of-prepended-text run (encode_utf8 c) (chunks_of_tokens ts)
-      (IsUtf8-encode c scalar) ∙ ap (λ cs. decode_run set run
-      ++ (map Char cs ++ decoded_parts set (parts_from [] (chunks_of_tokens ts))))
-      (chars-of-one-character c scalar)
+      decoded_parts-of-prepended-text run (encode_utf8 c)
+      (chunks_of_tokens ts) (IsUtf8-encode c scalar) ∙ ap (λ cs. decode_run set run ++ (map Char cs
+      ++ decoded_parts set (parts_from [] (chunks_of_tokens ts)))) (chars-of-one-character c scalar)
       ∙ ap (λ us. decode_run set run ++ Char c ∷ us) (decoded_parts-of-token-chunks [] ts p.1)
 
   -- the decoded parts of a text are its decoded tokens

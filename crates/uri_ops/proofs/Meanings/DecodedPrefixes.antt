@@ -1,22 +1,6 @@
 -- A prefix of a text is decoded by itself if it consists of characters and octets of ASCII. If the
 -- set has no characters past ASCII, every octet may be in it.
-use Rattle.std.proofs.Common.{◌≡◌, ℕ, take_all, ◌+◌, ◌*◌, ◌-◌, ◌<◌, Bool, true, ◌&&◌, false, eqb, ltb, not, List, [], ◌∷◌, ◌++◌, length, get_or, take, drop, map, ◌≤◌, add-zero, refl, sym, ap, subst, ◌∙◌, arith, ◌||◌, ◌⊎◌, append_assoc}
-use Rattle.std.specs.List.{position_or_len}
-use Rattle.std.specs.Char.{digit_value, is_ascii_hexdigit, to_ascii_lowercase}
-use Rattle.std.specs.Str.{chars, IsUtf8, IsCharBoundary}
-use Rattle.std.proofs.lemmas.Bool.{ne_eqb, or_parts, not-true}
-use Rattle.std.proofs.lemmas.Bool.Decides.{nat_tests}
-use Rattle.std.proofs.lemmas.List.{append-nil, take-append-drop, drop-drop, length-drop, get_or-drop, drop_all, drop_more, map-append}
-use Rattle.std.proofs.lemmas.List.Folds.{list_all-append}
-use Rattle.std.proofs.lemmas.Str.{IsUtf8-take, IsUtf8-drop, IsCharBoundary-from_rest, IsCharBoundary-after_ascii}
-use Rattle.uri_pct.specs.Chunks.{widest_set}
-use Rattle.uri_pct.specs.DecodeUnreserved.{LacksPastAscii, decode_octet, decode_after_run, decode_tokens, lower_token}
-use Rattle.uri_pct.specs.Sets.{TableSet}
-use Rattle.uri_pct.specs.Texts.{lacks}
-use Rattle.uri_pct.specs.Tokens.{Char, Octet, tokens, tokens_from_chars, print, is_valid_for, IsValidFor}
-use Rattle.uri_pct.proofs.Decodings.Decoding.{len_before_percent, bytes_from_percent_begin_with_octet, boundary_after_octet, tokens_after_unencoded_prefix, first_percent_is_at_boundary, prefix_len_bytes_pass}
-use Rattle.uri_pct.proofs.Unicode.Pieces.{take_then_take_is_take_of_sum}
-use Rattle.uri_ops.specs.Models.Decodings.{IsOctetAt, KeepsPrefixWhenDecoded, cased_append, lowered_if, lowered_text_if, decoded_text}
+use Rattle.uri_ops.proofs.Common.{◌≡◌, ℕ, take_all, ◌+◌, ◌*◌, ◌-◌, ◌<◌, Bool, true, ◌&&◌, false, eqb, ltb, not, List, [], ◌∷◌, ◌++◌, length, get_or, take, drop, map, ◌≤◌, add-zero, refl, sym, ap, subst, ◌∙◌, arith, ◌||◌, ◌⊎◌, append_assoc, digit_value, is_ascii_hexdigit, to_ascii_lowercase, chars, IsUtf8, IsCharBoundary, ne_eqb, or_parts, not-true, nat_tests, append-nil, take-append-drop, drop-drop, length-drop, get_or-drop, drop_all, drop_more, map-append, list_all-append, IsUtf8-take, IsUtf8-drop, IsCharBoundary-from_rest, IsCharBoundary-after_ascii, widest_set, LacksPastAscii, decode_octet, decode_after_run, decode_tokens, lower_token, TableSet, lacks, Char, Octet, tokens, tokens_from_chars, print, is_valid_for, IsValidFor, len_before_percent, bytes_from_percent_begin_with_octet, boundary_after_octet, tokens_after_unencoded_prefix, first_percent_is_at_boundary, prefix_len_bytes_pass, take_then_take_is_take_of_sum, IsOctetAt, KeepsPrefixWhenDecoded, cased_append, lowered_if, lowered_text_if, decoded_text}
 use Rattle.uri_ops.proofs.Meanings.Cased.{print-lowers-characters}
 use Rattle.uri_ops.proofs.Meanings.DecodedParts.{decode_run-of-nil-is-nil}
 use Rattle.uri_ops.proofs.Meanings.DecodedOctets.{decode_tokens-after-chars, first-octet-token-is-decoded-alone}
@@ -24,15 +8,12 @@ use Rattle.uri_ops.proofs.Meanings.DecodedOctets.{decode_tokens-after-chars, fir
 -- meanings, decoded: a prefix without `%` (37) is its own decoded form, in lower case if lowers,
 -- before that of what follows
 literal-prefix-decodes-to-itself : (lowers : Bool) (set : TableSet) (prefix back : List ℕ)
-    → IsUtf8 prefix
-    → lacks 37 prefix ≡ true
-    → decoded_text lowers set (prefix ++ back) ≡ lowered_text_if lowers prefix
-    ++ decoded_text lowers set back
-literal-prefix-decodes-to-itself lowers set prefix back u e = ap
-    (λ ts. print (lowered_if lowers (decode_tokens set ts)))
-    (tokens_after_unencoded_prefix prefix back u e) ∙ ap (λ ts. print (lowered_if lowers ts))
-    (decode_tokens-after-chars set (chars prefix) (tokens back))
-    ∙ cased_append lowers (map Char (chars prefix)) (decode_tokens set (tokens back))
+    → IsUtf8 prefix → lacks 37 prefix ≡ true → decoded_text lowers set (prefix ++ back)
+    ≡ lowered_text_if lowers prefix ++ decoded_text lowers set back
+literal-prefix-decodes-to-itself lowers set prefix back u e = ap (λ ts. print
+    (lowered_if lowers (decode_tokens set ts))) (tokens_after_unencoded_prefix prefix back u e)
+    ∙ ap (λ ts. print (lowered_if lowers ts)) (decode_tokens-after-chars set (chars prefix)
+    (tokens back)) ∙ cased_append lowers (map Char (chars prefix)) (decode_tokens set (tokens back))
     ∙ ap (λ x. x ++ decoded_text lowers set back) (print-lowers-characters lowers prefix u)
 
 -- meanings, decoded: after a prefix without `%` (37), the rest of a valid text is valid
@@ -49,9 +30,8 @@ pub record LiteralPrefix (text : List ℕ) (n : ℕ) : Type 0 where
   pub prefix : (lowers : Bool) (set : TableSet) → KeepsPrefixWhenDecoded lowers set text n
 
 -- meanings, decoded: the n bytes before the first `%` of a text are decoded as characters alone
-pub text-before-percent-is-literal-prefix : (text : List ℕ) (n : ℕ) → IsUtf8 text
-    → IsValidFor widest_set text
-    → n ≡ len_before_percent text → LiteralPrefix text n
+pub text-before-percent-is-literal-prefix : (text : List ℕ) (n : ℕ)
+    → IsUtf8 text → IsValidFor widest_set text → n ≡ len_before_percent text → LiteralPrefix text n
 text-before-percent-is-literal-prefix text n u v e =
     let boundary : IsCharBoundary text n =
     subst (IsCharBoundary text) (sym e) (first_percent_is_at_boundary text) in
@@ -101,22 +81,19 @@ suffix-of-suffix-by-positions text done end order = drop-drop (end - done) done 
 -- meanings, decoded: after one prefix that is copied, the next one is; done, end: where the first
 -- begins and ends, m: the length of the next
 pub unchanged-prefix-grows : (lowers : Bool) (set : TableSet) (text : List ℕ) (done end m : ℕ)
-    → done ≤ end
-    → KeepsPrefixWhenDecoded lowers set (drop done text) (end - done)
+    → done ≤ end → KeepsPrefixWhenDecoded lowers set (drop done text) (end - done)
     → KeepsPrefixWhenDecoded lowers set (drop end text) m
     → KeepsPrefixWhenDecoded lowers set (drop done text) (end + m - done)
 unchanged-prefix-grows lowers set text done end m order first next =
     let count : end - done + m ≡ end + m - done = omega arith in
-    subst (KeepsPrefixWhenDecoded lowers set (drop done text)) count
-    (unchanged-prefixes-join lowers set
-    (drop done text) (end - done) m first (subst (λ x. KeepsPrefixWhenDecoded lowers set x m)
+    subst (KeepsPrefixWhenDecoded lowers set (drop done text)) count (unchanged-prefixes-join lowers
+    set (drop done text) (end - done) m first (subst (λ x. KeepsPrefixWhenDecoded lowers set x m)
     (sym (suffix-of-suffix-by-positions text done end order)) next))
 
 -- meanings, decoded: after a prefix that is copied (from done to end), what is appended and the
 -- rest, decoded, still make the whole
 pub unchanged-prefix-is-pushed : (lowers : Bool) (set : TableSet) (text out new whole : List ℕ)
-    (done end : ℕ)
-    → done ≤ end → KeepsPrefixWhenDecoded lowers set (drop done text) (end - done)
+    (done end : ℕ) → done ≤ end → KeepsPrefixWhenDecoded lowers set (drop done text) (end - done)
     → new ≡ out ++ lowered_text_if lowers (take (end - done) (drop done text))
     → out ++ decoded_text lowers set (drop done text) ≡ whole
     → new ++ decoded_text lowers set (drop end text) ≡ whole
@@ -126,8 +103,7 @@ unchanged-prefix-is-pushed lowers set text out new whole done end order prefix p
 -- general fact on valid texts, for decoding meanings: what is valid after n and then m bytes is
 -- valid after n + m
 pub suffix-of-suffix-is-valid : (text : List ℕ) (n m : ℕ)
-    → IsValidFor widest_set (drop m (drop n text))
-    → IsValidFor widest_set (drop (n + m) text)
+    → IsValidFor widest_set (drop m (drop n text)) → IsValidFor widest_set (drop (n + m) text)
 suffix-of-suffix-is-valid text n m v = subst (IsValidFor widest_set) (drop-drop m n text) v
 
 -- meanings, decoded: a `%` (37) at index i of a valid text begins an octet
@@ -162,8 +138,7 @@ percent-in-valid-text-begins-octet text i u b v inside percent =
 
 -- meanings, decoded: an octet whose first digit is below `8` (56) is of an ASCII byte
 pub octet-with-digit-below-8-is-ascii : (high low : ℕ) → is_ascii_hexdigit high ≡ true
-    → is_ascii_hexdigit low ≡ true
-    → high < 56 → 16 * digit_value high + digit_value low < 128
+    → is_ascii_hexdigit low ≡ true → high < 56 → 16 * digit_value high + digit_value low < 128
 octet-with-digit-below-8-is-ascii high low h l small = grind (arith, nat_tests)
 
 -- meanings, decoded: an octet is decoded by itself if the set asks for it, or if its first digit is
@@ -178,9 +153,8 @@ octet-is-decoded-alone {text} {i} {high} {low} at alone either =
 -- decoded, still make the whole
 pub decoded-octet-is-pushed : {text : List ℕ} {i high low : ℕ} → IsOctetAt text i high low
     → (lowers : Bool) (set : TableSet) (out new whole : List ℕ) (alone : Bool)
-    → (alone ≡ true → LacksPastAscii set) → (alone ≡ true) ⊎ (high < 56)
-    → new ≡ out ++ print (lowered_if lowers
-    (decode_octet (Octet (16 * digit_value high + digit_value low)) ∷ []))
+    → (alone ≡ true → LacksPastAscii set) → (alone ≡ true) ⊎ (high < 56) → new ≡ out ++ print
+    (lowered_if lowers (decode_octet (Octet (16 * digit_value high + digit_value low)) ∷ []))
     → out ++ decoded_text lowers set (drop i text) ≡ whole
     → new ++ decoded_text lowers set (drop (i + 3) text) ≡ whole
 decoded-octet-is-pushed {text} {i} {high} {low} at lowers set out new whole alone none either
@@ -195,9 +169,8 @@ decoded-octet-is-pushed {text} {i} {high} {low} at lowers set out new whole alon
 
 -- meanings, decoded: a set without the flags ucschar and iprivate has no characters past ASCII;
 -- some: whether it has either
-pub unset-flags-lack-past-ascii : (set : TableSet) (some : Bool) → some
-    ≡ (set.ucschar || set.iprivate)
-    → not some ≡ true → LacksPastAscii set
+pub unset-flags-lack-past-ascii : (set : TableSet) (some : Bool)
+    → some ≡ (set.ucschar || set.iprivate) → not some ≡ true → LacksPastAscii set
 unset-flags-lack-past-ascii set some e none = or_parts set.ucschar set.iprivate
     (sym e ∙ not-true some none)
 
@@ -209,20 +182,17 @@ decoded-empty-text-is-empty true set = ap (λ ts. print (map lower_token ts))
 decoded-empty-text-is-empty false set = ap print (decode_run-of-nil-is-nil set)
 
 -- meanings, decoded: a prefix of n bytes that is copied is one from 0 on
-pub unchanged-prefix-is-unchanged-from-zero : (lowers : Bool) (set : TableSet) (text : List ℕ)
-    (n : ℕ)
-    → KeepsPrefixWhenDecoded lowers set text n
+pub unchanged-prefix-is-unchanged-from-zero : (lowers : Bool)
+    (set : TableSet) (text : List ℕ) (n : ℕ) → KeepsPrefixWhenDecoded lowers set text n
     → KeepsPrefixWhenDecoded lowers set (drop 0 text) (n - 0)
 unchanged-prefix-is-unchanged-from-zero lowers set text n =
-    subst (KeepsPrefixWhenDecoded lowers set text)
-    (omega arith)
+    subst (KeepsPrefixWhenDecoded lowers set text) (omega arith)
 
 -- meanings, decoded: the last prefix that is copied completes what is appended; done, end: where it
 -- begins and ends
-pub last-prefix-is-pushed : (lowers : Bool) (set : TableSet) (text out new whole : List ℕ)
-    (done end : ℕ)
-    → done ≤ end → length text ≤ end → KeepsPrefixWhenDecoded lowers set (drop done text)
-    (end - done)
+pub last-prefix-is-pushed :
+    (lowers : Bool) (set : TableSet) (text out new whole : List ℕ) (done end : ℕ) → done ≤ end
+    → length text ≤ end → KeepsPrefixWhenDecoded lowers set (drop done text) (end - done)
     → new ≡ out ++ lowered_text_if lowers (drop done text)
     → out ++ decoded_text lowers set (drop done text) ≡ whole → new ≡ whole
 last-prefix-is-pushed lowers set text out new whole done end order over prefix pushed total =
@@ -266,9 +236,8 @@ pub record CharacterStep (lowers : Bool) (set : TableSet) (text new whole : List
 pub character_step : (lowers : Bool) (set : TableSet) (bytes text out new whole : List ℕ) (i : ℕ)
     → bytes ≡ text → IsUtf8 text → IsCharBoundary text i → IsValidFor widest_set (drop i text)
     → i < length bytes → get_or bytes i 0 < 128 → eqb (get_or bytes i 0) 37 ≡ false
-    → new ≡ out ++ lowered_text_if lowers (get_or bytes i 0 ∷ [])
-    → out ++ decoded_text lowers set (drop i text) ≡ whole
-    → CharacterStep lowers set text new whole i
+    → new ≡ out ++ lowered_text_if lowers (get_or bytes i 0 ∷ []) → out
+    ++ decoded_text lowers set (drop i text) ≡ whole → CharacterStep lowers set text new whole i
 character_step lowers set bytes text out new whole i same u b v inside small other pushed total =
     let rest = drop i text in
     let below : i < length text = subst (λ x. i < length x) same inside in

@@ -1,37 +1,7 @@
 -- A host that is printed from its meaning is a host, and has that meaning.
-use Rattle.std.proofs.Common.{◌≡◌, ℕ, ◌<◌, true, false, ltb, List, [], ◌∷◌, ◌++◌, map, refl, sym, ap, subst, ◌∙◌, arith, inl, inr}
-use Rattle.std.specs.Prelude.{codes, Option, Some, None}
-use Rattle.std.specs.Char.{is_ascii_hexdigit, to_ascii_lowercase}
-use Rattle.std.specs.List.{list_all}
-use Rattle.std.specs.Str.{IsUtf8, str_to_ascii_lowercase}
-use Rattle.std.specs.Net.Grammar.{IsDotted}
-use Rattle.std.specs.Net.Text.{ipv6_text}
-use Rattle.std.proofs.lemmas.List.{map-append, length-map}
-use Rattle.std.proofs.lemmas.List.Elements.{All-weaker}
-use Rattle.std.proofs.lemmas.List.Sums.{list_all-from_AllPass}
-use Rattle.std.proofs.lemmas.Bool.{and_parts, and_from, or_right, cond-false, ltb-true}
-use Rattle.std.proofs.lemmas.List.Folds.{list_all-append}
-use Rattle.std.proofs.lemmas.Bool.Decides.{nat_tests}
-use Rattle.std.proofs.lemmas.Str.{IsUtf8-append}
-use Rattle.std.proofs.NetLemmas.Alphabet.{IsDigitOrDot}
-use Rattle.uri_pct.specs.Sets.{TableSet, is_one_of, ipv_future_set, is_userinfo_char, is_unreserved}
-use Rattle.uri_pct.specs.Tokens.{print, is_valid_for}
-use Rattle.uri_pct.specs.DecodeUnreserved.{lower_token, decode_unreserved}
-use Rattle.uri_pct.proofs.ValidTexts.Cuts.{excludes}
-use Rattle.uri_pct.proofs.UnreservedDecoding.Printing.{printed_tokens_are_utf8, printed_tokens_are_valid_iff_allowed}
-use Rattle.uri_pct.proofs.ValidTexts.Allowed.{lowered_tokens_are_printable, lowered_tokens_are_allowed, lowering_tokens_is_idempotent}
-use Rattle.uri_pct.proofs.UnreservedDecoding.DecodedTokens.{decode_unreserved_keeps_tokens_allowed}
+use Rattle.uri_ops.proofs.Common.{◌≡◌, ℕ, ◌<◌, true, false, ltb, List, [], ◌∷◌, ◌++◌, map, refl, sym, ap, subst, ◌∙◌, arith, inl, inr, codes, Option, Some, None, is_ascii_hexdigit, to_ascii_lowercase, list_all, IsUtf8, str_to_ascii_lowercase, IsDotted, ipv6_text, map-append, length-map, All-weaker, list_all-from_AllPass, and_parts, and_from, or_right, cond-false, ltb-true, list_all-append, nat_tests, IsUtf8-append, IsDigitOrDot, TableSet, is_one_of, ipv_future_set, is_userinfo_char, is_unreserved, print, is_valid_for, lower_token, decode_unreserved, excludes, printed_tokens_are_utf8, printed_tokens_are_valid_iff_allowed, lowered_tokens_are_printable, lowered_tokens_are_allowed, lowering_tokens_is_idempotent, decode_unreserved_keeps_tokens_allowed, Lacks, starts, HostKind, Ipv4, Ipv6, IpvFuture, RegName, IsHost, IsIpvFuture, bracketed, host_kind, is_host, ipv4_value, name_kind, utf8_around_ascii_byte, valid_text_lacks_excluded_marks, is_address_char, is_address_text, ipv6-text-is-address-text, joined-texts-lack-marks, ipv6-text-lacks-excluded-marks, ipvfuture-text-lacks-excluded-marks, hexdigit_is_userinfo_char, ipv4-text-is-digits-and-dots, is_host-sound, is_host-complete, lacking_text_does_not_begin_with, address-in-brackets-is-utf8, IsComponentSet, HostMeaning, FutureAddress, Name, host_meaning, host_text}
 use Rattle.uri_pct.proofs.UnreservedDecoding.DecodedTwice.{decoding_keeps_lowered_decoded_text}
-use Rattle.uri_parts.specs.Components.{Lacks, starts}
-use Rattle.uri_parts.specs.Hosts.{HostKind, Ipv4, Ipv6, IpvFuture, RegName, IsHost, IsIpvFuture, bracketed, host_kind, is_host, ipv4_value, name_kind}
-use Rattle.uri_parts.proofs.TextKinds.GrammarTexts.{utf8_around_ascii_byte, valid_text_lacks_excluded_marks}
 use Rattle.uri_parts.proofs.Parsing.ScanStops.{utf8_after_ascii_byte}
-use Rattle.uri_parts.proofs.HostForms.Addresses.{is_address_char, is_address_text, ipv6-text-is-address-text}
-use Rattle.uri_parts.proofs.HostForms.Futures.{joined-texts-lack-marks, ipv6-text-lacks-excluded-marks, ipvfuture-text-lacks-excluded-marks, hexdigit_is_userinfo_char, ipv4-text-is-digits-and-dots}
-use Rattle.uri_parts.proofs.HostForms.Hosts.{is_host-sound, is_host-complete, lacking_text_does_not_begin_with, address-in-brackets-is-utf8}
-use Rattle.uri_ops.specs.ComponentSets.{IsComponentSet}
-use Rattle.uri_ops.specs.Meaning.{HostMeaning, FutureAddress, Name, host_meaning}
-use Rattle.uri_ops.specs.Normal.{host_text}
 use Rattle.uri_ops.proofs.Meanings.AddressNumbers.{ipv6_text-has-its-segments}
 use Rattle.uri_ops.proofs.Meanings.AllowedParts.{is_set_text, set-text-from-utf8, set-text-is-valid, set-text-has-printable-tokens, decoded-set-text-is-printable}
 use Rattle.uri_ops.proofs.Meanings.AsciiCharacters.{is_ascii_in, valid_ascii_text, ascii-in-test-is-utf8, ascii-bytes-are-utf8, ascii-in-test-is-set-text, ascii-passes-wider-test, lowered-ascii-passes-test, lowering-is-idempotent}
@@ -117,17 +87,15 @@ pub ipvfuture-has-ascii-parts : (text : List ℕ) → IsUtf8 text → (h : IsIpv
     → AsciiParts text h
 ipvfuture-has-ascii-parts text u h =
     let tail : List ℕ = h.version ++ 46 ∷ h.address in
-    let low : h.letter < 128 = ltb-true h.letter 128
-    (and_parts (ltb h.letter 128) (is_userinfo_char h.letter)
-    (v-is-userinfo-character h.letter h.is_v)).0 in
+    let low : h.letter < 128 = ltb-true h.letter 128 (and_parts (ltb h.letter 128)
+    (is_userinfo_char h.letter) (v-is-userinfo-character h.letter h.is_v)).0 in
     let apart = utf8_around_ascii_byte h.version 46 h.address (omega arith)
     (utf8_after_ascii_byte h.letter tail low (subst IsUtf8 h.whole u)) in
     record {
       version = sym (valid_ascii_text is_ascii_hexdigit refl h.version apart.0)
           ∙ h.version_digits.1;
-      address = sym (valid_ascii_text is_userinfo_char percent-is-no-userinfo-character
-          h.address apart.1)
-          ∙ h.address_chars.1;
+      address = sym (valid_ascii_text
+          is_userinfo_char percent-is-no-userinfo-character h.address apart.1) ∙ h.address_chars.1;
     }
 
 -- meanings of hosts: an IPvFuture address has only characters of userinfo
@@ -198,9 +166,8 @@ module _ (names : TableSet) (w : IsComponentSet (codes "/?#[]@:") names)
       names (decode_unreserved names text) w.unreserved
       (decode_unreserved_keeps_tokens_allowed _ _ w.unreserved (set-text-is-valid _ _ part)) in
       let at = unbracketed-valid-text-is-name _ (lacking_text_does_not_begin_with (codes "@:[")
-      (print ts) 91 refl
-      (valid_text_lacks_excluded_marks names (codes "@:[") w.percent apart (print ts) u valid))
-      valid in
+      (print ts) 91 refl (valid_text_lacks_excluded_marks names
+      (codes "@:[") w.percent apart (print ts) u valid)) valid in
       record {
         utf8 = u;
         host = (host_kind (print ts), is_host-sound _ _ at.1);
@@ -228,10 +195,9 @@ module _ (names : TableSet) (w : IsComponentSet (codes "/?#[]@:") names)
       (λ c d. digit-or-dot-is-unreserved c d) _ chars))
 
   -- a host that is printed from its meaning
-  pub normal-host-has-meaning : (text : List ℕ) (kind : HostKind) → IsUtf8 text
-      → IsHost names text kind
-      → IsHostWithMeaning names (host_meaning names text kind)
-      (host_text (host_meaning names text kind))
+  pub normal-host-has-meaning : (text : List ℕ) (kind : HostKind)
+      → IsUtf8 text → IsHost names text kind → IsHostWithMeaning names
+      (host_meaning names text kind) (host_text (host_meaning names text kind))
   normal-host-has-meaning text (Ipv6 segments) u (address, e, groups) =
       let back = ipv6_text-has-its-segments address segments groups in
       let v = bracketed-utf8-is-utf8 (ipv6_text segments) (address-text-is-utf8 (ipv6_text segments)
@@ -264,10 +230,9 @@ module _ (names : TableSet) (w : IsComponentSet (codes "/?#[]@:") names)
         host = (IpvFuture, (low, same, back));
         meaning = ap (host_meaning names (str_to_ascii_lowercase text))
             (ap host_kind same ∙ found.kind) ∙ ap FutureAddress (lowering-is-idempotent text);
-        lacks = subst (Lacks (codes "/?#")) (sym same)
-            (bracketed-address-lacks-delimiters low
-            (ipvfuture-text-lacks-excluded-marks (codes "/?#") ipv_future_set-excludes-delimiters
-            low inner back));
+        lacks = subst (Lacks (codes "/?#"))
+            (sym same) (bracketed-address-lacks-delimiters low (ipvfuture-text-lacks-excluded-marks
+            (codes "/?#") ipv_future_set-excludes-delimiters low inner back));
       }
   normal-host-has-meaning text (Ipv4 octets) u dotted = lowered-decoded-name-has-its-meaning text
       (dotted-decimal-is-set-text text octets dotted)

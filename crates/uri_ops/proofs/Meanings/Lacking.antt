@@ -1,20 +1,7 @@
 -- Which characters a part lacks: its decoded form lacks them too.
-use Rattle.std.proofs.Common.{◌≡◌, ℕ, zero, suc, Bool, true, false, cond, eqb, not, List, [], ◌∷◌, ◌++◌, refl, sym, ap, ◌∙◌, arith, ◌&&◌, ⊎_elim}
-use Rattle.std.specs.List.{list_all, list_any, flat_map}
-use Rattle.std.specs.Str.{continuation_len}
-use Rattle.std.proofs.lemmas.Bool.{cases_Bool, and_parts, and_from, or_parts, or_from, not-true, not_from_false, false_from_ne_true}
-use Rattle.std.proofs.lemmas.Bool.Decides.{nat_tests}
-use Rattle.uri_pct.specs.Sets.{TableSet, LacksPercent, IsSubset, unreserved_set, is_unreserved, is_one_of, allows_past_ascii}
-use Rattle.uri_pct.specs.Tokens.{Token, Char, Octet, tokens, print}
-use Rattle.uri_pct.specs.Pieces.{Piece, WellFormed, IllFormed, utf8_pieces}
-use Rattle.uri_pct.specs.DecodeUnreserved.{is_decodable, decode_piece, decode_run, decode_after_run, is_never_literal, formatting_as_octets, encode_formatting}
-use Rattle.uri_pct.specs.Prefixes.{begins_with_hex_digits, allows_first}
-use Rattle.uri_pct.proofs.ValidTexts.Cuts.{excludes}
-use Rattle.uri_pct.proofs.ValidTexts.Validity.{valid_from, validity_of_tokens_is_validity_of_bytes}
-use Rattle.uri_parts.proofs.TextKinds.GrammarTexts.{valid_text_lacks_excluded_marks}
+use Rattle.uri_ops.proofs.Common.{◌≡◌, ℕ, zero, suc, Bool, true, false, cond, eqb, not, List, [], ◌∷◌, ◌++◌, refl, sym, ap, ◌∙◌, arith, ◌&&◌, ⊎_elim, list_all, list_any, flat_map, continuation_len, cases_Bool, and_parts, and_from, or_parts, or_from, not-true, not_from_false, false_from_ne_true, nat_tests, TableSet, LacksPercent, IsSubset, unreserved_set, is_unreserved, is_one_of, allows_past_ascii, Token, Char, Octet, print, Piece, WellFormed, IllFormed, utf8_pieces, is_decodable, decode_piece, decode_run, decode_after_run, is_never_literal, formatting_as_octets, encode_formatting, begins_with_hex_digits, allows_first, excludes, valid_from, validity_of_tokens_is_validity_of_bytes, valid_text_lacks_excluded_marks, print_decoded}
 use Rattle.uri_ops.proofs.Paths.PathCharacters.{lacked-delimiters-fail-test}
 use Rattle.uri_ops.proofs.Meanings.AllowedParts.{is_set_text, set-text-from-utf8, set-text-is-utf8, set-text-is-valid, decoded-set-text-is-set-text}
-use Rattle.uri_pct.proofs.UnreservedDecoding.Printing.{print_decoded}
 
 -- meanings of components: the text has none of these delimiters
 abbrev pub lacks_any : List ℕ → List ℕ → Bool
@@ -43,16 +30,14 @@ has_character m text = list_any (λ c. eqb c m) text
 
 -- meanings of components: a set without the character m allows any other first byte as the set does
 set_without-allows-other-first-bytes : (m : ℕ) (set : TableSet) (b : ℕ) (rest : List ℕ)
-    → eqb b m ≡ false
-    → allows_first (set_without m set) b rest ≡ allows_first set b rest
+    → eqb b m ≡ false → allows_first (set_without m set) b rest ≡ allows_first set b rest
 unfolding allows_first allows_past_ascii
 set_without-allows-other-first-bytes m set b rest e = cc
 
 -- meanings of components: a text without the character m is valid for a set without m exactly if it
 -- is for the set; k: bytes to skip
 text-stays-valid-for-set_without : (m : ℕ) (set : TableSet) (k : ℕ) (bs : List ℕ)
-    → has_character m bs ≡ false
-    → valid_from (set_without m set) k bs ≡ valid_from set k bs
+    → has_character m bs ≡ false → valid_from (set_without m set) k bs ≡ valid_from set k bs
 unfolding valid_from
 text-stays-valid-for-set_without m set zero [] e = refl
 text-stays-valid-for-set_without m set (suc k) [] e = refl
@@ -61,14 +46,13 @@ text-stays-valid-for-set_without m set (suc k) (b ∷ rest) e =
 text-stays-valid-for-set_without m set zero (b ∷ rest) e =
     let p = or_parts (eqb b m) (has_character m rest) e in
     ap (λ t. cond ((set.pct_encoded && eqb b 37) && begins_with_hex_digits rest) t
-    (allows_first (set_without m set) b rest
-    && valid_from (set_without m set) (continuation_len b) rest))
-    (text-stays-valid-for-set_without m set 2 rest p.1) ∙ ap (λ t. cond
-    ((set.pct_encoded && eqb b 37) && begins_with_hex_digits rest) (valid_from set 2 rest)
-    (t && valid_from (set_without m set) (continuation_len b) rest))
-    (set_without-allows-other-first-bytes m set b rest p.0) ∙ ap (λ t. cond
-    ((set.pct_encoded && eqb b 37) && begins_with_hex_digits rest) (valid_from set 2 rest)
-    (allows_first set b rest && t))
+    (allows_first (set_without m set) b rest && valid_from (set_without m set)
+    (continuation_len b) rest)) (text-stays-valid-for-set_without m set 2 rest p.1)
+    ∙ ap (λ t. cond ((set.pct_encoded && eqb b 37) && begins_with_hex_digits rest)
+    (valid_from set 2 rest) (t && valid_from (set_without m set) (continuation_len b) rest))
+    (set_without-allows-other-first-bytes m set b rest p.0)
+    ∙ ap (λ t. cond ((set.pct_encoded && eqb b 37) && begins_with_hex_digits rest)
+    (valid_from set 2 rest) (allows_first set b rest && t))
     (text-stays-valid-for-set_without m set (continuation_len b) rest p.1)
 
 -- meanings of components: a set without a character m lacks `%` too
@@ -78,10 +62,9 @@ set_without-lacks-percent m set lacks = ⊎_elim (λ e. ap (λ t. not t && set.a
     (λ e. ap (λ t. not t && set.ascii 37) e ∙ lacks) (cases_Bool (eqb 37 m))
 
 -- meanings of components: a valid text without the character m is valid for the set without m
-text-without-character-is-for-set_without : (m : ℕ) (set : TableSet) → LacksPercent set
-    → (text : List ℕ)
-    → is_set_text set text ≡ true → has_character m text ≡ false
-    → is_set_text (set_without m set) text ≡ true
+text-without-character-is-for-set_without : (m : ℕ) (set : TableSet)
+    → LacksPercent set → (text : List ℕ) → is_set_text set text ≡ true
+    → has_character m text ≡ false → is_set_text (set_without m set) text ≡ true
 text-without-character-is-for-set_without m set lacks text e f =
     let u = set-text-is-utf8 set text e in
     set-text-from-utf8 (set_without m set) text u (validity_of_tokens_is_validity_of_bytes
@@ -111,9 +94,8 @@ unfolding decode_after_run
 decode_after_run-for-set_without m set run [] = decode_run-for-set_without m set run
 decode_after_run-for-set_without m set run (Octet value ∷ ts) = decode_after_run-for-set_without m
     set (run ++ value ∷ []) ts
-decode_after_run-for-set_without m set run (Char c ∷ ts) =
-    ap (λ x. x ++ Char c ∷ decode_after_run (set_without m set) [] ts)
-    (decode_run-for-set_without m set run)
+decode_after_run-for-set_without m set run (Char c ∷ ts) = ap (λ x. x
+    ++ Char c ∷ decode_after_run (set_without m set) [] ts) (decode_run-for-set_without m set run)
     ∙ ap (λ x. decode_run set run ++ Char c ∷ x) (decode_after_run-for-set_without m set [] ts)
 
 -- meanings, bidirectional text: a formatting character is encoded in the same way for a set without
@@ -140,8 +122,7 @@ print_decoded-for-set_without m set text = ap print (encode_formatting-for-set_w
 
 -- meanings of components: a set without a reserved character m still has the unreserved ones
 set_without-reserved-has-unreserved : (m : ℕ) (set : TableSet) → is_unreserved m ≡ false
-    → IsSubset unreserved_set set
-    → IsSubset unreserved_set (set_without m set)
+    → IsSubset unreserved_set set → IsSubset unreserved_set (set_without m set)
 set_without-reserved-has-unreserved m set reserved wide =
     grind (arith, nat_tests, not_from_false, false_from_ne_true)
 
@@ -159,9 +140,8 @@ lacks_any-gives-lacks m (c ∷ text) e =
     (lacks_any-gives-lacks m text p.1)
 
 -- meanings of components: a text that lacks a character lacks all of this one delimiter
-pub lacks-gives-lacks_any : (m : ℕ) (text : List ℕ) → has_character m text ≡ false
-    → lacks_any (m ∷ []) text
-    ≡ true
+pub lacks-gives-lacks_any : (m : ℕ) (text : List ℕ)
+    → has_character m text ≡ false → lacks_any (m ∷ []) text ≡ true
 lacks-gives-lacks_any m [] e = refl
 lacks-gives-lacks_any m (c ∷ text) e =
     let p = or_parts (eqb c m) (has_character m text) e in

@@ -1,23 +1,9 @@
 -- Normal texts of some meanings, by computation.
-use Rattle.std.proofs.Common.{◌≡◌, ℕ, cond, List, [], ◌∷◌, ◌++◌, refl, Some, None, Ok}
-use Rattle.std.specs.Prelude.{codes}
-use Rattle.std.specs.Str.{chars, bytes_eq}
-use Rattle.std.specs.Char.{encode_utf8}
-use Rattle.std.specs.Fmt.{digits}
-use Rattle.std.specs.Net.Text.{hex, hex_groups_text, ipv6_text}
-use Rattle.std.specs.Net.Reader.{read_ipv6, read_ipv4, read_octet, read_number, read_segment, read_segments}
+use Rattle.uri_ops.proofs.Common.{◌≡◌, ℕ, cond, List, [], ◌∷◌, ◌++◌, refl, Some, None, Ok, codes, chars, bytes_eq, encode_utf8, digits, hex, hex_groups_text, ipv6_text, read_ipv6, read_ipv4, read_octet, read_number, read_segment, read_segments, components, Kind, uri, uri_ref, iri, iri_ref, Ipv4, RegName, host_kind, ipv4_value, ipv6_value, run, remove_dot_segments, directory, resolution_of, PortFunction, meaning_of, normal_text}
 use Rattle.uri_pct.specs.Sets as Sets
 use Rattle.uri_pct.specs.Tokens as Tokens
 use Rattle.uri_pct.specs.Pieces as Pieces
 use Rattle.uri_pct.specs.DecodeUnreserved as Decoding
-use Rattle.uri_parts.specs.Components.{components}
-use Rattle.uri_parts.specs.Grammar.{Kind, uri, uri_ref, iri, iri_ref}
-use Rattle.uri_parts.specs.Hosts.{Ipv4, RegName, host_kind, ipv4_value, ipv6_value}
-use Rattle.uri_ops.specs.Dots.{run, remove_dot_segments, directory}
-use Rattle.uri_ops.specs.Target.{resolution_of}
-use Rattle.uri_parts.specs.Ports.{PortFunction}
-use Rattle.uri_ops.specs.Meaning.{meaning_of}
-use Rattle.uri_ops.specs.Normal.{normal_text}
 
 -- examples of meanings: the port function that they use
 ports : PortFunction
@@ -31,21 +17,18 @@ IsNormalOf kind text normal = normal_text (meaning_of kind ports text) ≡ norma
 -- examples of meanings, by normal forms: case, octets that are unreserved, and digits in upper case
 normal-forms-of-case-and-octets :
     IsNormalOf uri_ref (codes "FOO://%55se%72@EXamp%4ce%2ecom:8042/%4b%2f?%4c%2b#%24%4d")
-    (codes "foo://User@example.com:8042/K%2F?L%2B#%24M")
-    × IsNormalOf uri (codes "eXAMPLE://a/./b/../b/%63/%7bfoo%7d")
-    (codes "example://a/b/c/%7Bfoo%7D")
+    (codes "foo://User@example.com:8042/K%2F?L%2B#%24M") × IsNormalOf uri
+    (codes "eXAMPLE://a/./b/../b/%63/%7bfoo%7d") (codes "example://a/b/c/%7Bfoo%7D")
     × IsNormalOf iri_ref (codes "eXAMPLE://a/./b/../b/%63/%7bfoo%7d/ros%C3%A9")
     (codes "example://a/b/c/%7Bfoo%7D/ros" ++ (0xC3 ∷ 0xA9 ∷ []))
-    × IsNormalOf uri_ref [] []
-    × IsNormalOf uri_ref (codes "//@:") (codes "//@")
+    × IsNormalOf uri_ref [] [] × IsNormalOf uri_ref (codes "//@:") (codes "//@")
 unfolding IsNormalOf ports chars encode_utf8 digits hex hex_groups_text ipv6_text read_ipv6
     read_ipv4 read_octet read_number read_segment read_segments Sets.is_ucschar Sets.is_iprivate
     Sets.allows_past_ascii Tokens.is_pct_encoded Tokens.tokens_from_chars Pieces.following_ranges
     Pieces.pieces_from Decoding.is_decodable Decoding.is_bidi_formatting
     Decoding.is_never_literal Decoding.decode_run Decoding.decode_after_run host_kind ipv4_value
     ipv6_value run remove_dot_segments
-normal-forms-of-case-and-octets =
-    (refl, refl, refl, refl, refl)
+normal-forms-of-case-and-octets = (refl, refl, refl, refl, refl)
 
 -- examples of meanings, by normal forms: hosts, as addresses by their numbers, and names that
 -- decode to addresses
@@ -67,25 +50,21 @@ unfolding IsNormalOf ports chars encode_utf8 digits hex hex_groups_text ipv6_tex
     Pieces.pieces_from Decoding.is_decodable Decoding.is_bidi_formatting
     Decoding.is_never_literal Decoding.decode_run Decoding.decode_after_run host_kind ipv4_value
     ipv6_value run remove_dot_segments
-normal-forms-of-hosts =
-    (refl, refl, refl, refl, refl, refl, refl, refl, refl)
+normal-forms-of-hosts = (refl, refl, refl, refl, refl, refl, refl, refl, refl)
 
 -- examples of meanings, by normal forms: in an IRI, runs of octets are decoded as UTF-8
-normal-forms-of-octets-in-iris :
-    IsNormalOf iri_ref (codes "/%C3%41%A9%C3%A9") (codes "/%C3A%A9" ++ (0xC3 ∷ 0xA9 ∷ []))
-    × IsNormalOf iri_ref (codes "/%C3A%A9" ++ (0xC3 ∷ 0xA9 ∷ []))
-    (codes "/%C3A%A9" ++ (0xC3 ∷ 0xA9 ∷ []))
-    × IsNormalOf iri_ref
-    (codes "%61%61%61%61%61%61%61%61%61%61%61%61%61%61%61%61"
+normal-forms-of-octets-in-iris : IsNormalOf iri_ref (codes "/%C3%41%A9%C3%A9") (codes "/%C3A%A9"
+    ++ (0xC3 ∷ 0xA9 ∷ []))
+    × IsNormalOf iri_ref (codes "/%C3A%A9" ++ (0xC3 ∷ 0xA9 ∷ [])) (codes "/%C3A%A9" ++ (0xC3
+    ∷ 0xA9 ∷ [])) × IsNormalOf iri_ref (codes "%61%61%61%61%61%61%61%61%61%61%61%61%61%61%61%61"
     ++ codes "%61%61%61%61%61%61%61%61%61%61%61%61%61%61%61%C3%A9")
     (codes "aaaaaaaaaaaaaaaaaaaaaaaaaaaaaaa" ++ (0xC3 ∷ 0xA9 ∷ []))
     × IsNormalOf iri (codes "http://xn--99zt52a.example.org/%e2%80%ae")
     (codes "http://xn--99zt52a.example.org/%E2%80%AE")
     × IsNormalOf iri (codes "http://xn--99zt52a.example.org/" ++ (0xE2 ∷ 0x80 ∷ 0xAE ∷ []))
-    (codes "http://xn--99zt52a.example.org/%E2%80%AE")
-    × IsNormalOf iri_ref (codes "//" ++ (0xE2 ∷ 0x80 ∷ 0x8F ∷ []) ++ codes "@R"
-    ++ (0xE2 ∷ 0x80 ∷ 0xAA ∷ []) ++ codes "#" ++ (0xE2 ∷ 0x80 ∷ 0x8E ∷ []))
-    (codes "//%E2%80%8F@r%E2%80%AA#%E2%80%8E")
+    (codes "http://xn--99zt52a.example.org/%E2%80%AE") × IsNormalOf iri_ref (codes "//"
+    ++ (0xE2 ∷ 0x80 ∷ 0x8F ∷ []) ++ codes "@R" ++ (0xE2 ∷ 0x80 ∷ 0xAA ∷ [])
+    ++ codes "#" ++ (0xE2 ∷ 0x80 ∷ 0x8E ∷ [])) (codes "//%E2%80%8F@r%E2%80%AA#%E2%80%8E")
     × IsNormalOf iri_ref (codes "?%EE%80%80") (codes "?" ++ (0xEE ∷ 0x80 ∷ 0x80 ∷ []))
     × IsNormalOf iri_ref (codes "%EE%80%80") (codes "%EE%80%80")
     × IsNormalOf iri_ref (codes "%E2" ++ (0xC3 ∷ 0xA9 ∷ [])) (codes "%E2" ++ (0xC3 ∷ 0xA9 ∷ []))
@@ -97,12 +76,10 @@ unfolding IsNormalOf ports chars encode_utf8 digits hex hex_groups_text ipv6_tex
     Pieces.pieces_from Decoding.is_decodable Decoding.is_bidi_formatting
     Decoding.is_never_literal Decoding.decode_run Decoding.decode_after_run host_kind ipv4_value
     ipv6_value run remove_dot_segments
-normal-forms-of-octets-in-iris =
-    (refl, refl, refl, refl, refl, refl, refl, refl, refl, refl, refl)
+normal-forms-of-octets-in-iris = (refl, refl, refl, refl, refl, refl, refl, refl, refl, refl, refl)
 
 -- examples of meanings, by normal forms: ports, and dot segments of absolute paths under a scheme
-normal-forms-of-ports-and-dot-segments :
-    IsNormalOf uri (codes "http://h:0080/") (codes "http://h/")
+normal-forms-of-ports-and-dot-segments : IsNormalOf uri (codes "http://h:0080/") (codes "http://h/")
     × IsNormalOf uri (codes "http://h:65616/") (codes "http://h:65616/")
     × IsNormalOf uri (codes "foo://localhost:4673") (codes "foo://localhost")
     × IsNormalOf uri (codes "FOO://h:4673") (codes "foo://h")
@@ -140,13 +117,10 @@ HasTargetWithNormalForm base reference target normal =
 example-targets-have-normal-forms :
     HasTargetWithNormalForm (codes "foo:/bar/..") (codes ".") (codes "foo:/") (codes "foo:/")
     × HasTargetWithNormalForm (codes "foo:/") (codes ".//@@") (codes "foo:/.//@@")
-    (codes "foo:/.//@@")
-    × HasTargetWithNormalForm (codes "http://x/") (codes "//a:80") (codes "http://a:80")
-    (codes "http://a")
-    × HasTargetWithNormalForm (codes "HTTP://A/%2e%2E/b/c") (codes "%2E./d") (codes "HTTP://A/d")
-    (codes "http://a/d")
-    × HasTargetWithNormalForm (codes "foo:/bar/baz/.%2E/") (codes "..") (codes "foo:/")
-    (codes "foo:/")
+    (codes "foo:/.//@@") × HasTargetWithNormalForm (codes "http://x/") (codes "//a:80")
+    (codes "http://a:80") (codes "http://a") × HasTargetWithNormalForm (codes "HTTP://A/%2e%2E/b/c")
+    (codes "%2E./d") (codes "HTTP://A/d") (codes "http://a/d") × HasTargetWithNormalForm
+    (codes "foo:/bar/baz/.%2E/") (codes "..") (codes "foo:/") (codes "foo:/")
 unfolding IsNormalOf ports chars encode_utf8 digits hex hex_groups_text ipv6_text read_ipv6
     read_ipv4 read_octet read_number read_segment read_segments Sets.is_ucschar Sets.is_iprivate
     Sets.allows_past_ascii Tokens.is_pct_encoded Tokens.tokens_from_chars Pieces.following_ranges

@@ -1,13 +1,5 @@
 -- The meaning under a port function is a function of the bare meaning.
-use Rattle.std.proofs.Common.{◌≡◌, ℕ, Bool, true, false, cond, ◌||◌, List, [], ◌∷◌, refl, sym, ap, ◌∙◌, Option, Some, None, option_map, arith}
-use Rattle.std.specs.Option.{option_and_then}
-use Rattle.std.proofs.lemmas.Bool.{cond-false}
-use Rattle.std.proofs.lemmas.Bool.Decides.{nat_tests}
-use Rattle.uri_parts.specs.Components.{Components, components}
-use Rattle.uri_parts.specs.Grammar.{Kind}
-use Rattle.uri_parts.specs.Ports.{PortFunction, no_defaults, is_default}
-use Rattle.uri_ops.specs.Dots.{is_empty}
-use Rattle.uri_ops.specs.Meaning.{AuthorityMeaning, Meaning, port_meaning, authority_meaning, components_meaning, meaning_of, bare_meaning_of, under}
+use Rattle.uri_ops.proofs.Common.{◌≡◌, ℕ, Bool, true, false, cond, ◌||◌, List, [], ◌∷◌, refl, sym, ap, ◌∙◌, Option, Some, None, option_map, arith, option_and_then, cond-false, nat_tests, Components, components, Kind, PortFunction, no_defaults, is_default, is_empty, AuthorityMeaning, Meaning, port_meaning, authority_meaning, components_meaning, meaning_of, bare_meaning_of, under}
 
 -- meanings of ports: leaving out an empty port, and then the default, is leaving out either
 port_meaning-of-bare-port_meaning : (default : Option ℕ) (port : Option (List ℕ))
@@ -46,8 +38,7 @@ unchanged-port-is-its-port_meaning default digits false e = cond-false _ _ _ e
 port_meaning-is-idempotent : (default : Option ℕ) (port : Option (List ℕ))
     → port_meaning default (port_meaning default port) ≡ port_meaning default port
 port_meaning-is-idempotent default None = refl
-port_meaning-is-idempotent default (Some digits) =
-    unchanged-port-is-its-port_meaning default digits
+port_meaning-is-idempotent default (Some digits) = unchanged-port-is-its-port_meaning default digits
     (is_empty digits || is_default default digits) refl
 
 -- meanings of ports: twice without a default port, an authority's meaning is as once without it
@@ -58,22 +49,19 @@ with_default-is-idempotent default a =
 
 -- meanings of ports: an authority whose meaning without a default is another's under it has the
 -- same under it
-pub authority_meaning-from-bare-meaning : (kind : Kind) (default : Option ℕ)
-    (text authority : List ℕ)
-    → authority_meaning kind None text ≡ authority_meaning kind default authority
+pub authority_meaning-from-bare-meaning : (kind : Kind) (default : Option ℕ) (text authority
+    : List ℕ) → authority_meaning kind None text ≡ authority_meaning kind default authority
     → authority_meaning kind default text ≡ authority_meaning kind default authority
 authority_meaning-from-bare-meaning kind default text authority e =
-    sym (bare-authority-meaning-with_default kind default text)
-    ∙ ap (with_default default)
-    (e ∙ sym (bare-authority-meaning-with_default kind default authority))
+    sym (bare-authority-meaning-with_default kind default text) ∙ ap (with_default default) (e
+    ∙ sym (bare-authority-meaning-with_default kind default authority))
     ∙ with_default-is-idempotent default (authority_meaning kind None authority)
     ∙ bare-authority-meaning-with_default kind default authority
 
 -- meanings of ports: the meaning of an authority, if there is one, is its meaning without a default
 -- (other), with that port left out
 authority-meanings-are-bare-with_default : (kind : Kind) (default other : Option ℕ) → other ≡ None
-    → (authority : Option (List ℕ))
-    → option_map (authority_meaning kind default) authority
+    → (authority : Option (List ℕ)) → option_map (authority_meaning kind default) authority
     ≡ option_map (with_default default) (option_map (authority_meaning kind other) authority)
 authority-meanings-are-bare-with_default kind default other e None = refl
 authority-meanings-are-bare-with_default kind default other e (Some authority) =

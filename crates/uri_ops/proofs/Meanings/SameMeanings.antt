@@ -1,12 +1,6 @@
 -- Two meanings have the same parts exactly if they are equal.
-use Rattle.std.proofs.Common.{◌≡◌, Bool, List, Option, Some, None, refl, ap}
+use Rattle.uri_ops.proofs.Common.{◌≡◌, Bool, List, Option, Some, None, refl, ap, bytes_eq, option_eq, Decides-eqb, Decides-and, Decides-like, bytes_eq-Decides, slice_eq-Decides, HostMeaning, Address, FutureAddress, Name, AuthorityMeaning, Meaning, Token, Char, Octet}
 use Rattle.std.specs.Bool.{Decides}
-use Rattle.std.specs.Prelude.{bytes_eq}
-use Rattle.std.specs.Option.{option_eq}
-use Rattle.std.proofs.lemmas.Bool.Decides.{Decides-eqb, Decides-and, Decides-like}
-use Rattle.std.proofs.lemmas.Slice.Eq.{bytes_eq-Decides, slice_eq-Decides}
-use Rattle.uri_ops.specs.Meaning.{HostMeaning, Address, FutureAddress, Name, AuthorityMeaning, Meaning}
-use Rattle.uri_pct.specs.Tokens.{Token, Char, Octet}
 use Rattle.uri_ops.specs.SameMeanings.{same_token, same_tokens, same_host, same_authority, same_meaning}
 
 -- equal meanings: comparing two options decides whether they are equal, if E does for values
@@ -46,40 +40,33 @@ host (Name a) (FutureAddress b) = (λ e. cc, λ e. cc)
 -- equal meanings: comparing the meanings of two authorities decides whether they are equal
 authority : (a b : AuthorityMeaning) → Decides (same_authority a b) (a ≡ b)
 authority a b =
-    Decides-like _ (λ e. λ i. record { userinfo = e.0 i; host = e.1.0 i; port = e.1.1 i })
-    (λ e. (
+    Decides-like _ (λ e. λ i. record { userinfo = e.0 i; host = e.1.0 i; port = e.1.1 i }) (λ e. (
       ap (λ (m : AuthorityMeaning). m.userinfo) e,
       (ap (λ (m : AuthorityMeaning). m.host) e, ap (λ (m : AuthorityMeaning). m.port) e),
-    ))
-    (Decides-and _ _ (option_eq-decides-equality same_tokens same_tokens-decides-equality a.userinfo
-    b.userinfo)
-    (Decides-and _ _ (host a.host b.host)
-    (option_eq-decides-equality bytes_eq bytes_eq-Decides a.port b.port)))
+    )) (Decides-and _ _ (option_eq-decides-equality same_tokens
+    same_tokens-decides-equality a.userinfo b.userinfo) (Decides-and _ _
+    (host a.host b.host) (option_eq-decides-equality bytes_eq bytes_eq-Decides a.port b.port)))
 
 -- equal meanings: the test of two meanings for equality returns true exactly if they are equal
 pub same_meaning-decides-equality : (m n : Meaning) → Decides (same_meaning m n) (m ≡ n)
 unfolding same_meaning
-same_meaning-decides-equality m n = Decides-like _
-    (λ e. λ i. record {
-      scheme = e.0 i;
-      authority = e.1.0 i;
-      path = e.1.1.0 i;
-      query = e.1.1.1.0 i;
-      fragment = e.1.1.1.1 i;
-    })
-    (λ e. (
-      ap (λ (x : Meaning). x.scheme) e,
-      (
-        ap (λ (x : Meaning). x.authority) e,
-        (
-          ap (λ (x : Meaning). x.path) e,
-          (ap (λ (x : Meaning). x.query) e, ap (λ (x : Meaning). x.fragment) e),
-        ),
-      ),
-    ))
-    (Decides-and _ _ (option_eq-decides-equality bytes_eq bytes_eq-Decides m.scheme n.scheme)
+same_meaning-decides-equality m n = Decides-like _ (λ e. λ i. record {
+  scheme = e.0 i;
+  authority = e.1.0 i;
+  path = e.1.1.0 i;
+  query = e.1.1.1.0 i;
+  fragment = e.1.1.1.1 i;
+}) (λ e. (
+  ap (λ (x : Meaning). x.scheme) e,
+  (
+    ap (λ (x : Meaning). x.authority) e,
+    (
+      ap (λ (x : Meaning). x.path) e,
+      (ap (λ (x : Meaning). x.query) e, ap (λ (x : Meaning). x.fragment) e),
+    ),
+  ),
+)) (Decides-and _ _ (option_eq-decides-equality bytes_eq bytes_eq-Decides m.scheme n.scheme)
     (Decides-and _ _ (option_eq-decides-equality same_authority authority m.authority n.authority)
-    (Decides-and _ _ (same_tokens-decides-equality m.path n.path)
-    (Decides-and _ _ (option_eq-decides-equality same_tokens same_tokens-decides-equality
-    m.query n.query)
+    (Decides-and _ _ (same_tokens-decides-equality m.path n.path) (Decides-and _ _
+    (option_eq-decides-equality same_tokens same_tokens-decides-equality m.query n.query)
     (option_eq-decides-equality same_tokens same_tokens-decides-equality m.fragment n.fragment)))))

@@ -1,42 +1,27 @@
 -- What a `Decoding` takes.
-use Rattle.std.proofs.Common.{◌≡◌, ℕ, Bool, true, false, List, [], ◌∷◌, ◌++◌, map, ap, ◌∙◌, string_bytes, arith}
-use Rattle.std.specs.Str.{IsUtf8}
-use Rattle.std.proofs.lemmas.List.{append-nil}
-use Rattle.std.proofs.lemmas.Bool.Decides.{nat_tests}
-use Rattle.uri_pct.specs.Chunks.{widest_set}
-use Rattle.uri_pct.specs.Encoding.{encode_text}
-use Rattle.uri_pct.specs.Parts.{ArePastAscii, Part, Literal, Decoded, parts}
-use Rattle.uri_pct.specs.Pieces.{IllFormed, utf8_pieces}
-use Rattle.uri_pct.specs.DecodeUnreserved.{decode_tokens, lower_token}
-use Rattle.uri_pct.specs.Sets.{TableSet}
-use Rattle.uri_pct.specs.Tables.{set_of}
-use Rattle.uri_pct.specs.Tokens.{Octet, tokens, print, IsValidFor}
+use Rattle.uri_ops.proofs.Common.{◌≡◌, ℕ, Bool, true, false, List, [], ◌∷◌, ◌++◌, map, ap, ◌∙◌, string_bytes, arith, IsUtf8, append-nil, nat_tests, widest_set, encode_text, ArePastAscii, Part, Literal, Decoded, parts, IllFormed, utf8_pieces, decode_tokens, lower_token, TableSet, set_of, Octet, tokens, print, IsValidFor, AppendsDecodedParts, decoded_parts, lowered_if, lowered_text_if}
 use Rattle.uri_ops.specs.declared.normalize.decode_unreserved.Decoding.{Decoding}
-use Rattle.uri_ops.specs.Models.Decodings.{AppendsDecodedParts, decoded_parts, lowered_if, lowered_text_if}
 use Rattle.uri_ops.proofs.Meanings.Cased.{AllowsDecodable, print-lowers-characters, octets-are-unchanged-when-lowered, decoded-pieces-are-encoded-text, bytes-past-ascii-are-unchanged-when-lowered, lowered-pieces-are-encoded-lowered-text}
 use Rattle.uri_ops.proofs.Meanings.DecodedParts.{decoded_parts-of-run, decoded_parts-are-decoded-tokens}
 
 -- meanings, decoded past ASCII: a literal part of a text is written in lower case if lowers
-pub literal-part-is-lowered : (lowers : Bool) (set : TableSet) (text : List ℕ) → IsUtf8 text
-    → print (lowered_if lowers (decoded_parts set (Literal text ∷ [])))
-    ≡ lowered_text_if lowers text
+pub literal-part-is-lowered : (lowers : Bool) (set : TableSet) (text : List ℕ) → IsUtf8 text → print
+    (lowered_if lowers (decoded_parts set (Literal text ∷ []))) ≡ lowered_text_if lowers text
 literal-part-is-lowered lowers set text u =
     grind (arith, nat_tests, append-nil, print-lowers-characters)
 
 -- meanings, decoded past ASCII: characters that octets decode to are written encoded, unless the
 -- set decodes them
-pub decoded-octets-past-ascii-are-encoded-text : (lowers : Bool) (decodable set : TableSet)
-    (text : List ℕ)
-    → AllowsDecodable decodable set → IsUtf8 text → ArePastAscii text
-    → print (lowered_if lowers (decoded_parts set (map Decoded (utf8_pieces text))))
-    ≡ print (encode_text decodable text)
+pub decoded-octets-past-ascii-are-encoded-text :
+    (lowers : Bool) (decodable set : TableSet) (text : List ℕ)
+    → AllowsDecodable decodable set → IsUtf8 text → ArePastAscii text → print (lowered_if lowers
+    (decoded_parts set (map Decoded (utf8_pieces text)))) ≡ print (encode_text decodable text)
 decoded-octets-past-ascii-are-encoded-text false decodable set text same u past = ap print
     (decoded_parts-of-run set (utf8_pieces text) ∙ decoded-pieces-are-encoded-text _ set same _ u)
-decoded-octets-past-ascii-are-encoded-text true decodable set text same u past = ap
-    (λ ts. print (map lower_token ts)) (decoded_parts-of-run set (utf8_pieces text))
-    ∙ ap print (lowered-pieces-are-encoded-lowered-text decodable set same text u) ∙ ap
-    (λ bytes. print (encode_text decodable bytes))
-    (bytes-past-ascii-are-unchanged-when-lowered text past)
+decoded-octets-past-ascii-are-encoded-text true decodable set text same u past =
+    ap (λ ts. print (map lower_token ts)) (decoded_parts-of-run set (utf8_pieces text))
+    ∙ ap print (lowered-pieces-are-encoded-lowered-text decodable set same text u) ∙ ap (λ bytes.
+    print (encode_text decodable bytes)) (bytes-past-ascii-are-unchanged-when-lowered text past)
 
 -- meanings, decoded past ASCII: ill-formed octets are unchanged
 pub ill-formed-octets-are-unchanged : (lowers : Bool) (set : TableSet) (bytes : List ℕ)
@@ -48,11 +33,9 @@ ill-formed-octets-are-unchanged lowers set bytes =
 -- meanings, decoded past ASCII: a `Decoding` to which the decoded parts are appended has appended
 -- these parts; s, t: before and after
 pub appended-text-is-decoded-parts : (s t : Decoding) (ps : List Part) (more : List ℕ)
-    → set_of t.table ≡ set_of s.table
-    → t.lowers ≡ s.lowers → t.text.ghost_name ≡ s.text.ghost_name
-    → string_bytes t.text.now ≡ string_bytes s.text.now ++ more
-    → print (lowered_if s.lowers (decoded_parts (set_of s.table) ps)) ≡ more
-    → AppendsDecodedParts s ps t
+    → set_of t.table ≡ set_of s.table → t.lowers ≡ s.lowers → t.text.ghost_name ≡ s.text.ghost_name
+    → string_bytes t.text.now ≡ string_bytes s.text.now ++ more → print (lowered_if s.lowers
+    (decoded_parts (set_of s.table) ps)) ≡ more → AppendsDecodedParts s ps t
 appended-text-is-decoded-parts s t ps more set lowers same written meant =
     grind (arith, nat_tests, string_bytes)
 
@@ -60,8 +43,7 @@ appended-text-is-decoded-parts s t ps more set lowers same written meant =
 -- `Decoding` before and after
 pub all-parts-give-decoded-tokens : (text old : List ℕ) (s t : Decoding)
     → IsValidFor widest_set text
-    → string_bytes s.text.now ≡ old → AppendsDecodedParts s (parts text) t
-    → string_bytes t.text.now
+    → string_bytes s.text.now ≡ old → AppendsDecodedParts s (parts text) t → string_bytes t.text.now
     ≡ old ++ print (lowered_if s.lowers (decode_tokens (set_of s.table) (tokens text)))
 all-parts-give-decoded-tokens text old s t valid begun took =
     grind (arith, nat_tests, decoded_parts-are-decoded-tokens)

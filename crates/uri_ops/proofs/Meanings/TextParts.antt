@@ -1,17 +1,8 @@
 -- The components of a text of a kind: each is in UTF-8 and meets its rule, and they are cut apart.
-use Rattle.std.proofs.Common.{◌≡◌, ℕ, Bool, true, false, not, List, drop, refl, arith, ◌&&◌, ◌||◌, ⊎_elim}
-use Rattle.std.specs.Prelude.{codes, Option, Some, None, IfSome, is_some}
-use Rattle.std.specs.Str.{IsUtf8}
-use Rattle.std.proofs.lemmas.Bool.{cases_Bool}
-use Rattle.std.proofs.lemmas.Bool.Decides.{nat_tests}
-use Rattle.uri_pct.proofs.ValidTexts.MarksInTexts.{AreAscii, AreAscii-by-test}
-use Rattle.uri_parts.specs.Components.{Components, starts, before_any, from_any, has_scheme, has_authority, after_scheme, after_authority, after_query, components, when}
-use Rattle.uri_parts.specs.Grammar.{Kind, absent_or_passes, is_scheme, has_colon_in_first_segment, is_authority, components_meet_rules}
+use Rattle.uri_ops.proofs.Common.{◌≡◌, ℕ, Bool, true, false, not, List, drop, refl, arith, ◌&&◌, ◌||◌, ⊎_elim, codes, Option, Some, None, IfSome, is_some, IsUtf8, cases_Bool, nat_tests, AreAscii, AreAscii-by-test, Components, starts, from_any, after_scheme, after_authority, after_query, components, when, Kind, absent_or_passes, is_scheme, has_colon_in_first_segment, is_authority, components_meet_rules, IfSome-combine, utf8_before_marks}
 use Rattle.uri_parts.proofs.Parsing.ScanStops.{utf8_from_marks, utf8_after_mark, utf8_after_slashes}
 use Rattle.uri_ops.proofs.Meanings.AllowedParts.{is_set_text, set-text-from-utf8, set-text-is-valid}
-use Rattle.uri_pct.proofs.General.{IfSome-combine}
 use Rattle.uri_parts.proofs.Parsing.WholeTexts.{utf8_after_authority, utf8_after_scheme}
-use Rattle.uri_parts.proofs.Authorities.NamesAndPorts.{utf8_before_marks}
 
 -- meanings of components: each component is UTF-8 and meets its rule of the grammar of a kind
 pub record ArePartsOfKind (kind : Kind) (p : Components) : Type 0 where
@@ -28,8 +19,7 @@ pub record ArePartsOfKind (kind : Kind) (p : Components) : Type 0 where
 -- general fact on options, for meanings of components: a component that is absent or passes a test
 -- passes it, if there is one
 passing-option-passes-if-some : (o : Option (List ℕ)) (test : List ℕ → Bool)
-    → absent_or_passes o test ≡ true
-    → IfSome o (λ x. test x ≡ true)
+    → absent_or_passes o test ≡ true → IfSome o (λ x. test x ≡ true)
 passing-option-passes-if-some None test e = tt
 passing-option-passes-if-some (Some x) test e = e
 
@@ -78,10 +68,8 @@ query-ends-are-ascii = AreAscii-by-test (codes "#") refl
 
 -- meanings of components: what is after the query in a text is UTF-8
 text-after-query-is-utf8 : (end : List ℕ) → IsUtf8 end → IsUtf8 (after_query end)
-text-after-query-is-utf8 end u = ⊎_elim
-    (λ e.
-    rw e (utf8_from_marks (codes "#") (drop 1 end) query-ends-are-ascii
-    (utf8_after_mark 63 (omega arith) end e u)))
+text-after-query-is-utf8 end u = ⊎_elim (λ e. rw e (utf8_from_marks (codes "#")
+    (drop 1 end) query-ends-are-ascii (utf8_after_mark 63 (omega arith) end e u)))
     (λ e. rw e u) (cases_Bool (starts 63 end))
 
 -- meanings of components: those of a text in UTF-8 are UTF-8
@@ -94,28 +82,23 @@ components-of-utf8-are-utf8 text u =
     record {
       scheme = optional-text-is-utf8 _ _
           (λ e. utf8_before_marks (codes ":/?#") text scheme-ends-are-ascii u);
-      authority = optional-text-is-utf8 _ _
-          (λ e. utf8_before_marks (codes "/?#") (drop 2 (after_scheme text))
-          authority-ends-are-ascii
-          (utf8_after_slashes _ e rest));
+      authority = optional-text-is-utf8 _ _ (λ e. utf8_before_marks (codes "/?#")
+          (drop 2 (after_scheme text)) authority-ends-are-ascii (utf8_after_slashes _ e rest));
       path = utf8_before_marks (codes "?#") (after_authority (after_scheme text))
           path-ends-are-ascii tail;
       query = optional-text-is-utf8
           (starts 63 (from_any (codes "?#") (after_authority (after_scheme text)))) _
-          (λ e. utf8_before_marks (codes "#") (drop 1
-          (from_any (codes "?#") (after_authority (after_scheme text)))) query-ends-are-ascii
-          (utf8_after_mark 63 (omega arith)
-          (from_any (codes "?#") (after_authority (after_scheme text))) e end));
-      fragment = optional-text-is-utf8 _ _
-          (λ e. utf8_after_mark 35 (omega arith) (after_query
-          (from_any (codes "?#") (after_authority (after_scheme text)))) e
+          (λ e. utf8_before_marks (codes "#") (drop 1 (from_any (codes "?#")
+          (after_authority (after_scheme text)))) query-ends-are-ascii (utf8_after_mark
+          63 (omega arith) (from_any (codes "?#") (after_authority (after_scheme text))) e end));
+      fragment = optional-text-is-utf8 _ _ (λ e. utf8_after_mark 35 (omega arith)
+          (after_query (from_any (codes "?#") (after_authority (after_scheme text)))) e
           (text-after-query-is-utf8 _ end));
     }
 
 -- meanings of components: those in UTF-8 that meet the rules of the grammar are of the kind
-pub grammar-gives-components-of-kind : (kind : Kind) (p : Components) → AreUtf8 p
-    → components_meet_rules kind p ≡ true
-    → ArePartsOfKind kind p
+pub grammar-gives-components-of-kind : (kind : Kind) (p : Components)
+    → AreUtf8 p → components_meet_rules kind p ≡ true → ArePartsOfKind kind p
 grammar-gives-components-of-kind kind p u e = grind (
   arith,
   nat_tests,

@@ -1,14 +1,6 @@
 -- The unreserved characters, entry by entry, and one that is written.
-use Rattle.std.proofs.Common.{◌≡◌, ℕ, ◌<◌, ◌≤◌, Bool, true, false, List, [], ◌∷◌, cond, eqb, get_or, refl, arith, append-nil}
-use Rattle.std.specs.Char.{encode_utf8, to_ascii_lowercase}
-use Rattle.std.proofs.lemmas.Bool.{agree_below_at, eqb-true}
-use Rattle.std.proofs.lemmas.Str.Ascii.{lowercase_ascii}
-use Rattle.std.proofs.lemmas.Bool.Decides.{nat_tests}
-use Rattle.uri_pct.specs.DecodeUnreserved.{decode_octet}
-use Rattle.uri_pct.specs.Sets.{is_unreserved}
-use Rattle.uri_pct.specs.Tokens.{Octet, print}
+use Rattle.uri_ops.proofs.Common.{◌≡◌, ℕ, ◌<◌, ◌≤◌, Bool, true, false, List, [], ◌∷◌, cond, eqb, get_or, refl, arith, append-nil, encode_utf8, to_ascii_lowercase, agree_below_at, eqb-true, lowercase_ascii, nat_tests, decode_octet, is_unreserved, Octet, print, lowered_if, lowered_code_if}
 use Rattle.uri_ops.specs.declared.normalize.octets.TheConstants.{LOWERED_CODES, UNRESERVED_CODES}
-use Rattle.uri_ops.specs.Models.Decodings.{lowered_if, lowered_code_if}
 
 -- meanings, decoded by a table: the constant with the code of each ASCII byte that is unreserved
 abbrev pub code_table : Bool → List ℕ
@@ -35,9 +27,8 @@ code_table-entry-of-ascii lowers b small = eqb-true _ _
 
 -- meanings, decoded by a table: an entry that is ASCII is the code of an unreserved character, in
 -- lower case if lowers
-pub ascii-entry-is-unreserved : (lowers : Bool) (b : ℕ) → b < 128
-    → get_or (code_table lowers) b 0 < 128
-    → (get_or (code_table lowers) b 0 ≡ lowered_code_if lowers b) × (is_unreserved b ≡ true)
+pub ascii-entry-is-unreserved : (lowers : Bool) (b : ℕ) → b < 128 → get_or (code_table lowers) b 0
+    < 128 → (get_or (code_table lowers) b 0 ≡ lowered_code_if lowers b) × (is_unreserved b ≡ true)
 ascii-entry-is-unreserved lowers b small ascii = grind (arith, nat_tests, code_table-entry-of-ascii)
 
 -- meanings, decoded: an ASCII character is ASCII in lower case
@@ -47,9 +38,8 @@ lowered-code-of-ascii-is-ascii true b small = lowercase_ascii b small
 lowered-code-of-ascii-is-ascii false b small = small
 
 -- meanings, decoded by a table: an entry past ASCII is of a character that is not unreserved
-pub entry-past-ascii-is-not-unreserved : (lowers : Bool) (b : ℕ) → b < 128
-    → 128 ≤ get_or (code_table lowers) b 0
-    → is_unreserved b ≡ false
+pub entry-past-ascii-is-not-unreserved : (lowers : Bool) (b : ℕ)
+    → b < 128 → 128 ≤ get_or (code_table lowers) b 0 → is_unreserved b ≡ false
 entry-past-ascii-is-not-unreserved lowers b small past =
     grind (arith, nat_tests, code_table-entry-of-ascii, lowered-code-of-ascii-is-ascii)
 

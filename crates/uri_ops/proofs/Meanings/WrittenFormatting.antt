@@ -1,24 +1,5 @@
 -- Where a printed text has its formatting characters as octets, the tokens that were printed have.
-use Rattle.std.proofs.Common.{◌≡◌, ℕ, ◌≤◌, Bool, true, false, eqb, List, [], ◌∷◌, ◌++◌, length, take, drop, refl, sym, ap, ◌∙◌, arith, ◌&&◌, ◌||◌}
-use Rattle.std.specs.Char.{encode_utf8}
-use Rattle.std.specs.List.{list_all, list_any, flat_map}
-use Rattle.std.specs.Str.{chars, encode_utf8_all, IsUtf8}
-use Rattle.std.proofs.Math.Seq.{take-append_seam, drop-append_seam}
-use Rattle.std.proofs.lemmas.Bool.{cond-false, and_parts, or_parts, or_from, false_from_ne_true, both_ways}
-use Rattle.std.proofs.lemmas.Bool.Decides.{nat_tests}
-use Rattle.std.proofs.lemmas.List.{append-nil}
-use Rattle.std.proofs.lemmas.List.Concat.{flat_map-append}
-use Rattle.std.proofs.lemmas.List.Folds.{list_any-append}
-use Rattle.std.proofs.lemmas.Str.{encodes-chars}
-use Rattle.uri_pct.specs.Chunks.{widest_set}
-use Rattle.uri_pct.specs.DecodeUnreserved.{is_bidi_formatting, is_printable, formatting_as_octets, encode_formatting, decode_tokens, decode_unreserved, encoded_formatting_char, encoded_formatting_text}
-use Rattle.uri_pct.specs.Sets.{TableSet, allows, allows_past_ascii, is_ucschar, is_iprivate}
-use Rattle.uri_pct.specs.Tokens.{Token, Char, Octet, tokens, text_of_token, print, IsValidFor}
-use Rattle.uri_pct.proofs.ValidTexts.Allowed.{valid_text_has_printable_tokens, lowered_tokens_are_printable}
-use Rattle.uri_pct.proofs.UnreservedDecoding.Formatting.{ascii_char_is_no_formatting_char, never_literal_is_formatting_if_both_flags, encode_formatting_commutes_with_lowering}
-use Rattle.uri_pct.proofs.UnreservedDecoding.Printing.{octet_digits_are_hexadecimal, chars_of_token, chars_of_token_encode_to_its_text, chars_of_printed_tokens, printed_tokens_are_utf8}
-use Rattle.uri_pct.proofs.UnreservedDecoding.DecodedTokens.{decode_tokens_keeps_tokens_printable}
-use Rattle.uri_ops.specs.Models.Decodings.{lowered_if}
+use Rattle.uri_ops.proofs.Common.{◌≡◌, ℕ, ◌≤◌, Bool, true, false, eqb, List, [], ◌∷◌, ◌++◌, length, take, drop, refl, sym, ap, ◌∙◌, arith, ◌&&◌, ◌||◌, encode_utf8, list_all, list_any, flat_map, chars, encode_utf8_all, IsUtf8, take-append_seam, drop-append_seam, cond-false, and_parts, or_parts, or_from, false_from_ne_true, both_ways, nat_tests, append-nil, flat_map-append, list_any-append, encodes-chars, widest_set, is_bidi_formatting, is_printable, formatting_as_octets, encode_formatting, decode_tokens, decode_unreserved, encoded_formatting_char, encoded_formatting_text, TableSet, allows, allows_past_ascii, is_ucschar, is_iprivate, Token, Char, Octet, tokens, text_of_token, print, IsValidFor, valid_text_has_printable_tokens, lowered_tokens_are_printable, ascii_char_is_no_formatting_char, never_literal_is_formatting_if_both_flags, encode_formatting_commutes_with_lowering, octet_digits_are_hexadecimal, chars_of_token, chars_of_token_encode_to_its_text, chars_of_printed_tokens, printed_tokens_are_utf8, decode_tokens_keeps_tokens_printable, lowered_if}
 use Rattle.uri_pct.proofs.UnreservedDecoding.Formatting as Formatting
 
 -- meanings, bidirectional text: a formatting character is from U+200E to U+202E, so it begins with
@@ -40,8 +21,7 @@ formatting-character-has-byte-E2 c e = grind (arith, nat_tests, formatting-is-fr
 
 -- meanings, bidirectional text: characters without the byte E2 are no formatting characters
 characters-without-byte-E2-are-no-formatting : (cs : List ℕ)
-    → list_any is_byte_E2 (encode_utf8_all cs) ≡ false
-    → list_any is_bidi_formatting cs ≡ false
+    → list_any is_byte_E2 (encode_utf8_all cs) ≡ false → list_any is_bidi_formatting cs ≡ false
 characters-without-byte-E2-are-no-formatting [] e = refl
 characters-without-byte-E2-are-no-formatting (c ∷ cs) e =
     let p = or_parts _ _ (sym (list_any-append is_byte_E2 (encode_utf8 c) (encode_utf8_all cs)) ∙ e)
@@ -50,9 +30,8 @@ characters-without-byte-E2-are-no-formatting (c ∷ cs) e =
     (characters-without-byte-E2-are-no-formatting cs p.1)
 
 -- meanings, bidirectional text: without a byte E2 there is no formatting character
-pub no-byte-E2-no-formatting : (text : List ℕ) → IsUtf8 text → list_any (λ b. eqb b 0xE2) text
-    ≡ false
-    → list_any is_bidi_formatting (chars text) ≡ false
+pub no-byte-E2-no-formatting : (text : List ℕ) → IsUtf8 text
+    → list_any (λ b. eqb b 0xE2) text ≡ false → list_any is_bidi_formatting (chars text) ≡ false
 unfolding is_byte_E2
 no-byte-E2-no-formatting text u e = characters-without-byte-E2-are-no-formatting (chars text)
     (ap (list_any is_byte_E2) (encodes-chars text u) ∙ e)
@@ -71,8 +50,7 @@ characters-without-formatting-are-unchanged (c ∷ cs) e =
 pub text-without-formatting-is-unchanged : (text : List ℕ) → IsUtf8 text
     → list_any is_bidi_formatting (chars text) ≡ false → encoded_formatting_text text ≡ text
 text-without-formatting-is-unchanged text u e =
-    characters-without-formatting-are-unchanged (chars text) e
-    ∙ encodes-chars text u
+    characters-without-formatting-are-unchanged (chars text) e ∙ encodes-chars text u
 
 -- meanings, bidirectional text: the text of an octet has no formatting character
 printable-octet-has-no-formatting : (v : ℕ) → is_printable (Octet v) ≡ true
@@ -82,20 +60,17 @@ printable-octet-has-no-formatting v e =
 
 -- meanings, bidirectional text: the text of a token has formatting characters encoded as the token
 printed-token-has-formatting-encoded : (set : TableSet) (t : Token)
-    → (set.ucschar && set.pct_encoded) ≡ true
-    → is_printable t ≡ true
+    → (set.ucschar && set.pct_encoded) ≡ true → is_printable t ≡ true
     → flat_map encoded_formatting_char (chars_of_token t) ≡ print (formatting_as_octets set t)
 printed-token-has-formatting-encoded set (Octet v) both e =
-    characters-without-formatting-are-unchanged
-    (chars_of_token (Octet v)) (printable-octet-has-no-formatting v e)
-    ∙ chars_of_token_encode_to_its_text (Octet v) e
+    characters-without-formatting-are-unchanged (chars_of_token (Octet v))
+    (printable-octet-has-no-formatting v e) ∙ chars_of_token_encode_to_its_text (Octet v) e
 printed-token-has-formatting-encoded set (Char c) both e =
     grind (arith, nat_tests, append-nil, never_literal_is_formatting_if_both_flags)
 
 -- meanings, bidirectional text: the text of tokens has formatting characters encoded as they have
 printed-tokens-have-formatting-encoded : (set : TableSet) (ts : List Token)
-    → (set.ucschar && set.pct_encoded) ≡ true
-    → list_all is_printable ts ≡ true
+    → (set.ucschar && set.pct_encoded) ≡ true → list_all is_printable ts ≡ true
     → flat_map encoded_formatting_char (flat_map chars_of_token ts)
     ≡ print (encode_formatting set ts)
 printed-tokens-have-formatting-encoded set [] both e = refl
@@ -103,24 +78,21 @@ printed-tokens-have-formatting-encoded set (t ∷ ts) both e =
     let p = and_parts (is_printable t) (list_all is_printable ts) e in
     flat_map-append encoded_formatting_char (chars_of_token t) (flat_map chars_of_token ts)
     ∙ ap (λ x. x ++ flat_map encoded_formatting_char (flat_map chars_of_token ts))
-    (printed-token-has-formatting-encoded set t both p.0)
-    ∙ ap (λ x. print (formatting_as_octets set t) ++ x)
-    (printed-tokens-have-formatting-encoded set ts both p.1)
+    (printed-token-has-formatting-encoded set t both p.0) ∙ ap (λ x. print
+    (formatting_as_octets set t) ++ x) (printed-tokens-have-formatting-encoded set ts both p.1)
     ∙ sym (flat_map-append text_of_token (formatting_as_octets set t) (encode_formatting set ts))
 
 -- meanings, bidirectional text: encoding formatting characters and writing the tokens may swap
 encoding-formatting-and-printing-swap : (set : TableSet) (ts : List Token)
-    → (set.ucschar && set.pct_encoded) ≡ true
-    → list_all is_printable ts ≡ true → encoded_formatting_text (print ts)
-    ≡ print (encode_formatting set ts)
+    → (set.ucschar && set.pct_encoded) ≡ true → list_all is_printable ts ≡ true
+    → encoded_formatting_text (print ts) ≡ print (encode_formatting set ts)
 encoding-formatting-and-printing-swap set ts both e =
     grind (arith, nat_tests, chars_of_printed_tokens, printed-tokens-have-formatting-encoded)
 
 -- meanings, bidirectional text: formatting characters are encoded in the text that was appended,
 -- and not before it
-pub formatting-encoded-after-prefix : (old more new : List ℕ) (start : ℕ) → start ≡ length old → new
-    ≡ old ++ more
-    → take start new ++ encoded_formatting_text (drop start new)
+pub formatting-encoded-after-prefix : (old more new : List ℕ) (start : ℕ) → start ≡ length old
+    → new ≡ old ++ more → take start new ++ encoded_formatting_text (drop start new)
     ≡ old ++ encoded_formatting_text more
 formatting-encoded-after-prefix old more new start e f =
     cc (take-append_seam old more, drop-append_seam old more)
@@ -135,8 +107,7 @@ encoding-formatting-and-lowering-swap false set ts = refl
 -- meanings, decoded: tokens that can be written can be in lower case; lowers: whether they are
 -- lowered
 lowered-printable-tokens-are-printable : (lowers : Bool) (ts : List Token)
-    → list_all is_printable ts ≡ true
-    → list_all is_printable (lowered_if lowers ts) ≡ true
+    → list_all is_printable ts ≡ true → list_all is_printable (lowered_if lowers ts) ≡ true
 lowered-printable-tokens-are-printable true ts e = lowered_tokens_are_printable ts e
 lowered-printable-tokens-are-printable false ts e = e
 
@@ -169,12 +140,10 @@ encoding-formatting-completes-decoding lowers set text both valid =
 -- meanings, bidirectional text: a set without octets or characters past ASCII needs no formatting
 -- character encoded in its normal form
 pub decoding-without-formatting-is-complete : (lowers : Bool) (set : TableSet) (text : List ℕ)
-    → (set.ucschar && set.pct_encoded) ≡ false
-    → print (lowered_if lowers (decode_tokens set (tokens text)))
-    ≡ print (lowered_if lowers (decode_unreserved set text))
-decoding-without-formatting-is-complete lowers set text none =
-    ap (λ ts. print (lowered_if lowers ts))
-    (sym (Formatting.encode_formatting_without_flags_keeps_tokens set
+    → (set.ucschar && set.pct_encoded) ≡ false → print (lowered_if lowers
+    (decode_tokens set (tokens text))) ≡ print (lowered_if lowers (decode_unreserved set text))
+decoding-without-formatting-is-complete lowers set text none = ap (λ ts. print
+    (lowered_if lowers ts)) (sym (Formatting.encode_formatting_without_flags_keeps_tokens set
     (decode_tokens set (tokens text)) none))
 
 -- general fact on booleans, for meanings of bidirectional text: `ucschar` decides on U+200E

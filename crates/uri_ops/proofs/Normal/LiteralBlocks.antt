@@ -1,14 +1,10 @@
 -- Blocks of a text by a test of its indices: what a mask of lanes says of those of a block.
-use Rattle.std.proofs.Common.{◌≡◌, ℕ, ◌+◌, ◌-◌, ◌/◌, ◌^◌, ◌<◌, ◌≤◌, Bool, true, false, not, eqb, ap, sym, ◌∙◌, ◌&&◌, ◌||◌, List, length, map, get_or, refl, bit_and, bit_or, arith, w64, ⊎_elim, subst, pow_mono}
-use Rattle.std.specs.Int.{bit_at, trailing_zeros}
+use Rattle.uri_ops.proofs.Common.{◌≡◌, ℕ, ◌+◌, ◌-◌, ◌/◌, ◌^◌, ◌<◌, ◌≤◌, Bool, true, false, not, eqb, ap, sym, ◌∙◌, ◌&&◌, ◌||◌, List, length, map, get_or, refl, bit_and, bit_or, arith, w64, ⊎_elim, subst, pow_mono, bit_at, trailing_zeros, cases_lt, not-false, bit_of_right_shift, is_set_bit, equality_mask_is_below_2_16, mask_bit_is_equality_of_byte, is_literal_at}
 use Rattle.std.specs.Int.Bits.{and_lt}
 use Rattle.std.specs.Simd.Lanes.{chunk, mask_l}
-use Rattle.std.proofs.lemmas.Bool.{cases_lt, not-false}
 use Rattle.std.proofs.lemmas.Nat.{or_lt, shr_below}
 use Rattle.std.proofs.lemmas.Nat.Bits.{bit_at-zero, bit_at_above, bit_at-trailing_zeros}
-use Rattle.uri_pct.proofs.LaneScans.LaneBits.{bit_of_right_shift, is_set_bit, equality_mask_is_below_2_16, mask_bit_is_equality_of_byte}
 use Rattle.uri_pct.proofs.TableSets.Masks.{bit_of_bit_and, bit_of_bit_or}
-use Rattle.uri_ops.specs.Models.Unchanged.{is_literal_at}
 
 -- literal blocks: bit k of the mask is set where index i + k fails the test, for w indices
 pub record MarksIndices (test : ℕ → Bool) (i w mask : ℕ) : Type 0 where
@@ -42,13 +38,10 @@ module _ (test : ℕ → Bool) (start i w mask : ℕ) (m : MarksIndices test i w
       ∙ sym (m.lane (k - i) (omega (arith, from, to))) ∙ ap (λ n. eqb n 1) e)
 
   -- all pass if no bit is set
-  pub indices-pass-where-mask-is-zero : mask ≡ 0 → (k : ℕ) → start ≤ k → k < i + w
-      → test k ≡ true
-  indices-pass-where-mask-is-zero e k from to = ⊎_elim
-      (λ (h : k < i). passed k from h)
-      (λ (h : i ≤ k). index-of-clear-bit-passes k h to
-      (ap (λ n. bit_at n (k - i)) e ∙ bit_at-zero (k - i)))
-      (cases_lt k i)
+  pub indices-pass-where-mask-is-zero : mask ≡ 0 → (k : ℕ) → start ≤ k → k < i + w → test k ≡ true
+  indices-pass-where-mask-is-zero e k from to =
+      ⊎_elim (λ (h : k < i). passed k from h) (λ (h : i ≤ k). index-of-clear-bit-passes k h to
+      (ap (λ n. bit_at n (k - i)) e ∙ bit_at-zero (k - i))) (cases_lt k i)
 
   module _ (some : 0 < mask) (small : w ≤ 16) where
     first-bit : (trailing_zeros w64 mask < 64) × (bit_at mask (trailing_zeros w64 mask) ≡ 1)
@@ -58,21 +51,17 @@ module _ (test : ℕ → Bool) (start i w mask : ℕ) (m : MarksIndices test i w
 
     -- the first bit that is set is one of the block
     pub first-bit-is-of-block : trailing_zeros w64 mask < w
-    first-bit-is-of-block = ⊎_elim
-        (λ (h : trailing_zeros w64 mask < w). h)
-        (λ (h : w ≤ trailing_zeros w64 mask).
+    first-bit-is-of-block =
+        ⊎_elim (λ (h : trailing_zeros w64 mask < w). h) (λ (h : w ≤ trailing_zeros w64 mask).
         let none = bit_at_above mask w (trailing_zeros w64 mask) m.below h in
-        absurd (omega (arith, none, first-bit.1)))
-        (cases_lt (trailing_zeros w64 mask) w)
+        absurd (omega (arith, none, first-bit.1))) (cases_lt (trailing_zeros w64 mask) w)
 
     -- the indices before it pass
     pub indices-before-first-bit-pass : (k : ℕ) → start ≤ k → k < i + trailing_zeros w64 mask
         → test k ≡ true
-    indices-before-first-bit-pass k from to = ⊎_elim
-        (λ (h : k < i). passed k from h)
-        (λ (h : i ≤ k). index-of-clear-bit-passes k h
-        (omega (arith, to, first-bit-is-of-block)) (first-bit.2 (k - i) (omega (arith, h, to))))
-        (cases_lt k i)
+    indices-before-first-bit-pass k from to = ⊎_elim (λ (h : k < i). passed k from h)
+        (λ (h : i ≤ k). index-of-clear-bit-passes k h (omega (arith, to, first-bit-is-of-block))
+        (first-bit.2 (k - i) (omega (arith, h, to)))) (cases_lt k i)
 
 -- literal blocks: a byte is special, or a dot after a `/`, if it is not literal at its index
 special-is-not-literal : (special slash dot : Bool) → (special || (slash && dot))
@@ -116,11 +105,9 @@ module _ (bs : List ℕ) (at percents leads slashes dots : ℕ) (later : 0 < at)
 
   -- and no others
   pub special-mask-is-below : bit_or (bit_or percents leads) (bit_and slashes dots) < 2 ^ 16
-  special-mask-is-below = or_lt 16 (bit_or percents leads) (bit_and slashes dots)
-      (or_lt 16 percents leads
-      (subst (λ m. m < 2 ^ 16) (sym of_percents) (equality_mask_is_below_2_16 37 bs at room))
+  special-mask-is-below = or_lt 16 (bit_or percents leads) (bit_and slashes dots) (or_lt 16 percents
+      leads (subst (λ m. m < 2 ^ 16) (sym of_percents) (equality_mask_is_below_2_16 37 bs at room))
       (subst (λ m. m < 2 ^ 16) (sym of_leads) (equality_mask_is_below_2_16 0xE2 bs at room)))
-      (and_lt 16 slashes dots
-      (subst (λ m. m < 2 ^ 16) (sym of_slashes)
-      (equality_mask_is_below_2_16 47 bs (at - 1) (omega (arith, room))))
+      (and_lt 16 slashes dots (subst (λ m. m < 2 ^ 16)
+      (sym of_slashes) (equality_mask_is_below_2_16 47 bs (at - 1) (omega (arith, room))))
       (subst (λ m. m < 2 ^ 16) (sym of_dots) (equality_mask_is_below_2_16 46 bs at room)))

@@ -1,37 +1,14 @@
 -- The components of a normal text: they meet the grammar, are cut apart where the text is, and have
 -- the meaning that the text was printed from.
-use Rattle.std.proofs.Common.{◌≡◌, ℕ, ◌<◌, Bool, true, false, cond, not, List, [], ◌∷◌, ◌++◌, length, refl, ap, ◌∙◌, ◌&&◌, ◌||◌, ⊎_elim, inl, inr, arith, option_map}
-use Rattle.std.specs.Prelude.{codes, Option, Some, None, IfSome, IfNone, is_some, slice_index}
-use Rattle.std.specs.Option.{option_and_then}
-use Rattle.std.specs.Char.{is_ascii_alphabetic}
-use Rattle.std.specs.Str.{IsUtf8, str_to_ascii_lowercase}
-use Rattle.std.proofs.lemmas.Bool.{and_parts, not-true, not_from_false, false≢true}
-use Rattle.std.proofs.lemmas.Bool.Decides.{nat_tests}
-use Rattle.uri_pct.specs.Sets.{TableSet, scheme_set}
-use Rattle.uri_pct.specs.Tokens.{print, is_valid_for}
-use Rattle.uri_pct.specs.DecodeUnreserved.{decode_unreserved}
-use Rattle.uri_pct.proofs.ValidTexts.Cuts.{excludes}
-use Rattle.uri_parts.specs.Components.{Components, IsSplitOf, Lacks, IsAbemptyPath, marked, has_scheme, has_authority, recompose}
-use Rattle.uri_parts.specs.Grammar.{Kind, is_scheme, has_colon_in_first_segment, is_authority}
-use Rattle.uri_parts.proofs.Splitting.Marks.{query_text, IsEmptyOrMarked-query_text}
-use Rattle.uri_parts.proofs.Splitting.Relative.{scheme_set_lacks_percent, scheme_set_excludes_delimiters}
-use Rattle.uri_parts.proofs.TextKinds.GrammarTexts.{valid_text_lacks_excluded_marks}
-use Rattle.uri_ops.specs.Target.{dotless_if_absolute, guarded}
-use Rattle.uri_ops.specs.ComponentSets.{IsComponentSet, HasComponentSets}
-use Rattle.uri_parts.specs.Ports.{PortFunction}
-use Rattle.uri_ops.specs.Meaning.{authority_meaning, dotless_path, components_meaning}
-use Rattle.uri_ops.specs.Normal.{normal_authority, normal_components}
+use Rattle.uri_ops.proofs.Common.{◌≡◌, ℕ, ◌<◌, Bool, true, false, cond, not, List, [], ◌∷◌, ◌++◌, length, refl, ap, ◌∙◌, ◌&&◌, ◌||◌, ⊎_elim, inl, inr, arith, option_map, codes, Option, Some, None, IfSome, IfNone, is_some, slice_index, option_and_then, is_ascii_alphabetic, IsUtf8, str_to_ascii_lowercase, and_parts, not-true, not_from_false, false≢true, nat_tests, TableSet, scheme_set, print, is_valid_for, decode_unreserved, excludes, Components, IsSplitOf, Lacks, IsAbemptyPath, marked, has_scheme, has_authority, recompose, Kind, is_scheme, has_colon_in_first_segment, is_authority, query_text, IsEmptyOrMarked-query_text, scheme_set_lacks_percent, scheme_set_excludes_delimiters, valid_text_lacks_excluded_marks, dotless_if_absolute, guarded, IsComponentSet, HasComponentSets, PortFunction, authority_meaning, dotless_path, components_meaning, normal_authority, normal_components, print_decoded, eq_true_from_IsTrue, equal-to-true-is-IsTrue}
 use Rattle.uri_ops.proofs.Meanings.ComponentEnds.{no_scheme, path-set-excludes-its-ends, query-set-excludes-its-end}
 use Rattle.uri_ops.proofs.Meanings.PortMeanings.{authority_meaning-from-bare-meaning}
 use Rattle.uri_ops.proofs.Targeting.Targets.{guarded-path-without-authority-has-no-two-slashes, dotless-abempty-path-is-abempty}
 use Rattle.uri_ops.proofs.Meanings.AllowedParts.{is_set_text, set-text-is-utf8, set-text-is-valid, print_decoded-of-nil-is-nil, decode_unreserved-is-idempotent, decoded-set-text-is-set-text}
-use Rattle.uri_pct.proofs.UnreservedDecoding.Printing.{print_decoded}
 use Rattle.uri_ops.proofs.Paths.DecodedStarts.{decoding-keeps-leading-slash, decoding-keeps-two-slashes, decoding-adds-no-colon-first}
 use Rattle.uri_ops.proofs.Paths.PathMeanings.{guarded-set-text-is-set-text, path-without-dots-is-set-text, normal-path-decodes-as-path}
 use Rattle.uri_ops.proofs.Meanings.AsciiCharacters.{lowering-is-idempotent, lowered-scheme-is-scheme, lowered-scheme-is-utf8}
 use Rattle.uri_ops.proofs.Meanings.TextParts.{ArePartsOfKind}
-use Rattle.uri_pct.proofs.General.{eq_true_from_IsTrue}
-use Rattle.uri_parts.proofs.Splitting.Recompose.{equal-to-true-is-IsTrue}
 
 -- normal texts: an authority that is printed from its meaning is one, lacks the delimiters that
 -- would end it, and has that meaning
@@ -75,9 +52,8 @@ scheme-part-is-not-empty-and-lacks-ends (Some s) h =
     )
 
 -- normal texts: a scheme, if there is one, in lower case twice is in lower case once
-pub lowering-scheme-is-idempotent : (scheme : Option (List ℕ))
-    → option_map str_to_ascii_lowercase (option_map str_to_ascii_lowercase scheme)
-    ≡ option_map str_to_ascii_lowercase scheme
+pub lowering-scheme-is-idempotent : (scheme : Option (List ℕ)) → option_map str_to_ascii_lowercase
+    (option_map str_to_ascii_lowercase scheme) ≡ option_map str_to_ascii_lowercase scheme
 lowering-scheme-is-idempotent None = refl
 lowering-scheme-is-idempotent (Some s) = ap Some (lowering-is-idempotent s)
 
@@ -99,17 +75,15 @@ module _ (set : TableSet) (marks : List ℕ) (w : IsComponentSet marks set) wher
   normal-component-decodes-as-component (Some x) h = ap Some
       (decode_unreserved-is-idempotent set w.percent x h)
 
-  pub part-lacks-excluded-characters : (some : List ℕ) → excludes set some ≡ true
-      → (o : Option (List ℕ))
-      → IfSome o (λ x. is_set_text set x ≡ true) → IfSome o (λ x. Lacks some x)
+  pub part-lacks-excluded-characters : (some : List ℕ) → excludes set some ≡ true → (o : Option
+      (List ℕ)) → IfSome o (λ x. is_set_text set x ≡ true) → IfSome o (λ x. Lacks some x)
   part-lacks-excluded-characters some outside None h = tt
   part-lacks-excluded-characters some outside (Some x) h =
       grind (arith, nat_tests, valid_text_lacks_excluded_marks, set-text-is-utf8, set-text-is-valid)
 
 -- normal texts: the path, without dot segments and decoded, after its guard if there is a scheme
 abbrev normal_path_of : TableSet → Option (List ℕ) → Option (List ℕ) → List ℕ → List ℕ
-normal_path_of set scheme authority path =
-    cond (is_some (option_map str_to_ascii_lowercase scheme))
+normal_path_of set scheme authority path = cond (is_some (option_map str_to_ascii_lowercase scheme))
     (guarded authority (print (decode_unreserved set (dotless_path scheme path))))
     (print (decode_unreserved set (dotless_path scheme path)))
 
@@ -130,22 +104,19 @@ module _ (set : TableSet) (w : IsComponentSet (codes "?#[]") set)
   normal-path-decodes-as-dotless-path : (scheme authority : Option (List ℕ)) (path : List ℕ)
       → is_set_text set path ≡ true
       → decode_unreserved set (dotless_path (option_map str_to_ascii_lowercase scheme)
-      (normal_path_of set scheme authority path))
-      ≡ decode_unreserved set (dotless_path scheme path)
+      (normal_path_of set scheme authority path)) ≡ decode_unreserved set (dotless_path scheme path)
   unfolding print_decoded
   normal-path-decodes-as-dotless-path None authority path h = decode_unreserved-is-idempotent set
       w.percent path h
   normal-path-decodes-as-dotless-path (Some s) authority path h = normal-path-decodes-as-path set w
       slash authority path h
 
-  pub decoded-abempty-path-is-abempty : (path : List ℕ) → is_set_text set path ≡ true
-      → IsAbemptyPath path
-      → IsAbemptyPath (print_decoded set path)
-  decoded-abempty-path-is-abempty path h rooted = ⊎_elim
-      (λ e. inl (ap (print_decoded set) e ∙ print_decoded-of-nil-is-nil set))
-      (λ e. inr (equal-to-true-is-IsTrue _
-      (decoding-keeps-leading-slash set w.percent w.unreserved path h ∙ eq_true_from_IsTrue _ e)))
-      rooted
+  pub decoded-abempty-path-is-abempty : (path : List ℕ)
+      → is_set_text set path ≡ true → IsAbemptyPath path → IsAbemptyPath (print_decoded set path)
+  decoded-abempty-path-is-abempty path h rooted =
+      ⊎_elim (λ e. inl (ap (print_decoded set) e ∙ print_decoded-of-nil-is-nil set)) (λ e. inr
+      (equal-to-true-is-IsTrue _ (decoding-keeps-leading-slash set w.percent w.unreserved path h
+      ∙ eq_true_from_IsTrue _ e))) rooted
 
   normal-path-after-authority-is-abempty : (scheme : Option (List ℕ)) (a path : List ℕ)
       → is_set_text set path ≡ true
@@ -153,9 +124,8 @@ module _ (set : TableSet) (w : IsComponentSet (codes "?#[]") set)
   unfolding print_decoded
   normal-path-after-authority-is-abempty None a path h rooted = decoded-abempty-path-is-abempty
       path h rooted
-  normal-path-after-authority-is-abempty (Some s) a path h rooted =
-      decoded-abempty-path-is-abempty (dotless_if_absolute path)
-      (path-without-dots-is-set-text set w slash path h)
+  normal-path-after-authority-is-abempty (Some s) a path h rooted = decoded-abempty-path-is-abempty
+      (dotless_if_absolute path) (path-without-dots-is-set-text set w slash path h)
       (dotless-abempty-path-is-abempty path rooted)
 
   normal-path-begins-with-no-two-slashes : (scheme : Option (List ℕ)) (path : List ℕ)
@@ -176,36 +146,31 @@ module _ (kind : Kind) (sets : HasComponentSets kind) (keeps : NormalAuthorities
   printed default o = option_map normal_authority (option_map (authority_meaning kind default) o)
 
   normal-authority-if-some-is-of-kind : (default : Option ℕ) (o : Option (List ℕ))
-      → IfSome o IsAuthorityPart
-      → IfSome (printed default o) IsAuthorityPart
+      → IfSome o IsAuthorityPart → IfSome (printed default o) IsAuthorityPart
   normal-authority-if-some-is-of-kind default None h = tt
   normal-authority-if-some-is-of-kind default (Some a) h =
       (keeps.utf8 default a h.0 h.1, keeps.meets default a h.0 h.1)
 
-  normal-authority-lacks-ends-before-path : (default : Option ℕ) (scheme o : Option (List ℕ))
-      (path : List ℕ)
-      → is_set_text kind.path path ≡ true → IfSome o IsAuthorityPart
-      → IfSome o (λ a. Lacks (codes "/?#") a × IsAbemptyPath path)
+  normal-authority-lacks-ends-before-path :
+      (default : Option ℕ) (scheme o : Option (List ℕ)) (path : List ℕ) → is_set_text kind.path path
+      ≡ true → IfSome o IsAuthorityPart → IfSome o (λ a. Lacks (codes "/?#") a × IsAbemptyPath path)
       → IfSome (printed default o) (λ a. Lacks (codes "/?#") a
       × IsAbemptyPath (normal_path_of kind.path scheme (printed default o) path))
   normal-authority-lacks-ends-before-path default scheme None path part h cut = tt
   normal-authority-lacks-ends-before-path default scheme (Some a) path part h cut =
       grind (arith, nat_tests, normal-path-after-authority-is-abempty)
 
-  normal-path-without-authority-has-none : (default : Option ℕ) (scheme o : Option (List ℕ))
-      (path : List ℕ)
-      → is_set_text kind.path path ≡ true → IfNone o (has_authority path ≡ false)
-      → IfNone (printed default o)
+  normal-path-without-authority-has-none :
+      (default : Option ℕ) (scheme o : Option (List ℕ)) (path : List ℕ) → is_set_text kind.path path
+      ≡ true → IfNone o (has_authority path ≡ false) → IfNone (printed default o)
       (has_authority (normal_path_of kind.path scheme (printed default o) path) ≡ false)
   normal-path-without-authority-has-none default scheme None path part h =
       normal-path-begins-with-no-two-slashes kind.path sets.path sets.slash scheme path part h
   normal-path-without-authority-has-none default scheme (Some a) path part h = tt
 
   normal-authority-keeps-meaning : (default other : Option ℕ) → other ≡ default
-      → (o : Option (List ℕ))
-      → IfSome o IsAuthorityPart
-      → option_map (authority_meaning kind other) (printed default o)
-      ≡ option_map (authority_meaning kind default) o
+      → (o : Option (List ℕ)) → IfSome o IsAuthorityPart → option_map (authority_meaning kind other)
+      (printed default o) ≡ option_map (authority_meaning kind default) o
   normal-authority-keeps-meaning default other e None h = refl
   normal-authority-keeps-meaning default other e (Some a) h =
       grind (arith, nat_tests, authority_meaning-from-bare-meaning)
@@ -215,34 +180,28 @@ module _ (kind : Kind) (sets : HasComponentSets kind) (keeps : NormalAuthorities
   meets_needs scheme o path = is_some scheme
       || (not kind.needs_scheme && (is_some o || not (has_colon_in_first_segment path)))
 
-  decoding-keeps-first-segment-without-colon : (path : List ℕ) → is_set_text kind.path path ≡ true
-      → has_colon_in_first_segment path
-      ≡ false
+  decoding-keeps-first-segment-without-colon : (path : List ℕ)
+      → is_set_text kind.path path ≡ true → has_colon_in_first_segment path ≡ false
       → has_colon_in_first_segment (print (decode_unreserved kind.path path)) ≡ false
   unfolding print_decoded
   decoding-keeps-first-segment-without-colon path part e =
       grind (arith, nat_tests, decoding-adds-no-colon-first)
 
-  normal-components-keep-scheme-or-colon-rule : (default : Option ℕ) (scheme o : Option (List ℕ))
-      (path : List ℕ)
-      → is_set_text kind.path path ≡ true → meets_needs scheme o path ≡ true
-      → meets_needs (option_map str_to_ascii_lowercase scheme) (printed default o)
-      (normal_path_of kind.path scheme (printed default o) path)
-      ≡ true
+  normal-components-keep-scheme-or-colon-rule : (default : Option ℕ) (scheme o : Option
+      (List ℕ)) (path : List ℕ) → is_set_text kind.path path ≡ true
+      → meets_needs scheme o path ≡ true → meets_needs (option_map str_to_ascii_lowercase scheme)
+      (printed default o) (normal_path_of kind.path scheme (printed default o) path) ≡ true
   normal-components-keep-scheme-or-colon-rule default (Some s) o path part h = refl
   normal-components-keep-scheme-or-colon-rule default None (Some a) path part h = h
   normal-components-keep-scheme-or-colon-rule default None None path part h =
       grind (arith, nat_tests, not_from_false, decoding-keeps-first-segment-without-colon, not-true)
 
   normal-text-without-scheme-has-none : (default : Option ℕ) (scheme o : Option (List ℕ))
-      (path : List ℕ)
-      (query fragment : Option (List ℕ))
-      → is_set_text kind.path path ≡ true → meets_needs scheme o path ≡ true
-      → IfNone (option_map str_to_ascii_lowercase scheme)
+      (path : List ℕ) (query fragment : Option (List ℕ)) → is_set_text kind.path path ≡ true
+      → meets_needs scheme o path ≡ true → IfNone (option_map str_to_ascii_lowercase scheme)
       (has_scheme (marked [] (option_map str_to_ascii_lowercase scheme) (codes ":")
-      ++ (marked (codes "//") (printed default o) []
-      ++ (normal_path_of kind.path scheme (printed default o) path
-      ++ query_text query fragment))) ≡ false)
+      ++ (marked (codes "//") (printed default o) [] ++ (normal_path_of kind.path scheme
+      (printed default o) path ++ query_text query fragment))) ≡ false)
   normal-text-without-scheme-has-none default (Some s) o path query fragment part h = tt
   normal-text-without-scheme-has-none default None (Some a) path query fragment part h = refl
   normal-text-without-scheme-has-none default None None path query fragment part h =
@@ -262,9 +221,8 @@ module _ (kind : Kind) (sets : HasComponentSets kind) (keeps : NormalAuthorities
       record {
         scheme = lowered-scheme-part-is-scheme-part p.scheme parts.scheme;
         authority = normal-authority-if-some-is-of-kind default p.authority parts.authority;
-        path = normal-path-is-set-text kind.path sets.path sets.slash p.scheme
-            (printed default p.authority)
-            p.path parts.path;
+        path = normal-path-is-set-text
+            kind.path sets.path sets.slash p.scheme (printed default p.authority) p.path parts.path;
         query = normal-component-is-part kind.query (codes "#[]") sets.query p.query parts.query;
         fragment = normal-component-is-part kind.fragment (codes "#[]") sets.fragment p.fragment
             parts.fragment;
@@ -283,23 +241,19 @@ module _ (kind : Kind) (sets : HasComponentSets kind) (keeps : NormalAuthorities
         whole = refl;
         scheme = scheme-part-is-not-empty-and-lacks-ends
             (option_map str_to_ascii_lowercase p.scheme) done.scheme;
-        authority = normal-authority-lacks-ends-before-path default p.scheme p.authority p.path
-            parts.path parts.authority
-            split.authority;
+        authority = normal-authority-lacks-ends-before-path
+            default p.scheme p.authority p.path parts.path parts.authority split.authority;
         path = valid_text_lacks_excluded_marks kind.path (codes "?#") sets.path.percent
-            (path-set-excludes-its-ends kind sets)
-            (components_of_normal_text p).path
+            (path-set-excludes-its-ends kind sets) (components_of_normal_text p).path
             (set-text-is-utf8 kind.path (components_of_normal_text p).path done.path)
             (set-text-is-valid kind.path (components_of_normal_text p).path done.path);
         query = part-lacks-excluded-characters kind.query (codes "#[]") sets.query (codes "#")
-            (query-set-excludes-its-end kind sets)
-            (components_of_normal_text p).query done.query;
+            (query-set-excludes-its-end kind sets) (components_of_normal_text p).query done.query;
         no_scheme = normal-text-without-scheme-has-none default p.scheme p.authority p.path
             (components_of_normal_text p).query
             (components_of_normal_text p).fragment parts.path parts.needs;
-        no_authority = normal-path-without-authority-has-none default p.scheme p.authority
-            p.path parts.path
-            split.no_authority;
+        no_authority = normal-path-without-authority-has-none
+            default p.scheme p.authority p.path parts.path split.no_authority;
       }
 
   -- the normal components have the meaning of the components that they were made from
@@ -314,18 +268,15 @@ module _ (kind : Kind) (sets : HasComponentSets kind) (keeps : NormalAuthorities
       (option_and_then ports (option_map str_to_ascii_lowercase scheme))
       (ap (option_and_then ports) twice) p.authority parts.authority in
       let path = normal-path-decodes-as-dotless-path kind.path sets.path sets.slash p.scheme
-      (printed default p.authority)
-      p.path parts.path in
+      (printed default p.authority) p.path parts.path in
       let query = normal-component-decodes-as-component kind.query (codes "#[]") sets.query p.query
       parts.query in
       let fragment = normal-component-decodes-as-component kind.fragment
-      (codes "#[]") sets.fragment p.fragment
-      parts.fragment in
+      (codes "#[]") sets.fragment p.fragment parts.fragment in
       λ i. record {
         scheme = twice i;
         authority = authority i;
         path = path i;
-        query =
-            query i;
+        query = query i;
         fragment = fragment i;
       }

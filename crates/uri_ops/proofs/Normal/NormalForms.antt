@@ -1,12 +1,5 @@
 -- A text that is the normal text of a text of the kind.
-use Rattle.std.proofs.Common.{◌≡◌, List, ℕ, sym, ap, subst, ◌∙◌}
-use Rattle.std.specs.Prelude.{◌↔◌}
-use Rattle.std.specs.Str.{IsUtf8}
-use Rattle.uri_parts.specs.Grammar.{Kind, IsOfKind, IsTextOf}
-use Rattle.uri_ops.specs.ComponentSets.{HasComponentSets}
-use Rattle.uri_ops.specs.Normal.{normal_text}
-use Rattle.uri_ops.specs.Normalizers.{HasNormalText, IsNormalForm}
-use Rattle.uri_ops.specs.SchemeRules.{Rules, meaning_under}
+use Rattle.uri_ops.proofs.Common.{◌≡◌, List, ℕ, sym, ap, subst, ◌∙◌, ◌↔◌, IsUtf8, Kind, IsOfKind, IsTextOf, HasComponentSets, normal_text, HasNormalText, IsNormalForm, Rules, meaning_under}
 use Rattle.uri_ops.proofs.SchemeRules.RuledTexts.{normal-text-under-rules-is-text-of-kind, meaning_under-normal_text, same-normal-text-same-meaning}
 
 module _ (kind own : Kind) (own_kind : own ≡ kind) (sets : HasComponentSets kind)
@@ -37,10 +30,9 @@ module _ (kind own : Kind) (own_kind : own ≡ kind) (sets : HasComponentSets ki
       (λ h. both.0 (sym result-is-normal_text ∙ h), λ h. result-is-normal_text ∙ both.1 h)
 
   pub normal-text-is-normal-form : IsNormalForm kind rules text normal
-  normal-text-is-normal-form =
-      record {
-        text = record { text = result-is-normal_text };
-        of_kind = normal-text-is-of-kind;
-        meaning = normal-text-keeps-meaning;
-        same = same-normal-text-if-same-meaning;
-      }
+  normal-text-is-normal-form = record {
+    text = record { text = result-is-normal_text };
+    of_kind = normal-text-is-of-kind;
+    meaning = normal-text-keeps-meaning;
+    same = same-normal-text-if-same-meaning;
+  }

@@ -1,33 +1,13 @@
 -- The pieces of a normal text, as they are appended one after the other.
-use Rattle.std.proofs.Common.{◌≡◌, ℕ, true, false, ◌&&◌, List, [], ◌∷◌, ◌++◌, refl, ap, ◌∙◌, option_map, arith, sym}
-use Rattle.std.specs.Prelude.{codes, Option, Some, None, is_some}
-use Rattle.std.specs.Str.{IsUtf8}
-use Rattle.std.proofs.lemmas.Bool.{cond-false, cond-true, false≢true}
-use Rattle.std.proofs.lemmas.List.{append_assoc}
-use Rattle.std.proofs.lemmas.Bool.Decides.{nat_tests}
-use Rattle.uri_pct.specs.Sets.{TableSet}
-use Rattle.uri_pct.specs.Texts.{is_absolute}
-use Rattle.uri_pct.specs.DecodeUnreserved.{decode_unreserved}
-use Rattle.uri_pct.specs.Tokens.{IsValidFor, print}
-use Rattle.uri_parts.specs.Components.{components, has_authority, starts}
-use Rattle.uri_parts.specs.Grammar.{Kind}
-use Rattle.uri_ops.specs.ComponentSets.{IsComponentSet}
-use Rattle.uri_ops.specs.Dots.{remove_dot_segments}
-use Rattle.uri_ops.specs.Meaning.{meaning_of}
-use Rattle.uri_ops.specs.Normal.{normal_authority, normal_path, normal_path_text}
-use Rattle.uri_parts.specs.Ports.{PortFunction}
-use Rattle.uri_ops.specs.Target.{guarded}
-use Rattle.uri_pct.proofs.UnreservedDecoding.Printing.{print_decoded}
+use Rattle.uri_ops.proofs.Common.{◌≡◌, ℕ, true, false, ◌&&◌, List, [], ◌∷◌, ◌++◌, refl, ap, ◌∙◌, option_map, arith, sym, codes, Option, Some, None, is_some, IsUtf8, cond-false, cond-true, false≢true, append_assoc, nat_tests, TableSet, is_absolute, decode_unreserved, IsValidFor, print, components, has_authority, starts, Kind, IsComponentSet, remove_dot_segments, meaning_of, normal_authority, normal_path, normal_path_text, PortFunction, guarded, print_decoded, is_some-option_map}
 use Rattle.uri_ops.proofs.Meanings.AllowedParts.{set-text-from-utf8}
 use Rattle.uri_ops.proofs.Paths.DecodedStarts.{decoding-keeps-two-slashes, no-leading-slash-no-two-slashes}
 use Rattle.uri_ops.proofs.Paths.GuardedPaths.{path-without-two-slashes-has-no-guard}
-use Rattle.uri_pct.proofs.General.{is_some-option_map}
 
 -- normal paths: a decoded path begins with `//` exactly if the path does
-decoded-path-keeps-two-slashes : (set : TableSet) → IsComponentSet (codes "?#[]") set
-    → (path : List ℕ)
-    → IsUtf8 path → IsValidFor set path → has_authority (print (decode_unreserved set path))
-    ≡ has_authority path
+decoded-path-keeps-two-slashes : (set : TableSet)
+    → IsComponentSet (codes "?#[]") set → (path : List ℕ) → IsUtf8 path
+    → IsValidFor set path → has_authority (print (decode_unreserved set path)) ≡ has_authority path
 unfolding print_decoded
 decoded-path-keeps-two-slashes set w path utf8 valid =
     grind (arith, nat_tests, decoding-keeps-two-slashes, set-text-from-utf8)
@@ -63,9 +43,8 @@ is_some-of-mapped-twice f h (Some x) = refl
 
 -- general fact on texts, for the five components of a normal text:
 -- appended one by one they are appended
-pub five-appended-texts-are-one : (old s a p q f o1 o2 o3 o4 new : List ℕ) → o1 ≡ old ++ s → o2
-    ≡ o1 ++ a → o3 ≡ o2 ++ p
-    → o4 ≡ o3 ++ q → new ≡ o4 ++ f → new ≡ old ++ (s ++ (a ++ (p ++ (q ++ f))))
+pub five-appended-texts-are-one : (old s a p q f o1 o2 o3 o4 new : List ℕ) → o1 ≡ old ++ s → o2 ≡ o1
+    ++ a → o3 ≡ o2 ++ p → o4 ≡ o3 ++ q → new ≡ o4 ++ f → new ≡ old ++ (s ++ (a ++ (p ++ (q ++ f))))
 five-appended-texts-are-one old s a p q f o1 o2 o3 o4 new e1 e2 e3 e4 e5 =
     grind (arith, nat_tests, append_assoc)
 

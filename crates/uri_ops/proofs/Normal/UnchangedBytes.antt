@@ -1,13 +1,6 @@
 -- Texts without formatting characters whose octets are unchanged: byte by byte, and in the parts of
 -- a text.
-use Rattle.std.proofs.Common.{◌≡◌, ℕ, ◌+◌, ◌<◌, ◌≤◌, Bool, true, false, eqb, List, [], ◌∷◌, ◌++◌, not, length, get_or, refl, sym, ap, ◌∙◌, arith, ◌||◌, ◌&&◌, ⊎_elim, suc, ◌-◌, subst}
-use Rattle.std.specs.Prelude.{Option, Some, None, IfSome}
-use Rattle.std.specs.Char.{is_ascii_hexdigit}
-use Rattle.std.specs.List.{list_any}
-use Rattle.std.proofs.lemmas.Bool.{and_parts, and_from, cases_lt, not-true, not_from_false, or_from, or_left, or_parts}
-use Rattle.std.proofs.lemmas.Bool.Decides.{nat_tests}
-use Rattle.uri_parts.specs.Components.{marked}
-use Rattle.uri_ops.specs.Models.Unchanged.{HasUnchangedOctets, has_unchanged_octets, is_octet_unchanged_at, is_unchanged_octet, keeps_digits, is_dot_unchanged_at, is_literal_at, is_literal_byte, is_unchanged_at}
+use Rattle.uri_ops.proofs.Common.{◌≡◌, ℕ, ◌+◌, ◌<◌, ◌≤◌, Bool, true, false, eqb, List, [], ◌∷◌, ◌++◌, not, length, get_or, refl, sym, ap, ◌∙◌, arith, ◌||◌, ◌&&◌, ⊎_elim, suc, ◌-◌, subst, Option, Some, None, IfSome, is_ascii_hexdigit, list_any, and_parts, and_from, cases_lt, not-true, not_from_false, or_from, or_left, or_parts, nat_tests, marked, HasUnchangedOctets, has_unchanged_octets, is_octet_unchanged_at, is_unchanged_octet, keeps_digits, is_dot_unchanged_at, is_literal_at, is_literal_byte, is_unchanged_at}
 
 -- unchanged texts: at a byte that begins neither an octet nor a formatting character, a text is
 -- unchanged
@@ -31,31 +24,24 @@ unchanged-octet-is-so-at-its-index alone bs k percent e = rw (percent, e) refl
 
 -- unchanged texts: the three bytes of an unchanged octet are unchanged
 octet-is-unchanged-at-each-byte : (alone : Bool) (bs : List ℕ) (i : ℕ) → get_or bs i 0 ≡ 37
-    → is_unchanged_octet alone (get_or bs (i + 1) 0) (get_or bs (i + 2) 0) ≡ true
-    → (k : ℕ) → i ≤ k → k < i + 3
-    → (is_octet_unchanged_at alone bs k ≡ true) × (eqb (get_or bs k 0) 46 ≡ false)
+    → is_unchanged_octet alone (get_or bs (i + 1) 0) (get_or bs (i + 2) 0) ≡ true → (k : ℕ) → i ≤ k
+    → k < i + 3 → (is_octet_unchanged_at alone bs k ≡ true) × (eqb (get_or bs k 0) 46 ≡ false)
 octet-is-unchanged-at-each-byte alone bs i percent octet k from to =
     let digits = and_parts (is_ascii_hexdigit (get_or bs (i + 1) 0)) _ (and_parts _ _ octet).0 in
-    ⊎_elim
-    (λ (first : k < i + 1).
+    ⊎_elim (λ (first : k < i + 1).
     let same : i ≡ k = omega (arith, from, first) in
     subst (λ n. (is_octet_unchanged_at alone bs n ≡ true) × (eqb (get_or bs n 0) 46 ≡ false)) same
     (unchanged-octet-is-so-at-its-index alone bs i percent octet, ap (λ b. eqb b 46) percent))
-    (λ (after : i + 1 ≤ k). ⊎_elim
-    (λ (second : k < i + 2).
+    (λ (after : i + 1 ≤ k). ⊎_elim (λ (second : k < i + 2).
     let same : i + 1 ≡ k = omega (arith, after, second) in
     subst (λ n. (is_octet_unchanged_at alone bs n ≡ true) × (eqb (get_or bs n 0) 46 ≡ false)) same
-    (hexdigit-is-unchanged alone bs (i + 1) digits.0))
-    (λ (last : i + 2 ≤ k).
+    (hexdigit-is-unchanged alone bs (i + 1) digits.0)) (λ (last : i + 2 ≤ k).
     let same : i + 2 ≡ k = omega (arith, last, to) in
     subst (λ n. (is_octet_unchanged_at alone bs n ≡ true) × (eqb (get_or bs n 0) 46 ≡ false)) same
-    (hexdigit-is-unchanged alone bs (i + 2) digits.1))
-    (cases_lt k (i + 2)))
-    (cases_lt k (i + 1))
+    (hexdigit-is-unchanged alone bs (i + 2) digits.1)) (cases_lt k (i + 2))) (cases_lt k (i + 1))
   where
-    hexdigit-is-unchanged : (alone : Bool) (bs : List ℕ) (k : ℕ)
-        → is_ascii_hexdigit (get_or bs k 0) ≡ true
-        → (is_octet_unchanged_at alone bs k ≡ true) × (eqb (get_or bs k 0) 46 ≡ false)
+    hexdigit-is-unchanged : (alone : Bool) (bs : List ℕ) (k : ℕ) → is_ascii_hexdigit (get_or bs k 0)
+        ≡ true → (is_octet_unchanged_at alone bs k ≡ true) × (eqb (get_or bs k 0) 46 ≡ false)
     hexdigit-is-unchanged alone bs k e = (
       literal-byte-is-unchanged alone bs k (hexdigit-is-literal (get_or bs k 0) e),
       hexdigit-is-no-dot (get_or bs k 0) e,
@@ -71,9 +57,8 @@ literal-index-is-unchanged alone limit bs k e =
 
 -- unchanged texts: it leaves each byte of an unchanged octet
 pub each-byte-of-unchanged-octet-is-unchanged : (alone : Bool) (limit : ℕ) (bs : List ℕ) (i : ℕ)
-    → get_or bs i 0 ≡ 37
-    → is_unchanged_octet alone (get_or bs (i + 1) 0) (get_or bs (i + 2) 0) ≡ true
-    → (k : ℕ) → i ≤ k → k < i + 3 → is_unchanged_at alone limit bs k ≡ true
+    → get_or bs i 0 ≡ 37 → is_unchanged_octet alone (get_or bs (i + 1) 0) (get_or bs (i + 2) 0)
+    ≡ true → (k : ℕ) → i ≤ k → k < i + 3 → is_unchanged_at alone limit bs k ≡ true
 each-byte-of-unchanged-octet-is-unchanged alone limit bs i percent octet k from to =
     let p = octet-is-unchanged-at-each-byte alone bs i percent octet k from to in
     and_from _ _ p.0 (or_left _ _ (not_from_false _
@@ -95,14 +80,12 @@ digits-are-unchanged-by-index alone (high ∷ []) e = refl
 digits-are-unchanged-by-index alone (high ∷ low ∷ text) e = e
 
 -- unchanged texts: an octet or a byte that is unchanged at its index is unchanged
-head-is-unchanged-by-index : (alone : Bool) (b : ℕ) (text : List ℕ)
-    → is_octet_unchanged_at alone (b ∷ text) 0 ≡ true
-    → (not (eqb b 0xE2) && (not (eqb b 37) || keeps_digits alone text)) ≡ true
+head-is-unchanged-by-index : (alone : Bool) (b : ℕ) (text : List ℕ) → is_octet_unchanged_at alone (b
+    ∷ text) 0 ≡ true → (not (eqb b 0xE2) && (not (eqb b 37) || keeps_digits alone text)) ≡ true
 head-is-unchanged-by-index alone b text e =
     let p = and_parts (not (eqb b 0xE2)) _ e in
-    and_from _ _ p.0 (either (eqb b 37)
-    (is_unchanged_octet alone (get_or text 0 0) (get_or text 1 0)) p.1
-    (digits-are-unchanged-by-index alone text))
+    and_from _ _ p.0 (either (eqb b 37) (is_unchanged_octet alone
+    (get_or text 0 0) (get_or text 1 0)) p.1 (digits-are-unchanged-by-index alone text))
   where
     either : {other : Bool} (percent octet : Bool) → (not percent || octet) ≡ true
         → (octet ≡ true → other ≡ true) → (not percent || other) ≡ true
@@ -119,9 +102,8 @@ unchanged-at-next-index alone b text k =
     || is_unchanged_octet alone (get_or (b ∷ text) (first i) 0) (get_or (b ∷ text) (second i) 0))
 
 -- unchanged texts: the octets of a text that is unchanged at each index are unchanged
-pub bytes-unchanged-by-index-are-unchanged : (alone : Bool) (bs : List ℕ)
-    → ((k : ℕ) → k < length bs → is_octet_unchanged_at alone bs k ≡ true)
-    → HasUnchangedOctets alone bs
+pub bytes-unchanged-by-index-are-unchanged : (alone : Bool) (bs : List ℕ) → ((k : ℕ)
+    → k < length bs → is_octet_unchanged_at alone bs k ≡ true) → HasUnchangedOctets alone bs
 bytes-unchanged-by-index-are-unchanged alone [] each = refl
 bytes-unchanged-by-index-are-unchanged alone (b ∷ text) each =
     and_from _ _ (head-is-unchanged-by-index alone b text (each 0 (omega arith)))
@@ -130,8 +112,7 @@ bytes-unchanged-by-index-are-unchanged alone (b ∷ text) each =
 
 -- unchanged texts: the digits that a text begins with are unchanged in each prefix
 digits-of-prefix-are-unchanged : (alone : Bool) (xs ys : List ℕ)
-    → keeps_digits alone (xs ++ ys) ≡ true
-    → keeps_digits alone xs ≡ true
+    → keeps_digits alone (xs ++ ys) ≡ true → keeps_digits alone xs ≡ true
 digits-of-prefix-are-unchanged alone [] ys e = refl
 digits-of-prefix-are-unchanged alone (high ∷ []) ys e = refl
 digits-of-prefix-are-unchanged alone (high ∷ low ∷ xs) ys e = e

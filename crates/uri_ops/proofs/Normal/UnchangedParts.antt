@@ -1,29 +1,5 @@
 -- Parts of a text that are printed as they are: components whose octets are unchanged, and hosts.
-use Rattle.std.proofs.Common.{◌≡◌, ℕ, ◌+◌, ◌*◌, ◌≤◌, ◌<◌, Bool, true, false, eqb, ltb, List, [], ◌∷◌, ◌++◌, map, refl, sym, ap, subst, ◌∙◌, ◌&&◌, ◌||◌, append-nil, option_map, arith, length, take, drop, zero, suc, ⊎_elim}
-use Rattle.std.specs.Prelude.{Option, Some, None, IfSome}
-use Rattle.std.specs.Char.{digit_value, is_ascii_hexdigit}
-use Rattle.std.specs.List.{list_any, position_or_len}
-use Rattle.std.specs.Str.{chars, IsUtf8, str_to_ascii_lowercase}
-use Rattle.std.proofs.lemmas.Bool.{and_parts, and_right, cases_Bool, cond-false, eqb-true, ltb-true, ne_eqb, not-true, or_cases, or_parts}
-use Rattle.std.proofs.lemmas.Bool.Decides.{nat_tests}
-use Rattle.std.proofs.lemmas.List.{take-append-drop, length-drop}
-use Rattle.std.proofs.lemmas.Str.{IsUtf8-drop}
-use Rattle.uri_pct.specs.Chunks.{widest_set}
-use Rattle.uri_pct.specs.DecodeUnreserved.{LacksPastAscii, encode_formatting, is_bidi_formatting, is_never_literal, lower_token, decode_unreserved, decode_after_run, decode_octet, decode_tokens, encoded_formatting_text}
-use Rattle.uri_pct.specs.Sets.{TableSet, LacksPercent}
-use Rattle.uri_pct.specs.Texts.{lacks}
-use Rattle.uri_pct.specs.Tokens.{Char, IsValidFor, Octet, print, text_of_token, tokens, tokens_from_chars}
-use Rattle.uri_pct.proofs.Decodings.Decoding.{BeginsWithOctet, boundary_after_octet, every_set_is_subset_of_widest, bytes_from_percent_begin_with_octet, tokens_after_unencoded_prefix}
-use Rattle.uri_pct.proofs.ValidTexts.EStrs.{valid_for_superset}
-use Rattle.uri_parts.specs.Components.{starts}
-use Rattle.uri_parts.specs.Grammar.{Kind}
-use Rattle.uri_parts.specs.Hosts.{host_kind, ipv4_value, name_kind}
-use Rattle.uri_parts.proofs.Authorities.Authority.{names_exclude_delimiters}
-use Rattle.uri_ops.specs.ComponentSets.{HasComponentSets}
-use Rattle.uri_ops.specs.Meaning.{host_meaning}
-use Rattle.uri_ops.specs.Models.Decodings.{decoded_text}
-use Rattle.uri_ops.specs.Models.Unchanged.{HasUnchangedOctets, is_unchanged_octet}
-use Rattle.uri_ops.specs.Normal.{host_text}
+use Rattle.uri_ops.proofs.Common.{◌≡◌, ℕ, ◌+◌, ◌*◌, ◌≤◌, ◌<◌, Bool, true, false, eqb, ltb, List, [], ◌∷◌, ◌++◌, map, refl, sym, ap, subst, ◌∙◌, ◌&&◌, ◌||◌, append-nil, option_map, arith, length, take, drop, zero, suc, ⊎_elim, Option, Some, None, IfSome, digit_value, is_ascii_hexdigit, list_any, position_or_len, chars, IsUtf8, str_to_ascii_lowercase, and_parts, and_right, cases_Bool, cond-false, eqb-true, ltb-true, ne_eqb, not-true, or_cases, or_parts, nat_tests, take-append-drop, length-drop, IsUtf8-drop, widest_set, LacksPastAscii, encode_formatting, is_bidi_formatting, is_never_literal, lower_token, decode_unreserved, decode_after_run, decode_octet, decode_tokens, encoded_formatting_text, TableSet, LacksPercent, lacks, Char, IsValidFor, Octet, print, text_of_token, tokens, tokens_from_chars, BeginsWithOctet, boundary_after_octet, every_set_is_subset_of_widest, bytes_from_percent_begin_with_octet, tokens_after_unencoded_prefix, valid_for_superset, starts, Kind, host_kind, ipv4_value, name_kind, names_exclude_delimiters, HasComponentSets, host_meaning, decoded_text, HasUnchangedOctets, is_unchanged_octet, host_text}
 use Rattle.uri_ops.proofs.Meanings.AuthorityMeanings.{kind-sets-lack-authority-delimiters}
 use Rattle.uri_ops.proofs.Meanings.Cased.{print-lowers-characters}
 use Rattle.uri_ops.proofs.Meanings.HostMeanings.{meaning-of-name-is-lowered-decoded}
@@ -34,26 +10,21 @@ use Rattle.uri_ops.proofs.Meanings.WrittenFormatting.{decoding-without-formattin
 use Rattle.uri_ops.proofs.Normal.UnchangedBytes.{unchanged-text-lacks-byte-E2, unchanged-text-splits}
 
 -- unchanged texts: an octet is decoded by itself if it is unchanged
-unchanged-octet-is-decoded-alone : (alone : Bool) (high low : ℕ)
-    → is_unchanged_octet alone high low ≡ true
-    → (alone || ltb (16 * digit_value high + digit_value low) 128) ≡ true
+unchanged-octet-is-decoded-alone : (alone : Bool) (high low : ℕ) → is_unchanged_octet alone high low
+    ≡ true → (alone || ltb (16 * digit_value high + digit_value low) 128) ≡ true
 unchanged-octet-is-decoded-alone alone high low e =
     let p = and_parts _ _ e in
     let digits = and_parts (is_ascii_hexdigit high) (is_ascii_hexdigit low) p.0 in
     let last = and_parts (alone || ltb high 56) _ (and_parts _ _ p.1).1 in
     let value = 16 * digit_value high + digit_value low in
-    ⊎_elim
-    (λ (a : alone ≡ true). rw a refl)
-    (λ (small : ltb high 56 ≡ true).
+    ⊎_elim (λ (a : alone ≡ true). rw a refl) (λ (small : ltb high 56 ≡ true).
     let ascii = octet-with-digit-below-8-is-ascii high low digits.0 digits.1
     (ltb-true high 56 small) in
-    grind (arith, nat_tests))
-    (or_cases alone (ltb high 56) last.0)
+    grind (arith, nat_tests)) (or_cases alone (ltb high 56) last.0)
 
 -- unchanged texts: an unchanged octet is printed with its digits
-unchanged-octet-prints-itself : (alone : Bool) (high low : ℕ)
-    → is_unchanged_octet alone high low ≡ true
-    → print (decode_octet (Octet (16 * digit_value high + digit_value low)) ∷ [])
+unchanged-octet-prints-itself : (alone : Bool) (high low : ℕ) → is_unchanged_octet alone high low
+    ≡ true → print (decode_octet (Octet (16 * digit_value high + digit_value low)) ∷ [])
     ≡ 37 ∷ high ∷ low ∷ []
 unchanged-octet-prints-itself alone high low e =
     let p = and_parts _ _ e in
@@ -73,16 +44,14 @@ module _ (set : TableSet) (alone : Bool) (none : alone ≡ true → LacksPastAsc
       let p = and_parts _ _ (subst (HasUnchangedOctets alone) o.joined same) in
       let octet : is_unchanged_octet alone o.high o.low ≡ true = p.0 in
       leading-octet-is-decoded-alone false set text o alone none
-      (unchanged-octet-is-decoded-alone alone o.high o.low octet)
-      ∙ ap (λ x. x ++ decoded_text false set o.suffix)
-      (unchanged-octet-prints-itself alone o.high o.low octet)
+      (unchanged-octet-is-decoded-alone alone o.high o.low octet) ∙ ap (λ x. x
+      ++ decoded_text false set o.suffix) (unchanged-octet-prints-itself alone o.high o.low octet)
 
   -- unchanged texts: what follows a prefix of an unchanged text is unchanged
   suffix-of-unchanged-is-unchanged : (text : List ℕ) (n : ℕ) → HasUnchangedOctets alone text
       → HasUnchangedOctets alone (drop n text)
-  suffix-of-unchanged-is-unchanged text n same =
-      (unchanged-text-splits alone (take n text) (drop n text)
-      (subst (HasUnchangedOctets alone) (sym (take-append-drop n text)) same)).1
+  suffix-of-unchanged-is-unchanged text n same = (unchanged-text-splits alone (take n text)
+      (drop n text) (subst (HasUnchangedOctets alone) (sym (take-append-drop n text)) same)).1
 
   -- unchanged texts: an unchanged text of at most n bytes is its own decoded form
   unchanged-text-is-decoded : (n : ℕ) (text : List ℕ) → length text ≤ n → IsUtf8 text
@@ -99,23 +68,19 @@ module _ (set : TableSet) (alone : Bool) (none : alone ≡ true → LacksPastAsc
       let long = ap length o.joined in
       let utf8 : IsUtf8 o.suffix = subst IsUtf8 three
       (IsUtf8-drop text 3 u (boundary_after_octet text u o)) in
-      unchanged-octet-decodes-to-itself text o same
-      ∙ ap (λ x. 37 ∷ o.high ∷ o.low ∷ x) (unchanged-text-is-decoded n o.suffix
-      (omega (arith, long, short)) utf8 o.valid
+      unchanged-octet-decodes-to-itself text o same ∙ ap (λ x. 37 ∷ o.high
+      ∷ o.low ∷ x) (unchanged-text-is-decoded n o.suffix (omega (arith, long, short)) utf8 o.valid
       (subst (HasUnchangedOctets alone) three (suffix-of-unchanged-is-unchanged text 3 same)))
-      ∙ sym o.joined)
-      (λ (other : eqb b 37 ≡ false).
+      ∙ sym o.joined) (λ (other : eqb b 37 ≡ false).
       let text : List ℕ = b ∷ rest in
       let m = position_or_len (λ c. eqb c 37) text in
       let some : 0 < m = first-percent-is-after-another-byte b rest other in
       let p = text-before-percent-is-literal-prefix text m u v refl in
       let long = length-drop m text in
-      p.prefix false set
-      ∙ ap (λ x. take m text ++ x) (unchanged-text-is-decoded n (drop m text)
-      (omega (arith, long, short, some)) (IsUtf8-drop text m u p.boundary) p.valid
-      (suffix-of-unchanged-is-unchanged text m same))
-      ∙ take-append-drop m text)
-      (cases_Bool (eqb b 37))
+      p.prefix false set ∙ ap (λ x. take m text ++ x) (unchanged-text-is-decoded n
+      (drop m text) (omega (arith, long, short, some))
+      (IsUtf8-drop text m u p.boundary) p.valid (suffix-of-unchanged-is-unchanged text m same))
+      ∙ take-append-drop m text) (cases_Bool (eqb b 37))
     where
       first-percent-is-after-another-byte : (b : ℕ) (rest : List ℕ) → eqb b 37 ≡ false
           → 0 < position_or_len (λ c. eqb c 37) (b ∷ rest)
@@ -129,18 +94,15 @@ module _ (set : TableSet) (alone : Bool) (none : alone ≡ true → LacksPastAsc
       let v = valid_for_superset set widest_set text (every_set_is_subset_of_widest set percent)
       valid in
       let decoded = unchanged-text-is-decoded (length text) text (omega arith) u v same in
-      ⊎_elim
-      (λ both. sym (encoding-formatting-completes-decoding false set text both v)
-      ∙ ap encoded_formatting_text decoded
-      ∙ text-without-formatting-is-unchanged text u (no-byte-E2-no-formatting text u
-      (unchanged-text-lacks-byte-E2 alone text same)))
+      ⊎_elim (λ both. sym (encoding-formatting-completes-decoding false set text both v)
+      ∙ ap encoded_formatting_text decoded ∙ text-without-formatting-is-unchanged text u
+      (no-byte-E2-no-formatting text u (unchanged-text-lacks-byte-E2 alone text same)))
       (λ lacking. sym (decoding-without-formatting-is-complete false set text lacking) ∙ decoded)
       (cases_Bool (set.ucschar && set.pct_encoded))
 
   -- unchanged texts: the same of a component that may be absent
   pub unchanged-option-decodes-to-itself : LacksPercent set → (o : Option (List ℕ))
-      → IfSome o IsUtf8
-      → IfSome o (IsValidFor set) → IfSome o (HasUnchangedOctets alone)
+      → IfSome o IsUtf8 → IfSome o (IsValidFor set) → IfSome o (HasUnchangedOctets alone)
       → option_map print (option_map (decode_unreserved set) o) ≡ o
   unchanged-option-decodes-to-itself percent None u v same = refl
   unchanged-option-decodes-to-itself percent (Some text) u v same = ap Some
@@ -148,8 +110,7 @@ module _ (set : TableSet) (alone : Bool) (none : alone ≡ true → LacksPastAsc
 
 -- unchanged texts: encoding formatting characters keeps characters of which none is one
 encode_formatting-keeps-literal-characters : (set : TableSet) (cs : List ℕ)
-    → list_any is_bidi_formatting cs ≡ false
-    → encode_formatting set (map Char cs) ≡ map Char cs
+    → list_any is_bidi_formatting cs ≡ false → encode_formatting set (map Char cs) ≡ map Char cs
 unfolding is_never_literal
 encode_formatting-keeps-literal-characters set [] e = refl
 encode_formatting-keeps-literal-characters set (c ∷ cs) e =
@@ -162,12 +123,10 @@ encode_formatting-keeps-literal-characters set (c ∷ cs) e =
 text-without-octets-has-tokens-decoded : (set : TableSet) (text : List ℕ) → IsUtf8 text
     → lacks 37 text ≡ true → decode_tokens set (tokens text) ≡ map Char (chars text)
 unfolding tokens_from_chars chars decode_after_run
-text-without-octets-has-tokens-decoded set text u e =
-    ap (λ x. decode_tokens set (tokens x)) (sym (append-nil text))
-    ∙ ap (decode_tokens set) (tokens_after_unencoded_prefix text [] u e)
-    ∙ decode_tokens-after-chars set (chars text) []
-    ∙ ap (λ ts. map Char (chars text) ++ ts) (decode_run-of-nil-is-nil set)
-    ∙ append-nil (map Char (chars text))
+text-without-octets-has-tokens-decoded set text u e = ap (λ x. decode_tokens set (tokens x))
+    (sym (append-nil text)) ∙ ap (decode_tokens set) (tokens_after_unencoded_prefix text [] u e)
+    ∙ decode_tokens-after-chars set (chars text) [] ∙ ap (λ ts. map Char (chars text)
+    ++ ts) (decode_run-of-nil-is-nil set) ∙ append-nil (map Char (chars text))
 
 -- unchanged texts: a text without octets and formatting characters has its characters as its
 -- decoded form
@@ -195,9 +154,7 @@ lower-name-is-its-normal-form kind sets host u octets leads lower name =
     let apart = names_exclude_delimiters kind.userinfo kind.reg_name
     (kind-sets-lack-authority-delimiters kind sets) in
     ap (λ h. host_text (host_meaning kind.reg_name host h))
-    (unbracketed-host-is-of-name_kind host name)
-    ∙ ap host_text
+    (unbracketed-host-is-of-name_kind host name) ∙ ap host_text
     (meaning-of-name-is-lowered-decoded kind.reg_name sets.reg_name apart host (ipv4_value host))
-    ∙ ap (λ ts. print (map lower_token ts))
-    (literal-text-decodes-to-characters kind.reg_name host u octets leads)
-    ∙ print-lowers-characters true host u ∙ lower
+    ∙ ap (λ ts. print (map lower_token ts)) (literal-text-decodes-to-characters kind.reg_name
+    host u octets leads) ∙ print-lowers-characters true host u ∙ lower

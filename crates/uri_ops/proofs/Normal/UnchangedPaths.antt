@@ -1,13 +1,5 @@
 -- Texts in which normalising leaves each byte: it leaves their paths.
-use Rattle.std.proofs.Common.{◌≡◌, ℕ, ◌+◌, ◌<◌, ◌≤◌, Bool, true, false, List, [], ◌++◌, length, ap, sym, ◌∙◌, ◌&&◌, get_or, arith, append_assoc, subst, ⊎_elim}
-use Rattle.std.specs.Prelude.{codes, is_some}
-use Rattle.std.proofs.lemmas.Bool.{and_parts, and_right, cases_Bool, cases_lt, cond-false, cond-true}
-use Rattle.std.proofs.lemmas.List.{length-append}
-use Rattle.uri_parts.specs.Components.{Components, components, marked, starts}
-use Rattle.uri_parts.specs.Positions.{positions_of}
-use Rattle.uri_parts.proofs.Splitting.Recompose.{equal-to-true-is-IsTrue, recompose-components}
-use Rattle.uri_ops.specs.Dots.{IsAbsolute, lacks_dot_segments, underflows}
-use Rattle.uri_ops.specs.Models.Unchanged.{HasUnchangedOctets, IsUnchangedPath, is_dot_unchanged_at, is_octet_unchanged_at, is_literal_byte, is_unchanged_at}
+use Rattle.uri_ops.proofs.Common.{◌≡◌, ℕ, ◌+◌, ◌<◌, ◌≤◌, Bool, true, false, List, [], ◌++◌, length, ap, sym, ◌∙◌, ◌&&◌, get_or, arith, append_assoc, subst, ⊎_elim, codes, is_some, and_parts, and_right, cases_Bool, cases_lt, cond-false, cond-true, length-append, Components, components, marked, starts, positions_of, equal-to-true-is-IsTrue, recompose-components, IsAbsolute, lacks_dot_segments, underflows, HasUnchangedOctets, IsUnchangedPath, is_dot_unchanged_at, is_octet_unchanged_at, is_literal_byte, is_unchanged_at}
 use Rattle.uri_ops.proofs.Normal.UnchangedBytes.{bytes-unchanged-by-index-are-unchanged, unchanged-text-splits, literal-byte-is-unchanged}
 use Rattle.uri_ops.proofs.Normal.WrittenPlaces.{length-with-delimiter-after, length-with-delimiter-before}
 use Rattle.uri_ops.proofs.Paths.DotLaws.{remove-dots-of-dotless, dotless-path-does-not-underflow}
@@ -36,9 +28,8 @@ module _ (alone : Bool) (text : List ℕ) (start limit : ℕ) (later : 0 < start
   tail = marked (codes "?") p.query [] ++ marked (codes "#") p.fragment []
 
   text-is-around-path : text ≡ before ++ (p.path ++ tail)
-  text-is-around-path = sym (recompose-components text)
-      ∙ sym (append_assoc (marked [] p.scheme (codes ":")) (marked (codes "//") p.authority [])
-      (p.path ++ tail))
+  text-is-around-path = sym (recompose-components text) ∙ sym (append_assoc
+      (marked [] p.scheme (codes ":")) (marked (codes "//") p.authority []) (p.path ++ tail))
 
   path-begins-after-marked : length before ≡ (positions_of p).path_start
   path-begins-after-marked =
@@ -83,9 +74,7 @@ module _ (alone : Bool) (text : List ℕ) (start limit : ℕ) (later : 0 < start
         record {
           dotless = cond-true _ _ _ e ∙ remove-dots-of-dotless p.path absolute lacks;
           underflow = and_right _ _ (dotless-path-does-not-underflow p.path absolute lacks);
-        })
-        (λ (e : (is_some p.scheme && starts 47 p.path) ≡ false). record {
+        }) (λ (e : (is_some p.scheme && starts 47 p.path) ≡ false). record {
           dotless = cond-false _ _ _ e;
           underflow = ap (λ b. b && underflows p.path) e;
-        })
-        (cases_Bool (is_some p.scheme && starts 47 p.path))
+        }) (cases_Bool (is_some p.scheme && starts 47 p.path))

@@ -1,27 +1,9 @@
 -- Texts whose bytes up to the end of the host are unchanged: so are the scheme and the host.
-use Rattle.std.proofs.Common.{◌≡◌, ℕ, ◌+◌, ◌<◌, ◌≤◌, ◌||◌, Bool, true, false, eqb, not, List, [], ◌∷◌, ◌++◌, length, get_or, take, refl, sym, ap, ◌∙◌, append_assoc, append-nil, option_map, arith}
-use Rattle.std.specs.Prelude.{codes, Option, Some, None, IfSome, unwrap_or}
-use Rattle.std.specs.Char.{to_ascii_lowercase}
-use Rattle.std.specs.List.{list_all}
-use Rattle.std.specs.Str.{str_to_ascii_lowercase}
-use Rattle.std.proofs.Math.Seq.{take-append-add}
-use Rattle.std.proofs.lemmas.Bool.{agree_below_at, and_from, and_parts, both_ways, not-true}
-use Rattle.std.proofs.lemmas.Bool.Decides.{nat_tests}
-use Rattle.std.proofs.lemmas.List.{get_or-take, length-append, length-take-le, take-take}
-use Rattle.std.proofs.lemmas.List.Elements.{All-from_get_or}
-use Rattle.std.proofs.lemmas.List.Folds.{list_all-append}
-use Rattle.std.proofs.lemmas.List.Sums.{list_all-from_AllPass}
+use Rattle.uri_ops.proofs.Common.{◌≡◌, ℕ, ◌+◌, ◌<◌, ◌≤◌, ◌||◌, Bool, true, false, eqb, not, List, [], ◌∷◌, ◌++◌, length, get_or, take, refl, sym, ap, ◌∙◌, append_assoc, append-nil, option_map, arith, codes, Option, Some, None, IfSome, unwrap_or, to_ascii_lowercase, list_all, str_to_ascii_lowercase, take-append-add, agree_below_at, and_from, and_parts, both_ways, not-true, nat_tests, get_or-take, length-append, length-take-le, take-take, All-from_get_or, list_all-append, list_all-from_AllPass, lacks, authority_parts, recompose_authority, Components, marked, starts, packed, authority_at, delimited_length, host_end_of, positions_of, IsUnchangedHost, is_literal_byte, is_unchanged_host_byte, normal_scheme}
 use Rattle.uri_pct.specs.Masks.{has_bit}
 use Rattle.uri_pct.specs.Models.ByteRuns.{IsLongestRun}
-use Rattle.uri_pct.specs.Texts.{lacks}
 use Rattle.uri_pct.proofs.TableSets.Masks.{has_bit-only-ascii}
-use Rattle.uri_parts.specs.Authority.{authority_parts, recompose_authority}
-use Rattle.uri_parts.specs.Components.{Components, marked, starts}
-use Rattle.uri_parts.specs.PackedPositions.{packed}
-use Rattle.uri_parts.specs.Positions.{authority_at, delimited_length, host_end_of, positions_of}
 use Rattle.uri_ops.specs.declared.normalize.unchanged.TheConstants.{UNCHANGED_HIGH, UNCHANGED_LOW}
-use Rattle.uri_ops.specs.Models.Unchanged.{IsUnchangedHost, is_literal_byte, is_unchanged_host_byte}
-use Rattle.uri_ops.specs.Normal.{normal_scheme}
 use Rattle.uri_ops.proofs.Normal.WrittenPlaces.{length-with-delimiter-after}
 
 -- unchanged bytes: normalising leaves each byte of the text, as one of a scheme or a host
@@ -35,8 +17,7 @@ unfolding has_bit
 unchanged-masks-have-unchanged-bytes b e =
     let agrees : (not (has_bit UNCHANGED_LOW UNCHANGED_HIGH b) || is_unchanged_host_byte b) ≡ true =
     agree_below_at (λ c. not (has_bit UNCHANGED_LOW UNCHANGED_HIGH c) || is_unchanged_host_byte c)
-    (λ _. true)
-    128 b refl (has_bit-only-ascii UNCHANGED_LOW UNCHANGED_HIGH b e) in
+    (λ _. true) 128 b refl (has_bit-only-ascii UNCHANGED_LOW UNCHANGED_HIGH b e) in
     sym (ap (λ x. not x || is_unchanged_host_byte b) e) ∙ agrees
 
 -- unchanged bytes: a run of bytes of the set, in a window of a text, is an unchanged prefix
@@ -63,8 +44,7 @@ unfolding has_bit
 unchanged-masks-have-literal-bytes b e =
     let agrees : (not (has_bit UNCHANGED_LOW UNCHANGED_HIGH b) || is_literal_byte b) ≡ true =
     agree_below_at (λ c. not (has_bit UNCHANGED_LOW UNCHANGED_HIGH c) || is_literal_byte c)
-    (λ _. true)
-    128 b refl (has_bit-only-ascii UNCHANGED_LOW UNCHANGED_HIGH b e) in
+    (λ _. true) 128 b refl (has_bit-only-ascii UNCHANGED_LOW UNCHANGED_HIGH b e) in
     sym (ap (λ x. not x || is_literal_byte b) e) ∙ agrees
 
 -- unchanged bytes: nor do those of a run of the set, in a window of a text
@@ -73,8 +53,7 @@ pub run-of-unchanged-bytes-is-literal : (bytes window : List ℕ) (limit end las
     → IsLongestRun (has_bit UNCHANGED_LOW UNCHANGED_HIGH) window 0 last → end ≤ last
     → (k : ℕ) → k < end → is_literal_byte (get_or bytes k 0) ≡ true
 run-of-unchanged-bytes-is-literal bytes window limit end last same within run over k h =
-    unchanged-masks-have-literal-bytes (get_or bytes k 0)
-    (ap (has_bit UNCHANGED_LOW UNCHANGED_HIGH)
+    unchanged-masks-have-literal-bytes (get_or bytes k 0) (ap (has_bit UNCHANGED_LOW UNCHANGED_HIGH)
     (sym (ap (λ w. get_or w k 0) same ∙ get_or-take limit bytes k 0 (omega (arith, h, within))))
     ∙ run.pass k (omega arith) (omega (arith, h, over)))
 
@@ -126,9 +105,8 @@ scheme-of-unchanged-bytes-is-unchanged (Some s) e = ap Some (unchanged_bytes_are
 
 -- unchanged bytes: the bytes of a host are unchanged if those of its authority are, up to its end
 unchanged-prefix-of-authority-has-its-host : (a rest : List ℕ)
-    → recompose_authority (authority_parts a) ≡ a
-    → has_unchanged_host_bytes (take (host_end_of a) (a ++ rest)) ≡ true
-    → has_unchanged_host_bytes (authority_parts a).host ≡ true
+    → recompose_authority (authority_parts a) ≡ a → has_unchanged_host_bytes (take (host_end_of a)
+    (a ++ rest)) ≡ true → has_unchanged_host_bytes (authority_parts a).host ≡ true
 unchanged-prefix-of-authority-has-its-host a rest whole e =
     let p = authority_parts a in
     let user = marked [] p.userinfo (codes "@") in
@@ -150,13 +128,11 @@ end_of_host scheme authority = unwrap_or (option_map (λ a. a.host_end)
 
 -- unchanged bytes: the scheme and the host are unchanged if the bytes up to the end of the host
 -- are
-pub unchanged-prefix-has-unchanged-scheme-and-host : (scheme authority : Option (List ℕ))
-    (rest : List ℕ)
-    → ((a : List ℕ) → authority ≡ Some a → recompose_authority (authority_parts a) ≡ a)
-    → 0 < end_of_host scheme authority
-    → has_unchanged_host_bytes (take (end_of_host scheme authority)
-    (marked [] scheme (codes ":") ++ (marked (codes "//") authority [] ++ rest))) ≡ true
-    → (normal_scheme scheme ≡ scheme)
+pub unchanged-prefix-has-unchanged-scheme-and-host :
+    (scheme authority : Option (List ℕ)) (rest : List ℕ) → ((a : List ℕ) → authority ≡ Some a
+    → recompose_authority (authority_parts a) ≡ a) → 0 < end_of_host scheme authority
+    → has_unchanged_host_bytes (take (end_of_host scheme authority) (marked [] scheme (codes ":")
+    ++ (marked (codes "//") authority [] ++ rest))) ≡ true → (normal_scheme scheme ≡ scheme)
     × IfSome authority (λ a. IsUnchangedHost (authority_parts a).host)
 unchanged-prefix-has-unchanged-scheme-and-host scheme None rest whole some e =
     absurd (omega (arith, some))
@@ -165,11 +141,9 @@ unchanged-prefix-has-unchanged-scheme-and-host scheme (Some a) rest whole some e
     let long = length-with-delimiter-after scheme 58 in
     let count : end_of_host scheme (Some a) ≡ length first + (2 + host_end_of a) =
     omega (arith, long) in
-    let parts =
-    unchanged-prefix-splits (2 + host_end_of a) first ((codes "//" ++ (a ++ [])) ++ rest)
-    (ap (λ n. has_unchanged_host_bytes (take n (first ++ ((codes "//" ++ (a ++ [])) ++ rest))))
-    (sym count) ∙ e)
-    in
+    let parts = unchanged-prefix-splits
+    (2 + host_end_of a) first ((codes "//" ++ (a ++ [])) ++ rest) (ap (λ n. has_unchanged_host_bytes
+    (take n (first ++ ((codes "//" ++ (a ++ [])) ++ rest)))) (sym count) ∙ e) in
     let plain : (codes "//" ++ (a ++ [])) ++ rest ≡ codes "//" ++ (a ++ rest) =
     ap (λ x. (codes "//" ++ x) ++ rest) (append-nil a) in
     let authority = (unchanged-prefix-splits (host_end_of a) (codes "//") (a ++ rest)
@@ -187,8 +161,7 @@ host-ends-before-path p whole = by-authority p.scheme p.authority whole
   where
     by-authority : (scheme authority : Option (List ℕ))
         → ((a : List ℕ) → authority ≡ Some a → recompose_authority (authority_parts a) ≡ a)
-        → end_of_host scheme authority
-        ≤ delimited_length 1 scheme + delimited_length 2 authority
+        → end_of_host scheme authority ≤ delimited_length 1 scheme + delimited_length 2 authority
     by-authority scheme None whole = omega arith
     by-authority scheme (Some a) whole =
         let parts = authority_parts a in

@@ -1,24 +1,5 @@
 -- A text that is its own normal text, by what is asked of its bytes and its components.
-use Rattle.std.proofs.Common.{◌≡◌, ℕ, Bool, true, false, cond, List, [], ◌++◌, refl, sym, ap, subst, ◌∙◌, option_map, ⊎_elim}
-use Rattle.std.specs.Prelude.{codes, Option, Some, None, IfSome, IfNone, is_some}
-use Rattle.std.specs.Str.{IsUtf8}
-use Rattle.std.proofs.lemmas.Bool.{and_parts, cases_Bool, cond-false}
-use Rattle.uri_pct.specs.DecodeUnreserved.{decode_unreserved}
-use Rattle.uri_pct.specs.Sets.{TableSet}
-use Rattle.uri_pct.specs.Tokens.{IsValidFor, print}
-use Rattle.uri_pct.proofs.General.{IfSome-weaken}
-use Rattle.uri_parts.specs.Authority.{AuthorityParts, authority_parts, is_authority_for, recompose_authority}
-use Rattle.uri_parts.specs.Components.{Components, IsSplitOf, components, has_authority, marked, recompose, starts}
-use Rattle.uri_parts.specs.Grammar.{IsTextOf, Kind, is_authority}
-use Rattle.uri_parts.specs.Hosts.{host_kind, is_host}
-use Rattle.uri_parts.specs.Ports.{PortFunction}
-use Rattle.uri_parts.proofs.Authorities.Authority.{is_authority_for-sound}
-use Rattle.uri_parts.proofs.Splitting.Recompose.{components-are-split-of-text}
-use Rattle.uri_ops.specs.ComponentSets.{HasComponentSets}
-use Rattle.uri_ops.specs.Meaning.{authority_meaning, host_meaning, meaning_of}
-use Rattle.uri_ops.specs.Models.Unchanged.{AreUnchanged, HasUnchangedOctets, IsUnchangedHost, IsUnchangedPort, KindLacksPastAscii}
-use Rattle.uri_ops.specs.Normal.{default_port_of, host_text, normal_authority, normal_path, normal_text}
-use Rattle.uri_ops.specs.Target.{guarded}
+use Rattle.uri_ops.proofs.Common.{◌≡◌, ℕ, Bool, true, false, cond, List, [], ◌++◌, refl, sym, ap, subst, ◌∙◌, option_map, ⊎_elim, codes, Option, Some, None, IfSome, IfNone, is_some, IsUtf8, and_parts, cases_Bool, cond-false, decode_unreserved, TableSet, IsValidFor, print, IfSome-weaken, AuthorityParts, authority_parts, is_authority_for, recompose_authority, Components, IsSplitOf, components, has_authority, marked, recompose, starts, IsTextOf, Kind, is_authority, host_kind, is_host, PortFunction, is_authority_for-sound, components-are-split-of-text, HasComponentSets, authority_meaning, host_meaning, meaning_of, AreUnchanged, HasUnchangedOctets, IsUnchangedHost, IsUnchangedPort, KindLacksPastAscii, default_port_of, host_text, normal_authority, normal_path, normal_text, guarded}
 use Rattle.uri_ops.proofs.Meanings.AllowedParts.{is_set_text, set-text-is-valid}
 use Rattle.uri_ops.proofs.Meanings.AuthorityMeanings.{PartsUtf8, authority-parts-are-utf8}
 use Rattle.uri_ops.proofs.Meanings.TextParts.{AreUtf8, ArePartsOfKind, components-of-utf8-are-utf8}
@@ -30,8 +11,7 @@ use Rattle.uri_ops.proofs.Normal.UnchangedParts.{unchanged-text-decodes-to-itsel
 host-of-authority-is-host : (users names : TableSet) (a : List ℕ)
     → is_authority_for users names a ≡ true → is_host names (authority_parts a).host ≡ true
 unfolding is_authority_for
-host-of-authority-is-host users names a e =
-    (and_parts _ _ (and_parts _ _ (and_parts _ _ e).1).1).0
+host-of-authority-is-host users names a e = (and_parts _ _ (and_parts _ _ (and_parts _ _ e).1).1).0
 
 module _ (kind : Kind) (sets : HasComponentSets kind) (alone : Bool)
     (none : alone ≡ true → KindLacksPastAscii kind) where
@@ -72,9 +52,8 @@ module _ (kind : Kind) (sets : HasComponentSets kind) (alone : Bool)
         ∙ grammar.whole
 
     -- unchanged texts: the same of an authority that may be absent
-    unchanged-authority-if-some-is-normal : (o : Option (List ℕ))
-        → IfSome o (λ a. IsUtf8 a × (is_authority kind a ≡ true))
-        → IfSome o (HasUnchangedOctets alone)
+    unchanged-authority-if-some-is-normal : (o : Option (List ℕ)) → IfSome o (λ a. IsUtf8 a
+        × (is_authority kind a ≡ true)) → IfSome o (HasUnchangedOctets alone)
         → IfSome o (λ a. IsUnchangedHost (authority_parts a).host)
         → IfSome o (λ a. IsUnchangedPort default (authority_parts a).port)
         → option_map normal_authority (option_map (authority_meaning kind default) o) ≡ o
@@ -92,12 +71,11 @@ path-that-needs-no-guard-is-unchanged (Some s) (Some a) path h = refl
 
 -- a text whose octets are unchanged is its own normal text if normalising leaves its
 -- components
-pub unchanged-text-is-its-normal-text : (kind : Kind) → HasComponentSets kind
-    → (alone : Bool) → (alone ≡ true → KindLacksPastAscii kind)
+pub unchanged-text-is-its-normal-text : (kind : Kind)
+    → HasComponentSets kind → (alone : Bool) → (alone ≡ true → KindLacksPastAscii kind)
     → (ports : PortFunction) (text : List ℕ) → IsTextOf kind text → HasUnchangedOctets alone text
-    → (let p = components text in AreUnchanged p
-    → IfSome p.authority (λ a. IsUnchangedPort (default_port_of ports p.scheme)
-    (authority_parts a).port)
+    → (let p = components text in AreUnchanged p → IfSome p.authority (λ a. IsUnchangedPort
+    (default_port_of ports p.scheme) (authority_parts a).port)
     → text ≡ normal_text (meaning_of kind ports text))
 unchanged-text-is-its-normal-text kind sets alone none ports text w bytes unchanged port =
     let p : Components = components text in
@@ -116,9 +94,8 @@ unchanged-text-is-its-normal-text kind sets alone none ports text w bytes unchan
     (delimited-component-of-unchanged-is-unchanged alone (codes "//") [] p.authority from_path.0)
     unchanged.host port in
     let query = unchanged-option-decodes-to-itself kind.query alone (λ e. (none e).query)
-    sets.query.percent p.query utf8.query (IfSome-weaken p.query
-    (λ q. is_set_text kind.query q ≡ true) (IsValidFor kind.query)
-    (λ q h. set-text-is-valid kind.query q h) parts.query)
+    sets.query.percent p.query utf8.query (IfSome-weaken p.query (λ q. is_set_text kind.query q
+    ≡ true) (IsValidFor kind.query) (λ q h. set-text-is-valid kind.query q h) parts.query)
     (delimited-component-of-unchanged-is-unchanged alone (codes "?") [] p.query from_fragment.0) in
     let fragment = unchanged-option-decodes-to-itself kind.fragment alone (λ e. (none e).fragment)
     sets.fragment.percent p.fragment utf8.fragment (IfSome-weaken p.fragment

@@ -1,20 +1,6 @@
 -- A text that is put together of components has the positions that their lengths give.
-use Rattle.std.proofs.Common.{◌≡◌, ℕ, ◌+◌, List, [], ◌∷◌, ◌++◌, length, refl, ap, ◌∙◌, arith, length-append, option_map}
-use Rattle.std.specs.Prelude.{codes, Option, Some, None}
-use Rattle.uri_parts.specs.declared.positions.AuthorityPositions.{AuthorityPositions}
-use Rattle.uri_parts.specs.declared.positions.Positions.{Positions}
-use Rattle.uri_parts.specs.Authority.{AuthorityParts, authority_parts, recompose_authority}
-use Rattle.uri_parts.specs.Components.{Components, marked, components}
-use Rattle.uri_parts.specs.Positions.{authority_at, delimited_length, positions_of}
-use Rattle.std.specs.Option.{option_and_then}
-use Rattle.std.proofs.lemmas.Bool.Decides.{nat_tests}
-use Rattle.uri_parts.specs.Grammar.{Kind}
-use Rattle.uri_ops.specs.Meaning.{authority_meaning, meaning_of}
-use Rattle.uri_ops.specs.Normal.{normal_authority, normal_components, normal_parts, normal_part, normal_path_text, normal_scheme, normal_text}
-use Rattle.uri_parts.specs.Ports.{PortFunction}
+use Rattle.uri_ops.proofs.Common.{◌≡◌, ℕ, ◌+◌, List, [], ◌∷◌, ◌++◌, length, refl, ap, ◌∙◌, arith, length-append, option_map, codes, Option, Some, None, AuthorityPositions, Positions, AuthorityParts, authority_parts, recompose_authority, Components, marked, components, authority_at, delimited_length, positions_of, option_and_then, nat_tests, Kind, authority_meaning, meaning_of, normal_authority, normal_components, normal_parts, normal_part, normal_path_text, normal_scheme, normal_text, PortFunction, before_path, authority_parts_at, positions_by_authority_parts}
 use Rattle.uri_ops.proofs.Normal.NormalPieces.{five-appended-texts-are-one, normal_path-by-components}
-use Rattle.uri_ops.specs.Models.Places.{before_path}
-use Rattle.uri_ops.specs.Models.Written.{authority_parts_at, positions_by_authority_parts}
 
 -- positions in a normal text: a component with a delimiter after
 -- it has one byte more, or none if it is absent
@@ -35,8 +21,7 @@ length-with-delimiter-before mark (Some s) = omega
 -- parts; o0 to o3: the text between them
 pub pushed-authority-parts-have-positions : (p : AuthorityParts) (o0 o1 o2 o3 : List ℕ)
     → o1 ≡ o0 ++ marked [] p.userinfo (codes "@") → o2 ≡ o1 ++ p.host
-    → o3 ≡ o2 ++ marked (codes ":") p.port []
-    → (let x : AuthorityPositions = record
+    → o3 ≡ o2 ++ marked (codes ":") p.port [] → (let x : AuthorityPositions = record
     { start = length o0; host_start = length o1; host_end = length o2; end = length o3 } in x)
     ≡ authority_parts_at (length o0) p
 pushed-authority-parts-have-positions p o0 o1 o2 o3 e1 e2 e3 =
@@ -46,8 +31,7 @@ pushed-authority-parts-have-positions p o0 o1 o2 o3 e1 e2 e3 =
     (arith, ap length e1, length-append o0 user, length-with-delimiter-after p.userinfo 64) in
     let n2 : length o2 ≡ length o0 + (delimited_length 1 p.userinfo + length p.host) = omega
     (arith, n1, ap length e2, length-append o1 p.host) in
-    let n3 : length o3 ≡ length o0 + length (recompose_authority p) =
-    omega (
+    let n3 : length o3 ≡ length o0 + length (recompose_authority p) = omega (
       arith,
       n2,
       ap length e3,
@@ -98,10 +82,9 @@ record EndsAt (p : Components) (start stop : ℕ) (query : Option ℕ) : Type 0 
 
 -- positions in a normal text: path and query end where they were appended;
 -- o2, o3: the text before and after the path
-pushed-path-and-query-end-at-lengths : (p : Components) (o2 o3 : List ℕ) (start stop : ℕ)
-    (query : Option ℕ)
-    → length o2 ≡ (positions_of p).path_start → o3 ≡ o2 ++ p.path → start ≡ length o2
-    → stop ≡ length o3
+pushed-path-and-query-end-at-lengths :
+    (p : Components) (o2 o3 : List ℕ) (start stop : ℕ) (query : Option ℕ) → length o2
+    ≡ (positions_of p).path_start → o3 ≡ o2 ++ p.path → start ≡ length o2 → stop ≡ length o3
     → query ≡ option_map (λ s. length o3 + 1 + length s) p.query → EndsAt p start stop query
 pushed-path-and-query-end-at-lengths p o2 o3 start stop query n2 e3 starts stops queries =
     let m3 : length o3 ≡ (positions_of p).path_end = omega
@@ -109,41 +92,33 @@ pushed-path-and-query-end-at-lengths p o2 o3 start stop query n2 e3 starts stops
     record {
       starts = starts ∙ n2;
       stops = stops ∙ m3;
-      queries = queries
-          ∙ ap (λ n. option_map (λ s. n + 1 + length s) p.query) m3;
+      queries = queries ∙ ap (λ n. option_map (λ s. n + 1 + length s) p.query) m3;
     }
 
 -- positions in a normal text: components that are appended have the positions of these;
 -- o0 to o3: the text between them
-pub pushed-components-have-positions : (p : Components) (parts : Option AuthorityParts)
-    (o0 o1 o2 o3 : List ℕ)
-    (start stop : ℕ) (end query : Option ℕ) (authority : Option AuthorityPositions)
-    → o0 ≡ []
-    → o1 ≡ o0 ++ marked [] p.scheme (codes ":") → o2 ≡ o1 ++ marked (codes "//") p.authority []
-    → o3 ≡ o2 ++ p.path → start ≡ length o2 → stop ≡ length o3
-    → end ≡ option_map (λ s. length o0 + length s) p.scheme
+pub pushed-components-have-positions : (p : Components) (parts : Option AuthorityParts) (o0 o1
+    o2 o3 : List ℕ) (start stop : ℕ) (end query : Option ℕ) (authority : Option AuthorityPositions)
+    → o0 ≡ [] → o1 ≡ o0 ++ marked [] p.scheme (codes ":")
+    → o2 ≡ o1 ++ marked (codes "//") p.authority [] → o3 ≡ o2 ++ p.path
+    → start ≡ length o2 → stop ≡ length o3 → end ≡ option_map (λ s. length o0 + length s) p.scheme
     → authority ≡ option_map (authority_parts_at (length o1 + 2)) parts
-    → query ≡ option_map (λ s. length o3 + 1 + length s) p.query
-    → (let x : Positions = record {
+    → query ≡ option_map (λ s. length o3 + 1 + length s) p.query → (let x : Positions = record {
       scheme_end = end;
       authority = authority;
       path_start = start;
       path_end = stop;
-      query_end
-          = query;
-    } in x)
-    ≡ positions_by_authority_parts p parts
-pushed-components-have-positions p parts o0 o1 o2 o3 start stop end query authority e0 e1 e2 e3
-    starts stops ends
-    lies queries =
+      query_end = query;
+    } in x) ≡ positions_by_authority_parts p parts
+pushed-components-have-positions
+    p parts o0 o1 o2 o3 start stop end query authority e0 e1 e2 e3 starts stops ends lies queries =
     let n0 : length o0 ≡ 0 = ap length e0 in
     let n1 : length o1 ≡ delimited_length 1 p.scheme = omega (
       arith,
       n0,
       ap length e1,
       length-append o0 (marked [] p.scheme (codes ":")),
-      length-with-delimiter-after
-          p.scheme 58,
+      length-with-delimiter-after p.scheme 58,
     ) in
     let n2 : length o2 ≡ (positions_of p).path_start = omega (
       arith,
@@ -161,61 +136,49 @@ pushed-components-have-positions p parts o0 o1 o2 o3 start stop end query author
       scheme_end = f i;
       authority = g i;
       path_start = w.starts i;
-      path_end = w.stops
-          i;
+      path_end = w.stops i;
       query_end = w.queries i;
     }
 
 -- positions in a normal text or target: a prefix, a path and a query that are appended have the
 -- positions of these; o0, o2, o3: the text between them
-pub pushed-prefix-and-path-have-positions : (p : Components) (o0 o2 o3 : List ℕ) (start stop : ℕ)
-    (end query : Option ℕ)
-    (authority : Option AuthorityPositions)
-    → o0 ≡ []
-    → o2 ≡ o0 ++ before_path p → o3 ≡ o2 ++ p.path → start ≡ length o2 → stop ≡ length o3
-    → end ≡ (positions_of p).scheme_end → authority ≡ (positions_of p).authority
-    → query ≡ option_map (λ s. length o3 + 1 + length s) p.query
-    → (let x : Positions = record {
+pub pushed-prefix-and-path-have-positions : (p : Components) (o0 o2 o3 : List ℕ)
+    (start stop : ℕ) (end query : Option ℕ) (authority : Option AuthorityPositions)
+    → o0 ≡ [] → o2 ≡ o0 ++ before_path p → o3 ≡ o2 ++ p.path → start ≡ length o2
+    → stop ≡ length o3 → end ≡ (positions_of p).scheme_end → authority ≡ (positions_of p).authority
+    → query ≡ option_map (λ s. length o3 + 1 + length s) p.query → (let x : Positions = record {
       scheme_end = end;
       authority = authority;
       path_start = start;
       path_end = stop;
-      query_end
-          = query;
-    } in x)
-    ≡ positions_of p
+      query_end = query;
+    } in x) ≡ positions_of p
 pushed-prefix-and-path-have-positions p o0 o2 o3 start stop end query authority e0 e2 e3 starts
     stops ends lies queries =
     grind (arith, nat_tests, pushed-path-and-query-end-at-lengths, length-before_path-is-path_start)
 
 -- general fact on options, for positions in a normal text: three functions, one after the other
 option_map-of-three-functions-splits : {A B C D : Type 0} (f : C → D) (h : B → C) (k : A → B)
-    (o : Option A)
-    → option_map (λ a. f (h (k a))) o ≡ option_map f (option_map h (option_map k o))
+    (o : Option A) → option_map (λ a. f (h (k a))) o ≡ option_map f (option_map h (option_map k o))
 option_map-of-three-functions-splits f h k None = refl
 option_map-of-three-functions-splits f h k (Some a) = refl
 
 -- a normal text: its five components, appended one after the other, are the text, and have the
 -- positions of its components; old, o1 to o4, new: the text between them
 pub pushed-components-are-normal-text : (kind : Kind) (ports : PortFunction) (text : List ℕ)
-    (old o1 o2 o3 o4 new : List ℕ) (start stop : ℕ) (end query : Option ℕ)
-    (places : Option AuthorityPositions)
-    → (let p = components text in let scheme = normal_scheme p.scheme in
+    (old o1 o2 o3 o4 new : List ℕ) (start stop : ℕ) (end query : Option ℕ) (places : Option
+    AuthorityPositions) → (let p = components text in let scheme = normal_scheme p.scheme in
     let m = meaning_of kind ports text in
     let meaning = authority_meaning kind (option_and_then ports scheme) in
     let authority = option_map normal_authority (option_map meaning p.authority) in
-    o1 ≡ old ++ marked [] scheme (codes ":")
-    → o2 ≡ o1 ++ marked (codes "//") authority []
+    o1 ≡ old ++ marked [] scheme (codes ":") → o2 ≡ o1 ++ marked (codes "//") authority []
     → o3 ≡ o2 ++ normal_path_text kind.path p.scheme authority p.path
     → o4 ≡ o3 ++ marked (codes "?") (normal_part kind.query p.query) []
-    → new ≡ o4 ++ marked (codes "#") (normal_part kind.fragment p.fragment) []
-    → start ≡ length o2 → stop ≡ length o3
-    → end ≡ option_map (λ s. length old + length s) scheme
-    → places ≡ option_map (λ a. authority_parts_at (length o1 + 2) (normal_parts (meaning a)))
-    p.authority
+    → new ≡ o4 ++ marked (codes "#") (normal_part kind.fragment p.fragment) [] → start ≡ length o2
+    → stop ≡ length o3 → end ≡ option_map (λ s. length old + length s) scheme → places
+    ≡ option_map (λ a. authority_parts_at (length o1 + 2) (normal_parts (meaning a))) p.authority
     → query ≡ option_map (λ s. length o3 + 1 + length s) (normal_part kind.query p.query)
-    → (new ≡ old ++ normal_text m)
-    × (old ≡ [] → (let x : Positions = record {
+    → (new ≡ old ++ normal_text m) × (old ≡ [] → (let x : Positions = record {
       scheme_end = end;
       authority = places;
       path_start = start;
@@ -231,10 +194,8 @@ pushed-components-are-normal-text kind ports text old o1 o2 o3 o4 new start stop
     let path : o3 ≡ o2 ++ (normal_components m).path =
     e3 ∙ ap (λ t. o2 ++ t) (normal_path-by-components kind ports text) in (
       five-appended-texts-are-one old _ _ _ _ _ o1 o2 o3 o4 new e1 e2 path e4 e5,
-      λ empty.
-          pushed-components-have-positions (normal_components m)
-          (option_map normal_parts m.authority)
-          old o1 o2 o3 start stop end query places empty e1 e2 path starts stops ends
-          (lies ∙ option_map-of-three-functions-splits (authority_parts_at (length o1 + 2))
-          normal_parts meaning p.authority) queries,
+      λ empty. pushed-components-have-positions (normal_components m)
+          (option_map normal_parts m.authority) old o1 o2 o3 start stop end query
+          places empty e1 e2 path starts stops ends (lies ∙ option_map-of-three-functions-splits
+          (authority_parts_at (length o1 + 2)) normal_parts meaning p.authority) queries,
     )

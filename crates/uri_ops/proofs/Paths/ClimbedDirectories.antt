@@ -1,21 +1,13 @@
 -- A reference's path after a directory without dot segments.
-use Rattle.std.proofs.Common.{◌≡◌, ◌<◌, ◌-◌, ◌+◌, ℕ, Bool, eqb, List, [], ◌∷◌, ◌++◌, length, take, append_assoc, drop, get_or, inr, refl, sym, ap, subst, ◌∙◌, arith, true}
-use Rattle.std.proofs.Math.Seq.{drop-append_seam, take-append_seam}
-use Rattle.uri_ops.specs.Dots.{before_last_slash, is_empty, IsAbsolute}
-use Rattle.uri_ops.specs.Models.Directories.{BeginsWith, EndsIn, IsDotlessDirectory, RemovalState, parent_directory}
-use Rattle.uri_ops.specs.Models.LeadingSegments.{begins_with_dot}
-use Rattle.std.proofs.lemmas.List.{get_or-drop, length-append, take-append-drop}
-use Rattle.uri_ops.specs.Models.Places.{IsSlashOrStart}
+use Rattle.uri_ops.proofs.Common.{◌≡◌, ◌<◌, ◌-◌, ◌+◌, ℕ, Bool, eqb, List, [], ◌∷◌, ◌++◌, length, take, append_assoc, drop, get_or, inr, refl, sym, ap, subst, ◌∙◌, arith, true, drop-append_seam, take-append_seam, before_last_slash, is_empty, IsAbsolute, BeginsWith, EndsIn, IsDotlessDirectory, RemovalState, parent_directory, begins_with_dot, get_or-drop, length-append, take-append-drop, IsSlashOrStart, false≢true}
 use Rattle.uri_ops.proofs.Targeting.Targets.{appended-absolute-path-is-absolute}
-use Rattle.std.proofs.lemmas.Bool.{false≢true}
 use Rattle.uri_ops.proofs.Paths.LastSlashes.{before_last_slash-of-directory, text-is-empty-if-positions-are-equal, length-of-directory}
 
 -- paths: a directory of one byte, `/`, has nothing before its last `/`
 pub directory-of-one-byte-is-root : (path : List ℕ) → IsDotlessDirectory path
     → eqb (length path) 1 ≡ is_empty (before_last_slash path)
-directory-of-one-byte-is-root path d =
-    text-is-empty-if-positions-are-equal d.closed.0 (length path) 1
-    (omega (arith, length-of-directory path d.closed))
+directory-of-one-byte-is-root path d = text-is-empty-if-positions-are-equal d.closed.0
+    (length path) 1 (omega (arith, length-of-directory path d.closed))
     ∙ ap is_empty (sym (before_last_slash-of-directory path d.closed))
 
 -- general fact on texts, for what is kept of a directory: its first n bytes are a prefix of it
@@ -38,10 +30,9 @@ path-with-directory-at-start-is-absolute path kept d (rest, e) =
 
 -- paths: the last byte of a directory that a path begins with is a `/` (47) of it, and the path up
 -- to it is the directory
-pub directory-at-start-ends-at-slash : (path kept : List ℕ) → IsDotlessDirectory kept
-    → BeginsWith path kept
-    → (0 < length kept) × IsSlashOrStart path 0 (length kept - 1)
-    × (take (length kept - 1 + 1) path ≡ kept)
+pub directory-at-start-ends-at-slash : (path kept : List ℕ)
+    → IsDotlessDirectory kept → BeginsWith path kept → (0 < length kept)
+    × IsSlashOrStart path 0 (length kept - 1) × (take (length kept - 1 + 1) path ≡ kept)
 directory-at-start-ends-at-slash path kept d (rest, e) =
     let prefix = d.closed.0 in
     let n : length kept ≡ length prefix + 1 = length-of-directory kept d.closed in
@@ -51,9 +42,8 @@ directory-at-start-ends-at-slash path kept d (rest, e) =
     let within : length kept - 1 < length path = omega
     (arith, n, ap length e, length-append kept rest) in
     let byte : get_or path (length kept - 1) 0 ≡ 47 = ap (λ k. get_or path k 0) slash
-    ∙ sym (get_or-drop (length prefix) path 0 0)
-    ∙ ap (λ t. get_or t 0 0)
-    (ap (drop (length prefix)) whole ∙ drop-append_seam prefix (47 ∷ rest)) in
+    ∙ sym (get_or-drop (length prefix) path 0 0) ∙ ap
+    (λ t. get_or t 0 0) (ap (drop (length prefix)) whole ∙ drop-append_seam prefix (47 ∷ rest)) in
     let all : length kept - 1 + 1 ≡ length kept = omega (arith, n) in (
       omega (arith, n),
       (omega arith, inr (within, byte)),
@@ -65,9 +55,8 @@ pub rest-of-suffix-is-suffix : (text suffix rest : List ℕ) (n : ℕ) → rest 
     → EndsIn text suffix → EndsIn text rest
 rest-of-suffix-is-suffix text suffix rest n e (before, f) = (
   before ++ take n suffix,
-  f ∙ ap (λ t. before ++ t) (sym (take-append-drop n suffix))
-      ∙ sym (append_assoc before (take n suffix) (drop n suffix))
-      ∙ ap (λ t. (before ++ take n suffix) ++ t) (sym e),
+  f ∙ ap (λ t. before ++ t) (sym (take-append-drop n suffix)) ∙ sym (append_assoc before
+      (take n suffix) (drop n suffix)) ∙ ap (λ t. (before ++ take n suffix) ++ t) (sym e),
 )
 
 -- removing dot segments: what is kept when a `..` is taken is a directory

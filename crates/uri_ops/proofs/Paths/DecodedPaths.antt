@@ -1,23 +1,10 @@
 -- The decoded form of a path, as printed: its segments, and its dot segments, which may be removed
 -- before or after decoding.
-use Rattle.std.proofs.Common.{◌≡◌, ℕ, true, false, List, [], ◌∷◌, ◌++◌, map, refl, sym, ap, subst, ◌∙◌, arith, lit<}
-use Rattle.std.specs.List.{list_all}
-use Rattle.std.specs.Str.{IsUtf8}
-use Rattle.std.proofs.lemmas.Str.{IsUtf8-append, IsUtf8-nil, IsUtf8-encode, encode_ascii}
-use Rattle.std.proofs.Math.Utf8.{low_scalar}
-use Rattle.std.proofs.lemmas.List.{append-nil, map-append}
-use Rattle.std.proofs.lemmas.Bool.{and_parts, and_from, not_from_false}
-use Rattle.uri_pct.specs.Sets.{TableSet, LacksPercent, IsSubset, unreserved_set, allows}
-use Rattle.uri_pct.specs.Tokens.{is_valid_for}
-use Rattle.uri_pct.proofs.ValidTexts.Validity.{ascii_char_is_allowed_iff_in_set}
-use Rattle.uri_parts.specs.Components.{IsAbemptyPath}
-use Rattle.uri_parts.proofs.TextKinds.GrammarTexts.{utf8_around_ascii_byte}
-use Rattle.uri_ops.specs.Dots.{has_slash, remove_dot_segments, underflows, directory, IsAbsolute}
+use Rattle.uri_ops.proofs.Common.{◌≡◌, ℕ, true, false, List, [], ◌∷◌, ◌++◌, map, refl, sym, ap, subst, ◌∙◌, arith, lit<, list_all, IsUtf8, IsUtf8-append, IsUtf8-nil, IsUtf8-encode, encode_ascii, low_scalar, append-nil, map-append, and_parts, and_from, not_from_false, TableSet, LacksPercent, IsSubset, unreserved_set, allows, is_valid_for, ascii_char_is_allowed_iff_in_set, IsAbemptyPath, utf8_around_ascii_byte, has_slash, remove_dot_segments, underflows, directory, IsAbsolute, print_decoded}
 use Rattle.uri_ops.proofs.Paths.Segments.{dotless_of, parent, AllPass, appended-segments-pass-test, dotless_of-pass-test}
 use Rattle.uri_ops.proofs.Paths.SlashedSegments.{slashed, NoSlashes, first-segment-and-rest-lack-slashes, remove-dots-by-segments, underflows-by-segments, directory-by-segments, parent-segments-pass-test}
 use Rattle.uri_ops.proofs.Paths.DotLaws.{property-of-absolute-path-by-segments, rooted}
 use Rattle.uri_ops.proofs.Meanings.AllowedParts.{is_set_text, set-text-from-utf8, set-text-is-utf8, set-text-is-valid, empty-text-is-set-text, print_decoded-of-nil-is-nil, decoded-text-is-utf8, decoding-keeps-decoded-bytes, decoding-splits-at-slash, validity-splits-at-slash}
-use Rattle.uri_pct.proofs.UnreservedDecoding.Printing.{print_decoded}
 use Rattle.uri_ops.proofs.Paths.DotBytes.{single-dot-by-decoded-bytes, double-dot-by-decoded-bytes}
 use Rattle.uri_ops.proofs.Meanings.Lacking.{decoding-adds-no-reserved}
 use Rattle.uri_ops.proofs.Paths.SegmentMaps.{KeepsDots, dotless_of-and-map-swap, parent-and-map-swap, underflows_over-of-mapped-segments}
@@ -37,21 +24,18 @@ set-text-splits set x y e =
     let p = and_parts (is_valid_for set x) _
     (sym (validity-splits-at-slash set x y v.0) ∙ set-text-is-valid set (x ++ 47 ∷ y) e) in (
       set-text-from-utf8 set x v.0 p.0,
-      set-text-from-utf8 set y v.1
-          (and_parts (allows set 47) (is_valid_for set y) p.1).1,
+      set-text-from-utf8 set y v.1 (and_parts (allows set 47) (is_valid_for set y) p.1).1,
     )
 
 -- paths: two valid texts with a `/` (47) between them are valid for a set that has `/`
 pub set-texts-join-at-slash : (set : TableSet) → set.ascii 47 ≡ true → (x y : List ℕ)
-    → is_set_text set x ≡ true
-    → is_set_text set y ≡ true → is_set_text set (x ++ 47 ∷ y) ≡ true
+    → is_set_text set x ≡ true → is_set_text set y ≡ true → is_set_text set (x ++ 47 ∷ y) ≡ true
 set-texts-join-at-slash set slash x y e f =
     let u = set-text-is-utf8 set x e in
-    set-text-from-utf8 set (x ++ 47 ∷ y)
-    (utf8-joined-at-slash-is-utf8 x y u (set-text-is-utf8 set y f))
-    (validity-splits-at-slash set x y u ∙ and_from _ _ (set-text-is-valid set x e)
-    (and_from _ _ (ascii_char_is_allowed_iff_in_set set 47 (lit< tt) ∙ slash)
-    (set-text-is-valid set y f)))
+    set-text-from-utf8 set
+    (x ++ 47 ∷ y) (utf8-joined-at-slash-is-utf8 x y u (set-text-is-utf8 set y f))
+    (validity-splits-at-slash set x y u ∙ and_from _ _ (set-text-is-valid set x e) (and_from _ _
+    (ascii_char_is_allowed_iff_in_set set 47 (lit< tt) ∙ slash) (set-text-is-valid set y f)))
 
 -- paths: the segments of a valid text are valid
 pub joined-segments-of-set-text-are-set-texts : (set : TableSet) (s : List ℕ) (rest : List (List ℕ))
@@ -65,18 +49,15 @@ joined-segments-of-set-text-are-set-texts set s (t ∷ rest) e = let p = set-tex
 
 -- paths: the segments of a valid path that begins with `/` are valid
 segments-of-set-text-are-set-texts : (set : TableSet) (segs : List (List ℕ))
-    → is_set_text set (slashed segs) ≡ true
-    → AllPass (is_set_text set) segs
+    → is_set_text set (slashed segs) ≡ true → AllPass (is_set_text set) segs
 unfolding slashed
 segments-of-set-text-are-set-texts set [] e = refl
-segments-of-set-text-are-set-texts set (s ∷ rest) e = joined-segments-of-set-text-are-set-texts set
-    s rest
-    (set-text-splits set [] (s ++ slashed rest) e).1
+segments-of-set-text-are-set-texts set (s ∷ rest) e = joined-segments-of-set-text-are-set-texts
+    set s rest (set-text-splits set [] (s ++ slashed rest) e).1
 
 -- paths: a valid segment, and others each after a `/` (47), are a valid text
-joined-set-texts-are-set-text : (set : TableSet) → set.ascii 47 ≡ true
-    → (s : List ℕ) (rest : List (List ℕ))
-    → AllPass (is_set_text set) (s ∷ rest) → is_set_text set (s ++ slashed rest) ≡ true
+joined-set-texts-are-set-text : (set : TableSet) → set.ascii 47 ≡ true → (s : List ℕ) (rest : List
+    (List ℕ)) → AllPass (is_set_text set) (s ∷ rest) → is_set_text set (s ++ slashed rest) ≡ true
 unfolding slashed
 joined-set-texts-are-set-text set slash s [] e = ap (is_set_text set) (append-nil s)
     ∙ (and_parts (is_set_text set s) true e).0
@@ -90,23 +71,20 @@ slashed-set-texts-are-set-text : (set : TableSet) → set.ascii 47 ≡ true → 
     → AllPass (is_set_text set) segs → is_set_text set (slashed segs) ≡ true
 unfolding slashed
 slashed-set-texts-are-set-text set slash [] e = empty-text-is-set-text set
-slashed-set-texts-are-set-text set slash (s ∷ rest) e =
-    set-texts-join-at-slash set slash [] (s ++ slashed rest) (empty-text-is-set-text set)
-    (joined-set-texts-are-set-text set slash s rest e)
+slashed-set-texts-are-set-text set slash (s ∷ rest) e = set-texts-join-at-slash set slash [] (s
+    ++ slashed rest) (empty-text-is-set-text set) (joined-set-texts-are-set-text set slash s rest e)
 
 -- decoded paths: segments, all but the first after a `/`, are decoded one by one
 decoding-joined-segments-is-by-segment : (set : TableSet) (s : List ℕ) (rest : List (List ℕ))
-    → AllPass (is_set_text set) (s ∷ rest)
-    → print_decoded set (s ++ slashed rest)
+    → AllPass (is_set_text set) (s ∷ rest) → print_decoded set (s ++ slashed rest)
     ≡ print_decoded set s ++ slashed (map (print_decoded set) rest)
 unfolding slashed
 decoding-joined-segments-is-by-segment set s [] e = ap (print_decoded set) (append-nil s)
     ∙ sym (append-nil (print_decoded set s))
 decoding-joined-segments-is-by-segment set s (t ∷ rest) e =
     let p = and_parts (is_set_text set s) (list_all (is_set_text set) (t ∷ rest)) e in
-    decoding-splits-at-slash set s (t ++ slashed rest) (set-text-is-utf8 set s p.0)
-    ∙ ap (λ x. print_decoded set s ++ 47 ∷ x)
-    (decoding-joined-segments-is-by-segment set t rest p.1)
+    decoding-splits-at-slash set s (t ++ slashed rest) (set-text-is-utf8 set s p.0) ∙ ap
+    (λ x. print_decoded set s ++ 47 ∷ x) (decoding-joined-segments-is-by-segment set t rest p.1)
 
 -- decoded paths: decoding leaves a `/` (47) at the start
 pub decoding-keeps-first-slash : (set : TableSet) (y : List ℕ) → print_decoded set (47 ∷ y)
@@ -120,9 +98,8 @@ decoding-slashed-segments-is-by-segment : (set : TableSet) (segs : List (List �
     → print_decoded set (slashed segs) ≡ slashed (map (print_decoded set) segs)
 unfolding slashed
 decoding-slashed-segments-is-by-segment set [] e = print_decoded-of-nil-is-nil set
-decoding-slashed-segments-is-by-segment set (s ∷ rest) e = decoding-keeps-first-slash set
-    (s ++ slashed rest)
-    ∙ ap (λ x. 47 ∷ x) (decoding-joined-segments-is-by-segment set s rest e)
+decoding-slashed-segments-is-by-segment set (s ∷ rest) e = decoding-keeps-first-slash set (s
+    ++ slashed rest) ∙ ap (λ x. 47 ∷ x) (decoding-joined-segments-is-by-segment set s rest e)
 
 module _ (set : TableSet) (lacks : LacksPercent set) (wide : IsSubset unreserved_set set) where
   pub decoding-keeps-dot-segments : (s : List ℕ) → is_set_text set s ≡ true
@@ -141,9 +118,8 @@ module _ (set : TableSet) (lacks : LacksPercent set) (wide : IsSubset unreserved
       → has_slash (print_decoded set s) ≡ false
   decoding-adds-no-slash s e f = decoding-adds-no-reserved 47 set lacks wide refl refl s e f
 
-  decoded-segments-lack-slashes : (segs : List (List ℕ)) → AllPass (is_set_text set) segs
-      → NoSlashes segs
-      → NoSlashes (map (print_decoded set) segs)
+  decoded-segments-lack-slashes : (segs : List (List ℕ))
+      → AllPass (is_set_text set) segs → NoSlashes segs → NoSlashes (map (print_decoded set) segs)
   decoded-segments-lack-slashes [] e f = refl
   decoded-segments-lack-slashes (s ∷ rest) e f =
       let p = and_parts (is_set_text set s) (list_all (is_set_text set) rest) e in
@@ -154,10 +130,8 @@ module _ (set : TableSet) (lacks : LacksPercent set) (wide : IsSubset unreserved
   -- the segments of what is left
   dotless_of-set-texts-are-set-texts : (segs : List (List ℕ)) → AllPass (is_set_text set) segs
       → AllPass (is_set_text set) (dotless_of segs)
-  dotless_of-set-texts-are-set-texts segs e = dotless_of-pass-test (is_set_text set)
-      (is_set_text set) (λ s h d. h)
-      (empty-text-is-set-text set) segs
-      e
+  dotless_of-set-texts-are-set-texts segs e = dotless_of-pass-test
+      (is_set_text set) (is_set_text set) (λ s h d. h) (empty-text-is-set-text set) segs e
 
   -- dot segments may be removed before or after decoding
   pub removing-dots-and-decoding-swap : (path : List ℕ) → IsAbsolute path
@@ -165,89 +139,75 @@ module _ (set : TableSet) (lacks : LacksPercent set) (wide : IsSubset unreserved
       → remove_dot_segments (print_decoded set path) ≡ print_decoded set (remove_dot_segments path)
   removing-dots-and-decoding-swap = property-of-absolute-path-by-segments
       (λ path. is_set_text set path ≡ true → remove_dot_segments (print_decoded set path)
-      ≡ print_decoded set (remove_dot_segments path))
-      (λ s rest f e.
+      ≡ print_decoded set (remove_dot_segments path)) (λ s rest f e.
       let p = segments-of-set-text-are-set-texts set (s ∷ rest) e in
       ap remove_dot_segments (decoding-slashed-segments-is-by-segment set (s ∷ rest) p)
-      ∙ remove-dots-by-segments (map (print_decoded set) (s ∷ rest))
-      (decoded-segments-lack-slashes (s ∷ rest) p f)
-      ∙ ap slashed
-      (dotless_of-and-map-swap (print_decoded set) (is_set_text set) decoding-keeps-dot-segments
-      (print_decoded-of-nil-is-nil set) (s ∷ rest) p)
-      ∙ sym (decoding-slashed-segments-is-by-segment set (dotless_of (s ∷ rest))
-      (dotless_of-set-texts-are-set-texts (s ∷ rest) p))
+      ∙ remove-dots-by-segments (map (print_decoded set) (s ∷ rest)) (decoded-segments-lack-slashes
+      (s ∷ rest) p f) ∙ ap slashed (dotless_of-and-map-swap (print_decoded set)
+      (is_set_text set) decoding-keeps-dot-segments (print_decoded-of-nil-is-nil set) (s ∷ rest) p)
+      ∙ sym (decoding-slashed-segments-is-by-segment set
+      (dotless_of (s ∷ rest)) (dotless_of-set-texts-are-set-texts (s ∷ rest) p))
       ∙ sym (ap (print_decoded set) (remove-dots-by-segments (s ∷ rest) f)))
 
   -- decoding changes no underflow
   pub decoding-keeps-underflow : (path : List ℕ) → IsAbsolute path → is_set_text set path ≡ true
       → underflows (print_decoded set path) ≡ underflows path
-  decoding-keeps-underflow = property-of-absolute-path-by-segments
-      (λ path. is_set_text set path ≡ true → underflows (print_decoded set path) ≡ underflows path)
-      (λ s rest f e.
+  decoding-keeps-underflow = property-of-absolute-path-by-segments (λ path. is_set_text set path
+      ≡ true → underflows (print_decoded set path) ≡ underflows path) (λ s rest f e.
       let p = segments-of-set-text-are-set-texts set (s ∷ rest) e in
       ap underflows (decoding-slashed-segments-is-by-segment set (s ∷ rest) p)
       ∙ underflows-by-segments (map (print_decoded set) (s ∷ rest))
-      (decoded-segments-lack-slashes (s ∷ rest) p f)
-      ∙ underflows_over-of-mapped-segments (print_decoded set)
-      (is_set_text set) decoding-keeps-dot-segments false [] (s ∷ rest) p
+      (decoded-segments-lack-slashes (s ∷ rest) p f) ∙ underflows_over-of-mapped-segments
+      (print_decoded set) (is_set_text set) decoding-keeps-dot-segments false [] (s ∷ rest) p
       ∙ sym (underflows-by-segments (s ∷ rest) f))
 
   pub dotless-set-text-is-set-text : set.ascii 47 ≡ true → (path : List ℕ) → IsAbsolute path
       → is_set_text set path ≡ true → is_set_text set (remove_dot_segments path) ≡ true
-  dotless-set-text-is-set-text slash =
-      property-of-absolute-path-by-segments (λ path. is_set_text set path ≡ true
-      → is_set_text set (remove_dot_segments path)
-      ≡ true)
+  dotless-set-text-is-set-text slash = property-of-absolute-path-by-segments
+      (λ path. is_set_text set path ≡ true → is_set_text set (remove_dot_segments path) ≡ true)
       (λ s rest f e. ap (is_set_text set) (remove-dots-by-segments (s ∷ rest) f)
-      ∙ slashed-set-texts-are-set-text set slash (dotless_of (s ∷ rest))
-      (dotless_of-set-texts-are-set-texts (s ∷ rest)
+      ∙ slashed-set-texts-are-set-text set slash
+      (dotless_of (s ∷ rest)) (dotless_of-set-texts-are-set-texts (s ∷ rest)
       (segments-of-set-text-are-set-texts set (s ∷ rest) e)))
 
   parent-of-set-texts-are-set-texts : (s : List ℕ) (rest : List (List ℕ))
       → AllPass (is_set_text set) (s ∷ rest)
       → AllPass (is_set_text set) (parent (s ∷ rest) ++ [] ∷ [])
   parent-of-set-texts-are-set-texts s rest e = appended-segments-pass-test (is_set_text set)
-      (parent (s ∷ rest)) ([] ∷ [])
-      (parent-segments-pass-test (is_set_text set) (s ∷ rest) e)
+      (parent (s ∷ rest)) ([] ∷ []) (parent-segments-pass-test (is_set_text set) (s ∷ rest) e)
       (and_from _ _ (empty-text-is-set-text set) refl)
 
   -- nor does it matter to a directory
   pub directory-of-set-text-is-set-text : set.ascii 47 ≡ true → (path : List ℕ) → IsAbemptyPath path
       → is_set_text set path ≡ true → is_set_text set (directory path) ≡ true
   unfolding directory
-  directory-of-set-text-is-set-text slash =
-      rooted (λ path. is_set_text set path ≡ true → is_set_text set (directory path) ≡ true)
-      (λ e. set-texts-join-at-slash set slash [] [] (empty-text-is-set-text set)
-      (empty-text-is-set-text set))
+  directory-of-set-text-is-set-text slash = rooted (λ path. is_set_text set path ≡ true
+      → is_set_text set (directory path) ≡ true) (λ e. set-texts-join-at-slash set slash [] []
+      (empty-text-is-set-text set) (empty-text-is-set-text set))
       (property-of-absolute-path-by-segments (λ path. is_set_text set path ≡ true
-      → is_set_text set (directory path) ≡ true)
-      (λ s rest f e. ap (is_set_text set) (directory-by-segments s rest f)
-      ∙ slashed-set-texts-are-set-text set slash (parent (s ∷ rest) ++ [] ∷ [])
-      (parent-of-set-texts-are-set-texts s rest
+      → is_set_text set (directory path) ≡ true) (λ s rest f e. ap (is_set_text set)
+      (directory-by-segments s rest f) ∙ slashed-set-texts-are-set-text set slash (parent (s ∷ rest)
+      ++ [] ∷ []) (parent-of-set-texts-are-set-texts s rest
       (segments-of-set-text-are-set-texts set (s ∷ rest) e))))
 
-  pub directory-and-decoding-swap : (path : List ℕ) → IsAbemptyPath path
-      → is_set_text set path ≡ true
-      → directory (print_decoded set path) ≡ print_decoded set (directory path)
+  pub directory-and-decoding-swap : (path : List ℕ) → IsAbemptyPath path → is_set_text set path
+      ≡ true → directory (print_decoded set path) ≡ print_decoded set (directory path)
   unfolding directory
   directory-and-decoding-swap = rooted (λ path. is_set_text set path ≡ true
       → directory (print_decoded set path) ≡ print_decoded set (directory path))
-      (λ e. ap directory (print_decoded-of-nil-is-nil set)
-      ∙ sym (decoding-keeps-first-slash set []
+      (λ e. ap directory (print_decoded-of-nil-is-nil set) ∙ sym (decoding-keeps-first-slash set []
       ∙ ap (λ x. 47 ∷ x) (print_decoded-of-nil-is-nil set)))
       (property-of-absolute-path-by-segments (λ path. is_set_text set path ≡ true
-      → directory (print_decoded set path) ≡ print_decoded set (directory path))
-      (λ s rest f e.
+      → directory (print_decoded set path) ≡ print_decoded set (directory path)) (λ s rest f e.
       let p = segments-of-set-text-are-set-texts set (s ∷ rest) e in
       ap directory (decoding-slashed-segments-is-by-segment set (s ∷ rest) p)
-      ∙ directory-by-segments (print_decoded set s) (map (print_decoded set) rest)
-      (decoded-segments-lack-slashes (s ∷ rest) p f)
-      ∙ ap (λ t. slashed (t ++ [] ∷ []))
-      (parent-and-map-swap (print_decoded set) (is_set_text set) decoding-keeps-dot-segments
-      (s ∷ rest) p)
+      ∙ directory-by-segments (print_decoded set s)
+      (map (print_decoded set) rest) (decoded-segments-lack-slashes (s ∷ rest) p f)
+      ∙ ap (λ t. slashed (t ++ [] ∷ [])) (parent-and-map-swap (print_decoded set)
+      (is_set_text set) decoding-keeps-dot-segments (s ∷ rest) p)
       ∙ ap (λ t. slashed (map (print_decoded set) (parent (s ∷ rest)) ++ t ∷ []))
       (sym (print_decoded-of-nil-is-nil set))
       ∙ ap slashed (sym (map-append (print_decoded set) (parent (s ∷ rest)) ([] ∷ [])))
-      ∙ sym (decoding-slashed-segments-is-by-segment set (parent (s ∷ rest) ++ [] ∷ [])
-      (parent-of-set-texts-are-set-texts s rest p))
+      ∙ sym (decoding-slashed-segments-is-by-segment set
+      (parent (s ∷ rest) ++ [] ∷ []) (parent-of-set-texts-are-set-texts s rest p))
       ∙ sym (ap (print_decoded set) (directory-by-segments s rest f))))

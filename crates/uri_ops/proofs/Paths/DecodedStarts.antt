@@ -1,23 +1,10 @@
 -- The decoded form of a path, as printed, begins as the path does.
-use Rattle.std.proofs.Common.{◌≡◌, ℕ, true, false, eqb, List, [], ◌∷◌, ◌++◌, refl, sym, ap, ◌∙◌, ◌⊎◌, ⊎_elim, inl, inr}
-use Rattle.std.specs.Prelude.{codes}
-use Rattle.std.specs.List.{list_any}
-use Rattle.std.specs.Str.{chars}
-use Rattle.std.proofs.lemmas.List.{append-nil}
-use Rattle.std.proofs.lemmas.Bool.{cases_Bool, and_left, or_parts, or_from, eqb-true, false≢true}
-use Rattle.uri_pct.specs.Sets.{TableSet, LacksPercent, IsSubset, unreserved_set}
-use Rattle.uri_pct.specs.Tokens.{tokens, tokens_from_chars, bytes_decoded_from}
-use Rattle.uri_parts.specs.Components.{Lacks, starts, has_authority, before_any}
-use Rattle.uri_parts.specs.Grammar.{has_colon_in_first_segment}
-use Rattle.uri_parts.proofs.Splitting.Cuts.{cut-at-end-of-text-without-marks}
-use Rattle.uri_ops.specs.Dots.{is_empty, has_slash}
+use Rattle.uri_ops.proofs.Common.{◌≡◌, ℕ, true, false, eqb, List, [], ◌∷◌, ◌++◌, refl, sym, ap, ◌∙◌, ◌⊎◌, ⊎_elim, inl, inr, codes, list_any, chars, append-nil, cases_Bool, and_left, or_parts, or_from, eqb-true, false≢true, TableSet, LacksPercent, IsSubset, unreserved_set, tokens, tokens_from_chars, bytes_decoded_from, Lacks, starts, has_authority, before_any, has_colon_in_first_segment, cut-at-end-of-text-without-marks, is_empty, has_slash, print_decoded, cons_is_not_nil}
 use Rattle.uri_ops.proofs.Paths.PathCharacters.{test-of-delimiters-gives-lacks}
-use Rattle.uri_pct.proofs.UnreservedDecoding.Printing.{print_decoded}
 use Rattle.uri_ops.proofs.Meanings.AllowedParts.{is_set_text, set-text-is-utf8, print_decoded-of-nil-is-nil, decoding-keeps-decoded-bytes, decoding-splits-at-slash}
 use Rattle.uri_ops.proofs.Paths.DotBytes.{text-decoding-to-no-bytes-is-empty}
 use Rattle.uri_ops.proofs.Meanings.Lacking.{lacks-gives-lacks_any, decoding-adds-no-reserved}
 use Rattle.uri_ops.proofs.Paths.DecodedPaths.{decoding-adds-no-slash, set-text-splits, decoding-keeps-first-slash}
-use Rattle.uri_parts.proofs.Splitting.Marks.{cons_is_not_nil}
 
 -- paths: the text is its first segment, a `/` (47) and what follows it
 record FirstSegment (text : List ℕ) : Type 0 where
@@ -30,28 +17,17 @@ record FirstSegment (text : List ℕ) : Type 0 where
 text-lacks-slash-or-has-first-segment : (text : List ℕ) → (has_slash text ≡ false)
     ⊎ FirstSegment text
 text-lacks-slash-or-has-first-segment [] = inl refl
-text-lacks-slash-or-has-first-segment (c ∷ text) = ⊎_elim
-    (λ e.
-    inr
-    (record {
-      segment = [];
-      rest = text;
-      whole =
-          ap (λ d. d ∷ text) (eqb-true c 47 e);
-      lacks = refl;
-    }))
-    (λ e. ⊎_elim
-    (λ h. inl (or_from _ _ e h))
-    (λ (w : FirstSegment text). inr
-    (record {
-      segment = c ∷ w.segment;
-      rest = w.rest;
-      whole = ap (λ t. c ∷ t) w.whole;
-      lacks =
-          or_from _ _ e w.lacks;
-    }))
-    (text-lacks-slash-or-has-first-segment text))
-    (cases_Bool (eqb c 47))
+text-lacks-slash-or-has-first-segment (c ∷ text) = ⊎_elim (λ e. inr (record {
+  segment = [];
+  rest = text;
+  whole = ap (λ d. d ∷ text) (eqb-true c 47 e);
+  lacks = refl;
+})) (λ e. ⊎_elim (λ h. inl (or_from _ _ e h)) (λ (w : FirstSegment text). inr (record {
+  segment = c ∷ w.segment;
+  rest = w.rest;
+  whole = ap (λ t. c ∷ t) w.whole;
+  lacks = or_from _ _ e w.lacks;
+})) (text-lacks-slash-or-has-first-segment text)) (cases_Bool (eqb c 47))
 
 -- dot segments: the empty text decodes to no bytes
 empty-text-decodes-to-no-bytes : bytes_decoded_from (tokens []) ≡ []
@@ -92,9 +68,8 @@ slashless-text-lacks-slash-delimiter s e = test-of-delimiters-gives-lacks (codes
 -- paths: what is before the first `/` (47) is the first segment
 text-before-first-slash-is-segment : (s y : List ℕ) → has_slash s ≡ false
     → before_any (codes "/") (s ++ 47 ∷ y) ≡ s
-text-before-first-slash-is-segment s y e =
-    (cut-at-end-of-text-without-marks (codes "/") s (47 ∷ y)
-    (slashless-text-lacks-slash-delimiter s e) refl).0
+text-before-first-slash-is-segment s y e = (cut-at-end-of-text-without-marks (codes "/") s
+    (47 ∷ y) (slashless-text-lacks-slash-delimiter s e) refl).0
 
 -- paths: what is before the first `/` of a text that has none is the text
 text-before-no-slash-is-whole : (s : List ℕ) → has_slash s ≡ false → before_any (codes "/") s ≡ s
@@ -110,75 +85,56 @@ module _ (set : TableSet) (lacks : LacksPercent set) (wide : IsSubset unreserved
   decoding-keeps-emptiness (c ∷ s) e = some (print_decoded set (c ∷ s)) refl
     where
       some : (t : List ℕ) → t ≡ print_decoded set (c ∷ s) → is_empty t ≡ false
-      some [] f =
-          absurd
-          (cons_is_not_nil c s (text-decoding-to-no-bytes-is-empty (c ∷ s)
-          (set-text-is-utf8 set (c ∷ s) e)
-          (sym (decoding-keeps-decoded-bytes set lacks (c ∷ s) e)
+      some [] f = absurd (cons_is_not_nil c s (text-decoding-to-no-bytes-is-empty (c ∷ s)
+          (set-text-is-utf8 set (c ∷ s) e) (sym (decoding-keeps-decoded-bytes set lacks (c ∷ s) e)
           ∙ ap (λ t. bytes_decoded_from (tokens t)) (sym f) ∙ empty-text-decodes-to-no-bytes)))
       some (d ∷ t) f = refl
 
-  decoding-adds-no-colon : (s : List ℕ) → is_set_text set s ≡ true → list_any (λ c. eqb c 58) s
-      ≡ false
-      → list_any (λ c. eqb c 58) (print_decoded set s) ≡ false
+  decoding-adds-no-colon : (s : List ℕ) → is_set_text set s ≡ true
+      → list_any (λ c. eqb c 58) s ≡ false → list_any (λ c. eqb c 58) (print_decoded set s) ≡ false
   decoding-adds-no-colon s e f = decoding-adds-no-reserved 58 set lacks wide refl refl s e f
 
   pub decoding-keeps-leading-slash : (x : List ℕ) → is_set_text set x ≡ true
       → starts 47 (print_decoded set x) ≡ starts 47 x
-  decoding-keeps-leading-slash x e = ⊎_elim
-      (λ h. slashless-text-begins-with-no-slash (print_decoded set x)
-      (decoding-adds-no-slash set lacks wide x e h)
-      ∙ sym (slashless-text-begins-with-no-slash x h))
-      (λ (w : FirstSegment x).
+  decoding-keeps-leading-slash x e = ⊎_elim (λ h. slashless-text-begins-with-no-slash
+      (print_decoded set x) (decoding-adds-no-slash set lacks wide x e h)
+      ∙ sym (slashless-text-begins-with-no-slash x h)) (λ (w : FirstSegment x).
       let p = set-text-splits set w.segment w.rest (ap (is_set_text set) (sym w.whole) ∙ e) in
-      ap (λ t. starts 47 (print_decoded set t)) w.whole
-      ∙ ap (starts 47) (decoding-splits-at-slash set w.segment w.rest
-      (set-text-is-utf8 set w.segment p.0))
+      ap (λ t. starts 47 (print_decoded set t)) w.whole ∙ ap (starts 47)
+      (decoding-splits-at-slash set w.segment w.rest (set-text-is-utf8 set w.segment p.0))
       ∙ empty-segment-before-slash-begins-with-slash (print_decoded set w.segment)
-      (print_decoded set w.rest)
-      (decoding-adds-no-slash set lacks wide w.segment p.0 w.lacks)
-      ∙ decoding-keeps-emptiness w.segment p.0
-      ∙ sym (ap (starts 47) w.whole ∙ empty-segment-before-slash-begins-with-slash w.segment
-      w.rest w.lacks))
+      (print_decoded set w.rest) (decoding-adds-no-slash set lacks wide w.segment p.0 w.lacks)
+      ∙ decoding-keeps-emptiness w.segment p.0 ∙ sym (ap (starts 47) w.whole
+      ∙ empty-segment-before-slash-begins-with-slash w.segment w.rest w.lacks))
       (text-lacks-slash-or-has-first-segment x)
 
   pub decoding-keeps-two-slashes : (x : List ℕ) → is_set_text set x ≡ true
       → has_authority (print_decoded set x) ≡ has_authority x
-  decoding-keeps-two-slashes x e = ⊎_elim
-      (λ h.
+  decoding-keeps-two-slashes x e = ⊎_elim (λ h.
       let w = leading-slash-splits-off x h in
       let p = set-text-splits set [] w.0 (ap (is_set_text set) (sym w.1) ∙ e) in
       ap (λ t. has_authority (print_decoded set t)) w.1
-      ∙ ap has_authority (decoding-keeps-first-slash set w.0)
-      ∙ second-slash-makes-two-slashes (print_decoded set w.0)
-      ∙ decoding-keeps-leading-slash w.0 p.1
-      ∙ sym (ap has_authority w.1 ∙ second-slash-makes-two-slashes w.0))
-      (λ h. no-leading-slash-no-two-slashes (print_decoded set x)
-      (decoding-keeps-leading-slash x e ∙ h)
-      ∙ sym (no-leading-slash-no-two-slashes x h))
-      (cases_Bool (starts 47 x))
+      ∙ ap has_authority (decoding-keeps-first-slash set w.0) ∙ second-slash-makes-two-slashes
+      (print_decoded set w.0) ∙ decoding-keeps-leading-slash w.0 p.1
+      ∙ sym (ap has_authority w.1 ∙ second-slash-makes-two-slashes w.0)) (λ h.
+      no-leading-slash-no-two-slashes (print_decoded set x) (decoding-keeps-leading-slash x e ∙ h)
+      ∙ sym (no-leading-slash-no-two-slashes x h)) (cases_Bool (starts 47 x))
 
   -- decoding adds no `:` to the first segment
   pub decoding-adds-no-colon-first : (x : List ℕ) → is_set_text set x ≡ true
       → has_colon_in_first_segment x ≡ false
       → has_colon_in_first_segment (print_decoded set x) ≡ false
   decoding-adds-no-colon-first x e c = ⊎_elim
-      (λ h.
-      ap (list_any (λ c. eqb c 58))
-      (text-before-no-slash-is-whole (print_decoded set x)
-      (decoding-adds-no-slash set lacks wide x e h))
-      ∙ decoding-adds-no-colon x e
+      (λ h. ap (list_any (λ c. eqb c 58)) (text-before-no-slash-is-whole (print_decoded set x)
+      (decoding-adds-no-slash set lacks wide x e h)) ∙ decoding-adds-no-colon x e
       (sym (ap (list_any (λ c. eqb c 58)) (text-before-no-slash-is-whole x h)) ∙ c))
       (λ (w : FirstSegment x).
       let p = set-text-splits set w.segment w.rest (ap (is_set_text set) (sym w.whole) ∙ e) in
       ap (λ t. has_colon_in_first_segment (print_decoded set t)) w.whole
       ∙ ap has_colon_in_first_segment
-      (decoding-splits-at-slash set w.segment w.rest (set-text-is-utf8 set w.segment p.0))
-      ∙ ap (list_any (λ c. eqb c 58))
-      (text-before-first-slash-is-segment (print_decoded set w.segment) (print_decoded set w.rest)
-      (decoding-adds-no-slash set lacks wide w.segment p.0 w.lacks))
-      ∙ decoding-adds-no-colon w.segment p.0
-      (sym (ap has_colon_in_first_segment w.whole
+      (decoding-splits-at-slash set w.segment w.rest (set-text-is-utf8 set w.segment p.0)) ∙ ap
+      (list_any (λ c. eqb c 58)) (text-before-first-slash-is-segment (print_decoded set w.segment)
+      (print_decoded set w.rest) (decoding-adds-no-slash set lacks wide w.segment p.0 w.lacks))
+      ∙ decoding-adds-no-colon w.segment p.0 (sym (ap has_colon_in_first_segment w.whole
       ∙ ap (list_any (λ c. eqb c 58)) (text-before-first-slash-is-segment w.segment w.rest w.lacks))
-      ∙ c))
-      (text-lacks-slash-or-has-first-segment x)
+      ∙ c)) (text-lacks-slash-or-has-first-segment x)

@@ -1,17 +1,6 @@
 -- A dot segment is one that decodes to the bytes of one dot or of two.
-use Rattle.std.proofs.Common.{◌≡◌, ℕ, ◌+◌, ◌*◌, ◌<◌, Bool, true, false, eqb, List, [], ◌∷◌, ◌++◌, length, refl, sym, ap, subst, ◌∙◌, arith, ◌&&◌, ⊎_elim, inl, inr, ◌⊎◌}
-use Rattle.std.specs.Prelude.{codes, bytes_eq}
-use Rattle.std.specs.Char.{encode_utf8, digit_value, is_ascii_hexdigit}
-use Rattle.std.specs.List.{list_any}
-use Rattle.std.specs.Str.{chars, IsUtf8, encode_utf8_all}
-use Rattle.std.proofs.lemmas.List.{append-nil, length-append}
-use Rattle.std.proofs.lemmas.Str.{encodes-chars, length-encode, len_utf8_bounds, encode_ascii, encode_same}
-use Rattle.std.proofs.lemmas.Bool.{cases_Bool, cond-true, cond-false, and_parts, or_cases, false≢true, false_from_ne_true, eqb-true}
-use Rattle.std.proofs.lemmas.Bool.Decides.{nat_tests}
-use Rattle.uri_pct.specs.Tokens.{tokens, tokens_from_chars, bytes_decoded_from, is_pct_encoded}
-use Rattle.uri_ops.specs.Dots.{dots, is_single_dot, is_double_dot}
+use Rattle.uri_ops.proofs.Common.{◌≡◌, ℕ, ◌+◌, ◌*◌, ◌<◌, Bool, true, false, eqb, List, [], ◌∷◌, ◌++◌, length, refl, sym, ap, subst, ◌∙◌, arith, ◌&&◌, ⊎_elim, inl, inr, ◌⊎◌, codes, bytes_eq, encode_utf8, digit_value, is_ascii_hexdigit, list_any, chars, IsUtf8, encode_utf8_all, append-nil, length-append, encodes-chars, length-encode, len_utf8_bounds, encode_ascii, encode_same, cases_Bool, cond-true, cond-false, and_parts, or_cases, false≢true, false_from_ne_true, eqb-true, nat_tests, tokens, tokens_from_chars, bytes_decoded_from, is_pct_encoded, dots, is_single_dot, is_double_dot, hexdigit_value_is_below_16}
 use Rattle.uri_ops.proofs.Paths.Segments.{equal-bytes-are-equal}
-use Rattle.uri_pct.proofs.ValidTexts.Allowed.{hexdigit_value_is_below_16}
 
 -- dot segments: the text is one of the forms of a dot, `.`, `%2E` and `%2e`
 pub record IsDot (text : List ℕ) : Type 0 where
@@ -20,21 +9,15 @@ pub record IsDot (text : List ℕ) : Type 0 where
 -- dot segments: a test that some dot passes is passed by one of `.`, `%2E` and `%2e`
 pub test-of-some-dot : (test : List ℕ → Bool) → list_any test dots ≡ true
     → (dot : List ℕ) × (IsDot dot × (test dot ≡ true))
-test-of-some-dot test e = ⊎_elim
-    (λ h. (codes ".", (record { joined = inl refl }, h)))
-    (λ f. ⊎_elim
-    (λ h. (codes "%2E", (record { joined = inr (inl refl) }, h)))
-    (λ f. ⊎_elim
-    (λ h. (codes "%2e", (record { joined = inr (inr refl) }, h)))
-    (λ f. absurd (false≢true f)) (or_cases _ _ f))
-    (or_cases _ _ f))
-    (or_cases (test (codes ".")) _ e)
+test-of-some-dot test e = ⊎_elim (λ h. (codes ".", (record { joined = inl refl }, h)))
+    (λ f. ⊎_elim (λ h. (codes "%2E", (record { joined = inr (inl refl) }, h))) (λ f. ⊎_elim
+    (λ h. (codes "%2e", (record { joined = inr (inr refl) }, h))) (λ f. absurd (false≢true f))
+    (or_cases _ _ f)) (or_cases _ _ f)) (or_cases (test (codes ".")) _ e)
 
 -- dot segments: what holds of `.`, `%2E` and `%2e` holds of each dot
 pub property-of-each-dot : (P : List ℕ → Type 0) → P (codes ".") → P (codes "%2E") → P (codes "%2e")
     → (dot : List ℕ) → IsDot dot → P dot
-property-of-each-dot P one upper lower dot d =
-    ⊎_elim (λ e. subst P (sym e) one)
+property-of-each-dot P one upper lower dot d = ⊎_elim (λ e. subst P (sym e) one)
     (λ f. ⊎_elim (λ e. subst P (sym e) upper) (λ e. subst P (sym e) lower) f) d.joined
 
 -- dot segments: a dot, `.` or `%2E`, decodes to the byte 46
@@ -51,11 +34,10 @@ unfolding chars tokens_from_chars is_pct_encoded encode_utf8
 two-dots-decode-to-bytes-46 first second d e =
     let P : List ℕ → List ℕ → Type 0 = λ first second. bytes_decoded_from (tokens (first ++ second))
     ≡ 46 ∷ 46 ∷ [] in
-    property-of-each-dot (λ first. P first second)
-    (property-of-each-dot (P (codes ".")) refl refl refl second e)
+    property-of-each-dot
+    (λ first. P first second) (property-of-each-dot (P (codes ".")) refl refl refl second e)
     (property-of-each-dot (P (codes "%2E")) refl refl refl second e)
-    (property-of-each-dot (P (codes "%2e")) refl refl refl second e)
-    first d
+    (property-of-each-dot (P (codes "%2e")) refl refl refl second e) first d
 
 -- dot segments: the segment `.` (or `%2E`) decodes to one byte 46
 single-dot-segment-decodes-to-dot : (s : List ℕ) → is_single_dot s ≡ true
@@ -66,9 +48,8 @@ single-dot-segment-decodes-to-dot s e =
     ∙ dot-decodes-to-byte-46 w.0 w.1.0
 
 -- dot segments: the segment `..` (also with `%2E`) decodes to two bytes 46
-double-dot-segment-decodes-to-two-dots : (s : List ℕ) → is_double_dot s ≡ true
-    → bytes_decoded_from (tokens s)
-    ≡ 46 ∷ 46 ∷ []
+double-dot-segment-decodes-to-two-dots : (s : List ℕ)
+    → is_double_dot s ≡ true → bytes_decoded_from (tokens s) ≡ 46 ∷ 46 ∷ []
 double-dot-segment-decodes-to-two-dots s e =
     let v = test-of-some-dot (λ first. list_any (λ second. bytes_eq s (first ++ second)) dots) e in
     let w = test-of-some-dot (λ second. bytes_eq s (v.0 ++ second)) v.1.1 in
@@ -84,9 +65,8 @@ record BeginsWithDot (cs bytes : List ℕ) : Type 0 where
   suffix : bytes_decoded_from (tokens_from_chars rest) ≡ bytes
 
 -- dot segments: a character whose first byte is 46 is `.`
-character-with-first-byte-46-is-dot : (c : ℕ) (more bytes : List ℕ) → encode_utf8 c ++ more
-    ≡ 46 ∷ bytes
-    → (c ≡ 46) × (more ≡ bytes)
+character-with-first-byte-46-is-dot : (c : ℕ) (more bytes : List ℕ)
+    → encode_utf8 c ++ more ≡ 46 ∷ bytes → (c ≡ 46) × (more ≡ bytes)
 character-with-first-byte-46-is-dot c more bytes e = encode_same c 46 more bytes
     (e ∙ sym (ap (λ t. t ++ bytes) (encode_ascii 46 (omega arith))))
 
@@ -121,8 +101,7 @@ equal-lists-have-equal-heads-and-tails x y xs ys e = (cc, cc)
 -- dot segments: an octet (c, h, l) that decodes to the byte 46 is a dot
 octet-decoding-to-46-is-dot : (c h l : ℕ) (rest bytes : List ℕ) → is_pct_encoded c h l ≡ true
     → (16 * digit_value h + digit_value l) ∷ bytes_decoded_from (tokens_from_chars rest)
-    ≡ 46 ∷ bytes
-    → BeginsWithDot (c ∷ h ∷ l ∷ rest) bytes
+    ≡ 46 ∷ bytes → BeginsWithDot (c ∷ h ∷ l ∷ rest) bytes
 unfolding is_pct_encoded
 octet-decoding-to-46-is-dot c h l rest bytes e f =
     let p = and_parts (eqb c 37) (is_ascii_hexdigit h && is_ascii_hexdigit l) e in
@@ -140,17 +119,15 @@ octet-decoding-to-46-is-dot c h l rest bytes e f =
     encoded_dot c h l a b (inr k) = inr (cc)
 
 -- dot segments: a character c that decodes to the byte 46 is a dot
-character-decoding-to-46-is-dot : (c : ℕ) (rest bytes : List ℕ)
-    → encode_utf8 c ++ bytes_decoded_from (tokens_from_chars rest) ≡ 46 ∷ bytes
-    → BeginsWithDot (c ∷ rest) bytes
+character-decoding-to-46-is-dot : (c : ℕ) (rest bytes : List ℕ) → encode_utf8 c
+    ++ bytes_decoded_from (tokens_from_chars rest) ≡ 46 ∷ bytes → BeginsWithDot (c ∷ rest) bytes
 character-decoding-to-46-is-dot c rest bytes e =
     let s = character-with-first-byte-46-is-dot c (bytes_decoded_from (tokens_from_chars rest))
     bytes e in
     record {
       dot = c ∷ [];
       rest = rest;
-      is_dot =
-          record { joined = inl (ap (λ d. d ∷ []) s.0) };
+      is_dot = record { joined = inl (ap (λ d. d ∷ []) s.0) };
       whole = refl;
       suffix = s.1;
     }
@@ -166,20 +143,18 @@ nil-is-no-cons b bs e = cc
 
 -- dot segments: characters that decode to a first byte 46 begin with a dot
 text-decoding-to-first-46-begins-with-dot : (cs bytes : List ℕ)
-    → bytes_decoded_from (tokens_from_chars cs) ≡ 46 ∷ bytes
-    → BeginsWithDot cs bytes
+    → bytes_decoded_from (tokens_from_chars cs) ≡ 46 ∷ bytes → BeginsWithDot cs bytes
 unfolding tokens_from_chars
 text-decoding-to-first-46-begins-with-dot [] bytes e = absurd (nil-is-no-cons 46 bytes e)
 text-decoding-to-first-46-begins-with-dot (c ∷ []) bytes e = character-decoding-to-46-is-dot
     c [] bytes e
 text-decoding-to-first-46-begins-with-dot (c ∷ d ∷ []) bytes e = character-decoding-to-46-is-dot c
     (d ∷ []) bytes e
-text-decoding-to-first-46-begins-with-dot (c ∷ h ∷ l ∷ rest) bytes e = ⊎_elim
-    (λ o. octet-decoding-to-46-is-dot c h l rest bytes o
+text-decoding-to-first-46-begins-with-dot (c ∷ h ∷ l ∷ rest) bytes e =
+    ⊎_elim (λ o. octet-decoding-to-46-is-dot c h l rest bytes o
     (sym (ap bytes_decoded_from (cond-true _ _ _ o)) ∙ e))
     (λ o. character-decoding-to-46-is-dot c (h ∷ l ∷ rest) bytes
-    (sym (ap bytes_decoded_from (cond-false _ _ _ o)) ∙ e))
-    (cases_Bool (is_pct_encoded c h l))
+    (sym (ap bytes_decoded_from (cond-false _ _ _ o)) ∙ e)) (cases_Bool (is_pct_encoded c h l))
 
 -- dot segments: characters that decode to no bytes are none
 text-decoding-to-no-bytes-has-no-characters : (cs : List ℕ)
@@ -193,8 +168,7 @@ text-decoding-to-no-bytes-has-no-characters (c ∷ d ∷ []) e = absurd
 text-decoding-to-no-bytes-has-no-characters (c ∷ h ∷ l ∷ rest) e = ⊎_elim
     (λ o. absurd (nil-is-no-cons _ _ (sym (sym (ap bytes_decoded_from (cond-true _ _ _ o)) ∙ e))))
     (λ o. absurd (utf8-of-character-is-not-empty c _
-    (sym (ap bytes_decoded_from (cond-false _ _ _ o)) ∙ e)))
-    (cases_Bool (is_pct_encoded c h l))
+    (sym (ap bytes_decoded_from (cond-false _ _ _ o)) ∙ e))) (cases_Bool (is_pct_encoded c h l))
 
 -- dot segments: a dot, `.` or `%2E`, is the segment `.`
 dot-is-single-dot-segment : (cs : List ℕ) → IsDot cs → is_single_dot (encode_utf8_all cs) ≡ true
@@ -208,11 +182,9 @@ two-dots-are-double-dot-segment : (cs ds : List ℕ) → IsDot cs → IsDot ds
 unfolding encode_utf8
 two-dots-are-double-dot-segment cs ds d e =
     let P : List ℕ → List ℕ → Type 0 = λ cs ds. is_double_dot (encode_utf8_all (cs ++ ds)) ≡ true in
-    property-of-each-dot (λ cs. P cs ds)
-    (property-of-each-dot (P (codes ".")) refl refl refl ds e)
+    property-of-each-dot (λ cs. P cs ds) (property-of-each-dot (P (codes ".")) refl refl refl ds e)
     (property-of-each-dot (P (codes "%2E")) refl refl refl ds e)
-    (property-of-each-dot (P (codes "%2e")) refl refl refl ds e)
-    cs d
+    (property-of-each-dot (P (codes "%2e")) refl refl refl ds e) cs d
 
 -- dot segments: characters that decode to one byte 46 are the segment `.`
 characters-decoding-to-dot-are-single-dot : (cs : List ℕ)
@@ -220,9 +192,8 @@ characters-decoding-to-dot-are-single-dot : (cs : List ℕ)
     → is_single_dot (encode_utf8_all cs) ≡ true
 characters-decoding-to-dot-are-single-dot cs e =
     let w = text-decoding-to-first-46-begins-with-dot cs [] e in
-    let same : cs ≡ w.dot = w.whole
-    ∙ ap (λ t. w.dot ++ t) (text-decoding-to-no-bytes-has-no-characters w.rest w.suffix)
-    ∙ append-nil w.dot in
+    let same : cs ≡ w.dot = w.whole ∙ ap (λ t. w.dot
+    ++ t) (text-decoding-to-no-bytes-has-no-characters w.rest w.suffix) ∙ append-nil w.dot in
     ap (λ t. is_single_dot (encode_utf8_all t)) same ∙ dot-is-single-dot-segment w.dot w.is_dot
 
 -- dot segments: characters that decode to two bytes 46 are the segment `..`
@@ -232,23 +203,20 @@ characters-decoding-to-two-dots-are-double-dot : (cs : List ℕ)
 characters-decoding-to-two-dots-are-double-dot cs e =
     let v = text-decoding-to-first-46-begins-with-dot cs (46 ∷ []) e in
     let w = text-decoding-to-first-46-begins-with-dot v.rest [] v.suffix in
-    let rest : v.rest ≡ w.dot = w.whole
-    ∙ ap (λ t. w.dot ++ t) (text-decoding-to-no-bytes-has-no-characters w.rest w.suffix)
-    ∙ append-nil w.dot in
+    let rest : v.rest ≡ w.dot = w.whole ∙ ap (λ t. w.dot
+    ++ t) (text-decoding-to-no-bytes-has-no-characters w.rest w.suffix) ∙ append-nil w.dot in
     ap (λ t. is_double_dot (encode_utf8_all t)) (v.whole ∙ ap (λ t. v.dot ++ t) rest)
     ∙ two-dots-are-double-dot-segment v.dot w.dot v.is_dot w.is_dot
 
 -- dot segments: a text that decodes to one byte 46 is the segment `.`
-text-decoding-to-dot-is-single-dot : (s : List ℕ) → IsUtf8 s → bytes_decoded_from (tokens s)
-    ≡ 46 ∷ []
-    → is_single_dot s ≡ true
+text-decoding-to-dot-is-single-dot : (s : List ℕ)
+    → IsUtf8 s → bytes_decoded_from (tokens s) ≡ 46 ∷ [] → is_single_dot s ≡ true
 text-decoding-to-dot-is-single-dot s u e = ap is_single_dot (sym (encodes-chars s u))
     ∙ characters-decoding-to-dot-are-single-dot (chars s) e
 
 -- dot segments: a text that decodes to two bytes 46 is the segment `..`
-text-decoding-to-two-dots-is-double-dot : (s : List ℕ) → IsUtf8 s → bytes_decoded_from (tokens s)
-    ≡ 46 ∷ 46 ∷ []
-    → is_double_dot s ≡ true
+text-decoding-to-two-dots-is-double-dot : (s : List ℕ)
+    → IsUtf8 s → bytes_decoded_from (tokens s) ≡ 46 ∷ 46 ∷ [] → is_double_dot s ≡ true
 text-decoding-to-two-dots-is-double-dot s u e = ap is_double_dot (sym (encodes-chars s u))
     ∙ characters-decoding-to-two-dots-are-double-dot (chars s) e
 
@@ -272,11 +240,9 @@ single-dot-by-decoded-bytes s t u v e = tests-that-imply-each-other-are-equal (i
 pub double-dot-by-decoded-bytes : (s t : List ℕ) → IsUtf8 s → IsUtf8 t
     → bytes_decoded_from (tokens s) ≡ bytes_decoded_from (tokens t) → is_double_dot s
     ≡ is_double_dot t
-double-dot-by-decoded-bytes s t u v e = tests-that-imply-each-other-are-equal (is_double_dot s)
-    (is_double_dot t)
-    (λ h. text-decoding-to-two-dots-is-double-dot t v
-    (sym e ∙ double-dot-segment-decodes-to-two-dots s h))
-    (λ h. text-decoding-to-two-dots-is-double-dot s u
+double-dot-by-decoded-bytes s t u v e = tests-that-imply-each-other-are-equal
+    (is_double_dot s) (is_double_dot t) (λ h. text-decoding-to-two-dots-is-double-dot t v (sym e
+    ∙ double-dot-segment-decodes-to-two-dots s h)) (λ h. text-decoding-to-two-dots-is-double-dot s u
     (e ∙ double-dot-segment-decodes-to-two-dots t h))
 
 -- dot segments: a text that decodes to no bytes is empty

@@ -1,15 +1,8 @@
 -- The laws of dot segments, on texts.
-use Rattle.std.proofs.Common.{◌≡◌, ℕ, ◌+◌, ◌<◌, ◌≤◌, Bool, true, false, List, [], ◌∷◌, ◌++◌, length, refl, sym, ap, subst, ◌∙◌, arith, ◌||◌, ⊎_elim, append_assoc, rules}
-use Rattle.std.specs.Prelude.{codes}
-use Rattle.std.specs.List.{list_all}
-use Rattle.std.proofs.lemmas.List.{append-nil, length-append}
-use Rattle.std.proofs.lemmas.Bool.{and_parts, eqb-true, false≢true}
-use Rattle.uri_parts.specs.Components.{IsAbemptyPath}
-use Rattle.uri_ops.specs.Dots.{is_single_dot, is_double_dot, is_dot_segment, segments, lacks_dot_segments, run, remove_dot_segments, underflows, directory, IsAbsolute, EndsInSlash}
+use Rattle.uri_ops.proofs.Common.{◌≡◌, ℕ, ◌+◌, ◌<◌, ◌≤◌, Bool, true, false, List, [], ◌∷◌, ◌++◌, length, refl, sym, ap, subst, ◌∙◌, arith, ◌||◌, ⊎_elim, append_assoc, rules, codes, list_all, append-nil, length-append, and_parts, eqb-true, false≢true, IsAbemptyPath, is_single_dot, is_double_dot, is_dot_segment, segments, lacks_dot_segments, run, remove_dot_segments, underflows, directory, IsAbsolute, EndsInSlash, eq_true_from_IsTrue}
 use Rattle.uri_ops.proofs.Paths.Segments.{pop, is_none, next_output, step_of, steps, end_of, closing, dotless_of, parent, AllPass, is_dotless, pushed-segments-are-not-none, appended-segments-pass-test, segments-after-steps-pass-test, dotless_of-pass-test, dotless_of-of-dotless, dotless_of-is-dotless, dotless_of-with-empty-last, dotless_of-prefix-first, dotless_of-of-directory, dotless_of-is-not-empty}
 use Rattle.uri_ops.proofs.Paths.Underflows.{underflows_over, dotless-segments-do-not-underflow, segments-underflow-as-prefix-or-remainder, trailing-slash-changes-no-underflow, parent-underflows-as-segments}
 use Rattle.uri_ops.proofs.Paths.SlashedSegments.{slashed, lacks_slash, NoSlashes, slashed-of-append, slashed-of-push, remove-dots-by-segments, underflows-by-segments, directory-by-segments, parent-segments-pass-test, slashed-of-segments-is-text-after-slash, segments-of-text-lack-slashes, segments-of-text-are-not-none, segments-of-slashed-segments}
-use Rattle.uri_pct.proofs.General.{eq_true_from_IsTrue}
 
 -- paths: what holds of `/` before each of some segments holds of any list of one segment or more
 property-of-slashed-segments-not-none : (P : List ℕ → Type 0)
@@ -52,10 +45,9 @@ property-of-path-to-slash-by-segments P each path h e = subst P (sym e.1)
 -- dot segments: what follows a path that ends in `/` begins a new segment
 pub path-after-slash-appends-its-segments : (segs : List (List ℕ)) (q : List ℕ)
     → slashed (segs ++ [] ∷ []) ++ q ≡ slashed (segs ++ segments q)
-path-after-slash-appends-its-segments segs q =
-    ap (λ t. t ++ q) (slashed-of-push segs []) ∙ append_assoc (slashed segs) (47 ∷ []) q
-    ∙ ap (λ t. slashed segs ++ t) (sym (slashed-of-segments-is-text-after-slash q))
-    ∙ sym (slashed-of-append segs (segments q))
+path-after-slash-appends-its-segments segs q = ap (λ t. t ++ q) (slashed-of-push segs [])
+    ∙ append_assoc (slashed segs) (47 ∷ []) q ∙ ap (λ t. slashed segs ++ t)
+    (sym (slashed-of-segments-is-text-after-slash q)) ∙ sym (slashed-of-append segs (segments q))
 
 -- dot segments: no segment has a slash, also after the segments of q are appended
 pub appended-segments-lack-slashes : (segs : List (List ℕ)) (q : List ℕ) → NoSlashes segs
@@ -84,31 +76,24 @@ dotless_of-segments-lack-slashes segs e = dotless_of-pass-test lacks_slash lacks
 -- dot segments: a path without dot segments has none among its segments
 pub segments-of-dotless-path-are-dotless : (segs : List (List ℕ)) → NoSlashes segs
     → lacks_dot_segments (slashed segs) ≡ true → AllPass is_dotless segs
-segments-of-dotless-path-are-dotless segs e f =
-    (and_parts true (list_all is_dotless segs)
+segments-of-dotless-path-are-dotless segs e f = (and_parts true (list_all is_dotless segs)
     (sym (ap (list_all is_dotless) (segments-of-slashed-segments segs e)) ∙ f)).1
 
 -- removing dot segments: a path that has none is unchanged (RFC 3986, section 5.2.4)
 pub remove-dots-of-dotless : (path : List ℕ) → IsAbsolute path → lacks_dot_segments path ≡ true
     → remove_dot_segments path ≡ path
-remove-dots-of-dotless =
-    property-of-absolute-path-by-segments (λ path. lacks_dot_segments path ≡ true
-    → remove_dot_segments path ≡ path)
-    (λ s rest e f. remove-dots-by-segments (s ∷ rest) e
-    ∙ ap slashed (dotless_of-of-dotless (s ∷ rest)
-    (segments-of-dotless-path-are-dotless (s ∷ rest) e f)))
+remove-dots-of-dotless = property-of-absolute-path-by-segments
+    (λ path. lacks_dot_segments path ≡ true → remove_dot_segments path ≡ path)
+    (λ s rest e f. remove-dots-by-segments (s ∷ rest) e ∙ ap slashed
+    (dotless_of-of-dotless (s ∷ rest) (segments-of-dotless-path-are-dotless (s ∷ rest) e f)))
 
 -- dot segments: a path that has none does not underflow
-pub dotless-path-does-not-underflow : (path : List ℕ) → IsAbsolute path → lacks_dot_segments path
-    ≡ true
-    → underflows path ≡ false
+pub dotless-path-does-not-underflow : (path : List ℕ)
+    → IsAbsolute path → lacks_dot_segments path ≡ true → underflows path ≡ false
 dotless-path-does-not-underflow = property-of-absolute-path-by-segments
-    (λ path. lacks_dot_segments path ≡ true
-    → underflows path
-    ≡ false)
-    (λ s rest e f. underflows-by-segments (s ∷ rest) e
-    ∙ dotless-segments-do-not-underflow false [] (s ∷ rest)
-    (segments-of-dotless-path-are-dotless (s ∷ rest) e f))
+    (λ path. lacks_dot_segments path ≡ true → underflows path ≡ false)
+    (λ s rest e f. underflows-by-segments (s ∷ rest) e ∙ dotless-segments-do-not-underflow false []
+    (s ∷ rest) (segments-of-dotless-path-are-dotless (s ∷ rest) e f))
 
 -- paths: segments, each after a `/`, make an absolute path if there are any
 pub slashed-segments-are-absolute : (segs : List (List ℕ)) → is_none segs ≡ false
@@ -123,10 +108,8 @@ pub removing-dots-leaves-no-dot-segment : (path : List ℕ) → IsAbsolute path
 removing-dots-leaves-no-dot-segment = property-of-absolute-path-by-segments
     (λ path. lacks_dot_segments (remove_dot_segments path) ≡ true)
     (λ s rest e. ap lacks_dot_segments (remove-dots-by-segments (s ∷ rest) e)
-    ∙ ap (list_all is_dotless)
-    (segments-of-slashed-segments (dotless_of (s ∷ rest))
-    (dotless_of-segments-lack-slashes (s ∷ rest) e))
-    ∙ dotless_of-is-dotless (s ∷ rest))
+    ∙ ap (list_all is_dotless) (segments-of-slashed-segments (dotless_of (s ∷ rest))
+    (dotless_of-segments-lack-slashes (s ∷ rest) e)) ∙ dotless_of-is-dotless (s ∷ rest))
 
 -- general fact on lists of segments, for dot segments: one with a first is not empty
 cons-is-not-none : (s : List ℕ) (rest : List (List ℕ)) → is_none (s ∷ rest) ≡ false
@@ -137,22 +120,19 @@ cons-is-not-none s rest = refl
 pub removing-dots-keeps-absolute : (path : List ℕ) → IsAbsolute path
     → IsAbsolute (remove_dot_segments path)
 removing-dots-keeps-absolute = property-of-absolute-path-by-segments
-    (λ path. IsAbsolute (remove_dot_segments path))
-    (λ s rest e. subst IsAbsolute (sym (remove-dots-by-segments (s ∷ rest) e))
-    (slashed-segments-are-absolute (dotless_of (s ∷ rest))
-    (dotless_of-is-not-empty (s ∷ rest) (cons-is-not-none s rest))))
+    (λ path. IsAbsolute (remove_dot_segments path)) (λ s rest e. subst IsAbsolute
+    (sym (remove-dots-by-segments (s ∷ rest) e)) (slashed-segments-are-absolute
+    (dotless_of (s ∷ rest)) (dotless_of-is-not-empty (s ∷ rest) (cons-is-not-none s rest))))
 
 -- removing dot segments: twice is the same as once
 pub removing_dots_is_idempotent : (path : List ℕ) → IsAbsolute path
     → remove_dot_segments (remove_dot_segments path) ≡ remove_dot_segments path
 removing_dots_is_idempotent path h = remove-dots-of-dotless (remove_dot_segments path)
-    (removing-dots-keeps-absolute path h)
-    (removing-dots-leaves-no-dot-segment path h)
+    (removing-dots-keeps-absolute path h) (removing-dots-leaves-no-dot-segment path h)
 
 -- paths: the directory of a path is all its segments but the last, and an empty one
 directory-of-slashed-segments-is-parent : (segs : List (List ℕ)) → is_none segs ≡ false
-    → NoSlashes segs
-    → directory (slashed segs) ≡ slashed (parent segs ++ [] ∷ [])
+    → NoSlashes segs → directory (slashed segs) ≡ slashed (parent segs ++ [] ∷ [])
 unfolding is_none
 directory-of-slashed-segments-is-parent [] e f = absurd (false≢true (sym e))
 directory-of-slashed-segments-is-parent (s ∷ rest) e f = directory-by-segments s rest f
@@ -165,67 +145,54 @@ rooted P none each path h = ⊎_elim (λ e. subst P (sym e) none) (each path) h
 -- paths: the directory of a path that is empty or begins with `/` is absolute
 pub directory-is-absolute : (path : List ℕ) → IsAbemptyPath path → IsAbsolute (directory path)
 unfolding directory
-directory-is-absolute = rooted (λ path. IsAbsolute (directory path)) (search rules)
-    (property-of-absolute-path-by-segments (λ path. IsAbsolute (directory path))
-    (λ s rest e. subst IsAbsolute (sym (directory-by-segments s rest e))
-    (slashed-segments-are-absolute (parent (s ∷ rest) ++ [] ∷ [])
-    (pushed-segments-are-not-none (parent (s ∷ rest)) []))))
+directory-is-absolute = rooted (λ path. IsAbsolute (directory path))
+    (search rules) (property-of-absolute-path-by-segments (λ path. IsAbsolute (directory path)) (λ s
+    rest e. subst IsAbsolute (sym (directory-by-segments s rest e)) (slashed-segments-are-absolute
+    (parent (s ∷ rest) ++ [] ∷ []) (pushed-segments-are-not-none (parent (s ∷ rest)) []))))
 
 -- paths: a directory ends in `/`
 pub directory-ends-in-slash : (path : List ℕ) → IsAbemptyPath path → EndsInSlash (directory path)
 unfolding directory
 directory-ends-in-slash = rooted (λ path. EndsInSlash (directory path)) ([], refl)
-    (property-of-absolute-path-by-segments (λ path. EndsInSlash (directory path))
-    (λ s rest e. (
+    (property-of-absolute-path-by-segments (λ path. EndsInSlash (directory path)) (λ s rest e. (
       slashed (parent (s ∷ rest)),
-      directory-by-segments s rest e
-          ∙ slashed-of-push (parent (s ∷ rest)) [],
+      directory-by-segments s rest e ∙ slashed-of-push (parent (s ∷ rest)) [],
     )))
 
 -- paths: a directory's dot segments may be removed before the last segment or after
 pub removing-dots-and-directory-swap : (path : List ℕ) → IsAbemptyPath path
     → remove_dot_segments (directory path) ≡ directory (remove_dot_segments path)
 unfolding remove_dot_segments directory run
-removing-dots-and-directory-swap = rooted (λ path. remove_dot_segments (directory path)
-    ≡ directory (remove_dot_segments path)) refl
-    (property-of-absolute-path-by-segments (λ path. remove_dot_segments (directory path)
-    ≡ directory (remove_dot_segments path))
-    (λ s rest e.
-    ap remove_dot_segments (directory-by-segments s rest e)
-    ∙ remove-dots-by-segments (parent (s ∷ rest) ++ [] ∷ [])
-    (segments-with-empty-last-lack-slashes (parent (s ∷ rest))
-    (parent-segments-pass-test lacks_slash (s ∷ rest) e))
-    ∙ ap slashed (dotless_of-of-directory s rest)
-    ∙ sym (ap directory (remove-dots-by-segments (s ∷ rest) e)
-    ∙ directory-of-slashed-segments-is-parent (dotless_of (s ∷ rest))
-    (dotless_of-is-not-empty (s ∷ rest) (cons-is-not-none s rest))
-    (dotless_of-segments-lack-slashes (s ∷ rest) e))))
+removing-dots-and-directory-swap = rooted
+    (λ path. remove_dot_segments (directory path) ≡ directory (remove_dot_segments path)) refl
+    (property-of-absolute-path-by-segments (λ path. remove_dot_segments (directory path) ≡ directory
+    (remove_dot_segments path)) (λ s rest e. ap remove_dot_segments (directory-by-segments s rest e)
+    ∙ remove-dots-by-segments (parent (s ∷ rest) ++ [] ∷ []) (segments-with-empty-last-lack-slashes
+    (parent (s ∷ rest)) (parent-segments-pass-test lacks_slash (s ∷ rest) e)) ∙ ap slashed
+    (dotless_of-of-directory s rest) ∙ sym (ap directory (remove-dots-by-segments (s ∷ rest) e)
+    ∙ directory-of-slashed-segments-is-parent (dotless_of (s ∷ rest)) (dotless_of-is-not-empty (s
+    ∷ rest) (cons-is-not-none s rest)) (dotless_of-segments-lack-slashes (s ∷ rest) e))))
 
 -- removing dot segments: those of a prefix that ends in `/` may be removed first
 pub prefix-dots-may-be-removed-first : (prefix q : List ℕ) → IsAbsolute prefix → EndsInSlash prefix
     → remove_dot_segments (prefix ++ q) ≡ remove_dot_segments (remove_dot_segments prefix ++ q)
 prefix-dots-may-be-removed-first prefix q = property-of-path-to-slash-by-segments
-    (λ prefix. remove_dot_segments (prefix ++ q)
-    ≡ remove_dot_segments (remove_dot_segments prefix ++ q))
-    (λ segs e.
-    ap remove_dot_segments (path-after-slash-appends-its-segments segs q)
+    (λ prefix. remove_dot_segments (prefix ++ q) ≡ remove_dot_segments (remove_dot_segments prefix
+    ++ q)) (λ segs e. ap remove_dot_segments (path-after-slash-appends-its-segments segs q)
     ∙ remove-dots-by-segments (segs ++ segments q) (appended-segments-lack-slashes segs q e)
     ∙ ap slashed (dotless_of-prefix-first segs (segments q) (segments-of-text-are-not-none q))
-    ∙ sym (ap (λ t. remove_dot_segments (t ++ q))
-    (remove-dots-by-segments (segs ++ [] ∷ []) (segments-with-empty-last-lack-slashes segs e)
-    ∙ ap slashed (dotless_of-with-empty-last segs))
+    ∙ sym (ap (λ t. remove_dot_segments (t ++ q)) (remove-dots-by-segments (segs ++ [] ∷ [])
+    (segments-with-empty-last-lack-slashes segs e) ∙ ap slashed (dotless_of-with-empty-last segs))
     ∙ ap remove_dot_segments (path-after-slash-appends-its-segments (steps [] segs) q)
-    ∙ remove-dots-by-segments (steps [] segs ++ segments q)
-    (appended-segments-lack-slashes (steps [] segs) q (segments-after-steps-lack-slashes segs e))))
-    prefix
+    ∙ remove-dots-by-segments (steps [] segs ++ segments q) (appended-segments-lack-slashes
+    (steps [] segs) q (segments-after-steps-lack-slashes segs e)))) prefix
 
 -- removing dot segments: a base's may be removed before its path is merged (5.2.3)
 pub base-dots-may-be-removed-before-merging : (path q : List ℕ) → IsAbemptyPath path
     → remove_dot_segments (directory path ++ q)
     ≡ remove_dot_segments (directory (remove_dot_segments path) ++ q)
-base-dots-may-be-removed-before-merging path q h =
-    prefix-dots-may-be-removed-first (directory path) q (directory-is-absolute path h)
-    (directory-ends-in-slash path h)
+base-dots-may-be-removed-before-merging path q h = prefix-dots-may-be-removed-first
+    (directory path) q (directory-is-absolute path h) (directory-ends-in-slash path h)
     ∙ ap (λ t. remove_dot_segments (t ++ q)) (removing-dots-and-directory-swap path h)
 
 -- paths: a directory underflows exactly if its path does
@@ -234,11 +201,9 @@ pub directory-underflows-as-path : (path : List ℕ) → IsAbemptyPath path
 unfolding underflows directory run
 directory-underflows-as-path = rooted (λ path. underflows (directory path) ≡ underflows path) refl
     (property-of-absolute-path-by-segments (λ path. underflows (directory path) ≡ underflows path)
-    (λ s rest e.
-    ap underflows (directory-by-segments s rest e)
-    ∙ underflows-by-segments (parent (s ∷ rest) ++ [] ∷ [])
-    (segments-with-empty-last-lack-slashes (parent (s ∷ rest))
-    (parent-segments-pass-test lacks_slash (s ∷ rest) e))
+    (λ s rest e. ap underflows (directory-by-segments s rest e)
+    ∙ underflows-by-segments (parent (s ∷ rest) ++ [] ∷ []) (segments-with-empty-last-lack-slashes
+    (parent (s ∷ rest)) (parent-segments-pass-test lacks_slash (s ∷ rest) e))
     ∙ trailing-slash-changes-no-underflow false [] (parent (s ∷ rest))
     ∙ parent-underflows-as-segments false [] (s ∷ rest)
     ∙ sym (underflows-by-segments (s ∷ rest) e)))
@@ -248,36 +213,29 @@ directory-underflows-as-path = rooted (λ path. underflows (directory path) ≡ 
 pub path-underflows-as-prefix-or-remainder : (prefix q : List ℕ) → IsAbsolute prefix
     → EndsInSlash prefix
     → underflows (prefix ++ q) ≡ (underflows prefix || underflows (remove_dot_segments prefix ++ q))
-path-underflows-as-prefix-or-remainder prefix q =
-    property-of-path-to-slash-by-segments (λ prefix. underflows (prefix ++ q)
-    ≡ (underflows prefix || underflows (remove_dot_segments prefix ++ q)))
-    (λ segs e.
-    ap underflows (path-after-slash-appends-its-segments segs q)
-    ∙ underflows-by-segments (segs ++ segments q)
-    (appended-segments-lack-slashes segs q e)
+path-underflows-as-prefix-or-remainder prefix q = property-of-path-to-slash-by-segments (λ prefix.
+    underflows (prefix ++ q) ≡ (underflows prefix || underflows (remove_dot_segments prefix ++ q)))
+    (λ segs e. ap underflows (path-after-slash-appends-its-segments segs q)
+    ∙ underflows-by-segments (segs ++ segments q) (appended-segments-lack-slashes segs q e)
     ∙ segments-underflow-as-prefix-or-remainder segs (segments q)
     ∙ sym (ap (λ b. b || underflows (remove_dot_segments (slashed (segs ++ [] ∷ [])) ++ q))
     (underflows-by-segments (segs ++ [] ∷ []) (segments-with-empty-last-lack-slashes segs e)
     ∙ trailing-slash-changes-no-underflow false [] segs)
     ∙ ap (λ b. underflows_over false [] segs || b) (
-    ap (λ t. underflows (t ++ q))
-    (remove-dots-by-segments (segs ++ [] ∷ []) (segments-with-empty-last-lack-slashes segs e)
-    ∙ ap slashed (dotless_of-with-empty-last segs))
+    ap (λ t. underflows (t ++ q)) (remove-dots-by-segments (segs ++ [] ∷ [])
+    (segments-with-empty-last-lack-slashes segs e) ∙ ap slashed (dotless_of-with-empty-last segs))
     ∙ ap underflows (path-after-slash-appends-its-segments (steps [] segs) q)
-    ∙ underflows-by-segments (steps [] segs ++ segments q)
-    (appended-segments-lack-slashes (steps [] segs) q (segments-after-steps-lack-slashes segs e)))))
-    prefix
+    ∙ underflows-by-segments (steps [] segs ++ segments q) (appended-segments-lack-slashes
+    (steps [] segs) q (segments-after-steps-lack-slashes segs e))))) prefix
 
 -- merged paths: base path and reference q underflow if the base does, or if both do after the
 -- base's dot segments are removed
 pub merged-path-underflows-as-base-or-remainder : (path q : List ℕ) → IsAbemptyPath path
     → underflows (directory path ++ q)
     ≡ (underflows path || underflows (directory (remove_dot_segments path) ++ q))
-merged-path-underflows-as-base-or-remainder path q h =
-    path-underflows-as-prefix-or-remainder (directory path) q (directory-is-absolute path h)
-    (directory-ends-in-slash path h)
-    ∙ ap (λ b. b || underflows (remove_dot_segments (directory path) ++ q))
-    (directory-underflows-as-path path h)
+merged-path-underflows-as-base-or-remainder path q h = path-underflows-as-prefix-or-remainder
+    (directory path) q (directory-is-absolute path h) (directory-ends-in-slash path h) ∙ ap (λ b. b
+    || underflows (remove_dot_segments (directory path) ++ q)) (directory-underflows-as-path path h)
     ∙ ap (λ t. underflows path || underflows (t ++ q)) (removing-dots-and-directory-swap path h)
 
 -- paths: two lists of segments, each segment after a `/`, are as long as both texts
@@ -296,8 +254,7 @@ popped-segments-are-no-longer (s ∷ t ∷ rest) = omega (
   arith,
   popped-segments-are-no-longer (t ∷ rest),
   length-append s (slashed (pop (t ∷ rest))),
-  length-append s
-      (slashed (t ∷ rest)),
+  length-append s (slashed (t ∷ rest)),
 )
 
 -- dot segments: one is not empty, so there is room for the `/` that it leaves
@@ -317,31 +274,26 @@ next_output-is-no-longer : (single double : Bool) (output : List (List ℕ)) (s 
     length (slashed (next_output single double output s ++ end_of (single || double)))
     ≤ length (slashed output) + length (slashed (s ∷ []))
 unfolding next_output
-next_output-is-no-longer true double output s h =
-    omega (
-      arith,
-      h refl,
-      length-of-slashed-append-is-sum output
-          ([] ∷ []),
-      slashed-segment-is-one-longer [],
-      slashed-segment-is-one-longer s,
-    )
-next_output-is-no-longer false true output s h =
-    omega (
-      arith,
-      h refl,
-      popped-segments-are-no-longer output,
-      length-of-slashed-append-is-sum (pop output) ([] ∷ []),
-      slashed-segment-is-one-longer [],
-      slashed-segment-is-one-longer s,
-    )
-next_output-is-no-longer false false output s h =
-    omega (
-      arith,
-      ap (λ t. length (slashed t)) (append-nil (output ++ s ∷ [])),
-      length-of-slashed-append-is-sum output
-          (s ∷ []),
-    )
+next_output-is-no-longer true double output s h = omega (
+  arith,
+  h refl,
+  length-of-slashed-append-is-sum output ([] ∷ []),
+  slashed-segment-is-one-longer [],
+  slashed-segment-is-one-longer s,
+)
+next_output-is-no-longer false true output s h = omega (
+  arith,
+  h refl,
+  popped-segments-are-no-longer output,
+  length-of-slashed-append-is-sum (pop output) ([] ∷ []),
+  slashed-segment-is-one-longer [],
+  slashed-segment-is-one-longer s,
+)
+next_output-is-no-longer false false output s h = omega (
+  arith,
+  ap (λ t. length (slashed t)) (append-nil (output ++ s ∷ [])),
+  length-of-slashed-append-is-sum output (s ∷ []),
+)
 
 -- removing dot segments: the empty segment that a last dot segment leaves shortens no text
 segments-with-end_of-are-no-shorter : (xs : List (List ℕ)) (dot : Bool)
@@ -350,9 +302,8 @@ segments-with-end_of-are-no-shorter xs dot = omega
     (arith, length-of-slashed-append-is-sum xs (end_of dot))
 
 -- removing dot segments: the segments that are left are no longer than all were
-segments-after-steps-are-no-longer : (output segs : List (List ℕ))
-    → length (slashed (steps output segs ++ closing segs))
-    ≤ length (slashed output) + length (slashed segs)
+segments-after-steps-are-no-longer : (output segs : List (List ℕ)) → length
+    (slashed (steps output segs ++ closing segs)) ≤ length (slashed output) + length (slashed segs)
 unfolding steps closing step_of
 segments-after-steps-are-no-longer output [] = omega
     (arith, ap (λ t. length (slashed t)) (append-nil output))
@@ -372,10 +323,8 @@ pub removing-dots-lengthens-no-path : (path : List ℕ) → IsAbsolute path
     → length (remove_dot_segments path) ≤ length path
 unfolding dotless_of slashed
 removing-dots-lengthens-no-path = property-of-absolute-path-by-segments
-    (λ path. length (remove_dot_segments path) ≤ length path)
-    (λ s rest e. omega (
+    (λ path. length (remove_dot_segments path) ≤ length path) (λ s rest e. omega (
       arith,
       ap length (remove-dots-by-segments (s ∷ rest) e),
-      segments-after-steps-are-no-longer []
-          (s ∷ rest),
+      segments-after-steps-are-no-longer [] (s ∷ rest),
     ))

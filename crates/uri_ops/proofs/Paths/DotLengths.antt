@@ -1,23 +1,13 @@
 -- The number of bytes that a dot takes identifies it.
-use Rattle.std.proofs.Common.{◌≡◌, ◌⊎◌, ℕ, zero, suc, ◌+◌, ◌-◌, ◌<◌, true, false, eqb, List, [], ◌∷◌, ◌++◌, length, take, drop, get_or, refl, sym, ap, subst, ◌∙◌, arith, inl, inr, ⊎_elim, append_assoc, ◌&&◌, ◌||◌, rules, Bool}
-use Rattle.std.proofs.Math.Seq.{take-add}
-use Rattle.std.proofs.lemmas.List.{drop_at, take-append-drop, length-append, length-drop, take_all}
-use Rattle.std.proofs.lemmas.Bool.{and_parts, cases_Bool, cond-false, cond-true, eqb-true, false≢true, false_from_ne_true, or_cases}
-use Rattle.std.specs.Prelude.{bytes_eq, codes}
-use Rattle.std.specs.List.{list_any, slice_range}
-use Rattle.uri_parts.specs.Components.{IsAbemptyPath}
-use Rattle.uri_ops.specs.Dots.{dots, has_slash, is_dot_segment, is_double_dot, is_single_dot}
-use Rattle.uri_ops.specs.Models.LeadingSegments.{BeginsWithoutDotSegment, dot_len, ends_segment}
+use Rattle.uri_ops.proofs.Common.{◌≡◌, ◌⊎◌, ℕ, zero, suc, ◌+◌, ◌-◌, ◌<◌, true, false, eqb, List, [], ◌∷◌, ◌++◌, length, take, drop, get_or, refl, sym, ap, subst, ◌∙◌, arith, inl, inr, ⊎_elim, append_assoc, ◌&&◌, ◌||◌, rules, Bool, take-add, drop_at, take-append-drop, length-append, length-drop, take_all, and_parts, cases_Bool, cond-false, cond-true, eqb-true, false≢true, false_from_ne_true, or_cases, bytes_eq, codes, list_any, slice_range, IsAbemptyPath, dots, has_slash, is_dot_segment, is_double_dot, is_single_dot, BeginsWithoutDotSegment, dot_len, ends_segment}
 use Rattle.uri_ops.proofs.Paths.DotBytes.{IsDot, property-of-each-dot, test-of-some-dot}
 use Rattle.uri_ops.proofs.Paths.Segments.{equal-bytes-are-equal}
 use Rattle.uri_ops.proofs.Paths.TakenSegments.{absolute-path-is-slash-and-rest}
 
 -- dot segments: a dot at the start of a text takes its own length, whatever follows
 dot_len-of-leading-dot : (d : List ℕ) → IsDot d → (r : List ℕ) → dot_len (d ++ r) ≡ length d
-dot_len-of-leading-dot = property-of-each-dot (λ d. (r : List ℕ) → dot_len (d ++ r) ≡ length d)
-    (λ r. refl)
-    (λ r. refl)
-    (λ r. refl)
+dot_len-of-leading-dot = property-of-each-dot
+    (λ d. (r : List ℕ) → dot_len (d ++ r) ≡ length d) (λ r. refl) (λ r. refl) (λ r. refl)
 
 -- dot segments: a dot, `.` or `%2E`, is not empty
 dot-is-not-empty : (d : List ℕ) → IsDot d → 0 < length d
@@ -27,10 +17,8 @@ dot-is-not-empty = property-of-each-dot (λ d. 0 < length d) (omega arith) (omeg
 -- dot segments: a dot has no `/`, and is the segment `.`
 one-dot-is-single-dot-without-slash : (d : List ℕ) → IsDot d → (has_slash d ≡ false)
     × (is_single_dot d ≡ true)
-one-dot-is-single-dot-without-slash = property-of-each-dot (λ d. (has_slash d ≡ false)
-    × (is_single_dot d ≡ true))
-    (refl, refl)
-    (refl, refl) (refl, refl)
+one-dot-is-single-dot-without-slash = property-of-each-dot
+    (λ d. (has_slash d ≡ false) × (is_single_dot d ≡ true)) (refl, refl) (refl, refl) (refl, refl)
 
 -- dot segments: two texts are together the segment `..`, and neither has a `/`
 IsDoubleDotWithoutSlash : List ℕ → List ℕ → Type 0
@@ -41,14 +29,11 @@ two-dots-are-double-dot-without-slash : (d e : List ℕ) → IsDot d → IsDot e
     → IsDoubleDotWithoutSlash d e
 unfolding IsDoubleDotWithoutSlash
 two-dots-are-double-dot-without-slash d e f g =
-    property-of-each-dot (λ d. IsDoubleDotWithoutSlash d e)
-    (property-of-each-dot (IsDoubleDotWithoutSlash (codes ".")) (refl, refl) (refl, refl)
-    (refl, refl) e g)
-    (property-of-each-dot (IsDoubleDotWithoutSlash (codes "%2E")) (refl, refl) (refl, refl)
-    (refl, refl) e g)
-    (property-of-each-dot (IsDoubleDotWithoutSlash (codes "%2e")) (refl, refl) (refl, refl)
-    (refl, refl) e g)
-    d f
+    property-of-each-dot (λ d. IsDoubleDotWithoutSlash d e) (property-of-each-dot
+    (IsDoubleDotWithoutSlash (codes ".")) (refl, refl) (refl, refl) (refl, refl) e g)
+    (property-of-each-dot (IsDoubleDotWithoutSlash (codes "%2E"))
+    (refl, refl) (refl, refl) (refl, refl) e g) (property-of-each-dot
+    (IsDoubleDotWithoutSlash (codes "%2e")) (refl, refl) (refl, refl) (refl, refl) e g) d f
 
 -- dot segments: a text that begins with the byte 46 begins with a dot
 text-from-byte-46-begins-with-dot : (text : List ℕ) → get_or text 0 0 ≡ 46 → take 1 text ≡ codes "."
@@ -64,44 +49,33 @@ first-three-bytes-are-octet (p ∷ q ∷ []) x a b c some = absurd (omega (arith
 first-three-bytes-are-octet (p ∷ q ∷ r ∷ text) x a b c some = cc
 
 -- dot segments: `%2E` or `%2e` at the start is a dot
-first-three-bytes-2E-are-dot : (text : List ℕ)
-    → (eqb (get_or text 0 0) 37 && (eqb (get_or text 1 0) 50
-    && (eqb (get_or text 2 0) 69 || eqb (get_or text 2 0) 101))) ≡ true
+first-three-bytes-2E-are-dot : (text : List ℕ) → (eqb (get_or text 0 0) 37
+    && (eqb (get_or text 1 0) 50 && (eqb (get_or text 2 0) 69 || eqb (get_or text 2 0) 101))) ≡ true
     → IsDot (take 3 text)
 first-three-bytes-2E-are-dot text e =
     let f = and_parts (eqb (get_or text 0 0) 37) _ e in
     let g = and_parts (eqb (get_or text 1 0) 50) _ f.1 in
     let percent = eqb-true _ 37 f.0 in
     let two = eqb-true _ 50 g.0 in
-    ⊎_elim
-    (λ h. record {
-      joined =
-          inr (inl (first-three-bytes-are-octet text 69 percent two (eqb-true _ 69 h)
-          (omega arith)));
-    })
-    (λ h. record {
-      joined =
-          inr (inr (first-three-bytes-are-octet text 101 percent two (eqb-true _ 101 h)
-          (omega arith)));
-    })
-    (or_cases (eqb (get_or text 2 0) 69) _ g.1)
+    ⊎_elim (λ h. record {
+      joined = inr
+          (inl (first-three-bytes-are-octet text 69 percent two (eqb-true _ 69 h) (omega arith)));
+    }) (λ h. record {
+      joined = inr
+          (inr (first-three-bytes-are-octet text 101 percent two (eqb-true _ 101 h) (omega arith)));
+    }) (or_cases (eqb (get_or text 2 0) 69) _ g.1)
 
 -- dot segments: the bytes that a dot takes at the start of a text are a dot
 prefix-of-dot_len-is-dot : (text : List ℕ) (n : ℕ) → n ≡ dot_len text → 0 < n → IsDot (take n text)
-prefix-of-dot_len-is-dot text n is some = ⊎_elim
-    (λ e.
+prefix-of-dot_len-is-dot text n is some = ⊎_elim (λ e.
     let one : n ≡ 1 = is ∙ cond-true _ _ _ e in
-    subst (λ m. IsDot (take m text)) (sym one)
-    (record { joined = inl (text-from-byte-46-begins-with-dot text (eqb-true _ 46 e)) }))
-    (λ e. ⊎_elim
-    (λ f.
+    subst (λ m. IsDot (take m text)) (sym one) (record {
+      joined = inl (text-from-byte-46-begins-with-dot text (eqb-true _ 46 e));
+    })) (λ e. ⊎_elim (λ f.
     let three : n ≡ 3 = is ∙ cond-false _ _ _ e ∙ cond-true _ _ _ f in
-    subst (λ m. IsDot (take m text)) (sym three) (first-three-bytes-2E-are-dot text f))
-    (λ f.
+    subst (λ m. IsDot (take m text)) (sym three) (first-three-bytes-2E-are-dot text f)) (λ f.
     let none : n ≡ 0 = is ∙ cond-false _ _ _ e ∙ cond-false _ _ _ f in
-    absurd (omega (arith, none, some)))
-    (cases_Bool _))
-    (cases_Bool (eqb (get_or text 0 0) 46))
+    absurd (omega (arith, none, some))) (cases_Bool _)) (cases_Bool (eqb (get_or text 0 0) 46))
 
 -- dot segments: a path that is empty or begins with `/` begins with no dot
 abempty-path-has-no-dot_len : (r : List ℕ) → IsAbemptyPath r → dot_len r ≡ 0
@@ -121,17 +95,15 @@ path-that-ends-segment-is-abempty (c ∷ r) e = inr (search (rules, e))
 -- what is in the bytes of a path from a place on
 module _ (path bytes : List ℕ) (n : ℕ) (value : bytes ≡ path) where
   slice-to-end-is-drop : slice_range bytes n (length bytes) ≡ drop n path
-  slice-to-end-is-drop =
-      take_all (length bytes - n) (drop n bytes) (omega (arith, length-drop n bytes))
-      ∙ ap (drop n) value
+  slice-to-end-is-drop = take_all (length bytes
+      - n) (drop n bytes) (omega (arith, length-drop n bytes)) ∙ ap (drop n) value
 
   pub dot_len-of-slice-is-of-drop : (m : ℕ) → m ≡ dot_len (slice_range bytes n (length bytes))
       → m ≡ dot_len (drop n path)
   dot_len-of-slice-is-of-drop m e = e ∙ ap dot_len slice-to-end-is-drop
 
-  pub ends_segment-of-slice-is-of-drop : (b : Bool) → b
-      ≡ ends_segment (slice_range bytes n (length bytes))
-      → ends_segment (drop n path) ≡ b
+  pub ends_segment-of-slice-is-of-drop : (b : Bool)
+      → b ≡ ends_segment (slice_range bytes n (length bytes)) → ends_segment (drop n path) ≡ b
   ends_segment-of-slice-is-of-drop b e = sym (e ∙ ap ends_segment slice-to-end-is-drop)
 
 -- two dots in a row, by their lengths
@@ -157,16 +129,14 @@ module _ (path : List ℕ) (first second : ℕ) (at : first ≡ dot_len path)
       (one-dot-is-single-dot-without-slash (take first path)
       (prefix-of-dot_len-is-dot path first at (some-dot-length-means-first some)))
 
-  pub two-dot-lengths-are-double-dot : 0 < second
-      → (has_slash (take (first + second) path) ≡ false)
+  pub two-dot-lengths-are-double-dot : 0 < second → (has_slash (take (first + second) path) ≡ false)
       × (is_double_dot (take (first + second) path) ≡ true)
   unfolding IsDoubleDotWithoutSlash
   two-dot-lengths-are-double-dot some =
       let before = some-dot-length-means-first (omega (arith, some)) in
       subst (λ t. (has_slash t ≡ false) × (is_double_dot t ≡ true))
-      (sym (take-add first second path))
-      (two-dots-are-double-dot-without-slash (take first path) (take second (drop first path))
-      (prefix-of-dot_len-is-dot path first at before)
+      (sym (take-add first second path)) (two-dots-are-double-dot-without-slash (take first path)
+      (take second (drop first path)) (prefix-of-dot_len-is-dot path first at before)
       (prefix-of-dot_len-is-dot (drop first path) second next some))
 
   -- if a dot segment is first, the lengths find it and what ends it
@@ -182,8 +152,7 @@ module _ (path : List ℕ) (first second : ℕ) (at : first ≡ dot_len path)
       let one : first ≡ length s = at ∙ ap dot_len whole ∙ dot_len-of-leading-dot s dot r in
       let rest : drop first path ≡ r = ap (drop first) whole ∙ drop_at s r first (sym one) in (
         omega (arith, one, next ∙ ap dot_len rest ∙ abempty-path-has-no-dot_len r rooted),
-        omega
-            (arith, one, dot-is-not-empty s dot),
+        omega (arith, one, dot-is-not-empty s dot),
       )
 
   double-dot-is-found-by-lengths : (s r : List ℕ) → path ≡ s ++ r → is_double_dot s ≡ true
@@ -205,15 +174,13 @@ module _ (path : List ℕ) (first second : ℕ) (at : first ≡ dot_len path)
   dot-segment-is-found-by-lengths : (s r : List ℕ) → path ≡ s ++ r → IsAbemptyPath r
       → is_dot_segment s ≡ true → IsFoundByDotLengths s
   unfolding IsFoundByDotLengths
-  dot-segment-is-found-by-lengths s r whole rooted dot = ⊎_elim
-      (single-dot-is-found-by-lengths s r whole rooted)
-      (λ double. let t = double-dot-is-found-by-lengths s r whole
-      double in (t.0, omega (arith, t.1)))
+  dot-segment-is-found-by-lengths s r whole rooted dot =
+      ⊎_elim (single-dot-is-found-by-lengths s r whole rooted) (λ double.
+      let t = double-dot-is-found-by-lengths s r whole double in (t.0, omega (arith, t.1)))
       (or_cases (is_single_dot s) _ dot)
 
   pub no-dot-lengths-no-dot-segment : (0 < first + second
-      → ends_segment (drop (first + second) path) ≡ false)
-      → BeginsWithoutDotSegment path
+      → ends_segment (drop (first + second) path) ≡ false) → BeginsWithoutDotSegment path
   unfolding IsFoundByDotLengths
   no-dot-lengths-no-dot-segment none end free rooted = false_from_ne_true _ (λ dot.
       let whole = sym (take-append-drop end path) in

@@ -1,7 +1,5 @@
 -- Rows that compute.
-use Rattle.std.proofs.Common.{◌≡◌, ℕ, true, false, List, [], ◌∷◌, ◌++◌, refl}
-use Rattle.std.specs.Prelude.{codes}
-use Rattle.uri_ops.specs.Dots.{remove_dot_segments, underflows, directory, lacks_dot_segments, run}
+use Rattle.uri_ops.proofs.Common.{◌≡◌, ℕ, true, false, List, [], ◌∷◌, ◌++◌, refl, codes, remove_dot_segments, underflows, directory, lacks_dot_segments, run}
 
 -- examples of dot segments: a path is the other without its dot segments, and doesn't underflow
 LosesDotsTo : List ℕ → List ℕ → Type 0
@@ -21,14 +19,10 @@ rfc-example-loses-dot-segments = (refl, refl)
 rfc-normal-examples-lose-dot-segments : LosesDotsTo (codes "/b/c/g") (codes "/b/c/g")
     × LosesDotsTo (codes "/b/c/./g") (codes "/b/c/g")
     × LosesDotsTo (codes "/b/c/g/") (codes "/b/c/g/")
-    × LosesDotsTo (codes "/b/c/;x") (codes "/b/c/;x")
-    × LosesDotsTo (codes "/b/c/.") (codes "/b/c/")
-    × LosesDotsTo (codes "/b/c/./") (codes "/b/c/")
-    × LosesDotsTo (codes "/b/c/..") (codes "/b/")
-    × LosesDotsTo (codes "/b/c/../") (codes "/b/")
-    × LosesDotsTo (codes "/b/c/../g") (codes "/b/g")
-    × LosesDotsTo (codes "/b/c/../..") (codes "/")
-    × LosesDotsTo (codes "/b/c/../../") (codes "/")
+    × LosesDotsTo (codes "/b/c/;x") (codes "/b/c/;x") × LosesDotsTo (codes "/b/c/.") (codes "/b/c/")
+    × LosesDotsTo (codes "/b/c/./") (codes "/b/c/") × LosesDotsTo (codes "/b/c/..") (codes "/b/")
+    × LosesDotsTo (codes "/b/c/../") (codes "/b/") × LosesDotsTo (codes "/b/c/../g") (codes "/b/g")
+    × LosesDotsTo (codes "/b/c/../..") (codes "/") × LosesDotsTo (codes "/b/c/../../") (codes "/")
     × LosesDotsTo (codes "/b/c/../../g") (codes "/g")
 unfolding LosesDotsTo remove_dot_segments underflows run
 rfc-normal-examples-lose-dot-segments = (
@@ -50,8 +44,7 @@ rfc-normal-examples-lose-dot-segments = (
 rfc-abnormal-examples-lose-dot-segments : UnderflowsTo (codes "/b/c/../../../g") (codes "/g")
     × UnderflowsTo (codes "/b/c/../../../../g") (codes "/g")
     × LosesDotsTo (codes "/./g") (codes "/g")
-    × UnderflowsTo (codes "/../g") (codes "/g")
-    × LosesDotsTo (codes "/b/c/g.") (codes "/b/c/g.")
+    × UnderflowsTo (codes "/../g") (codes "/g") × LosesDotsTo (codes "/b/c/g.") (codes "/b/c/g.")
     × LosesDotsTo (codes "/b/c/.g") (codes "/b/c/.g")
     × LosesDotsTo (codes "/b/c/g..") (codes "/b/c/g..")
     × LosesDotsTo (codes "/b/c/..g") (codes "/b/c/..g")
@@ -83,8 +76,7 @@ rfc-abnormal-examples-lose-dot-segments = (
 encoded-dot-segments-are-removed : LosesDotsTo (codes "/a/b/%2E%2e/c") (codes "/a/c")
     × LosesDotsTo (codes "/a/b/c/%2E/%2E./%2e%2E/d") (codes "/a/d")
     × LosesDotsTo (codes "/a/.%2e") (codes "/")
-    × LosesDotsTo (codes "/a/%2e") (codes "/a/")
-    × UnderflowsTo (codes "/%2e.") (codes "/")
+    × LosesDotsTo (codes "/a/%2e") (codes "/a/") × UnderflowsTo (codes "/%2e.") (codes "/")
     × LosesDotsTo (codes "/a/%2F../%2e%2e%2e/..%2e") (codes "/a/%2F../%2e%2e%2e/..%2e")
 unfolding LosesDotsTo UnderflowsTo remove_dot_segments underflows run
 encoded-dot-segments-are-removed =
@@ -93,16 +85,11 @@ encoded-dot-segments-are-removed =
 -- examples of removing dot segments, by computation: dot segments at the end, and empty segments
 trailing-dots-leave-slash : LosesDotsTo (codes "/a/b/..") (codes "/a/")
     × LosesDotsTo (codes "/.") (codes "/")
-    × LosesDotsTo (codes "/./") (codes "/")
-    × UnderflowsTo (codes "/..") (codes "/")
-    × UnderflowsTo (codes "/../a") (codes "/a")
-    × LosesDotsTo (codes "//..") (codes "/")
-    × UnderflowsTo (codes "//../..") (codes "/")
-    × LosesDotsTo (codes "//../a") (codes "/a")
-    × LosesDotsTo (codes "/a//../b") (codes "/a/b")
-    × LosesDotsTo (codes "/.//a") (codes "//a")
-    × LosesDotsTo (codes "/") (codes "/")
-    × LosesDotsTo [] []
+    × LosesDotsTo (codes "/./") (codes "/") × UnderflowsTo (codes "/..") (codes "/")
+    × UnderflowsTo (codes "/../a") (codes "/a") × LosesDotsTo (codes "//..") (codes "/")
+    × UnderflowsTo (codes "//../..") (codes "/") × LosesDotsTo (codes "//../a") (codes "/a")
+    × LosesDotsTo (codes "/a//../b") (codes "/a/b") × LosesDotsTo (codes "/.//a") (codes "//a")
+    × LosesDotsTo (codes "/") (codes "/") × LosesDotsTo [] []
 unfolding LosesDotsTo UnderflowsTo remove_dot_segments underflows run
 trailing-dots-leave-slash = (
   (refl, refl),
@@ -120,11 +107,10 @@ trailing-dots-leave-slash = (
 )
 
 -- examples of directories of paths, by computation (RFC 3986, section 5.2.3)
-directories-of-example-paths : (directory [] ≡ codes "/") × (directory (codes "/") ≡ codes "/")
-    × (directory (codes "/b/c/d;p") ≡ codes "/b/c/")
-    × (directory (codes "/bar/..") ≡ codes "/bar/../")
-    × (directory (codes "/bar/%2E.") ≡ codes "/bar/%2E./")
-    × (directory (codes "/bar/.") ≡ codes "/bar/")
+directories-of-example-paths : (directory [] ≡ codes "/")
+    × (directory (codes "/") ≡ codes "/") × (directory (codes "/b/c/d;p") ≡ codes "/b/c/")
+    × (directory (codes "/bar/..") ≡ codes "/bar/../") × (directory (codes "/bar/%2E.")
+    ≡ codes "/bar/%2E./") × (directory (codes "/bar/.") ≡ codes "/bar/")
     × (directory (codes "/bar/../") ≡ codes "/bar/../") × (directory (codes "//") ≡ codes "//")
 unfolding directory
 directories-of-example-paths = (refl, refl, refl, refl, refl, refl, refl, refl)
@@ -136,9 +122,8 @@ lacks_dot_segments-of-example-paths : (lacks_dot_segments (codes "/a/...//b.%2e"
 lacks_dot_segments-of-example-paths = (refl, refl, refl, refl)
 
 -- example of dot segments: a full-width dot (U+FF0E) is no dot, as itself or as octets
-full-width-dot-is-no-dot-segment : LosesDotsTo
-    (codes "/a/" ++ (0xEF ∷ 0xBC ∷ 0x8E ∷ 0xEF ∷ 0xBC ∷ 0x8E ∷ []))
-    (codes "/a/" ++ (0xEF ∷ 0xBC ∷ 0x8E ∷ 0xEF ∷ 0xBC ∷ 0x8E ∷ []))
+full-width-dot-is-no-dot-segment : LosesDotsTo (codes "/a/" ++ (0xEF ∷ 0xBC ∷ 0x8E
+    ∷ 0xEF ∷ 0xBC ∷ 0x8E ∷ [])) (codes "/a/" ++ (0xEF ∷ 0xBC ∷ 0x8E ∷ 0xEF ∷ 0xBC ∷ 0x8E ∷ []))
     × LosesDotsTo (codes "/a/%EF%BC%8E") (codes "/a/%EF%BC%8E")
 unfolding LosesDotsTo remove_dot_segments underflows run
 full-width-dot-is-no-dot-segment = ((refl, refl), (refl, refl))

@@ -1,12 +1,5 @@
 -- Removing dot segments ends with an empty input: each step consumes some of it.
-use Rattle.std.proofs.Common.{◌≡◌, ℕ, zero, suc, ◌+◌, ◌<◌, ◌≤◌, true, false, not, List, [], ◌∷◌, length, take, drop, refl, ap, ◌∙◌, arith, ⊎_elim}
-use Rattle.std.specs.Prelude.{codes}
-use Rattle.std.specs.List.{prefix_len}
-use Rattle.std.proofs.lemmas.Bool.{cases_Bool, cond-true, cond-false, cond_both, false≢true}
-use Rattle.std.proofs.lemmas.List.{length-drop, length-take, nil_from_length}
-use Rattle.uri_pct.specs.Sets.{is_one_of}
-use Rattle.uri_parts.specs.Components.{before_any, from_any}
-use Rattle.uri_ops.specs.Dots.{Buffers, is_empty, is_single_dot, is_double_dot, or_slash, step, run, buffers_after_removal}
+use Rattle.uri_ops.proofs.Common.{◌≡◌, ℕ, zero, suc, ◌+◌, ◌<◌, ◌≤◌, true, false, not, List, [], ◌∷◌, length, take, drop, refl, ap, ◌∙◌, arith, ⊎_elim, codes, prefix_len, cases_Bool, cond-true, cond-false, cond_both, false≢true, length-drop, length-take, nil_from_length, is_one_of, before_any, from_any, Buffers, is_empty, is_single_dot, is_double_dot, or_slash, step, run, buffers_after_removal}
 
 -- dot segments: `.` has bytes
 pub single-dot-is-not-empty : (segment : List ℕ) → is_single_dot segment ≡ true → 0 < length segment

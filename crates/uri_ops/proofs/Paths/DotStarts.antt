@@ -1,16 +1,5 @@
 -- A path in which neither `.` nor `%` is after a `/` has no dot segment, but for its first.
-use Rattle.std.proofs.Common.{◌≤◌, ◌-◌, inl, inr, subst, drop, ⊎_elim, ◌≡◌, ℕ, zero, suc, ◌+◌, ◌<◌, append_assoc, rules, Bool, true, false, not, List, [], ◌∷◌, ◌++◌, length, take, get_or, refl, sym, ap, ◌∙◌, ◌&&◌, ◌||◌, arith}
-use Rattle.std.specs.Prelude.{codes, ◌==◌}
-use Rattle.std.proofs.Math.Seq.{take-suc}
-use Rattle.std.proofs.lemmas.List.{append-nil, drop_all, drop_at, take-append-drop, take_at}
-use Rattle.std.proofs.lemmas.Bool.{false≢true, cases_lt, and_from, or_from, or_parts}
-use Rattle.uri_parts.specs.Components.{IsAbemptyPath}
-use Rattle.std.proofs.lemmas.Str.{IsCharBoundary-after_ascii}
-use Rattle.std.specs.Str.{IsCharBoundary, IsUtf8}
-use Rattle.uri_ops.specs.Models.Directories.{IsCutAtSegment}
-use Rattle.std.proofs.lemmas.Bool.Decides.{nat_tests}
-use Rattle.uri_ops.specs.Dots.{has_slash, is_dot_segment, segments}
-use Rattle.uri_ops.specs.Models.LeadingSegments.{IsPrefixToSlashDot, BeginsWithoutDotSegment, IsDotlessPrefix, has_slash_dot_at, begins_with_dot}
+use Rattle.uri_ops.proofs.Common.{◌≤◌, ◌-◌, inl, inr, subst, drop, ⊎_elim, ◌≡◌, ℕ, zero, suc, ◌+◌, ◌<◌, append_assoc, rules, Bool, true, false, not, List, [], ◌∷◌, ◌++◌, length, take, get_or, refl, sym, ap, ◌∙◌, ◌&&◌, ◌||◌, arith, codes, ◌==◌, take-suc, append-nil, drop_all, drop_at, take-append-drop, take_at, false≢true, cases_lt, and_from, or_from, or_parts, IsAbemptyPath, IsCharBoundary-after_ascii, IsCharBoundary, IsUtf8, IsCutAtSegment, nat_tests, has_slash, is_dot_segment, segments, IsPrefixToSlashDot, BeginsWithoutDotSegment, IsDotlessPrefix, has_slash_dot_at, begins_with_dot}
 use Rattle.uri_ops.proofs.Paths.Segments.{AllPass, is_dotless}
 use Rattle.uri_ops.proofs.Paths.SlashedSegments.{NoSlashes, slash-in-suffix-is-in-append, first-segment-and-rest-lack-slashes, segments-of-text-lack-slashes, slashed, slashed-of-segments-is-text-after-slash}
 
@@ -56,8 +45,7 @@ first-segment-without-dot-start-is-dotless (c ∷ s) rest e =
 -- dot segments: if no dot begins after a `/`, no segment is a dot segment;
 -- the Bool is whether a `/` is before the text
 segments-without-dot-start-are-dotless : (b : Bool) (segs : List (List ℕ))
-    → has_dot_start_after_slash b (slashed segs) ≡ false
-    → AllPass is_dotless segs
+    → has_dot_start_after_slash b (slashed segs) ≡ false → AllPass is_dotless segs
 unfolding has_dot_start_after_slash slashed
 segments-without-dot-start-are-dotless b [] e = refl
 segments-without-dot-start-are-dotless b (s ∷ rest) e =
@@ -81,11 +69,9 @@ prefix-after-first-segment-is-abempty s [] prefix back e free (inr ends) =
 
 -- dot segments: if a path begins with no dot segment,
 -- neither does a prefix that ends where a segment begins
-first-segment-of-cut-prefix-is-dotless : (path prefix back s : List ℕ) (rest : List (List ℕ)) → path
-    ≡ prefix ++ back
-    → prefix ≡ s ++ slashed rest → has_slash s ≡ false → IsCutAtSegment prefix back
-    → BeginsWithoutDotSegment path
-    → is_dotless s ≡ true
+first-segment-of-cut-prefix-is-dotless : (path prefix back s : List ℕ) (rest : List (List ℕ))
+    → path ≡ prefix ++ back → prefix ≡ s ++ slashed rest → has_slash s ≡ false
+    → IsCutAtSegment prefix back → BeginsWithoutDotSegment path → is_dotless s ≡ true
 first-segment-of-cut-prefix-is-dotless path prefix back s rest e f free closed h =
     let whole : path ≡ s ++ (slashed rest ++ back) = e ∙ ap (λ t. t ++ back) f
     ∙ append_assoc s (slashed rest) back in
@@ -94,15 +80,13 @@ first-segment-of-cut-prefix-is-dotless path prefix back s rest e f free closed h
     let suffix : drop (length s) path ≡ slashed rest ++ back = ap (drop (length s)) whole
     ∙ drop_at s (slashed rest ++ back) (length s) refl in
     ap not (ap is_dot_segment (sym segment)
-    ∙ h (length s) (ap has_slash segment ∙ free)
-    (subst IsAbemptyPath (sym suffix)
-    (prefix-after-first-segment-is-abempty s rest prefix back f free closed)))
+    ∙ h (length s) (ap has_slash segment ∙ free) (subst IsAbemptyPath
+    (sym suffix) (prefix-after-first-segment-is-abempty s rest prefix back f free closed)))
 
 -- dot segments: a path in which no dot begins after a later `/`,
 -- and whose first segment is none, has no dot segment
-path-without-dot-start-has-dotless-segments : (segs : List (List ℕ)) (text : List ℕ) → slashed segs
-    ≡ 47 ∷ text
-    → has_dot_start_after_slash false text ≡ false
+path-without-dot-start-has-dotless-segments : (segs : List (List ℕ)) (text : List ℕ)
+    → slashed segs ≡ 47 ∷ text → has_dot_start_after_slash false text ≡ false
     → ((s : List ℕ) (rest : List (List ℕ)) → segs ≡ s ∷ rest → is_dotless s ≡ true)
     → AllPass is_dotless segs
 unfolding slashed
@@ -121,9 +105,8 @@ is_after_slash suffix (c ∷ rest) = is_after_slash (c == 47) rest
 -- dot segments: no dot begins after a `/` in a text with one more byte (c),
 -- unless c is `.` or `%` after a `/`
 byte-that-is-no-dot-adds-no-dot-start : (b : Bool) (t : List ℕ) (c : ℕ)
-    → has_dot_start_after_slash b t ≡ false
-    → (is_after_slash b t && is_dot_start c) ≡ false → has_dot_start_after_slash b (t ++ c ∷ [])
-    ≡ false
+    → has_dot_start_after_slash b t ≡ false → (is_after_slash b t && is_dot_start c) ≡ false
+    → has_dot_start_after_slash b (t ++ c ∷ []) ≡ false
 unfolding has_dot_start_after_slash is_after_slash
 byte-that-is-no-dot-adds-no-dot-start b [] c e f = or_from (b && is_dot_start c) false f refl
 byte-that-is-no-dot-adds-no-dot-start b (d ∷ t) c e f =
@@ -142,8 +125,7 @@ slash-last-is_after_slash b (d ∷ t) c = slash-last-is_after_slash (d == 47) t 
 pub take-one-more-byte : (bytes : List ℕ) (i : ℕ) → i < length bytes
     → take (i + 1) bytes ≡ take i bytes ++ get_or bytes i 0 ∷ []
 take-one-more-byte bytes i within = let next : i + 1
-    ≡ suc i = omega arith in ap (λ n. take n bytes) next
-    ∙ take-suc bytes i 0 within
+    ≡ suc i = omega arith in ap (λ n. take n bytes) next ∙ take-suc bytes i 0 within
 
 -- as a scan passes a text byte by byte
 module _ (bytes : List ℕ) (i : ℕ) (within : i < length bytes) where
@@ -164,11 +146,9 @@ module _ (bytes : List ℕ) (i : ℕ) (within : i < length bytes) where
 -- none does with one more byte
 byte-without-slash-dot-adds-no-dot-start : (bytes : List ℕ) (i : ℕ) → i + 1 < length bytes
     → has_dot_start_after_slash false (take (i + 1) bytes) ≡ false → has_slash_dot_at bytes i
-    ≡ false
-    → has_dot_start_after_slash false (take (i + 1 + 1) bytes) ≡ false
-byte-without-slash-dot-adds-no-dot-start bytes i within dotless e =
-    next-byte-adds-no-dot-start bytes (i + 1) within dotless
-    (ap (λ b. b && is_dot_start (get_or bytes (i + 1) 0))
+    ≡ false → has_dot_start_after_slash false (take (i + 1 + 1) bytes) ≡ false
+byte-without-slash-dot-adds-no-dot-start bytes i within dotless e = next-byte-adds-no-dot-start
+    bytes (i + 1) within dotless (ap (λ b. b && is_dot_start (get_or bytes (i + 1) 0))
     (sym (next-byte-slash-is_after_slash bytes i (omega (arith, within)))) ∙ e)
 
 -- dot segments: if no dot begins after a `/` up to byte i,
@@ -178,15 +158,13 @@ bytes-without-slash-dot-add-no-dot-start : (bytes : List ℕ) (i n : ℕ) → i 
     → ((k : ℕ) → k < n → has_slash_dot_at bytes (i + k) ≡ false)
     → has_dot_start_after_slash false (take (i + n + 1) bytes) ≡ false
 bytes-without-slash-dot-add-no-dot-start bytes i zero within dotless none =
-    ap (λ m. has_dot_start_after_slash false (take m bytes)) (omega arith)
-    ∙ dotless
+    ap (λ m. has_dot_start_after_slash false (take m bytes)) (omega arith) ∙ dotless
 bytes-without-slash-dot-add-no-dot-start bytes i (suc n) within dotless none =
     let next : i + suc n + 1 ≡ i + n + 1 + 1 = omega arith in
     ap (λ m. has_dot_start_after_slash false (take m bytes)) next
-    ∙ byte-without-slash-dot-adds-no-dot-start bytes (i + n) (omega (arith, within))
-    (bytes-without-slash-dot-add-no-dot-start bytes i n (omega (arith, within)) dotless
-    (λ k h. none k (omega (arith, h))))
-    (none n (omega arith))
+    ∙ byte-without-slash-dot-adds-no-dot-start bytes (i
+    + n) (omega (arith, within)) (bytes-without-slash-dot-add-no-dot-start bytes i n
+    (omega (arith, within)) dotless (λ k h. none k (omega (arith, h)))) (none n (omega arith))
 
 -- dot segments: the first byte of a path begins no dot after a `/`
 first-byte-is-no-dot-start : (bytes : List ℕ) → has_dot_start_after_slash false (take 1 bytes)
@@ -201,12 +179,10 @@ pub window-extends-dotless-prefix : (bytes : List ℕ) (i at n : ℕ) → at ≤
     → ((k : ℕ) → k < i → has_slash_dot_at bytes k ≡ false)
     → ((k : ℕ) → k < n → has_slash_dot_at bytes (at + k) ≡ false) → (k : ℕ) → k < at + n
     → has_slash_dot_at bytes k ≡ false
-window-extends-dotless-prefix bytes i at n from passed window k to = ⊎_elim
-    (λ (h : k < at). passed k (omega (arith, h, from)))
-    (λ (h : at ≤ k).
+window-extends-dotless-prefix bytes i at n from passed window k to =
+    ⊎_elim (λ (h : k < at). passed k (omega (arith, h, from))) (λ (h : at ≤ k).
     let place : k ≡ at + (k - at) = omega (arith, h) in
-    ap (has_slash_dot_at bytes) place ∙ window (k - at) (omega (arith, h, to)))
-    (cases_lt k at)
+    ap (has_slash_dot_at bytes) place ∙ window (k - at) (omega (arith, h, to))) (cases_lt k at)
 
 -- what is known of the text up to such a place
 module _ (bytes : List ℕ) (n : ℕ) (h : IsPrefixToSlashDot bytes n) where
@@ -221,18 +197,14 @@ module _ (bytes : List ℕ) (n : ℕ) (h : IsPrefixToSlashDot bytes n) where
       (λ k to. ap (has_slash_dot_at bytes) (omega arith) ∙ h.none k (omega (arith, to)))
 
   prefix-to-slash-dot-is-cut-at-segment : IsCutAtSegment (take n bytes) (drop n bytes)
-  prefix-to-slash-dot-is-cut-at-segment = ⊎_elim
-      (λ (more : n < length bytes).
+  prefix-to-slash-dot-is-cut-at-segment = ⊎_elim (λ (more : n < length bytes).
       let some = h.some in
       let end : n - 1 + 1 ≡ n = omega (arith, some) in
       inr (
         take (n - 1) bytes,
-        ap (λ m. take m bytes) (sym end)
-            ∙ take-one-more-byte bytes (n - 1) (omega (arith, more))
+        ap (λ m. take m bytes) (sym end) ∙ take-one-more-byte bytes (n - 1) (omega (arith, more))
             ∙ ap (λ c. take (n - 1) bytes ++ c ∷ []) (h.ends more),
-      ))
-      (λ (all : length bytes ≤ n). inl (drop_all n bytes all))
-      (cases_lt n (length bytes))
+      )) (λ (all : length bytes ≤ n). inl (drop_all n bytes all)) (cases_lt n (length bytes))
 
   pub prefix-to-slash-dot-is-dotless : BeginsWithoutDotSegment bytes → IsDotlessPrefix bytes n
   unfolding slashed
@@ -241,13 +213,11 @@ module _ (bytes : List ℕ) (n : ℕ) (h : IsPrefixToSlashDot bytes n) where
       record {
         dotless = path-without-dot-start-has-dotless-segments (segments prefix) prefix
             (slashed-of-segments-is-text-after-slash prefix) prefix-to-slash-dot-has-no-dot-start
-            (λ s rest e. first-segment-of-cut-prefix-is-dotless bytes prefix (drop n bytes) s rest
-            (sym (take-append-drop n bytes))
-            (ap (drop 1) (sym (slashed-of-segments-is-text-after-slash prefix) ∙ ap slashed e))
-            (first-segment-and-rest-lack-slashes s rest
-            (subst NoSlashes e (segments-of-text-lack-slashes prefix))).0
-            prefix-to-slash-dot-is-cut-at-segment
-            first);
+            (λ s
+            rest e. first-segment-of-cut-prefix-is-dotless bytes prefix (drop n bytes) s rest (sym
+            (take-append-drop n bytes)) (ap (drop 1) (sym (slashed-of-segments-is-text-after-slash
+            prefix) ∙ ap slashed e)) (first-segment-and-rest-lack-slashes s rest (subst NoSlashes e
+            (segments-of-text-lack-slashes prefix))).0 prefix-to-slash-dot-is-cut-at-segment first);
         closed = prefix-to-slash-dot-is-cut-at-segment;
       }
 
@@ -256,10 +226,9 @@ module _ (bytes : List ℕ) (n : ℕ) (h : IsPrefixToSlashDot bytes n) where
       let some = h.some in
       let within = h.within in
       let end : n - 1 + 1 ≡ n = omega (arith, some) in
-      ⊎_elim
-      (λ (more : n < length bytes). subst (IsCharBoundary bytes) end
-      (IsCharBoundary-after_ascii bytes (n - 1) u (omega (arith, more))
-      (omega (arith, h.ends more))))
+      ⊎_elim (λ (more : n < length bytes). subst
+      (IsCharBoundary bytes) end (IsCharBoundary-after_ascii bytes
+      (n - 1) u (omega (arith, more)) (omega (arith, h.ends more))))
       (λ (all : length bytes ≤ n). (within, λ more. absurd (omega (arith, more, all))))
       (cases_lt n (length bytes))
 
@@ -269,5 +238,4 @@ pub path-without-leading-dot-begins-with-none : (path : List ℕ) → begins_wit
 path-without-leading-dot-begins-with-none path e zero free rooted = refl
 path-without-leading-dot-begins-with-none [] e (suc end) free rooted = refl
 path-without-leading-dot-begins-with-none (c ∷ rest) e (suc end) free rooted =
-    segment-without-dot-start-is-dotless c
-    (take end rest) e
+    segment-without-dot-start-is-dotless c (take end rest) e

@@ -1,28 +1,15 @@
 -- The cut at the last `/` of what is in a text from a place on.
-use Rattle.std.proofs.Common.{◌≡◌, ℕ, suc, ◌+◌, ◌-◌, ◌<◌, ◌≤◌, true, false, eqb, List, [], ◌∷◌, ◌++◌, length, take, drop, get_or, refl, sym, ap, subst, ◌∙◌, arith, append_assoc, add-zero, drop-cons, cond, inl, inr, ⊎_elim, rules, tests}
-use Rattle.std.proofs.Math.Seq.{take-add}
-use Rattle.std.proofs.lemmas.List.{append-nil, take-append-drop, drop-drop, take_at, drop_at, take-append-le, length-append, length-drop, length-take, length-take-le, get_or-drop, get_or-take}
-use Rattle.std.proofs.lemmas.Bool.{cond-false, cond-true, or_parts, eqb-true, ne_eqb, false≢true}
-use Rattle.std.proofs.lemmas.Bool.Decides.{nat_tests}
-use Rattle.std.proofs.lemmas.Str.{IsCharBoundary-after_ascii}
-use Rattle.std.specs.Prelude.{codes, ◌==◌}
-use Rattle.std.specs.Str.{IsUtf8, IsCharBoundary}
-use Rattle.uri_parts.specs.Components.{IsAbemptyPath}
-use Rattle.uri_ops.specs.Dots.{is_empty, has_slash, is_double_dot, before_last_slash, last_segment, remove_dot_segments, directory, IsAbsolute, EndsInSlash}
-use Rattle.uri_ops.specs.Models.Directories.{IsDotlessDirectory, parent_directory}
-use Rattle.uri_ops.specs.Models.Places.{IsSlashOrStart}
+use Rattle.uri_ops.proofs.Common.{◌≡◌, ℕ, suc, ◌+◌, ◌-◌, ◌<◌, ◌≤◌, true, false, eqb, List, [], ◌∷◌, ◌++◌, length, take, drop, get_or, refl, sym, ap, subst, ◌∙◌, arith, append_assoc, add-zero, drop-cons, cond, inl, inr, ⊎_elim, rules, tests, take-add, append-nil, take-append-drop, drop-drop, take_at, drop_at, take-append-le, length-append, length-drop, length-take, length-take-le, get_or-drop, get_or-take, cond-false, cond-true, or_parts, eqb-true, ne_eqb, false≢true, nat_tests, IsCharBoundary-after_ascii, codes, ◌==◌, IsUtf8, IsCharBoundary, IsAbemptyPath, is_empty, has_slash, is_double_dot, before_last_slash, last_segment, remove_dot_segments, directory, IsAbsolute, EndsInSlash, IsDotlessDirectory, parent_directory, IsSlashOrStart, eq_true_from_IsTrue}
 use Rattle.uri_ops.proofs.Paths.DotStarts.{take-one-more-byte}
 use Rattle.uri_ops.proofs.Paths.TakenSegments.{trailing-double-dot-leaves-slash}
 use Rattle.uri_ops.proofs.Paths.SlashedSegments.{slash-in-suffix-is-in-append, before_last_slash-of-append, last_segment-of-append}
-use Rattle.uri_pct.proofs.General.{eq_true_from_IsTrue}
 
 -- paths: what is before the last `/` (47) of two texts joined by it,
 -- the second without any, is the first
 pub before_last_slash-of-slashless-tail : (xs ys : List ℕ) → has_slash ys ≡ false
     → before_last_slash (xs ++ 47 ∷ ys) ≡ xs
 before_last_slash-of-slashless-tail xs ys e = before_last_slash-of-append xs (47 ∷ ys) refl
-    ∙ ap (λ t. xs ++ t) (cond-false _ _ _ e)
-    ∙ append-nil xs
+    ∙ ap (λ t. xs ++ t) (cond-false _ _ _ e) ∙ append-nil xs
 
 -- paths: what is before the last `/` of a text without any is empty
 pub before_last_slash-of-slashless-is-empty : (ys : List ℕ) → has_slash ys ≡ false
@@ -32,9 +19,8 @@ before_last_slash-of-slashless-is-empty (c ∷ ys) e = cond-false _ _ _
     (or_parts (eqb c 47) (has_slash ys) e).1
 
 -- paths: what is left from a `/` (47) on begins with it
-suffix-at-slash-begins-with-slash : (bytes : List ℕ) (end : ℕ) → end < length bytes
-    → get_or bytes end 0 ≡ 47
-    → drop end bytes ≡ 47 ∷ drop (end + 1) bytes
+suffix-at-slash-begins-with-slash : (bytes : List ℕ) (end : ℕ)
+    → end < length bytes → get_or bytes end 0 ≡ 47 → drop end bytes ≡ 47 ∷ drop (end + 1) bytes
 suffix-at-slash-begins-with-slash bytes end within slash = drop-cons bytes end 0 within
     ∙ ap (λ n. get_or bytes end 0 ∷ drop n bytes) next ∙ ap (λ c. c ∷ drop (end + 1) bytes) slash
   where
@@ -44,14 +30,12 @@ suffix-at-slash-begins-with-slash bytes end within slash = drop-cons bytes end 0
 -- paths: if the last `/` (47) is at end, what is before it from
 -- start on is as long as the positions are apart
 before_last_slash-by-position : (bytes : List ℕ) (start k end : ℕ) → start + k ≡ end
-    → end < length bytes
-    → get_or bytes end 0 ≡ 47 → has_slash (drop (end + 1) bytes) ≡ false
+    → end < length bytes → get_or bytes end 0 ≡ 47 → has_slash (drop (end + 1) bytes) ≡ false
     → before_last_slash (drop start bytes) ≡ take k (drop start bytes)
 before_last_slash-by-position bytes start k end same within slash none =
     ap before_last_slash (sym (take-append-drop k (drop start bytes))
-    ∙ ap (λ t. take k (drop start bytes) ++ t)
-    (drop-drop k start bytes ∙ ap (λ n. drop n bytes) same
-    ∙ suffix-at-slash-begins-with-slash bytes end within slash))
+    ∙ ap (λ t. take k (drop start bytes) ++ t) (drop-drop k start bytes
+    ∙ ap (λ n. drop n bytes) same ∙ suffix-at-slash-begins-with-slash bytes end within slash))
     ∙ before_last_slash-of-slashless-tail (take k (drop start bytes)) (drop (end + 1) bytes) none
 
 -- paths: if the last `/` (47) is at end, what is before it is
@@ -67,17 +51,14 @@ prefix-to-last-slash bytes start end from within slash none =
 
 -- paths: if there is no `/` from start on, what is before the last one from there is nothing
 pub prefix-without-slash-after-start : (bytes : List ℕ) (start : ℕ) → has_slash (drop start bytes)
-    ≡ false
-    → take start bytes ≡ take start bytes ++ before_last_slash (drop start bytes)
-prefix-without-slash-after-start bytes start none =
-    sym (ap (λ t. take start bytes ++ t)
-    (before_last_slash-of-slashless-is-empty (drop start bytes) none)
+    ≡ false → take start bytes ≡ take start bytes ++ before_last_slash (drop start bytes)
+prefix-without-slash-after-start bytes start none = sym (ap (λ t. take start bytes
+    ++ t) (before_last_slash-of-slashless-is-empty (drop start bytes) none)
     ∙ append-nil (take start bytes))
 
 -- paths: if there is no `/` from start on, there is none from the next byte on
-pub slashless-suffix-stays-slashless : (bytes : List ℕ) (start : ℕ) → has_slash (drop start bytes)
-    ≡ false
-    → has_slash (drop (start + 1) bytes) ≡ false
+pub slashless-suffix-stays-slashless : (bytes : List ℕ) (start : ℕ)
+    → has_slash (drop start bytes) ≡ false → has_slash (drop (start + 1) bytes) ≡ false
 slashless-suffix-stays-slashless bytes start none = sym (ap has_slash (drop-drop 1 start bytes))
     ∙ fewer (drop start bytes) none
   where
@@ -93,8 +74,7 @@ last_segment-after-slash x y e = last_segment-of-append x (47 ∷ y) refl ∙ co
 directory-by-last-slash : (x y : List ℕ) → has_slash y ≡ false
     → directory (x ++ 47 ∷ y) ≡ cond (is_double_dot y) ((x ++ 47 ∷ y) ++ codes "/") (x ++ codes "/")
 unfolding directory
-directory-by-last-slash [] y e =
-    ap (λ s. cond (is_double_dot s) ((47 ∷ y) ++ codes "/")
+directory-by-last-slash [] y e = ap (λ s. cond (is_double_dot s) ((47 ∷ y) ++ codes "/")
     (before_last_slash (47 ∷ y) ++ codes "/")) (last_segment-after-slash [] y e)
     ∙ ap (λ t. cond (is_double_dot y) ((47 ∷ y) ++ codes "/") (t ++ codes "/"))
     (before_last_slash-of-slashless-tail [] y e)
@@ -110,8 +90,7 @@ directory-by-last-slash (c ∷ x) y e =
 
 -- paths: in an absolute path, the position of a last slash is that of a `/` (47)
 pub slash-position-is-of-slash : (path : List ℕ) (slash : ℕ) → IsAbsolute path
-    → IsSlashOrStart path 0 slash
-    → (slash < length path) × (get_or path slash 0 ≡ 47)
+    → IsSlashOrStart path 0 slash → (slash < length path) × (get_or path slash 0 ≡ 47)
 slash-position-is-of-slash [] slash h p = absurd (false≢true (eq_true_from_IsTrue _ h))
 slash-position-is-of-slash (c ∷ rest) slash h (p, inl e) =
     (omega arith, ap (λ n. get_or (c ∷ rest) n 0) e ∙ eqb-true c 47 (eq_true_from_IsTrue _ h))
@@ -131,21 +110,17 @@ module _ (path : List ℕ) (slash : ℕ) (absolute : IsAbsolute path)
 
   pub prefix-through-slash-ends-in-slash : take (slash + 1) path ≡ take slash path ++ codes "/"
   prefix-through-slash-ends-in-slash = let at = slash-position-is-of-slash path slash absolute
-      place in take-one-more-byte path slash at.0
-      ∙ ap (λ c. take slash path ++ c ∷ []) at.1
+      place in take-one-more-byte path slash at.0 ∙ ap (λ c. take slash path ++ c ∷ []) at.1
 
   pub slash-position-is-prefix-length : slash ≡ length (take slash path)
   slash-position-is-prefix-length = let at = slash-position-is-of-slash path slash absolute place in
       sym (length-take-le slash path (omega (arith, at.0)))
 
-  directory-by-slash-position : has_slash (drop (slash + 1) path) ≡ false
-      → directory path
-      ≡ cond (is_double_dot (drop (slash + 1) path)) (path ++ codes "/")
-      (take slash path ++ codes "/")
-  directory-by-slash-position last = ap directory cut
-      ∙ directory-by-last-slash (take slash path) (drop (slash + 1) path) last
-      ∙ ap (λ t. cond (is_double_dot (drop (slash + 1) path)) (t ++ codes "/")
-      (take slash path ++ codes "/")) (sym cut)
+  directory-by-slash-position : has_slash (drop (slash + 1) path) ≡ false → directory path ≡ cond
+      (is_double_dot (drop (slash + 1) path)) (path ++ codes "/") (take slash path ++ codes "/")
+  directory-by-slash-position last = ap directory cut ∙ directory-by-last-slash (take slash path)
+      (drop (slash + 1) path) last ∙ ap (λ t. cond (is_double_dot (drop (slash + 1) path))
+      (t ++ codes "/") (take slash path ++ codes "/")) (sym cut)
 
   directory-is-prefix-to-slash : has_slash (drop (slash + 1) path) ≡ false
       → is_double_dot (drop (slash + 1) path) ≡ false
@@ -182,10 +157,9 @@ module _ (path : List ℕ) (slash : ℕ) (absolute : IsAbsolute path)
 
   pub trailing-double-dot-path-is-its-directory : is_double_dot (drop (slash + 1) path) ≡ true
       → remove_dot_segments path ≡ remove_dot_segments (directory path)
-  trailing-double-dot-path-is-its-directory e =
-      ap remove_dot_segments (cut path slash absolute place)
-      ∙ trailing-double-dot-leaves-slash (take slash path) (drop (slash + 1) path)
-      (subst IsAbsolute (cut path slash absolute place) absolute) last e
+  trailing-double-dot-path-is-its-directory e = ap remove_dot_segments
+      (cut path slash absolute place) ∙ trailing-double-dot-leaves-slash (take slash path)
+      (drop (slash + 1) path) (subst IsAbsolute (cut path slash absolute place) absolute) last e
       ∙ ap remove_dot_segments (path-with-double-dot-and-slash-is-directory e)
 
 -- paths: what is before the last `/` of a directory is the directory without it
@@ -226,11 +200,9 @@ module _ (text : List ℕ) (start : ℕ) (d : IsDotlessDirectory (drop start tex
   prefix-before-start-has-its-length = length-take-le start text (omega (arith, parts.0))
 
   text-without-last-slash-is-both-prefixes : take (length text - 1) text ≡ take start text ++ prefix
-  text-without-last-slash-is-both-prefixes =
-      ap (take (length text - 1)) parts.1
-      ∙ take_at (take start text ++ prefix) (codes "/") (length text - 1)
-      (length-append (take start text) prefix
-      ∙ omega (arith, parts.0, prefix-before-start-has-its-length))
+  text-without-last-slash-is-both-prefixes = ap (take (length text - 1)) parts.1
+      ∙ take_at (take start text ++ prefix) (codes "/") (length text - 1) (length-append
+      (take start text) prefix ∙ omega (arith, parts.0, prefix-before-start-has-its-length))
 
   pub root-directory-has-no-segment : (n : ℕ) → n ≡ length text
       → eqb (n - 1) start ≡ is_empty (before_last_slash (drop start text))
@@ -262,13 +234,11 @@ module _ (text : List ℕ) (start : ℕ) (d : IsDotlessDirectory (drop start tex
         (drop start all)
         → take (slash + 1) text ≡ take start text ++ parent_directory (drop start text)
     unfolding prefix
-    popped-directory-is-parent e =
-        take-one-more-byte text slash slash-before-popped-segment.0
+    popped-directory-is-parent e = take-one-more-byte text slash slash-before-popped-segment.0
         ∙ ap (λ c. take slash text ++ c ∷ []) slash-before-popped-segment.1
-        ∙ ap (λ t. t ++ codes "/") (same ∙ e
-        ∙ ap (λ t. take start t ++ before_last_slash (drop start t))
-        (all_is ∙ text-without-last-slash-is-both-prefixes) ∙ pieces)
-        ∙ append_assoc (take start text) (before_last_slash d.closed.0) (codes "/")
+        ∙ ap (λ t. t ++ codes "/") (same ∙ e ∙ ap (λ t. take start t
+        ++ before_last_slash (drop start t)) (all_is ∙ text-without-last-slash-is-both-prefixes)
+        ∙ pieces) ∙ append_assoc (take start text) (before_last_slash d.closed.0) (codes "/")
         ∙ ap (λ t. take start text ++ (before_last_slash t ++ codes "/"))
         (sym (before_last_slash-of-directory (drop start text) d.closed))
       where
@@ -286,24 +256,20 @@ module _ (text : List ℕ) (start : ℕ) (d : IsDotlessDirectory (drop start tex
             ∙ take-append-le slash (take start text ++ prefix) (codes "/") within
             ∙ ap (take slash) (sym (all_is ∙ text-without-last-slash-is-both-prefixes))
 
-        pieces : take start (take start text ++ prefix)
-            ++ before_last_slash (drop start (take start text ++ prefix))
-            ≡ take start text ++ before_last_slash prefix
-        pieces =
-            ap (λ t. t ++ before_last_slash (drop start (take start text ++ prefix)))
+        pieces : take start (take start text ++ prefix) ++ before_last_slash
+            (drop start (take start text ++ prefix)) ≡ take start text ++ before_last_slash prefix
+        pieces = ap (λ t. t ++ before_last_slash (drop start (take start text ++ prefix)))
             (take_at (take start text) prefix start prefix-before-start-has-its-length)
             ∙ ap (λ t. take start text ++ before_last_slash t)
             (drop_at (take start text) prefix start prefix-before-start-has-its-length)
 
 -- paths: the byte after a segment is `/` (47)
-pub byte-after-segment-is-slash : (path : List ℕ) (end : ℕ) → IsAbemptyPath (drop end path)
-    → end < length path
-    → get_or path end 0 ≡ 47
-byte-after-segment-is-slash path end h within = ⊎_elim
-    (λ e. absurd (omega (arith, within, ap length e, length-drop end path)))
-    (λ e. ap (λ n. get_or path n 0) (sym (add-zero end)) ∙ sym (get_or-drop end path 0 0)
-    ∙ absolute-path-has-slash-first (drop end path) e)
-    h
+pub byte-after-segment-is-slash : (path : List ℕ) (end : ℕ)
+    → IsAbemptyPath (drop end path) → end < length path → get_or path end 0 ≡ 47
+byte-after-segment-is-slash path end h within =
+    ⊎_elim (λ e. absurd (omega (arith, within, ap length e, length-drop end path)))
+    (λ e. ap (λ n. get_or path n 0) (sym (add-zero end))
+    ∙ sym (get_or-drop end path 0 0) ∙ absolute-path-has-slash-first (drop end path) e) h
 
 -- paths: the directory of `/` is `/`
 pub directory-of-root : directory (codes "/") ≡ codes "/"

@@ -1,22 +1,12 @@
 -- What is left of a path while its segments are taken one after the other: what is after a
 -- directory without dot segments, which is all that was kept so far.
-use Rattle.std.proofs.Common.{◌≡◌, ℕ, ◌-◌, ◌<◌, ◌≤◌, Bool, true, false, List, [], ◌∷◌, ◌++◌, length, take, drop, refl, sym, ap, subst, ◌∙◌, ◌||◌, append_assoc, arith, inl, inr, ⊎_elim}
-use Rattle.std.specs.Prelude.{codes, ◌==◌}
-use Rattle.std.specs.List.{list_all, slice_range}
-use Rattle.std.proofs.Math.Bool.{or-false, or_assoc}
-use Rattle.std.proofs.lemmas.List.{append-nil, take-append-drop, drop_at, take_at, drop-append-le, take-append-le, length-drop, length-take-le}
-use Rattle.std.proofs.lemmas.List.Folds.{list_all-append}
-use Rattle.std.proofs.lemmas.Bool.{and_parts, and_from, cases_Bool, false≢true, or_right}
-use Rattle.uri_parts.specs.Components.{IsAbemptyPath}
-use Rattle.uri_ops.specs.Dots.{is_single_dot, is_double_dot, is_empty, before_last_slash, has_slash, lacks_dot_segments, segments, remove_dot_segments, underflows, IsAbsolute}
-use Rattle.uri_ops.specs.Models.Directories.{IsDotlessDirectory, IsCutAtSegment, RemovalState, parent_directory}
+use Rattle.uri_ops.proofs.Common.{◌≡◌, ℕ, ◌-◌, ◌<◌, ◌≤◌, Bool, true, false, List, [], ◌∷◌, ◌++◌, length, take, drop, refl, sym, ap, subst, ◌∙◌, ◌||◌, append_assoc, arith, inl, inr, ⊎_elim, codes, ◌==◌, list_all, slice_range, or-false, or_assoc, append-nil, take-append-drop, drop_at, take_at, drop-append-le, take-append-le, length-drop, length-take-le, list_all-append, and_parts, and_from, cases_Bool, false≢true, or_right, IsAbemptyPath, is_single_dot, is_double_dot, is_empty, before_last_slash, has_slash, lacks_dot_segments, segments, remove_dot_segments, underflows, IsAbsolute, IsDotlessDirectory, IsCutAtSegment, RemovalState, parent_directory, eq_true_from_IsTrue}
 use Rattle.uri_ops.proofs.Paths.Segments.{pop, is_none, next_output, step_of, AllPass, is_dotless, pop-undoes-push, popped-segments-pass-test, appended-segments-pass-test, pushed-segments-are-not-none, single-dot-is-not-double}
 use Rattle.uri_ops.proofs.Paths.Underflows.{underflows_at}
 use Rattle.uri_ops.proofs.Paths.SlashedSegments.{slashed, lacks_slash, NoSlashes, slashed-of-push, before_last_slash-of-slashed-is-popped, slashed-is-empty-if-no-segments, segments-of-slashed-segments}
 use Rattle.uri_ops.proofs.Paths.DotLaws.{property-of-path-to-slash-by-segments, rooted, path-after-slash-appends-its-segments, appended-segments-lack-slashes, segments-with-empty-last-lack-slashes, segments-of-dotless-path-are-dotless, slashed-segments-are-absolute, remove-dots-of-dotless, dotless-path-does-not-underflow}
 use Rattle.uri_ops.proofs.Paths.TakenSegments.{removing-dots-after-directory, underflow-after-directory}
 use Rattle.uri_ops.proofs.Targeting.Targets.{appended-absolute-path-is-absolute}
-use Rattle.uri_pct.proofs.General.{eq_true_from_IsTrue}
 
 -- removing dot segments, segment by segment:
 -- it may begin with a directory that has none as kept, and the rest to do
@@ -27,8 +17,7 @@ removal-state-begins-with-directory kept rest d = record {
   underflow = refl;
   absolute = d.absolute;
   dotless = d.dotless;
-  closed = inr
-      d.closed;
+  closed = inr d.closed;
 }
 
 -- removing dot segments, segment by segment: when no rest is left, what is kept is the result; the
@@ -40,9 +29,8 @@ removal-state-without-rest-is-done path kept underflowed h =
     let none = append-nil kept in (
       sym (remove-dots-of-dotless kept h.absolute h.dotless) ∙ ap remove_dot_segments (sym none)
           ∙ h.removed,
-      sym (ap (λ t. underflowed || underflows t) none
-          ∙ ap (λ b. underflowed || b) (dotless-path-does-not-underflow kept h.absolute h.dotless)
-          ∙ or-false underflowed)
+      sym (ap (λ t. underflowed || underflows t) none ∙ ap (λ b. underflowed || b)
+          (dotless-path-does-not-underflow kept h.absolute h.dotless) ∙ or-false underflowed)
           ∙ h.underflow,
     )
 
@@ -69,12 +57,10 @@ rest-of-nonzero-length-has-bytes (c ∷ rest) e = omega arith
 -- removing dot segments, segment by segment: equal texts are in the same state;
 -- u, u': whether there was an underflow
 pub removal-state-of-equals : (path kept kept' rest rest' : List ℕ) (u u' : Bool) → kept' ≡ kept
-    → rest' ≡ rest
-    → u' ≡ u → RemovalState path kept rest u → RemovalState path kept' rest' u'
+    → rest' ≡ rest → u' ≡ u → RemovalState path kept rest u → RemovalState path kept' rest' u'
 removal-state-of-equals path kept kept' rest rest' u u' e f g h =
-    subst (RemovalState path kept' rest') (sym g)
-    (subst (λ r. RemovalState path kept' r u) (sym f)
-    (subst (λ k. RemovalState path k rest u) (sym e) h))
+    subst (RemovalState path kept' rest') (sym g) (subst (λ r. RemovalState path kept' r u)
+    (sym f) (subst (λ k. RemovalState path k rest u) (sym e) h))
 
 -- paths: if a path has no dot segment, its first segments have none
 prefix-of-dotless-segments-is-dotless : (xs ys : List (List ℕ)) → NoSlashes (xs ++ ys)
@@ -87,37 +73,31 @@ prefix-of-dotless-segments-is-dotless xs ys e f =
 pub property-of-dotless-directory-by-segments : (P : List ℕ → Type 0)
     → ((xs : List (List ℕ)) → NoSlashes xs → AllPass is_dotless xs → P (slashed (xs ++ [] ∷ [])))
     → (path : List ℕ) → IsDotlessDirectory path → P path
-property-of-dotless-directory-by-segments P each path d = property-of-path-to-slash-by-segments
-    (λ path. lacks_dot_segments path ≡ true → P path)
-    (λ xs e f. each xs e (prefix-of-dotless-segments-is-dotless xs ([] ∷ [])
-    (segments-with-empty-last-lack-slashes xs e) f))
-    path d.absolute
-    d.closed d.dotless
+property-of-dotless-directory-by-segments P each path d =
+    property-of-path-to-slash-by-segments (λ path. lacks_dot_segments path ≡ true → P path)
+    (λ xs e f. each xs e (prefix-of-dotless-segments-is-dotless xs
+    ([] ∷ []) (segments-with-empty-last-lack-slashes xs e) f)) path d.absolute d.closed d.dotless
 
 -- paths: segments that are no dot segments, each after a `/`, are a path without dot segments
-slashed-dotless-segments-lack-dot-segments : (xs : List (List ℕ)) → NoSlashes xs
-    → AllPass is_dotless xs
-    → lacks_dot_segments (slashed xs) ≡ true
+slashed-dotless-segments-lack-dot-segments : (xs : List (List ℕ))
+    → NoSlashes xs → AllPass is_dotless xs → lacks_dot_segments (slashed xs) ≡ true
 slashed-dotless-segments-lack-dot-segments xs e f = ap (list_all is_dotless)
     (segments-of-slashed-segments xs e) ∙ and_from _ _ refl f
 
 -- paths: a path without dot segments, after a directory without any, has none
 pub dotless-path-after-directory-is-dotless : (kept path : List ℕ) → IsDotlessDirectory kept
-    → lacks_dot_segments path ≡ true
-    → lacks_dot_segments (kept ++ path) ≡ true
+    → lacks_dot_segments path ≡ true → lacks_dot_segments (kept ++ path) ≡ true
 dotless-path-after-directory-is-dotless kept path d dotless =
     property-of-dotless-directory-by-segments (λ k. lacks_dot_segments (k ++ path) ≡ true)
     (λ xs e f. ap lacks_dot_segments (path-after-slash-appends-its-segments xs path)
     ∙ slashed-dotless-segments-lack-dot-segments (xs ++ segments path)
-    (appended-segments-lack-slashes xs path e)
-    (appended-segments-pass-test is_dotless xs (segments path) f dotless))
-    kept d
+    (appended-segments-lack-slashes xs path e) (appended-segments-pass-test is_dotless xs
+    (segments path) f dotless)) kept d
 
 -- dot segments: segments without dots, each after a `/`,
 -- and a last `/` are a directory without dot segments
-pub slashed-dotless-segments-are-directory : (xs : List (List ℕ)) → NoSlashes xs
-    → AllPass is_dotless xs
-    → IsDotlessDirectory (slashed (xs ++ [] ∷ []))
+pub slashed-dotless-segments-are-directory : (xs : List (List ℕ))
+    → NoSlashes xs → AllPass is_dotless xs → IsDotlessDirectory (slashed (xs ++ [] ∷ []))
 slashed-dotless-segments-are-directory xs e f = record {
   absolute = slashed-segments-are-absolute (xs ++ [] ∷ []) (pushed-segments-are-not-none xs []);
   closed = (slashed xs, slashed-of-push xs []);
@@ -137,8 +117,7 @@ record LeavesDirectory (kept s rest left : List ℕ) (meets_none : Bool) : Type 
 -- directory, and whether it underflows
 LeavesDirectoryForSegments : (List ℕ → Bool) → (List ℕ → List ℕ) → (List ℕ → Bool) → List ℕ → Type 0
 LeavesDirectoryForSegments test left meets_none kept = (s rest : List ℕ) → has_slash s ≡ false
-    → IsAbemptyPath rest → test s
-    ≡ true → LeavesDirectory kept s rest (left kept) (meets_none kept)
+    → IsAbemptyPath rest → test s ≡ true → LeavesDirectory kept s rest (left kept) (meets_none kept)
 
 -- removing dot segments, segment by segment: `.` leaves the directory (kept) as it is
 single-dot-leaves-same-directory : (kept : List ℕ) → IsDotlessDirectory kept
@@ -159,30 +138,24 @@ single-dot-leaves-same-directory = property-of-dotless-directory-by-segments
     each xs e f s rest free rooted single =
         let dot = ap (λ b. b || is_double_dot s) single in
         record {
-          removed = removing-dots-after-directory xs f e s free dot rest rooted
-              ∙ ap (λ o. remove_dot_segments (slashed (o ++ [] ∷ []) ++ drop 1 rest))
-              (same xs s single);
-          underflow =
-              underflow-after-directory xs f e s free dot rest rooted
-              ∙ ap (λ b. b || underflows (slashed (step_of xs s ++ [] ∷ []) ++ drop 1 rest))
-              (met xs s single)
+          removed = removing-dots-after-directory xs f e s free dot rest rooted ∙ ap
+              (λ o. remove_dot_segments (slashed (o ++ [] ∷ []) ++ drop 1 rest)) (same xs s single);
+          underflow = underflow-after-directory xs f e s free dot rest rooted ∙ ap (λ b. b
+              || underflows (slashed (step_of xs s ++ [] ∷ []) ++ drop 1 rest)) (met xs s single)
               ∙ ap (λ o. underflows (slashed (o ++ [] ∷ []) ++ drop 1 rest)) (same xs s single);
           directory = slashed-dotless-segments-are-directory xs e f;
         }
 
 -- dot segments: `..` is not `.`
 double-dot-is-not-single : (s : List ℕ) → is_double_dot s ≡ true → is_single_dot s ≡ false
-double-dot-is-not-single s e = ⊎_elim
-    (λ f. absurd (false≢true (sym (single-dot-is-not-double s f) ∙ e)))
-    (λ f. f)
-    (cases_Bool (is_single_dot s))
+double-dot-is-not-single s e = ⊎_elim (λ f. absurd
+    (false≢true (sym (single-dot-is-not-double s f) ∙ e))) (λ f. f) (cases_Bool (is_single_dot s))
 
 -- paths: what is before the last `/` of a directory is its segments, each after a `/`
 before_last_slash-of-slashed-directory : (xs : List (List ℕ)) → NoSlashes xs
     → before_last_slash (slashed (xs ++ [] ∷ [])) ≡ slashed xs
-before_last_slash-of-slashed-directory xs e = before_last_slash-of-slashed-is-popped (xs ++ [] ∷ [])
-    (segments-with-empty-last-lack-slashes xs e)
-    ∙ ap slashed (pop-undoes-push xs [])
+before_last_slash-of-slashed-directory xs e = before_last_slash-of-slashed-is-popped (xs
+    ++ [] ∷ []) (segments-with-empty-last-lack-slashes xs e) ∙ ap slashed (pop-undoes-push xs [])
 
 -- paths: before the last `/` of a directory there is nothing exactly if it has no segments
 directory-without-segments-is-root : (xs : List (List ℕ)) → NoSlashes xs
@@ -193,10 +166,8 @@ directory-without-segments-is-root xs e = ap is_empty (before_last_slash-of-slas
 -- paths: a directory without its last segment is its parent
 popped-segments-are-parent_directory : (xs : List (List ℕ)) → NoSlashes xs
     → slashed (pop xs ++ [] ∷ []) ≡ parent_directory (slashed (xs ++ [] ∷ []))
-popped-segments-are-parent_directory xs e =
-    slashed-of-push (pop xs) []
-    ∙ ap (λ t. t ++ codes "/")
-    (sym (ap before_last_slash (before_last_slash-of-slashed-directory xs e)
+popped-segments-are-parent_directory xs e = slashed-of-push (pop xs) [] ∙ ap (λ t. t
+    ++ codes "/") (sym (ap before_last_slash (before_last_slash-of-slashed-directory xs e)
     ∙ before_last_slash-of-slashed-is-popped xs e))
 
 -- removing dot segments, segment by segment:
@@ -219,9 +190,8 @@ double-dot-leaves-parent-directory = property-of-dotless-directory-by-segments
         ∙ ap (λ b. underflows_at false b false xs) e
 
     each : (xs : List (List ℕ)) → NoSlashes xs → AllPass is_dotless xs
-        → LeavesDirectoryForSegments is_double_dot parent_directory
-        (λ k. is_empty (before_last_slash k))
-        (slashed (xs ++ [] ∷ []))
+        → LeavesDirectoryForSegments is_double_dot parent_directory (λ k. is_empty
+        (before_last_slash k)) (slashed (xs ++ [] ∷ []))
     each xs e f s rest free rooted double =
         let dot = or_right (is_single_dot s) _ double in
         let parent = ap (λ o. slashed (o ++ [] ∷ [])) (fewer xs s double)
@@ -229,12 +199,10 @@ double-dot-leaves-parent-directory = property-of-dotless-directory-by-segments
         record {
           removed = removing-dots-after-directory xs f e s free dot rest rooted
               ∙ ap (λ t. remove_dot_segments (t ++ drop 1 rest)) parent;
-          underflow =
-              underflow-after-directory xs f e s free dot rest rooted
-              ∙ ap (λ b. b || underflows (slashed (step_of xs s ++ [] ∷ []) ++ drop 1 rest))
-              (met xs s double ∙ sym (directory-without-segments-is-root xs e))
-              ∙ ap (λ t. is_empty (before_last_slash (slashed (xs ++ [] ∷ []))) || underflows
-              (t ++ drop 1 rest)) parent;
+          underflow = underflow-after-directory xs f e s free dot rest rooted ∙ ap (λ b.
+              b || underflows (slashed (step_of xs s ++ [] ∷ []) ++ drop 1 rest)) (met xs s double ∙
+              sym (directory-without-segments-is-root xs e)) ∙ ap (λ t. is_empty (before_last_slash
+              (slashed (xs ++ [] ∷ []))) || underflows (t ++ drop 1 rest)) parent;
           directory = subst IsDotlessDirectory (popped-segments-are-parent_directory xs e)
               (slashed-dotless-segments-are-directory (pop xs)
               (popped-segments-pass-test lacks_slash xs e)
@@ -253,8 +221,7 @@ module _ (path kept rest : List ℕ) (underflowed : Bool)
       → RemovalState path left (drop 1 (drop n rest)) (underflowed || met)
   removal-passes-dot-segment left met d = record {
     removed = sym (ap remove_dot_segments cut ∙ d.removed) ∙ h.removed;
-    underflow =
-        or_assoc underflowed met (underflows (left ++ drop 1 (drop n rest)))
+    underflow = or_assoc underflowed met (underflows (left ++ drop 1 (drop n rest)))
         ∙ ap (λ b. underflowed || b) (sym (ap underflows cut ∙ d.underflow)) ∙ h.underflow;
     absolute = d.directory.absolute;
     dotless = d.directory.dotless;
@@ -265,26 +232,20 @@ module _ (path kept rest : List ℕ) (underflowed : Bool)
       → is_single_dot (take n rest) ≡ true
       → RemovalState path kept (drop 1 (drop n rest)) underflowed
   unfolding LeavesDirectoryForSegments
-  removal-passes-single-dot free rooted single = subst
-      (RemovalState path kept (drop 1 (drop n rest)))
-      (or-false underflowed)
-      (removal-passes-dot-segment kept false
-      (single-dot-leaves-same-directory kept
+  removal-passes-single-dot free rooted single =
+      subst (RemovalState path kept (drop 1 (drop n rest))) (or-false underflowed)
+      (removal-passes-dot-segment kept false (single-dot-leaves-same-directory kept
       (removal-state-has-directory path kept rest underflowed h some)
-      (take n rest)
-      (drop n rest) free rooted single))
+      (take n rest) (drop n rest) free rooted single))
 
   pub removal-passes-double-dot : has_slash (take n rest) ≡ false → IsAbemptyPath (drop n rest)
-      → is_double_dot (take n rest) ≡ true
-      → RemovalState path (parent_directory kept) (drop 1 (drop n rest))
-      (underflowed || is_empty (before_last_slash kept))
+      → is_double_dot (take n rest) ≡ true → RemovalState path (parent_directory kept) (drop 1
+      (drop n rest)) (underflowed || is_empty (before_last_slash kept))
   unfolding LeavesDirectoryForSegments
-  removal-passes-double-dot free rooted double =
-      removal-passes-dot-segment (parent_directory kept) (is_empty (before_last_slash kept))
-      (double-dot-leaves-parent-directory kept
+  removal-passes-double-dot free rooted double = removal-passes-dot-segment (parent_directory kept)
+      (is_empty (before_last_slash kept)) (double-dot-leaves-parent-directory kept
       (removal-state-has-directory path kept rest underflowed h some)
-      (take n rest)
-      (drop n rest) free rooted double)
+      (take n rest) (drop n rest) free rooted double)
 
   pub removal-passes-dotless-prefix : lacks_dot_segments (take n rest) ≡ true
       → IsCutAtSegment (take n rest) (drop n rest)
@@ -297,9 +258,10 @@ module _ (path kept rest : List ℕ) (underflowed : Bool)
         absolute = appended-absolute-path-is-absolute kept (take n rest) h.absolute;
         dotless = dotless-path-after-directory-is-dotless kept (take n rest)
             (removal-state-has-directory path kept rest underflowed h some) dotless;
-        closed = ⊎_elim inl (λ e. inr
-            (kept ++ e.0, ap (λ t. kept ++ t) e.1 ∙ sym (append_assoc kept e.0 (codes "/"))))
-            closed;
+        closed = ⊎_elim inl (λ e. inr (
+          kept ++ e.0,
+          ap (λ t. kept ++ t) e.1 ∙ sym (append_assoc kept e.0 (codes "/")),
+        )) closed;
       }
 
 -- paths: an absolute path has a byte at least
@@ -310,8 +272,7 @@ absolute-path-has-bytes (c ∷ path) h = omega arith
 module _ (text : List ℕ) (start : ℕ) (absolute : IsAbsolute (drop start text)) where
   start-of-absolute-is-within-text : start ≤ length text
   start-of-absolute-is-within-text = let some = absolute-path-has-bytes
-      (drop start text) absolute in omega
-      (arith, some, length-drop start text)
+      (drop start text) absolute in omega (arith, some, length-drop start text)
 
   pub appending-extends-text-from-start : (t new : List ℕ) → new ≡ text ++ t → drop start new
       ≡ drop start text ++ t
@@ -325,19 +286,16 @@ module _ (text : List ℕ) (start : ℕ) (absolute : IsAbsolute (drop start text
 
   pub replacement-is-text-from-start : (t new : List ℕ) → new ≡ take start text ++ t
       → drop start new ≡ t
-  replacement-is-text-from-start t new e = ap (drop start) e
-      ∙ drop_at (take start text) t start
-      (length-take-le start text start-of-absolute-is-within-text)
+  replacement-is-text-from-start t new e = ap (drop start) e ∙ drop_at
+      (take start text) t start (length-take-le start text start-of-absolute-is-within-text)
 
   pub replacing-keeps-text-to-start : (t new : List ℕ) → new ≡ take start text ++ t → take start new
       ≡ take start text
-  replacing-keeps-text-to-start t new e = ap (take start) e
-      ∙ take_at (take start text) t start
-      (length-take-le start text start-of-absolute-is-within-text)
+  replacing-keeps-text-to-start t new e = ap (take start) e ∙ take_at
+      (take start text) t start (length-take-le start text start-of-absolute-is-within-text)
 
 -- general fact on slices, for paths: what is between 0 and n is the prefix of n bytes
-pub slice-from-zero-is-prefix : (text prefix : List ℕ) (n : ℕ) → prefix
-    ≡ slice_range text 0 n → prefix
-    ≡ take n text
+pub slice-from-zero-is-prefix : (text prefix : List ℕ) (n : ℕ)
+    → prefix ≡ slice_range text 0 n → prefix ≡ take n text
 slice-from-zero-is-prefix text prefix n e = let same : n - 0 ≡ n = omega arith in e
     ∙ ap (λ m. take m text) same

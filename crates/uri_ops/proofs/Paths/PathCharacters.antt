@@ -1,13 +1,5 @@
 -- The characters of what is left of a path are the path's.
-use Rattle.std.proofs.Common.{◌≡◌, ℕ, Bool, true, false, not, List, [], ◌∷◌, ◌++◌, refl, sym, ap, ◌∙◌, ◌&&◌}
-use Rattle.std.specs.List.{list_all}
-use Rattle.std.proofs.lemmas.List.Folds.{list_all-append}
-use Rattle.std.proofs.lemmas.List.Elements.{All-weaker}
-use Rattle.std.proofs.lemmas.List.Sums.{AllPass-from_list_all, list_all-from_AllPass}
-use Rattle.std.proofs.lemmas.Bool.{and_parts, and_from, cond_both, not-true, not_from_false}
-use Rattle.uri_pct.specs.Sets.{is_one_of}
-use Rattle.uri_parts.specs.Components.{Lacks}
-use Rattle.uri_ops.specs.Dots.{is_double_dot, is_empty, has_slash, before_last_slash, up_to_last_slash, last_segment, remove_dot_segments, directory, IsAbsolute}
+use Rattle.uri_ops.proofs.Common.{◌≡◌, ℕ, Bool, true, false, not, List, [], ◌∷◌, ◌++◌, refl, sym, ap, ◌∙◌, ◌&&◌, list_all, list_all-append, All-weaker, AllPass-from_list_all, list_all-from_AllPass, and_parts, and_from, cond_both, not-true, not_from_false, is_one_of, Lacks, is_double_dot, is_empty, has_slash, before_last_slash, up_to_last_slash, last_segment, remove_dot_segments, directory, IsAbsolute}
 use Rattle.uri_ops.proofs.Paths.Segments.{dotless_of, dotless_of-pass-test}
 use Rattle.uri_ops.proofs.Paths.SlashedSegments.{slashed, remove-dots-by-segments}
 use Rattle.uri_ops.proofs.Paths.DotLaws.{property-of-absolute-path-by-segments}
@@ -24,14 +16,12 @@ slashed-passes-if-segments-pass p slash (s ∷ rest) =
 -- removing dot segments: the bytes left pass a test that `/` (47) and all of the path pass
 path-without-dots-passes-test : (p : ℕ → Bool) → p 47 ≡ true → (path : List ℕ) → IsAbsolute path
     → list_all p path ≡ true → list_all p (remove_dot_segments path) ≡ true
-path-without-dots-passes-test p slash =
-    property-of-absolute-path-by-segments (λ path. list_all p path ≡ true
-    → list_all p (remove_dot_segments path) ≡ true)
-    (λ s rest e f.
-    ap (list_all p) (remove-dots-by-segments (s ∷ rest) e)
+path-without-dots-passes-test p slash = property-of-absolute-path-by-segments
+    (λ path. list_all p path ≡ true → list_all p (remove_dot_segments path) ≡ true)
+    (λ s rest e f. ap (list_all p) (remove-dots-by-segments (s ∷ rest) e)
     ∙ slashed-passes-if-segments-pass p slash (dotless_of (s ∷ rest))
-    ∙ dotless_of-pass-test (list_all p) (list_all p) (λ t g d. g) refl (s ∷ rest)
-    (sym (slashed-passes-if-segments-pass p slash (s ∷ rest)) ∙ f))
+    ∙ dotless_of-pass-test (list_all p) (list_all p) (λ t g d. g) refl (s
+    ∷ rest) (sym (slashed-passes-if-segments-pass p slash (s ∷ rest)) ∙ f))
 
 -- paths: the bytes before the last `/` pass a test that all pass
 pub before_last_slash-passes-test : (p : ℕ → Bool) (text : List ℕ) → list_all p text ≡ true
@@ -43,9 +33,8 @@ before_last_slash-passes-test p (c ∷ rest) e =
     (λ h. and_from _ _ f.0 (before_last_slash-passes-test p rest f.1)) (λ h. refl)
 
 -- paths: a text with a `/` (47) after it passes a test that both pass
-text-with-last-slash-passes-test : (p : ℕ → Bool) → p 47 ≡ true → (text : List ℕ)
-    → list_all p text ≡ true
-    → list_all p (text ++ 47 ∷ []) ≡ true
+text-with-last-slash-passes-test : (p : ℕ → Bool)
+    → p 47 ≡ true → (text : List ℕ) → list_all p text ≡ true → list_all p (text ++ 47 ∷ []) ≡ true
 text-with-last-slash-passes-test p slash text e = list_all-append p text (47 ∷ [])
     ∙ and_from _ _ e (and_from _ _ slash refl)
 
@@ -53,16 +42,13 @@ text-with-last-slash-passes-test p slash text e = list_all-append p text (47 ∷
 directory-passes-test : (p : ℕ → Bool) → p 47 ≡ true → (path : List ℕ) → list_all p path ≡ true
     → list_all p (directory path) ≡ true
 unfolding directory
-directory-passes-test p slash path e =
-    cond_both (is_empty path) (47 ∷ []) _ (λ t. list_all p t ≡ true)
-    (λ h. text-with-last-slash-passes-test p slash [] refl)
+directory-passes-test p slash path e = cond_both (is_empty path)
+    (47 ∷ []) _ (λ t. list_all p t ≡ true) (λ h. text-with-last-slash-passes-test p slash [] refl)
     (λ h. cond_both (is_double_dot (last_segment path)) (path ++ 47 ∷ []) (up_to_last_slash path)
-    (λ t. list_all p t ≡ true)
-    (λ d. text-with-last-slash-passes-test p slash path e)
+    (λ t. list_all p t ≡ true) (λ d. text-with-last-slash-passes-test p slash path e)
     (λ d. cond_both (has_slash path) (before_last_slash path ++ 47 ∷ []) []
-    (λ t. list_all p t ≡ true)
-    (λ g. text-with-last-slash-passes-test p slash (before_last_slash path)
-    (before_last_slash-passes-test p path e)) (λ g. refl)))
+    (λ t. list_all p t ≡ true) (λ g. text-with-last-slash-passes-test p slash
+    (before_last_slash path) (before_last_slash-passes-test p path e)) (λ g. refl)))
 
 -- paths: a text that lacks delimiters passes the test for it, byte by byte
 pub lacked-delimiters-fail-test : (marks text : List ℕ) → Lacks marks text
@@ -73,25 +59,21 @@ lacked-delimiters-fail-test marks text h = list_all-from_AllPass (λ c. not (is_
 
 -- paths: if no character is one of the delimiters, the text lacks them
 pub test-of-delimiters-gives-lacks : (marks text : List ℕ)
-    → list_all (λ c. not (is_one_of marks c)) text ≡ true
-    → Lacks marks text
+    → list_all (λ c. not (is_one_of marks c)) text ≡ true → Lacks marks text
 test-of-delimiters-gives-lacks marks text h = All-weaker (λ c. not (is_one_of marks c) ≡ true)
     (λ c. is_one_of marks c ≡ false) (λ c e. not-true _ e) text
     (AllPass-from_list_all (λ c. not (is_one_of marks c)) text h)
 
 -- removing dot segments: a path gets no delimiter that it lacked, such as `?`
 pub removing-dots-adds-no-character : (marks : List ℕ) → is_one_of marks 47 ≡ false
-    → (path : List ℕ)
-    → IsAbsolute path → Lacks marks path → Lacks marks (remove_dot_segments path)
-removing-dots-adds-no-character marks slash path h e =
-    test-of-delimiters-gives-lacks marks (remove_dot_segments path)
-    (path-without-dots-passes-test (λ c. not (is_one_of marks c)) (not_from_false _ slash) path h
-    (lacked-delimiters-fail-test marks path e))
+    → (path : List ℕ) → IsAbsolute path → Lacks marks path → Lacks marks (remove_dot_segments path)
+removing-dots-adds-no-character marks slash path h e = test-of-delimiters-gives-lacks marks
+    (remove_dot_segments path) (path-without-dots-passes-test (λ c. not (is_one_of marks c))
+    (not_from_false _ slash) path h (lacked-delimiters-fail-test marks path e))
 
 -- paths: the directory of a path has no delimiter that the path lacks, such as `?`
 pub directory-adds-no-character : (marks : List ℕ) → is_one_of marks 47 ≡ false → (path : List ℕ)
     → Lacks marks path → Lacks marks (directory path)
-directory-adds-no-character marks slash path e =
-    test-of-delimiters-gives-lacks marks (directory path)
-    (directory-passes-test (λ c. not (is_one_of marks c)) (not_from_false _ slash) path
-    (lacked-delimiters-fail-test marks path e))
+directory-adds-no-character marks slash path e = test-of-delimiters-gives-lacks marks
+    (directory path) (directory-passes-test (λ c. not (is_one_of marks c))
+    (not_from_false _ slash) path (lacked-delimiters-fail-test marks path e))

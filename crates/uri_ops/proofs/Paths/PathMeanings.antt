@@ -1,43 +1,26 @@
 -- The path of a meaning: removing its dot segments, guarding and decoding it again change nothing.
-use Rattle.std.proofs.Common.{◌≡◌, ℕ, true, eqb, List, [], ◌∷◌, ◌++◌, refl, sym, ap, subst, ◌∙◌, ◌&&◌, ⊎_elim, arith, lit<}
-use Rattle.std.specs.Prelude.{codes, Option, is_none as is_absent}
-use Rattle.std.specs.Str.{IsUtf8, chars}
-use Rattle.std.proofs.Math.Utf8.{low_scalar}
-use Rattle.std.proofs.lemmas.Str.{IsUtf8-encode, encode_ascii}
-use Rattle.std.proofs.lemmas.Bool.{cases_Bool, cond-true, cond-false, cond_both, and_from, and_parts, eqb-true}
-use Rattle.uri_pct.specs.Sets.{TableSet}
-use Rattle.uri_pct.specs.Tokens.{tokens_from_chars, is_valid_for}
-use Rattle.uri_pct.specs.DecodeUnreserved.{decode_unreserved}
-use Rattle.uri_pct.proofs.ValidTexts.Validity.{ascii_char_is_allowed_iff_in_set}
-use Rattle.uri_parts.specs.Components.{starts, has_authority}
-use Rattle.uri_ops.specs.Dots.{remove_dot_segments, IsAbsolute}
-use Rattle.uri_ops.specs.Target.{dotless_if_absolute, guarded}
-use Rattle.uri_ops.specs.ComponentSets.{IsComponentSet}
+use Rattle.uri_ops.proofs.Common.{◌≡◌, ℕ, true, eqb, List, [], ◌∷◌, ◌++◌, refl, sym, ap, subst, ◌∙◌, ◌&&◌, ⊎_elim, arith, lit<, codes, Option, IsUtf8, chars, low_scalar, IsUtf8-encode, encode_ascii, cases_Bool, cond-true, cond-false, cond_both, and_from, and_parts, eqb-true, TableSet, tokens_from_chars, is_valid_for, decode_unreserved, ascii_char_is_allowed_iff_in_set, starts, has_authority, remove_dot_segments, IsAbsolute, dotless_if_absolute, guarded, IsComponentSet, print_decoded, eq_true_from_IsTrue, equal-to-true-is-IsTrue}
+use Rattle.std.specs.Prelude.{is_none as is_absent}
 use Rattle.uri_ops.proofs.Paths.Segments.{is_none, next_output, step_of, steps, dotless_of, dotless_of-prefix-first}
 use Rattle.uri_ops.proofs.Paths.SlashedSegments.{slashed, remove-dots-by-segments}
 use Rattle.uri_ops.proofs.Paths.DotLaws.{property-of-absolute-path-by-segments, removing-dots-keeps-absolute, removing_dots_is_idempotent}
 use Rattle.uri_ops.proofs.Meanings.AllowedParts.{is_set_text, set-text-from-utf8, empty-text-is-set-text, decode_unreserved-is-idempotent}
-use Rattle.uri_pct.proofs.UnreservedDecoding.Printing.{print_decoded}
 use Rattle.uri_ops.proofs.Paths.DecodedPaths.{set-texts-join-at-slash, set-text-splits, removing-dots-and-decoding-swap, dotless-set-text-is-set-text}
 use Rattle.uri_ops.proofs.Paths.DecodedStarts.{decoding-keeps-leading-slash}
-use Rattle.uri_pct.proofs.General.{eq_true_from_IsTrue}
-use Rattle.uri_parts.proofs.Splitting.Recompose.{equal-to-true-is-IsTrue}
 
 -- paths: one with its dot segments removed begins with `/` (47) exactly if it does before
 pub removing-dots-keeps-leading-slash : (path : List ℕ) → starts 47 (dotless_if_absolute path)
     ≡ starts 47 path
-removing-dots-keeps-leading-slash path =
-    cond_both (starts 47 path) (remove_dot_segments path) path (λ t. starts 47 t ≡ starts 47 path)
-    (λ e. eq_true_from_IsTrue _ (removing-dots-keeps-absolute path (equal-to-true-is-IsTrue _ e))
-    ∙ sym e) (λ e. refl)
+removing-dots-keeps-leading-slash path = cond_both (starts 47 path)
+    (remove_dot_segments path) path (λ t. starts 47 t ≡ starts 47 path) (λ e. eq_true_from_IsTrue _
+    (removing-dots-keeps-absolute path (equal-to-true-is-IsTrue _ e)) ∙ sym e) (λ e. refl)
 
 -- removing dot segments: twice is the same as once for an absolute path; any other path is
 -- unchanged
 pub dotless_if_absolute-is-idempotent : (path : List ℕ)
     → dotless_if_absolute (dotless_if_absolute path) ≡ dotless_if_absolute path
-dotless_if_absolute-is-idempotent path = ⊎_elim
-    (λ e. cond-true _ _ _ (removing-dots-keeps-leading-slash path ∙ e)
-    ∙ ap remove_dot_segments (cond-true _ _ _ e)
+dotless_if_absolute-is-idempotent path = ⊎_elim (λ e. cond-true _ _ _
+    (removing-dots-keeps-leading-slash path ∙ e) ∙ ap remove_dot_segments (cond-true _ _ _ e)
     ∙ removing_dots_is_idempotent path (equal-to-true-is-IsTrue _ e) ∙ sym (cond-true _ _ _ e))
     (λ e. cond-false _ _ _ (removing-dots-keeps-leading-slash path ∙ e))
     (cases_Bool (starts 47 path))
@@ -52,12 +35,10 @@ dotless_of-leading-dot-drops-it s rest = dotless_of-prefix-first (codes "." ∷ 
 removing-dots-removes-guard : (path : List ℕ) → IsAbsolute path
     → remove_dot_segments (codes "/." ++ path) ≡ remove_dot_segments path
 unfolding slashed
-removing-dots-removes-guard =
-    property-of-absolute-path-by-segments (λ path. remove_dot_segments (codes "/." ++ path)
-    ≡ remove_dot_segments path)
-    (λ s rest e. remove-dots-by-segments (codes "." ∷ s ∷ rest) e
-    ∙ ap slashed (dotless_of-leading-dot-drops-it s rest)
-    ∙ sym (remove-dots-by-segments (s ∷ rest) e))
+removing-dots-removes-guard = property-of-absolute-path-by-segments
+    (λ path. remove_dot_segments (codes "/." ++ path) ≡ remove_dot_segments path)
+    (λ s rest e. remove-dots-by-segments (codes "." ∷ s ∷ rest) e ∙ ap slashed
+    (dotless_of-leading-dot-drops-it s rest) ∙ sym (remove-dots-by-segments (s ∷ rest) e))
 
 -- paths: what begins with `//` begins with `/` (47)
 pub two-slashes-begin-with-slash : (path : List ℕ) → has_authority path ≡ true
@@ -69,14 +50,12 @@ two-slashes-begin-with-slash (c ∷ path) e = (and_parts (eqb c 47) _ e).0
 pub guard-is-removed-as-dot-segment : (authority : Option (List ℕ)) (path : List ℕ)
     → dotless_if_absolute (guarded authority path) ≡ dotless_if_absolute path
 guard-is-removed-as-dot-segment authority path =
-    cond_both (is_absent authority && has_authority path) (codes "/." ++ path) path
-    (λ t. dotless_if_absolute t ≡ dotless_if_absolute path)
-    (λ e.
+    cond_both (is_absent authority && has_authority path)
+    (codes "/." ++ path) path (λ t. dotless_if_absolute t ≡ dotless_if_absolute path) (λ e.
     let first = two-slashes-begin-with-slash path
     (and_parts (is_absent authority) (has_authority path) e).1 in
     removing-dots-removes-guard path (equal-to-true-is-IsTrue _ first)
-    ∙ sym (cond-true _ _ _ first))
-    (λ e. refl)
+    ∙ sym (cond-true _ _ _ first)) (λ e. refl)
 
 module _ (set : TableSet) (w : IsComponentSet (codes "?#[]") set)
     (slash : set.ascii 47 ≡ true) where
@@ -86,59 +65,47 @@ module _ (set : TableSet) (w : IsComponentSet (codes "?#[]") set)
       ∙ w.unreserved.ascii 46 refl) refl
 
   pub dot-is-set-text : is_set_text set (codes ".") ≡ true
-  dot-is-set-text = set-text-from-utf8 set (codes ".")
-      (subst IsUtf8 (encode_ascii 46 (lit< tt)) (IsUtf8-encode 46 (low_scalar 46 (omega arith))))
-      path-set-allows-dot
+  dot-is-set-text = set-text-from-utf8 set (codes ".") (subst IsUtf8 (encode_ascii 46 (lit< tt))
+      (IsUtf8-encode 46 (low_scalar 46 (omega arith)))) path-set-allows-dot
 
   path-with-guard-is-set-text : (path : List ℕ) → starts 47 path ≡ true
-      → is_set_text set path ≡ true
-      → is_set_text set (codes "/." ++ path) ≡ true
+      → is_set_text set path ≡ true → is_set_text set (codes "/." ++ path) ≡ true
   path-with-guard-is-set-text [] e f = set-texts-join-at-slash set slash [] (codes ".")
       (empty-text-is-set-text set) dot-is-set-text
   path-with-guard-is-set-text (c ∷ path) e f =
       let slashed_path : c ∷ path ≡ 47 ∷ path = ap (λ d. d ∷ path) (eqb-true c 47 e) in
       let rest = (set-text-splits set [] path (ap (is_set_text set) (sym slashed_path) ∙ f)).1 in
       ap (λ t. is_set_text set (codes "/." ++ t)) slashed_path
-      ∙ set-texts-join-at-slash set slash (codes "/.") path
-      (set-texts-join-at-slash set slash [] (codes ".") (empty-text-is-set-text set)
-      dot-is-set-text) rest
+      ∙ set-texts-join-at-slash set slash (codes "/.") path (set-texts-join-at-slash set slash []
+      (codes ".") (empty-text-is-set-text set) dot-is-set-text) rest
 
   pub guarded-set-text-is-set-text : (authority : Option (List ℕ)) (path : List ℕ)
-      → is_set_text set path ≡ true
-      → is_set_text set (guarded authority path) ≡ true
-  guarded-set-text-is-set-text authority path f =
-      cond_both (is_absent authority && has_authority path) (codes "/." ++ path) path
-      (λ t. is_set_text set t ≡ true)
-      (λ e. path-with-guard-is-set-text path
-      (two-slashes-begin-with-slash path (and_parts (is_absent authority) (has_authority path) e).1)
-      f)
-      (λ e. f)
+      → is_set_text set path ≡ true → is_set_text set (guarded authority path) ≡ true
+  guarded-set-text-is-set-text authority path f = cond_both
+      (is_absent authority && has_authority path) (codes "/." ++ path) path (λ t. is_set_text set t
+      ≡ true) (λ e. path-with-guard-is-set-text path (two-slashes-begin-with-slash path
+      (and_parts (is_absent authority) (has_authority path) e).1) f) (λ e. f)
 
   pub path-without-dots-is-set-text : (path : List ℕ) → is_set_text set path ≡ true
       → is_set_text set (dotless_if_absolute path) ≡ true
-  path-without-dots-is-set-text path f =
-      cond_both (starts 47 path) (remove_dot_segments path) path (λ t. is_set_text set t ≡ true)
-      (λ e. dotless-set-text-is-set-text set w.percent w.unreserved slash path
-      (equal-to-true-is-IsTrue _ e) f)
-      (λ e. f)
+  path-without-dots-is-set-text path f = cond_both (starts 47 path) (remove_dot_segments path) path
+      (λ t. is_set_text set t ≡ true) (λ e. dotless-set-text-is-set-text
+      set w.percent w.unreserved slash path (equal-to-true-is-IsTrue _ e) f) (λ e. f)
 
   pub dotless_if_absolute-and-decoding-swap : (path : List ℕ) → is_set_text set path ≡ true
       → dotless_if_absolute (print_decoded set path) ≡ print_decoded set (dotless_if_absolute path)
   dotless_if_absolute-and-decoding-swap path f =
       let first = decoding-keeps-leading-slash set w.percent w.unreserved path f in
-      ⊎_elim
-      (λ e. cond-true _ _ _ (first ∙ e)
+      ⊎_elim (λ e. cond-true _ _ _ (first ∙ e)
       ∙ removing-dots-and-decoding-swap set w.percent w.unreserved path
-      (equal-to-true-is-IsTrue _ e) f
-      ∙ ap (print_decoded set) (sym (cond-true _ _ _ e)))
+      (equal-to-true-is-IsTrue _ e) f ∙ ap (print_decoded set) (sym (cond-true _ _ _ e)))
       (λ e. cond-false _ _ _ (first ∙ e) ∙ ap (print_decoded set) (sym (cond-false _ _ _ e)))
       (cases_Bool (starts 47 path))
 
   -- the path of a normal text decodes as the path
   pub normal-path-decodes-as-path : (authority : Option (List ℕ)) (path : List ℕ)
-      → is_set_text set path ≡ true
-      → decode_unreserved set (dotless_if_absolute
-      (guarded authority (print_decoded set (dotless_if_absolute path))))
+      → is_set_text set path ≡ true → decode_unreserved set (dotless_if_absolute (guarded authority
+      (print_decoded set (dotless_if_absolute path))))
       ≡ decode_unreserved set (dotless_if_absolute path)
   normal-path-decodes-as-path authority path f =
       let clean = path-without-dots-is-set-text path f in

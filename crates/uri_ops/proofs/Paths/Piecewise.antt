@@ -1,25 +1,12 @@
 -- Removing dot segments from a path whose substrings are changed one after the other, as by
 -- decoding them.
-use Rattle.std.proofs.Common.{◌≡◌, ℕ, ◌<◌, Bool, true, false, List, [], ◌∷◌, ◌++◌, length, take, drop, refl, sym, ap, subst, ◌∙◌, ◌||◌, ⊎_elim, inl, inr, append_assoc, arith, rules, tests}
-use Rattle.std.specs.Prelude.{codes, ◌==◌}
-use Rattle.std.proofs.lemmas.Bool.{eqb-true, false≢true}
-use Rattle.std.proofs.lemmas.List.{append-nil, drop_at, take-append-drop, take_at}
-use Rattle.uri_pct.specs.Sets.{TableSet}
-use Rattle.uri_parts.specs.Components.{IsAbemptyPath}
-use Rattle.uri_parts.proofs.Splitting.Marks.{cons_is_not_nil}
-use Rattle.uri_parts.proofs.Splitting.Recompose.{equal-to-true-is-IsTrue}
-use Rattle.uri_ops.specs.ComponentSets.{IsComponentSet}
-use Rattle.uri_ops.specs.Dots.{before_last_slash, has_slash, is_double_dot, is_empty, is_single_dot, lacks_dot_segments, remove_dot_segments, underflows}
-use Rattle.uri_ops.specs.Models.Directories.{IsCutAtSegment, RemovalState, IsDotlessDirectory, parent_directory}
-use Rattle.uri_ops.specs.Models.LeadingSegments.{IsFirstSegment, IsDotlessPrefix}
+use Rattle.uri_ops.proofs.Common.{◌≡◌, ℕ, ◌<◌, Bool, true, false, List, [], ◌∷◌, ◌++◌, length, take, drop, refl, sym, ap, subst, ◌∙◌, ◌||◌, ⊎_elim, inl, inr, append_assoc, arith, rules, tests, codes, ◌==◌, eqb-true, false≢true, append-nil, drop_at, take-append-drop, take_at, TableSet, IsAbemptyPath, cons_is_not_nil, equal-to-true-is-IsTrue, IsComponentSet, before_last_slash, has_slash, is_double_dot, is_empty, is_single_dot, lacks_dot_segments, remove_dot_segments, underflows, IsCutAtSegment, RemovalState, IsDotlessDirectory, parent_directory, IsFirstSegment, IsDotlessPrefix, print_decoded, eq_true_from_IsTrue}
 use Rattle.uri_ops.specs.Models.SegmentModes.{KeepsSlashesAndDots}
 use Rattle.uri_ops.proofs.Meanings.AllowedParts.{is_set_text, empty-text-is-set-text, set-text-is-utf8, decoding-splits-at-slash, print_decoded-of-nil-is-nil}
-use Rattle.uri_pct.proofs.UnreservedDecoding.Printing.{print_decoded}
 use Rattle.uri_ops.proofs.Paths.DotLaws.{removing-dots-leaves-no-dot-segment, remove-dots-of-dotless}
 use Rattle.uri_ops.proofs.Paths.LeftPaths.{removal-state-has-directory, removal-state-of-equals, removal-passes-double-dot, removal-passes-dotless-prefix, removal-state-without-rest-is-done, removal-passes-single-dot}
 use Rattle.uri_ops.proofs.Paths.DecodedPaths.{decoding-keeps-dot-segments, decoding-adds-no-slash, set-text-splits, set-texts-join-at-slash, decoding-keeps-first-slash, removing-dots-and-decoding-swap}
 use Rattle.uri_ops.proofs.Paths.DecodedStarts.{decoding-keeps-emptiness}
-use Rattle.uri_pct.proofs.General.{eq_true_from_IsTrue}
 use Rattle.uri_ops.proofs.Paths.DotRuns.{not-empty-has-length}
 
 -- paths: copying a path keeps its slashes and dot segments, as decoding does
@@ -40,22 +27,18 @@ identity-keeps-slashes-and-dots = record {
 module _ (set : TableSet) (w : IsComponentSet (codes "?#[]") set) (slash : set.ascii 47 ≡ true)
   where
     decoded-dotless-path-is-dotless : (text : List ℕ) → is_set_text set text ≡ true
-        → lacks_dot_segments text ≡ true
-        → lacks_dot_segments (print_decoded set text) ≡ true
+        → lacks_dot_segments text ≡ true → lacks_dot_segments (print_decoded set text) ≡ true
     decoded-dotless-path-is-dotless text e f =
         let decoded = decoding-keeps-first-slash set text in
         let removed : remove_dot_segments (print_decoded set (47 ∷ text))
-        ≡ print_decoded set (47 ∷ text) =
-        removing-dots-and-decoding-swap set w.percent w.unreserved (47 ∷ text)
-        (equal-to-true-is-IsTrue _ refl)
-        (set-texts-join-at-slash set slash [] text (empty-text-is-set-text set) e)
-        ∙ ap (print_decoded set)
-        (remove-dots-of-dotless (47 ∷ text) (equal-to-true-is-IsTrue _ refl) f) in
-        ap lacks_dot_segments (sym decoded)
-        ∙ ap lacks_dot_segments (sym removed)
+        ≡ print_decoded set (47 ∷ text) = removing-dots-and-decoding-swap set w.percent w.unreserved
+        (47 ∷ text) (equal-to-true-is-IsTrue _ refl) (set-texts-join-at-slash set slash [] text
+        (empty-text-is-set-text set) e) ∙ ap (print_decoded set) (remove-dots-of-dotless (47 ∷ text)
+        (equal-to-true-is-IsTrue _ refl) f) in
+        ap lacks_dot_segments (sym decoded) ∙ ap lacks_dot_segments (sym removed)
         ∙ ap (λ t. lacks_dot_segments (remove_dot_segments t)) decoded
-        ∙ removing-dots-leaves-no-dot-segment (47 ∷ print_decoded set text)
-        (equal-to-true-is-IsTrue _ refl)
+        ∙ removing-dots-leaves-no-dot-segment (47
+        ∷ print_decoded set text) (equal-to-true-is-IsTrue _ refl)
 
     pub decoding-keeps-slashes-and-dots : KeepsSlashesAndDots (print_decoded set) (is_set_text set)
     decoding-keeps-slashes-and-dots = record {
@@ -121,11 +104,9 @@ module _ (change : List ℕ → List ℕ) (among : List ℕ → Bool)
     prefix_among : among prefix ≡ true
     more : among left ≡ true
 
-  change-splits-after-dotless-prefix : (prefix left : List ℕ) → IsCutAtSegment prefix left
-      → among (prefix ++ left) ≡ true
-      → IsInTwo prefix left
-  change-splits-after-dotless-prefix prefix left closed e = ⊎_elim
-      (λ none.
+  change-splits-after-dotless-prefix : (prefix left : List ℕ)
+      → IsCutAtSegment prefix left → among (prefix ++ left) ≡ true → IsInTwo prefix left
+  change-splits-after-dotless-prefix prefix left closed e = ⊎_elim (λ none.
       let only : prefix ++ left ≡ prefix = ap (λ t. prefix ++ t) none ∙ append-nil prefix in
       let nothing : change left ≡ [] = ap change none ∙ p.nothing in
       record {
@@ -134,29 +115,25 @@ module _ (change : List ℕ → List ℕ) (among : List ℕ → Bool)
         closed = inl nothing;
         prefix_among = ap among (sym only) ∙ e;
         more = ap among none ∙ p.none;
-      })
-      (λ d.
+      }) (λ d.
       let all : prefix ++ left ≡ d.0 ++ 47 ∷ left = ap (λ t. t ++ left) d.1
       ∙ append_assoc d.0 (47 ∷ []) left in
       let q = p.cut d.0 left (ap among (sym all) ∙ e) in
       let ended : change prefix ≡ change d.0 ++ codes "/" = ap change d.1 ∙ p.pieces d.0 [] q.0
       ∙ ap (λ t. change d.0 ++ 47 ∷ t) p.nothing in
       record {
-        whole = ap change all ∙ p.pieces d.0 left q.0
-            ∙ sym (append_assoc (change d.0) (47 ∷ []) (change left))
-            ∙ ap (λ t. t ++ change left) (sym ended);
+        whole = ap change all ∙ p.pieces d.0 left q.0 ∙ sym (append_assoc (change d.0)
+            (47 ∷ []) (change left)) ∙ ap (λ t. t ++ change left) (sym ended);
         closed = inr (change d.0, ended);
         prefix_among = ap among d.1 ∙ p.join d.0 [] q.0 p.none;
         more = q.1;
-      })
-      closed
+      }) closed
 
   pub removal-ends-with-nothing-left : (path kept rest : List ℕ) (underflowed : Bool)
       → RemovalState path kept (change rest) underflowed → (length rest == 0) ≡ true
       → (kept ≡ remove_dot_segments path) × (underflowed ≡ underflows path)
   removal-ends-with-nothing-left path kept [] underflowed h e = removal-state-without-rest-is-done
-      path kept underflowed
-      (subst (λ r. RemovalState path kept r underflowed) p.nothing h)
+      path kept underflowed (subst (λ r. RemovalState path kept r underflowed) p.nothing h)
   removal-ends-with-nothing-left path kept (c ∷ rest) underflowed h e = absurd
       (false≢true (search (rules, tests)))
 
@@ -213,28 +190,20 @@ module _ (change : List ℕ → List ℕ) (among : List ℕ → Bool)
         → RemovalState path kept (change left) underflowed × (among left ≡ true)
     removal-step-at-single-dot left n first is =
         let c = first_changed is_single_dot p.single left n first is in (
-          removal-state-of-equals path kept kept _ (change left) underflowed underflowed refl
-              c.after_that refl
-              (removal-passes-single-dot path kept (change rest) underflowed h
-              changed-rest-has-bytes
-              c.end c.segment
-              c.suffix c.passes),
+          removal-state-of-equals path kept kept _ (change left)
+              underflowed underflowed refl c.after_that refl (removal-passes-single-dot path kept
+              (change rest) underflowed h changed-rest-has-bytes c.end c.segment c.suffix c.passes),
           c.more,
         )
 
     pub removal-step-at-double-dot : (left : List ℕ) (n : ℕ) → IsFirstSegment is_double_dot rest n
-        → left ≡ drop n rest
-        → RemovalState path (parent_directory kept) (change left)
-        (underflowed || is_empty (before_last_slash kept)) × (among left ≡ true)
+        → left ≡ drop n rest → RemovalState path (parent_directory kept) (change left) (underflowed
+        || is_empty (before_last_slash kept)) × (among left ≡ true)
     removal-step-at-double-dot left n first is =
         let c = first_changed is_double_dot p.double left n first is in (
           removal-state-of-equals path (parent_directory kept) (parent_directory kept) _
-              (change left) _ _ refl
-              c.after_that refl
-              (removal-passes-double-dot path kept (change rest) underflowed h
-              changed-rest-has-bytes
-              c.end c.segment
-              c.suffix c.passes),
+              (change left) _ _ refl c.after_that refl (removal-passes-double-dot path kept
+              (change rest) underflowed h changed-rest-has-bytes c.end c.segment c.suffix c.passes),
           c.more,
         )
 
@@ -247,9 +216,8 @@ module _ (change : List ℕ → List ℕ) (among : List ℕ → Bool)
       pub prefix_among : among prefix ≡ true
       prefix_among = ap among is ∙ two.prefix_among
 
-      pub removal-keeps-changed-prefix : RemovalState path (kept ++ change prefix)
-          (change left) underflowed
-          × (among left ≡ true)
+      pub removal-keeps-changed-prefix :
+          RemovalState path (kept ++ change prefix) (change left) underflowed × (among left ≡ true)
       removal-keeps-changed-prefix =
           let m = length (change (take n rest)) in
           let all : change rest ≡ change (take n rest) ++ change (drop n rest) =
@@ -261,14 +229,11 @@ module _ (change : List ℕ → List ℕ) (among : List ℕ → Bool)
           let closed : IsCutAtSegment (take m (change rest)) (drop m (change rest)) =
           subst (λ t. IsCutAtSegment t (drop m (change rest))) (sym head)
           (subst (IsCutAtSegment (change (take n rest))) (sym tail) two.closed) in (
-            removal-state-of-equals path (kept ++ take m (change rest)) (kept ++ change prefix) _
-                (change left)
-                underflowed underflowed
+            removal-state-of-equals path (kept ++ take m (change rest))
+                (kept ++ change prefix) _ (change left) underflowed underflowed
                 (ap (λ t. kept ++ change t) is ∙ ap (λ t. kept ++ t) (sym head))
-                (ap change rest_is ∙ sym tail) refl
-                (removal-passes-dotless-prefix path kept (change rest) underflowed h
-                changed-rest-has-bytes m
-                (ap lacks_dot_segments head ∙ p.dotless (take n rest) two.prefix_among f.dotless)
-                closed),
+                (ap change rest_is ∙ sym tail) refl (removal-passes-dotless-prefix path
+                kept (change rest) underflowed h changed-rest-has-bytes m (ap lacks_dot_segments
+                head ∙ p.dotless (take n rest) two.prefix_among f.dotless) closed),
             ap among rest_is ∙ two.more,
           )

@@ -1,17 +1,6 @@
 -- What is appended of a path without its dot segments, and of a reference's path after the
 -- directory of a base's path.
-use Rattle.std.proofs.Common.{◌≡◌, ◌<◌, ◌≤◌, ℕ, zero, suc, Bool, true, false, List, [], ◌∷◌, ◌++◌, length, take, drop, sym, ap, subst, ◌∙◌, ◌||◌, inr, arith, ⊎_elim}
-use Rattle.std.proofs.Math.Seq.{take-length}
-use Rattle.std.proofs.lemmas.Bool.{eqb-true, false≢true}
-use Rattle.uri_pct.proofs.General.{eq_true_from_IsTrue}
-use Rattle.std.specs.Prelude.{◌==◌}
-use Rattle.std.specs.Str.{IsUtf8, IsCharBoundary}
-use Rattle.std.proofs.lemmas.Str.{IsCharBoundary-after_ascii}
-use Rattle.std.proofs.lemmas.List.{length-drop, take-append-drop, take_at, drop_at}
-use Rattle.uri_ops.specs.Dots.{lacks_dot_segments, remove_dot_segments, underflows, directory, IsAbsolute, EndsInSlash}
-use Rattle.uri_ops.specs.Models.Directories.{IsCutAtSegment, IsDotlessDirectory, RemovalState}
-use Rattle.uri_ops.specs.Models.LeadingSegments.{begins_with_dot}
-use Rattle.uri_ops.specs.Target.{merged}
+use Rattle.uri_ops.proofs.Common.{◌≡◌, ◌<◌, ◌≤◌, ℕ, zero, suc, Bool, true, false, List, [], ◌∷◌, ◌++◌, length, take, drop, sym, ap, subst, ◌∙◌, ◌||◌, inr, arith, ⊎_elim, take-length, eqb-true, false≢true, eq_true_from_IsTrue, ◌==◌, IsUtf8, IsCharBoundary, IsCharBoundary-after_ascii, length-drop, take-append-drop, take_at, drop_at, lacks_dot_segments, remove_dot_segments, underflows, directory, IsAbsolute, EndsInSlash, IsCutAtSegment, IsDotlessDirectory, RemovalState, begins_with_dot, merged}
 use Rattle.uri_ops.proofs.Paths.DotLaws.{directory-is-absolute, directory-ends-in-slash, removing-dots-keeps-absolute, removing-dots-and-directory-swap, prefix-dots-may-be-removed-first, removing-dots-leaves-no-dot-segment, remove-dots-of-dotless, path-underflows-as-prefix-or-remainder, dotless-path-does-not-underflow}
 
 -- paths: a prefix of an absolute path, one byte at least, is absolute
@@ -52,16 +41,14 @@ position-after-root-is-boundary (c ∷ path) u h =
     IsCharBoundary-after_ascii (c ∷ path) 0 u (omega arith) (omega (arith, root))
 
 -- removing dot segments: a path without any is taken whole
-pub dotless-path-is-its-own-removal : (path prefix : List ℕ) (n : ℕ) → IsAbsolute path → n
-    ≡ length path
-    → lacks_dot_segments (take n path) ≡ true → prefix ≡ take n path
-    → (prefix ≡ remove_dot_segments path) × (false ≡ underflows path)
+pub dotless-path-is-its-own-removal : (path prefix : List ℕ) (n : ℕ)
+    → IsAbsolute path → n ≡ length path → lacks_dot_segments (take n path) ≡ true
+    → prefix ≡ take n path → (prefix ≡ remove_dot_segments path) × (false ≡ underflows path)
 dotless-path-is-its-own-removal path prefix n absolute end dotless is =
     let all : take n path ≡ path = ap (λ m. take m path) end ∙ take-length path in
     let free = sym (ap lacks_dot_segments all) ∙ dotless in (
       is ∙ all ∙ sym (remove-dots-of-dotless path absolute free),
-      sym
-          (dotless-path-does-not-underflow path absolute free),
+      sym (dotless-path-does-not-underflow path absolute free),
     )
 
 -- after the old text
@@ -71,10 +58,8 @@ module _ (old : List ℕ) (start : ℕ) (at : start ≡ length old) (mid : List 
 
   pub whole : (text new kept : List ℕ) → mid ≡ old ++ text → take start new ≡ take start mid
       → drop start new ≡ kept → new ≡ old ++ kept
-  whole text new kept e before is =
-      sym (take-append-drop start new)
-      ∙ ap (λ t. t ++ drop start new) (before ∙ ap (take start) e ∙ take_at old text start (sym at))
-      ∙ ap (λ t. old ++ t) is
+  whole text new kept e before is = sym (take-append-drop start new) ∙ ap (λ t. t ++ drop start new)
+      (before ∙ ap (take start) e ∙ take_at old text start (sym at)) ∙ ap (λ t. old ++ t) is
 
   -- one path, whose prefix without dot segments is appended before the rest is scanned
   module _ (path : List ℕ) (absolute : IsAbsolute path) (n : ℕ) (prefix : List ℕ)
@@ -86,32 +71,26 @@ module _ (old : List ℕ) (start : ℕ) (at : start ≡ length old) (mid : List 
         → lacks_dot_segments (take n path) ≡ true → IsCutAtSegment (take n path) (drop n path)
         → IsDotlessDirectory (drop start mid)
     pushed-dotless-path-prefix-is-directory some within more dotless closed =
-        subst IsDotlessDirectory (sym pushed-text-is-path-prefix)
-        (record {
+        subst IsDotlessDirectory (sym pushed-text-is-path-prefix) (record {
           absolute = prefix-of-absolute-path-is-absolute path n absolute some;
-          closed =
-              ⊎_elim (λ none. absurd (more
-              (omega (arith, within, length-drop n path, ap length none))))
-              (λ d. d) closed;
+          closed = ⊎_elim (λ none. absurd
+              (more (omega (arith, within, length-drop n path, ap length none)))) (λ d. d) closed;
           dotless = dotless;
         })
 
     module _ (rest : List ℕ) (left : rest ≡ drop n path) where
       pushed-prefix-and-rest-are-path : drop start mid ++ rest ≡ path
       pushed-prefix-and-rest-are-path = ap (λ t. t ++ rest) pushed-text-is-path-prefix
-          ∙ ap (λ t. take n path ++ t) left
-          ∙ take-append-drop n path
+          ∙ ap (λ t. take n path ++ t) left ∙ take-append-drop n path
 
       pub pushed-path-loses-its-dots : (new : List ℕ) → take start new ≡ take start mid
           → drop start new ≡ remove_dot_segments (drop start mid ++ rest)
           → new ≡ old ++ remove_dot_segments path
-      pushed-path-loses-its-dots new before kept = whole prefix new
-          (remove_dot_segments path) e before
-          (kept ∙ ap remove_dot_segments pushed-prefix-and-rest-are-path)
+      pushed-path-loses-its-dots new before kept = whole prefix new (remove_dot_segments path)
+          e before (kept ∙ ap remove_dot_segments pushed-prefix-and-rest-are-path)
 
-      pub pushed-rest-underflows-as-path : (underflowed : Bool) → underflowed
-          ≡ underflows (drop start mid ++ rest)
-          → underflowed ≡ underflows path
+      pub pushed-rest-underflows-as-path : (underflowed : Bool)
+          → underflowed ≡ underflows (drop start mid ++ rest) → underflowed ≡ underflows path
       pushed-rest-underflows-as-path underflowed f = f
           ∙ ap underflows pushed-prefix-and-rest-are-path
 
@@ -143,33 +122,28 @@ module _ (old : List ℕ) (start : ℕ) (at : start ≡ length old) (mid : List 
       pub pushed-merged-path-loses-its-dots : (new : List ℕ) → take start new ≡ take start mid
           → drop start new ≡ remove_dot_segments (drop start mid ++ reference)
           → new ≡ old ++ remove_dot_segments (merged base reference)
-      pushed-merged-path-loses-its-dots new before kept =
-          whole (remove_dot_segments prefix) new (remove_dot_segments (merged base reference)) e
-          before
-          (kept ∙ ap (λ t. remove_dot_segments (t ++ reference))
-          pushed-text-is-dotless-directory-of-base
+      pushed-merged-path-loses-its-dots new before kept = whole (remove_dot_segments prefix) new
+          (remove_dot_segments (merged base reference)) e before (kept
+          ∙ ap (λ t. remove_dot_segments (t ++ reference)) pushed-text-is-dotless-directory-of-base
           ∙ sym (prefix-dots-may-be-removed-first (directory path) reference
           (directory-is-absolute path (inr absolute)) (directory-ends-in-slash path (inr absolute)))
           ∙ ap (λ t. remove_dot_segments (t ++ reference)) same)
 
-      pub base-or-rest-underflows-as-merged-path : (of_base of_reference : Bool) → of_base
-          ≡ underflows prefix
-          → underflows prefix ≡ underflows (directory path)
+      pub base-or-rest-underflows-as-merged-path : (of_base of_reference : Bool)
+          → of_base ≡ underflows prefix → underflows prefix ≡ underflows (directory path)
           → of_reference ≡ underflows (drop start mid ++ reference)
           → (of_base || of_reference) ≡ underflows (merged base reference)
       base-or-rest-underflows-as-merged-path of_base of_reference f g h =
-          ap (λ b. b || of_reference) (f ∙ g)
-          ∙ ap (λ b. underflows (directory path) || b)
-          (h ∙ ap (λ t. underflows (t ++ reference)) pushed-text-is-dotless-directory-of-base)
+          ap (λ b. b || of_reference) (f ∙ g) ∙ ap (λ b. underflows (directory path) || b) (h
+          ∙ ap (λ t. underflows (t ++ reference)) pushed-text-is-dotless-directory-of-base)
           ∙ sym (path-underflows-as-prefix-or-remainder (directory path) reference
           (directory-is-absolute path (inr absolute)) (directory-ends-in-slash path (inr absolute)))
           ∙ ap (λ t. underflows (t ++ reference)) same
 
 -- the decoded form of a base's path
 module _ (path prefix : List ℕ) (n : ℕ) (is : prefix ≡ take n path) where
-  pub prefix-loses-dots-as-directory : remove_dot_segments (take n path)
-      ≡ remove_dot_segments (directory path)
-      → remove_dot_segments prefix ≡ remove_dot_segments (directory path)
+  pub prefix-loses-dots-as-directory : remove_dot_segments (take n path) ≡ remove_dot_segments
+      (directory path) → remove_dot_segments prefix ≡ remove_dot_segments (directory path)
   prefix-loses-dots-as-directory e = ap remove_dot_segments is ∙ e
 
   pub prefix-underflows-as-directory : underflows (take n path) ≡ underflows (directory path)

@@ -1,10 +1,6 @@
 -- A change of segments that keeps which of them are dots may come before or after the removal of
 -- dot segments.
-use Rattle.std.proofs.Common.{◌≡◌, ℕ, Bool, true, false, cond, List, [], ◌∷◌, ◌++◌, map, refl, sym, ap, ◌∙◌, ◌||◌}
-use Rattle.std.specs.List.{list_all}
-use Rattle.std.proofs.lemmas.List.{map-append}
-use Rattle.std.proofs.lemmas.Bool.{and_parts}
-use Rattle.uri_ops.specs.Dots.{is_single_dot, is_double_dot, is_dot_segment}
+use Rattle.uri_ops.proofs.Common.{◌≡◌, ℕ, Bool, true, false, cond, List, [], ◌∷◌, ◌++◌, map, refl, sym, ap, ◌∙◌, ◌||◌, list_all, map-append, and_parts, is_single_dot, is_double_dot, is_dot_segment}
 use Rattle.uri_ops.proofs.Paths.Segments.{pop, is_none, next_output, step_of, steps, end_of, closing, dotless_of, parent, AllPass}
 use Rattle.uri_ops.proofs.Paths.Underflows.{underflows_at, underflows_over}
 
@@ -71,9 +67,8 @@ module _ (f : List ℕ → List ℕ) (among : List ℕ → Bool)
   closing-and-map-swap nil [] e = refl
   closing-and-map-swap nil (s ∷ []) e =
       let k = keeps s (and_parts (among s) true e).0 in
-      ap (λ b. end_of (b || is_double_dot (f s))) k.single
-      ∙ ap (λ b. end_of (is_single_dot s || b)) k.double
-      ∙ end_of-and-map-swap nil (is_dot_segment s)
+      ap (λ b. end_of (b || is_double_dot (f s))) k.single ∙ ap
+      (λ b. end_of (is_single_dot s || b)) k.double ∙ end_of-and-map-swap nil (is_dot_segment s)
   closing-and-map-swap nil (s ∷ t ∷ rest) e =
       closing-and-map-swap nil (t ∷ rest) (and_parts (among s) (list_all among (t ∷ rest)) e).1
 
@@ -94,9 +89,8 @@ module _ (f : List ℕ → List ℕ) (among : List ℕ → Bool)
       → parent (map f segs) ≡ map f (parent segs)
   unfolding parent
   parent-and-map-swap [] e = refl
-  parent-and-map-swap (s ∷ []) e = ap (λ b. cond b (f s ∷ []) [])
-      (keeps s (and_parts (among s) true e).0).double
-      ∙ last-double-dot-and-map-swap (is_double_dot s) s
+  parent-and-map-swap (s ∷ []) e = ap (λ b. cond b (f s ∷ []) []) (keeps s
+      (and_parts (among s) true e).0).double ∙ last-double-dot-and-map-swap (is_double_dot s) s
   parent-and-map-swap (s ∷ t ∷ rest) e = ap (λ r. f s ∷ r)
       (parent-and-map-swap (t ∷ rest) (and_parts (among s) (list_all among (t ∷ rest)) e).1)
 
@@ -109,13 +103,10 @@ module _ (f : List ℕ → List ℕ) (among : List ℕ → Bool)
       let p = and_parts (among s) (list_all among rest) e in
       let k = keeps s p.0 in
       ap (λ o. underflows_over (underflows_at (is_single_dot (f s)) (is_double_dot (f s)) before
-      (map f output)) o
-      (map f rest)) (step_of-and-map-swap output s p.0)
+      (map f output)) o (map f rest)) (step_of-and-map-swap output s p.0)
       ∙ ap (λ b. underflows_over b (map f (step_of output s)) (map f rest)) (
       ap (λ b. underflows_at b (is_double_dot (f s)) before (map f output)) k.single
       ∙ ap (λ b. underflows_at (is_single_dot s) b before (map f output)) k.double
       ∙ underflows_at-of-mapped-segments f (is_single_dot s) (is_double_dot s) before output)
       ∙ underflows_over-of-mapped-segments
-      (underflows_at (is_single_dot s) (is_double_dot s) before output)
-      (step_of output s) rest
-      p.1
+      (underflows_at (is_single_dot s) (is_double_dot s) before output) (step_of output s) rest p.1

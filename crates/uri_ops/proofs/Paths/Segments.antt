@@ -1,12 +1,5 @@
 -- Dot segments over a list of segments, as a machine that goes over them once.
-use Rattle.std.proofs.Common.{◌≡◌, ℕ, Bool, true, false, cond, not, List, [], ◌∷◌, ◌++◌, refl, sym, ap, ◌∙◌, ◌||◌, ⊎_elim, append_assoc}
-use Rattle.std.specs.Prelude.{codes, bytes_eq}
-use Rattle.std.specs.List.{list_all}
-use Rattle.std.proofs.lemmas.List.{append-nil}
-use Rattle.std.proofs.lemmas.List.Folds.{list_all-append}
-use Rattle.std.proofs.lemmas.Bool.{cond-false, and_parts, and_from, or_cases, or_parts, false≢true, not-true, not_from_false}
-use Rattle.std.proofs.lemmas.Slice.Eq.{bytes_eq-Decides}
-use Rattle.uri_ops.specs.Dots.{is_single_dot, is_double_dot, is_dot_segment}
+use Rattle.uri_ops.proofs.Common.{◌≡◌, ℕ, Bool, true, false, cond, not, List, [], ◌∷◌, ◌++◌, refl, sym, ap, ◌∙◌, ◌||◌, ⊎_elim, append_assoc, codes, bytes_eq, list_all, append-nil, list_all-append, cond-false, and_parts, and_from, or_cases, or_parts, false≢true, not-true, not_from_false, bytes_eq-Decides, is_single_dot, is_double_dot, is_dot_segment}
 
 -- all but the last
 unfoldable pub pop : List (List ℕ) → List (List ℕ)
@@ -64,13 +57,11 @@ equal-bytes-are-equal a b e = (bytes_eq-Decides a b).0 e
 
 -- dot segments: `.` is not `..`
 pub single-dot-is-not-double : (s : List ℕ) → is_single_dot s ≡ true → is_double_dot s ≡ false
-single-dot-is-not-double s e = ⊎_elim
-    (λ h. ap is_double_dot (equal-bytes-are-equal s (codes ".") h))
-    (λ f. ⊎_elim (λ h. ap is_double_dot (equal-bytes-are-equal s (codes "%2E") h))
-    (λ f. ⊎_elim (λ h. ap is_double_dot (equal-bytes-are-equal s (codes "%2e") h))
-    (λ f. absurd (false≢true f))
-    (or_cases _ _ f))
-    (or_cases _ _ f)) (or_cases (bytes_eq s (codes ".")) _ e)
+single-dot-is-not-double s e =
+    ⊎_elim (λ h. ap is_double_dot (equal-bytes-are-equal s (codes ".") h))
+    (λ f. ⊎_elim (λ h. ap is_double_dot (equal-bytes-are-equal s (codes "%2E") h)) (λ f. ⊎_elim
+    (λ h. ap is_double_dot (equal-bytes-are-equal s (codes "%2e") h)) (λ f. absurd (false≢true f))
+    (or_cases _ _ f)) (or_cases _ _ f)) (or_cases (bytes_eq s (codes ".")) _ e)
 
 -- dot segments: the steps over two lists of segments are those over the first, then over the second
 steps-of-append : (output xs ys : List (List ℕ))
@@ -118,17 +109,15 @@ popped-segments-pass-test p (s ∷ t ∷ rest) e = let f = and_parts (p s) (list
     and_from _ _ f.0 (popped-segments-pass-test p (t ∷ rest) f.1)
 
 -- general fact on lists of segments, for dot segments: two whose segments pass a test do so joined
-pub appended-segments-pass-test : (p : List ℕ → Bool) (xs ys : List (List ℕ)) → AllPass p xs
-    → AllPass p ys
-    → AllPass p (xs ++ ys)
+pub appended-segments-pass-test : (p : List ℕ → Bool) (xs ys : List (List ℕ))
+    → AllPass p xs → AllPass p ys → AllPass p (xs ++ ys)
 appended-segments-pass-test p xs ys e f = list_all-append p xs ys ∙ and_from _ _ e f
 
 -- dot segments: a test that the output's segments, and each that is kept, pass is passed after
 -- segment s; single, double: whether it is `.`, or `..`
-pub next_output-passes-test : (p : List ℕ → Bool) (single double : Bool) (output : List (List ℕ))
-    (s : List ℕ)
-    → AllPass p output → ((single || double) ≡ false → p s ≡ true)
-    → AllPass p (next_output single double output s)
+pub next_output-passes-test : (p : List ℕ
+    → Bool) (single double : Bool) (output : List (List ℕ)) (s : List ℕ) → AllPass p output
+    → ((single || double) ≡ false → p s ≡ true) → AllPass p (next_output single double output s)
 unfolding next_output
 next_output-passes-test p true double output s e f = e
 next_output-passes-test p false true output s e f = popped-segments-pass-test p output e
@@ -137,10 +126,9 @@ next_output-passes-test p false false output s e f =
 
 -- dot segments: what is left passes a test p that the output,
 -- and each kept segment (with q), passes
-pub segments-after-steps-pass-test : (p q : List ℕ → Bool)
-    → ((s : List ℕ) → q s ≡ true → is_dot_segment s ≡ false → p s ≡ true)
-    → (output segs : List (List ℕ)) → AllPass p output → AllPass q segs
-    → AllPass p (steps output segs)
+pub segments-after-steps-pass-test : (p q : List ℕ → Bool) → ((s : List ℕ)
+    → q s ≡ true → is_dot_segment s ≡ false → p s ≡ true) → (output segs : List (List ℕ))
+    → AllPass p output → AllPass q segs → AllPass p (steps output segs)
 unfolding steps step_of
 segments-after-steps-pass-test p q kept output [] e f = e
 segments-after-steps-pass-test p q kept output (s ∷ rest) e f =
@@ -169,8 +157,7 @@ pub dotless_of-pass-test : (p q : List ℕ → Bool)
 unfolding dotless_of
 dotless_of-pass-test p q kept e segs f =
     appended-segments-pass-test p (steps [] segs) (closing segs)
-    (segments-after-steps-pass-test p q kept [] segs refl f)
-    (closing-segments-pass-test p segs e)
+    (segments-after-steps-pass-test p q kept [] segs refl f) (closing-segments-pass-test p segs e)
 
 -- dot segments: a segment that is none is kept after the output
 step_of-dotless-appends-it : (output : List (List ℕ)) (s : List ℕ) → is_dotless s ≡ true
@@ -182,16 +169,14 @@ step_of-dotless-appends-it output s e =
     ∙ ap (λ b. next_output false b output s) f.1
 
 -- dot segments: segments of which none is one are all kept after the output
-pub steps-of-dotless-append-all : (output xs : List (List ℕ)) → AllPass is_dotless xs
-    → steps output xs ≡ output
-    ++ xs
+pub steps-of-dotless-append-all : (output xs : List (List ℕ))
+    → AllPass is_dotless xs → steps output xs ≡ output ++ xs
 unfolding steps
 steps-of-dotless-append-all output [] e = sym (append-nil output)
 steps-of-dotless-append-all output (s ∷ rest) e =
     let f = and_parts (is_dotless s) (list_all is_dotless rest) e in
     ap (λ o. steps o rest) (step_of-dotless-appends-it output s f.0)
-    ∙ steps-of-dotless-append-all (output ++ s ∷ []) rest f.1
-    ∙ append_assoc output (s ∷ []) rest
+    ∙ steps-of-dotless-append-all (output ++ s ∷ []) rest f.1 ∙ append_assoc output (s ∷ []) rest
 
 -- dot segments: segments of which none is one leave no empty segment at the end
 closing-of-dotless-is-empty : (xs : List (List ℕ)) → AllPass is_dotless xs → closing xs ≡ []
@@ -199,9 +184,8 @@ unfolding closing
 closing-of-dotless-is-empty [] e = refl
 closing-of-dotless-is-empty (s ∷ []) e = cond-false (is_dot_segment s) ([] ∷ []) []
     (not-true _ (and_parts (is_dotless s) true e).0)
-closing-of-dotless-is-empty (s ∷ t ∷ rest) e =
-    closing-of-dotless-is-empty (t ∷ rest)
-    (and_parts (is_dotless s) (list_all is_dotless (t ∷ rest)) e).1
+closing-of-dotless-is-empty (s ∷ t ∷ rest) e = closing-of-dotless-is-empty
+    (t ∷ rest) (and_parts (is_dotless s) (list_all is_dotless (t ∷ rest)) e).1
 
 -- dot segments: segments of which none is one are left as they are
 pub dotless_of-of-dotless : (xs : List (List ℕ)) → AllPass is_dotless xs → dotless_of xs ≡ xs
@@ -227,19 +211,16 @@ steps_are_dotless segs = segments-after-steps-pass-test is_dotless
 -- dot segments: what is left of segments has none
 pub dotless_of-is-dotless : (segs : List (List ℕ)) → AllPass is_dotless (dotless_of segs)
 dotless_of-is-dotless segs = dotless_of-pass-test is_dotless
-    (λ s. true) kept-segment-is-dotless refl segs
-    (segments-pass-true-test segs)
+    (λ s. true) kept-segment-is-dotless refl segs (segments-pass-true-test segs)
 
 -- dot segments: those of the first of two lists may be removed first
 pub dotless_of-prefix-first : (xs ys : List (List ℕ)) → is_none ys ≡ false
     → dotless_of (xs ++ ys) ≡ dotless_of (steps [] xs ++ ys)
 unfolding is_none
 dotless_of-prefix-first xs [] e = absurd (false≢true (sym e))
-dotless_of-prefix-first xs (y ∷ ys) e =
-    dotless_of-append xs y ys
-    ∙ sym (dotless_of-append (steps [] xs) y ys
-    ∙ ap (λ o. steps o (y ∷ ys) ++ closing (y ∷ ys))
-    (steps-of-dotless-append-all [] (steps [] xs) (steps_are_dotless xs)))
+dotless_of-prefix-first xs (y ∷ ys) e = dotless_of-append xs y ys
+    ∙ sym (dotless_of-append (steps [] xs) y ys ∙ ap (λ o. steps o (y ∷ ys)
+    ++ closing (y ∷ ys)) (steps-of-dotless-append-all [] (steps [] xs) (steps_are_dotless xs)))
 
 -- removing dot segments: the steps over a last segment if it is `..` are a step, and else nothing
 steps-of-segment-if-double-dot : (b : Bool) (output : List (List ℕ)) (s : List ℕ)
@@ -251,13 +232,11 @@ steps-of-segment-if-double-dot false output s = refl
 -- dot segments: after `..` the output is what is left with its end, without the last;
 -- single, double: whether it is `.`, or `..`
 next_output-of-double-dot-is-popped : (single double : Bool) (output : List (List ℕ)) (s : List ℕ)
-    → (single ≡ true → double ≡ false)
-    → cond double (next_output single double output s) output
+    → (single ≡ true → double ≡ false) → cond double (next_output single double output s) output
     ≡ pop (next_output single double output s ++ end_of (single || double))
 unfolding next_output
-next_output-of-double-dot-is-popped true double output s only = ap (λ b. cond b output output)
-    (only refl)
-    ∙ sym (pop-undoes-push output [])
+next_output-of-double-dot-is-popped true double output s only =
+    ap (λ b. cond b output output) (only refl) ∙ sym (pop-undoes-push output [])
 next_output-of-double-dot-is-popped false true output s only = sym (pop-undoes-push (pop output) [])
 next_output-of-double-dot-is-popped false false output s only =
     sym (ap pop (append-nil (output ++ s ∷ [])) ∙ pop-undoes-push output s)
@@ -266,10 +245,9 @@ next_output-of-double-dot-is-popped false false output s only =
 steps-of-parent-are-popped-steps : (output : List (List ℕ)) (s : List ℕ) (rest : List (List ℕ))
     → steps output (parent (s ∷ rest)) ≡ pop (steps output (s ∷ rest) ++ closing (s ∷ rest))
 unfolding steps parent closing step_of
-steps-of-parent-are-popped-steps output s [] = steps-of-segment-if-double-dot
-    (is_double_dot s) output s
-    ∙ next_output-of-double-dot-is-popped (is_single_dot s) (is_double_dot s) output s
-    (single-dot-is-not-double s)
+steps-of-parent-are-popped-steps output s [] =
+    steps-of-segment-if-double-dot (is_double_dot s) output s ∙ next_output-of-double-dot-is-popped
+    (is_single_dot s) (is_double_dot s) output s (single-dot-is-not-double s)
 steps-of-parent-are-popped-steps output s (t ∷ rest) = steps-of-parent-are-popped-steps
     (step_of output s) t rest
 
@@ -278,20 +256,16 @@ pub parent-of-dotless-is-pop : (segs : List (List ℕ)) → AllPass is_dotless s
     → parent segs ≡ pop segs
 unfolding parent pop
 parent-of-dotless-is-pop [] e = refl
-parent-of-dotless-is-pop (s ∷ []) e = cond-false (is_double_dot s) (s ∷ []) []
-    (or_parts (is_single_dot s) (is_double_dot s)
-    (not-true _ (and_parts (is_dotless s) true e).0)).1
-parent-of-dotless-is-pop (s ∷ t ∷ rest) e =
-    ap (λ r. s ∷ r)
-    (parent-of-dotless-is-pop (t ∷ rest)
+parent-of-dotless-is-pop (s ∷ []) e = cond-false (is_double_dot s) (s ∷ []) [] (or_parts
+    (is_single_dot s) (is_double_dot s) (not-true _ (and_parts (is_dotless s) true e).0)).1
+parent-of-dotless-is-pop (s ∷ t ∷ rest) e = ap (λ r. s ∷ r) (parent-of-dotless-is-pop (t ∷ rest)
     (and_parts (is_dotless s) (list_all is_dotless (t ∷ rest)) e).1)
 
 -- paths: dot segments may be removed from a directory or from its path
 pub dotless_of-of-directory : (s : List ℕ) (rest : List (List ℕ))
     → dotless_of (parent (s ∷ rest) ++ [] ∷ []) ≡ parent (dotless_of (s ∷ rest)) ++ [] ∷ []
 unfolding dotless_of
-dotless_of-of-directory s rest =
-    dotless_of-with-empty-last (parent (s ∷ rest))
+dotless_of-of-directory s rest = dotless_of-with-empty-last (parent (s ∷ rest))
     ∙ ap (λ t. t ++ [] ∷ []) (steps-of-parent-are-popped-steps [] s rest
     ∙ sym (parent-of-dotless-is-pop (dotless_of (s ∷ rest)) (dotless_of-is-dotless (s ∷ rest))))
 

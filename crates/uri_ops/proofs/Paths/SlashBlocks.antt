@@ -1,13 +1,9 @@
 -- Sixteen bytes without `/`.
-use Rattle.std.proofs.Common.{◌≡◌, ℕ, zero, suc, ◌+◌, ◌<◌, ◌≤◌, false, eqb, List, length, drop, get_or, map, ◌-◌, ◌/◌, ◌%◌, ◌^◌, w64, ⊎_elim, sym, ap, ◌∙◌, arith, drop-cons}
+use Rattle.uri_ops.proofs.Common.{◌≡◌, ℕ, zero, suc, ◌+◌, ◌<◌, ◌≤◌, false, eqb, List, length, drop, get_or, map, ◌-◌, ◌/◌, ◌%◌, ◌^◌, w64, ⊎_elim, sym, ap, ◌∙◌, arith, drop-cons, bit_at, leading_zeros, cases_lt, eqb-true, or_from, is_set_bit, mask_bit_is_equality_of_byte, has_slash}
 use Rattle.std.specs.Simd.Lanes.{mask_l, chunk}
-use Rattle.std.specs.Int.{bit_at, leading_zeros}
 use Rattle.std.proofs.Math.Nat.{pow-suc}
-use Rattle.std.proofs.lemmas.Bool.{cases_lt, eqb-true, or_from}
 use Rattle.std.proofs.lemmas.Nat.{leading_top}
 use Rattle.std.proofs.lemmas.Nat.Bits.{bit_at-suc, bit_at-zero, bit_at_above, bit_at_lowest}
-use Rattle.uri_pct.proofs.LaneScans.LaneBits.{is_set_bit, mask_bit_is_equality_of_byte}
-use Rattle.uri_ops.specs.Dots.{has_slash}
 
 -- paths: if n bytes from at on have no `/`, and none is after them, none is from at on
 run-without-slash-extends-slashless-suffix : (n : ℕ) (bs : List ℕ) (at : ℕ) → at + n ≤ length bs
@@ -35,22 +31,18 @@ pub zero-mask-block-extends-slashless-suffix : (bs : List ℕ) (at mask : ℕ) �
 zero-mask-block-extends-slashless-suffix bs at mask room places none suffix =
     run-without-slash-extends-slashless-suffix 16 bs at room
     (λ k h. sym (mask_bit_is_equality_of_byte 47 bs at k room h)
-    ∙ ap (λ m. is_set_bit m k) (sym places ∙ none)
-    ∙ ap (λ m. eqb m 1) (bit_at-zero k))
-    suffix
+    ∙ ap (λ m. is_set_bit m k) (sym places ∙ none) ∙ ap (λ m. eqb m 1) (bit_at-zero k)) suffix
 
 -- general fact on numbers, for masks of lanes: one from 2 ^ j on and below 2 ^ (j + 1) has bit j
 highest-bit-is-set : (j n : ℕ) → 2 ^ j ≤ n → n < 2 ^ suc j → bit_at n j ≡ 1
 highest-bit-is-set zero n low high =
     let one : n ≡ 1 = omega (arith, low, high) in bit_at_lowest n ∙ ap (λ m. m % 2) one
-highest-bit-is-set (suc j) n low high = bit_at-suc n j
-    ∙ highest-bit-is-set j (n / 2) (omega (arith, low, pow-suc 2 j))
-    (omega (arith, high, pow-suc 2 (suc j)))
+highest-bit-is-set (suc j) n low high = bit_at-suc n j ∙ highest-bit-is-set j (n
+    / 2) (omega (arith, low, pow-suc 2 j)) (omega (arith, high, pow-suc 2 (suc j)))
 
 -- sixteen bytes at a time: the number of leading zeros gives the last lane that is set
-pub highest-lane-of-mask : (mask : ℕ) → 0 < mask → mask < 2 ^ 16
-    → (leading_zeros w64 mask ≤ 63) × (63 - leading_zeros w64 mask < 16)
-    × (bit_at mask (63 - leading_zeros w64 mask) ≡ 1)
+pub highest-lane-of-mask : (mask : ℕ) → 0 < mask → mask < 2 ^ 16 → (leading_zeros w64 mask ≤ 63)
+    × (63 - leading_zeros w64 mask < 16) × (bit_at mask (63 - leading_zeros w64 mask) ≡ 1)
     × ((k : ℕ) → 63 - leading_zeros w64 mask < k → bit_at mask k ≡ 0)
 highest-lane-of-mask mask some below =
     let top = leading_top 64 mask some (omega (arith, below)) in
@@ -73,18 +65,14 @@ pub last-lane-of-block-is-last-slash : (bs : List ℕ) (at mask lane : ℕ) → 
     → ((k : ℕ) → lane < k → bit_at mask k ≡ 0) → has_slash (drop (at + 16) bs) ≡ false
     → (get_or bs (at + lane) 0 ≡ 47) × (has_slash (drop (at + lane + 1) bs) ≡ false)
 last-lane-of-block-is-last-slash bs at mask lane room places within set above none =
-    let lane_is : (k : ℕ) → k < 16 → eqb (get_or bs (at + k) 0) 47 ≡ eqb (bit_at mask k) 1 =
-    λ k h. sym (mask_bit_is_equality_of_byte 47 bs at k room h)
-    ∙ ap (λ m. is_set_bit m k) (sym places) in
+    let lane_is : (k : ℕ) → k < 16 → eqb (get_or bs (at + k) 0) 47 ≡ eqb (bit_at mask k) 1 = λ k h.
+    sym (mask_bit_is_equality_of_byte 47 bs at k room h) ∙ ap (λ m. is_set_bit m k) (sym places) in
     let end : at + lane + 1 + (15 - lane) ≡ at + 16 = omega (arith, within) in (
-      eqb-true (get_or bs (at + lane) 0) 47
-          (lane_is lane within ∙ ap (λ b. eqb b 1) set),
-      run-without-slash-extends-slashless-suffix (15 - lane) bs (at + lane + 1)
-          (omega (arith, end, room))
-          (λ k h.
+      eqb-true (get_or bs (at + lane) 0) 47 (lane_is lane within ∙ ap (λ b. eqb b 1) set),
+      run-without-slash-extends-slashless-suffix
+          (15 - lane) bs (at + lane + 1) (omega (arith, end, room)) (λ k h.
           let same : at + lane + 1 + k ≡ at + (lane + 1 + k) = omega arith in
           ap (λ m. eqb (get_or bs m 0) 47) same
-          ∙ lane_is (lane + 1 + k) (omega (arith, h, within))
-          ∙ ap (λ b. eqb b 1) (above (lane + 1 + k) (omega arith)))
-          (ap (λ m. has_slash (drop m bs)) end ∙ none),
+          ∙ lane_is (lane + 1 + k) (omega (arith, h, within)) ∙ ap (λ b. eqb b 1)
+          (above (lane + 1 + k) (omega arith))) (ap (λ m. has_slash (drop m bs)) end ∙ none),
     )

@@ -1,14 +1,5 @@
 -- A path that begins with `/` as its segments: what is done to the text is done to them.
-use Rattle.std.proofs.Common.{◌≡◌, ℕ, zero, suc, ◌+◌, ◌≤◌, Bool, true, false, cond, eqb, not, List, [], ◌∷◌, ◌++◌, length, take, drop, refl, sym, ap, ◌∙◌, arith, ◌||◌, ⊎_elim, append_assoc}
-use Rattle.std.specs.Prelude.{codes}
-use Rattle.std.specs.List.{list_all, prefix_len, onto_first}
-use Rattle.std.proofs.lemmas.List.{append-nil, length-append}
-use Rattle.std.proofs.lemmas.List.Folds.{list_any-append}
-use Rattle.std.proofs.lemmas.Bool.{cases_Bool, cond-true, cond-false, and_parts, and_from, eqb-true, or_parts, or_right, not_from_false, not-true}
-use Rattle.std.proofs.lemmas.Bool.Decides.{nat_tests}
-use Rattle.uri_pct.specs.Sets.{is_one_of}
-use Rattle.uri_parts.specs.Components.{before_any, from_any}
-use Rattle.uri_ops.specs.Dots.{is_single_dot, is_double_dot, is_dot_segment, segments, is_empty, has_slash, before_last_slash, last_segment, Buffers, or_slash, step, run, remove_dot_segments, underflows, directory}
+use Rattle.uri_ops.proofs.Common.{◌≡◌, ℕ, zero, suc, ◌+◌, ◌≤◌, Bool, true, false, cond, eqb, not, List, [], ◌∷◌, ◌++◌, length, take, drop, refl, sym, ap, ◌∙◌, arith, ◌||◌, ⊎_elim, append_assoc, codes, list_all, prefix_len, onto_first, append-nil, length-append, list_any-append, cases_Bool, cond-true, cond-false, and_parts, and_from, eqb-true, or_parts, or_right, not_from_false, not-true, nat_tests, is_one_of, before_any, from_any, is_single_dot, is_double_dot, is_dot_segment, segments, is_empty, has_slash, before_last_slash, last_segment, Buffers, or_slash, step, run, remove_dot_segments, underflows, directory}
 use Rattle.uri_ops.proofs.Paths.Segments.{pop, is_none, next_output, step_of, steps, end_of, closing, dotless_of, parent, AllPass, next_output-passes-test}
 use Rattle.uri_ops.proofs.Paths.Underflows.{underflows_at, underflows_over}
 
@@ -54,10 +45,8 @@ text-splits-before-next-slash (c ∷ s) rest e =
     let ih = text-splits-before-next-slash s rest p.1 in
     let m : prefix_len (λ c. not (is_one_of (codes "/") c)) ((c ∷ s) ++ slashed rest)
     ≡ suc (prefix_len (λ c. not (is_one_of (codes "/") c)) (s ++ slashed rest)) =
-    cond-true _ _ _ (not_from_false _ (is_one_of-slash-is-equality c ∙ p.0))
-    ∙ omega arith in (
-      ap (λ n. take n ((c ∷ s) ++ slashed rest)) m
-          ∙ ap (λ t. c ∷ t) ih.0,
+    cond-true _ _ _ (not_from_false _ (is_one_of-slash-is-equality c ∙ p.0)) ∙ omega arith in (
+      ap (λ n. take n ((c ∷ s) ++ slashed rest)) m ∙ ap (λ t. c ∷ t) ih.0,
       ap (λ n. drop n ((c ∷ s) ++ slashed rest)) m ∙ ih.1,
     )
 
@@ -77,9 +66,8 @@ pub before_last_slash-of-slashed-is-popped : (xs : List (List ℕ)) → NoSlashe
     → before_last_slash (slashed xs) ≡ slashed (pop xs)
 unfolding slashed pop
 before_last_slash-of-slashed-is-popped [] e = refl
-before_last_slash-of-slashed-is-popped (s ∷ []) e = ap before_last_slash
-    (ap (λ t. 47 ∷ t) (append-nil s))
-    ∙ cond-false _ _ _ (first-segment-and-rest-lack-slashes s [] e).0
+before_last_slash-of-slashed-is-popped (s ∷ []) e = ap before_last_slash (ap (λ t. 47 ∷ t)
+    (append-nil s)) ∙ cond-false _ _ _ (first-segment-and-rest-lack-slashes s [] e).0
 before_last_slash-of-slashed-is-popped (s ∷ t ∷ rest) e = before_last_slash-of-append (47 ∷ s)
     (slashed (t ∷ rest)) refl
     ∙ ap (λ r. 47 ∷ s ++ r) (before_last_slash-of-slashed-is-popped (t ∷ rest)
@@ -113,54 +101,43 @@ no-dot-leaves-segments-as-they-are [] = refl
 no-dot-leaves-segments-as-they-are (t ∷ rest) = refl
 
 -- removing dot segments: the buffers by texts, after one segment, are those by segments
-buffers-after-one-segment : (single double : Bool) (s : List ℕ) (rest output : List (List ℕ))
-    (before : Bool)
-    → NoSlashes output →
-    cond single (buffers (or_slash (slashed rest)) (slashed output) before)
-    (cond double (buffers (or_slash (slashed rest)) (before_last_slash (slashed output))
-    (before || is_empty (slashed output)))
-    (buffers (slashed rest) (slashed output ++ 47 ∷ s) before))
+buffers-after-one-segment : (single double : Bool) (s : List ℕ) (rest output : List
+    (List ℕ)) (before : Bool) → NoSlashes output
+    → cond single (buffers (or_slash (slashed rest)) (slashed output) before) (cond double
+    (buffers (or_slash (slashed rest)) (before_last_slash (slashed output)) (before
+    || is_empty (slashed output))) (buffers (slashed rest) (slashed output ++ 47 ∷ s) before))
     ≡ buffers (slashed (or_empty_segment (single || double) rest))
-    (slashed (next_output single double output s))
-    (underflows_at single double before output)
+    (slashed (next_output single double output s)) (underflows_at single double before output)
 unfolding next_output underflows_at
 buffers-after-one-segment true double s rest output before e =
     ap (λ i. buffers i (slashed output) before) (or_slash-of-slashed-segments rest)
 buffers-after-one-segment false true s rest output before e =
     ap (λ i. buffers i (before_last_slash (slashed output)) (before || is_empty (slashed output)))
-    (or_slash-of-slashed-segments rest)
-    ∙ ap (λ o. buffers (slashed (or_empty_segment true rest)) o
-    (before || is_empty (slashed output)))
-    (before_last_slash-of-slashed-is-popped output e)
+    (or_slash-of-slashed-segments rest) ∙ ap (λ o. buffers (slashed (or_empty_segment true rest)) o
+    (before || is_empty (slashed output))) (before_last_slash-of-slashed-is-popped output e)
     ∙ ap (λ b. buffers (slashed (or_empty_segment true rest)) (slashed (pop output)) (before || b))
     (slashed-is-empty-if-no-segments output)
-buffers-after-one-segment false false s rest output before e =
-    ap (λ i. buffers (slashed i) (slashed output ++ 47 ∷ s) before)
-    (no-dot-leaves-segments-as-they-are rest)
-    ∙ ap (λ o. buffers (slashed (or_empty_segment false rest)) o before)
-    (sym (slashed-of-push output s))
+buffers-after-one-segment false false s rest output before e = ap (λ i. buffers
+    (slashed i) (slashed output ++ 47 ∷ s) before) (no-dot-leaves-segments-as-they-are rest) ∙ ap
+    (λ o. buffers (slashed (or_empty_segment false rest)) o before) (sym (slashed-of-push output s))
 
 -- removing dot segments: the buffers after the step of section 5.2.4 for a segment
 buffers_after_cut : List ℕ → List ℕ → List (List ℕ) → Bool → Buffers
 buffers_after_cut segment rest output before =
     cond (is_single_dot segment) (buffers (or_slash rest) (slashed output) before)
     (cond (is_double_dot segment) (buffers (or_slash rest) (before_last_slash (slashed output))
-    (before || is_empty (slashed output)))
-    (buffers rest (slashed output ++ 47 ∷ segment) before))
+    (before || is_empty (slashed output))) (buffers rest (slashed output ++ 47 ∷ segment) before))
 
 -- removing dot segments: a step of RFC 3986, section 5.2.4, takes one segment from the input
-step-takes-one-segment : (s : List ℕ) (rest output : List (List ℕ)) (before : Bool)
-    → has_slash s ≡ false
-    → NoSlashes output →
-    step (buffers (slashed (s ∷ rest)) (slashed output) before)
-    ≡ buffers (slashed (or_empty_segment (is_dot_segment s) rest)) (slashed (step_of output s))
-    (underflows_at (is_single_dot s) (is_double_dot s) before output)
+step-takes-one-segment : (s : List ℕ) (rest output : List (List ℕ)) (before : Bool) → has_slash s
+    ≡ false → NoSlashes output → step (buffers (slashed (s ∷ rest)) (slashed output) before)
+    ≡ buffers (slashed (or_empty_segment (is_dot_segment s) rest))
+    (slashed (step_of output s)) (underflows_at (is_single_dot s) (is_double_dot s) before output)
 unfolding slashed step_of buffers_after_cut
 step-takes-one-segment s rest output before e f =
     let p = text-splits-before-next-slash s rest e in
-    ap (λ segment. buffers_after_cut segment (from_any (codes "/") (s ++ slashed rest)) output
-    before) p.0
-    ∙ ap (λ tail. buffers_after_cut s tail output before) p.1
+    ap (λ segment. buffers_after_cut segment (from_any (codes "/") (s ++ slashed rest))
+    output before) p.0 ∙ ap (λ tail. buffers_after_cut s tail output before) p.1
     ∙ buffers-after-one-segment (is_single_dot s) (is_double_dot s) s rest output before f
 
 -- removing dot segments: with an empty input, n more steps change nothing
@@ -172,13 +149,11 @@ run-of-empty-input-is-done (suc n) output before = refl
 
 -- removing dot segments: the `/` that a dot segment at the end leaves becomes an empty segment
 run-of-closing-slash-appends-it : (n : ℕ) (dot : Bool) (output : List (List ℕ)) (before : Bool)
-    → length (end_of dot) ≤ n →
-    run n (buffers (slashed (end_of dot)) (slashed output) before)
+    → length (end_of dot) ≤ n → run n (buffers (slashed (end_of dot)) (slashed output) before)
     ≡ buffers [] (slashed (output ++ end_of dot)) before
 unfolding run slashed
 run-of-closing-slash-appends-it n false output before h = run-of-empty-input-is-done n
-    (slashed output) before
-    ∙ ap (λ o. buffers [] (slashed o) before) (sym (append-nil output))
+    (slashed output) before ∙ ap (λ o. buffers [] (slashed o) before) (sym (append-nil output))
 run-of-closing-slash-appends-it zero true output before h = absurd (omega arith)
 run-of-closing-slash-appends-it (suc n) true output before h = run-of-empty-input-is-done n
     (slashed output ++ 47 ∷ []) before
@@ -191,8 +166,7 @@ run-takes-all-segments : (n : ℕ) (segs output : List (List ℕ)) (before : Boo
     ≡ buffers [] (slashed (steps output segs ++ closing segs)) (underflows_over before output segs)
 unfolding run slashed steps closing underflows_over step_of
 run-takes-all-segments n [] output before e f h = run-of-empty-input-is-done n
-    (slashed output) before
-    ∙ ap (λ o. buffers [] (slashed o) before) (sym (append-nil output))
+    (slashed output) before ∙ ap (λ o. buffers [] (slashed o) before) (sym (append-nil output))
 run-takes-all-segments zero (s ∷ rest) output before e f h = absurd (omega arith)
 run-takes-all-segments (suc n) (s ∷ []) output before e f h =
     let g = first-segment-and-rest-lack-slashes s [] e in
@@ -202,10 +176,9 @@ run-takes-all-segments (suc n) (s ∷ []) output before e f h =
 run-takes-all-segments (suc n) (s ∷ t ∷ rest) output before e f h =
     let g = first-segment-and-rest-lack-slashes s (t ∷ rest) e in
     ap (run n) (step-takes-one-segment s (t ∷ rest) output before g.0 f)
-    ∙ run-takes-all-segments n (t ∷ rest) (step_of output s)
-    (underflows_at (is_single_dot s) (is_double_dot s) before output) g.1
-    (next_output-passes-test lacks_slash (is_single_dot s) (is_double_dot s) output s f
-    (λ d. not_from_false _ g.0)) (omega arith)
+    ∙ run-takes-all-segments n (t ∷ rest) (step_of output s) (underflows_at (is_single_dot s)
+    (is_double_dot s) before output) g.1 (next_output-passes-test lacks_slash
+    (is_single_dot s) (is_double_dot s) output s f (λ d. not_from_false _ g.0)) (omega arith)
 
 -- removing dot segments: a last dot segment leaves one empty segment at most
 closing-has-at-most-one-segment : (segs : List (List ℕ)) → length (closing segs) ≤ 1
@@ -271,10 +244,9 @@ directory_text_of segment whole prefix = cond (is_double_dot segment) (whole ++ 
     (prefix ++ 47 ∷ [])
 
 -- paths: the directory by the text is all segments but the last, and a `/`
-directory-text-of-slashed-segments : (s : List ℕ) (rest : List (List ℕ)) → NoSlashes (s ∷ rest)
-    → directory_text_of (last_segment (slashed (s ∷ rest))) (slashed (s ∷ rest))
-    (slashed (pop (s ∷ rest)))
-    ≡ slashed (parent (s ∷ rest)) ++ 47 ∷ []
+directory-text-of-slashed-segments : (s : List ℕ) (rest : List (List ℕ))
+    → NoSlashes (s ∷ rest) → directory_text_of (last_segment (slashed (s ∷ rest))) (slashed (s
+    ∷ rest)) (slashed (pop (s ∷ rest))) ≡ slashed (parent (s ∷ rest)) ++ 47 ∷ []
 unfolding slashed parent pop directory_text_of
 directory-text-of-slashed-segments s [] e =
     let last : last_segment (47 ∷ s ++ []) ≡ s = ap (λ t. last_segment (47 ∷ t)) (append-nil s)
@@ -285,15 +257,11 @@ directory-text-of-slashed-segments s (t ∷ rest) e =
     let T = slashed (t ∷ rest) in
     let U = slashed (pop (t ∷ rest)) in
     ap (λ segment. directory_text_of segment ((47 ∷ s) ++ T) ((47 ∷ s) ++ U))
-    (last_segment-of-append (47 ∷ s) T refl)
-    ∙ ap (λ x. cond (is_double_dot (last_segment T)) x (((47 ∷ s) ++ U) ++ 47 ∷ []))
-    (append_assoc (47 ∷ s) T (47 ∷ []))
-    ∙ ap (λ x. cond (is_double_dot (last_segment T)) ((47 ∷ s) ++ (T ++ 47 ∷ [])) x)
-    (append_assoc (47 ∷ s) U (47 ∷ []))
-    ∙ common-prefix-leaves-cond (is_double_dot (last_segment T)) (47 ∷ s) (T ++ 47 ∷ [])
-    (U ++ 47 ∷ [])
-    ∙ ap (λ x. (47 ∷ s) ++ x)
-    (directory-text-of-slashed-segments t rest
+    (last_segment-of-append (47 ∷ s) T refl) ∙ ap (λ x. cond (is_double_dot (last_segment T)) x
+    (((47 ∷ s) ++ U) ++ 47 ∷ [])) (append_assoc (47 ∷ s) T (47 ∷ []))
+    ∙ ap (λ x. cond (is_double_dot (last_segment T)) ((47 ∷ s) ++ (T ++ 47 ∷ [])) x) (append_assoc
+    (47 ∷ s) U (47 ∷ [])) ∙ common-prefix-leaves-cond (is_double_dot (last_segment T)) (47 ∷ s) (T
+    ++ 47 ∷ []) (U ++ 47 ∷ []) ∙ ap (λ x. (47 ∷ s) ++ x) (directory-text-of-slashed-segments t rest
     (first-segment-and-rest-lack-slashes s (t ∷ rest) e).1)
     ∙ sym (append_assoc (47 ∷ s) (slashed (parent (t ∷ rest))) (47 ∷ []))
 
@@ -301,9 +269,8 @@ directory-text-of-slashed-segments s (t ∷ rest) e =
 pub directory-by-segments : (s : List ℕ) (rest : List (List ℕ)) → NoSlashes (s ∷ rest)
     → directory (slashed (s ∷ rest)) ≡ slashed (parent (s ∷ rest) ++ [] ∷ [])
 unfolding directory slashed directory_text_of
-directory-by-segments s rest e =
-    ap (λ prefix. directory_text_of (last_segment (slashed (s ∷ rest))) (slashed (s ∷ rest)) prefix)
-    (before_last_slash-of-slashed-is-popped (s ∷ rest) e)
+directory-by-segments s rest e = ap (λ prefix. directory_text_of (last_segment (slashed (s ∷ rest)))
+    (slashed (s ∷ rest)) prefix) (before_last_slash-of-slashed-is-popped (s ∷ rest) e)
     ∙ directory-text-of-slashed-segments s rest e ∙ sym (slashed-of-push (parent (s ∷ rest)) [])
 
 -- paths: what holds of each segment holds of each but the last
@@ -335,11 +302,9 @@ slashed-of-onto_first c (s ∷ parts) text e = ap (λ t. 47 ∷ c ∷ t)
 pub slashed-of-segments-is-text-after-slash : (text : List ℕ) → slashed (segments text) ≡ 47 ∷ text
 unfolding slashed
 slashed-of-segments-is-text-after-slash [] = refl
-slashed-of-segments-is-text-after-slash (c ∷ text) = ⊎_elim
-    (λ e. ap slashed (cond-true _ _ _ e)
+slashed-of-segments-is-text-after-slash (c ∷ text) = ⊎_elim (λ e. ap slashed (cond-true _ _ _ e)
     ∙ ap (λ t. 47 ∷ t) (slashed-of-segments-is-text-after-slash text)
-    ∙ ap (λ b. 47 ∷ b ∷ text) (sym (eqb-true c 47 e)))
-    (λ e. ap slashed (cond-false _ _ _ e)
+    ∙ ap (λ b. 47 ∷ b ∷ text) (sym (eqb-true c 47 e))) (λ e. ap slashed (cond-false _ _ _ e)
     ∙ slashed-of-onto_first c (segments text) text (slashed-of-segments-is-text-after-slash text))
     (cases_Bool (eqb c 47))
 
@@ -366,8 +331,7 @@ onto_first-is-not-none c (s ∷ parts) = refl
 pub segments-of-text-are-not-none : (text : List ℕ) → is_none (segments text) ≡ false
 unfolding is_none
 segments-of-text-are-not-none [] = refl
-segments-of-text-are-not-none (c ∷ text) = ⊎_elim
-    (λ e. ap is_none (cond-true _ _ _ e))
+segments-of-text-are-not-none (c ∷ text) = ⊎_elim (λ e. ap is_none (cond-true _ _ _ e))
     (λ e. ap is_none (cond-false _ _ _ e) ∙ onto_first-is-not-none c (segments text))
     (cases_Bool (eqb c 47))
 
@@ -381,8 +345,7 @@ segments-of-joined-segments [] (t ∷ rest) e = ap (λ r. [] ∷ r)
 segments-of-joined-segments (c ∷ s) rest e =
     let g = first-segment-and-rest-lack-slashes (c ∷ s) rest e in
     let p = or_parts (eqb c 47) (has_slash s) g.0 in
-    cond-false _ _ _ p.0
-    ∙ ap (onto_first c) (segments-of-joined-segments s rest
+    cond-false _ _ _ p.0 ∙ ap (onto_first c) (segments-of-joined-segments s rest
     (and_from _ _ (not_from_false _ p.1) g.1))
 
 -- paths: an absolute path has an empty segment before its first `/`

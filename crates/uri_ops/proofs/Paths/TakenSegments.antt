@@ -1,58 +1,44 @@
 -- The segments of a path, taken one after the other after a directory that has no dot segment.
-use Rattle.std.proofs.Common.{◌≡◌, ℕ, Bool, true, false, List, [], ◌∷◌, ◌++◌, drop, refl, sym, ap, ◌∙◌, ◌||◌}
-use Rattle.std.proofs.lemmas.List.{append-nil}
-use Rattle.std.proofs.lemmas.Bool.{and_from, eqb-true, false≢true, not_from_false, or_right}
-use Rattle.uri_parts.specs.Components.{IsAbemptyPath}
-use Rattle.uri_ops.specs.Dots.{is_single_dot, is_double_dot, is_dot_segment, has_slash, segments, remove_dot_segments, underflows, IsAbsolute}
+use Rattle.uri_ops.proofs.Common.{◌≡◌, ℕ, Bool, true, false, List, [], ◌∷◌, ◌++◌, drop, refl, sym, ap, ◌∙◌, ◌||◌, append-nil, and_from, eqb-true, false≢true, not_from_false, or_right, IsAbemptyPath, is_single_dot, is_double_dot, is_dot_segment, has_slash, segments, remove_dot_segments, underflows, IsAbsolute, eq_true_from_IsTrue}
 use Rattle.uri_ops.proofs.Paths.Segments.{is_none, step_of, steps, end_of, closing, dotless_of, AllPass, is_dotless, steps-of-dotless-append-all, dotless_of-append, dotless_of-with-empty-last, closing-of-append, next_output-passes-test, appended-segments-pass-test}
 use Rattle.uri_ops.proofs.Paths.Underflows.{underflows_at, underflows_over, underflows_over_is_or, dotless-segments-do-not-underflow, underflows_over-of-append, trailing-slash-changes-no-underflow}
 use Rattle.uri_ops.proofs.Paths.SlashedSegments.{slashed, lacks_slash, NoSlashes, slashed-of-push, remove-dots-by-segments, underflows-by-segments, slashed-of-segments-is-text-after-slash, segments-of-text-lack-slashes, segments-of-text-are-not-none, segments-of-joined-segments}
 use Rattle.uri_ops.proofs.Paths.DotLaws.{rooted, path-after-slash-appends-its-segments, appended-segments-lack-slashes, segments-with-empty-last-lack-slashes}
-use Rattle.uri_pct.proofs.General.{eq_true_from_IsTrue}
 
 -- of a segment after ones without dot segments: what it leaves of them and what follows it are the
 -- same path
 module _ (xs : List (List ℕ)) (dotless : AllPass is_dotless xs) (s : List ℕ) where
   segments-after-step-are-dotless : AllPass is_dotless (step_of xs s)
   unfolding step_of
-  segments-after-step-are-dotless = next_output-passes-test is_dotless (is_single_dot s)
-      (is_double_dot s) xs s dotless
-      (λ e. not_from_false _ e)
+  segments-after-step-are-dotless = next_output-passes-test is_dotless
+      (is_single_dot s) (is_double_dot s) xs s dotless (λ e. not_from_false _ e)
 
   -- removing dot segments may go on from what a segment leaves of the segments before it
   dotless_of-after-step-is-same : (ys : List (List ℕ)) → is_none ys ≡ false
       → dotless_of (xs ++ s ∷ ys) ≡ dotless_of (step_of xs s ++ ys)
   unfolding is_none steps closing
   dotless_of-after-step-is-same [] e = absurd (false≢true (sym e))
-  dotless_of-after-step-is-same (y ∷ ys) e =
-      dotless_of-append xs s (y ∷ ys)
-      ∙ ap (λ o. steps o (s ∷ y ∷ ys) ++ closing (y ∷ ys))
-      (steps-of-dotless-append-all [] xs dotless)
-      ∙ sym (dotless_of-append (step_of xs s) y ys
-      ∙ ap (λ o. steps o (y ∷ ys) ++ closing (y ∷ ys))
+  dotless_of-after-step-is-same (y ∷ ys) e = dotless_of-append xs s (y ∷ ys) ∙ ap
+      (λ o. steps o (s ∷ y ∷ ys) ++ closing (y ∷ ys)) (steps-of-dotless-append-all [] xs dotless)
+      ∙ sym (dotless_of-append (step_of xs s) y ys ∙ ap (λ o. steps o (y ∷ ys) ++ closing (y ∷ ys))
       (steps-of-dotless-append-all [] (step_of xs s) segments-after-step-are-dotless))
 
   dotless_of-last-dot-leaves-empty-segment : is_dot_segment s ≡ true
       → dotless_of (xs ++ s ∷ []) ≡ dotless_of (step_of xs s ++ [] ∷ [])
   unfolding steps closing
-  dotless_of-last-dot-leaves-empty-segment dot =
-      dotless_of-append xs s []
+  dotless_of-last-dot-leaves-empty-segment dot = dotless_of-append xs s []
       ∙ ap (λ o. steps o (s ∷ []) ++ end_of (is_dot_segment s))
-      (steps-of-dotless-append-all [] xs dotless)
-      ∙ ap (λ b. step_of xs s ++ end_of b) dot
-      ∙ sym (dotless_of-with-empty-last (step_of xs s)
-      ∙ ap (λ o. o ++ [] ∷ [])
-      (steps-of-dotless-append-all [] (step_of xs s) segments-after-step-are-dotless))
+      (steps-of-dotless-append-all [] xs dotless) ∙ ap (λ b. step_of xs s ++ end_of b) dot
+      ∙ sym (dotless_of-with-empty-last (step_of xs s) ∙ ap (λ o. o
+      ++ [] ∷ []) (steps-of-dotless-append-all [] (step_of xs s) segments-after-step-are-dotless))
 
   segment-underflows : Bool
   segment-underflows = underflows_at (is_single_dot s) (is_double_dot s) false xs
 
-  underflow-at-segment-or-after-step : (ys : List (List ℕ))
-      → underflows_over false [] (xs ++ s ∷ ys)
-      ≡ (segment-underflows || underflows_over false [] (step_of xs s ++ ys))
+  underflow-at-segment-or-after-step : (ys : List (List ℕ)) → underflows_over false [] (xs
+      ++ s ∷ ys) ≡ (segment-underflows || underflows_over false [] (step_of xs s ++ ys))
   unfolding underflows_over segment-underflows
-  underflow-at-segment-or-after-step ys =
-      underflows_over-of-append false [] xs (s ∷ ys)
+  underflow-at-segment-or-after-step ys = underflows_over-of-append false [] xs (s ∷ ys)
       ∙ ap (λ b. underflows_over b (steps [] xs) (s ∷ ys))
       (dotless-segments-do-not-underflow false [] xs dotless)
       ∙ ap (λ o. underflows_over false o (s ∷ ys)) (steps-of-dotless-append-all [] xs dotless)
@@ -66,8 +52,7 @@ module _ (xs : List (List ℕ)) (dotless : AllPass is_dotless xs) (s : List ℕ)
 
   underflow-at-last-segment-or-after-step : underflows_over false [] (xs ++ s ∷ [])
       ≡ (segment-underflows || underflows_over false [] (step_of xs s ++ [] ∷ []))
-  underflow-at-last-segment-or-after-step =
-      underflow-at-segment-or-after-step []
+  underflow-at-last-segment-or-after-step = underflow-at-segment-or-after-step []
       ∙ ap (λ b. segment-underflows || b) (ap (underflows_over false []) (append-nil (step_of xs s))
       ∙ sym (trailing-slash-changes-no-underflow false [] (step_of xs s)))
 
@@ -87,9 +72,8 @@ underflow-after-segments-and-slash xs q e = ap underflows
     ∙ underflows-by-segments (xs ++ segments q) (appended-segments-lack-slashes xs q e)
 
 -- paths: a segment without `/`, before segments without any, has none with them
-slashless-segment-and-rest-lack-slashes : (s : List ℕ) (rest : List (List ℕ)) → has_slash s ≡ false
-    → NoSlashes rest
-    → NoSlashes (s ∷ rest)
+slashless-segment-and-rest-lack-slashes : (s : List ℕ) (rest : List (List ℕ))
+    → has_slash s ≡ false → NoSlashes rest → NoSlashes (s ∷ rest)
 slashless-segment-and-rest-lack-slashes s rest e f = and_from _ _ (not_from_false _ e) f
 
 -- paths: a text without `/` is its only segment
@@ -124,34 +108,28 @@ module _ (xs : List (List ℕ)) (dotless : AllPass is_dotless xs) (lack : NoSlas
 
   removing-dots-after-last-dot-segment : remove_dot_segments (slashed (xs ++ [] ∷ []) ++ (s ++ []))
       ≡ remove_dot_segments (slashed (step_of xs s ++ [] ∷ []) ++ [])
-  removing-dots-after-last-dot-segment =
-      removing-dots-after-segments-and-slash xs (s ++ []) lack
+  removing-dots-after-last-dot-segment = removing-dots-after-segments-and-slash xs (s ++ []) lack
       ∙ ap (λ segs. slashed (dotless_of (xs ++ segs))) (segments-of-slashless-text-is-one s free)
-      ∙ ap slashed (dotless_of-last-dot-leaves-empty-segment xs dotless s dot)
-      ∙ sym (removing-dots-after-segments-and-slash
-      (step_of xs s) [] segments-after-step-lack-slashes)
+      ∙ ap slashed (dotless_of-last-dot-leaves-empty-segment xs dotless s dot) ∙ sym
+      (removing-dots-after-segments-and-slash (step_of xs s) [] segments-after-step-lack-slashes)
 
-  removing-dots-after-inner-dot-segment : (r : List ℕ)
-      → remove_dot_segments (slashed (xs ++ [] ∷ []) ++ (s ++ 47 ∷ r))
-      ≡ remove_dot_segments (slashed (step_of xs s ++ [] ∷ []) ++ r)
+  removing-dots-after-inner-dot-segment : (r : List ℕ) → remove_dot_segments (slashed (xs
+      ++ [] ∷ []) ++ (s ++ 47 ∷ r)) ≡ remove_dot_segments (slashed (step_of xs s ++ [] ∷ []) ++ r)
   removing-dots-after-inner-dot-segment r =
       removing-dots-after-segments-and-slash xs (s ++ 47 ∷ r) lack
       ∙ ap (λ segs. slashed (dotless_of (xs ++ segs))) (segments-split-at-first-slash s r free)
-      ∙ ap slashed (dotless_of-after-step-is-same xs dotless s (segments r)
-      (segments-of-text-are-not-none r))
-      ∙ sym (removing-dots-after-segments-and-slash
-      (step_of xs s) r segments-after-step-lack-slashes)
+      ∙ ap slashed (dotless_of-after-step-is-same xs dotless s
+      (segments r) (segments-of-text-are-not-none r)) ∙ sym
+      (removing-dots-after-segments-and-slash (step_of xs s) r segments-after-step-lack-slashes)
 
   pub removing-dots-after-directory : (rest : List ℕ) → IsAbemptyPath rest
       → remove_dot_segments (slashed (xs ++ [] ∷ []) ++ (s ++ rest))
       ≡ remove_dot_segments (slashed (step_of xs s ++ [] ∷ []) ++ drop 1 rest)
-  removing-dots-after-directory = rooted
-      (λ rest. remove_dot_segments (slashed (xs ++ [] ∷ []) ++ (s ++ rest))
-      ≡ remove_dot_segments (slashed (step_of xs s ++ [] ∷ []) ++ drop 1 rest))
-      removing-dots-after-last-dot-segment
-      (λ rest h. ap (λ t. remove_dot_segments (slashed (xs ++ [] ∷ []) ++ (s ++ t)))
-      (absolute-path-is-slash-and-rest rest h) ∙ removing-dots-after-inner-dot-segment
-      (drop 1 rest))
+  removing-dots-after-directory = rooted (λ rest. remove_dot_segments (slashed (xs ++ [] ∷ [])
+      ++ (s ++ rest)) ≡ remove_dot_segments (slashed (step_of xs s ++ [] ∷ []) ++ drop 1 rest))
+      removing-dots-after-last-dot-segment (λ rest h. ap (λ t. remove_dot_segments
+      (slashed (xs ++ [] ∷ []) ++ (s ++ t))) (absolute-path-is-slash-and-rest rest h)
+      ∙ removing-dots-after-inner-dot-segment (drop 1 rest))
 
   dot-segment-underflows : Bool
   dot-segment-underflows = segment-underflows xs dotless s
@@ -159,28 +137,22 @@ module _ (xs : List (List ℕ)) (dotless : AllPass is_dotless xs) (lack : NoSlas
   underflow-at-last-dot-segment : underflows (slashed (xs ++ [] ∷ []) ++ (s ++ []))
       ≡ (dot-segment-underflows || underflows (slashed (step_of xs s ++ [] ∷ []) ++ []))
   unfolding dot-segment-underflows
-  underflow-at-last-dot-segment =
-      underflow-after-segments-and-slash xs (s ++ []) lack
-      ∙ ap (λ segs. underflows_over false [] (xs ++ segs))
-      (segments-of-slashless-text-is-one s free)
-      ∙ underflow-at-last-segment-or-after-step xs dotless s
-      ∙ ap (λ b. dot-segment-underflows || b)
+  underflow-at-last-dot-segment = underflow-after-segments-and-slash xs (s ++ []) lack ∙ ap
+      (λ segs. underflows_over false [] (xs ++ segs)) (segments-of-slashless-text-is-one s free)
+      ∙ underflow-at-last-segment-or-after-step xs dotless s ∙ ap (λ b. dot-segment-underflows || b)
       (sym (underflow-after-segments-and-slash (step_of xs s) [] segments-after-step-lack-slashes))
 
-  underflow-at-inner-dot-segment : (r : List ℕ)
-      → underflows (slashed (xs ++ [] ∷ []) ++ (s ++ 47 ∷ r))
-      ≡ (dot-segment-underflows || underflows (slashed (step_of xs s ++ [] ∷ []) ++ r))
+  underflow-at-inner-dot-segment : (r : List ℕ) → underflows (slashed (xs ++ [] ∷ []) ++ (s
+      ++ 47 ∷ r)) ≡ (dot-segment-underflows || underflows (slashed (step_of xs s ++ [] ∷ []) ++ r))
   unfolding dot-segment-underflows
-  underflow-at-inner-dot-segment r =
-      underflow-after-segments-and-slash xs (s ++ 47 ∷ r) lack
+  underflow-at-inner-dot-segment r = underflow-after-segments-and-slash xs (s ++ 47 ∷ r) lack
       ∙ ap (λ segs. underflows_over false [] (xs ++ segs)) (segments-split-at-first-slash s r free)
       ∙ underflow-at-segment-or-after-step xs dotless s (segments r)
       ∙ ap (λ b. dot-segment-underflows || b)
       (sym (underflow-after-segments-and-slash (step_of xs s) r segments-after-step-lack-slashes))
 
-  pub underflow-after-directory : (rest : List ℕ) → IsAbemptyPath rest
-      → underflows (slashed (xs ++ [] ∷ []) ++ (s ++ rest))
-      ≡ (underflows_at (is_single_dot s) (is_double_dot s) false xs
+  pub underflow-after-directory : (rest : List ℕ) → IsAbemptyPath rest → underflows (slashed (xs
+      ++ [] ∷ []) ++ (s ++ rest)) ≡ (underflows_at (is_single_dot s) (is_double_dot s) false xs
       || underflows (slashed (step_of xs s ++ [] ∷ []) ++ drop 1 rest))
   unfolding dot-segment-underflows segment-underflows
   underflow-after-directory = rooted (λ rest. underflows (slashed (xs ++ [] ∷ []) ++ (s ++ rest))
@@ -193,9 +165,8 @@ module _ (xs : List (List ℕ)) (dotless : AllPass is_dotless xs) (lack : NoSlas
 last-dot-segment-leaves-closing-slash : (xs : List (List ℕ)) (y : List ℕ) → is_dot_segment y ≡ true
     → dotless_of (xs ++ y ∷ []) ≡ dotless_of ((xs ++ y ∷ []) ++ [] ∷ [])
 unfolding dotless_of steps closing
-last-dot-segment-leaves-closing-slash xs y dot =
-    ap (λ t. steps [] (xs ++ y ∷ []) ++ t) (closing-of-append xs y [] ∙ ap end_of dot)
-    ∙ sym (dotless_of-with-empty-last (xs ++ y ∷ []))
+last-dot-segment-leaves-closing-slash xs y dot = ap (λ t. steps [] (xs ++ y ∷ []) ++ t)
+    (closing-of-append xs y [] ∙ ap end_of dot) ∙ sym (dotless_of-with-empty-last (xs ++ y ∷ []))
 
 -- paths: the prefix is a list of segments, each after a `/`
 record IsOfSlashedSegments (prefix : List ℕ) : Type 0 where
@@ -221,9 +192,8 @@ prefix-before-slash-is-slashed-segments (c ∷ prefix) y h = record {
 }
 
 -- removing dot segments: a `..` (y) at the end leaves a `/`, as if there were a `/` after it
-pub trailing-double-dot-leaves-slash : (prefix y : List ℕ) → IsAbsolute (prefix ++ 47 ∷ y)
-    → has_slash y ≡ false
-    → is_double_dot y ≡ true
+pub trailing-double-dot-leaves-slash : (prefix y : List ℕ)
+    → IsAbsolute (prefix ++ 47 ∷ y) → has_slash y ≡ false → is_double_dot y ≡ true
     → remove_dot_segments (prefix ++ 47 ∷ y) ≡ remove_dot_segments ((prefix ++ 47 ∷ y) ++ 47 ∷ [])
 trailing-double-dot-leaves-slash prefix y h free double =
     let f = prefix-before-slash-is-slashed-segments prefix y h in
@@ -233,9 +203,7 @@ trailing-double-dot-leaves-slash prefix y h free double =
     ∙ ap (λ t. t ++ 47 ∷ y) f.whole in
     let closed : slashed ((f.segs ++ y ∷ []) ++ [] ∷ []) ≡ (prefix ++ 47 ∷ y) ++ 47 ∷ [] =
     slashed-of-push (f.segs ++ y ∷ []) [] ∙ ap (λ t. t ++ 47 ∷ []) text in
-    ap remove_dot_segments (sym text) ∙ remove-dots-by-segments (f.segs ++ y ∷ []) lack
-    ∙ ap slashed (last-dot-segment-leaves-closing-slash f.segs y
-    (or_right (is_single_dot y) _ double))
+    ap remove_dot_segments (sym text) ∙ remove-dots-by-segments (f.segs ++ y ∷ []) lack ∙ ap slashed
+    (last-dot-segment-leaves-closing-slash f.segs y (or_right (is_single_dot y) _ double))
     ∙ sym (remove-dots-by-segments ((f.segs ++ y ∷ []) ++ [] ∷ [])
-    (segments-with-empty-last-lack-slashes (f.segs ++ y ∷ []) lack))
-    ∙ ap remove_dot_segments closed
+    (segments-with-empty-last-lack-slashes (f.segs ++ y ∷ []) lack)) ∙ ap remove_dot_segments closed

@@ -1,13 +1,6 @@
 -- Paths whose octets are unchanged, and in which no dot after a `/` begins a dot segment: they have
 -- none.
-use Rattle.std.proofs.Common.{◌≡◌, ℕ, zero, suc, ◌+◌, ◌-◌, ◌<◌, ◌≤◌, Bool, true, false, not, ◌&&◌, ◌||◌, List, [], ◌∷◌, ◌++◌, length, get_or, eqb, ltb, leb, ap, arith, refl, sym, ◌∙◌, ⊎_elim}
-use Rattle.std.specs.Prelude.{codes}
-use Rattle.std.proofs.lemmas.Bool.{and_from, and_parts, cases_Bool, eqb-true, false≢true, leb-true, ltb-true, not-true, not_from_false, or_cases, or_from, or_left, or_right}
-use Rattle.std.proofs.lemmas.Bool.Decides.{nat_tests}
-use Rattle.std.proofs.lemmas.List.{get_or-append-add, get_or_append_left}
-use Rattle.uri_pct.specs.Sets.{is_one_of}
-use Rattle.uri_ops.specs.Dots.{IsAbsolute, is_dot_segment, lacks_dot_segments, segments}
-use Rattle.uri_ops.specs.Models.Unchanged.{HasUnchangedOctets, is_dot_unchanged_at, has_unchanged_octets, is_unchanged_octet, keeps_digits}
+use Rattle.uri_ops.proofs.Common.{◌≡◌, ℕ, zero, suc, ◌+◌, ◌-◌, ◌<◌, ◌≤◌, Bool, true, false, not, ◌&&◌, ◌||◌, List, [], ◌∷◌, ◌++◌, length, get_or, eqb, ltb, leb, ap, arith, refl, sym, ◌∙◌, ⊎_elim, codes, and_from, and_parts, cases_Bool, eqb-true, false≢true, leb-true, ltb-true, not-true, not_from_false, or_cases, or_from, or_left, or_right, nat_tests, get_or-append-add, get_or_append_left, is_one_of, IsAbsolute, is_dot_segment, lacks_dot_segments, segments, HasUnchangedOctets, is_dot_unchanged_at, has_unchanged_octets, is_unchanged_octet, keeps_digits}
 use Rattle.uri_ops.proofs.Normal.UnchangedBytes.{unchanged-text-splits}
 use Rattle.uri_ops.proofs.Paths.DotStarts.{segment-without-dot-start-is-dotless}
 use Rattle.uri_ops.proofs.Paths.Segments.{AllPass, is_dotless}
@@ -37,12 +30,10 @@ DotGoesOn slash text k = get_or text k 0 ≡ 46 → is_after_slash_at slash text
 
 first-dot-goes-on : (slash : Bool) (c : ℕ) (rest : List ℕ) → DotGoesOn slash (c ∷ rest) 0
     → (not (eqb c 46 && slash) || goes_on rest) ≡ true
-first-dot-goes-on slash c rest each = ⊎_elim
-    (λ (e : (eqb c 46 && slash) ≡ true).
+first-dot-goes-on slash c rest each = ⊎_elim (λ (e : (eqb c 46 && slash) ≡ true).
     let p = and_parts (eqb c 46) slash e in
-    or_right _ _ (next c rest (each (eqb-true c 46 p.0) p.1)))
-    (λ (e : (eqb c 46 && slash) ≡ false). or_left _ _ (not_from_false _ e))
-    (cases_Bool (eqb c 46 && slash))
+    or_right _ _ (next c rest (each (eqb-true c 46 p.0) p.1))) (λ (e : (eqb c 46 && slash)
+    ≡ false). or_left _ _ (not_from_false _ e)) (cases_Bool (eqb c 46 && slash))
   where
     next : (c : ℕ) (rest : List ℕ) → (0 + 1 < length (c ∷ rest))
         × (is_one_of (codes "./%") (get_or (c ∷ rest) (0 + 1) 0) ≡ false) → goes_on rest ≡ true
@@ -70,8 +61,7 @@ dots-go-on-by-index : (slash : Bool) (text : List ℕ)
 unfolding dots_go_on
 dots-go-on-by-index slash [] each = refl
 dots-go-on-by-index slash (c ∷ rest) each = and_from _ _
-    (first-dot-goes-on slash c rest (each 0 (omega arith)))
-    (dots-go-on-by-index (eqb c 47) rest
+    (first-dot-goes-on slash c rest (each 0 (omega arith))) (dots-go-on-by-index (eqb c 47) rest
     (λ k h. later-dot-goes-on slash c rest k (each (suc k) (omega (arith, h)))))
 
 -- unchanged dots: the octet of a dot is not unchanged
@@ -80,23 +70,18 @@ octet-of-dot-is-not-unchanged alone e =
     false≢true (and_parts (alone || true) false (and_parts true _ e).1).1
 
 -- unchanged dots: the digits of an unchanged octet do not encode a dot
-digits-of-dot-are-not-unchanged : (alone : Bool) (high low : ℕ)
-    → is_unchanged_octet alone high low ≡ true
-    → (eqb high 50 && (eqb low 69 || eqb low 101)) ≡ false
+digits-of-dot-are-not-unchanged : (alone : Bool) (high low : ℕ) → is_unchanged_octet alone high low
+    ≡ true → (eqb high 50 && (eqb low 69 || eqb low 101)) ≡ false
 digits-of-dot-are-not-unchanged alone high low same = ⊎_elim
     (λ (e : (eqb high 50 && (eqb low 69 || eqb low 101)) ≡ true).
     let p = and_parts (eqb high 50) (eqb low 69 || eqb low 101) e in
     let two : is_unchanged_octet alone 50 low ≡ true =
     ap (λ n. is_unchanged_octet alone n low) (sym (eqb-true high 50 p.0)) ∙ same in
-    absurd (⊎_elim
-    (λ (l : eqb low 69 ≡ true). octet-of-dot-is-not-unchanged alone
+    absurd (⊎_elim (λ (l : eqb low 69 ≡ true). octet-of-dot-is-not-unchanged alone
     (ap (is_unchanged_octet alone 50) (sym (eqb-true low 69 l)) ∙ two))
-    (λ (l : eqb low 69 ≡ false). false≢true
-    (ap (is_unchanged_octet alone 50)
+    (λ (l : eqb low 69 ≡ false). false≢true (ap (is_unchanged_octet alone 50)
     (sym (eqb-true low 101 (sym (ap (λ b. b || eqb low 101) l) ∙ p.1))) ∙ two))
-    (cases_Bool (eqb low 69))))
-    (λ e. e)
-    (cases_Bool (eqb high 50 && (eqb low 69 || eqb low 101)))
+    (cases_Bool (eqb low 69)))) (λ e. e) (cases_Bool (eqb high 50 && (eqb low 69 || eqb low 101)))
 
 -- unchanged dots: a segment that begins with another octet than that of a dot is no dot segment
 segment-with-unchanged-octet-is-none : (alone : Bool) (s : List ℕ) → keeps_digits alone s ≡ true
@@ -118,21 +103,17 @@ first-unchanged-segment-is-none : (alone : Bool) (s : List ℕ) (segs : List (Li
     → dots_go_on true (s ++ slashed segs) ≡ true → is_dot_segment s ≡ false
 unfolding dots_go_on slashed
 first-unchanged-segment-is-none alone [] segs same dots = refl
-first-unchanged-segment-is-none alone (c ∷ s) segs same dots = ⊎_elim
-    (λ (dot : eqb c 46 ≡ true).
+first-unchanged-segment-is-none alone (c ∷ s) segs same dots = ⊎_elim (λ (dot : eqb c 46 ≡ true).
     let first = (and_parts (not (eqb c 46 && true) || goes_on (s ++ slashed segs)) _ dots).0 in
     ap (λ b. is_dot_segment (b ∷ s)) (eqb-true c 46 dot)
-    ∙ after-dot s segs (sym (ap (λ b. not (b && true) || goes_on (s ++ slashed segs)) dot) ∙ first))
-    (λ (other : eqb c 46 ≡ false). ⊎_elim
-    (λ (percent : eqb c 37 ≡ true).
+    ∙ after-dot s segs (sym (ap (λ b. not (b && true) || goes_on (s ++ slashed segs)) dot)
+    ∙ first)) (λ (other : eqb c 46 ≡ false). ⊎_elim (λ (percent : eqb c 37 ≡ true).
     let p = and_parts _ (has_unchanged_octets alone s) same in
     let digits = (and_parts (not (eqb c 0xE2)) _ p.0).1 in
-    ap (λ b. is_dot_segment (b ∷ s)) (eqb-true c 37 percent)
-    ∙ segment-with-unchanged-octet-is-none alone s
-    (sym (ap (λ b. not b || keeps_digits alone s) percent) ∙ digits))
+    ap (λ b. is_dot_segment (b ∷ s)) (eqb-true c 37 percent) ∙ segment-with-unchanged-octet-is-none
+    alone s (sym (ap (λ b. not b || keeps_digits alone s) percent) ∙ digits))
     (λ e. segment-without-dot-start-is-dotless c s (or_from (eqb c 46) (eqb c 37) other e))
-    (cases_Bool (eqb c 37)))
-    (cases_Bool (eqb c 46))
+    (cases_Bool (eqb c 37))) (cases_Bool (eqb c 46))
   where
     after-dot : (s : List ℕ) (segs : List (List ℕ)) → goes_on (s ++ slashed segs) ≡ true
         → is_dot_segment (46 ∷ s) ≡ false
@@ -196,27 +177,22 @@ module _ (before path tail : List ℕ) (start : ℕ) (later : 0 < start)
       let next : k + 1 ≡ n + (suc i + 1) = omega arith in
       let slash : get_or text (k - 1) 0 ≡ get_or path i 0 = ap (λ m. get_or text m 0) place
       ∙ byte-of-path i (omega (arith, h)) in
-      let found : (eqb (get_or text k 0) 46 && eqb (get_or text (k - 1) 0) 47) ≡ true =
-      and_from _ _ (ap (λ b. eqb b 46) (byte-of-path (suc i) h ∙ dot))
-      (ap (λ b. eqb b 47) slash ∙ after) in
+      let found : (eqb (get_or text k 0) 46 && eqb (get_or text (k - 1) 0) 47) ≡ true = and_from _ _
+      (ap (λ b. eqb b 46) (byte-of-path (suc i) h ∙ dot)) (ap (λ b. eqb b 47) slash ∙ after) in
       let other = not (is_one_of (codes "./%") (get_or text (k + 1) 0)) in
       let rest : (leb limit k || (ltb (k + 1) limit && other)) ≡ true =
       sym (ap (λ b. not b || (leb limit k || (ltb (k + 1) limit && other))) found)
       ∙ each k (omega (arith, early)) (omega (arith, h)) in
-      ⊎_elim
-      (λ (past : leb limit k ≡ true).
+      ⊎_elim (λ (past : leb limit k ≡ true).
       let over = leb-true limit k past in
-      absurd (omega (arith, over, h)))
-      (λ (within : (ltb (k + 1) limit && other) ≡ true).
+      absurd (omega (arith, over, h))) (λ (within : (ltb (k + 1) limit && other) ≡ true).
       let p = and_parts (ltb (k + 1) limit) other within in
       let more : k + 1 < limit = ltb-true (k + 1) limit p.0 in
       let long : suc i + 1 < length path = omega (arith, more) in (
         long,
         ap (is_one_of (codes "./%"))
-            (sym (ap (λ m. get_or text m 0) next ∙ byte-of-path (suc i + 1) long))
-            ∙ not-true _ p.1,
-      ))
-      (or_cases (leb limit k) (ltb (k + 1) limit && other) rest)
+            (sym (ap (λ m. get_or text m 0) next ∙ byte-of-path (suc i + 1) long)) ∙ not-true _ p.1,
+      )) (or_cases (leb limit k) (ltb (k + 1) limit && other) rest)
 
   -- paths: one in a text, which begins with `/` and whose octets are unchanged, has no dot segment
   -- if no dot segment begins with a dot after a `/` of the text from an index on

@@ -1,8 +1,5 @@
 -- Which segments go above the root: a double dot where no segment is left.
-use Rattle.std.proofs.Common.{◌≡◌, ℕ, Bool, true, false, cond, List, [], ◌∷◌, ◌++◌, refl, sym, ap, ◌∙◌, ◌||◌}
-use Rattle.std.specs.List.{list_all}
-use Rattle.std.proofs.lemmas.Bool.{and_parts, or_parts, not-true}
-use Rattle.uri_ops.specs.Dots.{is_single_dot, is_double_dot}
+use Rattle.uri_ops.proofs.Common.{◌≡◌, ℕ, Bool, true, false, cond, List, [], ◌∷◌, ◌++◌, refl, sym, ap, ◌∙◌, ◌||◌, list_all, and_parts, or_parts, not-true, is_single_dot, is_double_dot}
 use Rattle.uri_ops.proofs.Paths.Segments.{is_none, step_of, steps, parent, AllPass, is_dotless, steps-of-dotless-append-all, steps_are_dotless}
 
 -- a double dot meets an empty output, at this segment or before it
@@ -13,9 +10,8 @@ underflows_at false false before output = before
 
 unfoldable pub underflows_over : Bool → List (List ℕ) → List (List ℕ) → Bool
 underflows_over before output [] = before
-underflows_over before output (s ∷ rest) =
-    underflows_over (underflows_at (is_single_dot s) (is_double_dot s) before output)
-    (step_of output s) rest
+underflows_over before output (s ∷ rest) = underflows_over
+    (underflows_at (is_single_dot s) (is_double_dot s) before output) (step_of output s) rest
 
 -- dot segments: two lists of segments underflow if the first does, or the second after what the
 -- first leaves; before: an underflow before
@@ -24,14 +20,12 @@ pub underflows_over-of-append : (before : Bool) (output xs ys : List (List ℕ))
     (steps output xs) ys
 unfolding underflows_over steps
 underflows_over-of-append before output [] ys = refl
-underflows_over-of-append before output (x ∷ xs) ys =
-    underflows_over-of-append (underflows_at (is_single_dot x) (is_double_dot x) before output)
-    (step_of output x) xs ys
+underflows_over-of-append before output (x ∷ xs) ys = underflows_over-of-append
+    (underflows_at (is_single_dot x) (is_double_dot x) before output) (step_of output x) xs ys
 
 -- dot segments: an empty segment makes no underflow; before: whether there was one before
 empty-segment-does-not-underflow : (before : Bool) (output : List (List ℕ))
-    → underflows_over before output ([] ∷ [])
-    ≡ before
+    → underflows_over before output ([] ∷ []) ≡ before
 unfolding underflows_over underflows_at
 empty-segment-does-not-underflow before output = refl
 
@@ -62,8 +56,7 @@ underflows_over_is_or false output segs = refl
 
 -- dot segments: a segment that is none makes no underflow; before: whether there was one before
 dotless-segment-does-not-underflow : (before : Bool) (output : List (List ℕ)) (s : List ℕ)
-    → is_dotless s ≡ true
-    → underflows_at (is_single_dot s) (is_double_dot s) before output ≡ before
+    → is_dotless s ≡ true → underflows_at (is_single_dot s) (is_double_dot s) before output ≡ before
 unfolding underflows_at
 dotless-segment-does-not-underflow before output s e =
     let f = or_parts (is_single_dot s) (is_double_dot s) (not-true _ e) in
@@ -73,24 +66,20 @@ dotless-segment-does-not-underflow before output s e =
 -- dot segments: segments of which none is one make no underflow;
 -- before: whether there was one before
 pub dotless-segments-do-not-underflow : (before : Bool) (output xs : List (List ℕ))
-    → AllPass is_dotless xs
-    → underflows_over before output xs ≡ before
+    → AllPass is_dotless xs → underflows_over before output xs ≡ before
 unfolding underflows_over
 dotless-segments-do-not-underflow before output [] e = refl
 dotless-segments-do-not-underflow before output (s ∷ rest) e =
     let f = and_parts (is_dotless s) (list_all is_dotless rest) e in
-    ap (λ b. underflows_over b (step_of output s) rest)
-    (dotless-segment-does-not-underflow before output s f.0)
-    ∙ dotless-segments-do-not-underflow before (step_of output s) rest f.1
+    ap (λ b. underflows_over b (step_of output s) rest) (dotless-segment-does-not-underflow before
+    output s f.0) ∙ dotless-segments-do-not-underflow before (step_of output s) rest f.1
 
 -- removing dot segments: some underflow if a prefix does,
 -- or what is left of the prefix does with the rest after it
-pub segments-underflow-as-prefix-or-remainder : (xs ys : List (List ℕ))
-    → underflows_over false [] (xs ++ ys)
-    ≡ (underflows_over false [] xs || underflows_over false [] (steps [] xs ++ ys))
-segments-underflow-as-prefix-or-remainder xs ys =
-    underflows_over-of-append false [] xs ys ∙ underflows_over_is_or (underflows_over false [] xs)
-    (steps [] xs) ys
+pub segments-underflow-as-prefix-or-remainder : (xs ys : List (List ℕ)) → underflows_over false []
+    (xs ++ ys) ≡ (underflows_over false [] xs || underflows_over false [] (steps [] xs ++ ys))
+segments-underflow-as-prefix-or-remainder xs ys = underflows_over-of-append false [] xs ys
+    ∙ underflows_over_is_or (underflows_over false [] xs) (steps [] xs) ys
     ∙ ap (λ b. underflows_over false [] xs || b) (sym (
     underflows_over-of-append false [] (steps [] xs) ys
     ∙ ap (λ b. underflows_over b (steps [] (steps [] xs)) ys)
@@ -107,9 +96,8 @@ trailing-slash-changes-no-underflow before output xs = underflows_over-of-append
     ∙ empty-segment-does-not-underflow (underflows_over before output xs) (steps output xs)
 
 -- removing dot segments: only `..` underflows; single, double: whether a segment is `.`, or `..`
-only-double-dot-underflows : (single double before : Bool) (output : List (List ℕ))
-    → cond double (underflows_at single double before output) before
-    ≡ underflows_at single double before output
+only-double-dot-underflows : (single double before : Bool) (output : List (List ℕ)) → cond double
+    (underflows_at single double before output) before ≡ underflows_at single double before output
 unfolding underflows_at
 only-double-dot-underflows true true before output = refl
 only-double-dot-underflows true false before output = refl
@@ -133,7 +121,5 @@ parent-underflows-as-segments before output [] = refl
 parent-underflows-as-segments before output (s ∷ []) = underflows_over-segment-if-double-dot
     (is_double_dot s) before output s
     ∙ only-double-dot-underflows (is_single_dot s) (is_double_dot s) before output
-parent-underflows-as-segments before output (s ∷ t ∷ rest) =
-    parent-underflows-as-segments (underflows_at (is_single_dot s) (is_double_dot s) before output)
-    (step_of output s)
-    (t ∷ rest)
+parent-underflows-as-segments before output (s ∷ t ∷ rest) = parent-underflows-as-segments
+    (underflows_at (is_single_dot s) (is_double_dot s) before output) (step_of output s) (t ∷ rest)

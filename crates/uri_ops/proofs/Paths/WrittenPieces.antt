@@ -1,14 +1,5 @@
 -- The segments of a path as they are appended, decoded.
-use Rattle.std.proofs.Common.{◌≡◌, ℕ, true, List, [], ◌∷◌, ◌++◌, length, drop, refl, sym, ap, ◌∙◌, ◌&&◌, arith}
-use Rattle.std.specs.Prelude.{codes, slice_index, ◌==◌}
-use Rattle.std.proofs.lemmas.Bool.{and_parts, eqb-true, false≢true, ne_eqb}
-use Rattle.uri_pct.specs.DecodeUnreserved.{decode_unreserved}
-use Rattle.uri_pct.specs.Sets.{TableSet}
-use Rattle.uri_pct.specs.Tokens.{print}
-use Rattle.uri_ops.specs.ComponentSets.{IsComponentSet}
-use Rattle.uri_ops.specs.Dots.{IsAbsolute, remove_dot_segments, underflows}
-use Rattle.uri_ops.specs.Models.Directories.{IsDotlessDirectory}
-use Rattle.uri_pct.proofs.UnreservedDecoding.Printing.{print_decoded}
+use Rattle.uri_ops.proofs.Common.{◌≡◌, ℕ, true, List, [], ◌∷◌, ◌++◌, length, drop, refl, sym, ap, ◌∙◌, ◌&&◌, arith, codes, slice_index, ◌==◌, and_parts, eqb-true, false≢true, ne_eqb, decode_unreserved, TableSet, print, IsComponentSet, IsAbsolute, remove_dot_segments, underflows, IsDotlessDirectory, print_decoded}
 use Rattle.uri_ops.proofs.Meanings.AllowedParts.{is_set_text, print_decoded-of-nil-is-nil}
 use Rattle.uri_ops.proofs.Paths.LeftPaths.{slashed-dotless-segments-are-directory}
 use Rattle.uri_ops.proofs.Paths.DecodedPaths.{set-text-splits, removing-dots-and-decoding-swap, decoding-keeps-first-slash, decoding-keeps-underflow}
@@ -17,13 +8,11 @@ use Rattle.uri_ops.proofs.Paths.TakenSegments.{absolute-path-is-slash-and-rest}
 
 -- paths: a text of one byte that is 47 is `/`
 pub text-of-one-byte-slash-is-slash : (text : List ℕ)
-    → (length text == 1 && slice_index text 0 == 47) ≡ true
-    → text ≡ codes "/"
+    → (length text == 1 && slice_index text 0 == 47) ≡ true → text ≡ codes "/"
 text-of-one-byte-slash-is-slash [] e = absurd (false≢true e)
 text-of-one-byte-slash-is-slash (c ∷ []) e = ap (λ d. d ∷ []) (eqb-true c 47 e)
-text-of-one-byte-slash-is-slash (c ∷ d ∷ text) e = absurd
-    (false≢true (sym (ne_eqb (length (c ∷ d ∷ text)) 1 (λ h. omega (arith, h)))
-    ∙ (and_parts _ _ e).0))
+text-of-one-byte-slash-is-slash (c ∷ d ∷ text) e = absurd (false≢true
+    (sym (ne_eqb (length (c ∷ d ∷ text)) 1 (λ h. omega (arith, h))) ∙ (and_parts _ _ e).0))
 
 -- decoded paths: `/` is its own decoded form
 pub slash-decodes-to-slash : (set : TableSet) → print (decode_unreserved set (codes "/"))
@@ -56,16 +45,14 @@ module _ (set : TableSet) (w : IsComponentSet (codes "?#[]") set) (slash : set.a
   root-and-decoded-rest-are-decoded-path = sym
       (ap (print_decoded set) absolute-path-is-root-and-rest ∙ decoding-keeps-first-slash set rest)
 
-  pub root-and-decoded-rest-lose-dots-as-path : remove_dot_segments
-      (codes "/" ++ print (decode_unreserved set rest))
-      ≡ print (decode_unreserved set (remove_dot_segments path))
+  pub root-and-decoded-rest-lose-dots-as-path : remove_dot_segments (codes "/" ++ print
+      (decode_unreserved set rest)) ≡ print (decode_unreserved set (remove_dot_segments path))
   unfolding print_decoded
   root-and-decoded-rest-lose-dots-as-path = ap remove_dot_segments
       root-and-decoded-rest-are-decoded-path
       ∙ removing-dots-and-decoding-swap set w.percent w.unreserved path absolute e
 
-  pub root-and-decoded-rest-underflow-as-path : underflows
-      (codes "/" ++ print (decode_unreserved set rest))
-      ≡ underflows path
+  pub root-and-decoded-rest-underflow-as-path : underflows (codes "/"
+      ++ print (decode_unreserved set rest)) ≡ underflows path
   root-and-decoded-rest-underflow-as-path = ap underflows root-and-decoded-rest-are-decoded-path
       ∙ decoding-keeps-underflow set w.percent w.unreserved path absolute e

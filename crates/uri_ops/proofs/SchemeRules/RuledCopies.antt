@@ -1,27 +1,7 @@
 -- A text that is normal but for what the rules of its scheme change, copied with that changed.
-use Rattle.std.proofs.Common.{◌≡◌, ℕ, ◌+◌, ◌-◌, Bool, true, false, cond, List, [], ◌∷◌, ◌++◌, length, take, refl, sym, ap, subst, ◌∙◌, ◌&&◌, arith, append_assoc, length-append, Option, Some, None, option_map}
-use Rattle.std.specs.Prelude.{codes, is_some, unwrap_or}
-use Rattle.std.specs.Str.{IsCharBoundary, IsUtf8}
-use Rattle.std.proofs.Math.Seq.{take-append_seam}
-use Rattle.uri_pct.specs.Tokens.{Token, print}
-use Rattle.uri_parts.specs.Components.{Components, components, marked, recompose}
-use Rattle.uri_parts.specs.Grammar.{Kind, IsTextOf}
-use Rattle.uri_parts.specs.PackedPositions.{packed}
-use Rattle.uri_parts.specs.Positions.{authority_at, before_fragment, delimited_length, positions_of}
-use Rattle.uri_parts.proofs.Splitting.Places.{boundary_after_mark, length-before_hash}
-use Rattle.uri_ops.specs.ComponentSets.{HasComponentSets}
-use Rattle.uri_ops.specs.Dots.{is_empty}
-use Rattle.uri_ops.specs.Meaning.{AuthorityMeaning, Meaning, meaning_of}
-use Rattle.uri_ops.specs.Models.Places.{before_path}
-use Rattle.uri_ops.specs.Models.RuledComponents.{changed_components, has_default_host, has_root_path, is_text, ruled_text}
-use Rattle.uri_ops.specs.Normal.{normal_authority, normal_components, normal_scheme, normal_text}
-use Rattle.uri_ops.specs.SchemeRules.{Rules, authority_under, empty_authority, has_no_token, is_localhost, is_scheme_of, meaning_under, path_under, root, under_rules}
-use Rattle.uri_ops.specs.Target.{guarded}
+use Rattle.uri_ops.proofs.Common.{◌≡◌, ℕ, ◌+◌, ◌-◌, Bool, true, false, cond, List, [], ◌∷◌, ◌++◌, length, take, refl, sym, ap, subst, ◌∙◌, ◌&&◌, arith, append_assoc, length-append, Option, Some, None, option_map, codes, is_some, unwrap_or, IsCharBoundary, IsUtf8, take-append_seam, Token, print, Components, components, marked, recompose, Kind, IsTextOf, packed, authority_at, before_fragment, delimited_length, positions_of, boundary_after_mark, length-before_hash, HasComponentSets, is_empty, AuthorityMeaning, Meaning, meaning_of, before_path, changed_components, has_default_host, has_root_path, is_text, ruled_text, normal_authority, normal_components, normal_scheme, normal_text, Rules, authority_under, empty_authority, has_no_token, is_localhost, is_scheme_of, meaning_under, path_under, root, under_rules, guarded, and_parts, false≢true, bytes_eq-Decides, recompose-components}
 use Rattle.uri_ops.proofs.Normal.NormalTexts.{components-of-normal_text}
 use Rattle.uri_ops.proofs.Normal.WrittenPlaces.{length-before_path-is-path_start}
-use Rattle.std.proofs.lemmas.Bool.{and_parts, false≢true}
-use Rattle.std.proofs.lemmas.Slice.Eq.{bytes_eq-Decides}
-use Rattle.uri_parts.proofs.Splitting.Recompose.{recompose-components}
 use Rattle.uri_ops.proofs.Paths.DotRuns.{empty-text-is-nil}
 use Rattle.uri_ops.proofs.SchemeRules.RuledMeanings.{map-cond, print-is-empty-without-tokens}
 use Rattle.uri_ops.proofs.SchemeRules.RuledTexts.{ruled-text-has-meaning-under, ruled-text-is-text-of-kind}
@@ -45,18 +25,16 @@ text-before-localhost scheme text utf8 e =
     let n : length text - 9 ≡ length (s ++ codes "/") + 1 = omega
     (arith, m, length-append s (codes "//"), length-append s (codes "/")) in
     record {
-      cut = subst (IsCharBoundary text) (sym n)
-          (subst (λ t. IsCharBoundary t (length (s ++ codes "/") + 1)) (sym cut)
-          (boundary_after_mark (s ++ codes "/") (codes "localhost") 47 (omega arith)
-          (subst IsUtf8 cut utf8)));
+      cut = subst (IsCharBoundary text) (sym n) (subst (λ t. IsCharBoundary t
+          (length (s ++ codes "/") + 1)) (sym cut) (boundary_after_mark (s ++ codes "/")
+          (codes "localhost") 47 (omega arith) (subst IsUtf8 cut utf8)));
       holds = ap (λ k. take k text) m ∙ ap (take (length (s ++ codes "//"))) whole
           ∙ take-append_seam (s ++ codes "//") (codes "localhost");
     }
 
 -- copies: the `/` that is put in, and the path of the text, are the path of the copy
-changed-path-is-root-and-path : (adds_root : Bool) (path added : List ℕ)
-    → (adds_root ≡ true → path ≡ []) → added ≡ cond adds_root (codes "/") []
-    → added ++ path ≡ cond adds_root (codes "/") path
+changed-path-is-root-and-path : (adds_root : Bool) (path added : List ℕ) → (adds_root ≡ true → path
+    ≡ []) → added ≡ cond adds_root (codes "/") [] → added ++ path ≡ cond adds_root (codes "/") path
 changed-path-is-root-and-path false path added empty e = ap (λ t. t ++ path) e
 changed-path-is-root-and-path true path added empty e =
     ap (λ t. t ++ path) e ∙ ap (λ t. codes "/" ++ t) (empty refl)
@@ -89,25 +67,21 @@ module _ (drops_host adds_root : Bool) (p : Components)
   changed = changed_components drops_host adds_root p
 
   pub changed-copy-has-positions : (path_end query_end : ℕ)
-      → (drops_host ≡ true → p.authority ≡ Some (codes "localhost"))
-      → path_end ≡ length (prefix ++ added) + length p.path
-      → query_end ≡ length (prefix ++ added)
-      + (length p.path + length (marked (codes "?") p.query []))
-      → record (packed (positions_of p)) {
+      → (drops_host ≡ true → p.authority ≡ Some (codes "localhost")) → path_end ≡ length (prefix
+      ++ added) + length p.path → query_end ≡ length (prefix ++ added) + (length p.path
+      + length (marked (codes "?") p.query [])) → record (packed (positions_of p)) {
         host_end = cond drops_host (packed (positions_of p)).host_start
             (packed (positions_of p)).host_end;
         path_start = length prefix;
         path_end = path_end;
         query_end = query_end;
-      }
-      ≡ packed (positions_of changed)
+      } ≡ packed (positions_of changed)
   changed-copy-has-positions path_end query_end host g h =
       let place = delimited_length 1 p.scheme + 2 in
       let hosts = changed-host-positions drops_host place p.authority host in
       let n : length prefix ≡ (positions_of changed).path_start =
       ap length e ∙ length-before_path-is-path_start changed in
-      let k : length added + length p.path ≡ length changed.path =
-      sym (length-append added p.path)
+      let k : length added + length p.path ≡ length changed.path = sym (length-append added p.path)
       ∙ ap length (changed-path-is-root-and-path adds_root p.path added empty f) in
       let path : path_end ≡ (positions_of changed).path_end = omega
       (arith, g, n, k, length-append prefix added) in
@@ -132,9 +106,8 @@ module _ (drops_host adds_root : Bool) (p : Components)
 
 -- rules: the authority of what a text means under them, as text
 authority-under-rules : (local : Bool) (o : Option AuthorityMeaning)
-    → option_map normal_authority (option_map (authority_under local) o)
-    ≡ cond (local && is_text (codes "localhost") (option_map normal_authority o)) (Some [])
-    (option_map normal_authority o)
+    → option_map normal_authority (option_map (authority_under local) o) ≡ cond (local && is_text
+    (codes "localhost") (option_map normal_authority o)) (Some []) (option_map normal_authority o)
 authority-under-rules true None = refl
 authority-under-rules false None = refl
 authority-under-rules local (Some a) =
@@ -152,13 +125,11 @@ unfolding lib.Utf8.encode
 path-under-rules false local None ts = refl
 path-under-rules true local None ts = refl
 path-under-rules false local (Some a) ts = refl
-path-under-rules true local (Some a) ts =
-    map-cond print (has_no_token ts) root ts
+path-under-rules true local (Some a) ts = map-cond print (has_no_token ts) root ts
     ∙ ap (λ t. cond t (codes "/") (print ts)) (sym (print-is-empty-without-tokens ts))
 
 path-under-rules-of-scheme : (roots : List ℕ → Bool) (local : Bool) (scheme : Option (List ℕ))
-    (o : Option AuthorityMeaning) (ts : List Token)
-    → (let rooted = is_scheme_of roots scheme in
+    (o : Option AuthorityMeaning) (ts : List Token) → (let rooted = is_scheme_of roots scheme in
     let under = print (path_under rooted (is_some o) ts) in
     let path = cond (is_some scheme) (guarded (option_map normal_authority o) (print ts))
     (print ts) in
@@ -201,25 +172,21 @@ module _ (kind : Kind) (rules : Rules) (sets : HasComponentSets kind) (text : Li
       (ap (λ q. normal_scheme q.scheme) (sym split)))
 
   -- with what the rules change it is the normal text under them,
-  pub changed-text-is-normal-text : (made : List ℕ)
-      → (let p = components text in made ≡ recompose
+  pub changed-text-is-normal-text : (made : List ℕ) → (let p = components text in made ≡ recompose
       (changed_components (has_default_host rules.locals p) (has_root_path rules.roots p) p))
       → made ≡ normal_text (meaning_under kind rules text)
   changed-text-is-normal-text made e =
       e ∙ ap recompose (sym changed-components-are-those-under-rules)
 
   -- and has these components
-  pub components-of-changed-text : (made : List ℕ)
-      → (let p = components text in made ≡ recompose
+  pub components-of-changed-text : (made : List ℕ) → (let p = components text in made ≡ recompose
       (changed_components (has_default_host rules.locals p) (has_root_path rules.roots p) p))
       → (let p = components text in components made
       ≡ changed_components (has_default_host rules.locals p) (has_root_path rules.roots p) p)
-  components-of-changed-text made e =
-      ap components (changed-text-is-normal-text made e)
-      ∙ subst (λ m. components (normal_text m) ≡ normal_components m)
-      (ruled-text-has-meaning-under kind rules sets text w)
-      (components-of-normal_text kind rules.ports sets (ruled_text kind rules text)
-      (ruled-text-is-text-of-kind kind rules sets text w))
+  components-of-changed-text made e = ap components (changed-text-is-normal-text made e)
+      ∙ subst (λ m. components (normal_text m) ≡ normal_components m) (ruled-text-has-meaning-under
+      kind rules sets text w) (components-of-normal_text kind rules.ports sets
+      (ruled_text kind rules text) (ruled-text-is-text-of-kind kind rules sets text w))
       ∙ changed-components-are-those-under-rules
 
   -- where they change nothing, it is that itself

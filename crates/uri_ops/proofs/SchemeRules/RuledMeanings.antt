@@ -1,20 +1,8 @@
 -- What the rules of schemes make of a meaning.
-use Rattle.std.proofs.Common.{◌≡◌, ℕ, ◌<◌, Bool, true, false, cond, List, [], ◌∷◌, ◌++◌, length, refl, ap, ◌∙◌, ◌&&◌, arith, Option, Some, None, option_map, rules}
-use Rattle.std.specs.Prelude.{is_some}
-use Rattle.std.specs.Char.{encode_utf8}
-use Rattle.std.proofs.lemmas.Bool.{cond-false}
-use Rattle.std.proofs.lemmas.Str.{length-encode, len_utf8_bounds}
-use Rattle.uri_pct.specs.Tokens.{Token, Char, Octet, print}
-use Rattle.uri_pct.proofs.General.{is_some-option_map}
-use Rattle.uri_parts.specs.Grammar.{Kind}
-use Rattle.uri_parts.specs.Ports.{PortFunction}
-use Rattle.uri_ops.specs.Dots.{is_empty}
-use Rattle.uri_ops.specs.Meaning.{AuthorityMeaning, Meaning, meaning_of}
-use Rattle.uri_ops.specs.SchemeRules.{Rules, authority_under, empty_authority, has_no_token, is_localhost, is_scheme_of, meaning_under, only_ports, path_under, root, under_rules}
+use Rattle.uri_ops.proofs.Common.{◌≡◌, ℕ, ◌<◌, Bool, true, false, cond, List, [], ◌∷◌, ◌++◌, length, refl, ap, ◌∙◌, ◌&&◌, arith, Option, Some, None, option_map, rules, is_some, encode_utf8, cond-false, length-encode, len_utf8_bounds, Token, Char, Octet, print, is_some-option_map, Kind, PortFunction, is_empty, AuthorityMeaning, Meaning, meaning_of, Rules, authority_under, empty_authority, has_no_token, is_localhost, is_scheme_of, meaning_under, only_ports, path_under, root, under_rules}
 
 -- general fact on booleans, for rules: a function of what a test chooses
-pub map-cond : {A B : Type 0} (f : A → B) (b : Bool) (x y : A)
-    → f (cond b x y) ≡ cond b (f x) (f y)
+pub map-cond : {A B : Type 0} (f : A → B) (b : Bool) (x y : A) → f (cond b x y) ≡ cond b (f x) (f y)
 map-cond f true x y = refl
 map-cond f false x y = refl
 
@@ -32,17 +20,14 @@ longer-text-is-not-empty (c ∷ before) rest h = refl
 -- rules: nothing is printed of no token alone
 pub print-is-empty-without-tokens : (ts : List Token) → is_empty (print ts) ≡ has_no_token ts
 print-is-empty-without-tokens [] = refl
-print-is-empty-without-tokens (Char c ∷ ts) =
-    longer-text-is-not-empty (encode_utf8 c) (print ts)
-    (omega (arith, length-encode c, (len_utf8_bounds c).0))
+print-is-empty-without-tokens (Char c ∷ ts) = longer-text-is-not-empty
+    (encode_utf8 c) (print ts) (omega (arith, length-encode c, (len_utf8_bounds c).0))
 print-is-empty-without-tokens (Octet value ∷ ts) = refl
 
 -- rules: they are applied once
-path_under-is-idempotent : (rooted after : Bool) (path : List Token) (t : Bool)
-    → ((rooted && after) && has_no_token path) ≡ t
-    → path_under rooted after (cond t root path) ≡ cond t root path
-path_under-is-idempotent rooted after path true e =
-    choice-of-same ((rooted && after) && false) root
+path_under-is-idempotent : (rooted after : Bool) (path : List Token) (t : Bool) → ((rooted && after)
+    && has_no_token path) ≡ t → path_under rooted after (cond t root path) ≡ cond t root path
+path_under-is-idempotent rooted after path true e = choice-of-same ((rooted && after) && false) root
 path_under-is-idempotent rooted after path false e = cond-false _ _ _ e
 
 authority_under-is-idempotent : (local : Bool) (a : AuthorityMeaning) (t : Bool)
@@ -66,9 +51,8 @@ under_rules-is-idempotent rules m =
     let local = is_scheme_of rules.locals m.scheme in
     let authority = authority_under-if-some-is-idempotent local m.authority in
     let path = ap (λ t. path_under rooted t (path_under rooted (is_some m.authority) m.path))
-    (is_some-option_map (authority_under local) m.authority)
-    ∙ path_under-is-idempotent rooted (is_some m.authority) m.path
-    ((rooted && is_some m.authority) && has_no_token m.path) refl in
+    (is_some-option_map (authority_under local) m.authority) ∙ path_under-is-idempotent rooted
+    (is_some m.authority) m.path ((rooted && is_some m.authority) && has_no_token m.path) refl in
     λ i. record m { authority = authority i; path = path i }
 
 -- rules: those of ports alone leave a meaning as it is

@@ -1,24 +1,12 @@
 -- The authority and the path that the rules of schemes leave of a text.
-use Rattle.std.proofs.Common.{◌≡◌, ℕ, Bool, true, false, List, [], ◌∷◌, refl, ap, Option, Some, None, option_map}
-use Rattle.std.specs.Prelude.{is_some}
-use Rattle.std.specs.Str.{str_to_ascii_lowercase}
-use Rattle.uri_parts.specs.Components.{Components, components}
-use Rattle.uri_parts.specs.Grammar.{Kind, IsTextOf}
-use Rattle.uri_ops.specs.ComponentSets.{HasComponentSets}
-use Rattle.uri_ops.specs.Dots.{run, underflows}
-use Rattle.uri_ops.specs.Meaning.{components_meaning}
-use Rattle.uri_ops.specs.Models.RuledComponents.{ruled_components, ruled_path}
-use Rattle.uri_ops.specs.Normal.{normal_text, path_underflows}
-use Rattle.uri_ops.specs.SchemeRules.{Rules, is_scheme_of, meaning_under}
+use Rattle.uri_ops.proofs.Common.{◌≡◌, ℕ, Bool, true, false, List, [], ◌∷◌, refl, ap, Option, Some, None, option_map, is_some, str_to_ascii_lowercase, Components, components, Kind, IsTextOf, HasComponentSets, run, underflows, components_meaning, ruled_components, ruled_path, normal_text, path_underflows, Rules, is_scheme_of, meaning_under}
 use Rattle.uri_ops.proofs.Normal.NormalTexts.{text-has-parts-of-kind}
 use Rattle.uri_ops.proofs.SchemeRules.RuledTexts.{ruled_components-have-meaning-under}
 
 -- rules: the normal text of the components as the rules have them is that under the rules
 pub ruled_components-have-normal-text : (kind : Kind) (rules : Rules) → HasComponentSets kind
-    → (text : List ℕ) → IsTextOf kind text
-    → normal_text (components_meaning kind rules.ports (ruled_components kind rules
-    (components text)))
-    ≡ normal_text (meaning_under kind rules text)
+    → (text : List ℕ) → IsTextOf kind text → normal_text (components_meaning kind rules.ports
+    (ruled_components kind rules (components text))) ≡ normal_text (meaning_under kind rules text)
 ruled_components-have-normal-text kind rules sets text w =
     ap normal_text (ruled_components-have-meaning-under kind rules sets (components text)
     (text-has-parts-of-kind kind text w).path)
@@ -38,7 +26,6 @@ ruled-path-underflows-alike (Some s) false after (c ∷ path) = refl
 pub ruled-components-underflow-alike : (kind : Kind) (rules : Rules) (p : Components)
     → path_underflows p.scheme (ruled_components kind rules p).path
     ≡ path_underflows p.scheme p.path
-ruled-components-underflow-alike kind rules p =
-    ruled-path-underflows-alike p.scheme
-    (is_scheme_of rules.roots (option_map str_to_ascii_lowercase p.scheme)) (is_some p.authority)
-    p.path
+ruled-components-underflow-alike kind rules p = ruled-path-underflows-alike p.scheme
+    (is_scheme_of rules.roots (option_map str_to_ascii_lowercase p.scheme))
+    (is_some p.authority) p.path

@@ -1,28 +1,11 @@
 -- Resolving respects equivalence under the rules of schemes, so resolving and normalising swap.
-use Rattle.std.proofs.Common.{◌≡◌, ℕ, Bool, true, false, not, cond, List, [], ◌∷◌, ◌++◌, refl, sym, ap, ◌∙◌, ◌&&◌, ◌||◌, Option, Some, None, option_map}
-use Rattle.std.specs.Prelude.{codes, is_some, is_none, Result, Ok, Err}
-use Rattle.std.specs.Option.{option_and_then}
-use Rattle.std.specs.Result.{result_map_both}
-use Rattle.std.specs.Str.{str_to_ascii_lowercase}
-use Rattle.std.proofs.Math.Bool.{and-false}
-use Rattle.uri_pct.proofs.General.{is_some-option_map}
-use Rattle.uri_parts.specs.Components.{Components, components, recompose, starts}
-use Rattle.uri_parts.specs.Grammar.{Kind, IsTextOf}
-use Rattle.uri_ops.specs.ComponentSets.{HasComponentSets}
-use Rattle.uri_ops.specs.Dots.{is_empty, directory}
-use Rattle.uri_ops.specs.Meaning.{Meaning, authority_meaning, components_meaning, meaning_of}
-use Rattle.uri_ops.specs.Normal.{normal_text}
-use Rattle.uri_ops.specs.NormalTargets.{reference_kind, resolved_meaning}
-use Rattle.uri_ops.specs.Target.{TargetError, is_opaque_rejection, is_fragment_only, dotted_target, target_of, query_or}
+use Rattle.uri_ops.proofs.Common.{◌≡◌, ℕ, Bool, true, false, not, cond, List, [], ◌∷◌, ◌++◌, refl, sym, ap, ◌∙◌, ◌&&◌, ◌||◌, Option, Some, None, option_map, codes, is_some, is_none, Result, Ok, Err, option_and_then, result_map_both, str_to_ascii_lowercase, and-false, is_some-option_map, Components, components, recompose, starts, Kind, IsTextOf, HasComponentSets, is_empty, directory, Meaning, authority_meaning, components_meaning, meaning_of, normal_text, reference_kind, resolved_meaning, TargetError, is_opaque_rejection, is_fragment_only, dotted_target, target_of, query_or, components_of_parts, Rules, authority_under, is_scheme_of, meaning_under, path_under, under_rules, ruled_authority, ruled_components, ruled_path, ruled_text}
 use Rattle.uri_ops.proofs.Meanings.AllowedParts.{is_set_text}
 use Rattle.uri_ops.proofs.Normal.NormalTexts.{text-has-parts-of-kind}
-use Rattle.uri_parts.proofs.Splitting.Recompose.{components_of_parts}
 use Rattle.uri_ops.proofs.Targeting.JoinedMeanings.{target-path-has-meaning-of-joined, reference-kind-has-component-sets}
 use Rattle.uri_ops.proofs.Targeting.RefusalOrder.{result_or_target_error, map-of-result_or_error}
 use Rattle.uri_ops.proofs.Targeting.Swaps.{resolving-respects-meaning_of, text-of-kind-has-needed-scheme, dotted_target-has-scheme-as-base}
 use Rattle.uri_ops.proofs.Targeting.Targets.{target-text-has-target-components}
-use Rattle.uri_ops.specs.SchemeRules.{Rules, authority_under, is_scheme_of, meaning_under, path_under, under_rules}
-use Rattle.uri_ops.specs.Models.RuledComponents.{ruled_authority, ruled_components, ruled_path, ruled_text}
 use Rattle.uri_ops.proofs.SchemeRules.RuledTexts.{components-without-scheme-are-ruled, ruled_components-have-meaning-under, normal-text-under-rules-is-text-of-kind, ruled_authority-has-meaning-under, components-of-ruled_text, path-without-authority-is-ruled, ruled-text-is-text-of-kind, ruled-text-has-meaning-under, meaning_under-normal_text}
 use Rattle.uri_ops.proofs.SchemeRules.RuledMeanings.{authority_under-if-some-is-idempotent, under_rules-is-idempotent}
 
@@ -43,11 +26,9 @@ ruled-path-has-same-directory rooted after (c ∷ path) =
     ap (λ t. directory (cond t (codes "/") (c ∷ path))) (and-false (rooted && after))
 
 -- resolving under rules: a ruled base is opaque if it was
-ruled-base-is-opaque-alike : (kind : Kind) (default : Option ℕ) (local rooted : Bool)
-    (o : Option (List ℕ)) (path : List ℕ)
-    → (is_none (option_map (ruled_authority kind default local) o)
-    && not (starts 47 (ruled_path rooted (is_some o) path)))
-    ≡ (is_none o && not (starts 47 path))
+ruled-base-is-opaque-alike : (kind : Kind) (default : Option ℕ) (local rooted : Bool) (o : Option
+    (List ℕ)) (path : List ℕ) → (is_none (option_map (ruled_authority kind default local) o)
+    && not (starts 47 (ruled_path rooted (is_some o) path))) ≡ (is_none o && not (starts 47 path))
 ruled-base-is-opaque-alike kind default local rooted None path =
     ap (λ t. not (starts 47 t)) (path-without-authority-is-ruled rooted path)
 ruled-base-is-opaque-alike kind default local rooted (Some a) path = refl
@@ -64,9 +45,8 @@ ruled-reference-passes-alike kind rules (Some s) authority path query fragment =
 
 -- general fact on results, for resolving under rules: a target is mapped twice
 map-of-map : {A B C : Type 0} (f : B → C) (g : A → B) (x : Result A TargetError)
-    → result_map_both (λ a. f (g a)) (λ (refusal : TargetError). refusal) x
-    ≡ result_map_both f (λ (refusal : TargetError). refusal)
-    (result_map_both g (λ (refusal : TargetError). refusal) x)
+    → result_map_both (λ a. f (g a)) (λ (refusal : TargetError). refusal) x ≡ result_map_both f
+    (λ (refusal : TargetError). refusal) (result_map_both g (λ (refusal : TargetError). refusal) x)
 map-of-map f g (Ok a) = refl
 map-of-map f g (Err e) = refl
 
@@ -85,9 +65,8 @@ module _ (kind : Kind) (rules : Rules) (sets : HasComponentSets kind) where
       ∙ under_rules-is-idempotent rules (meaning p)
 
   -- only their authority is ruled
-  ruled-authority-means-same-under : (base : Components) (path : List ℕ)
-      (query fragment : Option (List ℕ))
-      → under (record (ruled_components kind rules base)
+  ruled-authority-means-same-under : (base : Components) (path : List ℕ) (query fragment : Option
+      (List ℕ)) → under (record (ruled_components kind rules base)
       { path = path; query = query; fragment = fragment })
       ≡ under (record base { path = path; query = query; fragment = fragment })
   ruled-authority-means-same-under base path query fragment =
@@ -109,9 +88,8 @@ module _ (kind : Kind) (rules : Rules) (sets : HasComponentSets kind) where
 
   -- ruled components of a base and a reference have an equivalent target
   ruled-targets-mean-same : (base : Components) (scheme authority : Option (List ℕ))
-      (path : List ℕ) (query fragment : Option (List ℕ))
-      → is_set_text kind.path base.path ≡ true → is_set_text kind.path path ≡ true
-      → under (dotted_target (ruled_components kind rules base)
+      (path : List ℕ) (query fragment : Option (List ℕ)) → is_set_text kind.path base.path ≡ true
+      → is_set_text kind.path path ≡ true → under (dotted_target (ruled_components kind rules base)
       (ruled_components kind rules (components_of_parts scheme authority path query fragment)))
       ≡ under (dotted_target base (components_of_parts scheme authority path query fragment))
   ruled-targets-mean-same base (Some s) authority path query fragment valid h =
@@ -124,14 +102,12 @@ module _ (kind : Kind) (rules : Rules) (sets : HasComponentSets kind) where
       let scheme = option_map str_to_ascii_lowercase base.scheme in
       ap (λ r. under (dotted_target s r))
       (components-without-scheme-are-ruled kind rules None path query fragment)
-      ∙ choices-are-alike under (is_empty path) _ _ _ _
-      (ruled-components-mean-same-under
+      ∙ choices-are-alike under (is_empty path) _ _ _ _ (ruled-components-mean-same-under
       (record base { query = query_or base.query query; fragment = fragment }) valid)
       (choices-are-alike under (starts 47 path) _ _ _ _
-      (ruled-authority-means-same-under base path query fragment)
-      (ap (λ d. under (record s { path = d ++ path; query = query; fragment = fragment }))
-      (ruled-path-has-same-directory (is_scheme_of rules.roots scheme) (is_some base.authority)
-      base.path)
+      (ruled-authority-means-same-under base path query fragment) (ap (λ d. under (record s
+      { path = d ++ path; query = query; fragment = fragment })) (ruled-path-has-same-directory
+      (is_scheme_of rules.roots scheme) (is_some base.authority) base.path)
       ∙ ruled-authority-means-same-under base (directory base.path ++ path) query fragment))
 
   -- the outcome for a base and a reference, by their components
@@ -169,32 +145,27 @@ module _ (kind : Kind) (rules : Rules) (sets : HasComponentSets kind) where
       cc (ruled-targets-mean-same base r.scheme r.authority r.path r.query r.fragment valid h)
 
   -- so do the ruled texts
-  ruled-texts-resolve-to-same-meaning : (b t : List ℕ) → kind.needs_scheme ≡ true
-      → IsTextOf kind b → IsTextOf (reference_kind kind) t
-      → resolved_meaning kind rules (ruled_text kind rules b)
-      (ruled_text (reference_kind kind) rules t)
-      ≡ resolved_meaning kind rules b t
+  ruled-texts-resolve-to-same-meaning : (b t : List ℕ) → kind.needs_scheme ≡ true → IsTextOf kind b
+      → IsTextOf (reference_kind kind) t → resolved_meaning kind rules (ruled_text kind rules b)
+      (ruled_text (reference_kind kind) rules t) ≡ resolved_meaning kind rules b t
   ruled-texts-resolve-to-same-meaning b t needs v w =
       let some = text-of-kind-has-needed-scheme kind b needs v in
       let sb = ruled_text kind rules b in
-      resolved_meaning-is-resolution_under sb (ruled_text (reference_kind kind) rules t)
-      (text-of-kind-has-needed-scheme kind sb needs
+      resolved_meaning-is-resolution_under sb
+      (ruled_text (reference_kind kind) rules t) (text-of-kind-has-needed-scheme kind sb needs
       (ruled-text-is-text-of-kind kind rules sets b v))
       ∙ ap (λ p. resolution_under p (components (ruled_text (reference_kind kind) rules t)))
       (components-of-ruled_text kind rules sets b)
-      ∙ ap (resolution_under (ruled_components kind rules (components b)))
-      (components-of-ruled_text (reference_kind kind) rules
-      (reference-kind-has-component-sets kind sets rules.ports) t)
+      ∙ ap (resolution_under (ruled_components kind rules (components b))) (components-of-ruled_text
+      (reference_kind kind) rules (reference-kind-has-component-sets kind sets rules.ports) t)
       ∙ ruled-components-have-same-resolution (components b) (components t)
-      (text-has-parts-of-kind kind b v).path
-      (text-has-parts-of-kind (reference_kind kind) t w).path
+      (text-has-parts-of-kind kind b v).path (text-has-parts-of-kind (reference_kind kind) t w).path
       ∙ sym (resolved_meaning-is-resolution_under b t some)
 
   -- meanings under the rules alone decide what comes of it
   pub resolving-respects-meaning : (b c t u : List ℕ) → kind.needs_scheme ≡ true
-      → IsTextOf kind b → IsTextOf kind c
-      → IsTextOf (reference_kind kind) t → IsTextOf (reference_kind kind) u
-      → meaning_under kind rules b ≡ meaning_under kind rules c
+      → IsTextOf kind b → IsTextOf kind c → IsTextOf (reference_kind kind) t
+      → IsTextOf (reference_kind kind) u → meaning_under kind rules b ≡ meaning_under kind rules c
       → meaning_under (reference_kind kind) rules t ≡ meaning_under (reference_kind kind) rules u
       → resolved_meaning kind rules b t ≡ resolved_meaning kind rules c u
   resolving-respects-meaning b c t u needs v w x y e f =
@@ -209,22 +180,20 @@ module _ (kind : Kind) (rules : Rules) (sets : HasComponentSets kind) where
       ∙ ap (result_map_both (under_rules rules) (λ (refusal : TargetError). refusal))
       (resolving-respects-meaning_of kind rules.ports sets sb sc st su needs
       (ruled-text-is-text-of-kind kind rules sets b v)
-      (ruled-text-is-text-of-kind kind rules sets c w)
-      (ruled-text-is-text-of-kind of_reference rules reference_sets t x)
-      (ruled-text-is-text-of-kind of_reference rules reference_sets u y)
-      (ruled-text-has-meaning-under kind rules sets b v ∙ e
-      ∙ sym (ruled-text-has-meaning-under kind rules sets c w))
-      (ruled-text-has-meaning-under of_reference rules reference_sets t x ∙ f
-      ∙ sym (ruled-text-has-meaning-under of_reference rules reference_sets u y)))
+      (ruled-text-is-text-of-kind kind rules sets c w) (ruled-text-is-text-of-kind of_reference
+      rules reference_sets t x) (ruled-text-is-text-of-kind of_reference rules reference_sets u y)
+      (ruled-text-has-meaning-under kind rules sets b v
+      ∙ e ∙ sym (ruled-text-has-meaning-under kind rules sets c w))
+      (ruled-text-has-meaning-under of_reference rules reference_sets t x
+      ∙ f ∙ sym (ruled-text-has-meaning-under of_reference rules reference_sets u y)))
       ∙ sym (map-of-map (under_rules rules) (meaning_of kind rules.ports) _)
       ∙ ruled-texts-resolve-to-same-meaning c u needs w y
 
   -- the normal texts of a base and a reference resolve to the same meaning
-  pub normal-texts-resolve-to-same-meaning : (b t : List ℕ) → kind.needs_scheme ≡ true
-      → IsTextOf kind b → IsTextOf (reference_kind kind) t
+  pub normal-texts-resolve-to-same-meaning : (b t : List ℕ)
+      → kind.needs_scheme ≡ true → IsTextOf kind b → IsTextOf (reference_kind kind) t
       → resolved_meaning kind rules (normal_text (meaning_under kind rules b))
-      (normal_text (meaning_under (reference_kind kind) rules t))
-      ≡ resolved_meaning kind rules b t
+      (normal_text (meaning_under (reference_kind kind) rules t)) ≡ resolved_meaning kind rules b t
   normal-texts-resolve-to-same-meaning b t needs v w =
       let of_reference = reference_kind kind in
       let reference_sets = reference-kind-has-component-sets kind sets rules.ports in

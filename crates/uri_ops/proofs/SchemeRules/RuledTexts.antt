@@ -1,32 +1,7 @@
 -- A ruled text is a text with what the rules of its scheme change, not yet normal. Under default
 -- ports alone it has the meaning that the text has under the rules. So the laws of normal texts
 -- hold under any rules.
-use Rattle.std.proofs.Common.{◌≡◌, ℕ, Bool, true, false, cond, List, [], ◌∷◌, refl, sym, ap, ◌∙◌, ⊎_elim, ◌&&◌, ◌||◌, Option, Some, None, option_map, not, rules, lit<, subst}
-use Rattle.std.specs.Prelude.{codes, is_some, IfSome, IfNone, ◌↔◌}
-use Rattle.std.specs.Option.{option_and_then}
-use Rattle.std.specs.Str.{str_to_ascii_lowercase, IsUtf8, chars}
-use Rattle.std.proofs.lemmas.Str.{IsUtf8-nil}
-use Rattle.std.proofs.lemmas.List.Elements.{All-cons, All-nil}
-use Rattle.std.proofs.lemmas.Bool.{cond_both, cond-false, cases_Bool, and_from, false≢true}
-use Rattle.uri_pct.specs.Tokens.{tokens_from_chars, is_valid_for}
-use Rattle.uri_pct.specs.Sets.{TableSet}
-use Rattle.uri_pct.specs.DecodeUnreserved.{decode_unreserved, decode_run, decode_after_run}
-use Rattle.uri_pct.specs.Pieces.{pieces_from}
-use Rattle.uri_pct.proofs.UnreservedDecoding.Formatting.{ascii_char_separates_encode_formatting}
-use Rattle.uri_pct.proofs.General.{is_some-option_map}
-use Rattle.std.specs.Net.Reader.{read_ipv4, read_octet, read_number}
-use Rattle.uri_parts.specs.Hosts.{host_kind, ipv4_value}
-use Rattle.uri_parts.specs.Components.{Components, IsSplitOf, Lacks, IsAbemptyPath, components, recompose, has_authority, has_scheme, starts}
-use Rattle.uri_parts.specs.Grammar.{Kind, IsTextOf, is_authority, has_colon_in_first_segment}
-use Rattle.uri_parts.proofs.Authorities.AuthorityPlaces.{empty_is_authority}
-use Rattle.uri_parts.proofs.Splitting.Recompose.{components-are-split-of-text, components_of_parts}
-use Rattle.uri_parts.proofs.Splitting.Splits.{only-split-is-components}
-use Rattle.uri_ops.specs.ComponentSets.{HasComponentSets, IsComponentSet}
-use Rattle.uri_ops.specs.Dots.{is_empty}
-use Rattle.uri_ops.specs.Meaning.{authority_meaning, dotless_path, components_meaning, meaning_of}
-use Rattle.uri_ops.specs.Normal.{normal_text}
-use Rattle.uri_ops.specs.Models.RuledComponents.{ruled_authority, ruled_components, ruled_path, ruled_text}
-use Rattle.uri_pct.proofs.UnreservedDecoding.Printing.{print_decoded}
+use Rattle.uri_ops.proofs.Common.{◌≡◌, ℕ, Bool, true, false, cond, List, [], ◌∷◌, refl, sym, ap, ◌∙◌, ⊎_elim, ◌&&◌, ◌||◌, Option, Some, None, option_map, not, rules, lit<, subst, codes, is_some, IfSome, IfNone, ◌↔◌, option_and_then, str_to_ascii_lowercase, IsUtf8, chars, IsUtf8-nil, All-cons, All-nil, cond_both, cond-false, cases_Bool, and_from, false≢true, tokens_from_chars, is_valid_for, TableSet, decode_unreserved, decode_run, decode_after_run, pieces_from, ascii_char_separates_encode_formatting, is_some-option_map, read_ipv4, read_octet, read_number, host_kind, ipv4_value, Components, IsSplitOf, Lacks, IsAbemptyPath, components, recompose, has_authority, has_scheme, starts, Kind, IsTextOf, is_authority, has_colon_in_first_segment, empty_is_authority, components-are-split-of-text, components_of_parts, only-split-is-components, HasComponentSets, IsComponentSet, is_empty, authority_meaning, dotless_path, components_meaning, meaning_of, normal_text, ruled_authority, ruled_components, ruled_path, ruled_text, print_decoded, Rules, empty_authority, has_no_token, is_localhost, is_scheme_of, root, authority_under, path_under, under_rules, meaning_under}
 use Rattle.uri_ops.proofs.Meanings.AllowedParts.{is_set_text, set-text-from-utf8, validity-splits-at-slash}
 use Rattle.uri_ops.proofs.Meanings.AsciiCharacters.{ascii-bytes-are-utf8}
 use Rattle.uri_ops.proofs.Meanings.TextParts.{ArePartsOfKind, components-of-kind-meet-grammar}
@@ -34,7 +9,6 @@ use Rattle.uri_ops.proofs.Normal.NormalTexts.{meaning_of-normal_text, normal-tex
 use Rattle.uri_ops.proofs.Paths.DotLaws.{remove-dots-of-dotless}
 use Rattle.uri_ops.proofs.Paths.DecodedStarts.{decoding-keeps-emptiness}
 use Rattle.uri_ops.proofs.Paths.PathMeanings.{path-without-dots-is-set-text, removing-dots-keeps-leading-slash}
-use Rattle.uri_ops.specs.SchemeRules.{Rules, empty_authority, has_no_token, is_localhost, is_scheme_of, root, authority_under, path_under, under_rules, meaning_under}
 use Rattle.uri_ops.proofs.SchemeRules.RuledMeanings.{map-cond, print-is-empty-without-tokens, under_rules-is-idempotent}
 
 -- rules: the empty authority means no host
@@ -69,10 +43,8 @@ module _ (set : TableSet) (w : IsComponentSet (codes "?#[]") set)
       → is_empty (dotless_path scheme path) ≡ is_empty path
   dotless-path-keeps-emptiness None path = refl
   dotless-path-keeps-emptiness (Some s) path =
-      ⊎_elim
-      (search (rules, text-with-slash-is-not-empty, removing-dots-keeps-leading-slash))
-      (λ e. ap is_empty (cond-false (starts 47 path) _ _ e))
-      (cases_Bool (starts 47 path))
+      ⊎_elim (search (rules, text-with-slash-is-not-empty, removing-dots-keeps-leading-slash))
+      (λ e. ap is_empty (cond-false (starts 47 path) _ _ e)) (cases_Bool (starts 47 path))
 
   dotless-path-is-set-text : (scheme : Option (List ℕ)) (path : List ℕ)
       → is_set_text set path ≡ true → is_set_text set (dotless_path scheme path) ≡ true
@@ -93,16 +65,14 @@ module _ (set : TableSet) (w : IsComponentSet (codes "?#[]") set)
   ruled_path-has-meaning-under rooted after scheme path e =
       let ts = decode_unreserved set (dotless_path scheme path) in
       let blank = path-has-tokens-unless-empty (dotless_path scheme path)
-      (dotless-path-is-set-text scheme path e)
-      ∙ dotless-path-keeps-emptiness scheme path in
+      (dotless-path-is-set-text scheme path e) ∙ dotless-path-keeps-emptiness scheme path in
       search (rules, map-cond, slash-is-dotless)
 
 -- rules: a ruled authority means what the rules make of the authority's meaning
-pub ruled_authority-has-meaning-under : (kind : Kind) (default : Option ℕ) (local : Bool)
-    (o : Option (List ℕ))
-    → option_map (authority_meaning kind default)
-    (option_map (ruled_authority kind default local) o)
-    ≡ option_map (authority_under local) (option_map (authority_meaning kind default) o)
+pub ruled_authority-has-meaning-under :
+    (kind : Kind) (default : Option ℕ) (local : Bool) (o : Option (List ℕ))
+    → option_map (authority_meaning kind default) (option_map (ruled_authority kind default local)
+    o) ≡ option_map (authority_under local) (option_map (authority_meaning kind default) o)
 ruled_authority-has-meaning-under kind default local None = refl
 ruled_authority-has-meaning-under kind default local (Some a) =
     let m = authority_meaning kind default a in
@@ -130,19 +100,17 @@ path-without-authority-is-ruled true path = refl
 path-without-authority-is-ruled false path = refl
 
 -- rules: a ruled authority and the path after it
-ruled-authority-lacks-ends : (kind : Kind) (default : Option ℕ) (local rooted : Bool)
-    (o : Option (List ℕ)) (path : List ℕ)
-    → IfSome o (λ a. Lacks (codes "/?#") a × IsAbemptyPath path)
-    → IfSome (option_map (ruled_authority kind default local) o)
-    (λ a. Lacks (codes "/?#") a × IsAbemptyPath (ruled_path rooted (is_some o) path))
+ruled-authority-lacks-ends : (kind : Kind) (default : Option ℕ) (local rooted : Bool) (o : Option
+    (List ℕ)) (path : List ℕ) → IfSome o (λ a. Lacks (codes "/?#") a × IsAbemptyPath path)
+    → IfSome (option_map (ruled_authority kind default local) o) (λ a. Lacks (codes "/?#") a
+    × IsAbemptyPath (ruled_path rooted (is_some o) path))
 ruled-authority-lacks-ends kind default local rooted None path h = tt
 ruled-authority-lacks-ends kind default local rooted (Some a) path h =
     search (rules, cond_both, All-nil)
 
 ruled-path-lacks-ends : (rooted after : Bool) (path : List ℕ) → Lacks (codes "?#") path
     → Lacks (codes "?#") (ruled_path rooted after path)
-ruled-path-lacks-ends rooted after path h =
-    search (rules, cond_both, All-cons, All-nil)
+ruled-path-lacks-ends rooted after path h = search (rules, cond_both, All-cons, All-nil)
 
 ruled-text-has-no-scheme : (kind : Kind) (rules : Rules) (scheme authority : Option (List ℕ))
     (path : List ℕ) (query fragment : Option (List ℕ)) (text : List ℕ)
@@ -181,16 +149,14 @@ slash-is-set-text set slash =
 
 -- the rule of a kind about schemes and colons
 abbrev meets_needs : Kind → Components → Type 0
-meets_needs kind p =
-    (is_some p.scheme
+meets_needs kind p = (is_some p.scheme
     || (not kind.needs_scheme && (is_some p.authority || not (has_colon_in_first_segment p.path))))
     ≡ true
 
-ruled-components-keep-needs : (kind : Kind) (rules : Rules) (scheme authority : Option (List ℕ))
-    (path : List ℕ) (query fragment : Option (List ℕ))
-    → meets_needs kind (components_of_parts scheme authority path query fragment)
-    → meets_needs kind (ruled_components kind rules
-    (components_of_parts scheme authority path query fragment))
+ruled-components-keep-needs : (kind : Kind) (rules : Rules) (scheme authority : Option
+    (List ℕ)) (path : List ℕ) (query fragment : Option (List ℕ))
+    → meets_needs kind (components_of_parts scheme authority path query fragment) → meets_needs kind
+    (ruled_components kind rules (components_of_parts scheme authority path query fragment))
 ruled-components-keep-needs kind rules None authority path query fragment h =
     subst (meets_needs kind)
     (sym (components-without-scheme-are-ruled kind rules authority path query fragment)) h
@@ -225,9 +191,8 @@ module _ (kind : Kind) (rules : Rules) (sets : HasComponentSets kind) where
         scheme = parts.scheme;
         authority = ruled-authority-is-of-kind kind (option_and_then rules.ports scheme)
             (is_scheme_of rules.locals scheme) p.authority parts.authority;
-        path = cond_both
-            ((is_scheme_of rules.roots scheme && is_some p.authority) && is_empty p.path)
-            (codes "/") p.path (λ t. is_set_text kind.path t ≡ true)
+        path = cond_both ((is_scheme_of rules.roots scheme && is_some p.authority)
+            && is_empty p.path) (codes "/") p.path (λ t. is_set_text kind.path t ≡ true)
             (λ _. slash-is-set-text kind.path sets.slash) (λ _. parts.path);
         query = parts.query;
         fragment = parts.fragment;
@@ -236,8 +201,7 @@ module _ (kind : Kind) (rules : Rules) (sets : HasComponentSets kind) where
       }
 
   -- ruled components mean what the rules make of the components' meaning
-  pub ruled_components-have-meaning-under : (p : Components)
-      → is_set_text kind.path p.path ≡ true
+  pub ruled_components-have-meaning-under : (p : Components) → is_set_text kind.path p.path ≡ true
       → components_meaning kind rules.ports (ruled_components kind rules p)
       ≡ under_rules rules (components_meaning kind rules.ports p)
   ruled_components-have-meaning-under p valid =
@@ -248,16 +212,14 @@ module _ (kind : Kind) (rules : Rules) (sets : HasComponentSets kind) where
       let authority = ruled_authority-has-meaning-under kind default
       (is_scheme_of rules.locals scheme) p.authority in
       let path = ruled_path-has-meaning-under kind.path sets.path sets.slash rooted
-      (is_some p.authority) p.scheme p.path valid
-      ∙ ap (λ t. path_under rooted t m.path)
+      (is_some p.authority) p.scheme p.path valid ∙ ap (λ t. path_under rooted t m.path)
       (sym (is_some-option_map (authority_meaning kind default) p.authority)) in
       λ i. record m { authority = authority i; path = path i }
 
   pub components-of-ruled_text : (text : List ℕ)
       → components (ruled_text kind rules text) ≡ ruled_components kind rules (components text)
-  components-of-ruled_text text =
-      only-split-is-components _ _ (ruled-components-are-split text (components text)
-      (components-are-split-of-text text))
+  components-of-ruled_text text = only-split-is-components _ _
+      (ruled-components-are-split text (components text) (components-are-split-of-text text))
 
   -- a ruled text is of the kind,
   pub ruled-text-is-text-of-kind : (text : List ℕ) → IsTextOf kind text
@@ -273,26 +235,22 @@ module _ (kind : Kind) (rules : Rules) (sets : HasComponentSets kind) where
   -- and has, without rules but those of ports, the meaning that the text has under the rules
   pub ruled-text-has-meaning-under : (text : List ℕ) → IsTextOf kind text
       → meaning_of kind rules.ports (ruled_text kind rules text) ≡ meaning_under kind rules text
-  ruled-text-has-meaning-under text w =
-      ap (components_meaning kind rules.ports) (components-of-ruled_text text)
-      ∙ ruled_components-have-meaning-under (components text)
-      (text-has-parts-of-kind kind text w).path
+  ruled-text-has-meaning-under text w = ap (components_meaning kind rules.ports)
+      (components-of-ruled_text text) ∙ ruled_components-have-meaning-under
+      (components text) (text-has-parts-of-kind kind text w).path
 
   pub normal-text-under-rules-is-text-of-kind : (text : List ℕ) → IsTextOf kind text
       → IsTextOf kind (normal_text (meaning_under kind rules text))
-  normal-text-under-rules-is-text-of-kind text w =
-      subst (λ m. IsTextOf kind (normal_text m)) (ruled-text-has-meaning-under text w)
-      (normal-text-is-text-of-kind kind rules.ports sets (ruled_text kind rules text)
-      (ruled-text-is-text-of-kind text w))
+  normal-text-under-rules-is-text-of-kind text w = subst (λ m. IsTextOf kind (normal_text m))
+      (ruled-text-has-meaning-under text w) (normal-text-is-text-of-kind kind rules.ports sets
+      (ruled_text kind rules text) (ruled-text-is-text-of-kind text w))
 
-  pub meaning_under-normal_text : (text : List ℕ) → IsTextOf kind text
-      → meaning_under kind rules (normal_text (meaning_under kind rules text))
-      ≡ meaning_under kind rules text
+  pub meaning_under-normal_text : (text : List ℕ) → IsTextOf kind text → meaning_under kind rules
+      (normal_text (meaning_under kind rules text)) ≡ meaning_under kind rules text
   meaning_under-normal_text text w =
       ap (under_rules rules) (subst (λ m. meaning_of kind rules.ports (normal_text m) ≡ m)
-      (ruled-text-has-meaning-under text w)
-      (meaning_of-normal_text kind rules.ports sets (ruled_text kind rules text)
-      (ruled-text-is-text-of-kind text w)))
+      (ruled-text-has-meaning-under text w) (meaning_of-normal_text kind rules.ports sets
+      (ruled_text kind rules text) (ruled-text-is-text-of-kind text w)))
       ∙ under_rules-is-idempotent rules (meaning_of kind rules.ports text)
 
   pub normal_text-is-idempotent : (text : List ℕ) → IsTextOf kind text

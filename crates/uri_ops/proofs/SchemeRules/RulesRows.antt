@@ -1,23 +1,11 @@
 -- Normal texts under the rules that standards give, by computation.
-use Rattle.std.proofs.Common.{◌≡◌, ℕ, List, refl, Err}
-use Rattle.std.specs.Prelude.{codes}
-use Rattle.std.specs.Str.{chars}
-use Rattle.std.specs.Char.{encode_utf8}
-use Rattle.std.specs.Fmt.{digits}
-use Rattle.std.specs.Net.Reader.{read_ipv4, read_octet, read_number}
+use Rattle.uri_ops.proofs.Common.{◌≡◌, ℕ, List, refl, Err, codes, chars, encode_utf8, digits, read_ipv4, read_octet, read_number, Kind, uri, uri_ref, host_kind, ipv4_value, remove_dot_segments, run, normal_text, InvalidReferenceAgainstOpaqueBase, meaning_under, resolved_meaning}
 use Rattle.uri_pct.specs.Sets as Sets
 use Rattle.uri_pct.specs.Tokens as Tokens
 use Rattle.uri_pct.specs.Pieces as Pieces
 use Rattle.uri_pct.specs.DecodeUnreserved as Decoding
-use Rattle.uri_parts.specs.Grammar.{Kind, uri, uri_ref}
-use Rattle.uri_parts.specs.Hosts.{host_kind, ipv4_value}
 use Rattle.uri_parts.specs.SchemePorts.{default_port}
-use Rattle.uri_ops.specs.Dots.{remove_dot_segments, run}
-use Rattle.uri_ops.specs.Normal.{normal_text}
-use Rattle.uri_ops.specs.Target.{InvalidReferenceAgainstOpaqueBase}
-use Rattle.uri_ops.specs.SchemeRules.{meaning_under}
 use Rattle.uri_ops.specs.StandardRules.{standard_rules}
-use Rattle.uri_ops.specs.NormalTargets.{resolved_meaning}
 
 -- examples of rules: the second text is the normal form of the first, for the kind
 IsNormalOf : Kind → List ℕ → List ℕ → Type 0
@@ -48,8 +36,7 @@ normal-forms-of-empty-paths =
 
 -- examples of rules, by normal forms: the host `localhost` (RFC 8089, section 2), and hosts that
 -- are given explicitly (RFC 3986, section 6.2.3)
-normal-forms-of-local-hosts :
-    IsNormalOf uri (codes "file://localhost/x") (codes "file:///x")
+normal-forms-of-local-hosts : IsNormalOf uri (codes "file://localhost/x") (codes "file:///x")
     × IsNormalOf uri (codes "FILE://LOC%41LHOST:/x") (codes "file:///x")
     × IsNormalOf uri (codes "file://localhost//x") (codes "file:////x")
     × IsNormalOf uri (codes "file://localhost") (codes "file://")
@@ -64,11 +51,9 @@ unfolding IsNormalOf default_port chars encode_utf8 digits read_ipv4 read_octet 
     Tokens.tokens_from_chars Pieces.following_ranges Pieces.pieces_from Decoding.is_decodable
     Decoding.is_bidi_formatting Decoding.is_never_literal Decoding.decode_run
     Decoding.decode_after_run host_kind ipv4_value run remove_dot_segments
-normal-forms-of-local-hosts =
-    (refl, refl, refl, refl, refl, refl, refl, refl, refl, refl)
+normal-forms-of-local-hosts = (refl, refl, refl, refl, refl, refl, refl, refl, refl, refl)
 
 -- examples of rules: a base without an authority stays opaque
-opaque-bases-stay-opaque :
-    resolved_meaning uri standard_rules (codes "ws:") (codes "?")
+opaque-bases-stay-opaque : resolved_meaning uri standard_rules (codes "ws:") (codes "?")
     ≡ Err InvalidReferenceAgainstOpaqueBase
 opaque-bases-stay-opaque = refl

@@ -1,12 +1,5 @@
 -- The target of a reference that has a scheme, and a path that does not begin with `/`.
-use Rattle.std.proofs.Common.{◌≡◌, true, false, ◌&&◌, ◌||◌, ap, ◌∙◌, refl, arith}
-use Rattle.std.specs.Prelude.{is_some, not}
-use Rattle.std.proofs.lemmas.Bool.{and_right, cond-true}
-use Rattle.std.proofs.lemmas.Bool.Decides.{nat_tests}
-use Rattle.uri_parts.specs.Components.{Components, starts}
-use Rattle.uri_ops.specs.Dots.{underflows}
-use Rattle.uri_ops.specs.Resolving.{with_final_path}
-use Rattle.uri_ops.specs.Target.{underflows_if_absolute, is_fragment_only, is_opaque, is_opaque_rejection, dotted_target}
+use Rattle.uri_ops.proofs.Common.{◌≡◌, true, false, ◌&&◌, ◌||◌, ap, ◌∙◌, refl, arith, is_some, not, and_right, cond-true, nat_tests, Components, starts, underflows, with_final_path, underflows_if_absolute, is_fragment_only, is_opaque, is_opaque_rejection, dotted_target}
 use Rattle.uri_ops.proofs.Paths.DecodedStarts.{no-leading-slash-no-two-slashes}
 use Rattle.uri_ops.proofs.Paths.GuardedPaths.{path-without-two-slashes-has-no-guard}
 

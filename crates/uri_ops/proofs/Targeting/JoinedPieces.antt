@@ -1,17 +1,8 @@
 -- What a target has of a base and a reference (section 5.2.2), by what the reference has.
-use Rattle.std.proofs.Common.{◌≡◌, ℕ, ◌+◌, true, false, List, [], ◌∷◌, ◌++◌, length, refl, sym, ap, ◌∙◌, arith, ◌&&◌, append_assoc, length-append, option_map}
-use Rattle.std.specs.Prelude.{codes, Option, Some, None, is_some, ◌==◌}
-use Rattle.std.proofs.lemmas.Bool.{cond-true, false≢true, ne_eqb}
-use Rattle.std.proofs.lemmas.Bool.Decides.{nat_tests}
-use Rattle.uri_parts.specs.Components.{Components, IsAbemptyPath, components, marked, recompose, starts}
-use Rattle.uri_parts.proofs.Splitting.Recompose.{components-are-split-of-text}
-use Rattle.uri_ops.specs.Models.Places.{before_path}
-use Rattle.uri_ops.specs.Dots.{directory, is_empty, remove_dot_segments, underflows}
-use Rattle.uri_ops.specs.Target.{dotless_if_absolute, underflows_if_absolute, is_opaque_rejection, dotted_target, merged}
+use Rattle.uri_ops.proofs.Common.{◌≡◌, ℕ, ◌+◌, true, false, List, [], ◌∷◌, ◌++◌, length, refl, sym, ap, ◌∙◌, arith, ◌&&◌, append_assoc, length-append, option_map, codes, Option, Some, None, is_some, ◌==◌, cond-true, false≢true, ne_eqb, nat_tests, Components, IsAbemptyPath, components, marked, recompose, starts, components-are-split-of-text, before_path, directory, is_empty, remove_dot_segments, underflows, dotless_if_absolute, underflows_if_absolute, is_opaque_rejection, dotted_target, merged, eq_true_from_IsTrue, not_some_is_none}
 use Rattle.uri_ops.proofs.Paths.DotLaws.{directory-is-absolute}
 use Rattle.uri_ops.proofs.Targeting.Swaps.{merging-base-is-not-opaque, base-that-is-not-opaque-has-abempty-path}
 use Rattle.uri_ops.proofs.Targeting.Targets.{appended-absolute-path-is-absolute}
-use Rattle.uri_pct.proofs.General.{eq_true_from_IsTrue, not_some_is_none}
 
 -- a reference's path after the base's directory
 module _ (b r : Components) (s : is_some r.scheme ≡ false) (a : is_some r.authority ≡ false)
@@ -24,8 +15,7 @@ module _ (b r : Components) (s : is_some r.scheme ≡ false) (a : is_some r.auth
 module _ (base path : List ℕ) (rooted : IsAbemptyPath base) where
   merged-path-begins-with-slash : starts 47 (merged base path) ≡ true
   merged-path-begins-with-slash = eq_true_from_IsTrue _
-      (appended-absolute-path-is-absolute (directory base) path
-      (directory-is-absolute base rooted))
+      (appended-absolute-path-is-absolute (directory base) path (directory-is-absolute base rooted))
 
   pub merged-path-loses-dots-as-target-path : remove_dot_segments (merged base path)
       ≡ dotless_if_absolute (merged base path)
@@ -48,28 +38,24 @@ base-of-merged-path-is-rooted base r refused s e =
 
 -- resolving: what is before a target's path, the path, and query and fragment,
 -- appended one after the other, are its text
-pub prefix-path-and-suffix-recompose : (t : Components) (o0 o1 o2 : List ℕ) → o1
-    ≡ o0 ++ (before_path t ++ t.path)
-    → o2 ≡ o1 ++ (marked (codes "?") t.query [] ++ marked (codes "#") t.fragment [])
-    → o2 ≡ o0 ++ recompose t
+pub prefix-path-and-suffix-recompose : (t : Components) (o0 o1 o2 : List ℕ)
+    → o1 ≡ o0 ++ (before_path t ++ t.path) → o2 ≡ o1 ++ (marked (codes "?") t.query []
+    ++ marked (codes "#") t.fragment []) → o2 ≡ o0 ++ recompose t
 prefix-path-and-suffix-recompose t o0 o1 o2 e1 e2 = grind (arith, nat_tests, append_assoc)
 
 -- positions in a target: a query that is appended after its `?` ends where the text does
 pub pushed-query-ends-at-length : (query : Option (List ℕ)) (o3 o4 : List ℕ) (end : ℕ)
-    → is_some query ≡ true
-    → o4 ≡ o3 ++ marked (codes "?") query [] → end ≡ length o4
-    → Some end ≡ option_map (λ q. length o3 + 1 + length q) query
+    → is_some query ≡ true → o4 ≡ o3 ++ marked (codes "?") query []
+    → end ≡ length o4 → Some end ≡ option_map (λ q. length o3 + 1 + length q) query
 pushed-query-ends-at-length None o3 o4 end some e n = absurd (false≢true some)
-pushed-query-ends-at-length (Some q) o3 o4 end some e n =
-    ap Some (omega (
-      arith,
-      n,
-      ap length e,
-      length-append o3 (codes "?" ++ q ++ []),
-      length-append
-          (codes "?" ++ q) [],
-      length-append (codes "?") q,
-    ))
+pushed-query-ends-at-length (Some q) o3 o4 end some e n = ap Some (omega (
+  arith,
+  n,
+  ap length e,
+  length-append o3 (codes "?" ++ q ++ []),
+  length-append (codes "?" ++ q) [],
+  length-append (codes "?") q,
+))
 
 -- general fact on texts, for targets: one of length 0 is empty
 pub zero-length-is-empty : (text : List ℕ) → (length text == 0) ≡ is_empty text
@@ -87,6 +73,5 @@ empty-query-is-absent (Some q) text old is e =
 -- targets: a query with its `?` is there
 pub query-with-bytes-is-there : (query : Option (List ℕ)) (text : List ℕ)
     → text ≡ marked (codes "?") query [] → (length text == 0) ≡ false → is_some query ≡ true
-query-with-bytes-is-there None text is e =
-    absurd (false≢true (sym e ∙ ap (λ t. length t == 0) is))
+query-with-bytes-is-there None text is e = absurd (false≢true (sym e ∙ ap (λ t. length t == 0) is))
 query-with-bytes-is-there (Some q) text is e = refl

@@ -1,20 +1,6 @@
 -- An equivalent base and reference have a target with the same normal form, or both pairs have no
 -- target.
-use Rattle.std.proofs.Common.{◌≡◌, ℕ, Bool, true, false, List, refl, sym, ap, subst, ◌∙◌, arith}
-use Rattle.std.specs.Prelude.{Result, Ok, Err, IfErr, IsErrAnd, is_ok}
-use Rattle.std.specs.Result.{result_map_both}
-use Rattle.std.proofs.lemmas.Bool.{false≢true}
-use Rattle.std.proofs.lemmas.Bool.Decides.{nat_tests}
-use Rattle.uri_parts.specs.Components.{Components, components}
-use Rattle.uri_parts.specs.Grammar.{Kind, IsTextOf}
-use Rattle.uri_ops.specs.ComponentSets.{HasComponentSets}
-use Rattle.uri_ops.specs.Normal.{normal_text}
-use Rattle.uri_ops.specs.NormalTargets.{HasMeaningOf, HasTargetMeaning, IsErrorUnderSetting, IsNormalFormOfTarget, IsTargetOfMeanings, IsErrorOfMeanings, IsNormalTarget, IsNormalTargetError, reference_kind, resolved_meaning}
-use Rattle.uri_ops.specs.Normalizers.{IsNormalForm}
-use Rattle.uri_ops.specs.SchemeRules.{Rules, meaning_under}
-use Rattle.uri_ops.specs.Resolving.{IsTarget, IsErrorFor, IsErrorWithUnderflowAllowed}
-use Rattle.uri_ops.specs.Target.{TargetError, BaseWithFragment, InvalidReferenceAgainstOpaqueBase, resolution_of, resolution_of_texts}
-use Rattle.uri_ops.specs.declared.resolve.error.ResolveError.{ResolveError}
+use Rattle.uri_ops.proofs.Common.{◌≡◌, ℕ, Bool, true, false, List, refl, sym, ap, subst, ◌∙◌, arith, Result, Ok, Err, IfErr, IsErrAnd, is_ok, result_map_both, false≢true, nat_tests, Components, components, Kind, IsTextOf, HasComponentSets, normal_text, HasMeaningOf, HasTargetMeaning, IsErrorUnderSetting, IsNormalFormOfTarget, IsTargetOfMeanings, IsErrorOfMeanings, IsNormalTarget, IsNormalTargetError, reference_kind, resolved_meaning, IsNormalForm, Rules, meaning_under, IsTarget, IsErrorFor, IsErrorWithUnderflowAllowed, TargetError, BaseWithFragment, InvalidReferenceAgainstOpaqueBase, resolution_of, resolution_of_texts, ResolveError}
 use Rattle.uri_ops.proofs.SchemeRules.RuledTargets.{resolving-respects-meaning}
 use Rattle.uri_ops.specs.declared.resolve.error.ResolveError.TheVariants as Of
 
@@ -55,26 +41,23 @@ module _ {A : Type 0} (f : List ℕ → A) where
       ∙ mapped-result-is-ok-as-result y
 
   pub equal-mapped-results-have-equal-targets : (x y : Result (List ℕ) TargetError) (t : List ℕ)
-      → mapped x ≡ mapped y → y ≡ Ok t
-      → (u : List ℕ) × ((x ≡ Ok u) × (f u ≡ f t))
+      → mapped x ≡ mapped y → y ≡ Ok t → (u : List ℕ) × ((x ≡ Ok u) × (f u ≡ f t))
   equal-mapped-results-have-equal-targets (Ok u) y t e h =
       (u, (refl, equal-ok-results-have-equal-values (f u) (f t) (mapped y) (sym e) (ap mapped h)))
   equal-mapped-results-have-equal-targets (Err z) y t e h = absurd
       (false≢true (equal-mapped-results-are-ok-alike (Err z) y e ∙ ap is_ok h))
 
   pub equal-mapped-results-have-equal-errors : (x y : Result (List ℕ) TargetError) (z : TargetError)
-      → mapped x ≡ mapped y
-      → y ≡ Err z → x ≡ Err z
+      → mapped x ≡ mapped y → y ≡ Err z → x ≡ Err z
   equal-mapped-results-have-equal-errors (Ok u) y z e h = absurd
       (false≢true (sym (equal-mapped-results-are-ok-alike (Ok u) y e ∙ ap is_ok h)))
   equal-mapped-results-have-equal-errors (Err w) y z e h = ap Err
       (equal-err-results-have-equal-errors w z (mapped y) (sym e) (ap mapped h))
 
 -- targets: a text with the same meaning has the same normal form
-pub same-meaning-same-normal-form : (kind : Kind) (rules : Rules)
-    (text other normal : List ℕ)
-    → meaning_under kind rules other ≡ meaning_under kind rules text → IsNormalForm kind rules text normal
-    → IsNormalForm kind rules other normal
+pub same-meaning-same-normal-form : (kind : Kind) (rules : Rules) (text other normal : List ℕ)
+    → meaning_under kind rules other ≡ meaning_under kind rules text
+    → IsNormalForm kind rules text normal → IsNormalForm kind rules other normal
 same-meaning-same-normal-form kind rules text other normal e h = record {
   text = record { text = h.text.text ∙ ap normal_text (sym e) };
   of_kind = h.of_kind;
@@ -91,9 +74,8 @@ pub same-resolution-error-with-underflow-allowed : (b r base reference : Compone
     → IsErrorWithUnderflowAllowed base reference error → IsErrorWithUnderflowAllowed b r error
 same-resolution-error-with-underflow-allowed b r base reference Of.BaseWithFragment f e h =
     f BaseWithFragment h
-same-resolution-error-with-underflow-allowed b r base reference Of.InvalidReferenceAgainstOpaqueBase
-    f e h =
-    f InvalidReferenceAgainstOpaqueBase h
+same-resolution-error-with-underflow-allowed b r base
+    reference Of.InvalidReferenceAgainstOpaqueBase f e h = f InvalidReferenceAgainstOpaqueBase h
 same-resolution-error-with-underflow-allowed b r base reference Of.PathUnderflow f e h = h
 same-resolution-error-with-underflow-allowed b r base reference Of.OutOfMemory f e h = e ∙ h
 
@@ -121,9 +103,8 @@ same-resolution-error-under-setting true b r base reference error f e h =
     (allowed-underflow-is-no-error base reference error h)
 same-resolution-error-under-setting false b r base reference Of.BaseWithFragment f e h =
     f BaseWithFragment h
-same-resolution-error-under-setting false b r base reference
-    Of.InvalidReferenceAgainstOpaqueBase f e h =
-    f InvalidReferenceAgainstOpaqueBase h
+same-resolution-error-under-setting false b r base
+    reference Of.InvalidReferenceAgainstOpaqueBase f e h = f InvalidReferenceAgainstOpaqueBase h
 same-resolution-error-under-setting false b r base reference Of.PathUnderflow f e h = e ∙ h.0
 same-resolution-error-under-setting false b r base reference Of.OutOfMemory f e h = e ∙ h
 
@@ -148,10 +129,8 @@ module _ (kind of_reference : Kind) (sets : HasComponentSets kind)
       → HasTargetMeaning kind rules b r target
   equivalent-inputs-have-equivalent-targets b r target v w e =
       let t = equal-mapped-results-have-equal-targets (meaning_under kind rules)
-      (resolution_of (components b) (components r))
-      (resolution_of (components base) (components reference)) target
-      (equivalent-inputs-resolve-to-same-meaning b r v w)
-      e in
+      (resolution_of (components b) (components r)) (resolution_of (components base)
+      (components reference)) target (equivalent-inputs-resolve-to-same-meaning b r v w) e in
       (t.0, (t.1.0, t.1.1))
 
   equivalent-inputs-have-same-target-error : (b r : List ℕ) → HasMeaningOf kind rules base b
@@ -159,15 +138,13 @@ module _ (kind of_reference : Kind) (sets : HasComponentSets kind)
       → resolution_of (components base) (components reference) ≡ Err z
       → resolution_of (components b) (components r) ≡ Err z
   equivalent-inputs-have-same-target-error b r v w z e = equal-mapped-results-have-equal-errors
-      (meaning_under kind rules)
-      (resolution_of (components b) (components r))
+      (meaning_under kind rules) (resolution_of (components b) (components r))
       (resolution_of (components base) (components reference)) z
       (equivalent-inputs-resolve-to-same-meaning b r v w) e
 
   equivalent-inputs-resolve-alike : (b r : List ℕ) → HasMeaningOf kind rules base b
-      → HasMeaningOf of_reference rules reference r
-      → is_ok (resolution_of (components b) (components r))
-      ≡ is_ok (resolution_of (components base) (components reference))
+      → HasMeaningOf of_reference rules reference r → is_ok (resolution_of (components b)
+      (components r)) ≡ is_ok (resolution_of (components base) (components reference))
   equivalent-inputs-resolve-alike b r v w = equal-mapped-results-are-ok-alike
       (meaning_under kind rules) (resolution_of (components b) (components r))
       (resolution_of (components base) (components reference))
@@ -178,10 +155,9 @@ module _ (kind of_reference : Kind) (sets : HasComponentSets kind)
       → IsErrorFor allowed (components base) (components reference) error
       → IsErrorUnderSetting allowed (components b) (components r) error
   equivalent-inputs-have-same-resolve-error allowed b r error v w h =
-      same-resolution-error-under-setting allowed (components b) (components r)
-      (components base) (components reference)
-      error (equivalent-inputs-have-same-target-error b r v w)
-      (equivalent-inputs-resolve-alike b r v w) h
+      same-resolution-error-under-setting allowed
+      (components b) (components r) (components base) (components reference) error
+      (equivalent-inputs-have-same-target-error b r v w) (equivalent-inputs-resolve-alike b r v w) h
 
   pub normal-form-of-target-respects-meaning : (target normal : List ℕ)
       → resolution_of (components base) (components reference) ≡ Ok target
@@ -208,9 +184,8 @@ module _ (kind of_reference : Kind) (sets : HasComponentSets kind)
       record {
         refusal = h;
         swap = λ b r v w. same-resolution-error-with-underflow-allowed (components b) (components r)
-            (components base)
-            (components reference) error (equivalent-inputs-have-same-target-error b r v w)
-            (equivalent-inputs-resolve-alike b r v w) h;
+            (components base) (components reference) error (equivalent-inputs-have-same-target-error
+            b r v w) (equivalent-inputs-resolve-alike b r v w) h;
       }
 
 -- under any rules

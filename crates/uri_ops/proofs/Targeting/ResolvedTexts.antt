@@ -1,30 +1,19 @@
 -- What is known of a base, a reference and a target where a target is computed.
-use Rattle.std.proofs.Common.{◌≡◌, ℕ, Bool, true, List, subst, sym}
-use Rattle.std.specs.Prelude.{IfErr, IfOk, Ok, Result}
-use Rattle.std.proofs.lemmas.Result.{IfErr-weaker, IfOk-weaker}
-use Rattle.std.specs.Str.{IsUtf8}
-use Rattle.uri_parts.specs.Components.{Components, components}
-use Rattle.uri_parts.specs.Grammar.{Kind, IsOfKind, IsTextOf}
-use Rattle.uri_ops.specs.ComponentSets.{HasComponentSets}
-use Rattle.uri_ops.specs.NormalTargets.{reference_kind, IsTargetOfMeanings, IsErrorOfMeanings}
-use Rattle.uri_ops.specs.Resolving.{IsTargetOfEncoded, IsErrorForEncoded, IsTarget, IsErrorFor}
+use Rattle.uri_ops.proofs.Common.{◌≡◌, ℕ, Bool, true, List, subst, sym, IfErr, IfOk, Ok, Result, IfErr-weaker, IfOk-weaker, IsUtf8, Components, components, Kind, IsOfKind, IsTextOf, HasComponentSets, reference_kind, IsTargetOfMeanings, IsErrorOfMeanings, IsTargetOfEncoded, IsErrorForEncoded, IsTarget, IsErrorFor, ResolveError}
 use Rattle.uri_ops.specs.Resolved.{IsResolved}
-use Rattle.uri_ops.specs.declared.resolve.error.ResolveError.{ResolveError}
 use Rattle.uri_ops.proofs.AsciiForms.EncodedTargets.{target-is-target-of-encoded, error-is-error-for-encoded}
 use Rattle.uri_ops.proofs.Targeting.NormalTargets.{target-respects-meaning, error-respects-meaning}
 use Rattle.uri_ops.proofs.Targeting.TargetTexts.{target-is-of-kind-of-base}
 
 -- resolving: equal components have the same target; allowed: whether underflows are
-equal-components-have-same-target : (allowed : Bool) (p q b r : Components) (text : List ℕ) → p
-    ≡ b → q ≡ r
-    → IsTarget allowed p q text → IsTarget allowed b r text
+equal-components-have-same-target : (allowed : Bool) (p q b r : Components) (text : List ℕ)
+    → p ≡ b → q ≡ r → IsTarget allowed p q text → IsTarget allowed b r text
 equal-components-have-same-target allowed p q b r text e f h =
     subst (λ c. IsTarget allowed c r text) e (subst (λ c. IsTarget allowed p c text) f h)
 
 -- resolving: equal components have the same error; allowed: whether underflows are
 equal-components-have-same-error : (allowed : Bool) (p q b r : Components) (error : ResolveError)
-    → p ≡ b → q ≡ r
-    → IsErrorFor allowed p q error → IsErrorFor allowed b r error
+    → p ≡ b → q ≡ r → IsErrorFor allowed p q error → IsErrorFor allowed b r error
 equal-components-have-same-error allowed p q b r error e f h =
     subst (λ c. IsErrorFor allowed c r error) e (subst (λ c. IsErrorFor allowed p c error) f h)
 
@@ -60,10 +49,9 @@ module _ (kind other : Kind) (sets : HasComponentSets kind) (needs : kind.needs_
       (λ t. IsTarget allowed (components base) (components reference) (text_of t))
       (λ t. equal-components-have-same-target allowed p q (components base) (components reference)
       (text_of t) e f) found in
-      let error = IfErr-weaker result (IsErrorFor allowed p q)
-      (IsErrorFor allowed (components base) (components reference))
-      (λ x. equal-components-have-same-error allowed p q (components base) (components reference)
-      x e f) failed in
+      let error = IfErr-weaker result (IsErrorFor allowed p q) (IsErrorFor allowed
+      (components base) (components reference)) (λ x. equal-components-have-same-error allowed p q
+      (components base) (components reference) x e f) failed in
       record {
         target = target;
         error = error;
@@ -71,10 +59,9 @@ module _ (kind other : Kind) (sets : HasComponentSets kind) (needs : kind.needs_
             (λ t. target-is-target-of-encoded allowed base reference (text_of t) u v) target;
         encoded_error = IfErr-weaker result _ (IsErrorForEncoded allowed base reference)
             (λ x. error-is-error-for-encoded allowed base reference x u v) error;
-        alike = IfOk-weaker result _
-            (λ t. IsTargetOfMeanings kind other base reference (text_of t))
-            (λ t. target-respects-meaning kind other sets needs same allowed base reference
-            base_is reference_is (text_of t)) target;
+        alike = IfOk-weaker result _ (λ t. IsTargetOfMeanings kind other base reference (text_of t))
+            (λ t. target-respects-meaning kind
+            other sets needs same allowed base reference base_is reference_is (text_of t)) target;
         alike_error = IfErr-weaker result _ (IsErrorOfMeanings allowed kind other base reference)
             (λ x. error-respects-meaning kind other sets needs same allowed base reference
             base_is reference_is x) error;

@@ -1,28 +1,11 @@
 -- What a reference resolves to, against a base, is a function of the meanings of both, under default
 -- ports.
-use Rattle.std.proofs.Common.{◌≡◌, ℕ, true, false, not, List, sym, ap, ◌∙◌, ◌&&◌, inr, option_map, arith}
-use Rattle.std.specs.Prelude.{codes, Option, Some, None, IfSome, Result, is_some, is_none}
-use Rattle.std.specs.Result.{result_map_both}
-use Rattle.std.proofs.lemmas.Bool.{and_cases, cond_both, not-false}
-use Rattle.std.proofs.lemmas.Bool.Decides.{nat_tests}
-use Rattle.uri_pct.specs.Tokens.{print}
-use Rattle.uri_pct.specs.DecodeUnreserved.{decode_unreserved}
-use Rattle.uri_parts.specs.Components.{Components, Lacks, starts, IsAbemptyPath, components, recompose}
-use Rattle.uri_parts.specs.Grammar.{Kind, IsTextOf}
-use Rattle.uri_parts.proofs.Splitting.Recompose.{components-are-split-of-text, equal-to-true-is-IsTrue, components_of_parts}
-use Rattle.uri_ops.specs.Dots.{is_empty}
-use Rattle.uri_ops.specs.Target.{TargetError, is_opaque, is_opaque_rejection, dotted_target, resolution_of_texts, target_of}
-use Rattle.uri_ops.specs.ComponentSets.{HasComponentSets}
-use Rattle.uri_parts.specs.Ports.{PortFunction}
-use Rattle.uri_ops.specs.Meaning.{Meaning, components_meaning, meaning_of}
-use Rattle.uri_ops.specs.Normal.{normal_components}
-use Rattle.uri_ops.specs.NormalTargets.{reference_kind}
+use Rattle.uri_ops.proofs.Common.{◌≡◌, ℕ, true, false, not, List, sym, ap, ◌∙◌, ◌&&◌, inr, option_map, arith, codes, Option, Some, None, IfSome, Result, is_some, is_none, result_map_both, and_cases, cond_both, not-false, nat_tests, print, decode_unreserved, Components, Lacks, starts, IsAbemptyPath, components, recompose, Kind, IsTextOf, components-are-split-of-text, equal-to-true-is-IsTrue, components_of_parts, is_empty, TargetError, is_opaque, is_opaque_rejection, dotted_target, resolution_of_texts, target_of, HasComponentSets, PortFunction, Meaning, components_meaning, meaning_of, normal_components, reference_kind, is_some-option_map, none-is-not-some}
 use Rattle.uri_ops.proofs.Targeting.Targets.{target-text-has-target-components}
 use Rattle.uri_ops.proofs.Meanings.TextParts.{ArePartsOfKind}
 use Rattle.uri_ops.proofs.Normal.NormalTexts.{text-has-parts-of-kind}
 use Rattle.uri_ops.proofs.Targeting.JoinedMeanings.{with_scheme, target-path-has-meaning-of-joined, joined-normal-components-have-same-meaning, normal-components-are-rejected-alike}
 use Rattle.uri_ops.proofs.Targeting.RefusalOrder.{result_or_target_error, map-of-result_or_error, rejected-results-are-equal}
-use Rattle.uri_pct.proofs.General.{is_some-option_map, none-is-not-some}
 use Rattle.uri_parts.proofs.TextKinds.KindSets.{with_scheme as scheme_where_needed}
 
 -- resolving: a target has a scheme, before its dot segments are removed,
@@ -32,9 +15,8 @@ pub dotted_target-has-scheme-as-base : (base r : Components) → is_some base.sc
 dotted_target-has-scheme-as-base base r some = grind (arith, nat_tests, cond_both)
 
 -- resolving: a text of a kind that needs a scheme, as a base, has one
-pub text-of-kind-has-needed-scheme : (kind : Kind) (b : List ℕ) → kind.needs_scheme ≡ true
-    → IsTextOf kind b
-    → is_some (components b).scheme ≡ true
+pub text-of-kind-has-needed-scheme : (kind : Kind) (b : List ℕ)
+    → kind.needs_scheme ≡ true → IsTextOf kind b → is_some (components b).scheme ≡ true
 text-of-kind-has-needed-scheme kind b needs w =
     scheme_where_needed kind.needs_scheme _ _ needs (text-has-parts-of-kind kind b w).needs
 
@@ -55,11 +37,9 @@ base-that-is-not-opaque-has-abempty-path (Some a) path e h = h.1
 
 -- resolving: what the target of a base and a reference means under default ports alone, or why there
 -- is none
-abbrev pub resolved_under_ports : Kind → PortFunction → List ℕ → List ℕ
-    → Result Meaning TargetError
-resolved_under_ports kind ports base reference =
-    result_map_both (meaning_of kind ports) (λ refusal. refusal)
-    (resolution_of_texts base reference)
+abbrev pub resolved_under_ports : Kind → PortFunction → List ℕ → List ℕ → Result Meaning TargetError
+resolved_under_ports kind ports base reference = result_map_both
+    (meaning_of kind ports) (λ refusal. refusal) (resolution_of_texts base reference)
 
 module _ (kind : Kind) (ports : PortFunction) (sets : HasComponentSets kind) where
   abbrev meaning : Components → Meaning
@@ -67,9 +47,8 @@ module _ (kind : Kind) (ports : PortFunction) (sets : HasComponentSets kind) whe
 
   -- the outcome for a base and a reference, and for their normal texts
   resolution_meaning : Components → Components → Result Meaning TargetError
-  resolution_meaning base r = result_or_target_error (is_some base.fragment)
-      (is_opaque_rejection base r)
-      (meaning (dotted_target base r))
+  resolution_meaning base r = result_or_target_error
+      (is_some base.fragment) (is_opaque_rejection base r) (meaning (dotted_target base r))
 
   resolved_under_ports-is-resolution_meaning : (b t : List ℕ) → is_some (components b).scheme ≡ true
       → resolved_under_ports kind ports b t ≡ resolution_meaning (components b) (components t)
@@ -77,55 +56,42 @@ module _ (kind : Kind) (ports : PortFunction) (sets : HasComponentSets kind) whe
   resolved_under_ports-is-resolution_meaning b t some =
       let base = components b in
       let r = components t in
-      map-of-result_or_error (meaning_of kind ports) (is_some base.fragment)
-      (is_opaque_rejection base r)
-      (recompose (target_of base r))
+      map-of-result_or_error (meaning_of kind ports)
+      (is_some base.fragment) (is_opaque_rejection base r) (recompose (target_of base r))
       ∙ ap (result_or_target_error (is_some base.fragment) (is_opaque_rejection base r))
-      (ap meaning (target-text-has-target-components b t some)
-      ∙ target-path-has-meaning-of-joined kind sets ports (dotted_target base r)
-      (dotted_target-has-scheme-as-base base r some))
+      (ap meaning (target-text-has-target-components b t some) ∙ target-path-has-meaning-of-joined
+      kind sets ports (dotted_target base r) (dotted_target-has-scheme-as-base base r some))
 
-  normal-components-have-same-resolution_meaning : (r base : Components)
-      → is_some base.scheme ≡ true
-      → ArePartsOfKind (reference_kind kind) r → ArePartsOfKind kind base
+  normal-components-have-same-resolution_meaning : (r base : Components) → is_some base.scheme
+      ≡ true → ArePartsOfKind (reference_kind kind) r → ArePartsOfKind kind base
       → IfSome base.authority (λ a. Lacks (codes "/?#") a × IsAbemptyPath base.path)
       → resolution_meaning base r
       ≡ resolution_meaning (normal_components (meaning base)) (normal_components (meaning r))
   unfolding resolution_meaning
-  normal-components-have-same-resolution_meaning r base some of_reference =
-      with_scheme (λ base. ArePartsOfKind kind base
-      → IfSome base.authority (λ a. Lacks (codes "/?#") a × IsAbemptyPath base.path)
-      → resolution_meaning base r ≡ resolution_meaning (normal_components (meaning base))
-      (normal_components (meaning r)))
+  normal-components-have-same-resolution_meaning r base some of_reference = with_scheme
+      (λ base. ArePartsOfKind kind base → IfSome base.authority (λ a. Lacks (codes "/?#") a
+      × IsAbemptyPath base.path) → resolution_meaning base r
+      ≡ resolution_meaning (normal_components (meaning base)) (normal_components (meaning r)))
       (λ b ba bp bq bf of_base cut.
       let base = components_of_parts (Some b) ba bp bq bf in
       let other_base = normal_components (meaning base) in
       let other = normal_components (meaning r) in
       let fragment = is_some-option_map print (option_map (decode_unreserved kind.fragment) bf)
       ∙ is_some-option_map (decode_unreserved kind.fragment) bf in
-      let refused = normal-components-are-rejected-alike kind sets ports b ba bp bq bf r.scheme
-      r.authority r.path r.query
-      r.fragment of_base.path of_reference.path in
+      let refused = normal-components-are-rejected-alike kind sets ports
+      b ba bp bq bf r.scheme r.authority r.path r.query r.fragment of_base.path of_reference.path in
       rejected-results-are-equal (is_some bf) (is_opaque_rejection base r)
-      (meaning (dotted_target base r))
-      (meaning (dotted_target other_base other))
-      (λ e. sym (joined-normal-components-have-same-meaning kind sets ports b ba bp bq bf r.scheme
-      r.authority r.path r.query
-      r.fragment of_base of_reference
+      (meaning (dotted_target base r)) (meaning (dotted_target other_base other)) (λ e. sym
+      (joined-normal-components-have-same-meaning kind
+      sets ports b ba bp bq bf r.scheme r.authority r.path r.query r.fragment of_base of_reference
       (λ s a p. base-that-is-not-opaque-has-abempty-path ba bp
-      (merging-base-is-not-opaque base r e s p) cut)))
-      ∙ ap (λ t. result_or_target_error t (is_opaque_rejection base r)
-      (meaning (dotted_target other_base other)))
-      (sym fragment)
+      (merging-base-is-not-opaque base r e s p) cut))) ∙ ap (λ t. result_or_target_error t
+      (is_opaque_rejection base r) (meaning (dotted_target other_base other))) (sym fragment)
       ∙ ap (λ t. result_or_target_error (is_some other_base.fragment) t
-      (meaning (dotted_target other_base other)))
-      (sym refused))
-      base some
+      (meaning (dotted_target other_base other))) (sym refused)) base some
 
   resolved_under_ports-is-of-normal-components : (b t : List ℕ) → kind.needs_scheme ≡ true
-      → IsTextOf kind b
-      → IsTextOf (reference_kind kind) t
-      → resolved_under_ports kind ports b t
+      → IsTextOf kind b → IsTextOf (reference_kind kind) t → resolved_under_ports kind ports b t
       ≡ resolution_meaning (normal_components (meaning_of kind ports b))
       (normal_components (meaning_of (reference_kind kind) ports t))
   resolved_under_ports-is-of-normal-components b t needs v w =

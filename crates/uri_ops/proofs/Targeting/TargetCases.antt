@@ -1,20 +1,9 @@
 -- Which case of the pseudocode a reference is, and the pieces of a target in each case.
-use Rattle.std.proofs.Common.{◌≡◌, ℕ, ◌+◌, true, false, List, [], ◌++◌, length, sym, ap, ◌∙◌, option_map, arith}
-use Rattle.std.specs.Prelude.{codes, Option, is_some}
-use Rattle.std.proofs.lemmas.Bool.{cond-true, cond-false}
-use Rattle.std.proofs.lemmas.Bool.Decides.{nat_tests}
-use Rattle.uri_parts.specs.declared.positions.AuthorityPositions.{AuthorityPositions}
-use Rattle.uri_parts.specs.Components.{Components, components, marked, recompose}
-use Rattle.uri_parts.specs.Positions.{authority_at, positions_of}
+use Rattle.uri_ops.proofs.Common.{◌≡◌, ℕ, ◌+◌, true, false, List, [], ◌++◌, length, sym, ap, ◌∙◌, option_map, arith, codes, Option, is_some, cond-true, cond-false, nat_tests, AuthorityPositions, Components, components, marked, recompose, authority_at, positions_of, WithScheme, WithAuthority, EmptyPath, AbsolutePath, MergedPath, before_path, IsCaseOf, target_in_case, with_final_path, dotted_target, target_of, None-from-is_none, not_some_is_none}
 use Rattle.uri_ops.specs.declared.resolve.target_case.TargetCase.{TargetCase}
-use Rattle.uri_ops.specs.declared.resolve.target_case.TargetCase.TheVariants.{WithScheme, WithAuthority, EmptyPath, AbsolutePath, MergedPath}
-use Rattle.uri_ops.specs.Models.Places.{before_path}
-use Rattle.uri_ops.specs.Models.TargetCases.{IsCaseOf, target_in_case, with_authority}
-use Rattle.uri_ops.specs.Resolving.{with_final_path}
-use Rattle.uri_ops.specs.Target.{dotted_target, target_of}
+use Rattle.uri_ops.specs.Models.TargetCases.{with_authority}
 use Rattle.uri_ops.proofs.Normal.WrittenPlaces.{length-with-delimiter-after}
 use Rattle.uri_ops.proofs.Targeting.Targets.{target-text-has-target-components}
-use Rattle.uri_pct.proofs.General.{None-from-is_none, not_some_is_none}
 
 -- resolving: the case of a reference gives the line of the pseudocode for its target
 pub case-gives-line : (case : TargetCase) (base r : Components) → IsCaseOf r case
@@ -35,9 +24,8 @@ base-scheme-before-reference-authority b r scheme before s e f =
     cc (None-from-is_none r.scheme (not_some_is_none r.scheme s), not_some_is_none r.scheme s)
 
 -- positions in a target: a reference's authority is after the base's scheme
-pub reference-authority-after-base-scheme : (b r : Components) (scheme : List ℕ)
-    (places : Option AuthorityPositions)
-    → scheme ≡ marked [] b.scheme (codes ":")
+pub reference-authority-after-base-scheme : (b r : Components)
+    (scheme : List ℕ) (places : Option AuthorityPositions) → scheme ≡ marked [] b.scheme (codes ":")
     → places ≡ option_map (authority_at (length scheme + 2)) r.authority
     → places ≡ (positions_of (with_authority b r)).authority
 reference-authority-after-base-scheme b r scheme places e h =

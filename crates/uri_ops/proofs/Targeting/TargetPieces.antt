@@ -1,22 +1,5 @@
 -- Targets that are a prefix of the base and a suffix of the reference.
-use Rattle.std.proofs.Common.{◌≡◌, ℕ, ◌+◌, true, false, Bool, List, [], ◌++◌, length, take, drop, ap, inr, subst, sym, ◌∙◌, ◌&&◌, ◌||◌, append_assoc, arith, length-append}
-use Rattle.std.specs.Prelude.{codes, Option, None, is_some}
-use Rattle.std.proofs.lemmas.Bool.{cond-true}
-use Rattle.std.proofs.lemmas.List.{append-nil}
-use Rattle.std.proofs.lemmas.Bool.Decides.{nat_tests}
-use Rattle.std.proofs.Math.Bool.{or-false}
-use Rattle.uri_parts.specs.Components.{Components, components, marked, recompose, starts}
-use Rattle.uri_parts.specs.PackedPositions.{packed}
-use Rattle.uri_parts.specs.Positions.{before_fragment, positions_of}
-use Rattle.uri_parts.proofs.Splitting.Places.{length-before_hash}
-use Rattle.uri_ops.specs.Dots.{EndsInSlash, IsAbsolute, directory, has_slash, is_double_dot, is_empty, lacks_dot_segments, remove_dot_segments, underflows}
-use Rattle.uri_ops.specs.Models.Directories.{IsDotlessDirectory, RemovalState}
-use Rattle.uri_ops.specs.Models.Places.{IsSlashOrStart, before_path}
-use Rattle.uri_ops.specs.Models.TargetCases.{IsCaseOf}
-use Rattle.uri_ops.specs.Models.TargetPieces.{HasJoinedPath, IsDirectoryOfBase}
-use Rattle.uri_ops.specs.declared.resolve.target_case.TargetCase.TheVariants.{AbsolutePath}
-use Rattle.uri_ops.specs.Resolving.{with_final_path}
-use Rattle.uri_ops.specs.Target.{dotless_if_absolute, underflows_if_absolute, guarded, is_opaque_rejection, dotted_target, merged, query_or}
+use Rattle.uri_ops.proofs.Common.{◌≡◌, ℕ, ◌+◌, true, false, Bool, List, [], ◌++◌, length, take, drop, ap, inr, subst, sym, ◌∙◌, ◌&&◌, ◌||◌, append_assoc, arith, length-append, codes, Option, None, is_some, cond-true, append-nil, nat_tests, or-false, Components, marked, recompose, starts, packed, before_fragment, positions_of, length-before_hash, EndsInSlash, IsAbsolute, directory, has_slash, is_double_dot, is_empty, lacks_dot_segments, remove_dot_segments, underflows, IsDotlessDirectory, RemovalState, IsSlashOrStart, before_path, IsCaseOf, HasJoinedPath, IsDirectoryOfBase, AbsolutePath, with_final_path, dotless_if_absolute, underflows_if_absolute, guarded, is_opaque_rejection, dotted_target, merged, query_or, equal-to-true-is-IsTrue, eq_true_from_IsTrue, some_is_not_none, None-from-not-is_some}
 use Rattle.uri_ops.proofs.Normal.WrittenPlaces.{length-before_path-is-path_start}
 use Rattle.uri_ops.proofs.Paths.ClimbedDirectories.{first-bytes-are-prefix}
 use Rattle.uri_ops.proofs.Paths.DotLaws.{directory-is-absolute, directory-ends-in-slash, remove-dots-of-dotless, dotless-path-does-not-underflow}
@@ -25,18 +8,14 @@ use Rattle.uri_ops.proofs.Paths.LeftPaths.{dotless-path-after-directory-is-dotle
 use Rattle.uri_ops.proofs.Paths.GuardedPaths.{path-after-authority-needs-no-guard}
 use Rattle.uri_ops.proofs.Targeting.JoinedPieces.{joined-with-relative-path}
 use Rattle.uri_ops.proofs.Targeting.TargetCases.{case-gives-line}
-use Rattle.uri_parts.proofs.Splitting.Recompose.{equal-to-true-is-IsTrue}
 use Rattle.uri_ops.proofs.Targeting.Targets.{appended-absolute-path-is-absolute}
-use Rattle.uri_pct.proofs.General.{eq_true_from_IsTrue, some_is_not_none, None-from-not-is_some}
 use Rattle.uri_ops.proofs.Paths.DotRuns.{empty-text-is-nil}
 
 -- resolving: what is up to the last `/` of a base's path is its directory
 pub prefix-with-last-slash-is-directory-of-base : (b : Components) (slash : ℕ) (prefix : List ℕ)
-    → IsAbsolute b.path
-    → IsSlashOrStart b.path 0 slash → has_slash (drop (slash + 1) b.path) ≡ false
-    → is_double_dot (drop (slash + 1) b.path) ≡ false
-    → lacks_dot_segments prefix ≡ true → is_some b.authority ≡ true
-    → prefix ≡ take (slash + 1) b.path → IsDirectoryOfBase b prefix
+    → IsAbsolute b.path → IsSlashOrStart b.path 0 slash → has_slash (drop (slash + 1) b.path)
+    ≡ false → is_double_dot (drop (slash + 1) b.path) ≡ false → lacks_dot_segments prefix ≡ true
+    → is_some b.authority ≡ true → prefix ≡ take (slash + 1) b.path → IsDirectoryOfBase b prefix
 prefix-with-last-slash-is-directory-of-base b slash prefix absolute place last dots dotless some
     text =
     let same : prefix ≡ directory b.path = text
@@ -54,10 +33,8 @@ prefix-with-last-slash-is-directory-of-base b slash prefix absolute place last d
 
 -- resolving: a path without dot segments after an authority is unchanged
 dotless-path-after-authority-is-unchanged : (authority : Option (List ℕ)) (path : List ℕ)
-    → is_some authority ≡ true
-    → IsAbsolute path → lacks_dot_segments path ≡ true
-    → guarded authority (dotless_if_absolute path) ≡
-    path
+    → is_some authority ≡ true → IsAbsolute path
+    → lacks_dot_segments path ≡ true → guarded authority (dotless_if_absolute path) ≡ path
 dotless-path-after-authority-is-unchanged authority path some absolute dotless =
     sym (path-after-authority-needs-no-guard authority (dotless_if_absolute path) some)
     ∙ cond-true (starts 47 path) _ _ (eq_true_from_IsTrue _ absolute)
@@ -163,18 +140,15 @@ absolute-path-after-authority-is-joined b r prefix (h, e, n) some dotless f =
     let t = case-gives-line AbsolutePath b r (h, e, n) in
     record {
       taken = base-with-authority-rejects-no-reference b r some;
-      underflow = ap (λ (c : Components). underflows_if_absolute c.path) t
-          ∙ ap (λ x. x && underflows r.path) n
-          ∙ dotless-path-does-not-underflow r.path absolute dotless;
+      underflow = ap (λ (c : Components). underflows_if_absolute c.path) t ∙ ap
+          (λ x. x && underflows r.path) n ∙ dotless-path-does-not-underflow r.path absolute dotless;
       stem = [];
       before = f ∙ sym (append-nil (before_path b));
-      target = ap with_final_path t
-          ∙ (λ i. record b {
-            path = dotless-path-after-authority-is-unchanged b.authority r.path some absolute
-                dotless i;
-            query = r.query;
-            fragment = r.fragment;
-          });
+      target = ap with_final_path t ∙ (λ i. record b {
+        path = dotless-path-after-authority-is-unchanged b.authority r.path some absolute dotless i;
+        query = r.query;
+        fragment = r.fragment;
+      });
     }
 
 -- a reference without a path, of a base whose path is unchanged
@@ -207,30 +181,27 @@ module _ (b r : Components) (prefix : List ℕ) (s : is_some r.scheme ≡ false)
         underflow = dotless-base-path-does-not-underflow;
         stem = b.path;
         before = f;
-        target = ap with_final_path dotted_target-without-path-keeps-base-path
-            ∙ (λ i. record b {
-              path = (kept ∙ path) i;
-              query = cond-true (is_some r.query) r.query
-                  b.query q i;
-              fragment = r.fragment;
-            });
+        target = ap with_final_path dotted_target-without-path-keeps-base-path ∙ (λ i. record b {
+          path = (kept ∙ path) i;
+          query = cond-true (is_some r.query) r.query b.query q i;
+          fragment = r.fragment;
+        });
       }
 
   -- an empty reference, or one that begins with `#`, is after all but the base's fragment
   pub fragment-after-base-is-target-text : is_some r.query ≡ false
       → prefix ≡ (before_path b ++ b.path) ++ marked (codes "?") b.query []
       → prefix ++ recompose r ≡ recompose (with_final_path (dotted_target b r))
-  fragment-after-base-is-target-text q f =
-      grind (
-        arith,
-        nat_tests,
-        dotted_target-without-path-keeps-base-path,
-        kept,
-        text-without-prefix-is-path-and-suffix,
-        None-from-not-is_some,
-        empty-text-is-nil,
-        append_assoc,
-      )
+  fragment-after-base-is-target-text q f = grind (
+    arith,
+    nat_tests,
+    dotted_target-without-path-keeps-base-path,
+    kept,
+    text-without-prefix-is-path-and-suffix,
+    None-from-not-is_some,
+    empty-text-is-nil,
+    append_assoc,
+  )
 
   -- it has the base's positions
   pub fragment-after-base-keeps-positions : is_some r.query ≡ false

@@ -1,22 +1,15 @@
 -- Rows that compute: RFC 3986, section 5.4, and what is not in the RFC.
-use Rattle.std.proofs.Common.{◌≡◌, ℕ, true, false, List, [], refl, Ok, Err, arith}
-use Rattle.std.specs.Prelude.{codes}
-use Rattle.std.proofs.lemmas.Bool.Decides.{nat_tests}
-use Rattle.uri_parts.specs.Components.{components}
-use Rattle.uri_ops.specs.Dots.{remove_dot_segments, underflows, directory, run}
-use Rattle.uri_ops.specs.Target.{TargetError, BaseWithFragment, InvalidReferenceAgainstOpaqueBase, resolution_of, target_underflows}
+use Rattle.uri_ops.proofs.Common.{◌≡◌, ℕ, true, false, List, [], refl, Ok, Err, arith, codes, nat_tests, components, remove_dot_segments, underflows, directory, run, TargetError, BaseWithFragment, InvalidReferenceAgainstOpaqueBase, resolution_of, target_underflows}
 
 -- examples of targets: base and reference resolve to the target, without an underflow
 ResolvesTo : List ℕ → List ℕ → List ℕ → Type 0
-ResolvesTo base reference target =
-    (resolution_of (components base) (components reference) ≡ Ok target)
-    × (target_underflows (components base) (components reference) ≡ false)
+ResolvesTo base reference target = (resolution_of (components base) (components reference)
+    ≡ Ok target) × (target_underflows (components base) (components reference) ≡ false)
 
 -- examples of targets: base and reference resolve to the target, by an underflow
 UnderflowsToTarget : List ℕ → List ℕ → List ℕ → Type 0
-UnderflowsToTarget base reference target =
-    (resolution_of (components base) (components reference) ≡ Ok target)
-    × (target_underflows (components base) (components reference) ≡ true)
+UnderflowsToTarget base reference target = (resolution_of (components base) (components reference)
+    ≡ Ok target) × (target_underflows (components base) (components reference) ≡ true)
 
 -- examples of targets: base and reference have no target, but this error
 Rejects : List ℕ → List ℕ → TargetError → Type 0
@@ -28,8 +21,7 @@ base : List ℕ
 base = codes "http://a/b/c/d;p?q"
 
 -- examples of targets, by computation: the normal examples of RFC 3986, section 5.4.1
-rfc-normal-examples-resolve :
-    ResolvesTo base (codes "g:h") (codes "g:h")
+rfc-normal-examples-resolve : ResolvesTo base (codes "g:h") (codes "g:h")
     × ResolvesTo base (codes "g") (codes "http://a/b/c/g")
     × ResolvesTo base (codes "./g") (codes "http://a/b/c/g")
     × ResolvesTo base (codes "g/") (codes "http://a/b/c/g/")
@@ -56,8 +48,7 @@ unfolding ResolvesTo base remove_dot_segments underflows directory run
 rfc-normal-examples-resolve = grind (arith, nat_tests)
 
 -- examples of targets, by computation: the abnormal examples of RFC 3986, section 5.4.2
-rfc-abnormal-examples-resolve :
-    UnderflowsToTarget base (codes "../../../g") (codes "http://a/g")
+rfc-abnormal-examples-resolve : UnderflowsToTarget base (codes "../../../g") (codes "http://a/g")
     × UnderflowsToTarget base (codes "../../../../g") (codes "http://a/g")
     × ResolvesTo base (codes "/./g") (codes "http://a/g")
     × UnderflowsToTarget base (codes "/../g") (codes "http://a/g")
@@ -81,8 +72,7 @@ rfc-abnormal-examples-resolve = grind (arith, nat_tests)
 
 -- examples of targets, by computation: encoded dots, `/.` before `//`, a base that ends in `..`, an
 -- empty reference path, rootless paths
-other-examples-resolve :
-    ResolvesTo (codes "foo:/bar/..") (codes ".") (codes "foo:/")
+other-examples-resolve : ResolvesTo (codes "foo:/bar/..") (codes ".") (codes "foo:/")
     × ResolvesTo (codes "foo:/") (codes ".//@@") (codes "foo:/.//@@")
     × ResolvesTo (codes "http://x/") (codes "//a:80") (codes "http://a:80")
     × ResolvesTo (codes "foo:/bar/baz/.%2E/") (codes "..") (codes "foo:/")
@@ -92,21 +82,19 @@ other-examples-resolve :
     × ResolvesTo (codes "foo:") (codes "#x") (codes "foo:#x")
     × UnderflowsToTarget (codes "foo:/..") (codes "?a") (codes "foo:/?a")
     × UnderflowsToTarget (codes "HTTP://A/%2e%2E/b/c") (codes "%2E./d") (codes "HTTP://A/d")
-    × ResolvesTo (codes "http://example.com/foo/bar") (codes "?baz")
-    (codes "http://example.com/foo/bar?baz")
+    × ResolvesTo
+    (codes "http://example.com/foo/bar") (codes "?baz") (codes "http://example.com/foo/bar?baz")
     × ResolvesTo (codes "foo:bar") (codes "g:h/..") (codes "g:h/..")
     × ResolvesTo (codes "foo:bar?q") [] (codes "foo:bar?q")
 unfolding ResolvesTo UnderflowsToTarget remove_dot_segments underflows directory run
 other-examples-resolve = grind (arith, nat_tests)
 
 -- examples of rejected references, by computation: the base's fragment is tested first
-examples-are-rejected :
-    Rejects (codes "foo:bar") (codes "//g") InvalidReferenceAgainstOpaqueBase
+examples-are-rejected : Rejects (codes "foo:bar") (codes "//g") InvalidReferenceAgainstOpaqueBase
     × Rejects (codes "foo:bar#x") (codes "//g") BaseWithFragment
     × Rejects (codes "foo:") (codes "g") InvalidReferenceAgainstOpaqueBase
     × Rejects (codes "foo:bar/..") (codes "?a") InvalidReferenceAgainstOpaqueBase
     × Rejects (codes "foo:bar") (codes "/g") InvalidReferenceAgainstOpaqueBase
     × Rejects (codes "foo://a#") (codes "g") BaseWithFragment
 unfolding Rejects
-examples-are-rejected =
-    (refl, refl, refl, refl, refl, refl)
+examples-are-rejected = (refl, refl, refl, refl, refl, refl)

@@ -1,16 +1,5 @@
 -- A target is a text of its base's kind.
-use Rattle.std.proofs.Common.{◌≡◌, ℕ, true, false, List, ap, subst, ◌∙◌, arith}
-use Rattle.std.specs.Prelude.{IfSome, Ok, is_some, is_none}
-use Rattle.std.specs.Str.{IsUtf8}
-use Rattle.std.proofs.lemmas.Bool.{cond_both}
-use Rattle.std.proofs.lemmas.Bool.Decides.{nat_tests}
-use Rattle.uri_parts.specs.Components.{Components, IsAbemptyPath, components, recompose}
-use Rattle.uri_parts.specs.Grammar.{Kind, is_scheme, is_authority, components_meet_rules, IsTextOf}
-use Rattle.uri_parts.proofs.Splitting.Recompose.{components-are-split-of-text}
-use Rattle.uri_ops.specs.Dots.{is_empty}
-use Rattle.uri_ops.specs.Target.{is_opaque_rejection, dotted_target, dotless_if_absolute, guarded, target_of, resolution_of}
-use Rattle.uri_ops.specs.ComponentSets.{HasComponentSets}
-use Rattle.uri_ops.specs.NormalTargets.{reference_kind}
+use Rattle.uri_ops.proofs.Common.{◌≡◌, ℕ, true, false, List, ap, subst, ◌∙◌, arith, IfSome, Ok, is_some, is_none, IsUtf8, cond_both, nat_tests, Components, IsAbemptyPath, components, recompose, Kind, is_scheme, is_authority, components_meet_rules, IsTextOf, components-are-split-of-text, is_empty, is_opaque_rejection, dotted_target, dotless_if_absolute, guarded, target_of, resolution_of, HasComponentSets, reference_kind, not_some_is_none}
 use Rattle.uri_ops.proofs.Meanings.AllowedParts.{is_set_text}
 use Rattle.uri_ops.proofs.Paths.PathMeanings.{guarded-set-text-is-set-text, path-without-dots-is-set-text}
 use Rattle.uri_ops.proofs.Paths.MergedPaths.{merged-set-text-is-set-text}
@@ -19,7 +8,6 @@ use Rattle.uri_ops.proofs.Meanings.TextParts.{ArePartsOfKind, components-of-kind
 use Rattle.uri_ops.proofs.Normal.NormalTexts.{recomposed-components-are-utf8, text-has-parts-of-kind}
 use Rattle.uri_ops.proofs.Targeting.Swaps.{text-of-kind-has-needed-scheme, merging-base-is-not-opaque, base-that-is-not-opaque-has-abempty-path}
 use Rattle.uri_ops.proofs.Targeting.RefusalOrder.{result_or_target_error, ok-result-has-no-opaque-rejection}
-use Rattle.uri_pct.proofs.General.{not_some_is_none}
 
 module _ (kind : Kind) (sets : HasComponentSets kind) where
   -- components with a scheme, each of which meets its rule
@@ -32,19 +20,17 @@ module _ (kind : Kind) (sets : HasComponentSets kind) where
     fragment : IfSome t.fragment (λ f. is_set_text kind.fragment f ≡ true)
 
   dotted_target-has-parts-with-scheme : (base r : Components) → is_some base.scheme ≡ true
-      → ArePartsOfKind kind base
-      → ArePartsOfKind (reference_kind kind) r
+      → ArePartsOfKind kind base → ArePartsOfKind (reference_kind kind) r
       → (is_none r.scheme ≡ true → is_empty r.path ≡ false → IsAbemptyPath base.path)
       → ArePartsWithScheme (dotted_target base r)
-  dotted_target-has-parts-with-scheme base r some b p rooted =
-      grind (
-        arith,
-        nat_tests,
-        cond_both,
-        is_set_text,
-        merged-set-text-is-set-text,
-        not_some_is_none,
-      )
+  dotted_target-has-parts-with-scheme base r some b p rooted = grind (
+    arith,
+    nat_tests,
+    cond_both,
+    is_set_text,
+    merged-set-text-is-set-text,
+    not_some_is_none,
+  )
 
   guarded-dotless-target-is-of-kind : (t : Components) → ArePartsWithScheme t
       → ArePartsOfKind kind (record t { path = guarded t.authority (dotless_if_absolute t.path) })
@@ -61,12 +47,11 @@ module _ (kind : Kind) (sets : HasComponentSets kind) where
       let some = text-of-kind-has-needed-scheme kind b needs v in
       let a = ok-result-has-no-opaque-rejection (is_some base.fragment) (is_opaque_rejection base r)
       (recompose (target_of base r)) target e in
-      let parts = guarded-dotless-target-is-of-kind (dotted_target base r)
-      (dotted_target-has-parts-with-scheme base r some (text-has-parts-of-kind kind b v)
-      (text-has-parts-of-kind (reference_kind kind) t w)
+      let parts = guarded-dotless-target-is-of-kind
+      (dotted_target base r) (dotted_target-has-parts-with-scheme base r some
+      (text-has-parts-of-kind kind b v) (text-has-parts-of-kind (reference_kind kind) t w)
       (λ s p. base-that-is-not-opaque-has-abempty-path base.authority base.path
-      (merging-base-is-not-opaque base r a.0 s p)
-      (components-are-split-of-text b).authority)) in
+      (merging-base-is-not-opaque base r a.0 s p) (components-are-split-of-text b).authority)) in
       subst (IsTextOf kind) a.1 (record {
         utf8 = recomposed-components-are-utf8 kind (target_of base r) parts;
         grammar = ap (components_meet_rules kind) (target-text-has-target-components b t some)

@@ -1,18 +1,7 @@
 -- The text of a target has the components that were put into it.
-use Rattle.std.proofs.Common.{◌≡◌, ℕ, ◌<◌, true, false, cond, List, [], ◌∷◌, ◌++◌, length, refl, sym, ap, ◌∙◌, ◌&&◌, ◌||◌, inr, ⊎_elim, rules, arith}
-use Rattle.std.specs.Prelude.{codes, Option, Some, None, IfSome, IfNone, is_some, is_none}
-use Rattle.std.proofs.lemmas.Bool.{cond_both, and_parts, cases_Bool, false≢true, false_from_ne_true}
-use Rattle.std.proofs.lemmas.List.Elements.{All-append}
-use Rattle.std.proofs.lemmas.Bool.Decides.{nat_tests}
-use Rattle.uri_pct.specs.Sets.{is_one_of}
-use Rattle.uri_parts.specs.Components.{Components, IsSplitOf, Lacks, IsAbemptyPath, marked, starts, has_authority, components, recompose}
-use Rattle.uri_parts.proofs.Splitting.Splits.{only-split-is-components}
-use Rattle.uri_parts.proofs.Splitting.Recompose.{components-are-split-of-text, recompose-components, equal-to-true-is-IsTrue}
-use Rattle.uri_ops.specs.Dots.{is_empty, remove_dot_segments, directory, IsAbsolute}
-use Rattle.uri_ops.specs.Target.{is_fragment_only, merged, dotted_target, dotless_if_absolute, guarded, target_of}
+use Rattle.uri_ops.proofs.Common.{◌≡◌, ℕ, ◌<◌, true, false, cond, List, [], ◌∷◌, ◌++◌, length, refl, sym, ap, ◌∙◌, ◌&&◌, ◌||◌, inr, ⊎_elim, rules, arith, codes, Option, Some, None, IfSome, IfNone, is_some, is_none, cond_both, and_parts, cases_Bool, false≢true, false_from_ne_true, All-append, nat_tests, is_one_of, Components, IsSplitOf, Lacks, IsAbemptyPath, marked, starts, has_authority, components, recompose, only-split-is-components, components-are-split-of-text, recompose-components, equal-to-true-is-IsTrue, is_empty, remove_dot_segments, directory, IsAbsolute, is_fragment_only, merged, dotted_target, dotless_if_absolute, guarded, target_of, None-from-is_none}
 use Rattle.uri_ops.proofs.Paths.DotLaws.{removing-dots-keeps-absolute, directory-is-absolute}
 use Rattle.uri_ops.proofs.Paths.PathCharacters.{test-of-delimiters-gives-lacks, removing-dots-adds-no-character, directory-adds-no-character}
-use Rattle.uri_pct.proofs.General.{None-from-is_none}
 use Rattle.uri_ops.proofs.Paths.DotRuns.{empty-text-is-nil}
 
 -- targets: components have a scheme, and each lacks the characters that would end it
@@ -39,61 +28,46 @@ authority-property-implies-other-if-some (Some a) P Q f h = (h.0, f h.1)
 -- resolving: the components of a target by the table of RFC 3986, section 5.2.2, are split off
 -- again when its text is parsed
 dotted_target-is-splittable : (b t : List ℕ) (base r : Components) → is_some base.scheme ≡ true
-    → IsSplitOf b base
-    → IsSplitOf t r → IsSplittable (dotted_target base r)
+    → IsSplitOf b base → IsSplitOf t r → IsSplittable (dotted_target base r)
 dotted_target-is-splittable b t base r some is_base is_reference =
-    cond_both (is_some r.scheme) r _ IsSplittable
-    (λ h. record {
+    cond_both (is_some r.scheme) r _ IsSplittable (λ h. record {
       some = h;
       scheme = is_reference.scheme;
-      authority =
-          is_reference.authority;
+      authority = is_reference.authority;
       path = is_reference.path;
       query = is_reference.query;
-    })
-    (λ h. cond_both (is_some r.authority) (record r { scheme = base.scheme }) _ IsSplittable
-    (λ h. record {
+    }) (λ h. cond_both
+    (is_some r.authority) (record r { scheme = base.scheme }) _ IsSplittable (λ h. record {
       some = some;
       scheme = is_base.scheme;
       authority = is_reference.authority;
-      path =
-          is_reference.path;
+      path = is_reference.path;
       query = is_reference.query;
-    })
-    (λ h. cond_both (is_empty r.path)
-    (record base { query = cond (is_some r.query) r.query base.query; fragment = r.fragment }) _
-    IsSplittable
-    (λ h. record {
+    }) (λ h. cond_both (is_empty r.path)
+    (record base { query = cond (is_some r.query) r.query base.query; fragment = r.fragment })
+    _ IsSplittable (λ h. record {
       some = some;
       scheme = is_base.scheme;
       authority = is_base.authority;
       path = is_base.path;
       query = cond_both (is_some r.query) r.query base.query
           (λ o. IfSome o (λ q. Lacks (codes "#") q)) (λ _. is_reference.query) (λ _. is_base.query);
-    })
-    (λ h. cond_both (starts 47 r.path)
-    (record base { path = r.path; query = r.query; fragment = r.fragment })
+    }) (λ h. cond_both
+    (starts 47 r.path) (record base { path = r.path; query = r.query; fragment = r.fragment })
     (record base { path = merged base.path r.path; query = r.query; fragment = r.fragment })
-    IsSplittable
-    (λ h. record {
-      some = some;
-      scheme = is_base.scheme;
-      authority =
-          authority-property-implies-other-if-some base.authority (IsAbemptyPath base.path)
-          (IsAbemptyPath r.path)
-          (λ _. inr (equal-to-true-is-IsTrue _ h))
-          is_base.authority;
-      path = is_reference.path;
-      query = is_reference.query;
-    })
-    (λ h. record {
+    IsSplittable (λ h. record {
       some = some;
       scheme = is_base.scheme;
       authority = authority-property-implies-other-if-some base.authority (IsAbemptyPath base.path)
-          (IsAbemptyPath (merged base.path r.path))
-          (λ k. inr (appended-absolute-path-is-absolute (directory base.path) r.path
-          (directory-is-absolute base.path k)))
-          is_base.authority;
+          (IsAbemptyPath r.path) (λ _. inr (equal-to-true-is-IsTrue _ h)) is_base.authority;
+      path = is_reference.path;
+      query = is_reference.query;
+    }) (λ h. record {
+      some = some;
+      scheme = is_base.scheme;
+      authority = authority-property-implies-other-if-some base.authority (IsAbemptyPath base.path)
+          (IsAbemptyPath (merged base.path r.path)) (λ k. inr (appended-absolute-path-is-absolute
+          (directory base.path) r.path (directory-is-absolute base.path k))) is_base.authority;
       path = All-append (λ c. is_one_of (codes "?#") c ≡ false) (directory base.path) r.path
           (directory-adds-no-character (codes "?#") refl base.path is_base.path) is_reference.path;
       query = is_reference.query;
@@ -121,16 +95,14 @@ guarded-path-after-authority-is-abempty (Some a) path h = h
 
 -- resolving: the guard `/.` gives a path neither `?` nor `#`
 guarded-path-lacks-its-ends : (authority : Option (List ℕ)) (path : List ℕ)
-    → Lacks (codes "?#") path
-    → Lacks (codes "?#") (guarded authority path)
+    → Lacks (codes "?#") path → Lacks (codes "?#") (guarded authority path)
 guarded-path-lacks-its-ends authority path h =
     grind (arith, nat_tests, cond_both, All-append, test-of-delimiters-gives-lacks)
 
 -- resolving: a target without an authority has no path that
 -- begins with `//`, owing to the guard `/.`
-pub guarded-path-without-authority-has-no-two-slashes : (authority : Option (List ℕ))
-    (path : List ℕ)
-    → IfNone authority (has_authority (guarded authority path) ≡ false)
+pub guarded-path-without-authority-has-no-two-slashes : (authority : Option
+    (List ℕ)) (path : List ℕ) → IfNone authority (has_authority (guarded authority path) ≡ false)
 guarded-path-without-authority-has-no-two-slashes None path = grind (arith, nat_tests, cond_both)
 guarded-path-without-authority-has-no-two-slashes (Some a) path = tt
 
@@ -146,24 +118,22 @@ option-that-is-some-has-no-none (Some x) P h = tt
 guarded-target-is-split-of-its-text : (t : Components) → IsSplittable t
     → IsSplitOf (recompose (record t { path = guarded t.authority (dotless_if_absolute t.path) }))
     (record t { path = guarded t.authority (dotless_if_absolute t.path) })
-guarded-target-is-split-of-its-text t fits =
-    grind (
-      arith,
-      nat_tests,
-      guarded-path-after-authority-is-abempty,
-      authority-property-implies-other-if-some,
-      dotless-abempty-path-is-abempty,
-      guarded-path-lacks-its-ends,
-      dotless-path-lacks-its-ends,
-      option-that-is-some-has-no-none,
-      guarded-path-without-authority-has-no-two-slashes,
-    )
+guarded-target-is-split-of-its-text t fits = grind (
+  arith,
+  nat_tests,
+  guarded-path-after-authority-is-abempty,
+  authority-property-implies-other-if-some,
+  dotless-abempty-path-is-abempty,
+  guarded-path-lacks-its-ends,
+  dotless-path-lacks-its-ends,
+  option-that-is-some-has-no-none,
+  guarded-path-without-authority-has-no-two-slashes,
+)
 
 -- resolving: parsing the text of a target splits it into the target's components
-pub target-components-are-split : (base reference : List ℕ) → is_some (components base).scheme
-    ≡ true
-    → IsSplitOf (recompose (target_of (components base) (components reference)))
-    (target_of (components base) (components reference))
+pub target-components-are-split : (base reference : List ℕ)
+    → is_some (components base).scheme ≡ true → IsSplitOf (recompose (target_of (components base)
+    (components reference))) (target_of (components base) (components reference))
 target-components-are-split base reference some =
     guarded-target-is-split-of-its-text (dotted_target (components base) (components reference))
     (dotted_target-is-splittable base reference (components base) (components reference) some
@@ -172,8 +142,7 @@ target-components-are-split base reference some =
 -- resolving: the components of a target's text are those of the
 -- target (RFC 3986, sections 5.2.2 and 5.3)
 pub target-text-has-target-components : (base reference : List ℕ) → is_some (components base).scheme
-    ≡ true
-    → components (recompose (target_of (components base) (components reference)))
+    ≡ true → components (recompose (target_of (components base) (components reference)))
     ≡ target_of (components base) (components reference)
 target-text-has-target-components base reference some =
     only-split-is-components _ _ (target-components-are-split base reference some)
@@ -190,8 +159,7 @@ fragment-only-text-is-empty-or-begins-with-hash r h =
       None-from-is_none r.scheme third.0,
       None-from-is_none r.authority third.1,
       empty-text-is-nil r.path second.1,
-      None-from-is_none
-          r.query first.1,
+      None-from-is_none r.query first.1,
     ) (of_fragment r.fragment)
   where
     of_fragment : (o : Option (List ℕ))
@@ -201,18 +169,16 @@ fragment-only-text-is-empty-or-begins-with-hash r h =
 
 -- resolving: a text that is empty or begins with `#` (35) has a fragment alone
 text-empty-or-beginning-with-hash-is-fragment-only : (text : List ℕ)
-    → (is_empty text || starts 35 text) ≡ true
-    → is_fragment_only (components text) ≡ true
+    → (is_empty text || starts 35 text) ≡ true → is_fragment_only (components text) ≡ true
 text-empty-or-beginning-with-hash-is-fragment-only [] h = refl
 text-empty-or-beginning-with-hash-is-fragment-only (c ∷ rest) h = grind (arith, nat_tests)
 
 -- resolving: a reference is a fragment alone exactly if it is empty or begins with `#` (35)
 pub fragment_only_is_empty_or_leading_hash : (text : List ℕ)
     → is_fragment_only (components text) ≡ (is_empty text || starts 35 text)
-fragment_only_is_empty_or_leading_hash text = ⊎_elim
-    (λ h. h ∙ sym (ap (λ t. is_empty t || starts 35 t) (sym (recompose-components text))
+fragment_only_is_empty_or_leading_hash text =
+    ⊎_elim (λ h. h ∙ sym (ap (λ t. is_empty t || starts 35 t) (sym (recompose-components text))
     ∙ fragment-only-text-is-empty-or-begins-with-hash (components text) h))
-    (λ h. h
-    ∙ sym (false_from_ne_true (is_empty text || starts 35 text)
+    (λ h. h ∙ sym (false_from_ne_true (is_empty text || starts 35 text)
     (λ e. false≢true (sym h ∙ text-empty-or-beginning-with-hash-is-fragment-only text e))))
     (cases_Bool (is_fragment_only (components text)))

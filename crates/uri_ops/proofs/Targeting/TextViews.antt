@@ -1,25 +1,7 @@
 -- The substrings of a text between the positions of its components.
-use Rattle.std.proofs.Common.{◌≡◌, ℕ, ◌+◌, ◌-◌, ◌≤◌, true, List, [], ◌∷◌, ◌++◌, length, take, drop, refl, sym, ap, subst, ◌∙◌, arith, append_assoc, length-append, option_map}
-use Rattle.std.specs.Prelude.{codes, Option, Some, None, IfSome, slice_range}
-use Rattle.std.specs.Str.{IsUtf8, IsCharBoundary}
-use Rattle.std.proofs.Math.Seq.{drop-append_seam, take-append_seam}
+use Rattle.uri_ops.proofs.Common.{◌≡◌, ℕ, ◌+◌, ◌-◌, ◌≤◌, true, List, [], ◌∷◌, ◌++◌, length, take, drop, refl, sym, ap, subst, ◌∙◌, arith, append_assoc, length-append, option_map, codes, Option, Some, None, IfSome, slice_range, IsUtf8, IsCharBoundary, drop-append_seam, take-append_seam, IsCharBoundary-from_drop, IsUtf8-append, IsUtf8-drop, nat_tests, AuthorityPositions, Positions, components, marked, Kind, is_authority, IsTextOf, ArePositionsOf, authority_at, before_fragment, host_end_of, delimited_length, host_is_at_positions, slice_range-from-start, boundary-at-fragment-mark, fragment_text, boundary_after_mark, before_hash, split-text-is-before-fragment-and-fragment, length-before_hash, slice-between-prefix-and-suffix, components-are-split-of-text, recompose-components, IsAbsolute, EndsIn, IsSlashOrStart, before_path}
 use Rattle.std.proofs.lemmas.Option.{none-some, same_Some}
-use Rattle.std.proofs.lemmas.Str.{IsCharBoundary-from_drop, IsUtf8-append, IsUtf8-drop}
-use Rattle.std.proofs.lemmas.Bool.Decides.{nat_tests}
-use Rattle.uri_parts.specs.declared.positions.AuthorityPositions.{AuthorityPositions}
-use Rattle.uri_parts.specs.declared.positions.Positions.{Positions}
-use Rattle.uri_parts.specs.Components.{components, marked}
-use Rattle.uri_parts.specs.Grammar.{Kind, is_authority, IsTextOf}
-use Rattle.uri_parts.specs.Positions.{ArePositionsOf, authority_at, before_fragment, host_end_of, delimited_length}
-use Rattle.uri_parts.proofs.Authorities.AuthorityPlaces.{host_is_at_positions}
-use Rattle.uri_parts.proofs.Splitting.Fragments.{slice_range-from-start, boundary-at-fragment-mark}
-use Rattle.uri_parts.proofs.Splitting.Marks.{fragment_text}
-use Rattle.uri_parts.proofs.Splitting.Places.{boundary_after_mark, before_hash, split-text-is-before-fragment-and-fragment, length-before_hash, slice-between-prefix-and-suffix}
 use Rattle.uri_parts.proofs.Splitting.ComponentPositions.{path_is_at_positions}
-use Rattle.uri_parts.proofs.Splitting.Recompose.{components-are-split-of-text, recompose-components}
-use Rattle.uri_ops.specs.Dots.{IsAbsolute}
-use Rattle.uri_ops.specs.Models.Directories.{EndsIn}
-use Rattle.uri_ops.specs.Models.Places.{IsSlashOrStart, before_path}
 use Rattle.uri_ops.proofs.Normal.NormalTexts.{text-has-parts-of-kind}
 use Rattle.uri_ops.proofs.Normal.WrittenPlaces.{length-with-delimiter-before, length-before_path-is-path_start, length-with-delimiter-after}
 use Rattle.uri_ops.proofs.Paths.LastSlashes.{cut, slash-position-is-prefix-length, prefix-through-slash-ends-in-slash}
@@ -41,8 +23,7 @@ pub record Within (text : List ℕ) (places : AuthorityPositions) : Type 0 where
 
 -- positions in a target: those of an authority are within the text of scheme and authority
 authority-positions-are-within-prefix-text : (scheme authority : Option (List ℕ))
-    (places : AuthorityPositions)
-    → ((a : List ℕ) → authority ≡ Some a → host_end_of a ≤ length a)
+    (places : AuthorityPositions) → ((a : List ℕ) → authority ≡ Some a → host_end_of a ≤ length a)
     → Some places ≡ option_map (authority_at (delimited_length 1 scheme + 2)) authority
     → Within (marked [] scheme (codes ":") ++ marked (codes "//") authority []) places
 authority-positions-are-within-prefix-text scheme None places host e = absurd
@@ -56,8 +37,7 @@ authority-positions-are-within-prefix-text scheme (Some a) places host e =
       length-with-delimiter-after scheme 58,
       length-with-delimiter-before (codes "//") (Some a),
     ) in
-    subst (Within prefix) (sym (same_Some _ _ e))
-    (record {
+    subst (Within prefix) (sym (same_Some _ _ e)) (record {
       start = omega arith;
       host_start = omega (arith, h);
       host_end = omega (arith, h);
@@ -74,12 +54,11 @@ authority-positions-are-in-prefix text p places at host e =
 
 -- positions in a target: those of an authority in a text without a scheme, moved by n, are those
 -- after a scheme of n bytes (with its `:`)
-moved-authority-positions-are-after-scheme : (n : ℕ) (authority : Option (List ℕ))
-    (places moved : AuthorityPositions)
-    → Some places ≡ option_map (authority_at 2) authority
-    → moved.start ≡ n + places.start → moved.host_start ≡ n + places.host_start
-    → moved.host_end ≡ n + places.host_end → moved.end ≡ n + places.end
-    → Some moved ≡ option_map (authority_at (n + 2)) authority
+moved-authority-positions-are-after-scheme :
+    (n : ℕ) (authority : Option (List ℕ)) (places moved : AuthorityPositions)
+    → Some places ≡ option_map (authority_at 2) authority → moved.start ≡ n + places.start
+    → moved.host_start ≡ n + places.host_start → moved.host_end ≡ n + places.host_end
+    → moved.end ≡ n + places.end → Some moved ≡ option_map (authority_at (n + 2)) authority
 moved-authority-positions-are-after-scheme n None places moved e start host_start host_end end =
     absurd (none-some places (sym e))
 moved-authority-positions-are-after-scheme n (Some a) places moved e start host_start host_end end =
@@ -87,12 +66,11 @@ moved-authority-positions-are-after-scheme n (Some a) places moved e start host_
 
 -- positions in a target: after a scheme of n bytes (with its `:`), an authority is n bytes further
 -- on; moved: its positions there
-pub authority-positions-after-scheme : (text : List ℕ) (p : Positions) (n : ℕ)
-    (places moved : AuthorityPositions)
-    → ArePositionsOf text p → (components text).scheme ≡ None → p.authority ≡ Some places
-    → moved.start ≡ n + places.start → moved.host_start ≡ n + places.host_start
-    → moved.host_end ≡ n + places.host_end → moved.end ≡ n + places.end
-    → Some moved ≡ option_map (authority_at (n + 2)) (components text).authority
+pub authority-positions-after-scheme : (text : List ℕ)
+    (p : Positions) (n : ℕ) (places moved : AuthorityPositions) → ArePositionsOf text p
+    → (components text).scheme ≡ None → p.authority ≡ Some places → moved.start ≡ n + places.start
+    → moved.host_start ≡ n + places.host_start → moved.host_end ≡ n + places.host_end → moved.end
+    ≡ n + places.end → Some moved ≡ option_map (authority_at (n + 2)) (components text).authority
 authority-positions-after-scheme text p n places moved at none e start host_start host_end end =
     grind (arith, nat_tests, moved-authority-positions-are-after-scheme)
 
@@ -120,29 +98,24 @@ text-begins-with-its-scheme text (Some s) rest whole utf8 end e =
 
 -- targets: after a `/` (47) in the middle of a path a character begins; the text up to it is
 -- prefix, left and `/`
-position-after-inner-slash-is-boundary : (text prefix path suffix left right : List ℕ)
-    (start slash : ℕ)
-    → text ≡ prefix ++ (path ++ suffix) → start ≡ length prefix → path ≡ left ++ 47 ∷ right
-    → slash ≡ length left → IsUtf8 text
-    → IsCharBoundary text (start + slash + 1)
+position-after-inner-slash-is-boundary : (text prefix path suffix left right : List ℕ) (start slash
+    : ℕ) → text ≡ prefix ++ (path ++ suffix) → start ≡ length prefix → path ≡ left ++ 47 ∷ right
+    → slash ≡ length left → IsUtf8 text → IsCharBoundary text (start + slash + 1)
     × (take (start + slash + 1) text ≡ prefix ++ (left ++ codes "/"))
 position-after-inner-slash-is-boundary text prefix path suffix left right start slash whole
     n e m utf8 =
-    let joined : text ≡ (prefix ++ left) ++ 47 ∷ (right ++ suffix) = whole
-    ∙ ap (λ t. prefix ++ (t ++ suffix)) e
-    ∙ ap (λ t. prefix ++ t) (append_assoc left (47 ∷ right) suffix)
+    let joined : text ≡ (prefix ++ left) ++ 47 ∷ (right ++ suffix) = whole ∙ ap (λ t. prefix
+    ++ (t ++ suffix)) e ∙ ap (λ t. prefix ++ t) (append_assoc left (47 ∷ right) suffix)
     ∙ sym (append_assoc prefix left (47 ∷ (right ++ suffix))) in
     let k : start + slash + 1 ≡ length (prefix ++ left) + 1 = omega
     (arith, n, m, length-append prefix left) in
     let l : start + slash + 1 ≡ length ((prefix ++ left) ++ codes "/") = omega
     (arith, k, length-append (prefix ++ left) (codes "/")) in (
-      subst (IsCharBoundary text) (sym k)
-          (subst (λ t. IsCharBoundary t (length (prefix ++ left) + 1)) (sym joined)
-          (boundary_after_mark (prefix ++ left) (right ++ suffix) 47 (omega arith)
-          (subst IsUtf8 joined utf8))),
-      ap (take (start + slash + 1))
-          (joined ∙ sym (append_assoc (prefix ++ left) (codes "/") (right ++ suffix)))
-          ∙ ap (λ j. take j (((prefix ++ left) ++ codes "/") ++ (right ++ suffix))) l
+      subst (IsCharBoundary text) (sym k) (subst (λ t. IsCharBoundary t
+          (length (prefix ++ left) + 1)) (sym joined) (boundary_after_mark (prefix ++ left)
+          (right ++ suffix) 47 (omega arith) (subst IsUtf8 joined utf8))),
+      ap (take (start + slash + 1)) (joined ∙ sym (append_assoc (prefix ++ left) (codes "/") (right
+          ++ suffix))) ∙ ap (λ j. take j (((prefix ++ left) ++ codes "/") ++ (right ++ suffix))) l
           ∙ take-append_seam ((prefix ++ left) ++ codes "/") (right ++ suffix)
           ∙ append_assoc prefix left (codes "/"),
     )
@@ -150,10 +123,8 @@ position-after-inner-slash-is-boundary text prefix path suffix left right start 
 module _ (text : List ℕ) (p : Positions) (utf8 : IsUtf8 text) (at : ArePositionsOf text p) where
   pub slice-of-scheme : (end : ℕ) → p.scheme_end ≡ Some end
       → HasScheme text (components text).scheme end
-  slice-of-scheme end e =
-      text-begins-with-its-scheme text (components text).scheme _
-      (recompose-components text) utf8 end
-      (sym e ∙ ap (λ (q : Positions). q.scheme_end) at)
+  slice-of-scheme end e = text-begins-with-its-scheme text (components text).scheme _
+      (recompose-components text) utf8 end (sym e ∙ ap (λ (q : Positions). q.scheme_end) at)
 
   pub path_start-is-boundary : IsCharBoundary text p.path_start
   path_start-is-boundary = (path_is_at_positions text p utf8 at).starts
@@ -162,26 +133,22 @@ module _ (text : List ℕ) (p : Positions) (utf8 : IsUtf8 text) (at : ArePositio
   slice-before-path =
       let c = components text in
       let suffix = c.path ++ (marked (codes "?") c.query [] ++ marked (codes "#") c.fragment []) in
-      slice_range-from-start text p.path_start
-      ∙ ap (λ k. take k text) (ap (λ (q : Positions). q.path_start) at
-      ∙ sym (length-before_path-is-path_start c))
-      ∙ ap (take (length (before_path c)))
-      (sym (append_assoc (marked [] c.scheme (codes ":")) (marked (codes "//") c.authority [])
-      suffix ∙ recompose-components text))
+      slice_range-from-start text p.path_start ∙ ap (λ k. take k text)
+      (ap (λ (q : Positions). q.path_start) at ∙ sym (length-before_path-is-path_start c))
+      ∙ ap (take (length (before_path c))) (sym (append_assoc (marked [] c.scheme (codes ":"))
+      (marked (codes "//") c.authority []) suffix ∙ recompose-components text))
       ∙ take-append_seam (before_path c) suffix
 
   query-ends-after-its-length : before_fragment p
       ≡ p.path_end + length (marked (codes "?") (components text).query [])
   query-ends-after-its-length =
       let c = components text in
-      ap before_fragment at ∙ sym (length-before_hash c)
-      ∙ omega (
+      ap before_fragment at ∙ sym (length-before_hash c) ∙ omega (
         arith,
         length-append (before_path c ++ c.path) (marked (codes "?") c.query []),
         length-append (before_path c) c.path,
         length-before_path-is-path_start c,
-        ap
-            (λ (q : Positions). q.path_end) at,
+        ap (λ (q : Positions). q.path_end) at,
       )
 
   pub path_end-is-boundary : IsCharBoundary text p.path_end
@@ -200,14 +167,12 @@ module _ (text : List ℕ) (p : Positions) (utf8 : IsUtf8 text) (at : ArePositio
         arith,
         length-append (before_path c) c.path,
         length-before_path-is-path_start c,
-        ap
-            (λ (q : Positions). q.path_end) at,
+        ap (λ (q : Positions). q.path_end) at,
       ) in
       let m : before_fragment p ≡ length prefix + length query = omega
       (arith, n, query-ends-after-its-length) in
       let whole : text ≡ prefix ++ (query ++ fragment_text c.fragment) =
-      split-text-is-before-fragment-and-fragment text c
-      (components-are-split-of-text text)
+      split-text-is-before-fragment-and-fragment text c (components-are-split-of-text text)
       ∙ append_assoc prefix query (fragment_text c.fragment) in
       ap (λ k. slice_range text k (before_fragment p)) n ∙ ap (slice_range text (length prefix)) m
       ∙ ap (λ t. slice_range t (length prefix) (length prefix + length query)) whole
@@ -222,17 +187,14 @@ module _ (text : List ℕ) (p : Positions) (utf8 : IsUtf8 text) (at : ArePositio
       (components-are-split-of-text text))
       ∙ drop-append_seam (before_hash c) (fragment_text c.fragment)
 
-  text-is-prefix-path-query-and-fragment : text
-      ≡ before_path (components text) ++
-      ((components text).path ++
-      (marked (codes "?") (components text).query [] ++ marked (codes "#")
-      (components text).fragment []))
+  text-is-prefix-path-query-and-fragment : text ≡ before_path (components text)
+      ++ ((components text).path ++ (marked (codes "?") (components text).query []
+      ++ marked (codes "#") (components text).fragment []))
   text-is-prefix-path-query-and-fragment =
       grind (arith, nat_tests, append_assoc, recompose-components)
 
-  pub slice-after-path : drop p.path_end text
-      ≡ marked (codes "?") (components text).query [] ++ marked (codes "#")
-      (components text).fragment []
+  pub slice-after-path : drop p.path_end text ≡ marked (codes "?") (components text).query []
+      ++ marked (codes "#") (components text).fragment []
   slice-after-path =
       let c = components text in
       let prefix = before_path c ++ c.path in
@@ -241,20 +203,16 @@ module _ (text : List ℕ) (p : Positions) (utf8 : IsUtf8 text) (at : ArePositio
         arith,
         length-append (before_path c) c.path,
         length-before_path-is-path_start c,
-        ap
-            (λ (q : Positions). q.path_end) at,
+        ap (λ (q : Positions). q.path_end) at,
       ) in
-      ap (λ k. drop k text) n
-      ∙ ap (drop (length prefix)) (text-is-prefix-path-query-and-fragment
-      ∙ sym (append_assoc (before_path c) c.path suffix))
-      ∙ drop-append_seam prefix suffix
+      ap (λ k. drop k text) n ∙ ap (drop (length prefix)) (text-is-prefix-path-query-and-fragment
+      ∙ sym (append_assoc (before_path c) c.path suffix)) ∙ drop-append_seam prefix suffix
 
   -- a text from a suffix of its path on
-  pub from_path_suffix : (rest : List ℕ) → EndsIn (components text).path rest → IsUtf8 rest
-      → (length rest ≤ p.path_end) × IsCharBoundary text (p.path_end - length rest)
-      × (drop (p.path_end - length rest) text ≡ rest
-      ++ (marked (codes "?") (components text).query []
-      ++ marked (codes "#") (components text).fragment []))
+  pub from_path_suffix : (rest : List ℕ) → EndsIn (components text).path rest
+      → IsUtf8 rest → (length rest ≤ p.path_end) × IsCharBoundary text (p.path_end - length rest)
+      × (drop (p.path_end - length rest) text ≡ rest ++ (marked (codes "?")
+      (components text).query [] ++ marked (codes "#") (components text).fragment []))
   from_path_suffix rest (before, e) u =
       let c = components text in
       let prefix = before_path c ++ before in
@@ -295,13 +253,11 @@ module _ (text : List ℕ) (p : Positions) (utf8 : IsUtf8 text) (at : ArePositio
         arith,
         length-append (before_path c) c.path,
         length-before_path-is-path_start c,
-        ap
-            (λ (q : Positions). q.path_end) at,
+        ap (λ (q : Positions). q.path_end) at,
       ) in
-      slice_range-from-start text p.path_end ∙ ap (λ k. take k text) n
-      ∙ ap (take (length prefix)) (text-is-prefix-path-query-and-fragment
-      ∙ sym (append_assoc (before_path c) c.path suffix))
-      ∙ take-append_seam prefix suffix
+      slice_range-from-start text p.path_end
+      ∙ ap (λ k. take k text) n ∙ ap (take (length prefix)) (text-is-prefix-path-query-and-fragment
+      ∙ sym (append_assoc (before_path c) c.path suffix)) ∙ take-append_seam prefix suffix
 
   pub slice-before-fragment : slice_range text 0 (before_fragment p)
       ≡ (before_path (components text) ++ (components text).path) ++ marked (codes "?")
@@ -324,18 +280,16 @@ module _ (text : List ℕ) (p : Positions) (utf8 : IsUtf8 text) (at : ArePositio
       ∙ take-append_seam (prefix ++ query) (fragment_text c.fragment)
 
   -- a text up to a `/` of its path is what is before the path, and the path up to that `/`
-  pub through_slash : (slash : ℕ) → IsAbsolute (components text).path
-      → IsSlashOrStart (components text).path 0 slash
-      → IsCharBoundary text (p.path_start + slash + 1)
-      × (take (p.path_start + slash + 1) text ≡ before_path (components text) ++ take (slash + 1)
-      (components text).path)
+  pub through_slash : (slash : ℕ)
+      → IsAbsolute (components text).path → IsSlashOrStart (components text).path 0 slash
+      → IsCharBoundary text (p.path_start + slash + 1) × (take (p.path_start + slash + 1) text
+      ≡ before_path (components text) ++ take (slash + 1) (components text).path)
   through_slash slash absolute place =
       let c = components text in
-      let parted = position-after-inner-slash-is-boundary text (before_path c) c.path _
-      (take slash c.path)
-      (drop (slash + 1) c.path) p.path_start slash text-is-prefix-path-query-and-fragment
-      (ap (λ (q : Positions). q.path_start) at ∙ sym (length-before_path-is-path_start c))
-      (cut c.path slash absolute place)
+      let parted = position-after-inner-slash-is-boundary text
+      (before_path c) c.path _ (take slash c.path) (drop (slash + 1) c.path) p.path_start
+      slash text-is-prefix-path-query-and-fragment (ap (λ (q : Positions). q.path_start) at
+      ∙ sym (length-before_path-is-path_start c)) (cut c.path slash absolute place)
       (slash-position-is-prefix-length c.path slash absolute place) utf8 in (
         parted.0,
         parted.1 ∙ ap (λ t. before_path c ++ t)

@@ -1,21 +1,8 @@
 -- When a text of one kind is one of another.
-use Rattle.std.proofs.Common.{◌≡◌, ℕ, ◌+◌, ◌≤◌, Bool, true, false, not, ltb, List, [], ◌∷◌, length, refl, sym, ap, ◌∙◌, ◌||◌, ⊎_elim, arith, option_map}
-use Rattle.std.specs.Prelude.{◌↔◌, Option, Some, None, is_some}
-use Rattle.std.specs.List.{list_all, position, prefix_len}
-use Rattle.std.specs.Option.{option_or}
-use Rattle.std.specs.Str.{IsUtf8}
-use Rattle.std.proofs.lemmas.Bool.{cases_Bool, cases_lt, cond-true, cond-false, and_parts, and_from, lt-ltb, le-ltb, false≢true}
-use Rattle.uri_parts.specs.Components.{components}
-use Rattle.uri_parts.specs.Grammar.{Kind, IsOfKind, components_meet_rules, iri, iri_ref, uri, uri_ref}
-use Rattle.uri_parts.proofs.TextKinds.KindSets.{uri_has_scheme, uri_is_uri_ref, iri_has_scheme}
+use Rattle.uri_ops.proofs.Common.{◌≡◌, ℕ, ◌+◌, ◌≤◌, Bool, true, false, not, ltb, List, [], ◌∷◌, length, refl, sym, ap, ◌∙◌, ◌||◌, ⊎_elim, arith, option_map, ◌↔◌, Option, Some, None, is_some, list_all, position, prefix_len, option_or, IsUtf8, cases_Bool, cases_lt, cond-true, cond-false, and_parts, and_from, lt-ltb, le-ltb, false≢true, components, Kind, IsOfKind, components_meet_rules, iri, iri_ref, uri, uri_ref, uri_has_scheme, uri_is_uri_ref, iri_has_scheme, HasComponentSets, encode_past_ascii, ascii_kind, AreEquivalent, bare_meaning_of, Rules, meaning_under, no_defaults}
 use Rattle.uri_ops.specs.declared.convert.ConvertError.{ConvertError}
-use Rattle.uri_ops.specs.declared.convert.ConvertError.TheVariants.{NoScheme, NotAscii}
-use Rattle.uri_ops.specs.ComponentSets.{HasComponentSets}
+use Rattle.uri_ops.specs.declared.convert.ConvertError.TheVariants.{NotAscii}
 use Rattle.uri_ops.specs.Conversions.{is_past_ascii, first_past_ascii, missing_scheme_error, not_ascii_error, uri_conversion_error}
-use Rattle.uri_ops.specs.Encoded.{encode_past_ascii, ascii_kind, AreEquivalent}
-use Rattle.uri_ops.specs.Meaning.{bare_meaning_of}
-use Rattle.uri_ops.specs.SchemeRules.{Rules, meaning_under}
-use Rattle.uri_parts.specs.Ports.{no_defaults}
 use Rattle.uri_ops.proofs.AsciiForms.AsciiTexts.{texts-of-ascii-kinds-are-ascii}
 use Rattle.uri_ops.proofs.AsciiForms.EncodedMeanings.{encoded-text-is-of-ascii_kind, encoding-keeps-meaning_of-text, encoding-keeps-meaning_under-text}
 use Rattle.uri_ops.proofs.AsciiForms.EncodedPaths.{ascii-text-is-its-own-encoding}
@@ -33,13 +20,11 @@ unfolding missing_scheme_error
 text-with-scheme-misses-no-scheme text e = rw e refl
 
 -- conversions: a text without an error for a missing scheme has one
-no-missing_scheme_error-means-scheme : (text : List ℕ) → missing_scheme_error text ≡ None
-    → is_some (components text).scheme
-    ≡ true
+no-missing_scheme_error-means-scheme : (text : List ℕ)
+    → missing_scheme_error text ≡ None → is_some (components text).scheme ≡ true
 unfolding missing_scheme_error
 no-missing_scheme_error-means-scheme text e = ⊎_elim
-    (λ h. h)
-    (λ h. absurd (some-error-is-not-none _ (sym (cond-false _ _ _ h) ∙ e))) (cases_Bool _)
+    (λ h. h) (λ h. absurd (some-error-is-not-none _ (sym (cond-false _ _ _ h) ∙ e))) (cases_Bool _)
 
 -- conversions: a text with a scheme is of the kind that needs one
 text-with-scheme-is-of-kind-with-scheme : (kind : Kind) (text : List ℕ)
@@ -90,12 +75,10 @@ ascii-prefix-of-ascii-text-is-whole (c ∷ text) e =
 whole-ascii-prefix-means-ascii-text : (text : List ℕ) → length text ≤ prefix_len is_ascii_code text
     → list_all (λ c. ltb c 128) text ≡ true
 whole-ascii-prefix-means-ascii-text [] h = refl
-whole-ascii-prefix-means-ascii-text (c ∷ text) h = ⊎_elim
-    (λ e. let n : prefix_len is_ascii_code (c ∷ text) ≡ 1 + prefix_len is_ascii_code text =
-    cond-true _ _ _ (ap (λ b. not (not b)) e) in
-    and_from _ _ e (whole-ascii-prefix-means-ascii-text text (omega arith)))
-    (λ e. let n : prefix_len is_ascii_code (c ∷ text)
-    ≡ 0 = cond-false _ _ _ (ap (λ b. not (not b)) e) in
+whole-ascii-prefix-means-ascii-text (c ∷ text) h = ⊎_elim (λ e. let n : prefix_len is_ascii_code (c
+    ∷ text) ≡ 1 + prefix_len is_ascii_code text = cond-true _ _ _ (ap (λ b. not (not b)) e) in
+    and_from _ _ e (whole-ascii-prefix-means-ascii-text text (omega arith))) (λ e.
+    let n : prefix_len is_ascii_code (c ∷ text) ≡ 0 = cond-false _ _ _ (ap (λ b. not (not b)) e) in
     absurd (omega arith)) (cases_Bool (ltb c 128))
 
 -- general fact on options, for conversions: the index of a character past ASCII is not None
@@ -114,8 +97,7 @@ no-not_ascii_error-means-ascii : (text : List ℕ) → not_ascii_error text ≡ 
 unfolding not_ascii_error first_past_ascii
 no-not_ascii_error-means-ascii text e =
     let none = absent-mapped-index-is-absent (position is_past_ascii text) e in
-    ⊎_elim
-    (λ h. absurd (some-index-is-not-none (prefix_len is_ascii_code text)
+    ⊎_elim (λ h. absurd (some-index-is-not-none (prefix_len is_ascii_code text)
     (sym (cond-true _ _ _ (lt-ltb (prefix_len is_ascii_code text) (length text) h)) ∙ none)))
     (λ h. whole-ascii-prefix-means-ascii-text text h)
     (cases_lt (prefix_len is_ascii_code text) (length text))
@@ -180,38 +162,32 @@ ascii_iri_ref_with_scheme_is_uri text u h = (
 
 -- conversions: each URI is an IRI
 pub uri_is_iri : (text : List ℕ) → IsUtf8 text → IsOfKind uri text → IsOfKind iri text
-uri_is_iri text u h =
-    (text-is-of-wider-kind uri iri iri-has-component-sets (ascii_kind-is-within-kind iri) text
-    (record { utf8 = u; grammar = h })).grammar
+uri_is_iri text u h = (text-is-of-wider-kind uri iri iri-has-component-sets
+    (ascii_kind-is-within-kind iri) text (record { utf8 = u; grammar = h })).grammar
 
 -- conversions: each URI reference is an IRI reference
 pub uri_ref_is_iri_ref : (text : List ℕ) → IsUtf8 text → IsOfKind uri_ref text
     → IsOfKind iri_ref text
-uri_ref_is_iri_ref text u h =
-    (text-is-of-wider-kind uri_ref iri_ref iri_ref-has-component-sets
-    (ascii_kind-is-within-kind iri_ref) text
-    (record { utf8 = u; grammar = h })).grammar
+uri_ref_is_iri_ref text u h = (text-is-of-wider-kind uri_ref iri_ref iri_ref-has-component-sets
+    (ascii_kind-is-within-kind iri_ref) text (record { utf8 = u; grammar = h })).grammar
 
 -- an IRI with its characters past ASCII as octets is a URI of the same meaning
 module _ (kind : Kind) (sets : HasComponentSets kind) where
   encoded-text-is-of-ascii-kind : (text encoded : List ℕ) → encoded ≡ encode_past_ascii text
-      → IsUtf8 text
-      → IsOfKind kind text → IsOfKind (ascii_kind kind) encoded
+      → IsUtf8 text → IsOfKind kind text → IsOfKind (ascii_kind kind) encoded
   encoded-text-is-of-ascii-kind text encoded e u h = ap (components_meet_rules (ascii_kind kind))
       (ap components e)
       ∙ (encoded-text-is-of-ascii_kind kind sets text (record { utf8 = u; grammar = h })).grammar
 
   encoded-text-is-equivalent : (text encoded : List ℕ) → encoded ≡ encode_past_ascii text
-      → IsUtf8 text
-      → IsOfKind kind text → AreEquivalent kind encoded text
+      → IsUtf8 text → IsOfKind kind text → AreEquivalent kind encoded text
   unfolding AreEquivalent
   encoded-text-is-equivalent text encoded e u h = ap (bare_meaning_of kind) e
       ∙ encoding-keeps-meaning_of-text kind sets no_defaults text (record { utf8 = u; grammar = h })
 
-  encoded-text-has-same-meaning : (text encoded : List ℕ) → encoded ≡ encode_past_ascii text
-      → IsUtf8 text
-      → IsOfKind kind text → (rules : Rules)
-      → meaning_under kind rules encoded ≡ meaning_under kind rules text
+  encoded-text-has-same-meaning : (text encoded : List ℕ)
+      → encoded ≡ encode_past_ascii text → IsUtf8 text → IsOfKind kind text
+      → (rules : Rules) → meaning_under kind rules encoded ≡ meaning_under kind rules text
   encoded-text-has-same-meaning text encoded e u h rules = ap (meaning_under kind rules) e
       ∙ encoding-keeps-meaning_under-text kind sets rules text (record { utf8 = u; grammar = h })
 
@@ -225,38 +201,33 @@ encoded-iri-is-uri text encoded e u h = encoded-text-is-of-ascii-kind iri iri-ha
 -- conversions: an IRI reference whose characters past ASCII are
 -- percent-encoded is a URI reference (RFC 3987, section 3.1)
 pub encoded-iri_ref-is-uri_ref : (text encoded : List ℕ) → encoded ≡ encode_past_ascii text
-    → IsUtf8 text
-    → IsOfKind iri_ref text → IsOfKind uri_ref encoded
+    → IsUtf8 text → IsOfKind iri_ref text → IsOfKind uri_ref encoded
 encoded-iri_ref-is-uri_ref text encoded e u h =
     encoded-text-is-of-ascii-kind iri_ref iri_ref-has-component-sets text encoded e u h
 
 -- conversions: an IRI and the URI that it is percent-encoded as are equivalent
 pub encoded-iri-is-equivalent : (text encoded : List ℕ) → encoded ≡ encode_past_ascii text
-    → IsUtf8 text
-    → IsOfKind iri text → AreEquivalent iri encoded text
+    → IsUtf8 text → IsOfKind iri text → AreEquivalent iri encoded text
 encoded-iri-is-equivalent text encoded e u h = encoded-text-is-equivalent iri iri-has-component-sets
     text encoded e u h
 
 -- conversions: an IRI reference and its URI reference are equivalent
 pub encoded-iri_ref-is-equivalent : (text encoded : List ℕ) → encoded ≡ encode_past_ascii text
-    → IsUtf8 text
-    → IsOfKind iri_ref text → AreEquivalent iri_ref encoded text
+    → IsUtf8 text → IsOfKind iri_ref text → AreEquivalent iri_ref encoded text
 encoded-iri_ref-is-equivalent text encoded e u h =
     encoded-text-is-equivalent iri_ref iri_ref-has-component-sets text encoded e u h
 
 -- conversions: an IRI and its URI have the same meaning under any rules
-pub encoded-iri-has-same-meaning : (text encoded : List ℕ) → encoded ≡ encode_past_ascii text
-    → IsUtf8 text
-    → IsOfKind iri text → (rules : Rules)
-    → meaning_under iri rules encoded ≡ meaning_under iri rules text
+pub encoded-iri-has-same-meaning : (text encoded : List ℕ)
+    → encoded ≡ encode_past_ascii text → IsUtf8 text → IsOfKind iri text
+    → (rules : Rules) → meaning_under iri rules encoded ≡ meaning_under iri rules text
 encoded-iri-has-same-meaning text encoded e u h rules =
     encoded-text-has-same-meaning iri iri-has-component-sets text encoded e u h rules
 
 -- conversions: an IRI reference and its URI reference have the same meaning under any rules
-pub encoded-iri_ref-has-same-meaning : (text encoded : List ℕ) → encoded ≡ encode_past_ascii text
-    → IsUtf8 text
-    → IsOfKind iri_ref text → (rules : Rules)
-    → meaning_under iri_ref rules encoded ≡ meaning_under iri_ref rules text
+pub encoded-iri_ref-has-same-meaning : (text encoded : List ℕ)
+    → encoded ≡ encode_past_ascii text → IsUtf8 text → IsOfKind iri_ref text
+    → (rules : Rules) → meaning_under iri_ref rules encoded ≡ meaning_under iri_ref rules text
 encoded-iri_ref-has-same-meaning text encoded e u h rules =
     encoded-text-has-same-meaning iri_ref iri_ref-has-component-sets text encoded e u h rules
 

@@ -1,11 +1,5 @@
 -- The sets of the four kinds.
-use Rattle.std.proofs.Common.{◌≡◌, ℕ, Bool, true, false, List, refl, sym, subst}
-use Rattle.std.specs.Prelude.{codes}
-use Rattle.std.specs.List.{list_any}
-use Rattle.std.proofs.lemmas.Bool.{or_left, false≢true}
-use Rattle.uri_pct.specs.Sets.{TableSet, is_unreserved, is_reg_name_char, is_userinfo_char, is_pchar, is_path_char, is_query_char}
-use Rattle.uri_parts.specs.Grammar.{Kind, kind_by_flags, uri, uri_ref, iri, iri_ref}
-use Rattle.uri_ops.specs.ComponentSets.{IsComponentSet, HasComponentSets}
+use Rattle.uri_ops.proofs.Common.{◌≡◌, ℕ, Bool, true, false, List, refl, sym, subst, codes, list_any, or_left, false≢true, TableSet, is_unreserved, is_reg_name_char, is_userinfo_char, is_pchar, is_path_char, is_query_char, Kind, kind_by_flags, uri, uri_ref, iri, iri_ref, IsComponentSet, HasComponentSets}
 
 -- sets of the four kinds: an unreserved character may be in a registered name
 unreserved-is-reg_name-character : (c : ℕ) → is_unreserved c ≡ true → is_reg_name_char c ≡ true
@@ -37,15 +31,13 @@ component_table test past private =
 -- neither `%` (37) nor the delimiters
 tested-characters-are-component-set : (marks : List ℕ) (test : ℕ → Bool) (past private : Bool)
     → ((c : ℕ) → is_unreserved c ≡ true → test c ≡ true) → test 37 ≡ false
-    → list_any test marks ≡ false
-    → IsComponentSet marks (component_table test past private)
+    → list_any test marks ≡ false → IsComponentSet marks (component_table test past private)
 unfolding component_table
 tested-characters-are-component-set marks test past private within percent ends = record {
   unreserved = record {
     ascii = within;
     pct_encoded = λ e. refl;
-    ucschar =
-        λ e. absurd (false≢true e);
+    ucschar = λ e. absurd (false≢true e);
     iprivate = λ e. absurd (false≢true e);
   };
   percent = percent;
@@ -118,8 +110,7 @@ kind_by_flags-has-component-sets true true = iri-has-component-sets
 
 -- sets of the four kinds: a kind that is one of them has unreserved characters and octets, and
 -- lacks what ends each component
-pub one-of-four-kinds-has-sets : (kind : Kind) → kind
-    ≡ kind_by_flags kind.path.ucschar kind.needs_scheme
-    → HasComponentSets kind
+pub one-of-four-kinds-has-sets : (kind : Kind)
+    → kind ≡ kind_by_flags kind.path.ucschar kind.needs_scheme → HasComponentSets kind
 one-of-four-kinds-has-sets kind known = subst HasComponentSets (sym known)
     (kind_by_flags-has-component-sets kind.path.ucschar kind.needs_scheme)

@@ -1,23 +1,9 @@
 -- The texts that pass the tests of a kind are those of its grammar.
-use Rattle.std.proofs.Common.{◌≡◌, ℕ, Bool, true, false, not, List, refl, sym, ap, subst, ◌∙◌, ◌&&◌, ◌||◌, inl, inr, ⊎_elim}
-use Rattle.std.specs.Prelude.{◌↔◌, ◌⊎◌, is_some}
-use Rattle.std.specs.Str.{IsUtf8}
-use Rattle.std.proofs.lemmas.Bool.{false≢true}
-use Rattle.uri_pct.specs.Sets.{TableSet}
-use Rattle.uri_parts.specs.Authority.{AuthorityParts, IsAuthorityFor, LackAuthorityDelimiters, authority_parts}
-use Rattle.uri_parts.specs.Components.{Components, components}
-use Rattle.uri_parts.specs.Grammar.{Kind, IsOfKind, is_scheme, is_authority, has_colon_in_first_segment, components_meet_rules, uri, uri_ref, iri, iri_ref}
+use Rattle.uri_ops.proofs.Common.{◌≡◌, ℕ, Bool, true, false, not, List, refl, sym, ap, subst, ◌∙◌, ◌&&◌, ◌||◌, inl, inr, ⊎_elim, ◌↔◌, ◌⊎◌, is_some, IsUtf8, false≢true, TableSet, AuthorityParts, IsAuthorityFor, LackAuthorityDelimiters, authority_parts, Components, components, Kind, IsOfKind, is_scheme, is_authority, has_colon_in_first_segment, components_meet_rules, uri, uri_ref, iri, iri_ref, HostKind, IsHost, host_kind, is_authority_for-sound, is_authority_for-complete, authority_parts-are-unique, names_exclude_delimiters, is_host-complete, components-are-split-of-text, only-split-is-components, HasComponentSets, IfSome-weaken, IfSome-combine}
 use Rattle.uri_parts.specs.GrammarInWords.{HasAuthorityParts, FollowsRules, IsInGrammar}
-use Rattle.uri_parts.specs.Hosts.{HostKind, IsHost, host_kind}
-use Rattle.uri_parts.proofs.Authorities.Authority.{is_authority_for-sound, is_authority_for-complete, authority_parts-are-unique, names_exclude_delimiters}
-use Rattle.uri_parts.proofs.HostForms.Hosts.{is_host-complete}
-use Rattle.uri_parts.proofs.Splitting.Recompose.{components-are-split-of-text}
-use Rattle.uri_parts.proofs.Splitting.Splits.{only-split-is-components}
-use Rattle.uri_ops.specs.ComponentSets.{HasComponentSets}
 use Rattle.uri_ops.proofs.Meanings.AuthorityMeanings.{kind-sets-lack-authority-delimiters}
 use Rattle.uri_ops.proofs.TextKinds.FourKinds.{uri-has-component-sets, uri_ref-has-component-sets, iri-has-component-sets, iri_ref-has-component-sets}
 use Rattle.uri_ops.proofs.Meanings.AllowedParts.{is_set_text, set-text-from-utf8, set-text-is-valid}
-use Rattle.uri_pct.proofs.General.{IfSome-weaken, IfSome-combine}
 use Rattle.uri_ops.proofs.Meanings.TextParts.{ArePartsOfKind, AreUtf8, components-of-utf8-are-utf8, grammar-gives-components-of-kind, components-of-kind-meet-grammar}
 
 -- general fact on booleans, for the grammar of the four kinds; s, n, a, c: a scheme is there, is
@@ -55,12 +41,12 @@ module _ (kind : Kind) (sets : HasComponentSets kind) where
       record {
         split = components-are-split-of-text text;
         scheme = IfSome-weaken p.scheme (λ s. IsUtf8 s × (is_scheme s ≡ true))
-            (λ s. is_scheme s ≡ true)
-            (λ s w. w.1) parts.scheme;
+            (λ s. is_scheme s ≡ true) (λ s w. w.1) parts.scheme;
         authority = IfSome-weaken p.authority (λ a. IsUtf8 a × (is_authority kind a ≡ true))
-            (HasAuthorityParts kind)
-            (λ a w. (authority_parts a, is_authority_for-sound kind.userinfo kind.reg_name a w.1))
-            parts.authority;
+            (HasAuthorityParts kind) (λ a w. (
+              authority_parts a,
+              is_authority_for-sound kind.userinfo kind.reg_name a w.1,
+            )) parts.authority;
         path = set-text-is-valid kind.path p.path parts.path;
         query = IfSome-weaken p.query (λ q. is_set_text kind.query q ≡ true) _
             (λ q w. set-text-is-valid kind.query q w) parts.query;
@@ -70,18 +56,16 @@ module _ (kind : Kind) (sets : HasComponentSets kind) where
             (is_some p.authority) (has_colon_in_first_segment p.path) parts.needs;
       }
 
-  rules-give-components-of-kind : (text : List ℕ) (p : Components) → AreUtf8 p
-      → FollowsRules kind text p
-      → ArePartsOfKind kind p
+  rules-give-components-of-kind : (text : List ℕ) (p : Components)
+      → AreUtf8 p → FollowsRules kind text p → ArePartsOfKind kind p
   rules-give-components-of-kind text p u g = record {
     scheme = IfSome-combine p.scheme IsUtf8 (λ s. is_scheme s ≡ true) _ (λ s v w. (v, w)) u.scheme
         g.scheme;
-    authority = IfSome-combine p.authority IsUtf8 (HasAuthorityParts kind) _
-        (λ a v w. (
-          v,
-          is_authority_for-complete kind.userinfo kind.reg_name
-              (kind-sets-lack-authority-delimiters kind sets) a w.0 v w.1,
-        )) u.authority g.authority;
+    authority = IfSome-combine p.authority IsUtf8 (HasAuthorityParts kind) _ (λ a v w. (
+      v,
+      is_authority_for-complete kind.userinfo kind.reg_name
+          (kind-sets-lack-authority-delimiters kind sets) a w.0 v w.1,
+    )) u.authority g.authority;
     path = set-text-from-utf8 kind.path p.path u.path g.path;
     query = IfSome-combine p.query IsUtf8 _ _ (λ q v w. set-text-from-utf8 kind.query q v w)
         u.query g.query;
@@ -151,21 +135,17 @@ iri-authority-splits-in-one-way text p u h = authority_parts-are-unique iri.user
 host-is-of-one-kind : (users names : TableSet) → LackAuthorityDelimiters users names
     → (text : List ℕ) (host : HostKind)
     → IsUtf8 text → IsHost names text host → host_kind text ≡ host
-host-is-of-one-kind users names apart text host u h =
-    (is_host-complete names apart.names_percent (names_exclude_delimiters users names apart)
-    text host u
-    h).kind
+host-is-of-one-kind users names apart text host u h = (is_host-complete names apart.names_percent
+    (names_exclude_delimiters users names apart) text host u h).kind
 
 -- grammar of the four kinds: a host of a URI is of one kind: IP address, IPvFuture or name
-pub uri-host-is-of-one-kind : (text : List ℕ) (host : HostKind) → IsUtf8 text
-    → IsHost uri.reg_name text host
-    → host_kind text ≡ host
+pub uri-host-is-of-one-kind : (text : List ℕ) (host : HostKind)
+    → IsUtf8 text → IsHost uri.reg_name text host → host_kind text ≡ host
 uri-host-is-of-one-kind text host u h = host-is-of-one-kind uri.userinfo uri.reg_name
     uri-sets-lack-authority-delimiters text host u h
 
 -- grammar of the four kinds: a host of an IRI is of one kind: IP address, IPvFuture or name
-pub iri-host-is-of-one-kind : (text : List ℕ) (host : HostKind) → IsUtf8 text
-    → IsHost iri.reg_name text host
-    → host_kind text ≡ host
+pub iri-host-is-of-one-kind : (text : List ℕ) (host : HostKind)
+    → IsUtf8 text → IsHost iri.reg_name text host → host_kind text ≡ host
 iri-host-is-of-one-kind text host u h = host-is-of-one-kind iri.userinfo iri.reg_name
     iri-sets-lack-authority-delimiters text host u h

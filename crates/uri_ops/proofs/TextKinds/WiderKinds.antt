@@ -1,37 +1,19 @@
 -- A text of a kind is of each kind with wider sets.
-use Rattle.std.proofs.Common.{◌≡◌, ℕ, Bool, true, false, not, List, [], ◌∷◌, refl, sym, ◌∙◌, ◌&&◌, ◌||◌, ⊎_elim}
-use Rattle.std.specs.Prelude.{is_some}
-use Rattle.std.specs.List.{list_all}
-use Rattle.std.specs.Str.{IsUtf8}
-use Rattle.std.proofs.lemmas.Bool.{cases_lt, and_parts, and_from, or_cases, or_left, or_right, false≢true}
-use Rattle.uri_pct.specs.Sets.{TableSet, IsSubset, allows, allows_past_ascii, is_ucschar, is_iprivate}
-use Rattle.uri_pct.specs.Tokens.{Token, Char, Octet, tokens, allows_token, is_valid_for, IsValidFor}
-use Rattle.uri_pct.proofs.ValidTexts.Validity.{ascii_char_is_allowed_iff_in_set, char_past_ascii_is_allowed_by_flags}
-use Rattle.uri_parts.specs.Components.{components}
-use Rattle.uri_parts.specs.Grammar.{Kind, is_authority, has_colon_in_first_segment, IsTextOf}
-use Rattle.uri_parts.specs.Hosts.{HostKind, Ipv4, Ipv6, IpvFuture, RegName, IsHost}
-use Rattle.uri_parts.specs.Authority.{authority_parts}
-use Rattle.uri_parts.proofs.Authorities.Authority.{is_authority_for-sound, is_authority_for-complete}
-use Rattle.uri_ops.specs.ComponentSets.{HasComponentSets, IsWithin}
-use Rattle.uri_ops.specs.Encoded.{ascii_set, ascii_kind}
+use Rattle.uri_ops.proofs.Common.{◌≡◌, ℕ, Bool, true, false, not, List, [], ◌∷◌, refl, sym, ◌∙◌, ◌&&◌, ◌||◌, ⊎_elim, is_some, list_all, IsUtf8, cases_lt, and_parts, and_from, or_cases, or_left, or_right, false≢true, TableSet, IsSubset, allows, allows_past_ascii, Token, Char, Octet, tokens, allows_token, is_valid_for, IsValidFor, ascii_char_is_allowed_iff_in_set, char_past_ascii_is_allowed_by_flags, components, Kind, is_authority, has_colon_in_first_segment, IsTextOf, HostKind, Ipv4, Ipv6, IpvFuture, RegName, IsHost, is_authority_for-sound, is_authority_for-complete, HasComponentSets, IsWithin, ascii_set, ascii_kind, IfSome-weaken}
 use Rattle.uri_ops.proofs.Meanings.AllowedParts.{is_set_text, set-text-from-utf8, set-text-is-utf8, set-text-is-valid}
 use Rattle.uri_ops.proofs.Meanings.TextParts.{components-of-utf8-are-utf8, grammar-gives-components-of-kind, components-of-kind-meet-grammar}
 use Rattle.uri_ops.proofs.Meanings.AuthorityMeanings.{kind-sets-lack-authority-delimiters}
-use Rattle.uri_pct.proofs.General.{IfSome-weaken}
 
 module _ (s t : TableSet) (w : IsSubset s t) where
   wider-set-allows-past-ascii : (c : ℕ) → allows_past_ascii s c ≡ true
       → allows_past_ascii t c ≡ true
   unfolding allows_past_ascii
-  wider-set-allows-past-ascii c e = ⊎_elim
-      (λ h. let p = and_parts _ _ h in
-      or_left _ _ (and_from _ _ (w.ucschar p.0) p.1))
-      (λ h. let p = and_parts _ _ h in
+  wider-set-allows-past-ascii c e = ⊎_elim (λ h. let p = and_parts _ _ h in
+      or_left _ _ (and_from _ _ (w.ucschar p.0) p.1)) (λ h. let p = and_parts _ _ h in
       or_right _ _ (and_from _ _ (w.iprivate p.0) p.1)) (or_cases _ _ e)
 
   wider-set-allows-character : (c : ℕ) → allows s c ≡ true → allows t c ≡ true
-  wider-set-allows-character c e = ⊎_elim
-      (λ h. ascii_char_is_allowed_iff_in_set t c h
+  wider-set-allows-character c e = ⊎_elim (λ h. ascii_char_is_allowed_iff_in_set t c h
       ∙ w.ascii c (sym (ascii_char_is_allowed_iff_in_set s c h) ∙ e))
       (λ h. char_past_ascii_is_allowed_by_flags t c h
       ∙ wider-set-allows-past-ascii c (sym (char_past_ascii_is_allowed_by_flags s c h) ∙ e))
@@ -104,9 +86,8 @@ module _ (kind wide : Kind) (sets : HasComponentSets wide) (w : IsWithin kind wi
               (λ x. is_set_text wide.query x ≡ true)
               (λ x h. set-text-is-text-of-wider-set kind.query wide.query w.query x h) parts.query;
           fragment = IfSome-weaken p.fragment (λ x. is_set_text kind.fragment x ≡ true)
-              (λ x. is_set_text wide.fragment x ≡ true)
-              (λ x h. set-text-is-text-of-wider-set kind.fragment wide.fragment w.fragment x h)
-              parts.fragment;
+              (λ x. is_set_text wide.fragment x ≡ true) (λ x h. set-text-is-text-of-wider-set
+              kind.fragment wide.fragment w.fragment x h) parts.fragment;
           needs = wider-kind-keeps-scheme-rule (is_some p.scheme)
               (is_some p.authority || not (has_colon_in_first_segment p.path)) parts.needs;
         });
@@ -117,8 +98,7 @@ ascii_set-is-subset-of-set : (set : TableSet) → IsSubset (ascii_set set) set
 ascii_set-is-subset-of-set set = record {
   ascii = λ c e. e;
   pct_encoded = λ e. e;
-  ucschar =
-      λ e. absurd (false≢true e);
+  ucschar = λ e. absurd (false≢true e);
   iprivate = λ e. absurd (false≢true e);
 }
 

@@ -1,17 +1,5 @@
 -- An authority has one cut, and passes its test exactly if the parts of that cut meet the grammar.
-use Rattle.std.proofs.Common.{◌≡◌, ℕ, true, false, not, eqb, ltb, List, [], ◌∷◌, ◌++◌, drop, refl, sym, ap, subst, ◌∙◌, arith, ◌&&◌, inl, inr, ◌⊎◌, append_assoc, append-nil, codes, bytes_eq, Option, Some, None, IfSome, IsUtf8}
-use Rattle.std.specs.List.{list_any, list_all}
-use Rattle.std.specs.Char.{is_ascii_hexdigit}
-use Rattle.std.specs.Option.{option_map_or}
-use Rattle.std.proofs.lemmas.Bool.{and_from, and_parts, cond-true, cond-false, or_parts}
-use Rattle.std.proofs.lemmas.Bool.Decides.{nat_tests}
-use Rattle.std.proofs.lemmas.Slice.Eq.{bytes_eq-Decides}
-use Rattle.uri_pct.specs.Sets.{TableSet, is_one_of, digit_set, ipv_future_set}
-use Rattle.uri_pct.specs.Tokens.{is_valid_for, IsValidFor}
-use Rattle.uri_pct.proofs.ValidTexts.Cuts.{excludes}
-use Rattle.uri_parts.specs.Components.{Lacks, before_any, from_any, starts, marked, when}
-use Rattle.uri_parts.specs.Hosts.{HostKind, Ipv4, Ipv6, IpvFuture, RegName, IsHost, bracketed, is_host}
-use Rattle.uri_parts.specs.Authority.{AuthorityParts, recompose_authority, IsAuthorityFor, LackAuthorityDelimiters, after_userinfo, leading_host, after_host, authority_parts, is_authority_for}
+use Rattle.uri_parts.proofs.Common.{◌≡◌, ℕ, true, false, not, eqb, ltb, List, [], ◌∷◌, ◌++◌, drop, refl, sym, ap, subst, ◌∙◌, arith, ◌&&◌, inl, inr, ◌⊎◌, append_assoc, append-nil, codes, bytes_eq, Option, Some, None, IfSome, IsUtf8, list_any, list_all, is_ascii_hexdigit, option_map_or, and_from, and_parts, cond-true, cond-false, or_parts, nat_tests, bytes_eq-Decides, TableSet, is_one_of, digit_set, ipv_future_set, is_valid_for, IsValidFor, excludes, Lacks, before_any, from_any, starts, marked, when, HostKind, Ipv4, Ipv6, IpvFuture, RegName, IsHost, bracketed, is_host, AuthorityParts, recompose_authority, IsAuthorityFor, LackAuthorityDelimiters, after_userinfo, leading_host, after_host, authority_parts, is_authority_for}
 use Rattle.uri_parts.proofs.Splitting.Cuts.{cut-at-end-of-text-without-marks, IsEmptyOrMarked, text-after-other-byte-lacks-marks}
 use Rattle.uri_parts.proofs.TextKinds.GrammarTexts.{utf8_around_ascii_byte, valid_text_lacks_excluded_marks}
 use Rattle.uri_parts.proofs.HostForms.Futures.{ipv4-text-lacks-name-marks, ipv6-text-lacks-excluded-marks, ipvfuture-text-lacks-excluded-marks, joined-texts-lack-marks}
@@ -30,9 +18,8 @@ set-excludes-marks-outside-it set (b ∷ marks) h e =
     (set-excludes-marks-outside-it set marks p.1 q.1)
 
 -- cutting authorities: a text that lacks some delimiters lacks any of these
-pub Lacks-of-fewer-marks : (some all : List ℕ)
-    → ((c : ℕ) → is_one_of some c ≡ true → is_one_of all c ≡ true)
-    → (text : List ℕ) → Lacks all text → Lacks some text
+pub Lacks-of-fewer-marks : (some all : List ℕ) → ((c : ℕ) → is_one_of some c ≡ true
+    → is_one_of all c ≡ true) → (text : List ℕ) → Lacks all text → Lacks some text
 Lacks-of-fewer-marks some all more text h k d l = grind (arith, nat_tests)
 
 -- cutting authorities: the empty text lacks all delimiters
@@ -44,8 +31,7 @@ pub cut-of-text-without-marks : (marks text : List ℕ) → Lacks marks text
     → (before_any marks text ≡ text) × (from_any marks text ≡ [])
 cut-of-text-without-marks marks text h =
     let cut = cut-at-end-of-text-without-marks marks text [] h tt in (
-      ap (before_any marks) (sym (append-nil text))
-          ∙ cut.0,
+      ap (before_any marks) (sym (append-nil text)) ∙ cut.0,
       ap (from_any marks) (sym (append-nil text)) ∙ cut.1,
     )
 
@@ -79,14 +65,12 @@ empty-or-colon-begins-with-no-bracket [] b = refl
 empty-or-colon-begins-with-no-bracket (c ∷ text) b = grind (arith, nat_tests)
 
 -- authorities: a host without `[` (91), and a port after it, do not begin with `[`
-unbracketed-host-begins-with-no-bracket : (host tail : List ℕ) → Lacks (codes "[") host
-    → IsEmptyOrMarked (codes ":") tail
-    → starts 91 (host ++ tail) ≡ false
+unbracketed-host-begins-with-no-bracket : (host tail : List ℕ)
+    → Lacks (codes "[") host → IsEmptyOrMarked (codes ":") tail → starts 91 (host ++ tail) ≡ false
 unbracketed-host-begins-with-no-bracket [] tail lacks begins = empty-or-colon-begins-with-no-bracket
     tail begins
 unbracketed-host-begins-with-no-bracket (c ∷ host) tail lacks begins =
-    lacking_text_does_not_begin_with (codes "[")
-    (c ∷ host) 91 refl lacks
+    lacking_text_does_not_begin_with (codes "[") (c ∷ host) 91 refl lacks
 
 -- authorities: parsing cuts a host where it ends, before the `:` of a port or at the end
 pub host-is-cut-where-it-ends : (host tail : List ℕ) → HasHostShape host
@@ -96,20 +80,17 @@ host-is-cut-where-it-ends host tail (inl (address, e, lacks)) begins =
     let text : List ℕ = bracketed address ++ tail in
     let same : text ≡ (91 ∷ address) ++ (93 ∷ tail) = append_assoc (91 ∷ address) (codes "]")
     tail in
-    let cut = cut-at-end-of-text-without-marks (codes "]") (91 ∷ address) (93 ∷ tail)
-    (text-after-other-byte-lacks-marks (codes "]") 91 address
-    refl lacks) refl in (
+    let cut = cut-at-end-of-text-without-marks (codes "]") (91 ∷ address)
+    (93 ∷ tail) (text-after-other-byte-lacks-marks (codes "]") 91 address refl lacks) refl in (
       ap (λ h. leading_host (h ++ tail)) e
           ∙ ap (λ t. t ++ codes "]") (ap (before_any (codes "]")) same ∙ cut.0) ∙ sym e,
       ap (λ h. after_host (h ++ tail)) e ∙ ap (drop 1) (ap (from_any (codes "]")) same ∙ cut.1),
     )
 host-is-cut-where-it-ends host tail (inr lacks) begins =
-    let s =
-    unbracketed-host-begins-with-no-bracket host tail (Lacks-of-fewer-marks
-    (codes "[") (codes "@:[") (λ c e. grind (arith, nat_tests)) host lacks) begins in
-    let cut = cut-at-end-of-text-without-marks (codes ":") host tail
-    (Lacks-of-fewer-marks (codes ":") (codes "@:[") (λ c e. grind (arith, nat_tests)) host lacks)
-    begins in
+    let s = unbracketed-host-begins-with-no-bracket host tail (Lacks-of-fewer-marks (codes "[")
+    (codes "@:[") (λ c e. grind (arith, nat_tests)) host lacks) begins in
+    let cut = cut-at-end-of-text-without-marks (codes ":") host tail (Lacks-of-fewer-marks
+    (codes ":") (codes "@:[") (λ c e. grind (arith, nat_tests)) host lacks) begins in
     (cond-false _ _ _ s ∙ cut.0, cond-false _ _ _ s ∙ cut.1)
 
 -- authorities: an IPvFuture address has neither `]` nor `@`
@@ -120,9 +101,8 @@ ipv_future_set-excludes-bracket-and-at-sign = (refl, refl)
 -- authorities: an address without `@` has none in its brackets either
 pub bracketed_lacks_at_sign : (address : List ℕ) → Lacks (codes "@") address
     → Lacks (codes "@") (bracketed address)
-bracketed_lacks_at_sign address h =
-    text-after-other-byte-lacks-marks (codes "@") 91 (address ++ codes "]") refl
-    (joined-texts-lack-marks (codes "@") address (codes "]") h
+bracketed_lacks_at_sign address h = text-after-other-byte-lacks-marks (codes "@") 91
+    (address ++ codes "]") refl (joined-texts-lack-marks (codes "@") address (codes "]") h
     (text-after-other-byte-lacks-marks (codes "@") 93 [] refl (empty-text-lacks-marks (codes "@"))))
 
 -- authorities: the userinfo that is found before `@`, and what is left after it
@@ -148,8 +128,7 @@ user_cut (Some user) rest h lacks =
 
 -- authorities: a component that is absent or valid passes the test
 absent-or-valid-part-passes-test : (set : TableSet) (part : Option (List ℕ))
-    → IfSome part (IsValidFor set)
-    → option_map_or (is_valid_for set) part true ≡ true
+    → IfSome part (IsValidFor set) → option_map_or (is_valid_for set) part true ≡ true
 absent-or-valid-part-passes-test set None h = refl
 absent-or-valid-part-passes-test set (Some text) h = h
 
@@ -197,14 +176,12 @@ authority-parts-are-utf8 (Some user) port host u =
     record { userinfo = apart.0; host = suffix.0; port = suffix.1 }
 
 -- authorities: a port with its `:`, if there is one, has no `@`
-valid-port-lacks-at-sign : (port : Option (List ℕ)) → IfSome port IsUtf8
-    → IfSome port (IsValidFor digit_set)
-    → Lacks (codes "@") (port_text port)
+valid-port-lacks-at-sign : (port : Option (List ℕ))
+    → IfSome port IsUtf8 → IfSome port (IsValidFor digit_set) → Lacks (codes "@") (port_text port)
 unfolding port_text
 valid-port-lacks-at-sign None u h = empty-text-lacks-marks (codes "@")
-valid-port-lacks-at-sign (Some digits) u h =
-    text-after-other-byte-lacks-marks (codes "@") 58 (digits ++ []) refl
-    (joined-texts-lack-marks (codes "@") digits []
+valid-port-lacks-at-sign (Some digits) u h = text-after-other-byte-lacks-marks
+    (codes "@") 58 (digits ++ []) refl (joined-texts-lack-marks (codes "@") digits []
     (valid_text_lacks_excluded_marks digit_set (codes "@") refl refl digits u h)
     (empty-text-lacks-marks (codes "@")))
 
@@ -221,17 +198,14 @@ module _ (users names : TableSet) (apart : LackAuthorityDelimiters users names) 
       → IfSome userinfo (IsValidFor users) → IfSome userinfo (Lacks (codes "@"))
   valid-userinfo-lacks-at-sign None u h = tt
   valid-userinfo-lacks-at-sign (Some user) u h = valid_text_lacks_excluded_marks users
-      (codes "@") apart.users_percent
-      userinfo-set-excludes-at-sign user
-      u h
+      (codes "@") apart.users_percent userinfo-set-excludes-at-sign user u h
 
   unbracketed-host-has-host-shape : (host : List ℕ) → Lacks (codes "@:[") host → HasHostShape host
       × Lacks (codes "@") host
   unbracketed-host-has-host-shape host lacks = grind (arith, nat_tests, Lacks-of-fewer-marks)
 
-  host-of-kind-has-host-shape : (text : List ℕ) (host : HostKind) → IsUtf8 text
-      → IsHost names text host
-      → HasHostShape text × Lacks (codes "@") text
+  host-of-kind-has-host-shape : (text : List ℕ) (host : HostKind)
+      → IsUtf8 text → IsHost names text host → HasHostShape text × Lacks (codes "@") text
   host-of-kind-has-host-shape text (Ipv6 segments) u (address, e, groups) = (
     inl (
       address,
@@ -239,10 +213,9 @@ module _ (users names : TableSet) (apart : LackAuthorityDelimiters users names) 
       ipv6-text-lacks-excluded-marks
           (codes "]") ipv_future_set-excludes-bracket-and-at-sign.0 address segments groups,
     ),
-    subst (Lacks (codes "@")) (sym e)
-        (bracketed_lacks_at_sign address
-        (ipv6-text-lacks-excluded-marks (codes "@") ipv_future_set-excludes-bracket-and-at-sign.1
-        address segments groups)),
+    subst
+        (Lacks (codes "@")) (sym e) (bracketed_lacks_at_sign address (ipv6-text-lacks-excluded-marks
+        (codes "@") ipv_future_set-excludes-bracket-and-at-sign.1 address segments groups)),
   )
   host-of-kind-has-host-shape text IpvFuture u (address, e, future) =
       let inner = address-in-brackets-is-utf8 address (subst IsUtf8 e u) in (
@@ -252,19 +225,16 @@ module _ (users names : TableSet) (apart : LackAuthorityDelimiters users names) 
           ipvfuture-text-lacks-excluded-marks
               (codes "]") ipv_future_set-excludes-bracket-and-at-sign.0 address inner future,
         ),
-        subst (Lacks (codes "@")) (sym e)
-            (bracketed_lacks_at_sign address
-            (ipvfuture-text-lacks-excluded-marks
+        subst (Lacks (codes "@"))
+            (sym e) (bracketed_lacks_at_sign address (ipvfuture-text-lacks-excluded-marks
             (codes "@") ipv_future_set-excludes-bracket-and-at-sign.1 address inner future)),
       )
   host-of-kind-has-host-shape text (Ipv4 octets) u dotted =
-      unbracketed-host-has-host-shape text
-      (ipv4-text-lacks-name-marks (codes "@:[") reg_name_set-excludes-host-delimiters text
-      octets dotted)
-  host-of-kind-has-host-shape text RegName u (valid, other) =
-      unbracketed-host-has-host-shape text
-      (valid_text_lacks_excluded_marks names (codes "@:[") apart.names_percent
-      names_exclude_delimiters text u valid)
+      unbracketed-host-has-host-shape text (ipv4-text-lacks-name-marks
+      (codes "@:[") reg_name_set-excludes-host-delimiters text octets dotted)
+  host-of-kind-has-host-shape text RegName
+      u (valid, other) = unbracketed-host-has-host-shape text (valid_text_lacks_excluded_marks
+      names (codes "@:[") apart.names_percent names_exclude_delimiters text u valid)
 
   -- an authority has one cut
   pub authority_parts-are-unique : (text : List ℕ) (p : AuthorityParts) → IsUtf8 text
@@ -282,8 +252,7 @@ module _ (users names : TableSet) (apart : LackAuthorityDelimiters users names) 
       (port_text-is-empty-or-has-colon p.port) in
       let suffix : after_userinfo text ≡ rest = ap after_userinfo (sym h.whole) ∙ user.1 in
       let a = ap (λ t. when (starts 64 (from_any (codes "@") t)) (before_any (codes "@") t))
-      (sym h.whole)
-      ∙ user.0 in
+      (sym h.whole) ∙ user.0 in
       let b : leading_host (after_userinfo text) ≡ p.host = ap leading_host suffix ∙ host.0 in
       let c = ap (λ r. when (starts 58 (after_host r)) (drop 1 (after_host r))) suffix
       ∙ ap (λ r. when (starts 58 r) (drop 1 r)) host.1 ∙ port-is-found-in-port_text p.port in
@@ -295,9 +264,8 @@ module _ (users names : TableSet) (apart : LackAuthorityDelimiters users names) 
   unfolding is_authority_for port_text
   is_authority_for-complete text p u h =
       let utf8 = authority-parts-are-utf8 p.userinfo p.port p.host (subst IsUtf8 (sym h.whole) u) in
-      let found = is_host-complete names apart.names_percent names_exclude_delimiters p.host
-      h.host.0 utf8.host
-      h.host.1 in
+      let found = is_host-complete
+      names apart.names_percent names_exclude_delimiters p.host h.host.0 utf8.host h.host.1 in
       let passes = λ (q : AuthorityParts). bytes_eq (recompose_authority q) text
       && (option_map_or (is_valid_for users) q.userinfo true
       && (is_host names q.host && option_map_or (is_valid_for digit_set) q.port true)) in

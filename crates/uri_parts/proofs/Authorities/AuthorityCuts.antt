@@ -1,9 +1,5 @@
 -- The parts of an authority, as they are parsed.
-use Rattle.std.proofs.Common.{◌≡◌, ℕ, ◌+◌, not, List, length, drop, drop-drop}
-use Rattle.uri_parts.specs.Components.{before_any}
-use Rattle.uri_pct.specs.Sets.{is_one_of}
-use Rattle.uri_pct.proofs.ValidTexts.MarksInTexts.{length_before_marks}
-use Rattle.std.proofs.lemmas.List.Folds.{length-prefix_len}
+use Rattle.uri_parts.proofs.Common.{◌≡◌, ℕ, ◌+◌, not, List, length, drop, drop-drop, before_any, is_one_of, length_before_marks, length-prefix_len}
 
 -- cutting authorities: the position of the first delimiter is the length of what is before it
 pub length-of-text-before-marks : (marks text : List ℕ) → length (before_any marks text)

@@ -1,19 +1,6 @@
 -- At their positions the parts of an authority can be cut out, and what is cut out is them.
-use Rattle.std.proofs.Common.{◌≡◌, ℕ, ◌+◌, ◌-◌, ◌<◌, ◌≤◌, true, false, eqb, List, [], ◌∷◌, ◌++◌, length, get_or, take, drop, refl, sym, ap, subst, ◌∙◌, arith, not, ◌||◌, ◌⊎◌, inl, append_assoc, append-nil, length-append, codes, Some, None, Option, slice_range, is_some, drop-drop}
-use Rattle.std.specs.Option.{option_map_or}
-use Rattle.std.specs.Str.{IsUtf8, IsCharBoundary, chars}
-use Rattle.std.proofs.Math.Seq.{drop-append_seam, take-append_seam}
-use Rattle.std.proofs.lemmas.Str.{IsCharBoundary-start, IsCharBoundary-end, IsCharBoundary-before_ascii}
-use Rattle.std.proofs.lemmas.Bool.{ne_eqb, and_from, or_right, cond-true, cond-false}
-use Rattle.std.proofs.lemmas.Slice.Eq.{bytes_eq-Decides}
-use Rattle.uri_pct.specs.Sets.{TableSet, digit_set}
-use Rattle.uri_pct.specs.Tokens.{is_valid_for, tokens_from_chars, IsValidFor}
-use Rattle.uri_parts.specs.Components.{marked, starts}
-use Rattle.uri_parts.specs.Hosts.{is_host, host_kind, name_kind, literal_kind, literal_of, ipv4_value, ipv6_value}
-use Rattle.uri_parts.specs.Authority.{recompose_authority, authority_parts, is_authority_for}
-use Rattle.uri_parts.specs.Positions.{host_start_of, host_end_of, delimited_length}
+use Rattle.uri_parts.proofs.Common.{◌≡◌, ℕ, ◌+◌, ◌-◌, ◌<◌, ◌≤◌, true, false, eqb, List, [], ◌∷◌, ◌++◌, length, get_or, take, drop, refl, sym, ap, subst, ◌∙◌, arith, not, ◌||◌, ◌⊎◌, inl, append_assoc, append-nil, length-append, codes, Some, None, Option, slice_range, is_some, drop-drop, option_map_or, IsUtf8, IsCharBoundary, chars, drop-append_seam, take-append_seam, IsCharBoundary-start, IsCharBoundary-end, IsCharBoundary-before_ascii, ne_eqb, and_from, or_right, cond-true, cond-false, bytes_eq-Decides, TableSet, digit_set, is_valid_for, tokens_from_chars, IsValidFor, marked, starts, is_host, host_kind, name_kind, literal_kind, literal_of, ipv4_value, ipv6_value, recompose_authority, authority_parts, is_authority_for, host_start_of, host_end_of, delimited_length, nat_tests}
 use Rattle.uri_parts.proofs.Splitting.Places.{slice-between-prefix-and-suffix, get_or-after-prefix, boundary_after_mark}
-use Rattle.std.proofs.lemmas.Bool.Decides.{nat_tests}
 
 -- authorities: what the test of one says of its components
 pub record AuthorityMeetsRules (users names : TableSet) (text : List ℕ) : Type 0 where
@@ -83,8 +70,7 @@ host-is-between-userinfo-and-port userinfo port host text whole u =
     let n = length-of-userinfo-with-at-sign userinfo in
     let prefix : List ℕ = user_text userinfo ++ host in
     let joined : prefix ++ port_text port ≡ text =
-    append_assoc (user_text userinfo) host (port_text port)
-    ∙ whole in
+    append_assoc (user_text userinfo) host (port_text port) ∙ whole in
     let l : length prefix ≡ delimited_length 1 userinfo + length host =
     omega (arith, length-append (user_text userinfo) host) in
     record {
@@ -92,19 +78,16 @@ host-is-between-userinfo-and-port userinfo port host text whole u =
       starts = host-begins-at-boundary-after-userinfo userinfo (host ++ port_text port)
           text whole u;
       ends = subst (IsCharBoundary text) l (host-ends-at-boundary prefix port text joined);
-      holds =
-          ap (λ t. slice_range t (delimited_length 1 userinfo)
-          (delimited_length 1 userinfo + length host)) (sym whole)
-          ∙ ap (λ k. slice_range (user_text userinfo ++ (host ++ port_text port)) k
-          (k + length host)) (sym n)
+      holds = ap (λ t. slice_range t (delimited_length 1 userinfo)
+          (delimited_length 1 userinfo + length host)) (sym whole) ∙ ap (λ k. slice_range
+          (user_text userinfo ++ (host ++ port_text port)) k (k + length host)) (sym n)
           ∙ slice-between-prefix-and-suffix (user_text userinfo) host (port_text port);
     }
 
 -- authorities, positions: the host is between its positions
 pub host_is_at_positions : (users names : TableSet) (text : List ℕ)
-    → is_authority_for users names text ≡ true
-    → IsUtf8 text → IsBetween text (host_start_of text) (host_end_of text)
-    (authority_parts text).host
+    → is_authority_for users names text ≡ true → IsUtf8 text
+    → IsBetween text (host_start_of text) (host_end_of text) (authority_parts text).host
 host_is_at_positions users names text t u =
     let p = authority_parts text in
     host-is-between-userinfo-and-port p.userinfo p.port p.host text
@@ -123,19 +106,17 @@ user_lies : (users : TableSet) (userinfo : Option (List ℕ)) (rest text : List 
     → 0 < delimited_length 1 userinfo
     → HasUserinfoBefore users text (delimited_length 1 userinfo) userinfo
 user_lies users None rest text whole h l = absurd (omega arith)
-user_lies users (Some user) rest text whole h l =
-    grind (
-      arith,
-      nat_tests,
-      append_assoc,
-      take-append_seam user (64 ∷ rest),
-      boundary-before-ascii-byte,
-    )
+user_lies users (Some user) rest text whole h l = grind (
+  arith,
+  nat_tests,
+  append_assoc,
+  take-append_seam user (64 ∷ rest),
+  boundary-before-ascii-byte,
+)
 
 -- authorities: if the host starts later than at 0, userinfo and `@` are before it
 pub userinfo_is_before_host : (users names : TableSet) (text : List ℕ)
-    → is_authority_for users names text ≡ true
-    → 0 < host_start_of text
+    → is_authority_for users names text ≡ true → 0 < host_start_of text
     → HasUserinfoBefore users text (host_start_of text) (authority_parts text).userinfo
 userinfo_is_before_host users names text t l =
     let p = authority_parts text in
@@ -162,33 +143,28 @@ text-ends-or-port-follows-prefix : (prefix : List ℕ) (port : Option (List ℕ)
     → (length prefix ≡ length text) × (None ≡ port) ⊎ HasPortAfter text (length prefix) port
 text-ends-or-port-follows-prefix prefix None text whole u h = inl
     (ap length (sym (append-nil prefix) ∙ whole), refl)
-text-ends-or-port-follows-prefix prefix (Some digits) text whole u h =
-    grind (
-      arith,
-      nat_tests,
-      append-nil digits,
-      drop-drop 1 (length prefix)
-          (prefix ++ (58 ∷ digits)),
-      drop-append_seam prefix (58 ∷ digits),
-      boundary_after_mark,
-    )
+text-ends-or-port-follows-prefix prefix (Some digits) text whole u h = grind (
+  arith,
+  nat_tests,
+  append-nil digits,
+  drop-drop 1 (length prefix) (prefix ++ (58 ∷ digits)),
+  drop-append_seam prefix (58 ∷ digits),
+  boundary_after_mark,
+)
 
 -- authorities, positions: the host ends the authority, or a port follows the host
 pub port_is_after_host : (users names : TableSet) (text : List ℕ)
     → is_authority_for users names text ≡ true
-    → IsUtf8 text
-    → ((host_end_of text ≡ length text) × (None ≡ (authority_parts text).port))
+    → IsUtf8 text → ((host_end_of text ≡ length text) × (None ≡ (authority_parts text).port))
     ⊎ HasPortAfter text (host_end_of text) (authority_parts text).port
 port_is_after_host users names text t u =
     let p = authority_parts text in
     let w = holds users names text t in
     let prefix : List ℕ = user_text p.userinfo ++ p.host in
-    let l : length prefix ≡ host_end_of text =
-    omega (
+    let l : length prefix ≡ host_end_of text = omega (
       arith,
       length-append (user_text p.userinfo) p.host,
-      length-of-userinfo-with-at-sign
-          p.userinfo,
+      length-of-userinfo-with-at-sign p.userinfo,
     ) in
     let cases = text-ends-or-port-follows-prefix prefix p.port text
     (append_assoc (user_text p.userinfo) p.host (port_text p.port) ∙ w.whole) u w.port in

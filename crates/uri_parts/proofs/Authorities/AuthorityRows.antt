@@ -1,13 +1,6 @@
 -- The parts of some authorities, and the kinds of their hosts, by computation.
-use Rattle.std.proofs.Common.{◌≡◌, true, false, [], ◌∷◌, refl, codes, map, replicate, Some, None}
-use Rattle.std.specs.List.{list_any, list_all}
-use Rattle.std.specs.Net.Reader.{read_ipv4, read_ipv6, read_segments, read_segment, read_number, read_octet}
-use Rattle.std.specs.Str.{chars}
-use Rattle.uri_pct.specs.Sets.{userinfo_set, reg_name_set}
+use Rattle.uri_parts.proofs.Common.{◌≡◌, true, false, [], ◌∷◌, refl, codes, map, replicate, Some, None, list_any, list_all, read_ipv4, read_ipv6, read_segments, read_segment, read_number, read_octet, chars, userinfo_set, reg_name_set, tokens_from_chars, Ipv4, Ipv6, IpvFuture, RegName, host_kind, is_host, ipv4_value, ipv6_value, is_ipv_future, authority_parts, is_authority_for}
 use Rattle.uri_pct.specs.Tokens as Tokens
-use Rattle.uri_pct.specs.Tokens.{tokens_from_chars}
-use Rattle.uri_parts.specs.Hosts.{Ipv4, Ipv6, IpvFuture, RegName, host_kind, is_host, ipv4_value, ipv6_value, is_ipv_future}
-use Rattle.uri_parts.specs.Authority.{authority_parts, is_authority_for}
 
 -- examples of authorities: the components of `u@h:80` are userinfo, host and port
 user_host_port : authority_parts (codes "u@h:80")
@@ -41,14 +34,12 @@ parts-of-ipv6-host-after-userinfo = refl
 
 -- examples of authorities, their hosts: each has the first kind that fits, by computation
 example-hosts-have-their-kinds : map host_kind (
-    codes "127.0.0.1" ∷ codes "127.0.0.001" ∷ codes "127.1" ∷ codes "256.0.0.1" ∷ codes ""
-    ∷ codes "1.2.3.4.5"
-    ∷ codes "[v1F.a:b]" ∷ codes "[V1.x]" ∷ codes "[::]" ∷ codes "[::ffff:192.0.2.1]"
-    ∷ codes "[64:ff9b::192.0.2.33]" ∷ codes "[::2:3:4:5:6:7:8]" ∷ []
+    codes "127.0.0.1" ∷ codes "127.0.0.001" ∷ codes "127.1" ∷ codes "256.0.0.1"
+    ∷ codes "" ∷ codes "1.2.3.4.5" ∷ codes "[v1F.a:b]" ∷ codes "[V1.x]" ∷ codes "[::]"
+    ∷ codes "[::ffff:192.0.2.1]" ∷ codes "[64:ff9b::192.0.2.33]" ∷ codes "[::2:3:4:5:6:7:8]" ∷ []
     ) ≡ (
-    Ipv4 (127 ∷ 0 ∷ 0 ∷ 1 ∷ []) ∷ RegName ∷ RegName ∷ RegName ∷ RegName ∷ RegName
-    ∷ IpvFuture ∷ IpvFuture ∷ Ipv6 (replicate 8 0)
-    ∷ Ipv6 (0 ∷ 0 ∷ 0 ∷ 0 ∷ 0 ∷ 0xffff ∷ 0xc000 ∷ 0x201 ∷ [])
+    Ipv4 (127 ∷ 0 ∷ 0 ∷ 1 ∷ []) ∷ RegName ∷ RegName ∷ RegName ∷ RegName ∷ RegName ∷ IpvFuture
+    ∷ IpvFuture ∷ Ipv6 (replicate 8 0) ∷ Ipv6 (0 ∷ 0 ∷ 0 ∷ 0 ∷ 0 ∷ 0xffff ∷ 0xc000 ∷ 0x201 ∷ [])
     ∷ Ipv6 (0x64 ∷ 0xff9b ∷ 0 ∷ 0 ∷ 0 ∷ 0 ∷ 49152 ∷ 545 ∷ [])
     ∷ Ipv6 (0 ∷ 2 ∷ 3 ∷ 4 ∷ 5 ∷ 6 ∷ 7 ∷ 8 ∷ []) ∷ []
     )
@@ -70,12 +61,11 @@ example-authorities-are-accepted = refl
 
 -- examples of authorities: these texts fail the test of one in a URI
 malformed-authorities-are-rejected : list_any (is_authority_for userinfo_set reg_name_set) (
-    codes "[1:2:3:4::5:6:7:8]" ∷ codes "[1:2:3:4:5:6:7:8:9]" ∷ codes "[44:55::66::77]"
-    ∷ codes "[1.2.3.4]" ∷ codes "[::01.1.1.1]" ∷ codes "[::12345]"
-    ∷ codes "[::1" ∷ codes "[::1]x"
-    ∷ codes "[]" ∷ codes "[vG.addr]" ∷ codes "[v.addr]" ∷ codes "[vF.]" ∷ codes "[vF.%20]"
-    ∷ codes "[fe80::abcd%eth0]" ∷ codes "a@b@c" ∷ codes "h:80a" ∷ codes "a:b:c"
-    ∷ codes "u[@h" ∷ codes "a%2" ∷ []
+    codes "[1:2:3:4::5:6:7:8]" ∷ codes "[1:2:3:4:5:6:7:8:9]"
+    ∷ codes "[44:55::66::77]" ∷ codes "[1.2.3.4]" ∷ codes "[::01.1.1.1]"
+    ∷ codes "[::12345]" ∷ codes "[::1" ∷ codes "[::1]x" ∷ codes "[]" ∷ codes "[vG.addr]"
+    ∷ codes "[v.addr]" ∷ codes "[vF.]" ∷ codes "[vF.%20]" ∷ codes "[fe80::abcd%eth0]"
+    ∷ codes "a@b@c" ∷ codes "h:80a" ∷ codes "a:b:c" ∷ codes "u[@h" ∷ codes "a%2" ∷ []
     ) ≡ false
 unfolding is_authority_for Tokens.is_valid_for tokens_from_chars chars Tokens.is_pct_encoded is_host
     is_ipv_future ipv4_value read_ipv4 read_octet read_number ipv6_value read_ipv6 read_segments

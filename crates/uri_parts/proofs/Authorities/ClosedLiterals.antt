@@ -1,14 +1,5 @@
 -- What is after a bracket has a closing one, and is parsed as the literal before that.
-use Rattle.std.proofs.Common.{◌≡◌, ℕ, ◌+◌, true, List, ◌∷◌, ◌++◌, length, drop, refl, sym, ap, subst, ◌∙◌, arith, ◌||◌, ⊎_elim, append_assoc, length-append, lit<, codes, is_some, IsUtf8}
-use Rattle.std.proofs.Math.Seq.{drop-append_seam}
-use Rattle.std.proofs.lemmas.Bool.{and_parts}
-use Rattle.std.proofs.lemmas.Bool.Decides.{nat_tests}
-use Rattle.uri_pct.specs.Sets.{ipv_future_set}
-use Rattle.uri_pct.proofs.ValidTexts.Cuts.{excludes}
-use Rattle.uri_pct.proofs.ValidTexts.MarksInTexts.{AreAscii-by-test}
-use Rattle.uri_parts.specs.Components.{before_any, from_any, starts, Lacks}
-use Rattle.uri_parts.specs.Hosts.{ipv6_value, is_ipv_future, bracketed}
-use Rattle.uri_parts.specs.Models.Literals.{literal_length}
+use Rattle.uri_parts.proofs.Common.{◌≡◌, ℕ, ◌+◌, true, List, ◌∷◌, ◌++◌, length, drop, refl, sym, ap, subst, ◌∙◌, arith, ◌||◌, ⊎_elim, append_assoc, length-append, lit<, codes, is_some, IsUtf8, drop-append_seam, and_parts, nat_tests, ipv_future_set, excludes, AreAscii-by-test, before_any, from_any, starts, Lacks, ipv6_value, is_ipv_future, bracketed, literal_length}
 use Rattle.uri_parts.proofs.Parsing.Acceptance.{is_literal, parses_literal}
 use Rattle.uri_parts.proofs.HostForms.Addresses.{ipv6_value-sound}
 use Rattle.uri_parts.proofs.Authorities.Authority.{Lacks-of-fewer-marks}
@@ -21,16 +12,13 @@ use Rattle.uri_parts.proofs.Authorities.NamesAndPorts.{or-of-two-false-is-false,
 
 -- authorities, brackets: the address lacks the delimiters that an IPvFuture address cannot have
 pub literal-lacks-excluded-marks : (marks : List ℕ) → excludes ipv_future_set marks ≡ true
-    → (address : List ℕ)
-    → IsUtf8 address → is_literal address ≡ true → Lacks marks address
+    → (address : List ℕ) → IsUtf8 address → is_literal address ≡ true → Lacks marks address
 unfolding is_literal
-literal-lacks-excluded-marks marks outside address u h = ⊎_elim
-    (λ n. ipvfuture-text-lacks-excluded-marks marks outside address u
-    (is_ipv_future-sound address
-    (subst (λ o. (is_some o || is_ipv_future address) ≡ true) n h)))
-    (λ (segments, s). ipv6-text-lacks-excluded-marks marks outside address segments
-    (ipv6_value-sound address segments s))
-    (option-is-none-or-some (ipv6_value address))
+literal-lacks-excluded-marks marks outside address u h =
+    ⊎_elim (λ n. ipvfuture-text-lacks-excluded-marks marks outside address u
+    (is_ipv_future-sound address (subst (λ o. (is_some o || is_ipv_future address) ≡ true) n h)))
+    (λ (segments, s). ipv6-text-lacks-excluded-marks marks outside address
+    segments (ipv6_value-sound address segments s)) (option-is-none-or-some (ipv6_value address))
 
 -- authorities, brackets: what is after a `[` has a `]` before the authority ends
 pub record IsClosed (rest : List ℕ) : Type 0 where
@@ -74,18 +62,14 @@ parsed-literal-has-closing-bracket rest u h =
     let k = text-is-cut-at-first-mark (codes "]") rest in
     let address : List ℕ = before_any (codes "]") rest in
     let tail : List ℕ = drop 1 (from_any (codes "]") rest) in
-    let whole : address ++ (93 ∷ tail) ≡ rest =
-    ap (λ t. address ++ t) (sym
-    (text-with-mark-is-mark-and-rest 93 (from_any (codes "]") rest) p.0))
-    ∙ k.whole in
+    let whole : address ++ (93 ∷ tail) ≡ rest = ap (λ t. address
+    ++ t) (sym (text-with-mark-is-mark-and-rest 93 (from_any (codes "]") rest) p.0)) ∙ k.whole in
     let other = literal-lacks-excluded-marks (codes "/?#") refl address
-    (utf8_before_marks (codes "]") rest
-    (AreAscii-by-test (codes "]") refl) u) p.1 in
+    (utf8_before_marks (codes "]") rest (AreAscii-by-test (codes "]") refl) u) p.1 in
     let lacks : Lacks (codes "]/?#") address = λ i d l. or-of-two-false-is-false _ _ (k.lacks i d l)
     (other i d l) in
-    ap (λ t. starts 93 (from_any (codes "]/?#") t)) (sym whole)
-    ∙ ap (starts 93) (cut-at-end-of-text-without-marks (codes "]/?#") address
-    (93 ∷ tail) lacks refl).1
+    ap (λ t. starts 93 (from_any (codes "]/?#") t)) (sym whole) ∙ ap
+    (starts 93) (cut-at-end-of-text-without-marks (codes "]/?#") address (93 ∷ tail) lacks refl).1
 
 module _ (rest : List ℕ) (u : IsUtf8 rest) (w : IsClosed rest) where
   pub parses_literal-is-is_literal-of-address : parses_literal rest ≡ is_literal w.address
@@ -101,13 +85,11 @@ module _ (rest : List ℕ) (u : IsUtf8 rest) (w : IsClosed rest) where
   literal-length-is-bracketed-length = omega (
     arith,
     ap length w.before,
-    length-append w.address
-        (codes "]"),
+    length-append w.address (codes "]"),
   )
 
   pub text-after-literal-is-tail : drop (1 + literal_length rest) (91 ∷ rest) ≡ w.tail
-  text-after-literal-is-tail =
-      ap (λ n. drop n (91 ∷ rest)) literal-length-is-bracketed-length
+  text-after-literal-is-tail = ap (λ n. drop n (91 ∷ rest)) literal-length-is-bracketed-length
       ∙ ap (drop (length (bracketed w.address))) (sym bracketed-address-and-tail-are-text)
       ∙ drop-append_seam (bracketed w.address) w.tail
 

@@ -1,19 +1,7 @@
 -- An authority is parsed exactly where the one that is cut out is taken apart, and its
 -- positions are where it is cut.
-use Rattle.std.proofs.Common.{◌≡◌, ℕ, ◌+◌, true, false, eqb, List, ◌∷◌, ◌++◌, length, drop, refl, sym, ap, ◌∙◌, arith, ◌||◌, ◌&&◌, ⊎_elim, append_assoc, length-append, subst, zero-add, lit<, codes, IsUtf8}
-use Rattle.std.proofs.lemmas.Bool.{cases_Bool, cond-true, cond-false, and_left, and_parts, eq-eqb, ne_eqb, both_ways, false_from_ne_true}
-use Rattle.std.proofs.Math.Bool.{or-false}
-use Rattle.std.proofs.lemmas.Bool.Decides.{nat_tests}
-use Rattle.uri_pct.specs.Sets.{TableSet}
-use Rattle.uri_pct.specs.Tokens.{is_valid_for}
-use Rattle.uri_pct.specs.Prefixes.{valid_prefix, after}
-use Rattle.uri_pct.proofs.ValidTexts.Cuts.{cut}
-use Rattle.uri_pct.proofs.ValidTexts.MarksInTexts.{length_before_marks, AreAscii-by-test}
-use Rattle.uri_parts.specs.Components.{before_any, from_any, starts, Lacks}
-use Rattle.uri_parts.specs.Positions.{authority_at}
-use Rattle.uri_parts.specs.Models.AuthorityParsing.{name_and_port_length, name_ends_authority, host_end, host_and_port_length, host_offset, text_from_host, other_authority_length, found_authority_length, other_authority, found_authority}
+use Rattle.uri_parts.proofs.Common.{◌≡◌, ℕ, ◌+◌, true, false, eqb, List, ◌∷◌, ◌++◌, length, drop, refl, sym, ap, ◌∙◌, arith, ◌||◌, ◌&&◌, ⊎_elim, append_assoc, length-append, subst, zero-add, lit<, codes, IsUtf8, cases_Bool, cond-true, cond-false, and_left, and_parts, eq-eqb, ne_eqb, both_ways, false_from_ne_true, or-false, nat_tests, TableSet, is_valid_for, valid_prefix, after, cut, length_before_marks, AreAscii-by-test, before_any, from_any, starts, Lacks, authority_at, name_and_port_length, name_ends_authority, host_end, host_and_port_length, host_offset, text_from_host, other_authority_length, found_authority_length, other_authority, found_authority, Kind, second-holds-if-first-is-false}
 use Rattle.uri_parts.proofs.Parsing.Acceptance.{finds_host, passes_user, finds_other, finds_authority}
-use Rattle.uri_parts.specs.Grammar.{Kind}
 use Rattle.uri_parts.proofs.Authorities.Authority.{cut-of-text-without-marks, Lacks-of-fewer-marks}
 use Rattle.uri_parts.proofs.Authorities.AuthorityCuts.{length-of-text-before-marks}
 use Rattle.uri_parts.proofs.Splitting.Cuts.{text-is-cut-at-first-mark, cut-at-end-of-text-without-marks, before_any-past-other, text-after-other-byte-lacks-marks}
@@ -27,7 +15,6 @@ use Rattle.uri_parts.proofs.TextKinds.GrammarTexts.{valid_text_lacks_excluded_ma
 use Rattle.uri_parts.proofs.Parsing.ScanStops.{scan-stops-at-first-mark-or-within, utf8_from_marks, utf8_after_mark}
 use Rattle.uri_parts.proofs.Authorities.WholeAuthorities.{parses_host_and_port, parses_whole_authority}
 use Rattle.uri_parts.proofs.Splitting.Recompose.{text-with-mark-is-mark-and-rest}
-use Rattle.uri_pct.proofs.General.{second-holds-if-first-is-false}
 use Rattle.uri_parts.proofs.Authorities.HostPositions.{places, authority_at-without-userinfo, authority_at-with-userinfo}
 use Rattle.uri_parts.proofs.Authorities.UserinfoLengths.{host_offset-is-after-userinfo-and-at-sign, text_from_host-is-after-at-sign, passes_user-is-at-sign-after-userinfo}
 
@@ -48,15 +35,13 @@ module _ (segment : TableSet) (kind : Kind) (w : SeparatesComponents segment kin
       → finds_authority kind rest ≡ finds_host kind rest
   unfolding finds_authority finds_other
   bracketed-authority-is-host-and-port rest e =
-      ap
-      (λ t. t || ((starts 91 rest || passes_user kind rest)
+      ap (λ t. t || ((starts 91 rest || passes_user kind rest)
       && finds_host kind (text_from_host kind rest))) (bracket_begins_no_name segment kind w rest e)
       ∙ ap (λ t. (t || passes_user kind rest) && finds_host kind (text_from_host kind rest)) e
       ∙ ap (finds_host kind) (no-userinfo-before-bracketed-host rest e)
 
-  unbracketed-authority-is-name-or-userinfo-and-host : (rest : List ℕ) → starts 91 rest ≡ false
-      → finds_authority kind rest
-      ≡ (name_ends_authority kind rest
+  unbracketed-authority-is-name-or-userinfo-and-host : (rest : List ℕ)
+      → starts 91 rest ≡ false → finds_authority kind rest ≡ (name_ends_authority kind rest
       || (passes_user kind rest && finds_host kind (text_from_host kind rest)))
   unfolding finds_authority finds_other
   unbracketed-authority-is-name-or-userinfo-and-host rest e = ap (λ t. name_ends_authority kind rest
@@ -97,9 +82,8 @@ module _ (segment : TableSet) (kind : Kind) (w : SeparatesComponents segment kin
 
     -- with an `@` it is userinfo, and then a host
     authority-with-at-sign-is-userinfo-and-host : starts 64 tail ≡ true
-        → parses_whole_authority kind.userinfo kind.reg_name cut_text
-        ≡ (is_valid_for kind.userinfo (before_any (codes "@/?#") rest)
-        && finds_host kind (drop 1 tail))
+        → parses_whole_authority kind.userinfo kind.reg_name cut_text ≡ (is_valid_for kind.userinfo
+        (before_any (codes "@/?#") rest) && finds_host kind (drop 1 tail))
     unfolding parses_whole_authority
     authority-with-at-sign-is-userinfo-and-host e =
         let c = cut_at_further_mark 64 (codes "/?#") rest in
@@ -122,25 +106,20 @@ module _ (segment : TableSet) (kind : Kind) (w : SeparatesComponents segment kin
         ∙ sym (finds_host-is-parses_host_and_port segment kind w rest u)
 
     text-with-at-sign-is-no-host-alone : starts 64 tail ≡ true → finds_host kind rest ≡ false
-    text-with-at-sign-is-no-host-alone e = false_from_ne_true _
-        (λ h. both_ways _ (host-alone-holds-no-at-sign rest u h)
-        (at-sign-in-cut-is-at-sign-in-tail ∙ e))
+    text-with-at-sign-is-no-host-alone e = false_from_ne_true _ (λ h. both_ways _
+        (host-alone-holds-no-at-sign rest u h) (at-sign-in-cut-is-at-sign-in-tail ∙ e))
 
     userinfo-before-at-sign-ends-at-first-mark : starts 64 (after kind.userinfo rest) ≡ true
         → valid_prefix kind.userinfo rest ≡ length_before_marks (codes "@/?#") rest
-    userinfo-before-at-sign-ends-at-first-mark e = scan_stops_at_first_mark (codes "@/?#") 64 refl
-        kind.userinfo w.userinfo_lacks
-        w.userinfo_marks
-        rest u e
+    userinfo-before-at-sign-ends-at-first-mark e = scan_stops_at_first_mark
+        (codes "@/?#") 64 refl kind.userinfo w.userinfo_lacks w.userinfo_marks rest u e
 
     bracket-begins-no-userinfo : starts 91 rest ≡ true
         → is_valid_for kind.userinfo (before_any (codes "@/?#") rest) ≡ false
-    bracket-begins-no-userinfo e = false_from_ne_true _ (λ v.
-        both_ways _
-        (lacking_text_does_not_begin_with (codes "[") (before_any (codes "@/?#") rest) 91 refl
-        (valid_text_lacks_excluded_marks kind.userinfo (codes "[") w.userinfo_lacks
-        w.userinfo_starts
-        (before_any (codes "@/?#") rest)
+    bracket-begins-no-userinfo e =
+        false_from_ne_true _ (λ v. both_ways _ (lacking_text_does_not_begin_with (codes "[")
+        (before_any (codes "@/?#") rest) 91 refl (valid_text_lacks_excluded_marks kind.userinfo
+        (codes "[") w.userinfo_lacks w.userinfo_starts (before_any (codes "@/?#") rest)
         (utf8_before_marks (codes "@/?#") rest (AreAscii-by-test (codes "@/?#") refl) u) v))
         (cut-text-begins-with-same-other-byte 91 (codes "@/?#") refl rest ∙ e))
 
@@ -148,63 +127,49 @@ module _ (segment : TableSet) (kind : Kind) (w : SeparatesComponents segment kin
         → (passes_user kind rest && finds_host kind (text_from_host kind rest))
         ≡ (is_valid_for kind.userinfo (before_any (codes "@/?#") rest)
         && finds_host kind (drop 1 tail))
-    userinfo-and-host-are-parsed-as-cut bare e = ⊎_elim
-        (λ m.
-        ap (λ t. t && finds_host kind (text_from_host kind rest))
-        (passes_user-is-at-sign-after-userinfo segment kind w rest
+    userinfo-and-host-are-parsed-as-cut bare e = ⊎_elim (λ m. ap (λ t. t && finds_host kind
+        (text_from_host kind rest)) (passes_user-is-at-sign-after-userinfo segment kind w rest
         ∙ ap (λ n. starts 64 (drop n rest)) m ∙ e)
         ∙ ap (finds_host kind) (text_from_host-is-after-at-sign segment kind w rest bare
-        ∙ ap (λ n. drop 1 (drop n rest)) m)
-        ∙ sym (ap (λ t. t && finds_host kind (drop 1 tail)) (userinfo-validity-by-prefix-length
-        ∙ eq-eqb _ _ m)))
-        (λ s.
+        ∙ ap (λ n. drop 1 (drop n rest)) m) ∙ sym (ap (λ t. t && finds_host kind (drop 1 tail))
+        (userinfo-validity-by-prefix-length ∙ eq-eqb _ _ m))) (λ s.
         let none : starts 64 (after kind.userinfo rest) ≡ false =
         false_from_ne_true _ (λ t. s.apart (userinfo-before-at-sign-ends-at-first-mark t)) in
         ap (λ t. t && finds_host kind (text_from_host kind rest))
         (passes_user-is-at-sign-after-userinfo segment kind w rest ∙ none)
         ∙ sym (ap (λ t. t && finds_host kind (drop 1 tail)) (userinfo-validity-by-prefix-length
-        ∙ ne_eqb _ _ s.apart)))
-        (scan-stops-at-first-mark-or-within (codes "@/?#") kind.userinfo w.userinfo_lacks
-        w.userinfo_marks rest u)
+        ∙ ne_eqb _ _ s.apart))) (scan-stops-at-first-mark-or-within
+        (codes "@/?#") kind.userinfo w.userinfo_lacks w.userinfo_marks rest u)
 
     no-userinfo-without-at-sign : starts 64 tail ≡ false → passes_user kind rest ≡ false
     no-userinfo-without-at-sign e = passes_user-is-at-sign-after-userinfo segment kind w rest
-        ∙ false_from_ne_true _
-        (λ t. both_ways _ e (sym
-        (ap (λ n. starts 64 (drop n rest)) (userinfo-before-at-sign-ends-at-first-mark t)) ∙ t))
+        ∙ false_from_ne_true _ (λ t. both_ways _ e (sym (ap (λ n. starts 64 (drop n rest))
+        (userinfo-before-at-sign-ends-at-first-mark t)) ∙ t))
 
     authority-with-at-sign-is-found-as-cut : starts 64 tail ≡ true
-        → finds_authority kind rest
-        ≡ (is_valid_for kind.userinfo (before_any (codes "@/?#") rest)
+        → finds_authority kind rest ≡ (is_valid_for kind.userinfo (before_any (codes "@/?#") rest)
         && finds_host kind (drop 1 tail))
     authority-with-at-sign-is-found-as-cut e = ⊎_elim
         (λ b. bracketed-authority-is-host-and-port rest b ∙ text-with-at-sign-is-no-host-alone e
-        ∙ sym (and_left _ _ (bracket-begins-no-userinfo b)))
-        (λ b.
-        let none : name_ends_authority kind rest ≡ false =
-        false_from_ne_true _ (λ h. both_ways _ (text-with-at-sign-is-no-host-alone e)
-        (name-that-ends-authority-is-host rest h).1) in
+        ∙ sym (and_left _ _ (bracket-begins-no-userinfo b))) (λ b.
+        let none : name_ends_authority kind rest ≡ false = false_from_ne_true _ (λ h. both_ways _
+        (text-with-at-sign-is-no-host-alone e) (name-that-ends-authority-is-host rest h).1) in
         unbracketed-authority-is-name-or-userinfo-and-host rest b
         ∙ ap (λ t. t || (passes_user kind rest && finds_host kind (text_from_host kind rest))) none
-        ∙ userinfo-and-host-are-parsed-as-cut b e)
-        (cases_Bool (starts 91 rest))
+        ∙ userinfo-and-host-are-parsed-as-cut b e) (cases_Bool (starts 91 rest))
 
     pub finds_authority-is-parses_whole_authority : finds_authority kind rest
         ≡ parses_whole_authority kind.userinfo kind.reg_name cut_text
-    finds_authority-is-parses_whole_authority = ⊎_elim
-        (λ e. authority-with-at-sign-is-found-as-cut e
+    finds_authority-is-parses_whole_authority =
+        ⊎_elim (λ e. authority-with-at-sign-is-found-as-cut e
         ∙ sym (authority-with-at-sign-is-userinfo-and-host e))
-        (λ e. ⊎_elim
-        (λ b. bracketed-authority-is-host-and-port rest b)
-        (λ b.
-        unbracketed-authority-is-name-or-userinfo-and-host rest b
+        (λ e. ⊎_elim (λ b. bracketed-authority-is-host-and-port rest b)
+        (λ b. unbracketed-authority-is-name-or-userinfo-and-host rest b
         ∙ ap (λ t. name_ends_authority kind rest
         || (t && finds_host kind (text_from_host kind rest))) (no-userinfo-without-at-sign e)
         ∙ or-false (name_ends_authority kind rest)
-        ∙ sym (finds_host-unbracketed segment kind w rest b))
-        (cases_Bool (starts 91 rest))
-        ∙ sym (authority-without-at-sign-is-host e))
-        (cases_Bool (starts 64 tail))
+        ∙ sym (finds_host-unbracketed segment kind w rest b)) (cases_Bool (starts 91 rest))
+        ∙ sym (authority-without-at-sign-is-host e)) (cases_Bool (starts 64 tail))
 
     -- its positions
     name-alone-is-found-authority : name_ends_authority kind rest ≡ true → IsFound kind rest
@@ -212,49 +177,39 @@ module _ (segment : TableSet) (kind : Kind) (w : SeparatesComponents segment kin
     name-alone-is-found-authority h =
         let p = name-that-ends-authority-is-host rest h in
         let f = host-that-is-found-has-its-positions segment kind w rest u p.1 in
-        let n : valid_prefix kind.reg_name rest
-        ≡ length f.host = sym (host_end-unbracketed segment kind w rest p.0)
-        ∙ f.end in
+        let n : valid_prefix kind.reg_name rest ≡ length f.host =
+        sym (host_end-unbracketed segment kind w rest p.0) ∙ f.end in
         let l : name_and_port_length kind rest ≡ length (f.host ++ f.suffix) =
-        sym (host_and_port_length-unbracketed segment kind w rest p.0)
-        ∙ f.whole in
+        sym (host_and_port_length-unbracketed segment kind w rest p.0) ∙ f.whole in
         record {
           len = cond-true _ _ _ h ∙ l ∙ sym (ap length f.text);
           found = λ place.
               let same : record {
                 start = place;
                 host_start = place;
-                host_end =
-                    place + valid_prefix kind.reg_name rest;
+                host_end = place + valid_prefix kind.reg_name rest;
                 end = place + name_and_port_length kind rest;
-              }
-              ≡ places place place f.host f.suffix =
-              λ i. record {
+              } ≡ places place place f.host f.suffix = λ i. record {
                 start = place;
                 host_start = place;
                 host_end = place + n i;
-                end =
-                    place + l i;
+                end = place + l i;
               } in
-              cond-true _ _ _ h ∙ same
-              ∙ sym (ap (authority_at place) f.text
-              ∙ authority_at-without-userinfo f.host f.suffix f.at f.cut place);
+              cond-true _ _ _ h ∙ same ∙ sym (ap (authority_at place)
+              f.text ∙ authority_at-without-userinfo f.host f.suffix f.at f.cut place);
         }
 
     authority-at-cut-positions-is-found : name_ends_authority kind rest ≡ false
-        → (len : other_authority_length kind rest ≡ length cut_text)
-        → ((place : ℕ) → other_authority kind place rest ≡ authority_at place cut_text)
-        → IsFound kind rest
+        → (len : other_authority_length kind rest ≡ length cut_text) → ((place : ℕ)
+        → other_authority kind place rest ≡ authority_at place cut_text) → IsFound kind rest
     unfolding found_authority_length found_authority
     authority-at-cut-positions-is-found none len found = record {
-      len = cond-false _ _ _ none
-          ∙ len;
+      len = cond-false _ _ _ none ∙ len;
       found = λ place. cond-false _ _ _ none ∙ found place;
     }
 
     bracketed-host-is-found-authority : name_ends_authority kind rest ≡ false
-        → starts 91 rest ≡ true
-        → finds_host kind rest ≡ true → IsFound kind rest
+        → starts 91 rest ≡ true → finds_host kind rest ≡ true → IsFound kind rest
     unfolding other_authority_length other_authority host_offset
     bracketed-host-is-found-authority none e h =
         let f = host-that-is-found-has-its-positions segment kind w rest u h in
@@ -265,25 +220,21 @@ module _ (segment : TableSet) (kind : Kind) (w : SeparatesComponents segment kin
         authority-at-cut-positions-is-found none (l ∙ sym (ap length f.text)) (λ place.
         let s : place + host_offset kind rest ≡ place = omega (arith, z) in
         let n : host_end kind (text_from_host kind rest) ≡ length f.host =
-        ap (host_end kind) (no-userinfo-before-bracketed-host rest e)
-        ∙ f.end in
+        ap (host_end kind) (no-userinfo-before-bracketed-host rest e) ∙ f.end in
         let m : host_and_port_length kind (text_from_host kind rest) ≡ length (f.host ++ f.suffix) =
-        ap (host_and_port_length kind) (no-userinfo-before-bracketed-host rest e)
-        ∙ f.whole in
+        ap (host_and_port_length kind) (no-userinfo-before-bracketed-host rest e) ∙ f.whole in
         let same : other_authority kind place rest ≡ places place place f.host f.suffix =
         λ i. record {
           start = place;
           host_start = s i;
           host_end = s i + n i;
-          end =
-              s i + m i;
+          end = s i + m i;
         } in
         same ∙ sym (ap (authority_at place) f.text
         ∙ authority_at-without-userinfo f.host f.suffix f.at f.cut place))
 
     userinfo-and-host-are-found-authority : name_ends_authority kind rest ≡ false
-        → starts 91 rest ≡ false
-        → passes_user kind rest ≡ true
+        → starts 91 rest ≡ false → passes_user kind rest ≡ true
         → finds_host kind (text_from_host kind rest) ≡ true → IsFound kind rest
     unfolding other_authority_length other_authority
     userinfo-and-host-are-found-authority none e passed h =
@@ -299,23 +250,19 @@ module _ (segment : TableSet) (kind : Kind) (w : SeparatesComponents segment kin
         (text-after-at-sign-is-utf8 mark) (sym (ap (finds_host kind) b) ∙ h) in
         let cut_user = text-is-cut-at-first-mark (codes "@/?#") rest in
         let cut_host = text-is-cut-at-first-mark (codes "/?#") s in
-        let outside : Lacks (codes "@") user =
-        Lacks-of-fewer-marks (codes "@") (codes "@/?#") (λ c e. grind (arith, nat_tests)) user
-        cut_user.lacks in
+        let outside : Lacks (codes "@") user = Lacks-of-fewer-marks
+        (codes "@") (codes "@/?#") (λ c e. grind (arith, nat_tests)) user cut_user.lacks in
         let whole_text : List ℕ = user ++ (64 ∷ (f.host ++ f.suffix)) in
         let end : List ℕ = from_any (codes "/?#") s in
-        let whole : whole_text ++ end ≡ rest =
-        append_assoc user (64 ∷ (f.host ++ f.suffix)) end
+        let whole : whole_text ++ end ≡ rest = append_assoc user (64 ∷ (f.host ++ f.suffix)) end
         ∙ ap (λ t. user ++ (64 ∷ (t ++ end))) (sym f.text)
-        ∙ ap (λ t. user ++ (64 ∷ t)) cut_host.whole
-        ∙ ap (λ t. user ++ t) (sym (text-with-mark-is-mark-and-rest 64 tail mark))
-        ∙ cut_user.whole in
-        let ends_lack : Lacks (codes "/?#") whole_text =
-        joined-texts-lack-marks (codes "/?#") user (64 ∷ (f.host ++ f.suffix))
-        (Lacks-of-fewer-marks (codes "/?#") (codes "@/?#") (λ c e. grind (arith, nat_tests)) user
-        cut_user.lacks)
-        (text-after-other-byte-lacks-marks (codes "/?#") 64 (f.host ++ f.suffix) refl
-        (subst (Lacks (codes "/?#")) f.text cut_host.lacks)) in
+        ∙ ap (λ t. user ++ (64 ∷ t)) cut_host.whole ∙ ap (λ t. user
+        ++ t) (sym (text-with-mark-is-mark-and-rest 64 tail mark)) ∙ cut_user.whole in
+        let ends_lack : Lacks (codes "/?#") whole_text = joined-texts-lack-marks
+        (codes "/?#") user (64 ∷ (f.host ++ f.suffix)) (Lacks-of-fewer-marks (codes "/?#")
+        (codes "@/?#") (λ c e. grind (arith, nat_tests)) user cut_user.lacks)
+        (text-after-other-byte-lacks-marks (codes "/?#") 64
+        (f.host ++ f.suffix) refl (subst (Lacks (codes "/?#")) f.text cut_host.lacks)) in
         let text_is : cut_text ≡ whole_text = ap (before_any (codes "/?#")) (sym whole)
         ∙ (cut-at-end-of-text-without-marks (codes "/?#") whole_text end ends_lack
         cut_host.begins).0 in
@@ -325,20 +272,16 @@ module _ (segment : TableSet) (kind : Kind) (w : SeparatesComponents segment kin
         let host : host_end kind (text_from_host kind rest) ≡ length f.host = ap (host_end kind) b
         ∙ f.end in
         let past : host_and_port_length kind (text_from_host kind rest)
-        ≡ length (f.host ++ f.suffix) =
-        ap (host_and_port_length kind) b
-        ∙ f.whole in
+        ≡ length (f.host ++ f.suffix) = ap (host_and_port_length kind) b ∙ f.whole in
         let l : host_offset kind rest + host_and_port_length kind (text_from_host kind rest)
         ≡ length whole_text =
         omega (arith, n, past, length-append user (64 ∷ (f.host ++ f.suffix))) in
         authority-at-cut-positions-is-found none (l ∙ sym (ap length text_is)) (λ place.
         let same : other_authority kind place rest
-        ≡ places place (place + (length user + 1)) f.host f.suffix =
-        λ i. record {
+        ≡ places place (place + (length user + 1)) f.host f.suffix = λ i. record {
           start = place;
           host_start = place + n i;
-          host_end =
-              place + n i + host i;
+          host_end = place + n i + host i;
           end = place + n i + past i;
         } in
         same ∙ sym (ap (authority_at place) text_is
@@ -346,13 +289,10 @@ module _ (segment : TableSet) (kind : Kind) (w : SeparatesComponents segment kin
 
     pub found-authority-is-the-cut-one : finds_authority kind rest ≡ true → IsFound kind rest
     found-authority-is-the-cut-one h = ⊎_elim name-alone-is-found-authority
-        (λ none. ⊎_elim
-        (λ e. bracketed-host-is-found-authority none e
-        (sym (bracketed-authority-is-host-and-port rest e) ∙ h))
-        (λ e.
+        (λ none. ⊎_elim (λ e. bracketed-host-is-found-authority none e
+        (sym (bracketed-authority-is-host-and-port rest e) ∙ h)) (λ e.
         let p = and_parts (passes_user kind rest) _
         (second-holds-if-first-is-false (name_ends_authority kind rest) _ none
         (sym (unbracketed-authority-is-name-or-userinfo-and-host rest e) ∙ h)) in
         userinfo-and-host-are-found-authority none e p.0 p.1)
-        (cases_Bool (starts 91 rest)))
-        (cases_Bool (name_ends_authority kind rest))
+        (cases_Bool (starts 91 rest))) (cases_Bool (name_ends_authority kind rest))

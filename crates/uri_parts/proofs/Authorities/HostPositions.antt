@@ -1,25 +1,17 @@
 -- The positions of an authority that is a host with what is after it, or userinfo and a host.
-use Rattle.std.proofs.Common.{◌≡◌, ℕ, ◌+◌, true, false, cond, List, ◌∷◌, ◌++◌, length, drop, refl, ap, ◌∙◌, arith, length-append, codes, Some, None}
-use Rattle.std.proofs.lemmas.Bool.{cond-true}
-use Rattle.std.proofs.lemmas.Bool.Decides.{nat_tests}
-use Rattle.uri_parts.specs.declared.positions.AuthorityPositions.{AuthorityPositions}
-use Rattle.uri_parts.specs.Components.{before_any, from_any, starts, Lacks}
-use Rattle.uri_parts.specs.Positions.{authority_at, host_start_of, host_end_of, delimited_length}
-use Rattle.uri_parts.specs.Authority.{authority_parts, leading_host}
+use Rattle.uri_parts.proofs.Common.{◌≡◌, ℕ, ◌+◌, true, false, cond, List, ◌∷◌, ◌++◌, length, drop, refl, ap, ◌∙◌, arith, length-append, codes, Some, None, cond-true, nat_tests, AuthorityPositions, before_any, from_any, starts, Lacks, authority_at, host_start_of, host_end_of, delimited_length, authority_parts, leading_host}
 use Rattle.uri_parts.proofs.Authorities.Authority.{cut-of-text-without-marks}
 use Rattle.uri_parts.proofs.Authorities.AuthorityCuts.{suffix}
 use Rattle.uri_parts.proofs.Splitting.Cuts.{cut-at-end-of-text-without-marks}
 
 -- authorities, positions: those of an authority that begins at start, and its host at host
 abbrev pub places : ℕ → ℕ → List ℕ → List ℕ → AuthorityPositions
-places start host name suffix =
-    record {
-      start = start;
-      host_start = host;
-      host_end = host + length name;
-      end =
-          host + length (name ++ suffix);
-    }
+places start host name suffix = record {
+  start = start;
+  host_start = host;
+  host_end = host + length name;
+  end = host + length (name ++ suffix);
+}
 
 -- a host with what is after it, and userinfo before them
 module _ (host suffix : List ℕ) (at : Lacks (codes "@") (host ++ suffix))
@@ -51,14 +43,12 @@ module _ (host suffix : List ℕ) (at : Lacks (codes "@") (host ++ suffix))
     pub authority_at-with-userinfo : (place : ℕ)
         → authority_at place text ≡ places place (place + (length user + 1)) host suffix
     authority_at-with-userinfo place =
-        let first : host_start_of text ≡ 1 + length user =
-        ap (λ t. delimited_length 1 (cond t (Some (before_any (codes "@") text)) None))
-        text-after-userinfo-begins-with-at-sign
+        let first : host_start_of text ≡ 1 + length user = ap (λ t. delimited_length 1
+        (cond t (Some (before_any (codes "@") text)) None)) text-after-userinfo-begins-with-at-sign
         ∙ ap (λ t. 1 + length t) text-is-cut-at-first-at-sign.0 in
         let host_is : (authority_parts text).host ≡ host =
         ap leading_host (cond-true _ _ _ text-after-userinfo-begins-with-at-sign
-        ∙ ap (drop 1) text-is-cut-at-first-at-sign.1)
-        ∙ is_host in
+        ∙ ap (drop 1) text-is-cut-at-first-at-sign.1) ∙ is_host in
         let l = length-append user (64 ∷ (host ++ suffix)) in
         let s : place + host_start_of text ≡ place + (length user + 1) = omega (arith, first) in
         let e : place + host_end_of text ≡ place + (length user + 1) + length host =

@@ -1,19 +1,5 @@
 -- A name and a port are parsed to a mark exactly where what is cut out there is one.
-use Rattle.std.proofs.Common.{◌≡◌, ℕ, suc, ◌+◌, ◌<◌, Bool, true, false, eqb, List, [], ◌∷◌, length, drop, All, refl, sym, ap, ◌∙◌, arith, ◌||◌, ◌&&◌, ⊎_elim, inl, inr, codes, is_some, IsUtf8}
-use Rattle.std.proofs.NetLemmas.Alphabet.{IsDigitOrDot}
-use Rattle.std.proofs.lemmas.Str.{IsUtf8-take}
-use Rattle.std.proofs.lemmas.Bool.{cases_Bool, cond-true, cond-false, and_left, and_parts, or_right, eq-eqb, ne_eqb, eqb-true, false≢true, false_from_ne_true}
-use Rattle.std.proofs.lemmas.Bool.Decides.{nat_tests}
-use Rattle.uri_pct.specs.Sets.{TableSet, LacksPercent, IsSubset, digit_set, reg_name_set, is_one_of}
-use Rattle.uri_pct.specs.Tokens.{is_valid_for}
-use Rattle.uri_pct.specs.Prefixes.{valid_prefix, after}
-use Rattle.uri_pct.proofs.ValidTexts.Cuts.{excludes, cut, is_valid_for_is_scanned_to_end}
-use Rattle.uri_pct.proofs.ValidTexts.LongestPrefixes.{empty_text_has_empty_valid_prefix}
-use Rattle.uri_pct.proofs.ValidTexts.MarksInTexts.{length_before_marks, AreAscii, first_mark_is_at_boundary}
-use Rattle.uri_pct.proofs.ValidTexts.PrefixSteps.{valid_prefix_passes_ascii_char_of_set}
-use Rattle.uri_parts.specs.Components.{before_any, from_any, starts, Lacks}
-use Rattle.uri_parts.specs.Hosts.{ipv4_value}
-use Rattle.uri_parts.specs.Models.AuthorityParsing.{is_empty_or_begins_with_any, port_length}
+use Rattle.uri_parts.proofs.Common.{◌≡◌, ℕ, suc, ◌+◌, ◌<◌, Bool, true, false, eqb, List, [], ◌∷◌, length, drop, All, refl, sym, ap, ◌∙◌, arith, ◌||◌, ◌&&◌, ⊎_elim, inl, inr, codes, is_some, IsUtf8, IsDigitOrDot, IsUtf8-take, cases_Bool, cond-true, cond-false, and_left, and_parts, or_right, eq-eqb, ne_eqb, eqb-true, false≢true, false_from_ne_true, nat_tests, TableSet, LacksPercent, IsSubset, digit_set, reg_name_set, is_one_of, is_valid_for, valid_prefix, after, excludes, cut, is_valid_for_is_scanned_to_end, empty_text_has_empty_valid_prefix, length_before_marks, AreAscii, first_mark_is_at_boundary, valid_prefix_passes_ascii_char_of_set, before_any, from_any, starts, Lacks, ipv4_value, is_empty_or_begins_with_any, port_length}
 use Rattle.uri_parts.proofs.HostForms.Addresses.{ipv4_value-sound}
 use Rattle.uri_parts.proofs.Authorities.Authority.{empty-text-lacks-marks}
 use Rattle.uri_parts.proofs.Authorities.AuthorityCuts.{length-of-text-before-marks, drop-after-drop-of-one}
@@ -40,27 +26,23 @@ pub cut_at_further_mark : (mark : ℕ) (marks bs : List ℕ) →
     (before_any (mark ∷ []) (before_any marks bs) ≡ before_any (mark ∷ marks) bs)
     × (from_any (mark ∷ []) (before_any marks bs) ≡ before_any marks (from_any (mark ∷ marks) bs))
 cut_at_further_mark mark marks [] = (refl, refl)
-cut_at_further_mark mark marks (b ∷ bs) = ⊎_elim
-    (λ o.
+cut_at_further_mark mark marks (b ∷ bs) = ⊎_elim (λ o.
     let a : is_one_of (mark ∷ marks) b ≡ true = or_right (eqb mark b) (is_one_of marks b) o in
     let p = before_any-at-mark marks b bs o in (
       ap (before_any (mark ∷ [])) p ∙ sym (before_any-at-mark (mark ∷ marks) b bs a),
       ap (from_any (mark ∷ [])) p
           ∙ sym (ap (before_any marks) (from_any-at-mark (mark ∷ marks) b bs a) ∙ p),
-    ))
-    (λ o.
+    )) (λ o.
     let p = before_any-past-other marks b bs o in
     let rest : List ℕ = before_any marks bs in
-    ⊎_elim
-    (λ m.
+    ⊎_elim (λ m.
     let a : is_one_of (mark ∷ marks) b ≡ true = or-holds-if-first-does (eqb mark b)
     (is_one_of marks b) m in (
       ap (before_any (mark ∷ [])) p ∙ before_any-at-mark (mark ∷ []) b rest m
           ∙ sym (before_any-at-mark (mark ∷ marks) b bs a),
       ap (from_any (mark ∷ [])) p ∙ from_any-at-mark (mark ∷ []) b rest m
           ∙ sym (ap (before_any marks) (from_any-at-mark (mark ∷ marks) b bs a) ∙ p),
-    ))
-    (λ m.
+    )) (λ m.
     let a : is_one_of (mark ∷ marks) b ≡ false = or-of-two-false-is-false (eqb mark b)
     (is_one_of marks b) m o in
     let more = cut_at_further_mark mark marks bs in (
@@ -68,15 +50,12 @@ cut_at_further_mark mark marks (b ∷ bs) = ⊎_elim
           ∙ ap (λ t. b ∷ t) more.0 ∙ sym (before_any-past-other (mark ∷ marks) b bs a),
       ap (from_any (mark ∷ [])) p ∙ from_any-past-other (mark ∷ []) b rest m ∙ more.1
           ∙ sym (ap (before_any marks) (from_any-past-other (mark ∷ marks) b bs a)),
-    ))
-    (cases_Bool (is_one_of (mark ∷ []) b)))
-    (cases_Bool (is_one_of marks b))
+    )) (cases_Bool (is_one_of (mark ∷ []) b))) (cases_Bool (is_one_of marks b))
 
 -- cutting authorities: a text cut at delimiters begins
 -- with another byte (mark) exactly if the text does
 pub cut-text-begins-with-same-other-byte : (mark : ℕ) (marks : List ℕ) → is_one_of marks mark
-    ≡ false → (bs : List ℕ)
-    → starts mark (before_any marks bs) ≡ starts mark bs
+    ≡ false → (bs : List ℕ) → starts mark (before_any marks bs) ≡ starts mark bs
 cut-text-begins-with-same-other-byte mark marks none [] = refl
 cut-text-begins-with-same-other-byte mark marks none (b ∷ bs) =
     grind (arith, nat_tests, before_any-at-mark, false_from_ne_true, before_any-past-other)
@@ -95,18 +74,16 @@ marked-text-is-empty-or-begins-with-any marks (c ∷ rest) b = b
 
 -- authorities, parsed: a scan by a set that excludes some
 -- delimiters ends at one exactly if what is before it is valid
-scan-ends-at-mark-iff-cut-is-valid : (marks : List ℕ) (set : TableSet) → LacksPercent set
-    → excludes set marks ≡ true
-    → (bs : List ℕ) → IsUtf8 bs
+scan-ends-at-mark-iff-cut-is-valid : (marks : List ℕ) (set : TableSet)
+    → LacksPercent set → excludes set marks ≡ true → (bs : List ℕ) → IsUtf8 bs
     → is_empty_or_begins_with_any marks (after set bs) ≡ is_valid_for set (before_any marks bs)
 unfolding is_empty_or_begins_with_any
-scan-ends-at-mark-iff-cut-is-valid marks set lacks outside bs u = ⊎_elim
-    (λ m. ap (λ n. is_empty_or_begins_with_any marks (drop n bs)) m
+scan-ends-at-mark-iff-cut-is-valid marks set lacks outside bs u =
+    ⊎_elim (λ m. ap (λ n. is_empty_or_begins_with_any marks (drop n bs)) m
     ∙ marked-text-is-empty-or-begins-with-any marks (from_any marks bs)
-    (text-is-cut-at-first-mark marks bs).begins
-    ∙ sym (cut marks set lacks outside bs u ∙ eq-eqb _ _ m))
-    (λ w. ap (is_empty_or_begins_with_any marks) w.left ∙ w.other
-    ∙ sym (cut marks set lacks outside bs u ∙ ne_eqb _ _ w.apart))
+    (text-is-cut-at-first-mark marks bs).begins ∙ sym (cut marks set lacks outside bs u
+    ∙ eq-eqb _ _ m)) (λ w. ap (is_empty_or_begins_with_any marks) w.left
+    ∙ w.other ∙ sym (cut marks set lacks outside bs u ∙ ne_eqb _ _ w.apart))
     (scan-stops-at-first-mark-or-within marks set lacks outside bs u)
 
 -- authorities, parsed: `:` (58) does not end an authority
@@ -119,29 +96,21 @@ colon-is-ascii b e = let d = eqb-true b 58 e in omega arith
 
 -- authorities, parsed: digits after `:` end at a delimiter
 -- exactly if what is cut out there is a port
-pub port-ends-at-mark-iff-cut-is-port : (bs : List ℕ) → IsUtf8 bs
-    → is_empty_or_begins_with_any (codes "/?#") (drop (port_length bs) bs)
-    ≡ is_empty_or_port (before_any (codes "/?#") bs)
+pub port-ends-at-mark-iff-cut-is-port : (bs : List ℕ) → IsUtf8 bs → is_empty_or_begins_with_any
+    (codes "/?#") (drop (port_length bs) bs) ≡ is_empty_or_port (before_any (codes "/?#") bs)
 unfolding is_empty_or_begins_with_any port_length is_empty_or_port
 port-ends-at-mark-iff-cut-is-port [] u = refl
 port-ends-at-mark-iff-cut-is-port (b ∷ bs) u = ⊎_elim
-    (λ e.
-    ap (λ n. is_empty_or_begins_with_any (codes "/?#") (drop n (b ∷ bs))) (cond-true _ _ _ e)
-    ∙ ap (is_empty_or_begins_with_any (codes "/?#"))
-    (sym (drop-after-drop-of-one (valid_prefix digit_set bs) (b ∷ bs)))
-    ∙ scan-ends-at-mark-iff-cut-is-valid (codes "/?#") digit_set refl refl bs
-    (utf8_after_ascii_byte b bs (colon-is-ascii b e) u)
-    ∙ sym (ap is_empty_or_port
-    (before_any-past-other (codes "/?#") b bs (colon-ends-no-authority b e))
+    (λ e. ap (λ n. is_empty_or_begins_with_any (codes "/?#") (drop n (b ∷ bs))) (cond-true _ _ _ e)
+    ∙ ap (is_empty_or_begins_with_any (codes "/?#")) (sym (drop-after-drop-of-one
+    (valid_prefix digit_set bs) (b ∷ bs))) ∙ scan-ends-at-mark-iff-cut-is-valid
+    (codes "/?#") digit_set refl refl bs (utf8_after_ascii_byte b bs (colon-is-ascii b e) u) ∙ sym
+    (ap is_empty_or_port (before_any-past-other (codes "/?#") b bs (colon-ends-no-authority b e))
     ∙ ap (λ t. t && is_valid_for digit_set (before_any (codes "/?#") bs)) e))
-    (λ e.
-    ap (λ n. is_empty_or_begins_with_any (codes "/?#") (drop n (b ∷ bs))) (cond-false _ _ _ e)
-    ∙ ⊎_elim
-    (λ o. o ∙ sym (ap is_empty_or_port (before_any-at-mark (codes "/?#") b bs o)))
-    (λ o. o ∙ sym (ap is_empty_or_port (before_any-past-other (codes "/?#") b bs o)
-    ∙ and_left _ _ e))
-    (cases_Bool (is_one_of (codes "/?#") b)))
-    (cases_Bool (eqb b 58))
+    (λ e. ap (λ n. is_empty_or_begins_with_any (codes "/?#") (drop n (b ∷ bs))) (cond-false _ _ _ e)
+    ∙ ⊎_elim (λ o. o ∙ sym (ap is_empty_or_port (before_any-at-mark (codes "/?#") b bs o))) (λ o. o
+    ∙ sym (ap is_empty_or_port (before_any-past-other (codes "/?#") b bs o) ∙ and_left _ _ e))
+    (cases_Bool (is_one_of (codes "/?#") b))) (cases_Bool (eqb b 58))
 
 -- authorities, parsed: where a port ends the authority, the parsed port is all that is cut out
 pub port_length-of-whole-port : (bs : List ℕ) → IsUtf8 bs
@@ -149,32 +118,24 @@ pub port_length-of-whole-port : (bs : List ℕ) → IsUtf8 bs
     → port_length bs ≡ length (before_any (codes "/?#") bs)
 unfolding is_empty_or_begins_with_any port_length
 port_length-of-whole-port [] u h = refl
-port_length-of-whole-port (b ∷ bs) u h = ⊎_elim
-    (λ e.
+port_length-of-whole-port (b ∷ bs) u h = ⊎_elim (λ e.
     let past = cond-true (eqb b 58) (1 + valid_prefix digit_set bs) 0 e in
     let left : is_empty_or_begins_with_any (codes "/?#") (after digit_set bs) ≡ true =
     ap (is_empty_or_begins_with_any (codes "/?#"))
     (drop-after-drop-of-one (valid_prefix digit_set bs) (b ∷ bs))
     ∙ sym (ap (λ n. is_empty_or_begins_with_any (codes "/?#") (drop n (b ∷ bs))) past) ∙ h in
-    let valid =
-    sym (scan-ends-at-mark-iff-cut-is-valid (codes "/?#") digit_set refl refl bs
-    (utf8_after_ascii_byte b bs (colon-is-ascii b e) u))
-    ∙ left in
+    let valid = sym (scan-ends-at-mark-iff-cut-is-valid (codes "/?#") digit_set refl refl bs
+    (utf8_after_ascii_byte b bs (colon-is-ascii b e) u)) ∙ left in
     let m : valid_prefix digit_set bs ≡ length_before_marks (codes "/?#") bs =
-    eqb-true _ _
-    (sym (cut (codes "/?#") digit_set refl refl bs
-    (utf8_after_ascii_byte b bs (colon-is-ascii b e) u))
-    ∙ valid) in
+    eqb-true _ _ (sym (cut (codes "/?#") digit_set refl refl bs
+    (utf8_after_ascii_byte b bs (colon-is-ascii b e) u)) ∙ valid) in
     let l = length-of-text-before-marks (codes "/?#") bs in
     let n = ap length (before_any-past-other (codes "/?#") b bs (colon-ends-no-authority b e)) in
-    past ∙ omega (arith, m, l, n))
-    (λ e.
+    past ∙ omega (arith, m, l, n)) (λ e.
     let none = cond-false (eqb b 58) (1 + valid_prefix digit_set bs) 0 e in
     let o : is_one_of (codes "/?#") b ≡ true =
-    sym (ap (λ n. is_empty_or_begins_with_any (codes "/?#") (drop n (b ∷ bs))) none)
-    ∙ h in
-    none ∙ sym (ap length (before_any-at-mark (codes "/?#") b bs o)))
-    (cases_Bool (eqb b 58))
+    sym (ap (λ n. is_empty_or_begins_with_any (codes "/?#") (drop n (b ∷ bs))) none) ∙ h in
+    none ∙ sym (ap length (before_any-at-mark (codes "/?#") b bs o))) (cases_Bool (eqb b 58))
 
 -- authorities, parsed: a byte that is neither `:` nor a delimiter is not passed as a port
 pub other_byte_begins_no_port : (b : ℕ) (bs : List ℕ) → is_one_of (codes ":/?#") b ≡ false
@@ -198,9 +159,8 @@ port-lacks-at-sign [] u h = empty-text-lacks-marks (codes "@")
 port-lacks-at-sign (b ∷ bs) u h =
     let p = and_parts (eqb b 58) _ h in
     text-after-other-byte-lacks-marks (codes "@") b bs
-    (ap (is_one_of (codes "@")) (eqb-true b 58 p.0))
-    (valid_text_lacks_excluded_marks digit_set (codes "@") refl refl bs
-    (utf8_after_ascii_byte b bs (colon-is-ascii b p.0) u) p.1)
+    (ap (is_one_of (codes "@")) (eqb-true b 58 p.0)) (valid_text_lacks_excluded_marks digit_set
+    (codes "@") refl refl bs (utf8_after_ascii_byte b bs (colon-is-ascii b p.0) u) p.1)
 
 -- authorities, parsed: the characters of an IPv4 address are ASCII
 digit-or-dot-is-ascii : (c : ℕ) → IsDigitOrDot c → c < 128
@@ -215,24 +175,17 @@ module _ (names : TableSet) (lacks : LacksPercent names) (wide : IsSubset reg_na
       let d = h 0 0 (omega arith) in
       let one : valid_prefix names (c ∷ text) ≡ valid_prefix names text + 1 =
       valid_prefix_passes_ascii_char_of_set names lacks (c ∷ text) 0 (omega arith)
-      (digit-or-dot-is-ascii c d)
-      (wide.ascii c (digit_or_dot_is_reg_name_char c d)) in
+      (digit-or-dot-is-ascii c d) (wide.ascii c (digit_or_dot_is_reg_name_char c d)) in
       one ∙ omega (
         arith,
-        digits-and-dots-are-scanned-as-name text
-            (λ k d l. h (suc k) d (omega arith)),
+        digits-and-dots-are-scanned-as-name text (λ k d l. h (suc k) d (omega arith)),
       )
 
-  pub unbracketed-host-iff-valid-name : (text : List ℕ) → IsUtf8 text
-      → is_unbracketed_host names text
-      ≡ is_valid_for names text
+  pub unbracketed-host-iff-valid-name : (text : List ℕ)
+      → IsUtf8 text → is_unbracketed_host names text ≡ is_valid_for names text
   unfolding is_unbracketed_host
-  unbracketed-host-iff-valid-name text u = ⊎_elim
-      (λ n. ap (λ o. is_some o || is_valid_for names text) n)
-      (λ (octets, s).
-      ap (λ o. is_some o || is_valid_for names text) s
-      ∙ sym (is_valid_for_is_scanned_to_end names text lacks u
-      ∙ eq-eqb _ _
-      (digits-and-dots-are-scanned-as-name text
-      (ipv4-text-is-digits-and-dots text octets (ipv4_value-sound text octets s)))))
-      (option-is-none-or-some (ipv4_value text))
+  unbracketed-host-iff-valid-name text u =
+      ⊎_elim (λ n. ap (λ o. is_some o || is_valid_for names text) n) (λ (octets, s). ap
+      (λ o. is_some o || is_valid_for names text) s ∙ sym (is_valid_for_is_scanned_to_end names text
+      lacks u ∙ eq-eqb _ _ (digits-and-dots-are-scanned-as-name text (ipv4-text-is-digits-and-dots
+      text octets (ipv4_value-sound text octets s))))) (option-is-none-or-some (ipv4_value text))

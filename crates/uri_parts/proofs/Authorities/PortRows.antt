@@ -1,8 +1,6 @@
 -- Rows of the table of default ports, and ports as numbers.
-use Rattle.std.proofs.Common.{◌≡◌, [], map, refl, Some, None, codes}
-use Rattle.std.specs.Str.{str_to_ascii_lowercase}
+use Rattle.uri_parts.proofs.Common.{◌≡◌, [], map, refl, Some, None, codes, str_to_ascii_lowercase, scheme_ports, default_port}
 use Rattle.uri_parts.specs.Ports.{port_number}
-use Rattle.uri_parts.specs.SchemePorts.{scheme_ports, default_port}
 
 -- default ports: the names of the table are in lower case,
 -- so its rows are found by a scheme in lower case

@@ -1,16 +1,8 @@
 -- What std parses of a port's digits.
-use Rattle.std.proofs.Common.{◌≡◌, ℕ, ◌<◌, ◌^◌, true, false, eqb, List, [], ◌∷◌, length, Option, Some, Result, Ok, Err, refl, sym, ap, subst, ◌∙◌, arith, true≢false, OkIff, IsUtf8}
-use Rattle.std.specs.Char.{digit_value, is_ascii_digit}
-use Rattle.std.specs.List.{list_all}
-use Rattle.std.specs.Str.Parse.{AllDigits, IsNumeral, ParsesUnsigned, ExplainsUnsignedError, error_kind, without_leading_plus}
+use Rattle.uri_parts.proofs.Common.{◌≡◌, ℕ, ◌<◌, ◌^◌, true, false, eqb, List, [], ◌∷◌, length, Option, Some, Result, Ok, Err, refl, sym, ap, subst, ◌∙◌, arith, true≢false, OkIff, IsUtf8, digit_value, is_ascii_digit, list_all, AllDigits, IsNumeral, ParsesUnsigned, ExplainsUnsignedError, error_kind, without_leading_plus, and_parts, digit_value_digit, nat_tests, digit_set, IsValidFor}
 use Rattle.std.specs.declared.num.IntErrorKind.TheVariants.{PosOverflow}
 use Rattle.std.specs.declared.num.ParseIntError.{ParseIntError}
-use Rattle.std.proofs.lemmas.Bool.{and_parts}
-use Rattle.std.proofs.lemmas.Str.{digit_value_digit}
 use Rattle.std.proofs.lemmas.Str.Parse.{IsNumeralModel, parse_digits, digit_from_value, without_leading_plus_none}
-use Rattle.std.proofs.lemmas.Bool.Decides.{nat_tests}
-use Rattle.uri_pct.specs.Sets.{digit_set}
-use Rattle.uri_pct.specs.Tokens.{IsValidFor}
 use Rattle.uri_parts.specs.Ports.{port_number, port_value, FitsPort}
 use Rattle.uri_parts.proofs.TextKinds.AsciiSets.{is_ascii_in, valid_ascii_text}
 
@@ -19,9 +11,8 @@ ascii-digit-has-value-below-ten : (d : ℕ) → is_ascii_in is_ascii_digit d ≡
 ascii-digit-has-value-below-ten d e = grind (arith, nat_tests, digit_value_digit)
 
 -- ports: ASCII digits are decimal digits, as std reads them
-ascii-digits-are-decimal-digits : (digits : List ℕ) → list_all (is_ascii_in is_ascii_digit) digits
-    ≡ true
-    → AllDigits 10 digits
+ascii-digits-are-decimal-digits : (digits : List ℕ)
+    → list_all (is_ascii_in is_ascii_digit) digits ≡ true → AllDigits 10 digits
 ascii-digits-are-decimal-digits [] e = tt
 ascii-digits-are-decimal-digits (d ∷ digits) e =
     let p = and_parts (is_ascii_in is_ascii_digit d)
@@ -73,22 +64,19 @@ fits : (port : Option (List ℕ)) (n m : ℕ) → port_number port ≡ Some m �
 fits port n m is e h = (subst FitsPort (sym is) h, ap Some e ∙ sym is)
 
 -- ports: the digits of one are parsed as its number, or rejected because that is too great
-parsed-digits-are-parsed-port : (digits : List ℕ) (r : Result ℕ ParseIntError) → AllDigits 10 digits
-    → 0 < length digits
-    → port_number (Some digits) ≡ Some (port_value digits) → IsParsed digits r
-    → ExplainsUnsignedError 10 digits r → IsPortParsed (Some digits) r
+parsed-digits-are-parsed-port : (digits : List ℕ) (r : Result ℕ ParseIntError)
+    → AllDigits 10 digits → 0 < length digits → port_number (Some digits) ≡ Some (port_value digits)
+    → IsParsed digits r → ExplainsUnsignedError 10 digits r → IsPortParsed (Some digits) r
 parsed-digits-are-parsed-port digits r d some is h explains =
     grind (arith, nat_tests, fits, nonempty-digits-are-numeral)
 
 -- ports: one that is not empty is parsed as its number, or rejected as too great
-pub port-is-parsed-as-its-number : (port : Option (List ℕ)) (digits : List ℕ)
-    (r : Result ℕ ParseIntError)
-    → Some digits ≡ port → IsUtf8 digits → IsValidFor digit_set digits
-    → eqb (length digits) 0 ≡ false → ParsesUnsigned 16 10 digits r
-    → ExplainsUnsignedError 10 digits r → IsPortParsed port r
+pub port-is-parsed-as-its-number :
+    (port : Option (List ℕ)) (digits : List ℕ) (r : Result ℕ ParseIntError) → Some digits ≡ port
+    → IsUtf8 digits → IsValidFor digit_set digits → eqb (length digits) 0 ≡ false
+    → ParsesUnsigned 16 10 digits r → ExplainsUnsignedError 10 digits r → IsPortParsed port r
 port-is-parsed-as-its-number port digits r is u v long parses explains =
     let d = valid-digit-text-is-decimal-digits digits u v in
     let some = nonempty-port-has-number digits long in
-    subst (λ port. IsPortParsed port r) is
-    (parsed-digits-are-parsed-port digits r d some.0 some.1
+    subst (λ port. IsPortParsed port r) is (parsed-digits-are-parsed-port digits r d some.0 some.1
     (parse_digits port_value-is-numeral-model 16 digits r parses d) explains)

@@ -1,8 +1,5 @@
 -- The constant of default ports is the table, and its names are in lower case.
-use Rattle.std.proofs.Common.{◌≡◌, ℕ, Bool, true, false, cond, List, [], ◌∷◌, map, find, refl, sym, ◌∙◌, Option, Some, None, option_map, Bor, arith}
-use Rattle.std.specs.Str.{str_to_ascii_lowercase, str_eq_ignore_ascii_case}
-use Rattle.std.proofs.lemmas.Bool.Decides.{nat_tests}
-use Rattle.uri_parts.specs.SchemePorts.{scheme_ports, default_port, port_ignoring_case}
+use Rattle.uri_parts.proofs.Common.{◌≡◌, ℕ, Bool, true, false, cond, List, [], ◌∷◌, map, find, refl, sym, ◌∙◌, Option, Some, None, option_map, Bor, arith, str_to_ascii_lowercase, str_eq_ignore_ascii_case, nat_tests, scheme_ports, default_port, port_ignoring_case}
 
 -- default ports: a row of the constant, which is a scheme and its port
 abbrev pub Row : Type 0

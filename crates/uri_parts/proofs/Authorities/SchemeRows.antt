@@ -1,13 +1,6 @@
 -- A scheme is among the rows that begin with its letter, or in no row.
-use Rattle.std.proofs.Common.{◌≡◌, ℕ, ◌+◌, ◌-◌, ◌<◌, ◌≤◌, Bool, true, false, cond, List, [], ◌∷◌, eqb, get_or, map, filter, find, length, refl, sym, ap, ◌∙◌, arith, Some, None, option_map}
-use Rattle.std.specs.Char.{to_ascii_lowercase, is_ascii_lowercase}
-use Rattle.std.specs.List.{list_all}
-use Rattle.std.specs.Str.{str_to_ascii_lowercase, str_eq_ignore_ascii_case}
-use Rattle.std.proofs.lemmas.Bool.{and_parts}
-use Rattle.std.proofs.lemmas.Bool.Decides.{nat_tests}
-use Rattle.std.proofs.lemmas.List.{get_or-map, length-map}
+use Rattle.uri_parts.proofs.Common.{◌≡◌, ℕ, ◌+◌, ◌-◌, ◌<◌, ◌≤◌, Bool, true, false, cond, List, [], ◌∷◌, eqb, get_or, map, filter, find, length, refl, sym, ap, ◌∙◌, arith, Some, None, option_map, to_ascii_lowercase, is_ascii_lowercase, list_all, str_to_ascii_lowercase, str_eq_ignore_ascii_case, and_parts, nat_tests, get_or-map, length-map, scheme_ports, default_port, port_ignoring_case, rows_by_letter, rows_of_letter}
 use Rattle.std.proofs.lemmas.List.FromFn.{get_or-map-range_with_len}
-use Rattle.uri_parts.specs.SchemePorts.{scheme_ports, default_port, port_ignoring_case, rows_by_letter, rows_of_letter}
 use Rattle.uri_parts.proofs.Authorities.SchemePorts.{port_ignoring_case-is-default_port}
 
 -- default ports: a row of the table, which is a scheme and its port
@@ -44,22 +37,19 @@ found-among-filtered p test h (row ∷ rows) = found-row-is-kept p (test row) ro
     rows (h row) (found-among-filtered p test h rows)
 
 -- default ports: a scheme (b and bs) is among the rows that begin with its letter, if it is in any
-port-is-in-rows-of-letter : (b : ℕ) (bs : List ℕ)
-    → port_ignoring_case (b ∷ bs) (rows_of_letter (to_ascii_lowercase b))
-    ≡ default_port (str_to_ascii_lowercase (b ∷ bs))
+port-is-in-rows-of-letter : (b : ℕ) (bs : List ℕ) → port_ignoring_case (b
+    ∷ bs) (rows_of_letter (to_ascii_lowercase b)) ≡ default_port (str_to_ascii_lowercase (b ∷ bs))
 unfolding port_ignoring_case
-port-is-in-rows-of-letter b bs =
-    ap (option_map (λ row. row.1)) (found-among-filtered (is_named (b ∷ bs))
-    (begins_with (to_ascii_lowercase b)) (λ row. named-row-begins-with-letter b bs row.0)
-    scheme_ports)
+port-is-in-rows-of-letter b bs = ap (option_map (λ row. row.1))
+    (found-among-filtered (is_named (b ∷ bs)) (begins_with (to_ascii_lowercase b))
+    (λ row. named-row-begins-with-letter b bs row.0) scheme_ports)
     ∙ port_ignoring_case-is-default_port (b ∷ bs)
 
 -- default ports: that of a scheme is in the rows of its first letter
-pub default-port-by-rows-of-first-letter : (scheme : List ℕ) (nth : ℕ) → 0 < length scheme
-    → is_ascii_lowercase (to_ascii_lowercase (get_or scheme 0 0)) ≡ true
-    → nth ≡ to_ascii_lowercase (get_or scheme 0 0) - 97
-    → port_ignoring_case scheme (rows_of_letter (97 + nth))
-    ≡ default_port (str_to_ascii_lowercase scheme)
+pub default-port-by-rows-of-first-letter : (scheme : List ℕ) (nth : ℕ)
+    → 0 < length scheme → is_ascii_lowercase (to_ascii_lowercase (get_or scheme 0 0)) ≡ true
+    → nth ≡ to_ascii_lowercase (get_or scheme 0 0) - 97 → port_ignoring_case scheme
+    (rows_of_letter (97 + nth)) ≡ default_port (str_to_ascii_lowercase scheme)
 default-port-by-rows-of-first-letter [] nth long low e = absurd (omega (arith, long))
 default-port-by-rows-of-first-letter (b ∷ bs) nth long low e =
     let from : 97 ≤ to_ascii_lowercase b = grind (arith, nat_tests) in
@@ -78,8 +68,7 @@ pub rows-of-letter-are-at-its-place : {X : Type 0} (rows_of : X → List Row) (t
     → rows_of (get_or table nth none) ≡ rows_of_letter (97 + nth)
 rows-of-letter-are-at-its-place rows_of table nth none e small =
     let within : nth < length table = rw (table-has-26-letters rows_of table e) small in
-    sym (get_or-map rows_of table nth none [] within)
-    ∙ ap (λ lists. get_or lists nth []) e
+    sym (get_or-map rows_of table nth none [] within) ∙ ap (λ lists. get_or lists nth []) e
     ∙ get_or-map-range_with_len rows_of_letter 97 26 nth (97 + nth) [] small refl
 
 -- default ports: the row begins with a lower-case letter

@@ -1,22 +1,9 @@
 -- What is parsed of an address, from how many hexadecimal digits come first.
-use Rattle.std.proofs.Common.{◌≡◌, ◌≢◌, ℕ, zero, suc, ◌^◌, ◌<◌, ◌≤◌, List, [], ◌∷◌, ◌++◌, length, get_or, take, drop, Option, Some, None, decimal, refl, sym, ap, ◌∙◌, arith, inl, inr, lit≤, length-take-le, take-append-drop, get_or-take, get_or-drop, add-zero, le-ltb, lt-ltb, append_assoc, ◌-◌, length-append, length-drop, drop_at, drop-drop}
-use Rattle.std.proofs.lemmas.Bool.{cases_lt}
-use Rattle.std.proofs.Math.Seq.{get_or-append_seam}
-use Rattle.std.proofs.lemmas.Fmt.{length-decimal-le}
-use Rattle.std.proofs.lemmas.Int.Digits.{digits_value-lt}
+use Rattle.uri_parts.proofs.Common.{◌≡◌, ◌≢◌, ℕ, zero, suc, ◌^◌, ◌<◌, ◌≤◌, List, [], ◌∷◌, ◌++◌, length, get_or, take, drop, Option, Some, None, decimal, refl, sym, ap, ◌∙◌, arith, inl, inr, lit≤, length-take-le, take-append-drop, get_or-take, get_or-drop, add-zero, le-ltb, lt-ltb, append_assoc, ◌-◌, length-append, length-drop, drop_at, drop-drop, cases_lt, get_or-append_seam, length-decimal-le, digits_value-lt, digit_value, AllDigits, digits_value, dotted_text, read_number, read_ipv4, read_segment, NoDigit, read_number_some_at, read_number_sound, read_number_empty, read_ipv4_sound, read_ipv4_none, nat_tests, AreLeadingHexDigits}
 use Rattle.std.proofs.Math.Nat.{pow-le-pow_right}
-use Rattle.std.specs.Char.{digit_value}
-use Rattle.std.specs.Str.Parse.{AllDigits, digits_value}
-use Rattle.std.specs.Net.Text.{dotted_text}
-use Rattle.std.specs.Net.Reader.{read_number, read_ipv4, read_segment}
-use Rattle.std.proofs.NetLemmas.Numbers.{NoDigit, read_number_some_at, read_number_sound, read_number_empty}
-use Rattle.std.proofs.NetLemmas.Ipv4.{read_ipv4_sound, read_ipv4_none}
-use Rattle.std.proofs.lemmas.Bool.Decides.{nat_tests}
-use Rattle.uri_parts.specs.Models.Literals.{AreLeadingHexDigits}
 
 -- IP addresses: the text of an IPv4 address is four decimal numbers with `.` between them
-pub dotted : (a b c d : ℕ) (rest : List ℕ)
-    → dotted_text a b c d ++ rest
+pub dotted : (a b c d : ℕ) (rest : List ℕ) → dotted_text a b c d ++ rest
     ≡ decimal a ++ 46 ∷ (decimal b ++ 46 ∷ (decimal c ++ 46 ∷ (decimal d ++ rest)))
 dotted a b c d rest = simp append_assoc
 
@@ -83,9 +70,8 @@ module _ (text : List ℕ) (count : ℕ) (h : AreLeadingHexDigits text count) wh
   too-long-number-is-no-segment five (Some n) e =
       let (number, fits, len, stop) = read_number_sound 16 0xffff text n.0 n.1 (lit≤ tt) e in
       elim (cases_lt n.1 5) [
-        | inl short ↦ absurd
-            (leading-byte-is-a-digit n.1 (omega arith)
-            (rw (get_or-drop n.1 text 0 0, add-zero) at stop))
+        | inl short ↦ absurd (leading-byte-is-a-digit n.1
+            (omega arith) (rw (get_or-drop n.1 text 0 0, add-zero) at stop))
         | inr more ↦ rw (e, lt-ltb 4 n.1 (omega arith))
       ]
 
@@ -96,10 +82,8 @@ module _ (text : List ℕ) (count : ℕ) (h : AreLeadingHexDigits text count) wh
   no_dot_means_no_ipv4 few other =
       let next : get_or (drop count text) 0 0 ≡ get_or text count 0 =
       rw (get_or-drop count text 0 0, add-zero) refl in
-      rw (take-append-drop count text) at
-      (read_ipv4_none (take count text) (drop count text) h.digits
-      (no-digit-after-leading-digits few)
-      (λ e. other (sym next ∙ e)))
+      rw (take-append-drop count text) at (read_ipv4_none (take count text)
+      (drop count text) h.digits (no-digit-after-leading-digits few) (λ e. other (sym next ∙ e)))
 
   late-dot-is-no-ipv4 : count ≡ 5 → (o : Option (List ℕ × List ℕ)) → read_ipv4 text ≡ o
       → read_ipv4 text ≡ None
@@ -109,9 +93,8 @@ module _ (text : List ℕ) (count : ℕ) (h : AreLeadingHexDigits text count) wh
       let size : length (decimal w.a) ≤ 3 =
       length-decimal-le 3 w.a (lit≤ tt) (omega (arith, w.fit.0)) (omega (arith, w.fit.0)) in
       let dot : get_or text (length (decimal w.a)) 0 ≡ 46 =
-      ap (λ t. get_or t (length (decimal w.a)) 0)
-      (split ∙ ap (λ t. t ++ p.1) w.spelled ∙ dotted w.a w.b w.c w.d p.1)
-      ∙ get_or-append_seam (decimal w.a) 46 _ 0 in
+      ap (λ t. get_or t (length (decimal w.a)) 0) (split ∙ ap (λ t. t ++ p.1) w.spelled
+      ∙ dotted w.a w.b w.c w.d p.1) ∙ get_or-append_seam (decimal w.a) 46 _ 0 in
       absurd (leading-byte-is-a-digit (length (decimal w.a)) (omega arith) (rw dot (lit≤ tt)))
 
   pub five_digits_begin_no_ipv4 : count ≡ 5 → read_ipv4 text ≡ None

@@ -1,19 +1,5 @@
 -- The texts of IP addresses: the characters that they are made of, and the numbers that they write.
-use Rattle.std.proofs.Common.{◌≡◌, ℕ, ◌<◌, ◌≤◌, Bool, true, false, List, [], ◌∷◌, ◌++◌, length, decimal, refl, sym, ap, ◌∙◌, arith, ◌||◌, inl, inr, lit≤, append-nil, Some, None, codes}
-use Rattle.std.specs.List.{list_all}
-use Rattle.std.specs.Char.{digit_value, is_ascii_hexdigit}
-use Rattle.std.specs.Str.Parse.{AllDigits}
-use Rattle.std.specs.Net.Grammar.{IsDotted, IsGroupsAfter, IsColonHex}
-use Rattle.std.specs.Net.Reader.{Read, read_ipv4, read_ipv6, whole_value}
-use Rattle.std.proofs.lemmas.Bool.{and_from, and_parts}
-use Rattle.std.proofs.lemmas.Bool.Decides.{nat_tests}
-use Rattle.std.proofs.lemmas.Fmt.{decimal_is_IsNumeral}
-use Rattle.std.proofs.lemmas.List.Folds.{list_all-append}
-use Rattle.std.proofs.NetLemmas.Ipv4.{read_ipv4_complete, read_ipv4_sound}
-use Rattle.std.proofs.NetLemmas.Ipv6.{read_ipv6_complete, read_ipv6_sound, EndsGroups-nil}
-use Rattle.uri_pct.specs.Sets.{is_one_of}
-use Rattle.uri_parts.specs.Components.{Lacks}
-use Rattle.uri_parts.specs.Hosts.{ipv4_value, ipv6_value}
+use Rattle.uri_parts.proofs.Common.{◌≡◌, ℕ, ◌<◌, ◌≤◌, Bool, true, false, List, [], ◌∷◌, ◌++◌, length, decimal, refl, sym, ap, ◌∙◌, arith, ◌||◌, inl, inr, lit≤, append-nil, Some, None, codes, list_all, digit_value, is_ascii_hexdigit, AllDigits, IsDotted, IsGroupsAfter, IsColonHex, Read, read_ipv4, read_ipv6, whole_value, and_from, and_parts, nat_tests, decimal_is_IsNumeral, list_all-append, read_ipv4_complete, read_ipv4_sound, read_ipv6_complete, read_ipv6_sound, EndsGroups-nil, is_one_of, Lacks, ipv4_value, ipv6_value}
 use Rattle.uri_parts.proofs.Splitting.Cuts.{text-after-other-byte-lacks-marks}
 
 -- a hexadecimal digit, `:` or `.`
@@ -25,9 +11,8 @@ unfoldable pub is_address_text : List ℕ → Bool
 is_address_text text = list_all is_address_char text
 
 -- IP addresses: two texts of their characters are one, one after the other
-joined-address-texts-are-address-text : (xs ys : List ℕ) → is_address_text xs ≡ true
-    → is_address_text ys ≡ true
-    → is_address_text (xs ++ ys) ≡ true
+joined-address-texts-are-address-text : (xs ys : List ℕ)
+    → is_address_text xs ≡ true → is_address_text ys ≡ true → is_address_text (xs ++ ys) ≡ true
 unfolding is_address_text
 joined-address-texts-are-address-text xs ys h k = list_all-append is_address_char xs ys
     ∙ and_from _ _ h k
@@ -42,9 +27,8 @@ hex-digits-are-address-text : (radix : ℕ) (text : List ℕ) → radix ≤ 16 �
     → is_address_text text ≡ true
 unfolding is_address_text
 hex-digits-are-address-text radix [] le h = refl
-hex-digits-are-address-text radix (c ∷ text) le h =
-    and_from _ _ (hex-digit-is-address-char c (omega arith))
-    (hex-digits-are-address-text radix text le h.1)
+hex-digits-are-address-text radix (c ∷ text) le h = and_from _ _
+    (hex-digit-is-address-char c (omega arith)) (hex-digits-are-address-text radix text le h.1)
 
 -- IP addresses: a decimal number of a byte may be in one
 decimal-byte-is-address-text : (n : ℕ) → n < 256 → is_address_text (decimal n) ≡ true
@@ -53,8 +37,7 @@ decimal-byte-is-address-text n h = hex-digits-are-address-text 10 (decimal n) (l
 
 -- IP addresses: `.`, `:` and `::` may be in one
 separators-are-address-text : (is_address_text (codes ".") ≡ true)
-    × (is_address_text (codes ":") ≡ true)
-    × (is_address_text (codes "::") ≡ true)
+    × (is_address_text (codes ":") ≡ true) × (is_address_text (codes "::") ≡ true)
 unfolding is_address_text is_address_char
 separators-are-address-text = (refl, refl, refl)
 
@@ -66,14 +49,13 @@ empty-text-is-address-text = refl
 -- IP addresses: an IPv4 address has digits and `.` only
 ipv4-text-is-address-text : (text octets : List ℕ) → IsDotted text octets
     → is_address_text text ≡ true
-ipv4-text-is-address-text text octets h =
-    grind (
-      arith,
-      nat_tests,
-      separators-are-address-text,
-      joined-address-texts-are-address-text,
-      decimal-byte-is-address-text,
-    )
+ipv4-text-is-address-text text octets h = grind (
+  arith,
+  nat_tests,
+  separators-are-address-text,
+  joined-address-texts-are-address-text,
+  decimal-byte-is-address-text,
+)
 
 -- IP addresses: groups of an IPv6 address have digits, `:` and `.` only; ipv4: whether an IPv4
 -- address ends them, lead: what is before each
@@ -95,18 +77,15 @@ pub ipv6-text-is-address-text : (text segments : List ℕ) → IsColonHex text s
     → is_address_text text ≡ true
 ipv6-text-is-address-text text segments (inl h) = groups-are-address-text true [] text segments
     empty-text-is-address-text h.0
-ipv6-text-is-address-text text segments (inr h) =
-    ap is_address_text h.spelled
-    ∙ joined-address-texts-are-address-text _ _
-    (joined-address-texts-are-address-text _ _
+ipv6-text-is-address-text text segments (inr h) = ap is_address_text h.spelled
+    ∙ joined-address-texts-are-address-text _ _ (joined-address-texts-are-address-text _ _
     (groups-are-address-text false [] h.head_text h.head empty-text-is-address-text h.head_groups)
     separators-are-address-text.2)
     (groups-are-address-text true [] h.tail_text h.tail empty-text-is-address-text h.tail_groups)
 
 -- IP addresses: one lacks the delimiters that are none of its characters
-pub address-text-lacks-other-marks : (marks : List ℕ)
-    → ((c : ℕ) → is_address_char c ≡ true → is_one_of marks c ≡ false) → (text : List ℕ)
-    → is_address_text text ≡ true → Lacks marks text
+pub address-text-lacks-other-marks : (marks : List ℕ) → ((c : ℕ) → is_address_char c ≡ true
+    → is_one_of marks c ≡ false) → (text : List ℕ) → is_address_text text ≡ true → Lacks marks text
 unfolding is_address_text
 address-text-lacks-other-marks marks unmarked [] h = λ k d l. absurd (omega arith)
 address-text-lacks-other-marks marks unmarked (c ∷ text) h =
@@ -115,9 +94,8 @@ address-text-lacks-other-marks marks unmarked (c ∷ text) h =
     (address-text-lacks-other-marks marks unmarked text p.1)
 
 -- parsing IP addresses: the first byte of an address is one that addresses have
-pub address-text-begins-with-address-char : (c : ℕ) (text : List ℕ) → is_address_text (c ∷ text)
-    ≡ true
-    → is_address_char c ≡ true
+pub address-text-begins-with-address-char : (c : ℕ) (text : List ℕ)
+    → is_address_text (c ∷ text) ≡ true → is_address_char c ≡ true
 unfolding is_address_text
 address-text-begins-with-address-char c text h = (and_parts _ _ h).0
 
@@ -137,8 +115,7 @@ whole-value-is-read-to-end (Some (value, rest)) x e =
 pub ipv4_value-complete : (text octets : List ℕ) → IsDotted text octets
     → ipv4_value text ≡ Some octets
 unfolding ipv4_value
-ipv4_value-complete text octets h =
-    ap (λ t. whole_value (read_ipv4 t)) (sym (append-nil text))
+ipv4_value-complete text octets h = ap (λ t. whole_value (read_ipv4 t)) (sym (append-nil text))
     ∙ ap whole_value (read_ipv4_complete text octets [] h (lit≤ tt))
 
 -- IP addresses: a text that is read as octets is that of an IPv4 address
@@ -151,8 +128,7 @@ ipv4_value-sound text octets e =
 pub ipv6_value-complete : (text segments : List ℕ) → IsColonHex text segments
     → ipv6_value text ≡ Some segments
 unfolding ipv6_value
-ipv6_value-complete text segments h =
-    ap (λ t. whole_value (read_ipv6 t)) (sym (append-nil text))
+ipv6_value-complete text segments h = ap (λ t. whole_value (read_ipv6 t)) (sym (append-nil text))
     ∙ ap whole_value (read_ipv6_complete text segments [] h EndsGroups-nil)
 
 -- IP addresses: a text that is read as segments is that of an IPv6 address

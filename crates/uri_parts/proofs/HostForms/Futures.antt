@@ -1,16 +1,5 @@
 -- The test of an IPvFuture address is its grammar; and what no address in brackets holds.
-use Rattle.std.proofs.Common.{◌≡◌, ℕ, zero, suc, ◌<◌, ◌^◌, Bool, true, false, not, eqb, ltb, List, [], ◌∷◌, ◌++◌, length, get_or, All, refl, sym, ap, subst, ◌∙◌, arith, ◌&&◌, inl, inr, codes, IsUtf8}
-use Rattle.std.specs.Char.{is_ascii_hexdigit}
-use Rattle.std.specs.Net.Grammar.{IsDotted, IsColonHex}
-use Rattle.std.proofs.lemmas.List.Elements.{All-nil, All-cons, All-append}
-use Rattle.std.proofs.NetLemmas.Alphabet.{IsDigitOrDot, All-ipv4_text}
-use Rattle.std.proofs.lemmas.Bool.{and_from, and_parts, lt-ltb, false≢true}
-use Rattle.std.proofs.lemmas.Bool.Decides.{nat_tests}
-use Rattle.uri_pct.specs.Sets.{TableSet, LacksPercent, is_one_of, hexdig_set, reg_name_set, ipv_future_set, is_userinfo_char, is_reg_name_char}
-use Rattle.uri_pct.specs.Tokens.{is_valid_for}
-use Rattle.uri_pct.proofs.ValidTexts.Cuts.{excludes, excluded_mark_is_not_in_set}
-use Rattle.uri_parts.specs.Components.{Lacks}
-use Rattle.uri_parts.specs.Hosts.{IsIpvFuture, is_ipv_future, is_future_address}
+use Rattle.uri_parts.proofs.Common.{◌≡◌, ℕ, zero, suc, ◌<◌, ◌^◌, Bool, true, false, not, eqb, ltb, List, [], ◌∷◌, ◌++◌, length, get_or, All, refl, sym, ap, subst, ◌∙◌, arith, ◌&&◌, inl, inr, codes, IsUtf8, is_ascii_hexdigit, IsDotted, IsColonHex, All-nil, All-cons, All-append, IsDigitOrDot, All-ipv4_text, and_from, and_parts, lt-ltb, false≢true, nat_tests, TableSet, LacksPercent, is_one_of, hexdig_set, reg_name_set, ipv_future_set, is_userinfo_char, is_reg_name_char, is_valid_for, excludes, excluded_mark_is_not_in_set, Lacks, IsIpvFuture, is_ipv_future, is_future_address}
 use Rattle.uri_parts.proofs.Splitting.Cuts.{cut-at-end-of-text-without-marks, text-is-cut-at-first-mark}
 use Rattle.uri_parts.proofs.Parsing.ScanStops.{utf8_after_ascii_byte}
 use Rattle.uri_parts.proofs.TextKinds.GrammarTexts.{utf8_around_ascii_byte, valid_text_lacks_excluded_marks}
@@ -33,8 +22,7 @@ is_ipv_future-complete text u h =
     let cut = cut-at-end-of-text-without-marks (codes ".") h.version (46 ∷ h.address)
     (valid_text_lacks_excluded_marks hexdig_set (codes ".") refl refl h.version apart.0
     h.version_digits.1) refl in
-    ap is_ipv_future h.whole
-    ∙ and_from _ _ h.is_v (and_from _ _
+    ap is_ipv_future h.whole ∙ and_from _ _ h.is_v (and_from _ _
     (ap (λ t. ltb 0 (length t) && is_valid_for hexdig_set t) cut.0
     ∙ and_from _ _ (lt-ltb 0 _ h.version_digits.0) h.version_digits.1)
     (ap is_future_address cut.1 ∙ and_from _ _ (lt-ltb 0 _ h.address_chars.0) h.address_chars.1))
@@ -77,8 +65,7 @@ joined-texts-lack-marks marks xs ys h k = All-append (λ c. is_one_of marks c �
 
 -- hosts, delimiters: a text of bytes that are no delimiters (by a property P) lacks them
 text-of-unmarked-bytes-lacks-marks : (marks : List ℕ) (P : ℕ → Type 0)
-    → ((c : ℕ) → P c → is_one_of marks c ≡ false)
-    → (text : List ℕ) → All P text → Lacks marks text
+    → ((c : ℕ) → P c → is_one_of marks c ≡ false) → (text : List ℕ) → All P text → Lacks marks text
 text-of-unmarked-bytes-lacks-marks marks P unmarked text h k d l = unmarked _ (h k d l)
 
 -- IP addresses: the four numbers of an IPv4 address have eight bits
@@ -91,9 +78,8 @@ four-octets-fit-eight-bits a b c d p q r s (suc (suc (suc zero))) = s
 four-octets-fit-eight-bits a b c d p q r s (suc (suc (suc (suc k)))) = omega arith
 
 -- hosts, delimiters: a character that a set has is none of the delimiters that it excludes
-unmarked : (set : TableSet) (marks : List ℕ) → excludes set marks ≡ true → (c : ℕ) → set.ascii c
-    ≡ true
-    → is_one_of marks c ≡ false
+unmarked : (set : TableSet) (marks : List ℕ)
+    → excludes set marks ≡ true → (c : ℕ) → set.ascii c ≡ true → is_one_of marks c ≡ false
 unmarked set marks outside c e = grind (arith, nat_tests, excluded_mark_is_not_in_set)
 
 -- hosts: an IPv4 address is digits and dots
@@ -105,13 +91,11 @@ ipv4-text-is-digits-and-dots text octets h =
 
 -- hosts: an IPv4 address has no delimiter that a registered name cannot have
 pub ipv4-text-lacks-name-marks : (marks : List ℕ) → excludes reg_name_set marks ≡ true
-    → (text octets : List ℕ)
-    → IsDotted text octets → Lacks marks text
+    → (text octets : List ℕ) → IsDotted text octets → Lacks marks text
 ipv4-text-lacks-name-marks marks outside text octets h =
     text-of-unmarked-bytes-lacks-marks marks IsDigitOrDot
-    (λ c d. unmarked reg_name_set marks outside c
-    (digit_or_dot_is_reg_name_char c d))
-    text (ipv4-text-is-digits-and-dots text octets h)
+    (λ c d. unmarked reg_name_set marks outside c (digit_or_dot_is_reg_name_char c d)) text
+    (ipv4-text-is-digits-and-dots text octets h)
 
 -- hosts: `%` is no character of an IPvFuture address
 ipv_future_set-lacks-percent : LacksPercent ipv_future_set
@@ -127,9 +111,8 @@ and-of-four-without-second true false c d e = absurd (false≢true e)
 and-of-four-without-second false b c d e = e
 
 -- hosts: hexadecimal digits are none of the delimiters that an IPvFuture address cannot have
-hexdig_set-excludes-marks-of-ipv_future_set : (marks : List ℕ) → excludes ipv_future_set marks
-    ≡ true
-    → excludes hexdig_set marks ≡ true
+hexdig_set-excludes-marks-of-ipv_future_set : (marks : List ℕ)
+    → excludes ipv_future_set marks ≡ true → excludes hexdig_set marks ≡ true
 hexdig_set-excludes-marks-of-ipv_future_set [] e = refl
 hexdig_set-excludes-marks-of-ipv_future_set (mark ∷ marks) e =
     let p = and_parts _ _ e in
@@ -154,28 +137,21 @@ module _ (marks : List ℕ) (outside : excludes ipv_future_set marks ≡ true) w
   hex-digits-lack-excluded-marks : (text : List ℕ) → IsUtf8 text → is_valid_for hexdig_set text
       ≡ true → Lacks marks text
   hex-digits-lack-excluded-marks text u valid = valid_text_lacks_excluded_marks
-      hexdig_set marks refl
-      (hexdig_set-excludes-marks-of-ipv_future_set marks outside) text u
-      valid
+      hexdig_set marks refl (hexdig_set-excludes-marks-of-ipv_future_set marks outside) text u valid
 
   pub ipvfuture-text-lacks-excluded-marks : (text : List ℕ) → IsUtf8 text → IsIpvFuture text
       → Lacks marks text
   ipvfuture-text-lacks-excluded-marks text u h =
       let tail : List ℕ = h.version ++ 46 ∷ h.address in
-      let apart = utf8_around_ascii_byte h.version 46 h.address (omega arith)
-      (utf8_after_ascii_byte h.letter tail (version-letter-is-ascii h.letter h.is_v)
-      (subst IsUtf8 h.whole u)) in
-      let letter = other-byte-lacks-marks marks h.letter
-      (userinfo-char-is-no-excluded-mark h.letter
+      let apart = utf8_around_ascii_byte h.version 46 h.address (omega arith) (utf8_after_ascii_byte
+      h.letter tail (version-letter-is-ascii h.letter h.is_v) (subst IsUtf8 h.whole u)) in
+      let letter = other-byte-lacks-marks marks h.letter (userinfo-char-is-no-excluded-mark h.letter
       (version-letter-is-userinfo-char h.letter h.is_v)) in
       let dot = other-byte-lacks-marks marks 46
       (userinfo-char-is-no-excluded-mark 46 dot-is-userinfo-char) in
       let version = hex-digits-lack-excluded-marks h.version apart.0 h.version_digits.1 in
-      let address = valid_text_lacks_excluded_marks ipv_future_set marks
-      ipv_future_set-lacks-percent outside
-      h.address apart.1
-      h.address_chars.1 in
-      subst (Lacks marks) (sym h.whole)
-      (joined-texts-lack-marks marks (h.letter ∷ h.version) (46 ∷ h.address)
-      (joined-texts-lack-marks marks (h.letter ∷ []) h.version letter version)
+      let address = valid_text_lacks_excluded_marks ipv_future_set
+      marks ipv_future_set-lacks-percent outside h.address apart.1 h.address_chars.1 in
+      subst (Lacks marks) (sym h.whole) (joined-texts-lack-marks marks (h.letter ∷ h.version)
+      (46 ∷ h.address) (joined-texts-lack-marks marks (h.letter ∷ []) h.version letter version)
       (joined-texts-lack-marks marks (46 ∷ []) h.address dot address))

@@ -1,15 +1,6 @@
 -- One turn of reading the groups of an IPv6 address into their numbers.
-use Rattle.std.proofs.Common.{◌≡◌, ◌≢◌, ℕ, zero, suc, ◌+◌, ◌-◌, ◌<◌, ◌≤◌, ◌==◌, ◌⊎◌, nat_lt, max, Bool, Option, option_map, true, false, List, [], ◌∷◌, ◌++◌, length, take, drop, get_or, Some, None, replicate, refl, sym, ap, ◌∙◌, arith, inl, inr, ne_eqb, append-nil, append_assoc, length-append, length-take-le, get_or-take, get_or-drop}
-use Rattle.std.proofs.lemmas.Bool.{cases_lt}
-use Rattle.std.proofs.lemmas.List.{at_drop_more, at_drop_all, get_or_past, ext_get_or, get_or_append_left, get_or-append_right, get_or-append-add, get_or-replicate, length-replicate}
-use Rattle.std.specs.Str.Parse.{digits_value}
-use Rattle.std.specs.Net.Reader.{read_segments, after, read_separator, read_ipv4, read_ipv4_if, read_segment, read_byte, read_octet}
-use Rattle.std.proofs.NetLemmas.Numbers.{read_number_empty}
-use Rattle.std.proofs.NetLemmas.Ipv4.{read_ipv4_sound}
-use Rattle.std.proofs.NetLemmas.Options.{map_some}
-use Rattle.std.proofs.lemmas.Option.{none-some}
-use Rattle.std.proofs.lemmas.Bool.Decides.{nat_tests}
-use Rattle.uri_parts.specs.Models.Literals.{AreLeadingHexDigits, segments_of_ipv4}
+use Rattle.uri_parts.proofs.Common.{◌≡◌, ◌≢◌, ℕ, zero, suc, ◌+◌, ◌-◌, ◌<◌, ◌≤◌, ◌==◌, ◌⊎◌, nat_lt, max, Bool, Option, option_map, true, false, List, [], ◌∷◌, ◌++◌, length, take, drop, get_or, Some, None, replicate, refl, sym, ap, ◌∙◌, arith, inl, inr, ne_eqb, append-nil, append_assoc, length-append, length-take-le, get_or-take, get_or-drop, cases_lt, at_drop_more, at_drop_all, get_or_past, ext_get_or, get_or_append_left, get_or-append_right, get_or-append-add, get_or-replicate, length-replicate, digits_value, read_segments, read_separator, read_ipv4, read_ipv4_if, read_segment, read_byte, read_octet, read_number_empty, read_ipv4_sound, map_some, none-some, nat_tests, AreLeadingHexDigits, segments_of_ipv4}
+use Rattle.std.specs.Net.Reader.{after}
 use Rattle.uri_parts.proofs.HostForms.AddressParsing.{hex_digits_are_read_as_segment, five_digits_begin_no_ipv4, no_dot_means_no_ipv4, no_digits_are_no_segment, five_digits_are_no_segment, IsSuffix, text-after-prefix-is-suffix}
 
 -- general fact on options, for an IPv4 address
@@ -20,8 +11,7 @@ option-is-none-if-mapped-is f (Some x) e = absurd (none-some (f x) (sym e))
 
 -- reading IPv6: no IPv4 address begins where no `.` follows the first digits
 pub no-dot-after-digits-is-no-ipv4 : (fits : Bool) (text : List ℕ) (count : ℕ)
-    → AreLeadingHexDigits text count
-    → get_or text count 0 ≢ 46 → read_ipv4_if fits text ≡ None
+    → AreLeadingHexDigits text count → get_or text count 0 ≢ 46 → read_ipv4_if fits text ≡ None
 no-dot-after-digits-is-no-ipv4 false text count h other = refl
 no-dot-after-digits-is-no-ipv4 true text count h other = elim (cases_lt count 5) [
   | inl few ↦ no_dot_means_no_ipv4 text count h few other
@@ -95,18 +85,16 @@ module _ (n i : ℕ) (text s prefix group : List ℕ) (within : i < n)
   pub reading-ends-without-group : (count ≡ 0) ⊎ (count ≡ 5)
       → read_segments n true text ≡ (prefix, false, s)
   unfolding read_segments
-  reading-ends-without-group none = so_far
-      ∙ rw (
-        room-is-one-more-than-room-after,
-        ← led,
-        no-ipv4-without-group group count are none (nat_lt 0 (n - (i + 1))),
-        no-segment-without-group group count are none,
-        append-nil,
-      )
+  reading-ends-without-group none = so_far ∙ rw (
+    room-is-one-more-than-room-after,
+    ← led,
+    no-ipv4-without-group group count are none (nat_lt 0 (n - (i + 1))),
+    no-segment-without-group group count are none,
+    append-nil,
+  )
 
-  pub ipv4-ends-reading : (two rest : List ℕ) → i + 1 < n
-      → Some (two, rest) ≡ segments_of_ipv4 group
-      → read_segments n true text ≡ (prefix ++ two, true, rest)
+  pub ipv4-ends-reading : (two rest : List ℕ) → i + 1 < n → Some
+      (two, rest) ≡ segments_of_ipv4 group → read_segments n true text ≡ (prefix ++ two, true, rest)
   unfolding read_segments
   ipv4-ends-reading two rest fits e =
       grind (arith, nat_tests, map_some, nat_lt, room-is-one-more-than-room-after)
@@ -122,8 +110,7 @@ module _ (n i : ℕ) (text s prefix group : List ℕ) (within : i < n)
     unfolding read_segments
     reading-appends-value-of-group =
         let later : (i + 1 == 0) ≡ false = ne_eqb _ _ (omega arith) in
-        so_far
-        ∙ rw (
+        so_far ∙ rw (
           room-is-one-more-than-room-after,
           ← led,
           no_ipv4,
@@ -138,8 +125,7 @@ module _ (n i : ℕ) (text s prefix group : List ℕ) (within : i < n)
         ≡ (prefix ++ digits_value 16 (take count group) ∷ [], false, drop count group)
     reading-ends-after-group-without-colon other =
         let later : (i + 1 == 0) ≡ false = ne_eqb _ _ (omega arith) in
-        reading-appends-value-of-group
-        ∙ rw (
+        reading-appends-value-of-group ∙ rw (
           later,
           no-segment-is-read-without-colon (n - (i + 1)) (drop count group)
               (other-byte-at-position-is-no-colon group count other),
@@ -154,8 +140,7 @@ module _ (n i : ℕ) (text s prefix group : List ℕ) (within : i < n)
 
 -- reading IPv6: the byte after the digits of a group, by its position and after a cut
 pub byte-after-digits-at-position : (text : List ℕ) (group count byte : ℕ)
-    → byte ≡ get_or text (group + count) 0
-    → byte ≡ get_or (drop group text) count 0
+    → byte ≡ get_or text (group + count) 0 → byte ≡ get_or (drop group text) count 0
 byte-after-digits-at-position text group count byte here = rw (get_or-drop group text count 0) here
 
 -- reading IPv6: the groups after a `::` are the last of the eight, and zeros are before them.
@@ -171,17 +156,15 @@ module _ (head part new window : List ℕ) (h t g : ℕ) (eight : length head �
   window-begins-with-zeros j less =
       grind (arith, nat_tests, get_or-take, get_or_append_left, get_or-replicate)
 
-  window-has-part-from-eight : (j : ℕ) → j < length part
-      → get_or window (8 + j) 0 ≡ get_or part j 0
+  window-has-part-from-eight : (j : ℕ) → j < length part → get_or window (8 + j) 0 ≡ get_or part j 0
   window-has-part-from-eight j less = grind (arith, nat_tests, get_or-take, get_or-append-add)
 
   head-has-zeros-after-groups : (k : ℕ) → h ≤ k → k < 8 → get_or head k 0 ≡ 0
   head-has-zeros-after-groups k after less =
       let same : h + (k - h) ≡ k = omega arith in
-      ap (λ n. get_or head n 0) (sym same)
-      ∙ sym (get_or-drop h head (k - h) 0) ∙ ap (λ s. get_or s (k - h) 0) zeros
-      ∙ get_or-drop h (replicate 8 0) (k - h) 0 ∙ ap (λ n. get_or (replicate 8 0) n 0) same
-      ∙ get_or-replicate 8 k 0 0 less
+      ap (λ n. get_or head n 0) (sym same) ∙ sym (get_or-drop h head (k - h) 0)
+      ∙ ap (λ s. get_or s (k - h) 0) zeros ∙ get_or-drop h (replicate 8 0) (k - h) 0
+      ∙ ap (λ n. get_or (replicate 8 0) n 0) same ∙ get_or-replicate 8 k 0 0 less
 
   length-before-tail : length (take h head ++ replicate g 0) ≡ 8 - t
   length-before-tail =
@@ -196,22 +179,20 @@ module _ (head part new window : List ℕ) (h t g : ℕ) (eight : length head �
 
   segments-agree-at-index : (k : ℕ) → k < 8
       → get_or new k 0 ≡ get_or (take h head ++ replicate g 0 ++ take t part) k 0
-  segments-agree-at-index k less =
-      grind (
-        arith,
-        nat_tests,
-        get_or_append_left,
-        length-before-tail,
-        length-take-le,
-        get_or-take,
-        window-begins-with-zeros,
-        get_or-append_right,
-        get_or-replicate,
-        head-has-zeros-after-groups,
-        window-has-part-from-eight,
-      )
+  segments-agree-at-index k less = grind (
+    arith,
+    nat_tests,
+    get_or_append_left,
+    length-before-tail,
+    length-take-le,
+    get_or-take,
+    window-begins-with-zeros,
+    get_or-append_right,
+    get_or-replicate,
+    head-has-zeros-after-groups,
+    window-has-part-from-eight,
+  )
 
   pub tail-groups-are-placed-last : new ≡ take h head ++ replicate g 0 ++ take t part
   tail-groups-are-placed-last = ext_get_or 0 new (take h head ++ replicate g 0 ++ take t part)
-      (size ∙ sym length-of-segments)
-      λ k inside. segments-agree-at-index k (omega (arith, size))
+      (size ∙ sym length-of-segments) λ k inside. segments-agree-at-index k (omega (arith, size))

@@ -1,12 +1,7 @@
 -- Hexadecimal digits by a table, and how many of them a text begins with.
-use Rattle.std.proofs.Common.{◌≡◌, ℕ, zero, suc, ◌+◌, ◌<◌, ◌≤◌, min, Bool, true, ◌&&◌, List, get_or, refl, arith, eqb, ◌≢◌, ◌*◌, drop, get_or-drop, length-take-le, lit≤, eqb-true}
-use Rattle.std.proofs.lemmas.Bool.Decides.{Decides-below_and, nat_tests}
-use Rattle.std.proofs.lemmas.Int.Digits.{digits_more, digits_value-lt, digits_value_more}
-use Rattle.std.proofs.lemmas.List.{get_or_past}
+use Rattle.uri_parts.proofs.Common.{◌≡◌, ℕ, zero, suc, ◌+◌, ◌<◌, ◌≤◌, min, Bool, true, ◌&&◌, List, get_or, refl, arith, eqb, ◌≢◌, ◌*◌, drop, get_or-drop, length-take-le, lit≤, eqb-true, Decides-below_and, nat_tests, digits_more, digits_value-lt, digits_value_more, get_or_past, digit_value, AreLeadingHexDigits, BeginsNumber}
 use Rattle.std.proofs.Math.Nat.{pow-le-pow_right}
-use Rattle.std.specs.Char.{digit_value}
 use Rattle.uri_parts.specs.declared.address_parser.TheConstants.{DIGIT_VALUES}
-use Rattle.uri_parts.specs.Models.Literals.{AreLeadingHexDigits, BeginsNumber}
 
 -- parsing IPv6: the table's entry of a byte is its value as a digit, or 16
 abbrev is_value : ℕ → Bool
@@ -20,9 +15,8 @@ are_values (suc n) = is_value n && are_values n
 -- parsing IPv6: the table's entry of a hexadecimal digit is its value, and of another byte 16
 pub table-entry-is-digit-value : (b : ℕ) → b < 256 → get_or DIGIT_VALUES.now b 0
     ≡ min (digit_value b) 16
-table-entry-is-digit-value b small = eqb-true _ _
-    ((Decides-below_and is_value (λ n. is_value n ≡ true) are_values (λ n. (λ e. e, λ e. e)) refl
-    (λ _. refl) 256).0 refl b small)
+table-entry-is-digit-value b small = eqb-true _ _ ((Decides-below_and is_value (λ n. is_value n
+    ≡ true) are_values (λ n. (λ e. e, λ e. e)) refl (λ _. refl) 256).0 refl b small)
 
 -- parsing IPv6: the byte past the end of a text is no digit
 no-digit-past-end : (byte : ℕ) → byte ≡ 0 → 16 ≤ digit_value byte
@@ -39,16 +33,15 @@ pub next-digit-extends-number : (text : List ℕ) (start count value byte digit 
     → BeginsNumber (drop start text) count value → byte ≡ get_or text (start + count) 0
     → digit ≡ min (digit_value byte) 16 → digit ≢ 16
     → BeginsNumber (drop start text) (count + 1) (value * 16 + digit)
-next-digit-extends-number text start count value byte digit h at of other =
-    grind (
-      arith,
-      nat_tests,
-      get_or-drop,
-      digits_more,
-      digits_value_more,
-      get_or_past,
-      no-digit-past-end,
-    )
+next-digit-extends-number text start count value byte digit h at of other = grind (
+  arith,
+  nat_tests,
+  get_or-drop,
+  digits_more,
+  digits_value_more,
+  get_or_past,
+  no-digit-past-end,
+)
 
 -- parsing IPv6: the digits that come first end at a byte that is no digit
 pub number-ends-at-other-byte : (text : List ℕ) (start count value byte digit : ℕ)

@@ -1,14 +1,5 @@
 -- A text in brackets that begins with no `v` is parsed as an IPv6 address with `]` after it.
-use Rattle.std.proofs.Common.{◌≡◌, ℕ, ◌+◌, ◌-◌, ◌≤◌, Bool, true, false, List, [], ◌∷◌, ◌++◌, length, drop, Option, Some, None, option_map, refl, sym, ap, ◌∙◌, arith, ◌||◌, lit≤, eqb-true, length-append, codes, is_some}
-use Rattle.std.specs.Net.Reader.{read_ipv6}
-use Rattle.std.proofs.lemmas.Bool.{false≢true, and_parts, false_from_ne_true}
-use Rattle.std.proofs.lemmas.Option.{none-some}
-use Rattle.std.proofs.NetLemmas.Options.{map_some}
-use Rattle.std.proofs.NetLemmas.Ipv6.{EndsGroups, read_ipv6_complete, read_ipv6_sound}
-use Rattle.std.proofs.lemmas.Bool.Decides.{nat_tests}
-use Rattle.uri_parts.specs.Components.{starts, before_any, from_any}
-use Rattle.uri_parts.specs.Hosts.{ipv6_value, is_ipv_future}
-use Rattle.uri_parts.specs.Models.Literals.{literal_length}
+use Rattle.uri_parts.proofs.Common.{◌≡◌, ℕ, ◌+◌, ◌-◌, ◌≤◌, Bool, true, false, List, [], ◌∷◌, ◌++◌, length, drop, Option, Some, None, option_map, refl, sym, ap, ◌∙◌, arith, ◌||◌, lit≤, eqb-true, length-append, codes, is_some, read_ipv6, false≢true, and_parts, false_from_ne_true, none-some, map_some, EndsGroups, read_ipv6_complete, read_ipv6_sound, nat_tests, starts, before_any, from_any, ipv6_value, is_ipv_future, literal_length}
 use Rattle.uri_parts.proofs.Parsing.Acceptance.{is_literal, parses_literal}
 use Rattle.uri_parts.proofs.Splitting.Cuts.{IsEmptyOrMarked, text-is-cut-at-first-mark, cut-at-end-of-text-without-marks}
 use Rattle.uri_parts.proofs.HostForms.Addresses.{ipv6_value-complete, ipv6_value-sound}
@@ -41,9 +32,8 @@ text-after-ipv6-is-suffix rest suffix e =
 -- parsing IPv6: what is left after an address at a position is a suffix of the whole text
 pub text-after-ipv6-at-position : (text suffix : List ℕ) (start : ℕ) → start ≤ length text
     → Some suffix ≡ left (drop start text) → suffix ≡ drop (length text - length suffix) text
-text-after-ipv6-at-position text suffix start within e =
-    (suffix-at-position text suffix start within
-    (text-after-ipv6-is-suffix (drop start text) suffix e)).1
+text-after-ipv6-at-position text suffix start within e = (suffix-at-position text
+    suffix start within (text-after-ipv6-is-suffix (drop start text) suffix e)).1
 
 -- parsing IP literals: an IPv6 address with `]` after it is parsed as one
 pub ipv6-and-bracket-are-parsed-literal : (rest suffix : List ℕ) → Some suffix ≡ left rest
@@ -77,8 +67,7 @@ present-option-has-value (Some x) b e f = (x, refl)
 
 -- parsing IP literals: without a `v`, what is parsed is an IPv6 address and the `]` (93) after it
 pub literal_is_ipv6_and_bracket : (rest : List ℕ) → (starts 118 rest || starts 86 rest) ≡ false
-    → parses_literal rest ≡ true
-    → (left rest ≡ Some (from_any (codes "]") rest))
+    → parses_literal rest ≡ true → (left rest ≡ Some (from_any (codes "]") rest))
     × (starts 93 (from_any (codes "]") rest) ≡ true)
 unfolding is_literal parses_literal
 literal_is_ipv6_and_bracket rest no_version e =
@@ -95,16 +84,14 @@ literal_is_ipv6_and_bracket rest no_version e =
 
 -- parsing IP literals: without a `v` at its start, and if no IPv6 address is found,
 -- the text after `[` is no literal
-pub no_ipv6_is_no_literal : (rest : List ℕ) → (starts 118 rest || starts 86 rest) ≡ false → None
-    ≡ left rest
-    → parses_literal rest ≡ false
+pub no_ipv6_is_no_literal : (rest : List ℕ)
+    → (starts 118 rest || starts 86 rest) ≡ false → None ≡ left rest → parses_literal rest ≡ false
 no_ipv6_is_no_literal rest no_version e = false_from_ne_true _ λ t. none-some _
     (e ∙ (literal_is_ipv6_and_bracket rest no_version t).0)
 
 -- parsing IP literals: without a `v` at its start,
 -- and if no `]` (93) follows the IPv6 address, it is no literal
 pub unclosed_ipv6_is_no_literal : (rest suffix : List ℕ) → (starts 118 rest || starts 86 rest)
-    ≡ false
-    → Some suffix ≡ left rest → starts 93 suffix ≡ false → parses_literal rest ≡ false
+    ≡ false → Some suffix ≡ left rest → starts 93 suffix ≡ false → parses_literal rest ≡ false
 unclosed_ipv6_is_no_literal rest suffix no_version e other =
     grind (arith, nat_tests, false_from_ne_true, literal_is_ipv6_and_bracket)

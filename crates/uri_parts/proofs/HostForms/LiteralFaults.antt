@@ -1,14 +1,5 @@
 -- The error of an address in brackets is one in the whole text.
-use Rattle.std.proofs.Common.{◌≡◌, ℕ, ◌+◌, Bool, true, false, not, cond, List, [], ◌∷◌, drop, get_or, Option, Some, None, subst, arith, IsCharBoundary, get_or-drop}
-use Rattle.std.specs.Prelude.{Ok, Err, codes, ⊤}
-use Rattle.std.proofs.lemmas.Bool.{eqb-true, false≢true}
-use Rattle.std.proofs.lemmas.Bool.Decides.{nat_tests}
-use Rattle.uri_parts.specs.declared.error.ParseError.{ParseError}
-use Rattle.uri_pct.specs.Sets.{TableSet, is_one_of, hexdig_set, ipv_future_set}
-use Rattle.uri_parts.specs.Components.{starts}
-use Rattle.uri_parts.specs.Errors.{IsErrorIn, IsErrorKindAt, unexpected}
-use Rattle.uri_parts.specs.LiteralErrors.{closed, literal, cannot_begin_ipv6}
-use Rattle.uri_parts.specs.Scanning.{ScanResult, scan_to_mark}
+use Rattle.uri_parts.proofs.Common.{◌≡◌, ℕ, ◌+◌, Bool, true, false, not, cond, List, [], ◌∷◌, drop, get_or, Option, Some, None, subst, arith, IsCharBoundary, get_or-drop, Ok, Err, codes, ⊤, eqb-true, false≢true, nat_tests, ParseError, TableSet, is_one_of, hexdig_set, ipv_future_set, starts, IsErrorIn, IsErrorKindAt, unexpected, closed, literal, cannot_begin_ipv6, ScanResult, scan_to_mark}
 
 -- IP literals, their errors: a text that begins with a byte (mark) has it first
 first-byte-is-mark : (mark : ℕ) (text : List ℕ) → starts mark text ≡ true → get_or text 0 0 ≡ mark
@@ -27,9 +18,8 @@ module _ (text : List ℕ) (place : ℕ) (bracket : starts 91 (drop place text) 
   HasErrorKindAt (Ok end) = ⊤
   HasErrorKindAt (Err e) = IsErrorKindAt text e.kind e.index
 
-  both-branches-have-error-kind : (test : Bool) (a b : ScanResult) → HasErrorKindAt a
-      → HasErrorKindAt b
-      → HasErrorKindAt (cond test a b)
+  both-branches-have-error-kind : (test : Bool) (a b : ScanResult)
+      → HasErrorKindAt a → HasErrorKindAt b → HasErrorKindAt (cond test a b)
   both-branches-have-error-kind true a b h k = h
   both-branches-have-error-kind false a b h k = k
 
@@ -48,9 +38,8 @@ module _ (text : List ℕ) (place : ℕ) (bracket : starts 91 (drop place text) 
   unclosed-literal-error-has-its-kind (Some end) =
       grind (arith, nat_tests, both-branches-have-error-kind)
 
-  scan-to-mark-error-has-its-kind : (set : TableSet) (mark : ℕ) (next : ℕ → ScanResult)
-      → ((n : ℕ) → HasErrorKindAt (next n))
-      → (i : ℕ) → HasErrorKindAt (scan_to_mark text set mark next i)
+  scan-to-mark-error-has-its-kind : (set : TableSet) (mark : ℕ) (next : ℕ → ScanResult) → ((n : ℕ)
+      → HasErrorKindAt (next n)) → (i : ℕ) → HasErrorKindAt (scan_to_mark text set mark next i)
   scan-to-mark-error-has-its-kind set mark next h i =
       grind (arith, nat_tests, both-branches-have-error-kind, unexpected-error-has-its-kind)
 

@@ -1,13 +1,5 @@
 -- The first characters of an address in brackets, and the digits of one.
-use Rattle.std.proofs.Common.{◌≡◌, ℕ, ◌+◌, ◌<◌, ◌≤◌, true, false, eqb, List, [], ◌∷◌, length, get_or, refl, arith, ◌||◌, codes, IsTrue, IsUtf8, IsCharBoundary}
-use Rattle.std.specs.Char.{digit_value}
-use Rattle.std.proofs.lemmas.Str.{IsCharBoundary-after_ascii}
-use Rattle.std.proofs.lemmas.Bool.{and_left}
-use Rattle.std.proofs.lemmas.Bool.Decides.{nat_tests}
-use Rattle.uri_pct.specs.Sets.{is_one_of}
-use Rattle.uri_parts.specs.Components.{starts}
-use Rattle.uri_parts.specs.Hosts.{is_ipv_future}
-use Rattle.uri_pct.proofs.General.{eq_true_from_IsTrue}
+use Rattle.uri_parts.proofs.Common.{◌≡◌, ℕ, ◌+◌, ◌<◌, ◌≤◌, true, false, eqb, List, [], ◌∷◌, length, get_or, refl, arith, ◌||◌, codes, IsTrue, IsUtf8, IsCharBoundary, digit_value, IsCharBoundary-after_ascii, and_left, nat_tests, is_one_of, starts, is_ipv_future, eq_true_from_IsTrue}
 
 -- parsing IP literals: 118 and 86 are `v` and `V`, which begin an IPvFuture address
 pub byte-118-or-86-is-version-letter : (c : ℕ) → (eqb c 118 || eqb c 86) ≡ true
@@ -25,8 +17,7 @@ other-byte-is-no-version-letter c e = grind (arith, nat_tests)
 
 -- parsing IP literals: without a `v` at its start a text is no IPvFuture address
 pub text-without-version-letter-is-no-ipvfuture : (text : List ℕ)
-    → (starts 118 text || starts 86 text) ≡ false
-    → is_ipv_future text ≡ false
+    → (starts 118 text || starts 86 text) ≡ false → is_ipv_future text ≡ false
 unfolding is_ipv_future
 text-without-version-letter-is-no-ipvfuture [] e = refl
 text-without-version-letter-is-no-ipvfuture (letter ∷ rest) e = and_left _ _
@@ -37,8 +28,7 @@ pub digit-is-ascii : (c radix : ℕ) → radix ≤ 36 → digit_value c < radix 
 digit-is-ascii c radix most h = grind (arith, nat_tests)
 
 -- parsing IP literals: after an ASCII byte at index i, a character begins
-pub boundary-after-ascii-byte : (text bytes : List ℕ) (i byte : ℕ) → bytes ≡ text → IsUtf8 text
-    → i < length bytes → byte < 128 → IsTrue (eqb (get_or bytes i 0) byte)
-    → IsCharBoundary text (i + 1)
+pub boundary-after-ascii-byte : (text bytes : List ℕ) (i byte : ℕ) → bytes ≡ text → IsUtf8 text → i
+    < length bytes → byte < 128 → IsTrue (eqb (get_or bytes i 0) byte) → IsCharBoundary text (i + 1)
 boundary-after-ascii-byte text bytes i byte e u inside ascii h =
     grind (arith, nat_tests, eq_true_from_IsTrue, IsCharBoundary-after_ascii)

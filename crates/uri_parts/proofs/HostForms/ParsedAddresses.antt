@@ -1,9 +1,6 @@
 -- What std parses of the text of an IPv4 address.
-use Rattle.std.proofs.Common.{◌≡◌, List, ℕ, Some, None, sym, ⊎_elim}
+use Rattle.uri_parts.proofs.Common.{◌≡◌, List, ℕ, Some, None, sym, ⊎_elim, ipv4_octets, IsIpv4Text, ipv4_value}
 use Rattle.std.specs.declared.net.ipv4_addr.Ipv4Addr.{Ipv4Addr}
-use Rattle.std.specs.Net.Addr.{ipv4_octets}
-use Rattle.std.specs.Net.Grammar.{IsIpv4Text}
-use Rattle.uri_parts.specs.Hosts.{ipv4_value}
 use Rattle.uri_parts.proofs.HostForms.Addresses.{ipv4_value-complete, ipv4_value-sound}
 use Rattle.uri_parts.proofs.HostForms.Hosts.{option-is-none-or-some}
 
@@ -15,7 +12,6 @@ parsed_ipv4_has_value_of_text text a h = sym (ipv4_value-complete text (ipv4_oct
 -- IP addresses: what std rejects as an IPv4 address is none by the grammar
 pub text-of-no-ipv4-has-no-value : (text : List ℕ) → ((a : Ipv4Addr) → ¬ (IsIpv4Text text a))
     → None ≡ ipv4_value text
-text-of-no-ipv4-has-no-value text h = ⊎_elim
-    (λ n. sym n)
+text-of-no-ipv4-has-no-value text h = ⊎_elim (λ n. sym n)
     (λ (octets, e). absurd (h (record { octets = octets }) (ipv4_value-sound text octets e)))
     (option-is-none-or-some (ipv4_value text))

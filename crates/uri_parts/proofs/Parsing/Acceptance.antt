@@ -1,16 +1,7 @@
 -- Which texts are parsed, as tests of the text that is left: RFC 3986, sections 3 and 4.1. The
 -- parser
 -- returns no error for these (`Refusals.Accepted`), and they are those of the grammar.
-use Rattle.std.specs.Prelude.{ℕ, ◌+◌, Bool, true, not, ◌&&◌, ◌||◌, ◌==◌, List, drop, codes, nat_lt, slice_index, is_some, if◌then◌else◌}
-use Rattle.std.specs.Char.{is_ascii_alphabetic}
-use Rattle.uri_pct.specs.Delimiters.{at_sign, colon, full_stop, left_bracket, number_sign, percent_sign, question_mark, right_bracket}
-use Rattle.uri_pct.specs.Prefixes.{valid_prefix, after}
-use Rattle.uri_pct.specs.Sets.{TableSet, hexdig_set, ipv_future_set, scheme_set}
-use Rattle.uri_parts.specs.Components.{starts, from_any, has_authority, is_end}
-use Rattle.uri_parts.specs.Grammar.{Kind}
-use Rattle.uri_parts.specs.Hosts.{ipv6_value, is_ipv_future}
-use Rattle.uri_parts.specs.Models.AuthorityParsing.{is_empty_or_begins_with_any, name_ends_authority, text_from_host, found_authority_length, host_and_port_length, userinfo_length}
-use Rattle.uri_parts.specs.Models.Literals.{text_before_bracket}
+use Rattle.uri_parts.proofs.Common.{ℕ, ◌+◌, Bool, true, not, ◌&&◌, ◌||◌, ◌==◌, List, drop, codes, nat_lt, slice_index, is_some, if◌then◌else◌, is_ascii_alphabetic, at_sign, colon, full_stop, left_bracket, number_sign, percent_sign, question_mark, right_bracket, valid_prefix, after, TableSet, hexdig_set, ipv_future_set, scheme_set, starts, from_any, has_authority, is_end, Kind, ipv6_value, is_ipv_future, is_empty_or_begins_with_any, name_ends_authority, text_from_host, found_authority_length, host_and_port_length, userinfo_length, text_before_bracket}
 
 -- what may be in brackets
 unfoldable pub is_literal : List ℕ → Bool
@@ -35,8 +26,7 @@ after_version rest = drop (length_to_mark hexdig_set rest) rest
 
 -- after a `v`, the rest of an IPvFuture address and `]` come first
 unfoldable pub parses_future : List ℕ → Bool
-parses_future rest =
-    parses_marked hexdig_set full_stop rest
+parses_future rest = parses_marked hexdig_set full_stop rest
     && parses_marked ipv_future_set right_bracket (after_version rest)
 
 -- the length of an IPvFuture address after its `v`, with its `]`
@@ -50,9 +40,8 @@ passes_host rest = if starts left_bracket rest then parses_literal (drop 1 rest)
 
 -- a host and a port are next, and then what ends an authority
 unfoldable pub finds_host : Kind → List ℕ → Bool
-finds_host kind rest =
-    passes_host rest && is_empty_or_begins_with_any (codes "/?#")
-    (drop (host_and_port_length kind rest) rest)
+finds_host kind rest = passes_host rest
+    && is_empty_or_begins_with_any (codes "/?#") (drop (host_and_port_length kind rest) rest)
 
 -- userinfo is next, with its `@`
 unfoldable pub passes_user : Kind → List ℕ → Bool
@@ -60,9 +49,8 @@ passes_user kind rest = starts at_sign (drop (userinfo_length kind rest) rest)
 
 -- an authority of any other form than a name
 unfoldable pub finds_other : Kind → List ℕ → Bool
-finds_other kind rest =
-    (starts left_bracket rest || passes_user kind rest) && finds_host kind
-    (text_from_host kind rest)
+finds_other kind rest = (starts left_bracket rest || passes_user kind rest)
+    && finds_host kind (text_from_host kind rest)
 
 -- an authority is next: a name and a port, or one of another form
 unfoldable pub finds_authority : Kind → List ℕ → Bool
@@ -83,9 +71,8 @@ parses_fragment kind rest =
 
 -- a query if there is one, and what follows it
 unfoldable pub parses_end : Kind → List ℕ → Bool
-parses_end kind rest =
-    if starts question_mark rest then parses_after kind.query (parses_fragment kind) (drop 1 rest)
-    else parses_fragment kind rest
+parses_end kind rest = if starts question_mark rest then parses_after kind.query
+    (parses_fragment kind) (drop 1 rest) else parses_fragment kind rest
 
 -- a path, and what follows it
 unfoldable pub parses_path : Kind → List ℕ → Bool
@@ -108,15 +95,12 @@ parses_hier_part kind rest =
 
 -- a text that has no scheme, of which so many characters are passed that may be in one
 unfoldable pub parses_schemeless : TableSet → Kind → ℕ → List ℕ → Bool
-parses_schemeless segment kind passed rest =
-    if passed == 0 && has_authority rest then parses_authority kind (drop 2 rest)
-    else parses_relative segment kind rest
+parses_schemeless segment kind passed rest = if passed == 0 && has_authority
+    rest then parses_authority kind (drop 2 rest) else parses_relative segment kind rest
 
 -- a whole text: a scheme and what follows it, or a text without a scheme
 unfoldable pub parses : TableSet → Kind → List ℕ → Bool
 parses segment kind text =
-    if starts colon (after scheme_set text)
-    then is_ascii_alphabetic (slice_index text 0)
-    && parses_hier_part kind (drop 1 (after scheme_set text))
-    else not kind.needs_scheme
+    if starts colon (after scheme_set text) then is_ascii_alphabetic (slice_index text 0)
+    && parses_hier_part kind (drop 1 (after scheme_set text)) else not kind.needs_scheme
     && parses_schemeless segment kind (valid_prefix scheme_set text) (after scheme_set text)

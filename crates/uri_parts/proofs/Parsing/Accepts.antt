@@ -1,14 +1,6 @@
 -- What the parser accepts is the grammar of its kind.
-use Rattle.std.proofs.Common.{◌≡◌, ℕ, Bool, true, false, eqb, List, [], ◌∷◌, drop, refl, sym, ap, ◌∙◌, arith, ◌&&◌, ⊎_elim, codes, IsUtf8}
-use Rattle.std.proofs.lemmas.Bool.{cases_Bool, cond-false, eq-eqb, eqb-true, ne_eqb, both_ways}
-use Rattle.std.proofs.Math.Bool.{and-true, or-false}
-use Rattle.std.proofs.lemmas.Bool.Decides.{nat_tests}
-use Rattle.uri_pct.specs.Sets.{TableSet, is_one_of}
-use Rattle.uri_pct.specs.Tokens.{is_valid_for}
-use Rattle.uri_pct.proofs.ValidTexts.MarksInTexts.{AreAscii-by-test, cut_leaves_mark_or_nothing, length_before_marks_counts_other_byte}
-use Rattle.uri_parts.specs.Components.{before_any, from_any, starts, when, after_query, is_end}
+use Rattle.uri_parts.proofs.Common.{◌≡◌, ℕ, Bool, true, false, eqb, List, [], ◌∷◌, drop, refl, sym, ap, ◌∙◌, arith, ◌&&◌, ⊎_elim, codes, IsUtf8, cases_Bool, cond-false, eq-eqb, eqb-true, ne_eqb, both_ways, and-true, or-false, nat_tests, TableSet, is_one_of, is_valid_for, AreAscii-by-test, cut_leaves_mark_or_nothing, length_before_marks_counts_other_byte, before_any, from_any, starts, when, after_query, is_end, Kind, absent_or_passes}
 use Rattle.uri_parts.proofs.Parsing.Acceptance.{parses_after, parses_fragment, parses_end, parses_path}
-use Rattle.uri_parts.specs.Grammar.{Kind, absent_or_passes}
 use Rattle.uri_parts.proofs.Parsing.ScanStops.{parses_after-is-valid-before-mark, utf8_from_marks, utf8_after_ascii_byte}
 use Rattle.uri_parts.proofs.TextKinds.Separations.{SeparatesComponents}
 
@@ -60,9 +52,8 @@ module _ (segment : TableSet) (kind : Kind) (w : SeparatesComponents segment kin
   unfolding is_end
   fragment-is-parsed-iff-valid bs u =
       let p = cut-at-no-marks-is-whole bs in
-      parses_after-is-valid-before-mark [] kind.fragment w.fragment_lacks refl is_end
-      (λ b rest _ _. refl) bs u
-      ∙ ap (λ xs. is_valid_for kind.fragment xs && is_end (from_any [] bs)) p.0
+      parses_after-is-valid-before-mark [] kind.fragment w.fragment_lacks refl is_end (λ b
+      rest _ _. refl) bs u ∙ ap (λ xs. is_valid_for kind.fragment xs && is_end (from_any [] bs)) p.0
       ∙ ap (λ xs. is_valid_for kind.fragment bs && is_end xs) p.1 ∙ and-true _
 
   pub parses_fragment-not-at-other : (b : ℕ) (rest : List ℕ) → eqb b 35 ≡ false
@@ -71,55 +62,47 @@ module _ (segment : TableSet) (kind : Kind) (w : SeparatesComponents segment kin
   parses_fragment-not-at-other b rest e = cond-false _ _ _ e
 
   fragment-at-hash-is-parsed-iff-valid : (b : ℕ) (rest : List ℕ) → eqb b 35 ≡ true
-      → IsUtf8 (b ∷ rest)
-      → parses_fragment kind (b ∷ rest) ≡ fragment_is_valid (b ∷ rest)
+      → IsUtf8 (b ∷ rest) → parses_fragment kind (b ∷ rest) ≡ fragment_is_valid (b ∷ rest)
   unfolding parses_fragment fragment_is_valid
-  fragment-at-hash-is-parsed-iff-valid b rest e u =
-      rw e (fragment-is-parsed-iff-valid rest
+  fragment-at-hash-is-parsed-iff-valid b rest e u = rw e (fragment-is-parsed-iff-valid rest
       (utf8_after_ascii_byte b rest (let d = eqb-true b 35 e in omega arith) u))
 
   fragment-after-cut-is-parsed-iff-valid : (bs : List ℕ) → IsUtf8 bs
       → parses_fragment kind (from_any (codes "#") bs) ≡ fragment_is_valid (from_any (codes "#") bs)
   unfolding parses_fragment fragment_is_valid is_end
-  fragment-after-cut-is-parsed-iff-valid bs u =
-      cut_leaves_mark_or_nothing (codes "#") (λ r. IsUtf8 r → parses_fragment kind r
-      ≡ fragment_is_valid r) (λ _. refl)
-      (λ b rest e. fragment-at-hash-is-parsed-iff-valid b rest
-      (eqb-is-symmetric b 35 (sym (one-of-hash-is-byte-35 b) ∙ e)))
-      bs (utf8_from_marks (codes "#") bs (AreAscii-by-test (codes "#") refl) u)
+  fragment-after-cut-is-parsed-iff-valid bs u = cut_leaves_mark_or_nothing
+      (codes "#") (λ r. IsUtf8 r → parses_fragment kind r ≡ fragment_is_valid r)
+      (λ _. refl) (λ b rest e. fragment-at-hash-is-parsed-iff-valid b rest
+      (eqb-is-symmetric b 35 (sym (one-of-hash-is-byte-35 b) ∙ e))) bs
+      (utf8_from_marks (codes "#") bs (AreAscii-by-test (codes "#") refl) u)
 
-  query-is-parsed-iff-valid-with-fragment : (rest : List ℕ) → IsUtf8 rest
-      → parses_after kind.query (parses_fragment kind) rest
-      ≡ (is_valid_for kind.query (before_any (codes "#") rest)
-      && fragment_is_valid (from_any (codes "#") rest))
+  query-is-parsed-iff-valid-with-fragment : (rest : List ℕ)
+      → IsUtf8 rest → parses_after kind.query (parses_fragment kind) rest ≡ (is_valid_for kind.query
+      (before_any (codes "#") rest) && fragment_is_valid (from_any (codes "#") rest))
   query-is-parsed-iff-valid-with-fragment rest u =
       parses_after-is-valid-before-mark (codes "#") kind.query w.query_lacks w.query_marks
-      (parses_fragment kind)
-      (λ b r e _. parses_fragment-not-at-other b r
+      (parses_fragment kind) (λ b r e _. parses_fragment-not-at-other b r
       (eqb-false-is-symmetric b 35 (sym (one-of-hash-is-byte-35 b) ∙ e))) rest u
-      ∙ ap (λ t. is_valid_for kind.query (before_any (codes "#") rest) && t)
-      (fragment-after-cut-is-parsed-iff-valid rest u)
+      ∙ ap (λ t. is_valid_for kind.query (before_any (codes "#") rest)
+      && t) (fragment-after-cut-is-parsed-iff-valid rest u)
 
   query-or-fragment-at-mark-is-parsed-iff-valid : (b : ℕ) (rest : List ℕ) → is_one_of (codes "?#") b
       ≡ true → IsUtf8 (b ∷ rest)
       → parses_end kind (b ∷ rest) ≡ query_and_fragment_are_valid (b ∷ rest)
   unfolding parses_end query_and_fragment_are_valid
-  query-or-fragment-at-mark-is-parsed-iff-valid b rest e u = ⊎_elim
-      (λ q. rw q (query-is-parsed-iff-valid-with-fragment rest
-      (utf8_after_ascii_byte b rest (let d = eqb-true b 63 q in omega arith) u)))
-      (λ q. rw q (fragment-at-hash-is-parsed-iff-valid b rest
-      (mark-that-is-no-question-is-hash b e q) u))
+  query-or-fragment-at-mark-is-parsed-iff-valid b rest e u =
+      ⊎_elim (λ q. rw q (query-is-parsed-iff-valid-with-fragment rest
+      (utf8_after_ascii_byte b rest (let d = eqb-true b 63 q in omega arith) u))) (λ q. rw q
+      (fragment-at-hash-is-parsed-iff-valid b rest (mark-that-is-no-question-is-hash b e q) u))
       (cases_Bool (eqb b 63))
 
-  query-and-fragment-after-cut-are-parsed-iff-valid : (bs : List ℕ) → IsUtf8 bs
-      → parses_end kind (from_any (codes "?#") bs)
-      ≡ query_and_fragment_are_valid (from_any (codes "?#") bs)
+  query-and-fragment-after-cut-are-parsed-iff-valid : (bs : List ℕ) → IsUtf8 bs → parses_end kind
+      (from_any (codes "?#") bs) ≡ query_and_fragment_are_valid (from_any (codes "?#") bs)
   unfolding parses_end query_and_fragment_are_valid parses_fragment fragment_is_valid is_end
-  query-and-fragment-after-cut-are-parsed-iff-valid bs u =
-      cut_leaves_mark_or_nothing (codes "?#") (λ r. IsUtf8 r → parses_end kind r
-      ≡ query_and_fragment_are_valid r) (λ _. refl)
-      (λ b rest e. query-or-fragment-at-mark-is-parsed-iff-valid b rest e)
-      bs (utf8_from_marks (codes "?#") bs (AreAscii-by-test (codes "?#") refl) u)
+  query-and-fragment-after-cut-are-parsed-iff-valid bs u = cut_leaves_mark_or_nothing
+      (codes "?#") (λ r. IsUtf8 r → parses_end kind r ≡ query_and_fragment_are_valid r)
+      (λ _. refl) (λ b rest e. query-or-fragment-at-mark-is-parsed-iff-valid b rest e) bs
+      (utf8_from_marks (codes "?#") bs (AreAscii-by-test (codes "?#") refl) u)
 
   pub parses_end-not-at-other : (b : ℕ) (rest : List ℕ) → is_one_of (codes "?#") b ≡ false
       → parses_end kind (b ∷ rest) ≡ false
@@ -128,14 +111,11 @@ module _ (segment : TableSet) (kind : Kind) (w : SeparatesComponents segment kin
       ∙ parses_fragment-not-at-other b rest (other-byte-is-no-question-or-hash b e).1
 
   -- paths
-  pub parses_path-is-valid-path-and-end : (bs : List ℕ) → IsUtf8 bs
-      → parses_path kind bs
-      ≡ (is_valid_for kind.path (before_any (codes "?#") bs) && query_and_fragment_are_valid
-      (from_any (codes "?#") bs))
+  pub parses_path-is-valid-path-and-end : (bs : List ℕ)
+      → IsUtf8 bs → parses_path kind bs ≡ (is_valid_for kind.path (before_any (codes "?#") bs)
+      && query_and_fragment_are_valid (from_any (codes "?#") bs))
   unfolding parses_path
-  parses_path-is-valid-path-and-end bs u =
-      parses_after-is-valid-before-mark (codes "?#") kind.path w.path_lacks w.path_marks
-      (parses_end kind)
-      (λ b r e _. parses_end-not-at-other b r e) bs u
-      ∙ ap (λ t. is_valid_for kind.path (before_any (codes "?#") bs) && t)
-      (query-and-fragment-after-cut-are-parsed-iff-valid bs u)
+  parses_path-is-valid-path-and-end bs u = parses_after-is-valid-before-mark (codes "?#") kind.path
+      w.path_lacks w.path_marks (parses_end kind) (λ b r e _. parses_end-not-at-other b r e) bs u
+      ∙ ap (λ t. is_valid_for kind.path (before_any (codes "?#") bs)
+      && t) (query-and-fragment-after-cut-are-parsed-iff-valid bs u)

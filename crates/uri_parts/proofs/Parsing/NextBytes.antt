@@ -1,16 +1,6 @@
 -- What is next at a position in a text.
-use Rattle.std.proofs.Common.{◌≡◌, ℕ, ◌+◌, ◌<◌, ◌≤◌, true, false, eqb, ltb, List, [], ◌∷◌, length, get_or, drop, refl, sym, ap, ◌∙◌, arith, ◌&&◌, ◌||◌, ⊎_elim, codes}
-use Rattle.std.proofs.lemmas.Bool.{cases_lt, cond-false, eq-eqb, ne_eqb}
-use Rattle.std.proofs.lemmas.List.{drop_more, drop_all, drop-drop}
-use Rattle.std.proofs.lemmas.Bool.Decides.{nat_tests}
-use Rattle.uri_pct.specs.Sets.{TableSet, is_one_of}
-use Rattle.uri_pct.specs.Prefixes.{valid_prefix, after}
+use Rattle.uri_parts.proofs.Common.{◌≡◌, ℕ, ◌+◌, ◌<◌, ◌≤◌, true, false, eqb, ltb, List, [], ◌∷◌, length, get_or, drop, refl, sym, ap, ◌∙◌, arith, ◌&&◌, ◌||◌, ⊎_elim, codes, cases_lt, cond-false, eq-eqb, ne_eqb, drop_more, drop_all, drop-drop, nat_tests, TableSet, is_one_of, valid_prefix, after, nothing_is_scanned_after_valid_prefix, unscanned_percent_has_no_hex_digits, starts, is_end, Kind, is_empty_or_begins_with_any, name_and_port_length, port_length}
 use Rattle.uri_pct.specs.Texts.{IsStrayPercent}
-use Rattle.uri_pct.proofs.ValidTexts.Prefixes.{nothing_is_scanned_after_valid_prefix}
-use Rattle.uri_pct.proofs.ValidTexts.PrefixSteps.{unscanned_percent_has_no_hex_digits}
-use Rattle.uri_parts.specs.Components.{starts, is_end}
-use Rattle.uri_parts.specs.Grammar.{Kind}
-use Rattle.uri_parts.specs.Models.AuthorityParsing.{is_empty_or_begins_with_any, name_and_port_length, port_length}
 
 -- parsing: what is left from index i begins with a byte exactly if this is the byte at i
 pub starts_at_position : (mark i : ℕ) (text : List ℕ)
@@ -21,23 +11,21 @@ starts_at_position mark i text = grind (arith, nat_tests, drop_more, drop_all)
 pub stray_percent_ends_scan : (set : TableSet) (text : List ℕ) (i n : ℕ) → set.pct_encoded ≡ true
     → n ≡ i + valid_prefix set (drop i text) → n < length text → get_or text n 0 ≡ 37
     → IsStrayPercent text n
-stray_percent_ends_scan set text i n o e h p =
-    grind (
-      arith,
-      nat_tests,
-      drop-drop (valid_prefix set (drop i text)) i text,
-      unscanned_percent_has_no_hex_digits,
-      nothing_is_scanned_after_valid_prefix set (drop i text),
-    )
+stray_percent_ends_scan set text i n o e h p = grind (
+  arith,
+  nat_tests,
+  drop-drop (valid_prefix set (drop i text)) i text,
+  unscanned_percent_has_no_hex_digits,
+  nothing_is_scanned_after_valid_prefix set (drop i text),
+)
 
 -- parsing: nothing is left exactly where the position is the length
 pub text_ends_where_position_is_length : (i : ℕ) (text : List ℕ) → i ≤ length text
     → is_end (drop i text) ≡ eqb i (length text)
 unfolding is_end
-text_ends_where_position_is_length i text l = ⊎_elim
-    (λ h. ap is_end (drop_more text i 0 h) ∙ sym (ne_eqb i (length text) (λ e. omega arith)))
-    (λ h. ap is_end (drop_all i text h) ∙ sym (eq-eqb i (length text) (omega arith)))
-    (cases_lt i (length text))
+text_ends_where_position_is_length i text l = ⊎_elim (λ h. ap is_end (drop_more text i 0 h)
+    ∙ sym (ne_eqb i (length text) (λ e. omega arith))) (λ h. ap is_end (drop_all i text h)
+    ∙ sym (eq-eqb i (length text) (omega arith))) (cases_lt i (length text))
 
 -- parsing: an authority ends at `/` (47), `?` (63) or `#` (35)
 authority-ends-at-slash-question-or-hash : (b : ℕ) → is_one_of (codes "/?#") b

@@ -1,17 +1,6 @@
 -- Where a scan for a set stops: at the first mark, or at a character that is neither.
-use Rattle.std.proofs.Common.{◌≡◌, ℕ, ◌<◌, Bool, true, false, not, List, [], ◌∷◌, length, get_or, drop, refl, sym, ap, ◌∙◌, arith, ◌&&◌, ⊎_elim, inl, inr, ◌⊎◌, IsUtf8}
-use Rattle.std.proofs.lemmas.Str.{IsUtf8-drop, IsCharBoundary-after_ascii}
-use Rattle.std.proofs.lemmas.List.{drop_more}
+use Rattle.uri_parts.proofs.Common.{◌≡◌, ℕ, ◌<◌, Bool, true, false, not, List, [], ◌∷◌, length, get_or, drop, refl, sym, ap, ◌∙◌, arith, ◌&&◌, ⊎_elim, inl, inr, ◌⊎◌, IsUtf8, IsUtf8-drop, IsCharBoundary-after_ascii, drop_more, and_right, and_parts, eqb-true, not-true, cases_eq, false≢true, nat_tests, TableSet, LacksPercent, is_one_of, is_valid_for, valid_prefix, after, excludes, excluded_mark_is_no_percent, cut, valid_prefix-ends-by-mark, AreAscii, length_before_marks, first_mark_is_at_boundary, cut_leaves_mark_or_nothing, nothing_is_scanned_after_valid_prefix, before_any, from_any, starts, has_authority}
 use Rattle.std.proofs.lemmas.List.Sums.{prefix_len-le-length, prefix_len_passes}
-use Rattle.std.proofs.lemmas.Bool.{and_right, and_parts, eqb-true, not-true, cases_eq, false≢true}
-use Rattle.std.proofs.lemmas.Bool.Decides.{nat_tests}
-use Rattle.uri_pct.specs.Sets.{TableSet, LacksPercent, is_one_of}
-use Rattle.uri_pct.specs.Tokens.{is_valid_for}
-use Rattle.uri_pct.specs.Prefixes.{valid_prefix, after}
-use Rattle.uri_pct.proofs.ValidTexts.Cuts.{excludes, excluded_mark_is_no_percent, cut, valid_prefix-ends-by-mark}
-use Rattle.uri_pct.proofs.ValidTexts.MarksInTexts.{AreAscii, length_before_marks, first_mark_is_at_boundary, cut_leaves_mark_or_nothing}
-use Rattle.uri_pct.proofs.ValidTexts.Prefixes.{nothing_is_scanned_after_valid_prefix}
-use Rattle.uri_parts.specs.Components.{before_any, from_any, starts, has_authority}
 use Rattle.uri_parts.proofs.Parsing.Acceptance.{is_stray, parses_after}
 
 -- parsing: a text in UTF-8 is UTF-8 from its first ASCII delimiter on
@@ -80,18 +69,15 @@ module _ (marks : List ℕ) (set : TableSet) (lacks : LacksPercent set)
       (λ b rest m. and_right _ _ (excluded_mark_is_no_percent set marks outside b m)) bs
 
   -- what a test takes after the longest prefix, where it takes nothing but the end and marks
-  pub parses_after-is-valid-before-mark : (test : List ℕ → Bool)
-      → ((b : ℕ) (rest : List ℕ) → is_one_of marks b ≡ false → valid_prefix set (b ∷ rest) ≡ 0
-      → test (b ∷ rest) ≡ false)
-      → (bs : List ℕ) → IsUtf8 bs
-      → parses_after set test bs
+  pub parses_after-is-valid-before-mark : (test : List ℕ → Bool) → ((b : ℕ) (rest : List ℕ)
+      → is_one_of marks b ≡ false → valid_prefix set (b ∷ rest) ≡ 0 → test (b ∷ rest) ≡ false)
+      → (bs : List ℕ) → IsUtf8 bs → parses_after set test bs
       ≡ (is_valid_for set (before_any marks bs) && test (from_any marks bs))
-  parses_after-is-valid-before-mark test stuck bs u =
-      grind (
-        arith,
-        nat_tests,
-        is_stray,
-        no-stray-percent-at-mark,
-        cut,
-        scan-stops-at-first-mark-or-within,
-      )
+  parses_after-is-valid-before-mark test stuck bs u = grind (
+    arith,
+    nat_tests,
+    is_stray,
+    no-stray-percent-at-mark,
+    cut,
+    scan-stops-at-first-mark-or-within,
+  )

@@ -1,8 +1,5 @@
 -- Where the scheme of a text ends that begins with `http:` or `https:`.
-use Rattle.std.proofs.Common.{◌≡◌, ℕ, ◌+◌, ◌<◌, List, ◌∷◌, length, get_or, drop, refl, sym, ap, ◌∙◌, arith}
-use Rattle.std.proofs.lemmas.List.{drop_more, drop-drop}
-use Rattle.uri_pct.specs.Prefixes.{valid_prefix, valid_prefix_from, allows_first}
-use Rattle.uri_pct.specs.Sets.{scheme_set}
+use Rattle.uri_parts.proofs.Common.{◌≡◌, ℕ, ◌+◌, ◌<◌, List, ◌∷◌, length, get_or, drop, refl, sym, ap, ◌∙◌, arith, drop_more, drop-drop, valid_prefix, valid_prefix_from, allows_first, scheme_set}
 
 -- parsing: what is left of a text from a byte on
 from_byte : (text : List ℕ) (i b : ℕ) (rest : List ℕ) → i < length text → get_or text i 0 ≡ b
@@ -17,11 +14,9 @@ module _ (text : List ℕ) where
   unfolding valid_prefix_from allows_first
   scheme_of_http_ends_at_4 long h t u p colon =
       let same : text ≡ 104 ∷ 116 ∷ 116 ∷ 112 ∷ 58 ∷ drop 5 text =
-      from_byte text 0 104 _ (omega (arith, long)) h
-      (from_byte text 1 116 _ (omega (arith, long)) t
-      (from_byte text 2 116 _ (omega (arith, long)) u
-      (from_byte text 3 112 _ (omega (arith, long)) p
-      (from_byte text 4 58 _ (omega (arith, long)) colon refl)))) in
+      from_byte text 0 104 _ (omega (arith, long)) h (from_byte text 1 116 _ (omega (arith, long)) t
+      (from_byte text 2 116 _ (omega (arith, long)) u (from_byte text 3 112 _
+      (omega (arith, long)) p (from_byte text 4 58 _ (omega (arith, long)) colon refl)))) in
       sym (ap (valid_prefix scheme_set) same)
 
   -- parsing: the scheme of a text that begins with `https:`
@@ -30,13 +25,10 @@ module _ (text : List ℕ) where
       → get_or text 5 0 ≡ 58 → 5 ≡ valid_prefix scheme_set text
   unfolding valid_prefix_from allows_first
   scheme_of_https_ends_at_5 long h t u p s colon =
-      let same : text ≡ 104 ∷ 116 ∷ 116 ∷ 112 ∷ 115 ∷ 58 ∷ drop 6 text =
-      from_byte text 0 104 _ (omega (arith, long)) h
-      (from_byte text 1 116 _ (omega (arith, long)) t
-      (from_byte text 2 116 _ (omega (arith, long)) u
-      (from_byte text 3 112 _ (omega (arith, long)) p
-      (from_byte text 4 115 _ (omega (arith, long)) s
-      (from_byte text 5 58 _ (omega (arith, long)) colon refl))))) in
+      let same : text ≡ 104 ∷ 116 ∷ 116 ∷ 112 ∷ 115 ∷ 58 ∷ drop 6 text = from_byte text 0 104 _
+      (omega (arith, long)) h (from_byte text 1 116 _ (omega (arith, long)) t (from_byte text 2 116
+      _ (omega (arith, long)) u (from_byte text 3 112 _ (omega (arith, long)) p (from_byte text 4
+      115 _ (omega (arith, long)) s (from_byte text 5 58 _ (omega (arith, long)) colon refl))))) in
       sym (ap (valid_prefix scheme_set) same)
 
 -- parsing: what is left after a scheme, its `:` and `//`

@@ -1,22 +1,5 @@
 -- A text has no error exactly where it is parsed.
-use Rattle.std.proofs.Common.{◌≡◌, ℕ, ◌+◌, Bool, true, false, not, cond, eqb, List, drop, Some, ap, None, refl, subst, ◌∙◌, arith, lit<, ⊎_elim, ◌&&◌, zero-add, add-zero, add_assoc, drop-drop}
-use Rattle.std.proofs.Math.Bool.{and-false, and-true, and_assoc}
-use Rattle.std.specs.Prelude.{Ok, Err, codes, is_none, is_ok, Result}
-use Rattle.std.specs.Result.{result_err}
-use Rattle.std.specs.Str.{IsUtf8}
-use Rattle.std.proofs.lemmas.Bool.{cases_Bool, and_left, and_right, not_from_false, and_parts}
-use Rattle.std.proofs.lemmas.Str.{IsUtf8-drop}
-use Rattle.std.proofs.lemmas.Bool.Decides.{nat_tests}
-use Rattle.uri_pct.specs.Sets.{TableSet, scheme_set}
-use Rattle.uri_pct.specs.Prefixes.{valid_prefix}
-use Rattle.uri_pct.proofs.ValidTexts.LongestPrefixes.{valid_prefix_ends_at_boundary}
-use Rattle.uri_parts.specs.declared.error.ParseError.{ParseError}
-use Rattle.uri_parts.specs.Components.{starts, has_authority}
-use Rattle.uri_parts.specs.Grammar.{Kind}
-use Rattle.uri_parts.specs.Refusals.{OptionalParseError, ◌>>=◌, error_from_end, error_from_fragment, error_from_query, error_from_path, error_from_relative_path}
-use Rattle.uri_parts.specs.Scanning.{is_next, scan_end, scan}
-use Rattle.uri_parts.specs.Models.AuthorityParsing.{is_empty_or_begins_with_any, port_length, name_and_port_length, name_ends_authority, host_end, host_and_port_length, userinfo_length, further_userinfo_length, host_offset, other_authority_length, found_authority_length}
-use Rattle.uri_parts.specs.Models.ParseErrors.{left_over_error, name_error, error_after_port, port_error, host_error, userinfo_error, parsed_error, other_authority_error, authority_error, hier_part_error, schemeless_error}
+use Rattle.uri_parts.proofs.Common.{◌≡◌, ℕ, ◌+◌, Bool, true, false, not, cond, eqb, List, drop, Some, ap, None, refl, subst, ◌∙◌, arith, lit<, ⊎_elim, ◌&&◌, zero-add, add-zero, add_assoc, drop-drop, and-false, and-true, and_assoc, Ok, Err, codes, is_none, is_ok, Result, result_err, IsUtf8, cases_Bool, and_left, and_right, not_from_false, and_parts, IsUtf8-drop, nat_tests, TableSet, scheme_set, valid_prefix, valid_prefix_ends_at_boundary, ParseError, starts, has_authority, Kind, OptionalParseError, ◌>>=◌, error_from_end, error_from_fragment, error_from_query, error_from_path, error_from_relative_path, is_next, scan_end, scan, is_empty_or_begins_with_any, port_length, name_and_port_length, name_ends_authority, host_end, host_and_port_length, userinfo_length, further_userinfo_length, host_offset, other_authority_length, found_authority_length, left_over_error, name_error, error_after_port, port_error, host_error, userinfo_error, parsed_error, other_authority_error, authority_error, hier_part_error, schemeless_error}
 use Rattle.uri_parts.proofs.Parsing.Acceptance.{passes_host, finds_host, passes_user, finds_other, finds_authority, parses_fragment, parses_end, parses_path, parses_authority, parses_relative, parses_hier_part, parses_schemeless, parses}
 use Rattle.uri_parts.proofs.Authorities.UserinfoLengths.{userinfo_length-is-valid_prefix}
 use Rattle.uri_parts.proofs.Parsing.ScanStops.{utf8_after_mark, utf8_after_slashes}
@@ -58,19 +41,16 @@ cond-of-false-is-not-and false x = refl
 
 -- parse errors: a step that must pass a test b to go on has no
 -- error exactly if it passes, and the next has none
-step-without-error-needs-test-and-next : (b : Bool) (n : ℕ) (e : ParseError)
-    (next : ℕ → OptionalParseError)
-    → is_none (cond b (Ok n) (Err e) >>= next) ≡ (b && is_none (next n))
+step-without-error-needs-test-and-next : (b : Bool) (n : ℕ) (e : ParseError) (next : ℕ
+    → OptionalParseError) → is_none (cond b (Ok n) (Err e) >>= next) ≡ (b && is_none (next n))
 step-without-error-needs-test-and-next true n e next = refl
 step-without-error-needs-test-and-next false n e next = refl
 
 -- parse errors: a scan and what is next have no error exactly if no `%` without digits stops the
 -- scan, and the next has none
-scan-has-no-error-iff-no-stray-percent : (text : List ℕ) (set : TableSet)
-    (next : ℕ → OptionalParseError) (i : ℕ)
-    → is_none (scan text set i >>= next)
-    ≡ (not (set.pct_encoded && is_next text 37 (scan_end text set i))
-    && is_none (next (scan_end text set i)))
+scan-has-no-error-iff-no-stray-percent : (text : List ℕ) (set : TableSet) (next : ℕ
+    → OptionalParseError) (i : ℕ) → is_none (scan text set i >>= next) ≡ (not (set.pct_encoded
+    && is_next text 37 (scan_end text set i)) && is_none (next (scan_end text set i)))
 scan-has-no-error-iff-no-stray-percent text set next i = ap is_none
     (scan-stops-at-stray-percent-or-goes-on text set i next)
     ∙ simp (is_none-of-cond, some-error-is-not-none, cond-of-false-is-not-and) refl
@@ -110,9 +90,8 @@ module _ (kind : Kind) (text : List ℕ) where
   unfolding error_from_path parses_path
   no-path-error-iff-parsed i = simp (steps, no-query-error-iff-parsed) refl
 
-  no-relative-path-error-iff-parsed : (segment : TableSet) (i : ℕ)
-      → is_none (error_from_relative_path kind text segment i)
-      ≡ parses_relative segment kind (drop i text)
+  no-relative-path-error-iff-parsed : (segment : TableSet) (i : ℕ) → is_none
+      (error_from_relative_path kind text segment i) ≡ parses_relative segment kind (drop i text)
   unfolding error_from_relative_path parses_relative
   no-relative-path-error-iff-parsed segment i = simp (steps, no-path-error-iff-parsed) refl
 
@@ -141,8 +120,7 @@ module _ (kind : Kind) (text : List ℕ) where
   no-host-error-iff-parsed : (i : ℕ) → IsUtf8 (drop i text)
       → is_none (host_error kind text i) ≡ from_length (drop i text)
   unfolding host_error finds_host passes_host host_and_port_length host_end
-  no-host-error-iff-parsed i u = ⊎_elim
-      (λ (e : starts 91 (drop i text) ≡ true).
+  no-host-error-iff-parsed i u = ⊎_elim (λ (e : starts 91 (drop i text) ≡ true).
       let (x, l) = literal-ends-as-parsed text (i + 1) (subst IsUtf8 (drop-drop 1 i text)
       (utf8_after_mark 91 (lit< tt) (drop i text) e u)) in
       simp (
@@ -152,9 +130,8 @@ module _ (kind : Kind) (text : List ℕ) where
         no-port-error-iff-parsed,
         steps,
         add_assoc,
-      ) refl)
-      (λ (e : starts 91 (drop i text) ≡ false). simp (e, no-port-error-iff-parsed, steps, add_assoc)
-      refl)
+      ) refl) (λ (e : starts 91 (drop i text)
+      ≡ false). simp (e, no-port-error-iff-parsed, steps, add_assoc) refl)
       (cases_Bool (starts 91 (drop i text)))
 
   -- where userinfo ends
@@ -182,71 +159,59 @@ module _ (kind : Kind) (text : List ℕ) where
         let d = ap (further_userinfo_length kind)
         (drop-drop (name_and_port_length kind rest) i text) in
         let long : i + n ≡ end = omega (arith, a, d) in
-        no-host-error-iff-parsed (end + 1) (subst IsUtf8 (drop-drop 1 end text)
-        (utf8_after_mark 64 (lit< tt) (drop end text) e
-        (subst IsUtf8 (drop-drop n i text ∙ ap (λ k. drop k text) long)
-        (IsUtf8-drop rest n u (valid_prefix_ends_at_boundary kind.userinfo w.userinfo_lacks
-        rest u)))))
+        no-host-error-iff-parsed (end + 1)
+        (subst IsUtf8 (drop-drop 1 end text) (utf8_after_mark 64 (lit< tt) (drop end text) e
+        (subst IsUtf8 (drop-drop n i text ∙ ap (λ k. drop k text) long) (IsUtf8-drop rest n u
+        (valid_prefix_ends_at_boundary kind.userinfo w.userinfo_lacks rest u)))))
 
     no-other-authority-error-iff-found : (i : ℕ) → IsUtf8 (drop i text)
-        → is_none (other_authority_error kind text i)
-        ≡ (finds_other kind (drop i text)
+        → is_none (other_authority_error kind text i) ≡ (finds_other kind (drop i text)
         && parses_path kind (drop (other_authority_length kind (drop i text)) (drop i text)))
     unfolding other_authority_error finds_other other_authority_length host_offset passes_user
         userinfo_length
     no-other-authority-error-iff-found i u =
         let at : ℕ = i + name_and_port_length kind (drop i text) in
-        let end : ℕ = user at in ⊎_elim
-        (λ (b : starts 91 (drop i text) ≡ true).
-        simp (b, no-host-error-iff-parsed i u, steps, zero-add, add-zero, add_assoc) refl)
-        (λ (b : starts 91 (drop i text) ≡ false). ⊎_elim
-        (λ (e : starts 64 (drop end text) ≡ true).
+        let end : ℕ = user at in ⊎_elim (λ (b : starts 91 (drop i text)
+        ≡ true). simp (b, no-host-error-iff-parsed i u, steps, zero-add, add-zero, add_assoc) refl)
+        (λ (b : starts 91 (drop i text) ≡ false). ⊎_elim (λ (e : starts 64 (drop end text) ≡ true).
         let h = simp add_assoc at (no-userinfo-error-iff-at-sign-and-host at
         ∙ ap (λ t. t && is_none (host_error kind text (end + 1))) e
         ∙ no-host-error-after-userinfo-iff-parsed i u e) in
-        simp (b, h, simp add_assoc at e, steps, add_assoc) refl)
-        (λ (e : starts 64 (drop end text) ≡ false).
-        simp (
+        simp (b, h, simp add_assoc at e, steps, add_assoc)
+        refl) (λ (e : starts 64 (drop end text) ≡ false). simp (
           b,
-          no-userinfo-error-iff-at-sign-and-host at
-              ∙ and_left _ _ e,
+          no-userinfo-error-iff-at-sign-and-host at ∙ and_left _ _ e,
           simp add_assoc at e,
           steps,
           add_assoc,
-        ) refl)
-        (cases_Bool (starts 64 (drop end text))))
-        (cases_Bool (starts 91 (drop i text)))
+        ) refl) (cases_Bool (starts 64 (drop end text)))) (cases_Bool (starts 91 (drop i text)))
 
     no-authority-error-iff-parsed : (i : ℕ) → IsUtf8 (drop i text)
         → is_none (authority_error kind text i) ≡ parses_authority kind (drop i text)
     unfolding authority_error parses_authority finds_authority found_authority_length
-    no-authority-error-iff-parsed i u = ⊎_elim
-        (λ (e : name_ends_authority kind (drop i text) ≡ true). simp
-        (e, no-path-error-iff-parsed, steps) refl)
-        (λ (e : name_ends_authority kind (drop i text) ≡ false). simp
-        (e, no-other-authority-error-iff-found i u, steps) refl)
+    no-authority-error-iff-parsed i u = ⊎_elim (λ (e : name_ends_authority kind (drop i text)
+        ≡ true). simp (e, no-path-error-iff-parsed, steps) refl)
+        (λ (e : name_ends_authority kind (drop i text)
+        ≡ false). simp (e, no-other-authority-error-iff-found i u, steps) refl)
         (cases_Bool (name_ends_authority kind (drop i text)))
 
     no-error-after-slashes-iff-parsed : (i : ℕ) → IsUtf8 (drop i text) → has_authority (drop i text)
         ≡ true
         → is_none (authority_error kind text (i + 2)) ≡ parses_authority kind (drop (i + 2) text)
-    no-error-after-slashes-iff-parsed i u a =
-        no-authority-error-iff-parsed (i + 2) (subst IsUtf8 (drop-drop 2 i text)
-        (utf8_after_slashes (drop i text) a u))
+    no-error-after-slashes-iff-parsed i u a = no-authority-error-iff-parsed
+        (i + 2) (subst IsUtf8 (drop-drop 2 i text) (utf8_after_slashes (drop i text) a u))
 
     no-hier-part-error-iff-parsed : (i : ℕ) → IsUtf8 (drop i text)
         → is_none (hier_part_error kind text i) ≡ parses_hier_part kind (drop i text)
     unfolding hier_part_error parses_hier_part
-    no-hier-part-error-iff-parsed i u = ⊎_elim
-        (λ (a : has_authority (drop i text) ≡ true). simp
-        (a, no-error-after-slashes-iff-parsed i u a, steps) refl)
-        (λ (a : has_authority (drop i text) ≡ false). simp
-        (a, no-path-error-iff-parsed, steps) refl)
+    no-hier-part-error-iff-parsed i u = ⊎_elim (λ (a : has_authority (drop i text)
+        ≡ true). simp (a, no-error-after-slashes-iff-parsed i u a, steps) refl)
+        (λ (a : has_authority (drop i text)
+        ≡ false). simp (a, no-path-error-iff-parsed, steps) refl)
         (cases_Bool (has_authority (drop i text)))
 
-    no-schemeless-error-iff-parsed : (i : ℕ) → IsUtf8 (drop i text)
-        → is_none (schemeless_error segment kind text i)
-        ≡ parses_schemeless segment kind i (drop i text)
+    no-schemeless-error-iff-parsed : (i : ℕ) → IsUtf8 (drop i text) → is_none
+        (schemeless_error segment kind text i) ≡ parses_schemeless segment kind i (drop i text)
     unfolding schemeless_error parses_schemeless
     no-schemeless-error-iff-parsed i u = ⊎_elim
         (λ (a : (eqb i 0 && has_authority (drop i text)) ≡ true).
@@ -268,7 +233,6 @@ module _ (kind : Kind) (text : List ℕ) where
               (utf8_after_mark 58 (lit< tt) (drop n text) e v)),
           steps,
           zero-add,
-        ) refl)
-        (λ (e : starts 58 (drop n text) ≡ false). simp
-        (e, no-schemeless-error-iff-parsed n v, steps, zero-add) refl)
+        ) refl) (λ (e : starts 58 (drop n text)
+        ≡ false). simp (e, no-schemeless-error-iff-parsed n v, steps, zero-add) refl)
         (cases_Bool (starts 58 (drop n text)))

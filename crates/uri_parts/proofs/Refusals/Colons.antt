@@ -1,10 +1,5 @@
 -- The last `:` before a position.
-use Rattle.std.proofs.Common.{◌≡◌, ℕ, zero, suc, ◌+◌, ◌-◌, ◌<◌, ◌≤◌, true, false, List, length, get_or, drop, ap, ◌∙◌, arith, ⊎_elim, ◌⊎◌, inl, inr, add-one, add-zero}
-use Rattle.std.proofs.lemmas.Bool.{cases_Bool, cond-true, cond-false, eq-eqb, ne_eqb}
-use Rattle.std.proofs.lemmas.List.{drop_more}
-use Rattle.std.proofs.lemmas.Bool.Decides.{nat_tests}
-use Rattle.uri_parts.specs.Components.{starts}
-use Rattle.uri_parts.specs.Refusals.{last_colon}
+use Rattle.uri_parts.proofs.Common.{◌≡◌, ℕ, zero, suc, ◌+◌, ◌-◌, ◌<◌, ◌≤◌, true, false, List, length, get_or, drop, ap, ◌∙◌, arith, ⊎_elim, ◌⊎◌, inl, inr, add-one, add-zero, cases_Bool, cond-true, cond-false, eq-eqb, ne_eqb, drop_more, nat_tests, starts, last_colon}
 
 -- parse errors: a `:` (58) at i begins what is left there
 colon-byte-begins-suffix : (text : List ℕ) (i : ℕ) → i < length text → get_or text i 0 ≡ 58
@@ -37,8 +32,7 @@ last_colon-at-colon text (suc i) n l k e c =
 
 -- parse errors: another byte than `:` (58) leaves the last `:` before it where it was
 pub last_colon-stays-past-other-byte : (text : List ℕ) (i n : ℕ) → 0 < i → i ≤ length text
-    → n ≡ i - 1
-    → (get_or text n 0 ≡ 58 → ⊥) → last_colon text i ≡ last_colon text n
+    → n ≡ i - 1 → (get_or text n 0 ≡ 58 → ⊥) → last_colon text i ≡ last_colon text n
 last_colon-stays-past-other-byte text zero n l k e c = absurd (omega arith)
 last_colon-stays-past-other-byte text (suc i) n l k e c =
     grind (arith, nat_tests, last_colon-skips-other-byte)
@@ -61,9 +55,8 @@ unfolding last_colon
 last_colon-after-colon-is-that-colon text n e = ap (last_colon text) (add-one n) ∙ cond-true _ _ _ e
 
 -- parse errors: after k bytes without a `:` (58), the last one is that before them
-pub last_colon-without-colons-after : (text : List ℕ) (n k : ℕ)
-    → ((j : ℕ) → j < k → starts 58 (drop (n + j) text) ≡ false)
-    → last_colon text (n + k) ≡ last_colon text n
+pub last_colon-without-colons-after : (text : List ℕ) (n k : ℕ) → ((j : ℕ)
+    → j < k → starts 58 (drop (n + j) text) ≡ false) → last_colon text (n + k) ≡ last_colon text n
 unfolding last_colon
 last_colon-without-colons-after text n zero h = ap (last_colon text) (add-zero n)
 last_colon-without-colons-after text n (suc k) h =
@@ -79,8 +72,6 @@ last_colon-same-or-later text n zero = inl (ap (last_colon text) (add-zero n))
 last_colon-same-or-later text n (suc k) =
     let s : n + suc k ≡ suc (n + k) = omega arith in
     let e = ap (last_colon text) s in
-    ⊎_elim
-    (λ c. inr (let t = e ∙ cond-true _ _ _ c in omega (arith, t)))
-    (λ c. let t = e ∙ cond-false _ _ _ c in ⊎_elim (λ h. inl (t ∙ h))
-    (λ h. inr (omega (arith, t, h))) (last_colon-same-or-later text n k))
-    (cases_Bool (starts 58 (drop (n + k) text)))
+    ⊎_elim (λ c. inr (let t = e ∙ cond-true _ _ _ c in omega (arith, t))) (λ c. let t = e
+    ∙ cond-false _ _ _ c in ⊎_elim (λ h. inl (t ∙ h)) (λ h. inr (omega (arith, t, h)))
+    (last_colon-same-or-later text n k)) (cases_Bool (starts 58 (drop (n + k) text)))

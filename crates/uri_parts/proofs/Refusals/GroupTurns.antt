@@ -1,8 +1,5 @@
 -- One turn of reading the groups of an IPv6 address.
-use Rattle.std.proofs.Common.{◌≡◌, ◌≢◌, ℕ, zero, suc, ◌+◌, ◌-◌, Bool, true, false, not, cond, eqb, List, [], ◌∷◌, drop, refl, sym, ap, ◌∙◌, arith, ◌&&◌, ◌||◌, nat_lt}
-use Rattle.std.proofs.lemmas.Bool.{cond-true, cond-false, eq-eqb, ne_eqb, not_from_false, not_from_true, false≢true}
-use Rattle.uri_parts.specs.Components.{starts, is_end}
-use Rattle.uri_parts.specs.LiteralErrors.{Groups, Groups_end, Elision, Malformed, digits_end, ipv4_end, after_ipv4, groups_from}
+use Rattle.uri_parts.proofs.Common.{◌≡◌, ◌≢◌, ℕ, zero, suc, ◌+◌, ◌-◌, Bool, true, false, not, cond, eqb, List, [], ◌∷◌, drop, refl, sym, ap, ◌∙◌, arith, ◌&&◌, ◌||◌, nat_lt, cond-true, cond-false, eq-eqb, ne_eqb, not_from_false, not_from_true, false≢true, starts, is_end, Groups, Groups_end, Elision, Malformed, digits_end, ipv4_end, after_ipv4, groups_from}
 
 -- parse errors: a text that begins with a mark is not at its end
 pub text-with-mark-is-not-ended : (mark : ℕ) (xs : List ℕ) → starts mark xs ≡ true
@@ -28,15 +25,12 @@ module _ (text : List ℕ) (n r : ℕ) (is_first : Bool) (i group end : ℕ) (e 
   short = nat_lt end (group + 4)
 
   abbrev body : ℕ → ℕ → ℕ → ℕ → Groups
-  body m k start last =
-      cond (eqb last start)
-      (cond (not colon) (Groups_end m i)
-      (cond (starts 58 (drop start text)) (Elision m (start + 1)) Malformed))
-      (cond (nat_lt last (start + 4) && is_end (drop last text)) (Groups_end m last)
-      (cond (colon && is_first || not colon && not is_first) Malformed
-      (cond (nat_lt last (start + 4) && starts 46 (drop last text))
-      (cond (eqb k 0) Malformed (after_ipv4 text (k - 1) (ipv4_end text start)))
-      (groups_from text k false last))))
+  body m k start last = cond (eqb last start) (cond (not colon)
+      (Groups_end m i) (cond (starts 58 (drop start text)) (Elision m (start + 1)) Malformed))
+      (cond (nat_lt last (start + 4) && is_end (drop last text))
+      (Groups_end m last) (cond (colon && is_first || not colon && not is_first) Malformed
+      (cond (nat_lt last (start + 4) && starts 46 (drop last text)) (cond (eqb k 0) Malformed
+      (after_ipv4 text (k - 1) (ipv4_end text start))) (groups_from text k false last))))
 
   groups_from-takes-one-turn : groups_from text n is_first i ≡ body n r group end
   unfolding groups_from
@@ -44,8 +38,7 @@ module _ (text : List ℕ) (n r : ℕ) (is_first : Bool) (i group end : ℕ) (e 
       let s : n ≡ suc r = omega arith in
       ap (λ m. groups_from text m is_first i) s
       ∙ ap (λ k. body (suc r) r k (digits_end text 16 4 k)) (sym g)
-      ∙ ap (body (suc r) r group) (sym l)
-      ∙ ap (λ m. body m r group end) (sym s)
+      ∙ ap (body (suc r) r group) (sym l) ∙ ap (λ m. body m r group end) (sym s)
 
   module _ (none : end ≡ group) where
     pub groups_from-ends-without-group : colon ≡ false → groups_from text n is_first i
@@ -55,15 +48,13 @@ module _ (text : List ℕ) (n r : ℕ) (is_first : Bool) (i group end : ℕ) (e 
 
     pub groups_from-elides-at-two-colons : colon ≡ true → starts 58 (drop group text) ≡ true
         → groups_from text n is_first i ≡ Elision n (group + 1)
-    groups_from-elides-at-two-colons c d = groups_from-takes-one-turn
-        ∙ cond-true _ _ _ (eq-eqb end group none)
-        ∙ cond-false _ _ _ (not_from_true _ c) ∙ cond-true _ _ _ d
+    groups_from-elides-at-two-colons c d = groups_from-takes-one-turn ∙ cond-true _ _ _
+        (eq-eqb end group none) ∙ cond-false _ _ _ (not_from_true _ c) ∙ cond-true _ _ _ d
 
     pub groups_from-rejects-lone-colon : colon ≡ true → starts 58 (drop group text) ≡ false
         → groups_from text n is_first i ≡ Malformed
-    groups_from-rejects-lone-colon c d = groups_from-takes-one-turn
-        ∙ cond-true _ _ _ (eq-eqb end group none)
-        ∙ cond-false _ _ _ (not_from_true _ c) ∙ cond-false _ _ _ d
+    groups_from-rejects-lone-colon c d = groups_from-takes-one-turn ∙ cond-true _ _ _
+        (eq-eqb end group none) ∙ cond-false _ _ _ (not_from_true _ c) ∙ cond-false _ _ _ d
 
   module _ (some : end ≢ group) where
     pub groups_from-ends-with-text : (short && is_end (drop end text)) ≡ true
@@ -73,16 +64,13 @@ module _ (text : List ℕ) (n r : ℕ) (is_first : Bool) (i group end : ℕ) (e 
 
     module _ (within : (short && is_end (drop end text)) ≡ false) where
       pub groups_from-rejects-misplaced-colon : (colon && is_first || not colon && not is_first)
-          ≡ true
-          → groups_from text n is_first i ≡ Malformed
+          ≡ true → groups_from text n is_first i ≡ Malformed
       groups_from-rejects-misplaced-colon a = groups_from-takes-one-turn
-          ∙ cond-false _ _ _ (ne_eqb end group some) ∙ cond-false _ _ _ within
-          ∙ cond-true _ _ _ a
+          ∙ cond-false _ _ _ (ne_eqb end group some) ∙ cond-false _ _ _ within ∙ cond-true _ _ _ a
 
       module _ (apart : (colon && is_first || not colon && not is_first) ≡ false) where
-        pub groups_from-rejects-ipv4-without-room : (short && starts 46 (drop end text))
-            ≡ true → r ≡ 0
-            → groups_from text n is_first i ≡ Malformed
+        pub groups_from-rejects-ipv4-without-room : (short && starts 46 (drop end text)) ≡ true
+            → r ≡ 0 → groups_from text n is_first i ≡ Malformed
         groups_from-rejects-ipv4-without-room d z = groups_from-takes-one-turn
             ∙ cond-false _ _ _ (ne_eqb end group some) ∙ cond-false _ _ _ within
             ∙ cond-false _ _ _ apart ∙ cond-true _ _ _ d ∙ cond-true _ _ _ (eq-eqb r 0 z)

@@ -1,14 +1,5 @@
 -- Where digits, an octet and an IPv4 address end, in a text at a position.
-use Rattle.std.proofs.Common.{◌≡◌, ◌≢◌, ℕ, suc, ◌+◌, ◌-◌, ◌<◌, ◌≤◌, false, List, [], ◌∷◌, ◌++◌, sym, length, get_or, take, drop, decimal, Some, refl, ap, ◌∙◌, arith, lit≤, ⊎_elim, append-nil, length-append, take_at, drop_at, lit<, slice_range, nat_le, option_and_then, drop-drop}
-use Rattle.std.specs.Str.Parse.{AllDigits, digits_value}
-use Rattle.std.specs.Net.Grammar.{IsDotted}
-use Rattle.std.specs.Net.Text.{dotted_text}
-use Rattle.std.proofs.lemmas.Bool.{cond-true, cond-false, cases_lt, and_from, ne_eqb, lt-ltb, le-leb}
-use Rattle.std.proofs.lemmas.Fmt.{decimal_is_IsNumeral, decimal_digit, first_decimal, length-decimal-le}
-use Rattle.std.proofs.NetLemmas.Numbers.{NoDigit, digit_count-append, digit_count_none}
-use Rattle.std.proofs.lemmas.Bool.Decides.{nat_tests}
-use Rattle.uri_parts.specs.Components.{starts}
-use Rattle.uri_parts.specs.LiteralErrors.{digits_end, octet_end, octets_end, ipv4_end}
+use Rattle.uri_parts.proofs.Common.{◌≡◌, ◌≢◌, ℕ, suc, ◌+◌, ◌-◌, ◌<◌, ◌≤◌, false, List, [], ◌∷◌, ◌++◌, sym, length, get_or, take, drop, decimal, Some, refl, ap, ◌∙◌, arith, lit≤, ⊎_elim, append-nil, length-append, take_at, drop_at, lit<, slice_range, nat_le, option_and_then, drop-drop, AllDigits, digits_value, IsDotted, dotted_text, cond-true, cond-false, cases_lt, and_from, ne_eqb, lt-ltb, le-leb, decimal_is_IsNumeral, decimal_digit, first_decimal, length-decimal-le, NoDigit, digit_count-append, digit_count_none, nat_tests, starts, digits_end, octet_end, octets_end, ipv4_end}
 use Rattle.uri_parts.proofs.HostForms.AddressParsing.{dotted as dotted_with}
 
 -- parse errors: a text that begins with another byte,
@@ -22,8 +13,7 @@ module _ (text : List ℕ) where
   pub suffix-after-prefix-at-position : (p : ℕ) (ds tail : List ℕ) → drop p text ≡ ds ++ tail
       → drop (p + length ds) text ≡ tail
   suffix-after-prefix-at-position p ds tail s = sym (drop-drop (length ds) p text)
-      ∙ ap (drop (length ds)) s
-      ∙ drop_at ds tail (length ds) refl
+      ∙ ap (drop (length ds)) s ∙ drop_at ds tail (length ds) refl
 
   pub suffix-after-mark-at-position : (mark p : ℕ) (tail : List ℕ) → drop p text ≡ mark ∷ tail
       → drop (p + 1) text ≡ tail
@@ -36,11 +26,9 @@ module _ (text : List ℕ) where
       grind (arith, nat_tests, digit_count-append, digit_count_none)
 
   octet_end-finds-decimal-octet : (a p : ℕ) (tail : List ℕ) → a < 256 → drop p text
-      ≡ decimal a ++ tail
-      → NoDigit 10 tail → octet_end text p ≡ Some (p + length (decimal a))
+      ≡ decimal a ++ tail → NoDigit 10 tail → octet_end text p ≡ Some (p + length (decimal a))
   unfolding octet_end
-  octet_end-finds-decimal-octet a p tail fits s stop = ⊎_elim
-      (λ l.
+  octet_end-finds-decimal-octet a p tail fits s stop = ⊎_elim (λ l.
       let n = decimal_is_IsNumeral a (omega arith) in
       let first = first_decimal a l (omega arith) in
       let short : length (decimal a) ≤ 3 =
@@ -53,26 +41,23 @@ module _ (text : List ℕ) where
       ∙ prefix-begins-with-other-byte 48 (decimal a) tail n.0.0 (λ z. omega (arith, z, first)))
       ∙ cond-true _ _ _ (and_from _ _ (lt-ltb p end (omega (arith, e, n.0.0)))
       (ap (λ t. nat_le (digits_value 10 t) 255) ds ∙ le-leb _ 255 (omega (arith, n.1))))
-      ∙ ap (λ k. Some k) e)
-      (λ l.
+      ∙ ap (λ k. Some k) e) (λ l.
       let z : a ≡ 0 = omega arith in
       let d : decimal a ≡ 48 ∷ [] = ap decimal z ∙ decimal_digit 0 (lit< tt) in
       let n : p + 1 ≡ p + length (decimal a) = omega (arith, ap length d) in
       cond-true _ _ _ (ap (starts 48) (s ∙ ap (λ t. t ++ tail) d)) ∙ ap (λ k. Some k) n)
       (cases_lt 0 a)
 
-  octets_end-passes-dot-and-octet : (n a p : ℕ) (tail : List ℕ) → a < 256 → drop p text
-      ≡ 46 ∷ (decimal a ++ tail)
-      → NoDigit 10 tail
-      → octets_end text (suc n) p ≡ octets_end text n (p + 1 + length (decimal a))
+  octets_end-passes-dot-and-octet : (n a p : ℕ) (tail : List ℕ)
+      → a < 256 → drop p text ≡ 46 ∷ (decimal a ++ tail)
+      → NoDigit 10 tail → octets_end text (suc n) p ≡ octets_end text n (p + 1 + length (decimal a))
   unfolding octets_end
   octets_end-passes-dot-and-octet n a p tail fits s stop =
       grind (arith, nat_tests, octet_end-finds-decimal-octet, suffix-after-mark-at-position)
 
-  pub ipv4_end-finds-ipv4-text : (p end : ℕ)
-      (address octets suffix : List ℕ) → IsDotted address octets
-      → drop p text ≡ address ++ suffix → NoDigit 10 suffix → end ≡ p + length address
-      → ipv4_end text p ≡ Some end
+  pub ipv4_end-finds-ipv4-text : (p end : ℕ) (address octets suffix : List ℕ)
+      → IsDotted address octets → drop p text ≡ address ++ suffix
+      → NoDigit 10 suffix → end ≡ p + length address → ipv4_end text p ≡ Some end
   unfolding octets_end
   ipv4_end-finds-ipv4-text p end address octets suffix w s stop e =
       let all = s ∙ ap (λ t. t ++ suffix) w.spelled ∙ dotted_with w.a w.b w.c w.d suffix in
@@ -85,10 +70,8 @@ module _ (text : List ℕ) where
       let s_d = suffix-after-prefix-at-position (p + la + 1 + lb + 1) (decimal w.c) _
       (suffix-after-mark-at-position 46 (p + la + 1 + lb) _ s_c) in
       let long = ap length (dotted_with w.a w.b w.c w.d []) in
-      let size : length address
-      ≡ length (decimal w.a) + (1 + (length (decimal w.b) + (1 + (length (decimal w.c)
-      + (1 + length (decimal w.d)))))) =
-      omega (
+      let size : length address ≡ length (decimal w.a) + (1 + (length (decimal w.b)
+      + (1 + (length (decimal w.c) + (1 + length (decimal w.d)))))) = omega (
         arith,
         ap length w.spelled,
         ap length (append-nil (dotted_text w.a w.b w.c w.d)),
@@ -99,9 +82,8 @@ module _ (text : List ℕ) where
         length-append (decimal w.c) (46 ∷ (decimal w.d ++ [])),
         length-append (decimal w.d) [],
       ) in
-      ap (option_and_then (octets_end text 3))
-      (octet_end-finds-decimal-octet w.a p _ w.fit.0 all (lit≤ tt))
-      ∙ octets_end-passes-dot-and-octet 2 w.b (p + la) _ w.fit.1 s_b (lit≤ tt)
+      ap (option_and_then (octets_end text 3)) (octet_end-finds-decimal-octet w.a p _ w.fit.0 all
+      (lit≤ tt)) ∙ octets_end-passes-dot-and-octet 2 w.b (p + la) _ w.fit.1 s_b (lit≤ tt)
       ∙ octets_end-passes-dot-and-octet 1 w.c (p + la + 1 + lb) _ w.fit.2 s_c (lit≤ tt)
       ∙ octets_end-passes-dot-and-octet 0 w.d (p + la + 1 + lb + 1 + lc) suffix w.fit.3 s_d stop
       ∙ ap (λ k. Some k) (omega (arith, e, size))

@@ -1,18 +1,5 @@
 -- An address in brackets ends where it is cut, and has an error exactly where it is none.
-use Rattle.std.proofs.Common.{◌≡◌, ℕ, ◌+◌, ◌-◌, Bool, true, false, cond, List, drop, refl, sym, ap, ◌∙◌, arith, ◌&&◌, ◌||◌, ⊎_elim, length-drop, add_assoc, Ok, Err, is_ok, codes, nat_lt, length, IsUtf8, IsCharBoundary, drop-drop}
-use Rattle.std.proofs.lemmas.Bool.{cond-true, cond-false, cases_Bool, false≢true}
-use Rattle.std.proofs.lemmas.Option.{same_Some}
-use Rattle.std.specs.Result.{result_ok}
-use Rattle.std.proofs.lemmas.Str.{IsUtf8-drop}
-use Rattle.std.proofs.lemmas.Bool.Decides.{nat_tests}
-use Rattle.uri_pct.specs.Delimiters.{full_stop, right_bracket}
-use Rattle.uri_pct.specs.Sets.{hexdig_set, ipv_future_set}
-use Rattle.uri_parts.specs.declared.error.ParseError.{ParseError}
-use Rattle.uri_parts.specs.Components.{starts, from_any}
-use Rattle.uri_parts.specs.Errors.{unexpected}
-use Rattle.uri_parts.specs.LiteralErrors.{literal}
-use Rattle.uri_parts.specs.Scanning.{ScanResult, scan_end, scan_to_mark}
-use Rattle.uri_parts.specs.Models.Literals.{literal_length}
+use Rattle.uri_parts.proofs.Common.{◌≡◌, ℕ, ◌+◌, ◌-◌, Bool, true, false, cond, List, drop, refl, sym, ap, ◌∙◌, arith, ◌&&◌, ◌||◌, ⊎_elim, length-drop, add_assoc, Ok, Err, is_ok, codes, nat_lt, length, IsUtf8, IsCharBoundary, drop-drop, cond-true, cond-false, cases_Bool, false≢true, same_Some, result_ok, IsUtf8-drop, nat_tests, full_stop, right_bracket, hexdig_set, ipv_future_set, ParseError, starts, from_any, unexpected, literal, ScanResult, scan_end, scan_to_mark, literal_length}
 use Rattle.uri_parts.proofs.Parsing.Acceptance.{parses_literal, parses_marked, length_to_mark, parses_future, future_length}
 use Rattle.uri_parts.proofs.HostForms.FutureParsing.{literal-at-position-parses-as-ipvfuture, length-of-ipvfuture-at-position}
 use Rattle.uri_parts.proofs.HostForms.LiteralFaults.{literal_error_is_in_text}
@@ -35,9 +22,8 @@ nested-tests-are-one-and true q end d e = refl
 nested-tests-are-one-and false q end d e = refl
 
 -- general fact on results, for parse errors: the same test and end give the same
-same-test-and-end-give-same-result : (p q : Bool) (m n : ℕ) (e : ParseError) → q ≡ p
-    → (p ≡ true → n ≡ m)
-    → cond p (Ok m) (Err e) ≡ cond q (Ok n) (Err e)
+same-test-and-end-give-same-result : (p q : Bool) (m n : ℕ) (e : ParseError)
+    → q ≡ p → (p ≡ true → n ≡ m) → cond p (Ok m) (Err e) ≡ cond q (Ok n) (Err e)
 same-test-and-end-give-same-result p q m n e s h = grind (arith, nat_tests)
 
 -- general fact on numbers, for parse errors: a position is later exactly if something was passed
@@ -45,10 +31,9 @@ later-position-iff-some-passed : (i n : ℕ) → nat_lt i (i + n) ≡ nat_lt 0 n
 later-position-iff-some-passed i n = grind (arith, nat_tests)
 
 module _ (text : List ℕ) where
-  ipvfuture-scan-ends-as-parsed : (i : ℕ) → Ends (parses_future (drop i text))
-      (i + future_length (drop i text))
-      (scan_to_mark text hexdig_set full_stop
-      (scan_to_mark text ipv_future_set right_bracket (λ end. Ok end)) i)
+  ipvfuture-scan-ends-as-parsed : (i : ℕ)
+      → Ends (parses_future (drop i text)) (i + future_length (drop i text)) (scan_to_mark text
+      hexdig_set full_stop (scan_to_mark text ipv_future_set right_bracket (λ end. Ok end)) i)
   unfolding parses_future future_length parses_marked length_to_mark
   ipvfuture-scan-ends-as-parsed i =
       let n : ℕ = scan_end text hexdig_set i in
@@ -64,22 +49,17 @@ module _ (text : List ℕ) where
       → Ends (parses_literal (drop i text)) (i + literal_length (drop i text)) (literal text i)
   literal-ends-as-parsed i u =
       let rest : List ℕ = drop i text in
-      let end : ℕ = i + literal_length rest in ⊎_elim
-      (λ v.
+      let end : ℕ = i + literal_length rest in ⊎_elim (λ v.
       let (e, f) = ipvfuture-scan-ends-as-parsed (i + 1) in (
         e,
-        literal-with-version-letter-scans-ipvfuture text i v ∙ f
-            ∙ same-test-and-end-give-same-result (parses_future (drop (i + 1) text))
-            (parses_literal rest) _ end e
-            (literal-at-position-parses-as-ipvfuture text i u v)
+        literal-with-version-letter-scans-ipvfuture text i v
+            ∙ f ∙ same-test-and-end-give-same-result (parses_future (drop (i + 1) text))
+            (parses_literal rest) _ end e (literal-at-position-parses-as-ipvfuture text i u v)
             (λ p. omega (arith, length-of-ipvfuture-at-position text i u v p)),
-      ))
-      (λ v. ⊎_elim
-      (λ p.
+      )) (λ v. ⊎_elim (λ p.
       let c = literal_is_ipv6_and_bracket rest v p in
       let suffix : List ℕ = from_any (codes "]") rest in
-      let n : length text - length suffix + 1 ≡ end =
-      omega (
+      let n : length text - length suffix + 1 ≡ end = omega (
         arith,
         (ipv6-and-bracket-are-parsed-literal rest suffix (sym c.0) c.1).1,
         (text-after-ipv6-is-suffix rest suffix (sym c.0)).0,
@@ -89,13 +69,11 @@ module _ (text : List ℕ) where
         unexpected i,
         literal-ends-after-read-ipv6 text suffix i (sym c.0) c.1 ∙ ap (λ k. Ok k) n
             ∙ sym (cond-true _ _ _ p),
-      ))
-      (λ p.
+      )) (λ p.
       let (e, f) = failed-result-has-no-end (literal text i) end
       (literal-rejects-unparsed text i v p) in
       (e, f ∙ sym (cond-false _ _ _ p)))
-      (cases_Bool (parses_literal rest)))
-      (cases_Bool (starts 118 rest || starts 86 rest))
+      (cases_Bool (parses_literal rest))) (cases_Bool (starts 118 rest || starts 86 rest))
 
 -- parse errors: the end of an IP literal that is returned is
 -- the one that is parsed; p: whether it is parsed
@@ -106,10 +84,9 @@ literal-end-is-the-parsed-one false n end r (e, f) s = absurd (false≢true (sym
 
 -- parse errors: an IP literal after the `[` at place ends where it is cut;
 -- end: the position after its `]`
-pub literal-end-by-length : (text : List ℕ) (place end : ℕ) → IsUtf8 text
-    → IsCharBoundary text (place + 1)
-    → Ok end ≡ literal text (place + 1) → end
-    ≡ place + (1 + literal_length (drop 1 (drop place text)))
+pub literal-end-by-length : (text : List ℕ) (place end : ℕ)
+    → IsUtf8 text → IsCharBoundary text (place + 1) → Ok end ≡ literal text (place + 1)
+    → end ≡ place + (1 + literal_length (drop 1 (drop place text)))
 literal-end-by-length text place end u b s =
     let n = literal-end-is-the-parsed-one _ _ end _
     (literal-ends-as-parsed text (place + 1) (IsUtf8-drop text (place + 1) u b)) s in
@@ -117,9 +94,8 @@ literal-end-by-length text place end u b s =
     omega (arith, n, d)
 
 -- parse errors: what is after an IP literal at its end is what is after it where it is cut
-pub text_after_literal : (text : List ℕ) (place end : ℕ) → IsUtf8 text
-    → IsCharBoundary text (place + 1)
-    → Ok end ≡ literal text (place + 1)
+pub text_after_literal : (text : List ℕ) (place end : ℕ)
+    → IsUtf8 text → IsCharBoundary text (place + 1) → Ok end ≡ literal text (place + 1)
     → drop end text ≡ drop (1 + literal_length (drop 1 (drop place text))) (drop place text)
 text_after_literal text place end u b s = ap (λ n. drop n text)
     (literal-end-by-length text place end u b s)

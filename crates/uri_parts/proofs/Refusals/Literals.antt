@@ -1,23 +1,9 @@
 -- The errors of an address in brackets.
-use Rattle.std.proofs.Common.{◌≡◌, ℕ, ◌+◌, ◌-◌, ◌<◌, true, false, eqb, List, [], ◌∷◌, ◌++◌, length, Option, drop, get_or, Some, None, refl, sym, ap, ◌∙◌, arith, ◌||◌, ⊎_elim, get_or-drop, add-zero, length-append, length-drop, Ok, Err, is_ok, option_map, codes}
-use Rattle.std.specs.Char.{is_digit}
-use Rattle.std.specs.Net.Grammar.{IsColonHex}
-use Rattle.std.specs.Net.Reader.{read_ipv6, digit_count}
-use Rattle.std.proofs.lemmas.Bool.{cond-true, cond-false, cases_Bool, not_from_true, not_from_false, false≢true}
-use Rattle.std.proofs.lemmas.Bool.Decides.{nat_tests}
-use Rattle.uri_pct.specs.Delimiters.{full_stop, right_bracket}
-use Rattle.uri_pct.specs.Sets.{is_one_of, hexdig_set, ipv_future_set}
-use Rattle.uri_parts.specs.Components.{starts}
-use Rattle.uri_parts.specs.Errors.{unexpected, malformed_ipv6}
-use Rattle.uri_parts.specs.LiteralErrors.{closed, literal, ipv6_end, cannot_begin_ipv6}
-use Rattle.uri_parts.specs.Scanning.{scan_to_mark}
+use Rattle.uri_parts.proofs.Common.{◌≡◌, ℕ, ◌+◌, ◌-◌, ◌<◌, true, false, eqb, List, [], ◌∷◌, ◌++◌, length, Option, drop, get_or, Some, None, refl, sym, ap, ◌∙◌, arith, ◌||◌, ⊎_elim, get_or-drop, add-zero, length-append, length-drop, Ok, Err, is_ok, option_map, codes, is_digit, IsColonHex, read_ipv6, digit_count, cond-true, cond-false, cases_Bool, not_from_true, not_from_false, false≢true, nat_tests, full_stop, right_bracket, is_one_of, hexdig_set, ipv_future_set, starts, unexpected, malformed_ipv6, closed, literal, ipv6_end, cannot_begin_ipv6, scan_to_mark, map_some, read_ipv6_sound, none-some}
 use Rattle.uri_parts.proofs.Parsing.Acceptance.{parses_literal, is_literal}
 use Rattle.uri_parts.proofs.HostForms.Addresses.{ipv6_value-complete}
 use Rattle.uri_parts.proofs.HostForms.Futures.{ipv6-text-lacks-excluded-marks}
 use Rattle.uri_parts.proofs.HostForms.Ipv6Literals.{text-with-bracket-is-empty-or-marked, text-after-ipv6-at-position}
-use Rattle.std.proofs.NetLemmas.Options.{map_some}
-use Rattle.std.proofs.NetLemmas.Ipv6.{read_ipv6_sound}
-use Rattle.std.proofs.lemmas.Option.{none-some}
 use Rattle.uri_parts.proofs.Splitting.Cuts.{cut-at-end-of-text-without-marks}
 use Rattle.uri_parts.proofs.Refusals.Complete.{ipv6_end-finds-ipv6-before-bracket, cannot_begin_ipv6-has-no-end}
 use Rattle.uri_parts.proofs.Refusals.Sound.{ipv6_end-before-bracket-ends-ipv6}
@@ -30,10 +16,9 @@ version-letter-is-no-colon-or-digit b e =
 
 -- parse errors: what begins with `v` (118) or `V` (86) begins
 -- neither with `:` nor with a hexadecimal digit
-text-with-version-letter-begins-no-group : (text : List ℕ) → (starts 118 text || starts 86 text)
-    ≡ true →
-    (is_one_of (codes "vV") (get_or text 0 0) ≡ true) × (starts 58 text ≡ false)
-    × (digit_count 16 text ≡ 0)
+text-with-version-letter-begins-no-group : (text : List ℕ)
+    → (starts 118 text || starts 86 text) ≡ true → (is_one_of (codes "vV") (get_or text 0 0) ≡ true)
+    × (starts 58 text ≡ false) × (digit_count 16 text ≡ 0)
 text-with-version-letter-begins-no-group [] e = absurd (false≢true e)
 text-with-version-letter-begins-no-group (b ∷ text) e =
     let l = version-letter-is-no-colon-or-digit b e in (l.0, l.1, cond-false _ _ _ l.2)
@@ -69,9 +54,8 @@ module _ (text : List ℕ) (i : ℕ) where
   version-letter-begins-no-ipv6 e =
       grind (arith, nat_tests, text-with-version-letter-begins-no-group, not_from_false)
 
-  pub literal-with-version-letter-scans-ipvfuture : (starts 118 (drop i text) || starts 86
-      (drop i text)) ≡ true
-      → literal text i ≡ scan_to_mark text hexdig_set full_stop
+  pub literal-with-version-letter-scans-ipvfuture : (starts 118 (drop i text)
+      || starts 86 (drop i text)) ≡ true → literal text i ≡ scan_to_mark text hexdig_set full_stop
       (scan_to_mark text ipv_future_set right_bracket (λ end. Ok end)) (i + 1)
   unfolding literal
   literal-with-version-letter-scans-ipvfuture e =
@@ -80,8 +64,7 @@ module _ (text : List ℕ) (i : ℕ) where
       ∙ (text-with-version-letter-begins-no-group (drop i text) e).0)
 
   pub literal-without-address-is-unexpected : (starts 118 (drop i text) || starts 86 (drop i text))
-      ≡ false
-      → cannot_begin_ipv6 text i ≡ true → literal text i ≡ Err (unexpected i)
+      ≡ false → cannot_begin_ipv6 text i ≡ true → literal text i ≡ Err (unexpected i)
   unfolding literal
   literal-without-address-is-unexpected e none = cond-false _ _ _ (not_from_true _ none)
       ∙ cond-false _ _ _ (ap (is_one_of (codes "vV")) (sym first-byte-of-suffix-at-position)
@@ -98,21 +81,18 @@ module _ (text : List ℕ) (i : ℕ) where
 
   -- what is read so with a `]` after it is parsed
   read-ipv6-with-bracket-is-parsed : (end : ℕ) → ipv6_end text i ≡ Some end
-      → starts 93 (drop end text) ≡ true
-      → parses_literal (drop i text) ≡ true
+      → starts 93 (drop end text) ≡ true → parses_literal (drop i text) ≡ true
   read-ipv6-with-bracket-is-parsed end e c =
       let w = ipv6_end-before-bracket-ends-ipv6 text i end e c in
       ipv6-text-and-bracket-are-parsed (drop i text) w.address (drop end text) w.segments
       w.split w.is c
 
-  pub literal-unclosed-ipv6 : (end : ℕ) → cannot_begin_ipv6 text i ≡ false
-      → ipv6_end text i ≡ Some end
-      → is_ok (literal text i) ≡ false → literal text i ≡ Err (unexpected end)
+  pub literal-unclosed-ipv6 : (end : ℕ) → cannot_begin_ipv6 text i ≡ false → ipv6_end text i
+      ≡ Some end → is_ok (literal text i) ≡ false → literal text i ≡ Err (unexpected end)
   literal-unclosed-ipv6 end some e none = grind (arith, nat_tests, literal-is-closed-at-ipv6_end)
 
   unparsed-literal-is-not-closed : (end : Option ℕ) → ipv6_end text i ≡ end
-      → parses_literal (drop i text) ≡ false
-      → is_ok (closed text i end) ≡ false
+      → parses_literal (drop i text) ≡ false → is_ok (closed text i end) ≡ false
   unparsed-literal-is-not-closed None e none = refl
   unparsed-literal-is-not-closed (Some end) e none =
       grind (arith, nat_tests, read-ipv6-with-bracket-is-parsed)
@@ -141,8 +121,7 @@ literal-ends-after-read-ipv6 text suffix i e c =
     (omega (arith, size, long)) e in
     let closed_at = ap (starts 93) (sym at_end) ∙ c in
     let found_end = ipv6_end-finds-ipv6-before-bracket text i end prefix p.0 groups
-    (omega (arith, size, long))
-    (whole ∙ ap (λ t. prefix ++ t) at_end) closed_at in
+    (omega (arith, size, long)) (whole ∙ ap (λ t. prefix ++ t) at_end) closed_at in
     let some_read : cannot_begin_ipv6 text i ≡ false = ⊎_elim
     (λ n. absurd (none-some end (sym (cannot_begin_ipv6-has-no-end text i n) ∙ found_end)))
     (λ n. n) (cases_Bool (cannot_begin_ipv6 text i)) in

@@ -1,19 +1,5 @@
 -- The errors of an authority.
-use Rattle.std.proofs.Common.{◌≡◌, ◌≢◌, ℕ, zero, suc, ◌+◌, ◌<◌, ◌≤◌, Bool, true, false, cond, eqb, List, [], ◌∷◌, drop, Some, refl, sym, ap, ◌∙◌, arith, ◌&&◌, ⊎_elim, codes, nat_lt, drop-drop}
-use Rattle.std.proofs.lemmas.Bool.{cond-true, cond-false, cases_Bool, eq-eqb, eqb-true, and_from, and_left, and_right, false≢true, lt-ltb, le-ltb, both_ways}
-use Rattle.std.proofs.lemmas.Bool.Decides.{nat_tests}
-use Rattle.uri_pct.specs.Sets.{TableSet, is_one_of, digit_set, allows_past_ascii}
-use Rattle.uri_pct.specs.Prefixes.{valid_prefix_from, valid_prefix, after, allows_first}
-use Rattle.uri_pct.proofs.ValidTexts.LongestPrefixes.{empty_text_has_empty_valid_prefix}
-use Rattle.uri_pct.proofs.ValidTexts.MarksInTexts.{ascii_byte_has_no_continuation}
-use Rattle.uri_pct.proofs.ValidTexts.Prefixes.{nothing_is_scanned_after_valid_prefix}
-use Rattle.uri_parts.specs.Components.{starts}
-use Rattle.uri_parts.specs.Errors.{unexpected, stray_percent}
-use Rattle.uri_parts.specs.Refusals.{OptionalParseError, last_colon, error_from_path, error_from_host, error_from_name, error_from_authority}
-use Rattle.uri_parts.specs.Scanning.{is_next, scan_end}
-use Rattle.uri_parts.specs.Grammar.{Kind}
-use Rattle.uri_parts.specs.Models.AuthorityParsing.{is_empty_or_begins_with_any, port_length, name_and_port_length, name_ends_authority, userinfo_length}
-use Rattle.uri_parts.specs.Models.ParseErrors.{left_over_error, name_error, error_after_port, port_error, host_error, userinfo_error, other_authority_error, authority_error}
+use Rattle.uri_parts.proofs.Common.{◌≡◌, ◌≢◌, ℕ, zero, suc, ◌+◌, ◌<◌, ◌≤◌, Bool, true, false, cond, eqb, List, [], ◌∷◌, drop, Some, refl, sym, ap, ◌∙◌, arith, ◌&&◌, ⊎_elim, codes, nat_lt, drop-drop, cond-true, cond-false, cases_Bool, eq-eqb, eqb-true, and_from, and_left, and_right, false≢true, lt-ltb, le-ltb, both_ways, nat_tests, TableSet, is_one_of, digit_set, allows_past_ascii, valid_prefix_from, valid_prefix, after, allows_first, empty_text_has_empty_valid_prefix, ascii_byte_has_no_continuation, nothing_is_scanned_after_valid_prefix, starts, unexpected, stray_percent, OptionalParseError, last_colon, error_from_path, error_from_host, error_from_name, error_from_authority, is_next, scan_end, Kind, is_empty_or_begins_with_any, port_length, name_and_port_length, name_ends_authority, userinfo_length, left_over_error, name_error, error_after_port, port_error, host_error, userinfo_error, other_authority_error, authority_error}
 use Rattle.uri_parts.proofs.Authorities.UserinfoLengths.{userinfo_length-is-valid_prefix, further_userinfo_length-is-valid_prefix}
 use Rattle.uri_parts.proofs.Refusals.Colons.{last_colon_is_below_position, last_colon-same-or-later, last_colon-after-colon-is-that-colon, last_colon-without-colons-after}
 use Rattle.uri_parts.proofs.Refusals.Rooted.{Adjoins, scan-stops-at-stray-percent-or-goes-on, greater-set-goes-on-with-mark, port-end-by-next-colon, nothing-is-scanned-at-mark, valid_prefix-zero-at-mark, error_after_port-is-from-path, host_error-is-error_from_host}
@@ -40,15 +26,13 @@ unfolding valid_prefix_from
 valid_prefix-at-other-byte-is-zero b bs e = cond-false _ _ _ e
 
 -- parse errors: no `:` is among the leading digits, as of a port
-leading-digits-hold-no-colon : (bs : List ℕ) (k : ℕ) → k < valid_prefix digit_set bs
-    → starts 58 (drop k bs)
-    ≡ false
+leading-digits-hold-no-colon : (bs : List ℕ) (k : ℕ)
+    → k < valid_prefix digit_set bs → starts 58 (drop k bs) ≡ false
 leading-digits-hold-no-colon [] k l = absurd
     (let z = empty_text_has_empty_valid_prefix digit_set in omega arith)
 leading-digits-hold-no-colon (b ∷ bs) zero l =
     grind (arith, nat_tests, digit-is-ascii-and-no-colon, valid_prefix-at-other-byte-is-zero)
-leading-digits-hold-no-colon (b ∷ bs) (suc k) l = ⊎_elim
-    (λ e. leading-digits-hold-no-colon bs k
+leading-digits-hold-no-colon (b ∷ bs) (suc k) l = ⊎_elim (λ e. leading-digits-hold-no-colon bs k
     (let z = valid_prefix-at-digit-is-one-more b bs e in omega arith))
     (λ e. absurd (let z = valid_prefix-at-other-byte-is-zero b bs e in omega arith))
     (cases_Bool (allows_first digit_set b bs))
@@ -70,17 +54,15 @@ end-of-authority-is-no-inner-mark (b ∷ bs) e = grind (arith, nat_tests)
 
 -- parse errors: a text that begins with one of some delimiters passes the test for them
 text-with-mark-begins-with-any : (mark : ℕ) (marks bs : List ℕ) → is_one_of marks mark ≡ true
-    → starts mark bs ≡ true
-    → is_empty_or_begins_with_any marks bs ≡ true
+    → starts mark bs ≡ true → is_empty_or_begins_with_any marks bs ≡ true
 unfolding is_empty_or_begins_with_any
 text-with-mark-begins-with-any mark marks [] m e = absurd (false≢true e)
 text-with-mark-begins-with-any mark marks (b ∷ bs) m e = ap (is_one_of marks) (eqb-true b mark e)
     ∙ m
 
 -- parse errors: a text begins with one byte and so with no other
-pub text-begins-with-one-byte-alone : (mark other : ℕ) (bs : List ℕ) → eqb mark other ≡ false
-    → starts mark bs ≡ true
-    → starts other bs ≡ false
+pub text-begins-with-one-byte-alone : (mark other : ℕ) (bs : List ℕ)
+    → eqb mark other ≡ false → starts mark bs ≡ true → starts other bs ≡ false
 text-begins-with-one-byte-alone mark other [] n e = absurd (false≢true e)
 text-begins-with-one-byte-alone mark other (b ∷ bs) n e = ap (λ c. eqb c other) (eqb-true b mark e)
     ∙ n
@@ -160,45 +142,35 @@ module _ (segment : TableSet) (kind : Kind) (w : SeparatesComponents segment kin
     unfolding error_from_name
     name-error-with-colon e =
         let port : ℕ = scan_end text digit_set (name + 1) in
-        let b : suffix ≡ port =
-        suffix-is-after-name-and-port ∙ port-end-by-next-colon segment kind w a text name
-        ∙ cond-true _ _ _ e in
-        let at_name : last_colon text suffix ≡ name =
-        ap (last_colon text) b
-        ∙ last_colon-without-colons-after text (name + 1)
-        (valid_prefix digit_set (drop (name + 1) text))
-        (λ j l. ap (starts 58) (sym (drop-drop j (name + 1) text))
+        let b : suffix ≡ port = suffix-is-after-name-and-port
+        ∙ port-end-by-next-colon segment kind w a text name ∙ cond-true _ _ _ e in
+        let at_name : last_colon text suffix ≡ name = ap (last_colon text) b
+        ∙ last_colon-without-colons-after text (name + 1) (valid_prefix digit_set
+        (drop (name + 1) text)) (λ j l. ap (starts 58) (sym (drop-drop j (name + 1) text))
         ∙ leading-digits-hold-no-colon (drop (name + 1) text) j l)
         ∙ last_colon-after-colon-is-that-colon text name e in
         let more : ℕ = valid_prefix kind.userinfo (drop suffix text) in
         let same : suffix + more ≡ user = sym userinfo-end-is-scanned-from-suffix in
         let long : name < port = omega arith in
-        ⊎_elim
-        (λ d.
+        ⊎_elim (λ d.
         let u : suffix ≡ user = eqb-true suffix user d in
         let l : last_colon text user ≡ name = ap (last_colon text) (sym u) ∙ at_name in
         cond-false _ _ _ (le-ltb name (last_colon text user) (omega (arith, l)))
-        ∙ cond-false _ _ _ (and_right _ _ (le-ltb port user (omega (arith, b, u))))
-        ∙ sym (error_after_port-is-from-path segment kind w a text user) ∙ sym (cond-true _ _ _ d))
-        (λ d.
+        ∙ cond-false _ _ _ (and_right _ _ (le-ltb port user (omega (arith, b, u)))) ∙ sym
+        (error_after_port-is-from-path segment kind w a text user) ∙ sym (cond-true _ _ _ d)) (λ d.
         let ne : suffix ≢ user = λ u. both_ways _ d (eq-eqb suffix user u) in
         let more_than : suffix < user = omega (arith, same, ne) in
-        ⊎_elim
-        (λ h.
+        ⊎_elim (λ h.
         let l : last_colon text user ≡ name = ap (last_colon text) (sym same) ∙ h ∙ at_name in
         cond-false _ _ _ (le-ltb name (last_colon text user) (omega (arith, l)))
         ∙ cond-true _ _ _ (and_from _ _ (lt-ltb name user (omega (arith, b, more_than)))
         (lt-ltb port user (omega (arith, b, more_than))))
-        ∙ ap (λ n. Some (unexpected n)) (sym b)
-        ∙ sym (cond-false _ _ _ d
-        ∙ cond-true _ _ _ (lt-ltb (last_colon text user) suffix (omega (arith, l, b)))))
-        (λ h.
+        ∙ ap (λ n. Some (unexpected n)) (sym b) ∙ sym (cond-false _ _ _ d
+        ∙ cond-true _ _ _ (lt-ltb (last_colon text user) suffix (omega (arith, l, b))))) (λ h.
         let l : suffix ≤ last_colon text user = omega (arith, h, ap (last_colon text) same) in
         cond-true _ _ _ (lt-ltb name (last_colon text user) (omega (arith, l, b)))
-        ∙ sym (cond-false _ _ _ d
-        ∙ cond-false _ _ _ (le-ltb (last_colon text user) suffix l)))
-        (last_colon-same-or-later text suffix more))
-        (cases_Bool (eqb suffix user))
+        ∙ sym (cond-false _ _ _ d ∙ cond-false _ _ _ (le-ltb (last_colon text user) suffix l)))
+        (last_colon-same-or-later text suffix more)) (cases_Bool (eqb suffix user))
 
     error_from_name-is-found : error_from_name kind text i user ≡ found
     error_from_name-is-found = ⊎_elim name-error-with-colon name-error-without-colon
@@ -217,22 +189,19 @@ module _ (segment : TableSet) (kind : Kind) (w : SeparatesComponents segment kin
         (cond (eqb user i) (error_from_host kind text i) (error_from_name kind text i user))
     unfolding error_from_authority
     authority-error-by-what-follows-userinfo = scan-stops-at-stray-percent-or-goes-on text
-        kind.userinfo i (λ end.
-        cond (is_next text 64 end) (error_from_host kind text (end + 1))
+        kind.userinfo i (λ end. cond (is_next text 64 end) (error_from_host kind text (end + 1))
         (cond (eqb end i) (error_from_host kind text i) (error_from_name kind text i end)))
 
     -- a host alone
     host-error-without-bracket-is-after-port : is_next text 91 i ≡ false
-        → error_from_host kind text i
-        ≡ error_after_port kind text suffix
+        → error_from_host kind text i ≡ error_after_port kind text suffix
     unfolding host_error port_error
     host-error-without-bracket-is-after-port e = sym
         (host_error-is-error_from_host segment kind w a text i) ∙ cond-false _ _ _ e
         ∙ ap (error_after_port kind text) (sym suffix-is-after-name-and-port)
 
     name-ends-authority-iff-mark-follows-port : name_ends_authority kind rest
-        ≡ is_empty_or_begins_with_any (codes "/?#")
-        (drop suffix text)
+        ≡ is_empty_or_begins_with_any (codes "/?#") (drop suffix text)
     unfolding name_ends_authority
     name-ends-authority-iff-mark-follows-port = ap (is_empty_or_begins_with_any (codes "/?#"))
         (drop-drop (name_and_port_length kind rest) i text)
@@ -254,33 +223,25 @@ module _ (segment : TableSet) (kind : Kind) (w : SeparatesComponents segment kin
         let z = valid_prefix-zero-at-mark (codes "@/?#") kind.userinfo w.userinfo_lacks
         w.userinfo_marks
         (drop suffix text) o.all in omega (arith, userinfo-end-is-scanned-from-suffix, z) in
-        sym (authority-error-by-what-follows-userinfo
-        ∙ cond-false _ _ _ (and_right _ _ (ap (is_next text 37) u ∙ o.percent))
-        ∙ cond-false _ _ _ (ap (is_next text 64) u ∙ o.at)
-        ∙ ⊎_elim
-        (λ d. cond-true _ _ _ d
-        ∙ host-error-without-bracket-is-after-port
+        sym (authority-error-by-what-follows-userinfo ∙ cond-false _ _ _ (and_right _ _
+        (ap (is_next text 37) u ∙ o.percent)) ∙ cond-false _ _ _ (ap (is_next text 64) u ∙ o.at)
+        ∙ ⊎_elim (λ d. cond-true _ _ _ d ∙ host-error-without-bracket-is-after-port
         (ap (is_next text 91) (sym (eqb-true user i d) ∙ u) ∙ o.bracket)
-        ∙ error-after-port-by-next-mark true f)
-        (λ d. cond-false _ _ _ d ∙ error_from_name-is-found
-        ∙ cond-true _ _ _ (eq-eqb suffix user (sym u))
-        ∙ ap (error_after_port kind text) u ∙ error-after-port-by-next-mark true f)
-        (cases_Bool (eqb user i)))
+        ∙ error-after-port-by-next-mark true f) (λ d. cond-false _ _ _ d ∙ error_from_name-is-found
+        ∙ cond-true _ _ _ (eq-eqb suffix user (sym u)) ∙ ap (error_after_port kind text) u
+        ∙ error-after-port-by-next-mark true f) (cases_Bool (eqb user i)))
 
     authority-error-of-bracketed-host : is_next text 91 i ≡ true → host_error kind text i
         ≡ error_from_authority kind text i
     authority-error-of-bracketed-host e =
         let z = valid_prefix-zero-at-mark (codes "[") kind.userinfo w.userinfo_lacks
-        w.userinfo_starts rest
-        (text-with-mark-begins-with-any 91 (codes "[") rest refl e) in
+        w.userinfo_starts rest (text-with-mark-begins-with-any 91 (codes "[") rest refl e) in
         let u : user ≡ i = omega (arith, z) in
         host_error-is-error_from_host segment kind w a text i
-        ∙ sym (authority-error-by-what-follows-userinfo
-        ∙ cond-false _ _ _ (and_right _ _ (ap (is_next text 37) u
-        ∙ text-begins-with-one-byte-alone 91 37 rest refl e))
+        ∙ sym (authority-error-by-what-follows-userinfo ∙ cond-false _ _ _ (and_right _ _
+        (ap (is_next text 37) u ∙ text-begins-with-one-byte-alone 91 37 rest refl e))
         ∙ cond-false _ _ _ (ap (is_next text 64) u
-        ∙ text-begins-with-one-byte-alone 91 64 rest refl e)
-        ∙ cond-true _ _ _ (eq-eqb user i u))
+        ∙ text-begins-with-one-byte-alone 91 64 rest refl e) ∙ cond-true _ _ _ (eq-eqb user i u))
 
     suffix-is-between-start-and-userinfo-end : (i ≤ suffix) × (suffix ≤ user)
     suffix-is-between-start-and-userinfo-end =
@@ -289,74 +250,56 @@ module _ (segment : TableSet) (kind : Kind) (w : SeparatesComponents segment kin
     found-error-is-name-error : is_empty_or_begins_with_any (codes "/?#") (drop suffix text) ≡ false
         → found ≡ name_error kind text suffix user
     unfolding name_error
-    found-error-is-name-error f = ⊎_elim
-        (λ d. cond-true _ _ _ d ∙ ap (error_after_port kind text) (sym (eqb-true suffix user d))
-        ∙ error-after-port-by-next-mark false f
-        ∙ ap (left_over_error kind text) (eqb-true suffix user d)
-        ∙ sym (cond-true _ _ _ d))
-        (λ d. cond-false _ _ _ d ∙ sym (cond-false _ _ _ d))
-        (cases_Bool (eqb suffix user))
+    found-error-is-name-error f = ⊎_elim (λ d. cond-true _ _ _ d ∙ ap (error_after_port kind text)
+        (sym (eqb-true suffix user d)) ∙ error-after-port-by-next-mark false f
+        ∙ ap (left_over_error kind text) (eqb-true suffix user d) ∙ sym (cond-true _ _ _ d))
+        (λ d. cond-false _ _ _ d ∙ sym (cond-false _ _ _ d)) (cases_Bool (eqb suffix user))
 
     name-error-of-unbracketed-host : is_empty_or_begins_with_any (codes "/?#") (drop suffix text)
-        ≡ false
-        → is_next text 91 i ≡ false
-        → name_error kind text suffix user
+        ≡ false → is_next text 91 i ≡ false → name_error kind text suffix user
         ≡ cond (eqb user i) (error_from_host kind text i) (error_from_name kind text i user)
     unfolding name_error
-    name-error-of-unbracketed-host f e = ⊎_elim
-        (λ d.
+    name-error-of-unbracketed-host f e = ⊎_elim (λ d.
         let same : suffix ≡ user = let h = eqb-true user i d in omega (
           arith,
           suffix-is-between-start-and-userinfo-end.0,
           suffix-is-between-start-and-userinfo-end.1,
         ) in
-        cond-true _ _ _ (eq-eqb suffix user same)
-        ∙ ap (left_over_error kind text) (sym same) ∙ sym (error-after-port-by-next-mark false f)
-        ∙ sym (cond-true _ _ _ d ∙ host-error-without-bracket-is-after-port e))
-        (λ d. sym (cond-false _ _ _ d ∙ error_from_name-is-found ∙ found-error-is-name-error f))
-        (cases_Bool (eqb user i))
+        cond-true _ _ _ (eq-eqb suffix user same) ∙ ap (left_over_error kind text) (sym same)
+        ∙ sym (error-after-port-by-next-mark false f) ∙ sym (cond-true _ _ _ d
+        ∙ host-error-without-bracket-is-after-port e)) (λ d. sym (cond-false _ _ _ d
+        ∙ error_from_name-is-found ∙ found-error-is-name-error f)) (cases_Bool (eqb user i))
 
     authority-error-with-userinfo : is_empty_or_begins_with_any (codes "/?#") (drop suffix text)
-        ≡ false
-        → is_next text 91 i ≡ false
+        ≡ false → is_next text 91 i ≡ false
         → userinfo_error kind text suffix ≡ error_from_authority kind text i
     unfolding userinfo_error name_error
-    authority-error-with-userinfo f e = ⊎_elim
-        (λ m.
-        let z = valid_prefix-zero-at-mark (codes "@/?#") kind.userinfo w.userinfo_lacks
-        w.userinfo_marks
-        (drop suffix text) (text-with-mark-begins-with-any 64 (codes "@/?#")
-        (drop suffix text) refl m) in
+    authority-error-with-userinfo f e = ⊎_elim (λ m.
+        let z = valid_prefix-zero-at-mark
+        (codes "@/?#") kind.userinfo w.userinfo_lacks w.userinfo_marks (drop suffix text)
+        (text-with-mark-begins-with-any 64 (codes "@/?#") (drop suffix text) refl m) in
         let u : user ≡ suffix = omega (arith, userinfo-end-is-scanned-from-suffix, z) in
         cond-true _ _ _ m ∙ host_error-is-error_from_host segment kind w a text (suffix + 1)
-        ∙ sym (authority-error-by-what-follows-userinfo
-        ∙ cond-false _ _ _ (and_right _ _ (ap (is_next text 37) u
-        ∙ text-begins-with-one-byte-alone 64 37 (drop suffix text) refl m))
+        ∙ sym (authority-error-by-what-follows-userinfo ∙ cond-false _ _ _ (and_right _ _
+        (ap (is_next text 37) u ∙ text-begins-with-one-byte-alone 64 37 (drop suffix text) refl m))
         ∙ cond-true _ _ _ (ap (is_next text 64) u ∙ m)
-        ∙ ap (λ n. error_from_host kind text (n + 1)) u))
-        (λ m.
-        cond-false _ _ _ m
-        ∙ scan-stops-at-stray-percent-or-goes-on text kind.userinfo suffix
-        (λ end. cond (is_next text 64 end)
-        (host_error kind text (end + 1)) (name_error kind text suffix end))
+        ∙ ap (λ n. error_from_host kind text (n + 1)) u)) (λ m. cond-false _ _ _ m
+        ∙ scan-stops-at-stray-percent-or-goes-on text kind.userinfo suffix (λ end. cond
+        (is_next text 64 end) (host_error kind text (end + 1)) (name_error kind text suffix end))
         ∙ ap (λ n. cond (kind.userinfo.pct_encoded && is_next text 37 n) (Some (stray_percent n))
         (cond (is_next text 64 n) (host_error kind text (n + 1)) (name_error kind text suffix n)))
-        (sym userinfo-end-is-scanned-from-suffix)
-        ∙ ap (λ h. split (λ n. h) (name_error kind text suffix user))
-        (host_error-is-error_from_host segment kind w a text (user + 1))
-        ∙ ap (split (error_from_host kind text)) (name-error-of-unbracketed-host f e)
-        ∙ sym authority-error-by-what-follows-userinfo)
-        (cases_Bool (is_next text 64 suffix))
+        (sym userinfo-end-is-scanned-from-suffix) ∙ ap (λ h. split (λ n. h)
+        (name_error kind text suffix user)) (host_error-is-error_from_host segment kind w a text
+        (user + 1)) ∙ ap (split (error_from_host kind text)) (name-error-of-unbracketed-host f e)
+        ∙ sym authority-error-by-what-follows-userinfo) (cases_Bool (is_next text 64 suffix))
 
     pub authority_error-is-error_from_authority : authority_error kind text i
         ≡ error_from_authority kind text i
     unfolding authority_error other_authority_error
-    authority_error-is-error_from_authority = ⊎_elim
-        (λ f. cond-true _ _ _ (name-ends-authority-iff-mark-follows-port ∙ f)
+    authority_error-is-error_from_authority =
+        ⊎_elim (λ f. cond-true _ _ _ (name-ends-authority-iff-mark-follows-port ∙ f)
         ∙ authority-error-after-whole-host-is-from-path f)
         (λ f. cond-false _ _ _ (name-ends-authority-iff-mark-follows-port ∙ f)
-        ∙ ⊎_elim
-        (λ e. cond-true _ _ _ e ∙ authority-error-of-bracketed-host e)
-        (λ e. cond-false _ _ _ e ∙ authority-error-with-userinfo f e)
-        (cases_Bool (is_next text 91 i)))
+        ∙ ⊎_elim (λ e. cond-true _ _ _ e ∙ authority-error-of-bracketed-host e) (λ e.
+        cond-false _ _ _ e ∙ authority-error-with-userinfo f e) (cases_Bool (is_next text 91 i)))
         (cases_Bool (is_empty_or_begins_with_any (codes "/?#") (drop suffix text)))

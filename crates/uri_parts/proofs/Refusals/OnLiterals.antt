@@ -1,10 +1,5 @@
 -- What a proof unfolds to compute the error of a literal text.
-use Rattle.std.specs.Prelude.{⊤}
-use Rattle.uri_pct.specs.Prefixes.{valid_prefix_from, allows_first, begins_with_hex_digits, first_char}
-use Rattle.uri_pct.specs.Sets.{allows_past_ascii, is_ucschar, is_iprivate}
-use Rattle.uri_parts.specs.Components.{is_end}
-use Rattle.uri_parts.specs.LiteralErrors.{octet_end, octets_end, groups_from, ipv6_end, literal, cannot_begin_ipv6}
-use Rattle.uri_parts.specs.Refusals.{refusal, last_colon, error_from_end, error_from_fragment, error_from_query, error_from_path, error_from_abempty_path, error_from_port, error_from_host, error_from_name, error_from_authority, error_from_hier_part, error_from_relative_path}
+use Rattle.uri_parts.proofs.Common.{⊤, valid_prefix_from, allows_first, begins_with_hex_digits, first_char, allows_past_ascii, is_ucschar, is_iprivate, is_end, octet_end, octets_end, groups_from, ipv6_end, literal, cannot_begin_ipv6, refusal, last_colon, error_from_end, error_from_fragment, error_from_query, error_from_path, error_from_abempty_path, error_from_port, error_from_host, error_from_name, error_from_authority, error_from_hier_part, error_from_relative_path}
 
 -- the characters that a scan passes
 unfoldable scans_on_literals : ⊤

@@ -1,20 +1,5 @@
 -- The errors after an authority, and of a host.
-use Rattle.std.proofs.Common.{◌≡◌, ℕ, ◌+◌, Bool, true, false, cond, eqb, List, [], ◌∷◌, drop, Some, refl, sym, ap, ◌∙◌, arith, ◌&&◌, ◌||◌, ⊎_elim, ◌⊎◌, inr, Ok, Err, codes, drop-drop}
-use Rattle.std.proofs.lemmas.Bool.{cond-true, cond-false, cases_Bool, eq-eqb, or_left, or_right, false≢true, and_from}
-use Rattle.std.proofs.lemmas.Bool.Decides.{nat_tests}
-use Rattle.uri_pct.specs.Sets.{TableSet, LacksPercent, digit_set, is_one_of}
-use Rattle.uri_pct.specs.Prefixes.{valid_prefix_from, valid_prefix, after}
-use Rattle.uri_pct.proofs.ValidTexts.Cuts.{excludes, valid_prefix_at_mark_is_empty}
-use Rattle.uri_pct.proofs.ValidTexts.LongestPrefixes.{empty_text_has_empty_valid_prefix}
-use Rattle.uri_pct.proofs.ValidTexts.Prefixes.{nothing_is_scanned_after_valid_prefix}
-use Rattle.uri_parts.specs.declared.error.ParseError.{ParseError}
-use Rattle.uri_parts.specs.Components.{starts, is_end}
-use Rattle.uri_parts.specs.Errors.{unexpected, stray_percent}
-use Rattle.uri_parts.specs.Refusals.{OptionalParseError, ◌>>=◌, error_from_end, error_from_fragment, error_from_query, error_from_path, error_from_abempty_path, error_from_port, error_from_host}
-use Rattle.uri_parts.specs.Scanning.{ScanResult, is_next, scan_end, scan}
-use Rattle.uri_parts.specs.Grammar.{Kind}
-use Rattle.uri_parts.specs.Models.AuthorityParsing.{is_empty_or_begins_with_any, port_length}
-use Rattle.uri_parts.specs.Models.ParseErrors.{left_over_error, error_after_port, port_error, host_error}
+use Rattle.uri_parts.proofs.Common.{◌≡◌, ℕ, ◌+◌, Bool, true, false, cond, eqb, List, [], ◌∷◌, drop, Some, refl, sym, ap, ◌∙◌, arith, ◌&&◌, ◌||◌, ⊎_elim, ◌⊎◌, inr, Ok, Err, codes, drop-drop, cond-true, cond-false, cases_Bool, eq-eqb, or_left, or_right, false≢true, and_from, nat_tests, TableSet, LacksPercent, digit_set, is_one_of, valid_prefix_from, valid_prefix, after, excludes, valid_prefix_at_mark_is_empty, empty_text_has_empty_valid_prefix, nothing_is_scanned_after_valid_prefix, ParseError, starts, is_end, unexpected, stray_percent, OptionalParseError, ◌>>=◌, error_from_end, error_from_fragment, error_from_query, error_from_path, error_from_abempty_path, error_from_port, error_from_host, ScanResult, is_next, scan_end, scan, Kind, is_empty_or_begins_with_any, port_length, left_over_error, error_after_port, port_error, host_error}
 use Rattle.uri_parts.proofs.Splitting.Cuts.{IsEmptyOrMarked}
 use Rattle.uri_parts.proofs.TextKinds.Separations.{SeparatesComponents, HasAllBut}
 
@@ -27,27 +12,23 @@ pub record Adjoins (kind : Kind) : Type 0 where
   pub only_colon : HasAllBut (codes ":") kind.reg_name kind.userinfo
 
 -- parse errors: a scan and what is next, by whether a `%` is stray
-bind-of-cond-is-cond-of-binds : (stray : Bool) (e : ParseError) (end : ℕ)
-    (next : ℕ → OptionalParseError)
-    → (cond stray (Err e) (Ok end) >>= next) ≡ cond stray (Some e) (next end)
+bind-of-cond-is-cond-of-binds : (stray : Bool) (e : ParseError) (end : ℕ) (next : ℕ
+    → OptionalParseError) → (cond stray (Err e) (Ok end) >>= next) ≡ cond stray (Some e) (next end)
 bind-of-cond-is-cond-of-binds true e end next = refl
 bind-of-cond-is-cond-of-binds false e end next = refl
 
 -- parse errors: a scan by the set stops at a `%` that begins no octet,
 -- or else the next component (next) decides the error
-pub scan-stops-at-stray-percent-or-goes-on : (text : List ℕ) (set : TableSet) (i : ℕ)
-    (next : ℕ → OptionalParseError)
-    → (scan text set i >>= next)
-    ≡ cond (set.pct_encoded && is_next text 37 (scan_end text set i))
-    (Some (stray_percent (scan_end text set i))) (next (scan_end text set i))
+pub scan-stops-at-stray-percent-or-goes-on : (text : List ℕ) (set : TableSet) (i : ℕ) (next : ℕ
+    → OptionalParseError) → (scan text set i >>= next) ≡ cond (set.pct_encoded && is_next text 37
+    (scan_end text set i)) (Some (stray_percent (scan_end text set i))) (next (scan_end text set i))
 scan-stops-at-stray-percent-or-goes-on text set i next =
     grind (arith, nat_tests, bind-of-cond-is-cond-of-binds)
 
 -- general fact on results, for parse errors:
 -- what is next may be replaced by what is equal at each position
 bind-respects-pointwise-equality : (r : ScanResult) (f g : ℕ → OptionalParseError)
-    → ((n : ℕ) → f n ≡ g n) → (r >>= f)
-    ≡ (r >>= g)
+    → ((n : ℕ) → f n ≡ g n) → (r >>= f) ≡ (r >>= g)
 bind-respects-pointwise-equality (Ok n) f g h = h n
 bind-respects-pointwise-equality (Err e) f g h = refl
 
@@ -59,9 +40,8 @@ stray-percent-stops-greater-set small great bs s g e = grind (arith, nat_tests)
 
 -- parse errors: a `%` that begins no octet stops a scan by either of two sets with octets
 pub stray-percent-stops-every-set : (small great : TableSet) (bs : List ℕ)
-    → small.pct_encoded ≡ true
-    → great.pct_encoded ≡ true → valid_prefix small bs ≡ 0 → starts 37 bs ≡ true
-    → valid_prefix great bs ≡ 0
+    → small.pct_encoded ≡ true → great.pct_encoded ≡ true
+    → valid_prefix small bs ≡ 0 → starts 37 bs ≡ true → valid_prefix great bs ≡ 0
 stray-percent-stops-every-set small great [] s g e p = absurd (false≢true p)
 stray-percent-stops-every-set small great (b ∷ bs) s g e p =
     grind (arith, nat_tests, stray-percent-stops-greater-set)
@@ -77,18 +57,16 @@ smaller-set-stops-greater-set marks small great s g more b rest m z =
     grind (arith, nat_tests, stray-percent-stops-every-set)
 
 -- parse errors: where a scan by the smaller set stops, one by the greater goes on with a mark
-pub greater-set-goes-on-with-mark : (marks : List ℕ) (small great : TableSet)
-    → small.pct_encoded ≡ true → great.pct_encoded ≡ true → HasAllBut marks small great
-    → (bs : List ℕ) → valid_prefix small bs ≡ 0
-    → (valid_prefix great bs ≡ 0) ⊎ IsEmptyOrMarked marks bs
+pub greater-set-goes-on-with-mark : (marks : List ℕ) (small great : TableSet) → small.pct_encoded
+    ≡ true → great.pct_encoded ≡ true → HasAllBut marks small great → (bs : List ℕ)
+    → valid_prefix small bs ≡ 0 → (valid_prefix great bs ≡ 0) ⊎ IsEmptyOrMarked marks bs
 greater-set-goes-on-with-mark marks small great s g more [] z = inr tt
 greater-set-goes-on-with-mark marks small great s g more (b ∷ rest) z =
     grind (arith, nat_tests, smaller-set-stops-greater-set)
 
 -- parse errors: at a delimiter that a set excludes, or at the end, nothing is scanned
 pub nothing-is-scanned-at-mark : (set : TableSet) (marks : List ℕ) → LacksPercent set
-    → excludes set marks ≡ true → (bs : List ℕ) → IsEmptyOrMarked marks bs
-    → valid_prefix set bs ≡ 0
+    → excludes set marks ≡ true → (bs : List ℕ) → IsEmptyOrMarked marks bs → valid_prefix set bs ≡ 0
 nothing-is-scanned-at-mark set marks lacks outside [] m = empty_text_has_empty_valid_prefix set
 nothing-is-scanned-at-mark set marks lacks outside (b ∷ bs) m = valid_prefix_at_mark_is_empty
     marks set lacks outside b bs m
@@ -105,8 +83,7 @@ valid_prefix-zero-at-mark marks set lacks outside (b ∷ bs) e =
 -- parse errors: where an authority ends, and not by `/` (47), it ends by `?`, `#` or the end
 mark-that-is-no-slash-is-question-or-hash : (bs : List ℕ)
     → is_empty_or_begins_with_any (codes "/?#") bs ≡ true
-    → starts 47 bs ≡ false
-    → is_empty_or_begins_with_any (codes "?#") bs ≡ true
+    → starts 47 bs ≡ false → is_empty_or_begins_with_any (codes "?#") bs ≡ true
 unfolding is_empty_or_begins_with_any
 mark-that-is-no-slash-is-question-or-hash [] e s = refl
 mark-that-is-no-slash-is-question-or-hash (b ∷ bs) e s = grind (arith, nat_tests)
@@ -151,10 +128,9 @@ module _ (segment : TableSet) (kind : Kind) (w : SeparatesComponents segment kin
   abempty-path-error-by-stray-percent p =
       grind (arith, nat_tests, scan-stops-at-stray-percent-or-goes-on)
 
-  path-error-by-stray-percent : (p : ℕ) → error_from_path kind text p
-      ≡ cond (kind.path.pct_encoded && is_next text 37 (scan_end text kind.path p))
-      (Some (stray_percent (scan_end text kind.path p)))
-      (error_from_query kind text (scan_end text kind.path p))
+  path-error-by-stray-percent : (p : ℕ) → error_from_path kind text p ≡ cond (kind.path.pct_encoded
+      && is_next text 37 (scan_end text kind.path p)) (Some (stray_percent
+      (scan_end text kind.path p))) (error_from_query kind text (scan_end text kind.path p))
   unfolding error_from_path
   path-error-by-stray-percent p = scan-stops-at-stray-percent-or-goes-on text kind.path p
       (error_from_query kind text)
@@ -165,16 +141,13 @@ module _ (segment : TableSet) (kind : Kind) (w : SeparatesComponents segment kin
   abempty-path-error-at-mark-is-path-error p e =
       let end : ℕ = scan_end text kind.path p in
       let open_or_slash : (eqb end p || is_next text 47 p) ≡ true = ⊎_elim
-      (λ s. or_right _ _ s)
-      (λ s. or_left _ _ (eq-eqb end p
-      (let z = valid_prefix-zero-at-mark (codes "?#") kind.path w.path_lacks w.path_marks
-      (drop p text)
+      (λ s. or_right _ _ s) (λ s. or_left _ _ (eq-eqb end p (let z = valid_prefix-zero-at-mark
+      (codes "?#") kind.path w.path_lacks w.path_marks (drop p text)
       (mark-that-is-no-slash-is-question-or-hash (drop p text) e s) in omega (arith, z))))
       (cases_Bool (is_next text 47 p)) in
       abempty-path-error-by-stray-percent p
       ∙ ap (cond (kind.path.pct_encoded && is_next text 37 end) (Some (stray_percent end)))
-      (cond-true _ _ _ open_or_slash)
-      ∙ sym (path-error-by-stray-percent p)
+      (cond-true _ _ _ open_or_slash) ∙ sym (path-error-by-stray-percent p)
 
   query-error-at-other-byte-is-unexpected : (p : ℕ) → is_empty_or_begins_with_any (codes "/?#")
       (drop p text) ≡ false
@@ -187,15 +160,14 @@ module _ (segment : TableSet) (kind : Kind) (w : SeparatesComponents segment kin
   abempty-path-error-at-other-byte-is-left-over : (p : ℕ)
       → is_empty_or_begins_with_any (codes "/?#") (drop p text) ≡ false
       → error_from_abempty_path kind text p ≡ left_over_error kind text p
-  abempty-path-error-at-other-byte-is-left-over p e =
-      grind (
-        arith,
-        nat_tests,
-        unmarked_text_begins_with_other_byte,
-        abempty-path-error-by-stray-percent,
-        query-error-at-other-byte-is-unexpected,
-        left_over_error-by-stray-percent,
-      )
+  abempty-path-error-at-other-byte-is-left-over p e = grind (
+    arith,
+    nat_tests,
+    unmarked_text_begins_with_other_byte,
+    abempty-path-error-by-stray-percent,
+    query-error-at-other-byte-is-unexpected,
+    left_over_error-by-stray-percent,
+  )
 
   pub error_after_port-is-from-path : (p : ℕ) → error_after_port kind text p
       ≡ error_from_abempty_path kind text p
@@ -208,14 +180,12 @@ module _ (segment : TableSet) (kind : Kind) (w : SeparatesComponents segment kin
   pub port-end-by-next-colon : (n : ℕ) → n + port_length (drop n text)
       ≡ cond (is_next text 58 n) (scan_end text digit_set (n + 1)) n
   unfolding port_length
-  port-end-by-next-colon n = ⊎_elim
-      (λ e. let l : port_length (drop n text) ≡ 1 + valid_prefix digit_set (drop 1 (drop n text)) =
-      cond-true _ _ _ e in
+  port-end-by-next-colon n = ⊎_elim (λ e. let l : port_length (drop n text)
+      ≡ 1 + valid_prefix digit_set (drop 1 (drop n text)) = cond-true _ _ _ e in
       let d = ap (valid_prefix digit_set) (drop-drop 1 n text) in
       omega (arith, l, d) ∙ sym (cond-true _ _ _ e))
       (λ e. let l : port_length (drop n text) ≡ 0 = cond-false _ _ _ e in
-      omega (arith, l) ∙ sym (cond-false _ _ _ e))
-      (cases_Bool (is_next text 58 n))
+      omega (arith, l) ∙ sym (cond-false _ _ _ e)) (cases_Bool (is_next text 58 n))
 
   port_error-is-error_from_port : (n : ℕ) → port_error kind text n ≡ error_from_port kind text n
   unfolding port_error error_from_port
@@ -223,43 +193,37 @@ module _ (segment : TableSet) (kind : Kind) (w : SeparatesComponents segment kin
       ∙ ap (error_from_abempty_path kind text) (port-end-by-next-colon n)
 
   port-error-without-colon-is-path-error : (n : ℕ) → is_next text 58 n ≡ false
-      → error_from_port kind text n
-      ≡ error_from_abempty_path kind text n
+      → error_from_port kind text n ≡ error_from_abempty_path kind text n
   unfolding error_from_port
   port-error-without-colon-is-path-error n e = ap (error_from_abempty_path kind text)
       (cond-false _ _ _ e)
 
   -- a stray `%` after a name is one in the path that is read there
   stray-percent-after-name-is-port-error : (i : ℕ) → is_next text 37 (scan_end text kind.reg_name i)
-      ≡ true
-      → port_error kind text (scan_end text kind.reg_name i)
+      ≡ true → port_error kind text (scan_end text kind.reg_name i)
       ≡ Some (stray_percent (scan_end text kind.reg_name i))
   stray-percent-after-name-is-port-error i e =
       let n : ℕ = scan_end text kind.reg_name i in
       let here : drop n text ≡ after kind.reg_name (drop i text) =
       sym (drop-drop (valid_prefix kind.reg_name (drop i text)) i text) in
-      let stop : valid_prefix kind.reg_name (drop n text) ≡ 0 =
-      ap (valid_prefix kind.reg_name) here ∙ nothing_is_scanned_after_valid_prefix kind.reg_name
-      (drop i text) in
-      let none : valid_prefix kind.path (drop n text) ≡ 0 =
-      stray-percent-stops-every-set kind.reg_name kind.path (drop n text) a.reg_name_octets
-      a.path_octets stop e in
+      let stop : valid_prefix kind.reg_name (drop n text) ≡ 0 = ap (valid_prefix kind.reg_name) here
+      ∙ nothing_is_scanned_after_valid_prefix kind.reg_name (drop i text) in
+      let none : valid_prefix kind.path (drop n text) ≡ 0 = stray-percent-stops-every-set
+      kind.reg_name kind.path (drop n text) a.reg_name_octets a.path_octets stop e in
       let last : scan_end text kind.path n ≡ n = omega arith in
       let s = percent-is-no-colon-or-mark (drop n text) e in
       port_error-is-error_from_port n ∙ port-error-without-colon-is-path-error n s.0
       ∙ abempty-path-error-at-other-byte-is-left-over n s.1 ∙ left_over_error-by-stray-percent n
       ∙ ap (λ k. cond (kind.path.pct_encoded && is_next text 37 k) (Some (stray_percent k))
-      (Some (unexpected n))) last
-      ∙ cond-true _ _ _ (and_from _ _ a.path_octets e)
+      (Some (unexpected n))) last ∙ cond-true _ _ _ (and_from _ _ a.path_octets e)
 
   pub host_error-is-error_from_host : (i : ℕ) → host_error kind text i ≡ error_from_host kind text i
   unfolding host_error error_from_host
-  host_error-is-error_from_host i =
-      grind (
-        arith,
-        nat_tests,
-        bind-respects-pointwise-equality,
-        port_error-is-error_from_port,
-        scan-stops-at-stray-percent-or-goes-on,
-        stray-percent-after-name-is-port-error,
-      )
+  host_error-is-error_from_host i = grind (
+    arith,
+    nat_tests,
+    bind-respects-pointwise-equality,
+    port_error-is-error_from_port,
+    scan-stops-at-stray-percent-or-goes-on,
+    stray-percent-after-name-is-port-error,
+  )

@@ -1,7 +1,5 @@
 -- The errors of some texts, by the definition alone.
-use Rattle.std.proofs.Common.{◌≡◌, map, refl}
-use Rattle.uri_parts.specs.Grammar.{uri, uri_ref}
-use Rattle.uri_parts.specs.Refusals.{refusal}
+use Rattle.uri_parts.proofs.Common.{◌≡◌, map, refl, uri, uri_ref, refusal}
 use Rattle.uri_parts.specs.RefusalRows.{uri_ref_rows, uri_rows}
 use Rattle.uri_parts.proofs.Refusals.OnLiterals.{errors_on_literals}
 

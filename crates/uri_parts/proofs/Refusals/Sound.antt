@@ -1,22 +1,8 @@
 -- What is read as an IPv6 address with something after it, as `]`, is one.
-use Rattle.std.proofs.Common.{◌≡◌, ◌≢◌, ℕ, zero, suc, ◌+◌, ◌-◌, ◌<◌, ◌≤◌, Bool, true, false, not, cond, eqb, List, [], ◌∷◌, ◌++◌, length, get_or, drop, decimal, Option, Some, None, refl, sym, ap, subst, ◌∙◌, arith, ◌&&◌, ◌||◌, ⊎_elim, inl, inr, append_assoc, length-drop, eqb-true, get_or-drop, add-zero, replicate, slice_range, nat_lt, codes}
-use Rattle.std.specs.Str.Parse.{digits_value}
-use Rattle.std.specs.Net.Addr.{segments_of}
-use Rattle.std.specs.Net.Grammar.{IsDotted, IsGroupsAfter, IsColonHex}
-use Rattle.std.specs.Net.Text.{dotted_text}
-use Rattle.std.proofs.lemmas.Bool.{cond-true, cases_Bool, and_parts, eq-eqb, both_ways}
-use Rattle.std.proofs.lemmas.Option.{none-some, same_Some}
-use Rattle.std.proofs.lemmas.List.{get_or-take, drop-drop, drop_more}
+use Rattle.uri_parts.proofs.Common.{◌≡◌, ◌≢◌, ℕ, zero, suc, ◌+◌, ◌-◌, ◌<◌, ◌≤◌, Bool, true, false, not, cond, eqb, List, [], ◌∷◌, ◌++◌, length, get_or, drop, decimal, Option, Some, None, refl, sym, ap, subst, ◌∙◌, arith, ◌&&◌, ◌||◌, ⊎_elim, inl, inr, append_assoc, length-drop, eqb-true, get_or-drop, add-zero, replicate, slice_range, nat_lt, codes, digits_value, segments_of, IsDotted, IsGroupsAfter, IsColonHex, dotted_text, cond-true, cases_Bool, and_parts, eq-eqb, both_ways, none-some, same_Some, get_or-take, drop-drop, drop_more, cond_none, and_then_some, is_digit, drop_split, decimal-digits_value, decimal_digit, nat_tests, starts, is_end, Groups, Groups_end, Elision, Malformed, digits_end, octet_end, octets_end, ipv4_end, after_ipv4, groups_from, ipv6_end, after_groups, after_elision}
 use Rattle.std.proofs.lemmas.List.Sums.{prefix_len-le-length}
-use Rattle.std.proofs.NetLemmas.Options.{cond_none, and_then_some}
-use Rattle.std.specs.Char.{is_digit}
 use Rattle.uri_parts.proofs.HostForms.AddressParsing.{dotted as dotted_with}
-use Rattle.std.proofs.lemmas.List.Folds.{drop_split}
-use Rattle.std.proofs.lemmas.Fmt.{decimal-digits_value, decimal_digit}
 use Rattle.std.proofs.lemmas.Str.Parse.{numerals_by_value, tells_digits}
-use Rattle.std.proofs.lemmas.Bool.Decides.{nat_tests}
-use Rattle.uri_parts.specs.Components.{starts, is_end}
-use Rattle.uri_parts.specs.LiteralErrors.{Groups, Groups_end, Elision, Malformed, digits_end, octet_end, octets_end, ipv4_end, after_ipv4, groups_from, ipv6_end, after_groups, after_elision}
 use Rattle.uri_parts.proofs.Refusals.Digits.{text-to-digits_end-is-digits, length-of-text-to-digits_end}
 use Rattle.uri_parts.proofs.Refusals.GroupTurns.{groups_from-ends-without-room, dotted, text-with-mark-is-not-ended, groups_from-ends-without-group, groups_from-elides-at-two-colons, groups_from-rejects-lone-colon, groups_from-ends-with-text, groups_from-rejects-misplaced-colon, groups_from-rejects-ipv4-without-room, groups_from-goes-on-after-group}
 use Rattle.uri_parts.proofs.Splitting.Recompose.{text-with-mark-is-mark-and-rest}
@@ -43,9 +29,8 @@ module _ (text : List ℕ) where
     split : drop i text ≡ decimal value ++ drop end text
 
   digits-up-to-255-are-octet : (i : ℕ) → starts 48 (drop i text) ≡ false
-      → i < digits_end text 10 3 i
-      → digits_value 10 (slice_range text i (digits_end text 10 3 i)) ≤ 255
-      → IsOctet i (digits_end text 10 3 i)
+      → i < digits_end text 10 3 i → digits_value 10 (slice_range text i (digits_end text 10 3 i))
+      ≤ 255 → IsOctet i (digits_end text 10 3 i)
   digits-up-to-255-are-octet i z l v =
       let end : ℕ = digits_end text 10 3 i in
       let ds : List ℕ = slice_range text i end in
@@ -67,14 +52,13 @@ module _ (text : List ℕ) where
 
   octet_end-ends-an-octet : (i end : ℕ) → octet_end text i ≡ Some end → IsOctet i end
   unfolding octet_end
-  octet_end-ends-an-octet i end e =
-      grind (
-        arith,
-        nat_tests,
-        text-at-mark-is-mark-and-rest,
-        decimal_digit,
-        digits-up-to-255-are-octet,
-      )
+  octet_end-ends-an-octet i end e = grind (
+    arith,
+    nat_tests,
+    text-at-mark-is-mark-and-rest,
+    decimal_digit,
+    digits-up-to-255-are-octet,
+  )
 
   octets_end-passed-dot-and-octet : (n i end : ℕ) → octets_end text (suc n) i ≡ Some end →
       (mid : ℕ) × (drop i text ≡ 46 ∷ drop (i + 1) text) × (octet_end text (i + 1) ≡ Some mid)
@@ -135,8 +119,7 @@ module _ (text : List ℕ) where
   abbrev Sound : ℕ → Bool → ℕ → Groups → Type 0
   Sound room is_first i (Groups_end m end) =
       is_end (drop end text) ≡ false → Parses true room is_first i m (drop end text)
-  Sound room is_first i (Elision m end) =
-      Parses false room is_first i m (58 ∷ 58 ∷ drop end text)
+  Sound room is_first i (Elision m end) = Parses false room is_first i m (58 ∷ 58 ∷ drop end text)
   Sound room is_first i Malformed = Unit {0}
 
   no-groups-parse-to-same-text : (ipv4 : Bool) (room : ℕ) (is_first : Bool) (i : ℕ)
@@ -155,15 +138,13 @@ module _ (text : List ℕ) where
       let within = digits_end-is-within-text 16 4 group longer in
       let ds : List ℕ = slice_range text group last in
       let long = length-of-text-to-digits_end text 16 4 group within in
-      let cut : drop group text ≡ ds ++ (w.groups ++ suffix) =
-      drop_split text group last (omega (arith, longer)) ∙ ap (λ t. ds ++ t)
-      (ap (λ n. drop n text) (sym l) ∙ w.split) in
+      let cut : drop group text ≡ ds ++ (w.groups ++ suffix) = drop_split text group last
+      (omega (arith, longer)) ∙ ap (λ t. ds ++ t) (ap (λ n. drop n text) (sym l) ∙ w.split) in
       record {
         groups = lead is_first ++ (ds ++ w.groups);
         segments = digits_value 16 ds ∷ w.segments;
-        split = led ∙ ap (λ t. lead is_first ++ t) cut
-            ∙ sym (append_assoc (lead is_first) (ds ++ w.groups) suffix
-            ∙ ap (λ t. lead is_first ++ t) (append_assoc ds w.groups suffix));
+        split = led ∙ ap (λ t. lead is_first ++ t) cut ∙ sym (append_assoc (lead is_first) (ds
+            ++ w.groups) suffix ∙ ap (λ t. lead is_first ++ t) (append_assoc ds w.groups suffix));
         are = inl (
           ds,
           w.groups,
@@ -196,16 +177,14 @@ module _ (text : List ℕ) where
   -- a group has its `:`, but the first
   group-follows-its-colon : (is_first : Bool) (i : ℕ)
       → (starts 58 (drop i text) && is_first || not (starts 58 (drop i text)) && not is_first)
-      ≡ false
-      → drop i text ≡ lead is_first ++ drop (cond (starts 58 (drop i text)) (i + 1) i) text
+      ≡ false → drop i text ≡ lead is_first ++ drop (cond (starts 58 (drop i text)) (i + 1) i) text
   group-follows-its-colon true i m = grind (arith, nat_tests)
   group-follows-its-colon false i m = grind (arith, nat_tests, text-at-mark-is-mark-and-rest)
 
   -- an IPv4 address ends the groups
-  ipv4-ends-sound-groups : (r : ℕ) (is_first : Bool) (i group : ℕ) → r ≢ 0
-      → drop i text ≡ lead is_first ++ drop group text
-      → (o : Option ℕ) → ipv4_end text group ≡ o
-      → Sound (suc r) is_first i (after_ipv4 text (r - 1) o)
+  ipv4-ends-sound-groups : (r : ℕ) (is_first : Bool) (i group : ℕ)
+      → r ≢ 0 → drop i text ≡ lead is_first ++ drop group text → (o : Option ℕ)
+      → ipv4_end text group ≡ o → Sound (suc r) is_first i (after_ipv4 text (r - 1) o)
   ipv4-ends-sound-groups r is_first i group left led None e = tt
   ipv4-ends-sound-groups r is_first i group left led (Some last) e = λ z.
       let w = ipv4_end-ends-an-ipv4 group last e in
@@ -228,51 +207,33 @@ module _ (text : List ℕ) where
       let end : ℕ = digits_end text 16 4 group in
       let n : suc r ≡ r + 1 = omega arith in
       let S : Groups → Type 0 = Sound (suc r) is_first i in
-      ⊎_elim
-      (λ q.
+      ⊎_elim (λ q.
       let none : end ≡ group = eqb-true end group q in
-      ⊎_elim
-      (λ c. ⊎_elim
-      (λ d. subst S (sym (groups_from-elides-at-two-colons text (suc r) r is_first i group end n
-      refl refl none c d))
-      (double-colon-is-parsed r is_first i group c (cond-true _ _ _ c) d))
-      (λ d. subst S (sym (groups_from-rejects-lone-colon text (suc r) r is_first i group end n refl
-      refl none c d)) tt)
-      (cases_Bool (starts 58 (drop group text))))
-      (λ c. subst S (sym (groups_from-ends-without-group text (suc r) r is_first i group end n refl
-      refl none c))
-      (λ z. no-groups-parse-to-same-text true (suc r) is_first i))
-      (cases_Bool colon))
-      (λ q.
+      ⊎_elim (λ c. ⊎_elim (λ d. subst S (sym (groups_from-elides-at-two-colons text
+      (suc r) r is_first i group end n refl refl none c d))
+      (double-colon-is-parsed r is_first i group c (cond-true _ _ _ c) d)) (λ d. subst S (sym
+      (groups_from-rejects-lone-colon text (suc r) r is_first i group end n refl refl none c d)) tt)
+      (cases_Bool (starts 58 (drop group text)))) (λ c. subst S
+      (sym (groups_from-ends-without-group text (suc r) r is_first i group end n refl refl none c))
+      (λ z. no-groups-parse-to-same-text true (suc r) is_first i)) (cases_Bool colon)) (λ q.
       let some : end ≢ group = λ s. both_ways _ q (eq-eqb end group s) in
-      ⊎_elim
-      (λ o. subst S (sym (groups_from-ends-with-text text (suc r) r is_first i group end n refl
-      refl some o))
+      ⊎_elim (λ o. subst S
+      (sym (groups_from-ends-with-text text (suc r) r is_first i group end n refl refl some o))
       (λ z. absurd (both_ways _ z (and_parts _ _ o).1)))
-      (λ o. ⊎_elim
-      (λ m. subst S (sym (groups_from-rejects-misplaced-colon text (suc r) r is_first i group end n
-      refl refl some o m)) tt)
-      (λ m.
+      (λ o. ⊎_elim (λ m. subst S (sym (groups_from-rejects-misplaced-colon text
+      (suc r) r is_first i group end n refl refl some o m)) tt) (λ m.
       let led = group-follows-its-colon is_first i m in
-      ⊎_elim
-      (λ d. ⊎_elim
-      (λ z. subst S (sym (groups_from-rejects-ipv4-without-room text (suc r) r is_first i group end
-      n refl refl some o m d
-      (eqb-true r 0 z))) tt)
-      (λ z.
+      ⊎_elim (λ d. ⊎_elim (λ z. subst S (sym (groups_from-rejects-ipv4-without-room text
+      (suc r) r is_first i group end n refl refl some o m d (eqb-true r 0 z))) tt) (λ z.
       let left : r ≢ 0 = λ s. both_ways _ z (eq-eqb r 0 s) in
       subst S (sym (dotted text (suc r) r is_first i group end n refl refl some o m d left))
       (ipv4-ends-sound-groups r is_first i group left led (ipv4_end text group) refl))
-      (cases_Bool (eqb r 0)))
-      (λ d. subst S (sym (groups_from-goes-on-after-group text (suc r) r is_first i group end n refl
-      refl some o m d))
-      (soundness-after-one-more-group r is_first i group end (groups_from text r false end)
-      led refl some
-      (groups_from-is-sound r false end)))
+      (cases_Bool (eqb r 0))) (λ d. subst S (sym (groups_from-goes-on-after-group text (suc r)
+      r is_first i group end n refl refl some o m d)) (soundness-after-one-more-group r is_first
+      i group end (groups_from text r false end) led refl some (groups_from-is-sound r false end)))
       (cases_Bool (nat_lt end (group + 4) && starts 46 (drop end text))))
       (cases_Bool (colon && is_first || not colon && not is_first)))
-      (cases_Bool (nat_lt end (group + 4) && is_end (drop end text))))
-      (cases_Bool (eqb end group))
+      (cases_Bool (nat_lt end (group + 4) && is_end (drop end text)))) (cases_Bool (eqb end group))
 
   -- an address, and what is after it
   pub record Holds (i end : ℕ) : Type 0 where
@@ -292,8 +253,7 @@ module _ (text : List ℕ) where
       record {
         address = head.groups ++ codes "::" ++ tail.groups;
         segments = head.segments
-            ++ replicate (8 - length head.segments - length tail.segments) 0
-            ++ tail.segments;
+            ++ replicate (8 - length head.segments - length tail.segments) 0 ++ tail.segments;
         split = head.split ∙ ap (λ t. head.groups ++ (58 ∷ 58 ∷ t))
             (tail.split ∙ ap (λ n. tail.groups ++ drop n text) same)
             ∙ sym (append_assoc (head.groups ++ codes "::") tail.groups (drop end text)
@@ -316,20 +276,17 @@ module _ (text : List ℕ) where
   groups-give-ipv6 : (i end : ℕ) (g : Groups) → Sound 8 true i g → after_groups text g ≡ Some end
       → is_end (drop end text) ≡ false → Holds i end
   groups-give-ipv6 i end (Groups_end room last) s b c = grind (arith, nat_tests)
-  groups-give-ipv6 i end (Elision room last) s b c =
-      elision-gives-ipv6 i room last end s (groups_from text room true last)
-      (groups_from-is-sound room true last) b c
+  groups-give-ipv6 i end (Elision room last) s b c = elision-gives-ipv6 i room last end s
+      (groups_from text room true last) (groups_from-is-sound room true last) b c
   groups-give-ipv6 i end Malformed s b c = absurd (none-some end b)
 
-  pub ipv6_end-before-text-ends-ipv6 : (i end : ℕ) → ipv6_end text i ≡ Some end
-      → is_end (drop end text) ≡ false
-      → Holds i end
+  pub ipv6_end-before-text-ends-ipv6 : (i end : ℕ)
+      → ipv6_end text i ≡ Some end → is_end (drop end text) ≡ false → Holds i end
   unfolding ipv6_end
   ipv6_end-before-text-ends-ipv6 i end e c = groups-give-ipv6 i end (groups_from text 8 true i)
       (groups_from-is-sound 8 true i) e c
 
-  pub ipv6_end-before-bracket-ends-ipv6 : (i end : ℕ) → ipv6_end text i ≡ Some end
-      → starts 93 (drop end text) ≡ true
-      → Holds i end
+  pub ipv6_end-before-bracket-ends-ipv6 : (i end : ℕ)
+      → ipv6_end text i ≡ Some end → starts 93 (drop end text) ≡ true → Holds i end
   ipv6_end-before-bracket-ends-ipv6 i end e c = ipv6_end-before-text-ends-ipv6 i end e
       (text-with-mark-is-not-ended 93 (drop end text) c)

@@ -1,12 +1,6 @@
 -- The components of a text at their positions, as callers cut them out.
-use Rattle.std.proofs.Common.{◌≡◌, ℕ, ◌+◌, ◌-◌, ◌<◌, ◌≤◌, List, length, take, drop, sym, ap, subst, ◌∙◌, arith, Some, None, nat_lt, is_some, IsUtf8, take_all, length-drop, le-ltb}
-use Rattle.std.proofs.lemmas.Option.{MatchOption-at_some}
-use Rattle.uri_parts.specs.declared.positions.Positions.{Positions}
-use Rattle.uri_parts.specs.declared.positions.AuthorityPositions.{AuthorityPositions}
-use Rattle.uri_parts.specs.Components.{components}
-use Rattle.uri_parts.specs.Positions.{ArePositionsOf, positions_of, before_fragment}
+use Rattle.uri_parts.proofs.Common.{◌≡◌, ℕ, ◌+◌, ◌-◌, ◌<◌, ◌≤◌, List, length, take, drop, sym, ap, subst, ◌∙◌, arith, Some, None, nat_lt, is_some, IsUtf8, take_all, length-drop, le-ltb, MatchOption-at_some, Positions, AuthorityPositions, components, ArePositionsOf, positions_of, before_fragment, None-from-not-is_some}
 use Rattle.uri_parts.proofs.Splitting.Recompose.{components-are-split-of-text}
-use Rattle.uri_pct.proofs.General.{None-from-not-is_some}
 use Rattle.uri_parts.proofs.Splitting.Places.{IsComponentAt, authority-of-split-is-at-positions, path-of-split-is-at-positions, before_hash, query-of-split-is-at-positions, length-before_hash, split-text-is-before-fragment-and-fragment, fragment-is-slice-to-end, longer_than_before_fragment_if_some}
 
 -- positions: the path of a text is between path_start and path_end
@@ -19,10 +13,9 @@ path_is_at_positions text p utf8 at =
     (components-are-split-of-text text) utf8)
 
 -- positions: the authority of a text is between its start and its end
-pub authority_is_at_positions : (text : List ℕ) (p : Positions) → IsUtf8 text
-    → ArePositionsOf text p
-    → (a : AuthorityPositions) → p.authority ≡ Some a
-    → IsComponentAt text a.start a.end (components text).authority
+pub authority_is_at_positions : (text : List ℕ) (p : Positions)
+    → IsUtf8 text → ArePositionsOf text p → (a : AuthorityPositions)
+    → p.authority ≡ Some a → IsComponentAt text a.start a.end (components text).authority
 authority_is_at_positions text p utf8 at a here =
     let c = components text in
     let split = components-are-split-of-text text in
@@ -55,10 +48,9 @@ has_fragment text p at mark here =
     (split-text-is-before-fragment-and-fragment text c (components-are-split-of-text text)))
 
 -- positions: the fragment of a text is from after its `#`, at mark, to the end of the text
-pub fragment_is_at_positions : (text : List ℕ) (p : Positions) → IsUtf8 text → ArePositionsOf text p
-    → (mark : ℕ)
-    → mark ≡ before_fragment p → mark < length text
-    → IsComponentAt text (mark + 1) (length text) (components text).fragment
+pub fragment_is_at_positions : (text : List ℕ) (p : Positions)
+    → IsUtf8 text → ArePositionsOf text p → (mark : ℕ) → mark ≡ before_fragment p
+    → mark < length text → IsComponentAt text (mark + 1) (length text) (components text).fragment
 fragment_is_at_positions text p utf8 at mark here less =
     let c = components text in
     let n = length-before_hash c ∙ sym (here ∙ ap before_fragment at) in
@@ -69,10 +61,9 @@ fragment_is_at_positions text p utf8 at mark here less =
     less
 
 -- positions: the fragment is the slice from after its `#` to the end
-pub fragment_is_rest_of_text : (text : List ℕ) (p : Positions) → IsUtf8 text → ArePositionsOf text p
-    → (mark : ℕ)
-    → mark ≡ before_fragment p → mark < length text
-    → Some (drop (mark + 1) text) ≡ (components text).fragment
+pub fragment_is_rest_of_text : (text : List ℕ) (p : Positions)
+    → IsUtf8 text → ArePositionsOf text p → (mark : ℕ) → mark ≡ before_fragment p
+    → mark < length text → Some (drop (mark + 1) text) ≡ (components text).fragment
 fragment_is_rest_of_text text p utf8 at mark here less =
     let all : take (length text - (mark + 1)) (drop (mark + 1) text) ≡ drop (mark + 1) text =
     take_all (length text - (mark + 1)) (drop (mark + 1) text)
@@ -82,6 +73,5 @@ fragment_is_rest_of_text text p utf8 at mark here less =
 -- positions: a text that ends before a fragment's `#` has no fragment
 pub no_fragment_at_end : (text : List ℕ) (p : Positions) → ArePositionsOf text p → (mark : ℕ)
     → mark ≡ before_fragment p → length text ≤ mark → (components text).fragment ≡ None
-no_fragment_at_end text p at mark here more =
-    None-from-not-is_some (components text).fragment
+no_fragment_at_end text p at mark here more = None-from-not-is_some (components text).fragment
     (sym (has_fragment text p at mark here) ∙ le-ltb mark (length text) more)

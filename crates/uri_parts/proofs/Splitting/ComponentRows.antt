@@ -1,6 +1,5 @@
 -- The components of some texts, by computation.
-use Rattle.std.proofs.Common.{◌≡◌, [], refl, codes, Some, None}
-use Rattle.uri_parts.specs.Components.{components, recompose}
+use Rattle.uri_parts.proofs.Common.{◌≡◌, [], refl, codes, Some, None, components, recompose}
 
 -- examples of splitting: the components of the example of RFC 3986, section 3
 components-of-rfc-3986-example : components (codes "foo://example.com/over/there?name=ferret#nose")
@@ -35,39 +34,33 @@ empty-text-has-empty-path-alone : components []
 empty-text-has-empty-path-alone = refl
 
 -- examples of splitting: `//h` is an authority and an empty path
-components-of-authority-alone : components (codes "//h")
-    ≡ record {
-      scheme = None;
-      authority = Some (codes "h");
-      path = [];
-      query = None;
-      fragment =
-          None;
-    }
+components-of-authority-alone : components (codes "//h") ≡ record {
+  scheme = None;
+  authority = Some (codes "h");
+  path = [];
+  query = None;
+  fragment = None;
+}
 components-of-authority-alone = refl
 
 -- examples of splitting: `file:///a` has an empty authority
-components-of-empty-authority : components (codes "file:///a")
-    ≡ record {
-      scheme = Some (codes "file");
-      authority = Some [];
-      path = codes "/a";
-      query =
-          None;
-      fragment = None;
-    }
+components-of-empty-authority : components (codes "file:///a") ≡ record {
+  scheme = Some (codes "file");
+  authority = Some [];
+  path = codes "/a";
+  query = None;
+  fragment = None;
+}
 components-of-empty-authority = refl
 
 -- examples of splitting: `?q#f` is an empty path, a query and a fragment
-components-of-query-and-fragment : components (codes "?q#f")
-    ≡ record {
-      scheme = None;
-      authority = None;
-      path = [];
-      query = Some (codes "q");
-      fragment =
-          Some (codes "f");
-    }
+components-of-query-and-fragment : components (codes "?q#f") ≡ record {
+  scheme = None;
+  authority = None;
+  path = [];
+  query = Some (codes "q");
+  fragment = Some (codes "f");
+}
 components-of-query-and-fragment = refl
 
 -- examples of splitting: `?#` is an empty path, an empty query and an empty fragment
@@ -76,27 +69,23 @@ components-of-empty-query-and-fragment : components (codes "?#")
 components-of-empty-query-and-fragment = refl
 
 -- examples of splitting: a fragment may have `#`, `?` and `:` in it
-fragment-may-hold-marks : components (codes "#a#b?c:d")
-    ≡ record {
-      scheme = None;
-      authority = None;
-      path = [];
-      query = None;
-      fragment =
-          Some (codes "a#b?c:d");
-    }
+fragment-may-hold-marks : components (codes "#a#b?c:d") ≡ record {
+  scheme = None;
+  authority = None;
+  path = [];
+  query = None;
+  fragment = Some (codes "a#b?c:d");
+}
 fragment-may-hold-marks = refl
 
 -- examples of splitting: the first `:` ends the scheme, and a second one is in the path
-first_colon_ends_the_scheme : components (codes "a:b:c")
-    ≡ record {
-      scheme = Some (codes "a");
-      authority = None;
-      path = codes "b:c";
-      query =
-          None;
-      fragment = None;
-    }
+first_colon_ends_the_scheme : components (codes "a:b:c") ≡ record {
+  scheme = Some (codes "a");
+  authority = None;
+  path = codes "b:c";
+  query = None;
+  fragment = None;
+}
 first_colon_ends_the_scheme = refl
 
 -- examples of splitting: a text that begins with `:` has no scheme
@@ -105,13 +94,11 @@ colon-at-start-begins-no-scheme : components (codes ":x")
 colon-at-start-begins-no-scheme = refl
 
 -- examples of splitting: a `//` within a path begins no authority
-double-slash-inside-path-begins-no-authority : components (codes "/a//b")
-    ≡ record {
-      scheme = None;
-      authority = None;
-      path = codes "/a//b";
-      query = None;
-      fragment =
-          None;
-    }
+double-slash-inside-path-begins-no-authority : components (codes "/a//b") ≡ record {
+  scheme = None;
+  authority = None;
+  path = codes "/a//b";
+  query = None;
+  fragment = None;
+}
 double-slash-inside-path-begins-no-authority = refl

@@ -1,10 +1,5 @@
 -- A text cut before the first of some marks.
-use Rattle.std.proofs.Common.{◌≡◌, ℕ, zero, suc, true, false, List, [], ◌∷◌, ◌++◌, take, drop, refl, ap, ◌∙◌, arith, ⊎_elim}
-use Rattle.std.proofs.lemmas.Bool.{cases_Bool, eqb-true}
-use Rattle.std.proofs.lemmas.Bool.Decides.{nat_tests}
-use Rattle.uri_pct.specs.Sets.{is_one_of}
-use Rattle.uri_pct.proofs.ValidTexts.MarksInTexts.{length_before_mark_at_start_is_zero, length_before_marks_counts_other_byte}
-use Rattle.uri_parts.specs.Components.{Lacks, before_any, from_any, starts}
+use Rattle.uri_parts.proofs.Common.{◌≡◌, ℕ, zero, suc, true, false, List, [], ◌∷◌, ◌++◌, take, drop, refl, ap, ◌∙◌, arith, ⊎_elim, cases_Bool, eqb-true, nat_tests, is_one_of, length_before_mark_at_start_is_zero, length_before_marks_counts_other_byte, Lacks, before_any, from_any, starts}
 
 -- splitting: the text is empty or begins with one of the delimiters, which come first
 abbrev pub IsEmptyOrMarked : List ℕ → List ℕ → Type 0
@@ -12,9 +7,8 @@ IsEmptyOrMarked marks [] = Unit {0}
 IsEmptyOrMarked marks (c ∷ rest) = is_one_of marks c ≡ true
 
 -- splitting: what is empty or begins with a delimiter, is or does so for more delimiters too
-pub empty-or-marked-for-more-marks : (some all text : List ℕ)
-    → ((c : ℕ) → is_one_of some c ≡ true → is_one_of all c ≡ true) → IsEmptyOrMarked some text
-    → IsEmptyOrMarked all text
+pub empty-or-marked-for-more-marks : (some all text : List ℕ) → ((c : ℕ) → is_one_of some c ≡ true
+    → is_one_of all c ≡ true) → IsEmptyOrMarked some text → IsEmptyOrMarked all text
 empty-or-marked-for-more-marks some all [] more begins = tt
 empty-or-marked-for-more-marks some all (c ∷ text) more begins = more c begins
 
@@ -67,8 +61,7 @@ byte-and-rest-lack-marks marks c text h = (h 0 0 (omega arith), λ k d l. h (suc
 
 -- splitting: with another byte before it, a text without some delimiters lacks them still
 pub text-after-other-byte-lacks-marks : (marks : List ℕ) (c : ℕ) (text : List ℕ)
-    → is_one_of marks c ≡ false
-    → Lacks marks text → Lacks marks (c ∷ text)
+    → is_one_of marks c ≡ false → Lacks marks text → Lacks marks (c ∷ text)
 text-after-other-byte-lacks-marks marks c text e h zero d l = e
 text-after-other-byte-lacks-marks marks c text e h (suc k) d l = h k d (omega arith)
 
@@ -83,8 +76,7 @@ cut-at-end-of-text-without-marks marks [] (y ∷ ys) lacks begins =
 cut-at-end-of-text-without-marks marks (x ∷ xs) ys lacks begins =
     let parts = byte-and-rest-lack-marks marks x xs lacks in
     let rest = cut-at-end-of-text-without-marks marks xs ys parts.1 begins in (
-      before_any-past-other marks x (xs ++ ys) parts.0
-          ∙ ap (λ t. x ∷ t) rest.0,
+      before_any-past-other marks x (xs ++ ys) parts.0 ∙ ap (λ t. x ∷ t) rest.0,
       from_any-past-other marks x (xs ++ ys) parts.0 ∙ rest.1,
     )
 
@@ -103,12 +95,10 @@ text-is-cut-at-first-mark marks (c ∷ text) = ⊎_elim
       whole = refl;
       lacks = λ k d l. absurd (omega arith);
       begins = h;
-    })
-    (λ h.
+    }) (λ h.
     let rest = text-is-cut-at-first-mark marks text in
     rw (before_any-past-other marks c text h, from_any-past-other marks c text h) record {
       whole = ap (λ t. c ∷ t) rest.whole;
       lacks = text-after-other-byte-lacks-marks marks c (before_any marks text) h rest.lacks;
       begins = rest.begins;
-    })
-    (cases_Bool (is_one_of marks c))
+    }) (cases_Bool (is_one_of marks c))

@@ -1,11 +1,6 @@
 -- Where each component of a recomposed text is cut: one lemma a component, over its own text.
-use Rattle.std.proofs.Common.{◌≡◌, ℕ, ◌<◌, true, false, eqb, List, [], ◌∷◌, ◌++◌, length, drop, refl, ap, ◌∙◌, arith, append_assoc, codes, Some, None, Option, IfSome, IfNone, append-nil}
-use Rattle.std.proofs.lemmas.Bool.{cond-true, cond-false, and_left, and_from, eqb-true, not_from_false}
-use Rattle.std.proofs.lemmas.Bool.Decides.{nat_tests}
-use Rattle.uri_pct.specs.Sets.{is_one_of}
-use Rattle.uri_parts.specs.Components.{marked, starts, has_scheme, has_authority, after_scheme, after_authority, after_query, when, Lacks, IsAbemptyPath, before_any, from_any}
+use Rattle.uri_parts.proofs.Common.{◌≡◌, ℕ, ◌<◌, true, false, eqb, List, [], ◌∷◌, ◌++◌, length, drop, refl, ap, ◌∙◌, arith, append_assoc, codes, Some, None, Option, IfSome, IfNone, append-nil, cond-true, cond-false, and_left, and_from, eqb-true, not_from_false, nat_tests, is_one_of, marked, starts, has_scheme, has_authority, after_scheme, after_authority, after_query, when, Lacks, IsAbemptyPath, before_any, from_any, eq_true_from_IsTrue}
 use Rattle.uri_parts.proofs.Splitting.Cuts.{IsEmptyOrMarked, empty-or-marked-for-more-marks, cut-at-end-of-text-without-marks}
-use Rattle.uri_pct.proofs.General.{eq_true_from_IsTrue}
 
 -- recomposing: the text of a fragment with its `#`, or nothing
 abbrev pub fragment_text : Option (List ℕ) → List ℕ
@@ -78,8 +73,7 @@ slash-ends-authority c e = ap (is_one_of (codes "/?#")) (eqb-true c 47 e)
 
 -- recomposing: a path that is empty or begins with `/` ends an authority
 pub rooted-path-ends-authority : (path tail : List ℕ) → IsAbemptyPath path
-    → IsEmptyOrMarked (codes "?#") tail
-    → IsEmptyOrMarked (codes "/?#") (path ++ tail)
+    → IsEmptyOrMarked (codes "?#") tail → IsEmptyOrMarked (codes "/?#") (path ++ tail)
 rooted-path-ends-authority [] tail rooted begins =
     grind (arith, nat_tests, empty-or-marked-for-more-marks)
 rooted-path-ends-authority (c ∷ path) tail rooted begins =
@@ -87,12 +81,11 @@ rooted-path-ends-authority (c ∷ path) tail rooted begins =
 
 -- recomposing: the authority that is found is the one that was written,
 -- and path and tail are left after it
-pub authority-found : (authority : Option (List ℕ)) (path tail : List ℕ) →
-    IfSome authority (λ a. Lacks (codes "/?#") a × IsAbemptyPath path)
-    → IfNone authority (has_authority path ≡ false) → IsEmptyOrMarked (codes "?#") tail →
-    (when (has_authority (marked (codes "//") authority [] ++ (path ++ tail)))
-    (before_any (codes "/?#") (drop 2 (marked (codes "//") authority [] ++ (path ++ tail))))
-    ≡ authority)
+pub authority-found : (authority : Option (List ℕ)) (path tail : List ℕ)
+    → IfSome authority (λ a. Lacks (codes "/?#") a × IsAbemptyPath path)
+    → IfNone authority (has_authority path ≡ false) → IsEmptyOrMarked (codes "?#") tail
+    → (when (has_authority (marked (codes "//") authority [] ++ (path ++ tail))) (before_any
+    (codes "/?#") (drop 2 (marked (codes "//") authority [] ++ (path ++ tail)))) ≡ authority)
     × (after_authority (marked (codes "//") authority [] ++ (path ++ tail)) ≡ path ++ tail)
 authority-found None path tail some none begins = grind (arith, nat_tests, has_authority-append)
 authority-found (Some a) path tail some none begins =
@@ -127,10 +120,8 @@ scheme-found (Some s) rest some none =
     let e : text ≡ s ++ (58 ∷ rest) = append_assoc s (codes ":") rest in
     let cut = cut-at-end-of-text-without-marks (codes ":/?#") s (58 ∷ rest) some.1 refl in
     let back : from_any (codes ":/?#") text ≡ 58 ∷ rest = ap (from_any (codes ":/?#")) e ∙ cut.1 in
-    let t : has_scheme text ≡ true =
-    and_from _ _ (ap (starts 58) back)
-    (not_from_false _ (ap (starts 58) e ∙ scheme-does-not-begin-with-colon s rest some.0 some.1))
-    in (
+    let t : has_scheme text ≡ true = and_from _ _ (ap (starts 58) back) (not_from_false _
+    (ap (starts 58) e ∙ scheme-does-not-begin-with-colon s rest some.0 some.1)) in (
       ap (λ t. when t (before_any (codes ":/?#") text)) t
           ∙ ap Some (ap (before_any (codes ":/?#")) e ∙ cut.0),
       cond-true _ _ _ t ∙ ap (drop 1) back,

@@ -1,12 +1,5 @@
 -- At their positions the components of a text can be cut out, and what is cut out is them.
-use Rattle.std.proofs.Common.{◌≡◌, ℕ, ◌+◌, ◌-◌, ◌<◌, ◌≤◌, true, List, [], ◌∷◌, ◌++◌, length, get_or, take, drop, refl, sym, ap, subst, ◌∙◌, arith, append_assoc, length-append, codes, Some, None, Option, IfSome, slice_range, nat_lt, is_some, option_map, unwrap_or, IsUtf8, IsCharBoundary, append-nil}
-use Rattle.std.proofs.Math.Seq.{drop-append_seam, take-append_seam}
-use Rattle.std.proofs.lemmas.Str.{IsCharBoundary-start, IsCharBoundary-end, IsCharBoundary-before_ascii, IsCharBoundary-after_ascii}
-use Rattle.std.proofs.lemmas.Bool.{lt-ltb, le-ltb, or_right}
-use Rattle.std.proofs.lemmas.Bool.Decides.{nat_tests}
-use Rattle.uri_pct.specs.Sets.{is_one_of}
-use Rattle.uri_parts.specs.Components.{Components, IsSplitOf, recompose, marked, IsAbemptyPath, Lacks}
-use Rattle.uri_parts.specs.Positions.{positions_of, delimited_length, before_fragment}
+use Rattle.uri_parts.proofs.Common.{◌≡◌, ℕ, ◌+◌, ◌-◌, ◌<◌, ◌≤◌, true, List, [], ◌∷◌, ◌++◌, length, get_or, take, drop, refl, sym, ap, subst, ◌∙◌, arith, append_assoc, length-append, codes, Some, None, Option, IfSome, slice_range, nat_lt, is_some, option_map, unwrap_or, IsUtf8, IsCharBoundary, append-nil, drop-append_seam, take-append_seam, IsCharBoundary-start, IsCharBoundary-end, IsCharBoundary-before_ascii, IsCharBoundary-after_ascii, lt-ltb, le-ltb, or_right, nat_tests, is_one_of, Components, IsSplitOf, recompose, marked, IsAbemptyPath, Lacks, positions_of, delimited_length, before_fragment}
 use Rattle.uri_parts.proofs.Splitting.Cuts.{IsEmptyOrMarked, empty-or-marked-for-more-marks}
 use Rattle.uri_parts.proofs.Splitting.Marks.{query_text, fragment_text, IsEmptyOrMarked-query_text, IsEmptyOrMarked-fragment_text, rooted-path-ends-authority}
 use Rattle.uri_parts.proofs.Splitting.Recompose.{components_of_parts}
@@ -53,9 +46,8 @@ pub slice-between-prefix-and-suffix : (before part suffix : List ℕ)
     → slice_range (before ++ (part ++ suffix)) (length before) (length before + length part) ≡ part
 slice-between-prefix-and-suffix before part suffix =
     let n : (length before + length part) - length before ≡ length part = omega arith in
-    ap (λ k. take k (drop (length before) (before ++ (part ++ suffix)))) n
-    ∙ ap (take (length part)) (drop-append_seam before (part ++ suffix))
-    ∙ take-append_seam part suffix
+    ap (λ k. take k (drop (length before) (before ++ (part ++ suffix)))) n ∙ ap
+    (take (length part)) (drop-append_seam before (part ++ suffix)) ∙ take-append_seam part suffix
 
 -- positions: a component with a delimiter, or nothing, after it is between its positions
 component-before-mark-is-slice : (text before part suffix : List ℕ) (start end : ℕ)
@@ -79,10 +71,9 @@ component-before-mark-is-slice text before part suffix start end whole at_start 
 -- positions: a component with a delimiter before it,
 -- and one or nothing after it, is between its positions
 component-between-marks-is-slice : (text before part suffix : List ℕ) (c start end : ℕ)
-    → text ≡ before ++ (c ∷ (part ++ suffix)) → start ≡ length before + 1
-    → end ≡ start + length part
-    → c < 128 → IsUtf8 text → IsEmptyOrMarked (codes ":/?#") suffix
-    → IsComponentAt text start end (Some part)
+    → text ≡ before ++ (c ∷ (part ++ suffix))
+    → start ≡ length before + 1 → end ≡ start + length part → c < 128
+    → IsUtf8 text → IsEmptyOrMarked (codes ":/?#") suffix → IsComponentAt text start end (Some part)
 component-between-marks-is-slice text before part suffix c start end whole at_start at_end ascii
     utf8 begins =
     let joined : text ≡ (before ++ (c ∷ [])) ++ (part ++ suffix) = whole
@@ -121,9 +112,8 @@ length-query_text None = refl
 length-query_text (Some q) = omega (arith, length-append q [])
 
 -- positions: the end of a query, or of the path if there is none
-query-end-or-path-end : (path_end : ℕ) (query : Option (List ℕ))
-    → unwrap_or (option_map (λ q. path_end + 1 + length q) query) path_end
-    ≡ path_end + delimited_length 1 query
+query-end-or-path-end : (path_end : ℕ) (query : Option (List ℕ)) → unwrap_or
+    (option_map (λ q. path_end + 1 + length q) query) path_end ≡ path_end + delimited_length 1 query
 query-end-or-path-end path_end None = omega arith
 query-end-or-path-end path_end (Some q) = omega arith
 
@@ -134,12 +124,10 @@ fragment-mark-is-component-mark text begins =
     grind (arith, nat_tests, empty-or-marked-for-more-marks)
 
 -- positions: an authority after a scheme and `//` is between its positions
-authority-after-scheme-is-slice : (text : List ℕ) (scheme : Option (List ℕ))
-    (a path suffix : List ℕ)
-    → text ≡ scheme_text scheme ++ (marked_authority (Some a) ++ (path ++ suffix)) → IsUtf8 text
-    → IsAbemptyPath path → IsEmptyOrMarked (codes "?#") suffix
-    → IsComponentAt text (delimited_length 1 scheme + 2) (delimited_length 1 scheme + 2 + length a)
-    (Some a)
+authority-after-scheme-is-slice : (text : List ℕ) (scheme : Option (List ℕ)) (a path
+    suffix : List ℕ) → text ≡ scheme_text scheme ++ (marked_authority (Some a) ++ (path ++ suffix))
+    → IsUtf8 text → IsAbemptyPath path → IsEmptyOrMarked (codes "?#") suffix → IsComponentAt text
+    (delimited_length 1 scheme + 2) (delimited_length 1 scheme + 2 + length a) (Some a)
 authority-after-scheme-is-slice text scheme a path suffix whole utf8 rooted begins =
     let prefix : List ℕ = scheme_text scheme ++ (47 ∷ []) in
     let joined : text ≡ prefix ++ (47 ∷ (a ++ (path ++ suffix))) =
@@ -148,16 +136,14 @@ authority-after-scheme-is-slice text scheme a path suffix whole utf8 rooted begi
     let n : delimited_length 1 scheme + 2 ≡ length prefix + 1 =
     omega (arith, length-append (scheme_text scheme) (47 ∷ []), length-scheme_text scheme) in
     component-between-marks-is-slice text prefix a (path ++ suffix) 47
-    (delimited_length 1 scheme + 2)
-    (delimited_length 1 scheme + 2 + length a) joined n refl (omega arith) utf8
-    (empty-or-marked-for-more-marks (codes "/?#") (codes ":/?#") (path ++ suffix)
-    (λ c e. or_right _ _ e) (rooted-path-ends-authority path suffix rooted begins))
+    (delimited_length 1 scheme + 2) (delimited_length 1 scheme + 2 + length a) joined n refl
+    (omega arith) utf8 (empty-or-marked-for-more-marks (codes "/?#") (codes ":/?#")
+    (path ++ suffix) (λ c e. or_right _ _ e) (rooted-path-ends-authority path suffix rooted begins))
 
 -- positions: a character begins where the path does
-path-begins-at-boundary : (text : List ℕ) (scheme authority : Option (List ℕ))
-    (path suffix : List ℕ)
-    → text ≡ scheme_text scheme ++ (marked_authority authority ++ (path ++ suffix)) → IsUtf8 text
-    → IfSome authority (λ a. IsAbemptyPath path) → IsEmptyOrMarked (codes "?#") suffix
+path-begins-at-boundary : (text : List ℕ) (scheme authority : Option (List ℕ)) (path suffix
+    : List ℕ) → text ≡ scheme_text scheme ++ (marked_authority authority ++ (path ++ suffix))
+    → IsUtf8 text → IfSome authority (λ a. IsAbemptyPath path) → IsEmptyOrMarked (codes "?#") suffix
     → IsCharBoundary text (delimited_length 1 scheme + delimited_length 2 authority)
 path-begins-at-boundary text scheme (Some a) path suffix whole utf8 rooted begins =
     grind (arith, nat_tests, authority-after-scheme-is-slice)
@@ -167,10 +153,9 @@ path-begins-at-boundary text (Some s) None path suffix whole utf8 rooted begins 
     grind (arith, nat_tests, append_assoc, boundary_after_mark)
 
 -- positions: a path after a scheme and an authority is between its positions
-path-after-authority-is-slice : (text : List ℕ) (scheme authority : Option (List ℕ))
-    (path suffix : List ℕ)
-    → text ≡ scheme_text scheme ++ (marked_authority authority ++ (path ++ suffix)) → IsUtf8 text
-    → IfSome authority (λ a. IsAbemptyPath path) → IsEmptyOrMarked (codes "?#") suffix
+path-after-authority-is-slice : (text : List ℕ) (scheme authority : Option (List ℕ)) (path suffix
+    : List ℕ) → text ≡ scheme_text scheme ++ (marked_authority authority ++ (path ++ suffix))
+    → IsUtf8 text → IfSome authority (λ a. IsAbemptyPath path) → IsEmptyOrMarked (codes "?#") suffix
     → IsComponentAt text (delimited_length 1 scheme + delimited_length 2 authority)
     (delimited_length 1 scheme + delimited_length 2 authority + length path) (Some path)
 path-after-authority-is-slice text scheme authority path suffix whole utf8 rooted begins =
@@ -178,8 +163,7 @@ path-after-authority-is-slice text scheme authority path suffix whole utf8 roote
     let prefix : List ℕ = scheme_text scheme ++ marked_authority authority in
     let joined : text ≡ prefix ++ (path ++ suffix) = whole
     ∙ sym (append_assoc (scheme_text scheme) (marked_authority authority) (path ++ suffix)) in
-    let n : start ≡ length prefix =
-    omega (
+    let n : start ≡ length prefix = omega (
       arith,
       length-append (scheme_text scheme) (marked_authority authority),
       length-scheme_text scheme,
@@ -198,14 +182,13 @@ hierarchy_text scheme authority path = (scheme_text scheme ++ marked_authority a
 length-hierarchy_text : (scheme authority : Option (List ℕ)) (path : List ℕ)
     → length (hierarchy_text scheme authority path)
     ≡ delimited_length 1 scheme + delimited_length 2 authority + length path
-length-hierarchy_text scheme authority path =
-    omega (
-      arith,
-      length-append (scheme_text scheme ++ marked_authority authority) path,
-      length-append (scheme_text scheme) (marked_authority authority),
-      length-scheme_text scheme,
-      length-marked_authority authority,
-    )
+length-hierarchy_text scheme authority path = omega (
+  arith,
+  length-append (scheme_text scheme ++ marked_authority authority) path,
+  length-append (scheme_text scheme) (marked_authority authority),
+  length-scheme_text scheme,
+  length-marked_authority authority,
+)
 
 -- positions: a text is its scheme, authority and path, and then what follows them
 hierarchy-append : (scheme authority : Option (List ℕ)) (path suffix : List ℕ)
@@ -214,9 +197,8 @@ hierarchy-append : (scheme authority : Option (List ℕ)) (path suffix : List �
 hierarchy-append scheme authority path suffix = grind (arith, nat_tests, append_assoc)
 
 -- positions: a query after the path and `?` is between its positions
-query-after-path-is-slice : (text hierarchy q suffix : List ℕ)
-    → text ≡ hierarchy ++ (marked (codes "?") (Some q) [] ++ suffix) → IsUtf8 text
-    → IsEmptyOrMarked (codes "#") suffix
+query-after-path-is-slice : (text hierarchy q suffix : List ℕ) → text ≡ hierarchy
+    ++ (marked (codes "?") (Some q) [] ++ suffix) → IsUtf8 text → IsEmptyOrMarked (codes "#") suffix
     → IsComponentAt text (length hierarchy + 1) (length hierarchy + 1 + length q) (Some q)
 query-after-path-is-slice text hierarchy q suffix whole utf8 begins =
     let joined : text ≡ hierarchy ++ (63 ∷ (q ++ suffix)) = whole
@@ -230,31 +212,25 @@ fragment-after-all-else-is-slice : (text before f : List ℕ) → text
     ≡ before ++ fragment_text (Some f) → IsUtf8 text
     → IsComponentAt text (length before + 1) (length text) (Some f)
 fragment-after-all-else-is-slice text before f whole utf8 =
-    let n : length text ≡ length before + 1 + length f =
-    omega (
+    let n : length text ≡ length before + 1 + length f = omega (
       arith,
       ap length whole,
       length-append before (fragment_text (Some f)),
-      length-append
-          f [],
+      length-append f [],
     ) in
-    component-between-marks-is-slice text before f [] 35 (length before + 1)
-    (length text) whole refl n
-    (omega arith) utf8 tt
+    component-between-marks-is-slice text before f [] 35
+    (length before + 1) (length text) whole refl n (omega arith) utf8 tt
 
 -- positions: the authority of a split is between its positions in the text
-pub authority-of-split-is-at-positions : (text : List ℕ) (scheme authority : Option (List ℕ))
-    (path : List ℕ)
-    (query fragment : Option (List ℕ))
-    → IsSplitOf text (components_of_parts scheme authority path query fragment)
-    → IsUtf8 text
+pub authority-of-split-is-at-positions : (text : List ℕ) (scheme authority : Option
+    (List ℕ)) (path : List ℕ) (query fragment : Option (List ℕ))
+    → IsSplitOf text (components_of_parts scheme authority path query fragment) → IsUtf8 text
     → (let at = positions_of (components_of_parts scheme authority path query fragment) in
     IfSome at.authority (λ a. IsComponentAt text a.start a.end authority))
 authority-of-split-is-at-positions text scheme None path query fragment split utf8 = tt
 authority-of-split-is-at-positions text scheme (Some a) path query fragment split utf8 =
     authority-after-scheme-is-slice text scheme a path (query_text query fragment)
-    (sym split.whole) utf8
-    split.authority.1 (IsEmptyOrMarked-query_text query fragment)
+    (sym split.whole) utf8 split.authority.1 (IsEmptyOrMarked-query_text query fragment)
 
 -- splitting: with an authority, the path is empty or begins with `/` (RFC 3986, section 3.3)
 pub authority_has_abempty_path : (authority : Option (List ℕ)) (path : List ℕ)
@@ -269,16 +245,13 @@ pub path-of-split-is-at-positions : (text : List ℕ) (p : Components) → IsSpl
     → IsComponentAt text (positions_of p).path_start (positions_of p).path_end (Some p.path)
 path-of-split-is-at-positions text p split utf8 =
     path-after-authority-is-slice text p.scheme p.authority p.path (query_text p.query p.fragment)
-    (sym split.whole)
-    utf8 (authority_has_abempty_path p.authority p.path split.authority)
+    (sym split.whole) utf8 (authority_has_abempty_path p.authority p.path split.authority)
     (IsEmptyOrMarked-query_text p.query p.fragment)
 
 -- positions: the query of a split is between its positions in the text
-pub query-of-split-is-at-positions : (text : List ℕ) (scheme authority : Option (List ℕ))
-    (path : List ℕ)
-    (query fragment : Option (List ℕ))
-    → IsSplitOf text (components_of_parts scheme authority path query fragment)
-    → IsUtf8 text
+pub query-of-split-is-at-positions : (text : List ℕ) (scheme authority : Option
+    (List ℕ)) (path : List ℕ) (query fragment : Option (List ℕ))
+    → IsSplitOf text (components_of_parts scheme authority path query fragment) → IsUtf8 text
     → (let at = positions_of (components_of_parts scheme authority path query fragment) in
     IfSome at.query_end (λ end. IsComponentAt text (at.path_end + 1) end query))
 query-of-split-is-at-positions text scheme authority path None fragment split utf8 = tt
@@ -301,11 +274,9 @@ pub length-before_hash : (p : Components)
 length-before_hash p =
     let path_end : ℕ = delimited_length 1 p.scheme + delimited_length 2 p.authority
     + length p.path in
-    let n : length (before_hash p) ≡ path_end + delimited_length 1 p.query =
-    omega (
+    let n : length (before_hash p) ≡ path_end + delimited_length 1 p.query = omega (
       arith,
-      length-append (hierarchy_text p.scheme p.authority p.path)
-          (marked (codes "?") p.query []),
+      length-append (hierarchy_text p.scheme p.authority p.path) (marked (codes "?") p.query []),
       length-hierarchy_text p.scheme p.authority p.path,
       length-query_text p.query,
     ) in
@@ -323,14 +294,12 @@ pub split-text-is-before-fragment-and-fragment : (text : List ℕ) (p : Componen
 split-text-is-before-fragment-and-fragment text p split = sym split.whole ∙ recompose-before_hash p
 
 -- positions: a text is longer than what is before its fragment only if it has one
-pub longer_than_before_fragment_if_some : (text before : List ℕ) (fragment : Option (List ℕ))
-    → text ≡ before ++ fragment_text fragment
-    → nat_lt (length before) (length text) ≡ is_some fragment
+pub longer_than_before_fragment_if_some : (text before : List ℕ) (fragment : Option (List ℕ)) → text
+    ≡ before ++ fragment_text fragment → nat_lt (length before) (length text) ≡ is_some fragment
 longer_than_before_fragment_if_some text before None whole =
     le-ltb (length before) (length text) (omega (arith, ap length whole, length-append before []))
-longer_than_before_fragment_if_some text before (Some f) whole =
-    lt-ltb (length before) (length text)
-    (omega (arith, ap length whole, length-append before (fragment_text (Some f))))
+longer_than_before_fragment_if_some text before (Some f) whole = lt-ltb (length before)
+    (length text) (omega (arith, ap length whole, length-append before (fragment_text (Some f))))
 
 -- positions: the fragment, if there is one, is from after its `#` to the end of the text
 pub fragment-is-slice-to-end : (text before : List ℕ) (fragment : Option (List ℕ))

@@ -1,24 +1,18 @@
 -- The components of any text are a split of it.
-use Rattle.std.proofs.Common.{◌≡◌, ℕ, ◌<◌, Bool, true, false, eqb, List, [], ◌∷◌, ◌++◌, length, drop, refl, sym, ap, subst, ◌∙◌, arith, ⊎_elim, inl, inr, rules, append_assoc, codes, Option, IsTrue, IfSome, IfNone, append-nil}
-use Rattle.std.proofs.lemmas.Bool.{cases_Bool, and_parts, eqb-true, both_ways, not-true}
-use Rattle.std.proofs.lemmas.Bool.Decides.{nat_tests}
-use Rattle.uri_pct.specs.Sets.{is_one_of}
-use Rattle.uri_parts.specs.Components.{IsSplitOf, recompose, marked, starts, has_scheme, components, has_authority, after_scheme, after_authority, after_query, Components, when, Lacks, IsAbemptyPath, before_any, from_any}
+use Rattle.uri_parts.proofs.Common.{◌≡◌, ℕ, ◌<◌, Bool, true, false, eqb, List, [], ◌∷◌, ◌++◌, length, drop, refl, sym, ap, subst, ◌∙◌, arith, ⊎_elim, inl, inr, rules, append_assoc, codes, Option, IsTrue, IfSome, IfNone, append-nil, cases_Bool, and_parts, eqb-true, both_ways, not-true, nat_tests, is_one_of, IsSplitOf, recompose, marked, starts, has_scheme, components, has_authority, after_scheme, after_authority, after_query, Components, when, Lacks, IsAbemptyPath, before_any, from_any}
 use Rattle.uri_parts.proofs.Splitting.Cuts.{IsEmptyOrMarked, text-is-cut-at-first-mark}
 use Rattle.uri_parts.proofs.Splitting.Marks.{has_authority-append}
 
 -- the components of which these are the five
-abbrev pub components_of_parts : Option (List ℕ) → Option (List ℕ) → List ℕ → Option (List ℕ)
-    → Option (List ℕ)
-    → Components
-components_of_parts scheme authority path query fragment =
-    record {
-      scheme = scheme;
-      authority = authority;
-      path = path;
-      query = query;
-      fragment = fragment;
-    }
+abbrev pub components_of_parts : Option (List ℕ)
+    → Option (List ℕ) → List ℕ → Option (List ℕ) → Option (List ℕ) → Components
+components_of_parts scheme authority path query fragment = record {
+  scheme = scheme;
+  authority = authority;
+  path = path;
+  query = query;
+  fragment = fragment;
+}
 
 -- general fact on booleans, for splitting a text
 pub equal-to-true-is-IsTrue : (b : Bool) → b ≡ true → IsTrue b
@@ -39,38 +33,30 @@ text-with-authority-is-slashes-and-rest (a ∷ b ∷ text) h = let parts = and_p
     ap (λ x. x ∷ b ∷ text) (eqb-true a 47 parts.0) ∙ ap (λ x. 47 ∷ x ∷ text) (eqb-true b 47 parts.1)
 
 -- splitting: a scheme with its `:`, if there is one, and what is after it are the text
-scheme-and-rest-are-text : (text : List ℕ)
-    → marked [] (when (has_scheme text) (before_any (codes ":/?#") text)) (codes ":")
-    ++ after_scheme text
-    ≡ text
-scheme-and-rest-are-text text =
-    grind (
-      arith,
-      nat_tests,
-      append_assoc,
-      text-with-mark-is-mark-and-rest,
-      text-is-cut-at-first-mark,
-    )
+scheme-and-rest-are-text : (text : List ℕ) → marked [] (when (has_scheme text)
+    (before_any (codes ":/?#") text)) (codes ":") ++ after_scheme text ≡ text
+scheme-and-rest-are-text text = grind (
+  arith,
+  nat_tests,
+  append_assoc,
+  text-with-mark-is-mark-and-rest,
+  text-is-cut-at-first-mark,
+)
 
 -- splitting: an authority with its `//`, and what is after it, are the text; or there is none
-authority-and-rest-are-text : (rest : List ℕ)
-    → marked (codes "//") (when (has_authority rest) (before_any (codes "/?#") (drop 2 rest))) []
-    ++ after_authority rest
-    ≡ rest
-authority-and-rest-are-text rest =
-    grind (
-      arith,
-      nat_tests,
-      append-nil,
-      text-is-cut-at-first-mark,
-      text-with-authority-is-slashes-and-rest,
-    )
+authority-and-rest-are-text : (rest : List ℕ) → marked (codes "//") (when (has_authority rest)
+    (before_any (codes "/?#") (drop 2 rest))) [] ++ after_authority rest ≡ rest
+authority-and-rest-are-text rest = grind (
+  arith,
+  nat_tests,
+  append-nil,
+  text-is-cut-at-first-mark,
+  text-with-authority-is-slashes-and-rest,
+)
 
 -- splitting: a query with its `?`, and what is after it, are the text; or there is none
-query-and-rest-are-text : (end : List ℕ)
-    → marked (codes "?") (when (starts 63 end) (before_any (codes "#") (drop 1 end))) []
-    ++ after_query end
-    ≡ end
+query-and-rest-are-text : (end : List ℕ) → marked (codes "?") (when (starts 63 end)
+    (before_any (codes "#") (drop 1 end))) [] ++ after_query end ≡ end
 query-and-rest-are-text end =
     grind (arith, nat_tests, append-nil, text-is-cut-at-first-mark, text-with-mark-is-mark-and-rest)
 
@@ -81,19 +67,17 @@ fragment-with-hash-is-text [] begins = refl
 fragment-with-hash-is-text (c ∷ text) begins = grind (arith, nat_tests, append-nil)
 
 -- splitting: what is after a path, and does not begin with `?` (63), is empty or begins with `#`
-end-without-query-begins-with-hash : (end : List ℕ) → IsEmptyOrMarked (codes "?#") end
-    → starts 63 end ≡ false
-    → IsEmptyOrMarked (codes "#") end
+end-without-query-begins-with-hash : (end : List ℕ)
+    → IsEmptyOrMarked (codes "?#") end → starts 63 end ≡ false → IsEmptyOrMarked (codes "#") end
 end-without-query-begins-with-hash [] begins h = tt
 end-without-query-begins-with-hash (c ∷ end) begins h = grind (arith, nat_tests)
 
 -- splitting: what is after a query begins with `#`, or there is nothing
 text-after-query-begins-with-hash : (end : List ℕ) → IsEmptyOrMarked (codes "?#") end
     → IsEmptyOrMarked (codes "#") (after_query end)
-text-after-query-begins-with-hash end begins = ⊎_elim
-    (λ h. rw h (text-is-cut-at-first-mark (codes "#") (drop 1 end)).begins)
-    (λ h. rw h (end-without-query-begins-with-hash end begins h))
-    (cases_Bool (starts 63 end))
+text-after-query-begins-with-hash end begins =
+    ⊎_elim (λ h. rw h (text-is-cut-at-first-mark (codes "#") (drop 1 end)).begins)
+    (λ h. rw h (end-without-query-begins-with-hash end begins h)) (cases_Bool (starts 63 end))
 
 -- splitting: the components of any text are together the text (RFC 3986, section 5.3)
 pub recompose-components : (text : List ℕ) → recompose (components text) ≡ text
@@ -105,28 +89,23 @@ recompose-components text =
     let path = text-is-cut-at-first-mark (codes "?#") tail in
     let fragment = fragment-with-hash-is-text (after_query end)
     (text-after-query-begins-with-hash end path.begins) in
-    ap (λ t. marked [] p.scheme (codes ":")
-    ++ (marked (codes "//") p.authority [] ++ (p.path ++ (marked (codes "?") p.query [] ++ t))))
-    fragment
-    ∙ ap (λ t. marked [] p.scheme (codes ":")
-    ++ (marked (codes "//") p.authority [] ++ (p.path ++ t))) (query-and-rest-are-text end)
-    ∙ ap (λ t. marked [] p.scheme (codes ":") ++ (marked (codes "//") p.authority [] ++ t))
-    path.whole
+    ap (λ t. marked [] p.scheme (codes ":") ++ (marked (codes "//") p.authority [] ++ (p.path
+    ++ (marked (codes "?") p.query [] ++ t)))) fragment ∙ ap (λ t. marked [] p.scheme (codes ":")
+    ++ (marked (codes "//") p.authority [] ++ (p.path ++ t))) (query-and-rest-are-text end) ∙ ap
+    (λ t. marked [] p.scheme (codes ":") ++ (marked (codes "//") p.authority [] ++ t)) path.whole
     ∙ ap (λ t. marked [] p.scheme (codes ":") ++ t) (authority-and-rest-are-text rest)
     ∙ scheme-and-rest-are-text text
 
 -- splitting: what is before the first `:` (58) of a text that does not begin with it is not empty
-prefix-before-colon-is-nonempty : (before from : List ℕ) → starts 58 from ≡ true
-    → starts 58 (before ++ from) ≡ false
-    → 0 < length before
+prefix-before-colon-is-nonempty : (before from : List ℕ)
+    → starts 58 from ≡ true → starts 58 (before ++ from) ≡ false → 0 < length before
 prefix-before-colon-is-nonempty [] from h first = absurd (both_ways _ first h)
 prefix-before-colon-is-nonempty (c ∷ before) from h first = omega arith
 
 -- splitting: a scheme that is found is not empty and has no delimiter
 found-scheme-is-nonempty-and-lacks-marks : (text : List ℕ)
     → IfSome (components text).scheme (λ s. (0 < length s) × Lacks (codes ":/?#") s)
-found-scheme-is-nonempty-and-lacks-marks text = ⊎_elim
-    (λ h.
+found-scheme-is-nonempty-and-lacks-marks text = ⊎_elim (λ h.
     let cut = text-is-cut-at-first-mark (codes ":/?#") text in
     let tests = and_parts _ _ h in
     let first = ap (starts 58) cut.whole ∙ not-true _ tests.1 in
@@ -134,9 +113,7 @@ found-scheme-is-nonempty-and-lacks-marks text = ⊎_elim
       prefix-before-colon-is-nonempty (before_any (codes ":/?#") text)
           (from_any (codes ":/?#") text) tests.0 first,
       cut.lacks,
-    ))
-    (λ h. rw h tt)
-    (cases_Bool (has_scheme text))
+    )) (λ h. rw h tt) (cases_Bool (has_scheme text))
 
 -- splitting: if no scheme is found, the text begins with none
 no-scheme-if-none-is-found : (text : List ℕ)
@@ -146,9 +123,8 @@ no-scheme-if-none-is-found text = ⊎_elim (λ h. rw h tt) (λ h. rw h refl)
 
 -- splitting: a path in a text that is empty or begins with `/`,
 -- `?` or `#` is empty or begins with `/`
-path-before-marks-is-abempty : (path end : List ℕ) → Lacks (codes "?#") path
-    → IsEmptyOrMarked (codes "/?#") (path ++ end)
-    → IsAbemptyPath path
+path-before-marks-is-abempty : (path end : List ℕ)
+    → Lacks (codes "?#") path → IsEmptyOrMarked (codes "/?#") (path ++ end) → IsAbemptyPath path
 path-before-marks-is-abempty [] end lacks begins = inl refl
 path-before-marks-is-abempty (c ∷ path) end lacks begins =
     let other : is_one_of (codes "?#") c ≡ false = lacks 0 0 (omega arith) in
@@ -160,8 +136,7 @@ path-before-marks-is-abempty (c ∷ path) end lacks begins =
 found-authority-lacks-marks : (rest : List ℕ)
     → IfSome (when (has_authority rest) (before_any (codes "/?#") (drop 2 rest)))
     (λ a. Lacks (codes "/?#") a × IsAbemptyPath (before_any (codes "?#") (after_authority rest)))
-found-authority-lacks-marks rest = ⊎_elim
-    (λ h.
+found-authority-lacks-marks rest = ⊎_elim (λ h.
     let cut = text-is-cut-at-first-mark (codes "/?#") (drop 2 rest) in
     let tail = from_any (codes "/?#") (drop 2 rest) in
     let path = text-is-cut-at-first-mark (codes "?#") tail in
@@ -170,22 +145,16 @@ found-authority-lacks-marks rest = ⊎_elim
       cut.lacks,
       path-before-marks-is-abempty (before_any (codes "?#") tail) (from_any (codes "?#") tail)
           path.lacks begins,
-    ))
-    (λ h. rw h tt)
-    (cases_Bool (has_authority rest))
+    )) (λ h. rw h tt) (cases_Bool (has_authority rest))
 
 -- splitting: if no authority is found, the path does not begin with `//`
 no-slashes-if-no-authority-is-found : (rest : List ℕ)
     → IfNone (when (has_authority rest) (before_any (codes "/?#") (drop 2 rest)))
     (has_authority (before_any (codes "?#") (after_authority rest)) ≡ false)
-no-slashes-if-no-authority-is-found rest = ⊎_elim
-    (λ h. rw h tt)
-    (λ h.
+no-slashes-if-no-authority-is-found rest = ⊎_elim (λ h. rw h tt) (λ h.
     let path = text-is-cut-at-first-mark (codes "?#") rest in
-    rw h
-    (sym (has_authority-append (before_any (codes "?#") rest) (from_any (codes "?#") rest)
-    path.begins) ∙ ap has_authority path.whole ∙ h))
-    (cases_Bool (has_authority rest))
+    rw h (sym (has_authority-append (before_any (codes "?#") rest) (from_any (codes "?#") rest)
+    path.begins) ∙ ap has_authority path.whole ∙ h)) (cases_Bool (has_authority rest))
 
 -- splitting: a query that is found has no `#`
 found-query-lacks-hash : (end : List ℕ)

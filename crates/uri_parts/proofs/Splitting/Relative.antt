@@ -1,16 +1,5 @@
 -- The first segment of a path without a scheme.
-use Rattle.std.proofs.Common.{◌≡◌, ℕ, Bool, true, false, eqb, not, List, [], ◌∷◌, drop, refl, sym, ap, ◌∙◌, arith, ◌||◌, ◌&&◌, ⊎_elim, codes, IsUtf8, drop-drop}
-use Rattle.std.specs.List.{list_any}
-use Rattle.std.proofs.lemmas.Bool.{cases_Bool, and_left, and_right, eqb-true, and_parts, not_from_true, not-false, both_ways, false≢true, and_cases, false_from_ne_true, or_left}
-use Rattle.std.proofs.lemmas.Bool.Decides.{nat_tests}
-use Rattle.uri_pct.specs.Sets.{TableSet, LacksPercent, is_one_of, scheme_set}
-use Rattle.uri_pct.specs.Prefixes.{valid_prefix, after}
-use Rattle.uri_pct.proofs.ValidTexts.Cuts.{excludes, valid_prefix_at_mark_is_empty, valid_prefix_by_first_byte}
-use Rattle.uri_pct.proofs.ValidTexts.MarksInTexts.{length_before_marks}
-use Rattle.uri_pct.proofs.ValidTexts.Prefixes.{nothing_is_scanned_after_valid_prefix, valid_prefix_of_superset_goes_on_from_subset}
-use Rattle.uri_pct.proofs.ValidTexts.PrefixSteps.{successor_is_not_zero}
-use Rattle.uri_parts.specs.Components.{before_any, from_any, starts, has_scheme}
-use Rattle.uri_parts.specs.Grammar.{Kind, has_colon_in_first_segment}
+use Rattle.uri_parts.proofs.Common.{◌≡◌, ℕ, Bool, true, false, eqb, not, List, [], ◌∷◌, drop, refl, sym, ap, ◌∙◌, arith, ◌||◌, ◌&&◌, ⊎_elim, codes, IsUtf8, drop-drop, list_any, cases_Bool, and_left, and_right, eqb-true, and_parts, not_from_true, not-false, both_ways, false≢true, and_cases, false_from_ne_true, or_left, nat_tests, TableSet, LacksPercent, is_one_of, scheme_set, valid_prefix, after, excludes, valid_prefix_at_mark_is_empty, valid_prefix_by_first_byte, length_before_marks, nothing_is_scanned_after_valid_prefix, valid_prefix_of_superset_goes_on_from_subset, successor_is_not_zero, before_any, from_any, starts, has_scheme, Kind, has_colon_in_first_segment}
 use Rattle.uri_parts.proofs.Parsing.Acceptance.{is_stray, parses_end, parses_path, parses_relative}
 use Rattle.uri_parts.proofs.Parsing.ScanStops.{scan-stops-at-first-mark-or-within}
 use Rattle.uri_parts.proofs.TextKinds.Separations.{SeparatesComponents}
@@ -20,8 +9,7 @@ use Rattle.uri_parts.proofs.Splitting.Cuts.{before_any-past-other, from_any-past
 -- splitting, relative references: a scan by a set
 -- that excludes some delimiters, and stops at one, stops at the first
 pub scan_stops_at_first_mark : (marks : List ℕ) (mark : ℕ) → is_one_of marks mark ≡ true
-    → (set : TableSet)
-    → LacksPercent set → excludes set marks ≡ true → (bs : List ℕ) → IsUtf8 bs
+    → (set : TableSet) → LacksPercent set → excludes set marks ≡ true → (bs : List ℕ) → IsUtf8 bs
     → starts mark (after set bs) ≡ true → valid_prefix set bs ≡ length_before_marks marks bs
 scan_stops_at_first_mark marks mark m set lacks outside bs u e = ⊎_elim (λ h. h)
     (λ w. absurd (both_ways _ w.other
@@ -30,20 +18,17 @@ scan_stops_at_first_mark marks mark m set lacks outside bs u e = ⊎_elim (λ h.
 
 -- splitting, relative references: a scan by a set without `:`
 -- that stops at a `:` (58) stopped before the first delimiter
-pub scan_stops_at_first_colon : (set : TableSet) → LacksPercent set → excludes set (codes ":/?#")
-    ≡ true
-    → (bs : List ℕ) → IsUtf8 bs → starts 58 (after set bs) ≡ true
-    → valid_prefix set bs ≡ length_before_marks (codes ":/?#") bs
+pub scan_stops_at_first_colon : (set : TableSet)
+    → LacksPercent set → excludes set (codes ":/?#") ≡ true → (bs : List ℕ) → IsUtf8 bs
+    → starts 58 (after set bs) ≡ true → valid_prefix set bs ≡ length_before_marks (codes ":/?#") bs
 scan_stops_at_first_colon = scan_stops_at_first_mark (codes ":/?#") 58 refl
 
 -- splitting, relative references: at a `:` (58), a scan by a set without `:` passes nothing
-nothing-is-scanned-at-colon : (set : TableSet) → LacksPercent set → excludes set (codes ":/?#")
-    ≡ true
-    → (bs : List ℕ) → starts 58 bs ≡ true → after set bs ≡ bs
+nothing-is-scanned-at-colon : (set : TableSet) → LacksPercent set
+    → excludes set (codes ":/?#") ≡ true → (bs : List ℕ) → starts 58 bs ≡ true → after set bs ≡ bs
 nothing-is-scanned-at-colon set lacks outside [] e = absurd (false≢true e)
-nothing-is-scanned-at-colon set lacks outside (b ∷ rest) e =
-    ap (λ n. drop n (b ∷ rest))
-    (valid_prefix_at_mark_is_empty (codes ":/?#") set lacks outside b rest
+nothing-is-scanned-at-colon set lacks outside (b ∷ rest) e = ap
+    (λ n. drop n (b ∷ rest)) (valid_prefix_at_mark_is_empty (codes ":/?#") set lacks outside b rest
     (ap (is_one_of (codes ":/?#")) (eqb-true b 58 e)))
 
 -- splitting, relative references: `?` and `#` end a scheme
@@ -67,39 +52,29 @@ slash-is-no-colon b q = grind (arith, nat_tests)
 
 -- splitting, relative references: a byte that is neither `?`, `#`, `/` nor `:` (58) ends no scheme
 other-byte-is-none-of-four-marks : (b : ℕ) → is_one_of (codes "?#") b ≡ false
-    → is_one_of (codes "/") b ≡ false
-    → eqb b 58 ≡ false → is_one_of (codes ":/?#") b ≡ false
+    → is_one_of (codes "/") b ≡ false → eqb b 58 ≡ false → is_one_of (codes ":/?#") b ≡ false
 other-byte-is-none-of-four-marks b q s c = grind (arith, nat_tests)
 
 -- splitting, relative references: the first segment has a `:`
 -- exactly if that is the first of the four delimiters
-colon-in-first-segment-iff-colon-is-first-mark : (bs : List ℕ)
-    → has_colon_in_first_segment (before_any (codes "?#") bs)
-    ≡ starts 58 (from_any (codes ":/?#") bs)
+colon-in-first-segment-iff-colon-is-first-mark : (bs : List ℕ) → has_colon_in_first_segment
+    (before_any (codes "?#") bs) ≡ starts 58 (from_any (codes ":/?#") bs)
 colon-in-first-segment-iff-colon-is-first-mark [] = refl
 colon-in-first-segment-iff-colon-is-first-mark (b ∷ rest) =
     let F = before_any (codes "?#") rest in
-    ⊎_elim
-    (λ q. ap has_colon_in_first_segment (before_any-at-mark (codes "?#") b rest q)
+    ⊎_elim (λ q. ap has_colon_in_first_segment (before_any-at-mark (codes "?#") b rest q)
     ∙ sym (ap (starts 58) (from_any-at-mark (codes ":/?#") b rest
-    (question_or_hash_ends_scheme b q))
-    ∙ question_or_hash_is_no_colon b q))
-    (λ q. ap has_colon_in_first_segment (before_any-past-other (codes "?#") b rest q) ∙ ⊎_elim
-    (λ s. ap (list_any (λ c. eqb c 58)) (before_any-at-mark (codes "/") b F s)
+    (question_or_hash_ends_scheme b q)) ∙ question_or_hash_is_no_colon b q))
+    (λ q. ap has_colon_in_first_segment (before_any-past-other (codes "?#") b rest q)
+    ∙ ⊎_elim (λ s. ap (list_any (λ c. eqb c 58)) (before_any-at-mark (codes "/") b F s)
     ∙ sym (ap (starts 58) (from_any-at-mark (codes ":/?#") b rest (slash-is-one-of-four-marks b s))
-    ∙ slash-is-no-colon b s))
-    (λ s. ap (list_any (λ c. eqb c 58)) (before_any-past-other (codes "/") b F s) ∙ ⊎_elim
-    (λ c. or_left _ _ c
-    ∙ sym
-    (ap (starts 58) (from_any-at-mark (codes ":/?#") b rest
-    (ap (is_one_of (codes ":/?#")) (eqb-true b 58 c))) ∙ c))
+    ∙ slash-is-no-colon b s)) (λ s. ap (list_any (λ c. eqb c 58))
+    (before_any-past-other (codes "/") b F s) ∙ ⊎_elim (λ c. or_left _ _ c ∙ sym (ap (starts 58)
+    (from_any-at-mark (codes ":/?#") b rest (ap (is_one_of (codes ":/?#")) (eqb-true b 58 c))) ∙ c))
     (λ c. ap (λ t. t || has_colon_in_first_segment F) c
-    ∙ colon-in-first-segment-iff-colon-is-first-mark rest
-    ∙ sym (ap (starts 58) (from_any-past-other (codes ":/?#") b rest
-    (other-byte-is-none-of-four-marks b q s c))))
-    (cases_Bool (eqb b 58)))
-    (cases_Bool (is_one_of (codes "/") b)))
-    (cases_Bool (is_one_of (codes "?#") b))
+    ∙ colon-in-first-segment-iff-colon-is-first-mark rest ∙ sym (ap (starts 58) (from_any-past-other
+    (codes ":/?#") b rest (other-byte-is-none-of-four-marks b q s c)))) (cases_Bool (eqb b 58)))
+    (cases_Bool (is_one_of (codes "/") b))) (cases_Bool (is_one_of (codes "?#") b))
 
 -- splitting, relative references: a text that begins
 -- with `:` (58) is all from the first delimiter on
@@ -113,12 +88,9 @@ text-with-colon-begins-at-first-mark (b ∷ rest) e = from_any-at-mark (codes ":
 -- a first segment has `:` exactly where the text begins with it (58)
 pub colon_in_first_segment-is-at-start : (bs : List ℕ) → has_scheme bs ≡ false
     → has_colon_in_first_segment (before_any (codes "?#") bs) ≡ starts 58 bs
-colon_in_first_segment-is-at-start bs e = colon-in-first-segment-iff-colon-is-first-mark bs ∙ ⊎_elim
-    (λ s. s
-    ∙ sym (⊎_elim (λ f. absurd (both_ways _ f s)) (λ f. not-false _ f)
-    (and_cases (starts 58 (from_any (codes ":/?#") bs)) _ e)))
-    (λ s. s
-    ∙ sym (false_from_ne_true _
+colon_in_first_segment-is-at-start bs e = colon-in-first-segment-iff-colon-is-first-mark bs
+    ∙ ⊎_elim (λ s. s ∙ sym (⊎_elim (λ f. absurd (both_ways _ f s)) (λ f. not-false _ f)
+    (and_cases (starts 58 (from_any (codes ":/?#") bs)) _ e))) (λ s. s ∙ sym (false_from_ne_true _
     (λ t. both_ways _ s (ap (starts 58) (text-with-colon-begins-at-first-mark bs t) ∙ t))))
     (cases_Bool (starts 58 (from_any (codes ":/?#") bs)))
 
@@ -133,16 +105,15 @@ scheme_set_excludes_delimiters = refl
 module _ (segment : TableSet) (kind : Kind) (w : SeparatesComponents segment kind) where
   no-scheme-means-no-colon-after-segment : (bs : List ℕ) → IsUtf8 bs → has_scheme bs ≡ false
       → starts 58 (after segment bs) ≡ starts 58 bs
-  no-scheme-means-no-colon-after-segment bs u e =
-      grind (
-        arith,
-        nat_tests,
-        scan_stops_at_first_colon,
-        not-false,
-        and_cases,
-        false_from_ne_true,
-        nothing-is-scanned-at-colon,
-      )
+  no-scheme-means-no-colon-after-segment bs u e = grind (
+    arith,
+    nat_tests,
+    scan_stops_at_first_colon,
+    not-false,
+    and_cases,
+    false_from_ne_true,
+    nothing-is-scanned-at-colon,
+  )
 
   -- where the first segment stops at no colon, the path stops too
   path-stops-where-segment-stops : (b : ℕ) (rest : List ℕ) → is_one_of (codes ":/") b ≡ false
@@ -171,9 +142,8 @@ module _ (segment : TableSet) (kind : Kind) (w : SeparatesComponents segment kin
   parses_path-after-segment bs = ap (λ r. not (is_stray kind.path r) && parses_end kind r)
       (after_path-after-segment bs)
 
-  percent-that-stops-segment-stops-path : (r : List ℕ) → starts 37 r ≡ true → valid_prefix segment r
-      ≡ 0
-      → is_stray segment r ≡ true → parses_path kind r ≡ false
+  percent-that-stops-segment-stops-path : (r : List ℕ) → starts 37 r ≡ true
+      → valid_prefix segment r ≡ 0 → is_stray segment r ≡ true → parses_path kind r ≡ false
   unfolding parses_path
   percent-that-stops-segment-stops-path [] e z s = absurd (false≢true e)
   percent-that-stops-segment-stops-path (b ∷ rest) e z s =
@@ -183,12 +153,9 @@ module _ (segment : TableSet) (kind : Kind) (w : SeparatesComponents segment kin
   test-after-path-makes-no-difference : (bs : List ℕ) (x : Bool)
       → (not (is_stray segment (after segment bs)) && (x && parses_path kind (after segment bs)))
       ≡ (x && parses_path kind (after segment bs))
-  test-after-path-makes-no-difference bs x = ⊎_elim
-      (λ s. and_left _ _ (not_from_true _ s)
-      ∙ sym
-      (and_right _ _
-      (percent-that-stops-segment-stops-path (after segment bs) (and_parts _ _ s).1
-      (nothing_is_scanned_after_valid_prefix segment bs) s)))
+  test-after-path-makes-no-difference bs x = ⊎_elim (λ s. and_left _ _ (not_from_true _ s)
+      ∙ sym (and_right _ _ (percent-that-stops-segment-stops-path (after segment bs)
+      (and_parts _ _ s).1 (nothing_is_scanned_after_valid_prefix segment bs) s)))
       (λ s. ap (λ t. not t && (x && parses_path kind (after segment bs))) s)
       (cases_Bool (is_stray segment (after segment bs)))
 
@@ -196,9 +163,8 @@ module _ (segment : TableSet) (kind : Kind) (w : SeparatesComponents segment kin
       → parses_relative segment kind bs ≡ (not (starts 58 bs) && parses_path kind bs)
   unfolding parses_relative
   parses_relative-without-scheme bs u e =
-      test-after-path-makes-no-difference bs (not (starts 58 (after segment bs)))
-      ∙ ap (λ t. not t && parses_path kind (after segment bs))
-      (no-scheme-means-no-colon-after-segment bs u e)
+      test-after-path-makes-no-difference bs (not (starts 58 (after segment bs))) ∙ ap (λ t. not t
+      && parses_path kind (after segment bs)) (no-scheme-means-no-colon-after-segment bs u e)
       ∙ ap (λ t. not (starts 58 bs) && t) (parses_path-after-segment bs)
 
   pub parses_relative-rejects-scheme : (bs : List ℕ) → IsUtf8 bs → has_scheme bs ≡ true
@@ -206,22 +172,18 @@ module _ (segment : TableSet) (kind : Kind) (w : SeparatesComponents segment kin
   unfolding parses_relative
   parses_relative-rejects-scheme bs u e =
       test-after-path-makes-no-difference bs (not (starts 58 (after segment bs)))
-      ∙ ⊎_elim
-      (λ h.
-      and_left _ _ (not_from_true _ (ap (λ n. starts 58 (drop n bs)) h ∙ (and_parts _ _ e).0)))
-      (λ s. and_right _ _ (ap (parses_path kind) s.left
-      ∙ path-stops-at-other-byte s.byte s.rest s.other s.stuck))
-      (scan-stops-at-first-mark-or-within (codes ":/?#") segment w.segment_lacks
-      w.segment_marks bs u)
+      ∙ ⊎_elim (λ h. and_left _ _ (not_from_true _ (ap (λ n. starts 58 (drop n bs)) h
+      ∙ (and_parts _ _ e).0))) (λ s. and_right _ _ (ap (parses_path kind) s.left
+      ∙ path-stops-at-other-byte s.byte s.rest s.other s.stuck)) (scan-stops-at-first-mark-or-within
+      (codes ":/?#") segment w.segment_lacks w.segment_marks bs u)
 
   -- what might have been a scheme is the beginning of the segment
   pub after_segment-after-scheme-chars : (bs : List ℕ) → after segment (after scheme_set bs)
       ≡ after segment bs
   after_segment-after-scheme-chars bs =
       drop-drop (valid_prefix segment (after scheme_set bs)) (valid_prefix scheme_set bs) bs
-      ∙ ap (λ n. drop n bs)
-      (sym (valid_prefix_of_superset_goes_on_from_subset scheme_set segment w.scheme_within
-      scheme_set_lacks_percent bs))
+      ∙ ap (λ n. drop n bs) (sym (valid_prefix_of_superset_goes_on_from_subset scheme_set
+      segment w.scheme_within scheme_set_lacks_percent bs))
 
   pub parses_relative-after-scheme-chars : (bs : List ℕ)
       → parses_relative segment kind (after scheme_set bs) ≡ parses_relative segment kind bs

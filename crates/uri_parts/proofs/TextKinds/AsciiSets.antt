@@ -1,9 +1,5 @@
 -- Texts without octets and without characters past ASCII.
-use Rattle.std.proofs.Common.{◌≡◌, ℕ, Bool, false, ltb, List, [], ◌∷◌, refl, ap, ◌∙◌, ◌&&◌, arith, IsUtf8}
-use Rattle.std.specs.List.{list_all}
-use Rattle.std.proofs.lemmas.Bool.Decides.{nat_tests}
-use Rattle.uri_pct.specs.Sets.{characters_only, allows_past_ascii}
-use Rattle.uri_pct.specs.Tokens.{is_valid_for}
+use Rattle.uri_parts.proofs.Common.{◌≡◌, ℕ, Bool, false, ltb, List, [], ◌∷◌, refl, ap, ◌∙◌, ◌&&◌, arith, IsUtf8, list_all, nat_tests, characters_only, allows_past_ascii, is_valid_for}
 use Rattle.uri_pct.proofs.ValidTexts.Validity.{valid_from, validity_by_first_byte, validity_of_tokens_is_validity_of_bytes, ascii_first_byte_is_allowed_iff_in_set, first_byte_past_ascii_is_allowed_by_its_char}
 
 -- sets of a kind, ASCII alone: the byte is an ASCII character that passes the test
@@ -15,15 +11,14 @@ ascii-validity-byte-by-byte : (test : ℕ → Bool) (b : ℕ) (bs : List ℕ)
     → valid_from (characters_only test) 0 (b ∷ bs)
     ≡ (is_ascii_in test b && valid_from (characters_only test) 0 bs)
 unfolding allows_past_ascii
-ascii-validity-byte-by-byte test b bs =
-    grind (
-      arith,
-      nat_tests,
-      validity_by_first_byte,
-      valid_from,
-      ascii_first_byte_is_allowed_iff_in_set,
-      first_byte_past_ascii_is_allowed_by_its_char,
-    )
+ascii-validity-byte-by-byte test b bs = grind (
+  arith,
+  nat_tests,
+  validity_by_first_byte,
+  valid_from,
+  ascii_first_byte_is_allowed_iff_in_set,
+  first_byte_past_ascii_is_allowed_by_its_char,
+)
 
 -- sets of a kind, ASCII alone: a text is valid exactly if each byte is in the set
 ascii-validity-is-test-of-all-bytes : (test : ℕ → Bool) (bs : List ℕ)
@@ -36,6 +31,5 @@ ascii-validity-is-test-of-all-bytes test (b ∷ bs) = ascii-validity-byte-by-byt
 -- sets of a kind, ASCII alone: a text is valid exactly if each of its characters passes the test
 pub valid_ascii_text : (test : ℕ → Bool) → test 37 ≡ false → (text : List ℕ) → IsUtf8 text
     → is_valid_for (characters_only test) text ≡ list_all (is_ascii_in test) text
-valid_ascii_text test lacks text u = validity_of_tokens_is_validity_of_bytes (characters_only test)
-    lacks text u
-    ∙ ascii-validity-is-test-of-all-bytes test text
+valid_ascii_text test lacks text u = validity_of_tokens_is_validity_of_bytes
+    (characters_only test) lacks text u ∙ ascii-validity-is-test-of-all-bytes test text

@@ -1,17 +1,9 @@
 -- The components of a text of a kind meet their rules.
-use Rattle.std.proofs.Common.{◌≡◌, ℕ, Bool, true, List, sym, ap, ◌∙◌, arith, Option, Some}
-use Rattle.std.proofs.lemmas.Bool.Decides.{nat_tests}
-use Rattle.uri_pct.specs.Sets.{TableSet}
-use Rattle.uri_pct.specs.Tokens.{is_valid_for, IsValidFor}
-use Rattle.uri_parts.specs.Components.{Components, components}
-use Rattle.uri_parts.specs.Authority.{is_authority_for}
-use Rattle.uri_parts.specs.Grammar.{Kind, absent_or_passes, is_scheme, is_authority, IsOfKind, components_meet_rules}
+use Rattle.uri_parts.proofs.Common.{◌≡◌, ℕ, Bool, true, List, sym, ap, ◌∙◌, arith, Option, Some, nat_tests, TableSet, is_valid_for, IsValidFor, Components, components, is_authority_for, Kind, absent_or_passes, is_scheme, is_authority, IsOfKind, components_meet_rules}
 
 -- general fact on options, for the rules of a kind: a component that is there passes the test
 present-part-passes-test : (part : Option (List ℕ)) (test : List ℕ → Bool) (x : List ℕ)
-    → absent_or_passes part test
-    ≡ true
-    → part ≡ Some x → test x ≡ true
+    → absent_or_passes part test ≡ true → part ≡ Some x → test x ≡ true
 present-part-passes-test part test x h e = sym (ap (λ o. absent_or_passes o test) e) ∙ h
 
 -- texts of a kind: the components meet the rules of the kind, one by one
@@ -42,8 +34,7 @@ authority-of-text-of-kind-is-valid kind users names text part h s t e =
 
 -- texts of a kind: the path of one is valid for the kind's set
 pub path-of-text-of-kind-is-valid : (kind : Kind) (set : TableSet) (text : List ℕ)
-    → IsOfKind kind text
-    → set ≡ kind.path → IsValidFor set (components text).path
+    → IsOfKind kind text → set ≡ kind.path → IsValidFor set (components text).path
 path-of-text-of-kind-is-valid kind set text h s = ap (λ t. is_valid_for t (components text).path) s
     ∙ (tested-components-meet-rules kind (components text) h).path
 

@@ -1,13 +1,5 @@
 -- What a text that is valid for a set lacks, and UTF-8 on both sides of an ASCII character.
-use Rattle.std.proofs.Common.{◌≡◌, ℕ, ◌<◌, ◌≤◌, true, List, ◌∷◌, ◌++◌, length, get_or, drop, length-append, sym, subst, ◌∙◌, arith, IsUtf8, take_all, eqb-true}
-use Rattle.std.proofs.Math.Seq.{get_or-append_seam, take-append_seam, drop-append_seam}
-use Rattle.std.proofs.lemmas.Str.{IsUtf8-take, IsUtf8-drop, IsCharBoundary-before_ascii}
-use Rattle.uri_pct.specs.Sets.{TableSet, LacksPercent}
-use Rattle.uri_pct.specs.Tokens.{is_valid_for}
-use Rattle.uri_pct.specs.Prefixes.{valid_prefix}
-use Rattle.uri_pct.proofs.ValidTexts.Cuts.{excludes, valid_prefix-ends-by-mark, is_valid_for_is_scanned_to_end}
-use Rattle.uri_pct.proofs.ValidTexts.MarksInTexts.{length_before_marks}
-use Rattle.uri_parts.specs.Components.{Lacks, before_any}
+use Rattle.uri_parts.proofs.Common.{◌≡◌, ℕ, ◌<◌, ◌≤◌, true, List, ◌∷◌, ◌++◌, length, get_or, drop, length-append, sym, subst, ◌∙◌, arith, IsUtf8, take_all, eqb-true, get_or-append_seam, take-append_seam, drop-append_seam, IsUtf8-take, IsUtf8-drop, IsCharBoundary-before_ascii, TableSet, LacksPercent, is_valid_for, valid_prefix, excludes, valid_prefix-ends-by-mark, is_valid_for_is_scanned_to_end, length_before_marks, Lacks, before_any}
 use Rattle.uri_parts.proofs.Splitting.Cuts.{text-is-cut-at-first-mark}
 use Rattle.uri_parts.proofs.Parsing.ScanStops.{utf8_after_ascii_byte}
 

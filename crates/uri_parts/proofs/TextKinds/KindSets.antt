@@ -1,13 +1,5 @@
 -- The kinds keep apart what must be apart, and their tables represent their sets.
-use Rattle.std.proofs.Common.{◌≡◌, ℕ, Bool, true, false, refl, sym, ap, subst, arith, ◌||◌, [], ◌&&◌, not, List, codes, is_some}
-use Rattle.std.specs.Char.{is_ascii_digit}
-use Rattle.std.specs.Str.{chars}
-use Rattle.std.proofs.lemmas.Bool.{and_parts}
-use Rattle.std.proofs.lemmas.Bool.Decides.{nat_tests}
-use Rattle.uri_pct.specs.Sets.{TableSet, is_one_of, is_scheme_char, is_segment_nz_nc_char, path_set, is_path_char, is_reg_name_char, is_userinfo_char, segment_nz_nc_set, userinfo_set, reg_name_set, query_set, fragment_set, allows_past_ascii}
-use Rattle.uri_pct.specs.Tokens.{is_valid_for, tokens_from_chars}
-use Rattle.uri_parts.specs.Grammar.{Kind, uri, uri_ref, iri, iri_ref, IsOfKind, first_segment_set, kind_by_flags}
-use Rattle.uri_parts.specs.Components.{components}
+use Rattle.uri_parts.proofs.Common.{◌≡◌, ℕ, Bool, true, false, refl, sym, ap, subst, arith, ◌||◌, [], ◌&&◌, not, List, codes, is_some, is_ascii_digit, chars, and_parts, nat_tests, TableSet, is_one_of, is_scheme_char, is_segment_nz_nc_char, path_set, is_path_char, is_reg_name_char, is_userinfo_char, segment_nz_nc_set, userinfo_set, reg_name_set, query_set, fragment_set, allows_past_ascii, is_valid_for, tokens_from_chars, Kind, uri, uri_ref, iri, iri_ref, IsOfKind, first_segment_set, kind_by_flags, components}
 use Rattle.uri_parts.proofs.TextKinds.Separations.{SeparatesComponents, greater-set-has-all-but-marks}
 
 -- sets of a kind: a scheme's characters may be in a first segment too
@@ -19,9 +11,8 @@ segment-char-is-path-char : (c : ℕ) → is_segment_nz_nc_char c ≡ true → i
 segment-char-is-path-char c e = grind (arith, nat_tests)
 
 -- sets of a kind: a path's characters but `:` and `/` may be in a first segment too
-other-path-char-is-segment-char : (c : ℕ) → is_one_of (codes ":/") c ≡ false
-    → is_segment_nz_nc_char c ≡ false
-    → is_path_char c ≡ false
+other-path-char-is-segment-char : (c : ℕ)
+    → is_one_of (codes ":/") c ≡ false → is_segment_nz_nc_char c ≡ false → is_path_char c ≡ false
 other-path-char-is-segment-char c m e = grind (arith, nat_tests)
 
 -- sets of a kind: a registered name's characters may be in userinfo too
@@ -74,40 +65,34 @@ sets-by-flags-separate-components ucschar iprivate needs_scheme = record {
   name_within = record {
     ascii = name-char-is-userinfo-char;
     pct_encoded = λ e. e;
-    ucschar =
-        λ e. e;
+    ucschar = λ e. e;
     iprivate = λ e. e;
   };
   digits_within = record {
     ascii = digit-is-userinfo-char;
     pct_encoded = λ e. refl;
-    ucschar =
-        λ e. absurd (cc e);
+    ucschar = λ e. absurd (cc e);
     iprivate = λ e. e;
   };
   colon_within = refl;
   address_within = record {
     ascii = λ c e. e;
     pct_encoded = λ e. e;
-    ucschar =
-        λ e. absurd (cc e);
+    ucschar = λ e. absurd (cc e);
     iprivate = λ e. e;
   };
   scheme_within = record {
     ascii = scheme-char-is-segment-char;
     pct_encoded = λ e. refl;
-    ucschar =
-        λ e. absurd (cc e);
+    ucschar = λ e. absurd (cc e);
     iprivate = λ e. e;
   };
-  within =
-      record {
-        ascii = segment-char-is-path-char;
-        pct_encoded = λ e. e;
-        ucschar =
-            λ e. e;
-        iprivate = λ e. e;
-      };
+  within = record {
+    ascii = segment-char-is-path-char;
+    pct_encoded = λ e. e;
+    ucschar = λ e. e;
+    iprivate = λ e. e;
+  };
   octets = refl;
   rest = greater-set-has-all-but-marks (codes ":/") (segment_with ucschar)
       (international ucschar path_set) other-path-char-is-segment-char (λ c. refl);
@@ -117,20 +102,17 @@ sets-by-flags-separate-components ucschar iprivate needs_scheme = record {
 kind-by-flags-separates-components : (international needs_scheme : Bool) (kind : Kind)
     → kind ≡ kind_by_flags international needs_scheme → kind.path.ucschar ≡ international
     → SeparatesComponents (first_segment_set kind) kind
-kind-by-flags-separates-components false needs_scheme kind e u =
-    subst (λ k. SeparatesComponents (first_segment_set k) k) (sym e)
-    (sets-by-flags-separate-components false false needs_scheme)
-kind-by-flags-separates-components true needs_scheme kind e u =
-    subst (λ k. SeparatesComponents (first_segment_set k) k) (sym e)
-    (sets-by-flags-separate-components true true needs_scheme)
+kind-by-flags-separates-components false needs_scheme kind e u = subst (λ k. SeparatesComponents
+    (first_segment_set k) k) (sym e) (sets-by-flags-separate-components false false needs_scheme)
+kind-by-flags-separates-components true needs_scheme kind e u = subst (λ k. SeparatesComponents
+    (first_segment_set k) k) (sym e) (sets-by-flags-separate-components true true needs_scheme)
 
 -- sets of a kind: in each of the four kinds, each component ends where the next begins
 pub each_kind_separates_components : (kind : Kind) → kind
     ≡ kind_by_flags kind.path.ucschar kind.needs_scheme
     → SeparatesComponents (first_segment_set kind) kind
-each_kind_separates_components kind known = kind-by-flags-separates-components kind.path.ucschar
-    kind.needs_scheme
-    kind known refl
+each_kind_separates_components kind known =
+    kind-by-flags-separates-components kind.path.ucschar kind.needs_scheme kind known refl
 
 -- general fact on booleans, for kinds that need a scheme: where one is needed it is there
 pub with_scheme : (needed present other : Bool) → needed ≡ true
@@ -141,15 +123,13 @@ with_scheme needed false other n h = absurd (cc (ap not n))
 -- general fact on booleans, for kinds that need a scheme;
 -- needed, present: whether one is needed, is there
 pub scheme-rule-holds-without-need : (needed present other : Bool)
-    → (present || (not needed && other)) ≡ true
-    → (present || other) ≡ true
+    → (present || (not needed && other)) ≡ true → (present || other) ≡ true
 scheme-rule-holds-without-need needed true other h = refl
 scheme-rule-holds-without-need needed false other h = (and_parts (not needed) other h).1
 
 -- texts of a kind: one of a kind that needs a scheme has one
-pub kind-that-needs-scheme-has-one : (kind : Kind) (text : List ℕ) → kind.needs_scheme ≡ true
-    → IsOfKind kind text
-    → is_some (components text).scheme ≡ true
+pub kind-that-needs-scheme-has-one : (kind : Kind) (text : List ℕ)
+    → kind.needs_scheme ≡ true → IsOfKind kind text → is_some (components text).scheme ≡ true
 kind-that-needs-scheme-has-one kind text n h = grind (arith, nat_tests, with_scheme)
 
 -- texts of a kind: each is of the same kind without the need for a scheme

@@ -1,10 +1,5 @@
 -- What the sets of a kind have to keep apart for its texts to be parsed from left to right.
-use Rattle.std.proofs.Common.{◌≡◌, ℕ, true, false, List, arith, codes}
-use Rattle.std.proofs.lemmas.Bool.Decides.{nat_tests}
-use Rattle.uri_pct.specs.Sets.{TableSet, LacksPercent, IsSubset, is_one_of, scheme_set, digit_set, reg_name_set, allows_past_ascii}
-use Rattle.uri_pct.specs.Prefixes.{allows_first}
-use Rattle.uri_pct.proofs.ValidTexts.Cuts.{excludes}
-use Rattle.uri_parts.specs.Grammar.{Kind}
+use Rattle.uri_parts.proofs.Common.{◌≡◌, ℕ, true, false, List, arith, codes, nat_tests, TableSet, LacksPercent, IsSubset, is_one_of, scheme_set, digit_set, reg_name_set, allows_past_ascii, allows_first, excludes, Kind}
 
 -- sets of a kind: a set has what another has, but for characters that are one of these
 abbrev pub HasAllBut : List ℕ → TableSet → TableSet → Type 0

@@ -1,13 +1,6 @@
 -- How many pieces and chunks a text has at most.
-use Rattle.std.proofs.Common.{ℕ, ◌+◌, ◌*◌, ◌≤◌, Bool, true, false, cond, List, [], ◌∷◌, length, ap, arith, chars, IsUtf8}
-use Rattle.std.specs.List.{slice_split}
-use Rattle.std.specs.Char.{digit_value}
+use Rattle.uri_pct.proofs.Common.{ℕ, ◌+◌, ◌*◌, ◌≤◌, Bool, true, false, cond, List, [], ◌∷◌, length, ap, arith, chars, IsUtf8, slice_split, digit_value, count_by-le-length, encodes-chars, length-le-encodes, Token, Char, Octet, is_pct_encoded, tokens_from_chars, tokens, Chunk, Text, Byte, prepend_to_chunks, chunks_of_tokens, chunks, nat_tests}
 use Rattle.std.proofs.lemmas.List.Splits.{length-slice_split}
-use Rattle.std.proofs.lemmas.List.Sums.{count_by-le-length}
-use Rattle.std.proofs.lemmas.Str.{encodes-chars, length-le-encodes}
-use Rattle.uri_pct.specs.Tokens.{Token, Char, Octet, is_pct_encoded, tokens_from_chars, tokens}
-use Rattle.uri_pct.specs.Chunks.{Chunk, Text, Byte, prepend_to_chunks, chunks_of_tokens, chunks}
-use Rattle.std.proofs.lemmas.Bool.Decides.{nat_tests}
 
 -- decoding and splitting, counts: a text has at most one
 -- piece more than it has bytes, so their number fits usize
@@ -38,10 +31,8 @@ unfolding tokens_from_chars
 tokens_are_no_more_than_chars [] = omega arith
 tokens_are_no_more_than_chars (c ∷ []) = omega arith
 tokens_are_no_more_than_chars (c ∷ d ∷ []) = omega arith
-tokens_are_no_more_than_chars (c ∷ high ∷ low ∷ rest) =
-    elim (is_pct_encoded c high low)
-    as (λ t. length (cond t (Octet (16 * digit_value high + digit_value low) ∷
-    tokens_from_chars rest)
+tokens_are_no_more_than_chars (c ∷ high ∷ low ∷ rest) = elim (is_pct_encoded c high low) as (λ t.
+    length (cond t (Octet (16 * digit_value high + digit_value low) ∷ tokens_from_chars rest)
     (Char c ∷ tokens_from_chars (high ∷ low ∷ rest))) ≤ length (c ∷ high ∷ low ∷ rest)) [
       | true ↦ omega (arith, tokens_are_no_more_than_chars rest)
       | false ↦ omega (arith, tokens_are_no_more_than_chars (high ∷ low ∷ rest))
@@ -50,12 +41,10 @@ tokens_are_no_more_than_chars (c ∷ high ∷ low ∷ rest) =
 -- decoding, counts: a text has no more chunks than bytes
 pub chunks_are_no_more_than_bytes : (text : List ℕ) → IsUtf8 text
     → length (chunks text) ≤ length text
-chunks_are_no_more_than_bytes text u =
-    omega (
-      arith,
-      chunks_are_no_more_than_tokens (tokens text),
-      tokens_are_no_more_than_chars (chars text),
-      length-le-encodes
-          (chars text),
-      ap length (encodes-chars text u),
-    )
+chunks_are_no_more_than_bytes text u = omega (
+  arith,
+  chunks_are_no_more_than_tokens (tokens text),
+  tokens_are_no_more_than_chars (chars text),
+  length-le-encodes (chars text),
+  ap length (encodes-chars text u),
+)

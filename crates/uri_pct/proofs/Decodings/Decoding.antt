@@ -1,17 +1,5 @@
 -- The parts of a text that is decoded: what is before a `%`, and the octet that it begins.
-use Rattle.std.proofs.Common.{◌≡◌, ℕ, suc, ◌+◌, ◌*◌, ◌<◌, ◌≤◌, ◌≢◌, Bool, true, false, eqb, not, List, [], ◌∷◌, ◌++◌, length, get_or, take, drop, map, refl, sym, ap, ◌∙◌, subst, arith, ⊎_elim, append_assoc, lit<, add-zero}
-use Rattle.std.specs.List.{list_all, position_or_len, prefix_len}
-use Rattle.std.specs.Char.{encode_utf8, digit_value, is_ascii_hexdigit}
-use Rattle.std.specs.Str.{chars, encode_utf8_all, all_scalars, IsUtf8, IsCharBoundary}
-use Rattle.std.proofs.lemmas.Bool.{cases_Bool, cases_lt, cond-true, cond-false, and_parts, and_from, eqb-true, eqb-false, ne_eqb, not-true, not-false, not_from_false, false≢true, false_from_ne_true}
-use Rattle.std.proofs.lemmas.List.{append-nil, take-append-drop, drop_all, length-drop, get_or-drop}
-use Rattle.std.proofs.lemmas.List.Folds.{list_all-append}
-use Rattle.std.proofs.lemmas.List.Sums.{prefix_len-le-length, prefix_len_stops}
-use Rattle.std.proofs.lemmas.Str.{chars-append, chars-encodes, encode_ascii, encodes-chars, scalars-chars, IsUtf8-take, IsUtf8-drop, IsCharBoundary-after_ascii}
-use Rattle.uri_pct.specs.Sets.{TableSet, LacksPercent, IsSubset}
-use Rattle.uri_pct.specs.Texts.{lacks}
-use Rattle.uri_pct.specs.Tokens.{Token, Char, Octet, is_pct_encoded, tokens_from_chars, tokens, allows_token, is_valid_for, IsValidFor}
-use Rattle.uri_pct.specs.Chunks.{Chunk, Text, Byte, prepend_to_chunks, chunks_of_tokens, chunks, widest_set}
+use Rattle.uri_pct.proofs.Common.{◌≡◌, ℕ, suc, ◌+◌, ◌*◌, ◌<◌, ◌≤◌, ◌≢◌, Bool, true, false, eqb, not, List, [], ◌∷◌, ◌++◌, length, get_or, take, drop, map, refl, sym, ap, ◌∙◌, subst, arith, ⊎_elim, append_assoc, lit<, add-zero, list_all, position_or_len, prefix_len, encode_utf8, digit_value, is_ascii_hexdigit, chars, encode_utf8_all, all_scalars, IsUtf8, IsCharBoundary, cases_Bool, cases_lt, cond-true, cond-false, and_parts, and_from, eqb-true, eqb-false, ne_eqb, not-true, not-false, not_from_false, false≢true, false_from_ne_true, append-nil, take-append-drop, drop_all, length-drop, get_or-drop, list_all-append, prefix_len-le-length, prefix_len_stops, chars-append, chars-encodes, encode_ascii, encodes-chars, scalars-chars, IsUtf8-take, IsUtf8-drop, IsCharBoundary-after_ascii, TableSet, LacksPercent, IsSubset, lacks, Token, Char, Octet, is_pct_encoded, tokens_from_chars, tokens, allows_token, is_valid_for, IsValidFor, Chunk, Text, Byte, prepend_to_chunks, chunks_of_tokens, chunks, widest_set}
 use Rattle.uri_pct.proofs.UnreservedDecoding.Printing.{char_but_percent_is_its_own_token}
 use Rattle.uri_pct.proofs.ValidTexts.TokenCuts.{ascii_byte_is_first_of_chars}
 use Rattle.uri_pct.proofs.Unicode.Characters.{hexdigit_is_ascii}
@@ -54,9 +42,8 @@ prepending_twice_joins_texts xs ys (Text more ∷ ps) = ap (λ t. Text t ∷ ps)
 prepending_twice_joins_texts xs ys (Byte value ∷ ps) = refl
 
 -- decoding: characters before other tokens are text that is put before the chunks of these
-leading_chars_are_prepended_to_chunks : (c : ℕ) (cs : List ℕ) (ts : List Token)
-    → chunks_of_tokens (map Char (c ∷ cs) ++ ts) ≡ prepend_to_chunks (encode_utf8_all (c ∷ cs))
-    (chunks_of_tokens ts)
+leading_chars_are_prepended_to_chunks : (c : ℕ) (cs : List ℕ) (ts : List Token) → chunks_of_tokens
+    (map Char (c ∷ cs) ++ ts) ≡ prepend_to_chunks (encode_utf8_all (c ∷ cs)) (chunks_of_tokens ts)
 unfolding chunks_of_tokens
 leading_chars_are_prepended_to_chunks c [] ts = ap (λ x. prepend_to_chunks x (chunks_of_tokens ts))
     (sym (append-nil (encode_utf8 c)))
@@ -85,9 +72,8 @@ literal_percent_is_not_allowed : (ts : List Token) → list_all (allows_token wi
 literal_percent_is_not_allowed ts e = false≢true e
 
 -- decoding: a valid text that begins with `%` and two hexadecimal digits begins with an octet
-pct_encoded_chars_begin_with_octet : (high low : ℕ) (cs : List ℕ) → all_scalars (high ∷ low ∷ cs)
-    ≡ true
-    → is_pct_encoded 37 high low ≡ true
+pct_encoded_chars_begin_with_octet : (high low : ℕ) (cs : List ℕ)
+    → all_scalars (high ∷ low ∷ cs) ≡ true → is_pct_encoded 37 high low ≡ true
     → list_all (allows_token widest_set) (tokens_from_chars (37 ∷ high ∷ low ∷ cs)) ≡ true
     → BeginsWithOctet (37 ∷ encode_utf8_all (high ∷ low ∷ cs))
 unfolding tokens_from_chars is_pct_encoded is_valid_for
@@ -108,10 +94,8 @@ pct_encoded_chars_begin_with_octet high low cs s e v =
       low_digit = digits.1;
       first = ap tokens_from_chars
           (ascii_byte_is_first_of_chars 37 (encode_utf8_all (high ∷ low ∷ cs)) (lit< tt)
-          ∙ ap (λ x. 37 ∷ x) (chars-encodes (high ∷ low ∷ cs) s))
-          ∙ cond-true _ _ _ e
-          ∙ ap (λ x. Octet (16 * digit_value high + digit_value low) ∷ tokens_from_chars x)
-          (sym same);
+          ∙ ap (λ x. 37 ∷ x) (chars-encodes (high ∷ low ∷ cs) s)) ∙ cond-true _ _ _ e ∙ ap
+          (λ x. Octet (16 * digit_value high + digit_value low) ∷ tokens_from_chars x) (sym same);
       valid = grind arith;
     }
 
@@ -133,9 +117,8 @@ valid_chars_after_percent_give_octet (high ∷ low ∷ cs) s v = ⊎_elim
 valid_text_from_percent_begins_with_octet : (rest : List ℕ) → IsUtf8 rest
     → IsValidFor widest_set (37 ∷ rest) → BeginsWithOctet (37 ∷ rest)
 unfolding is_valid_for
-valid_text_from_percent_begins_with_octet rest u v =
-    subst (λ x. BeginsWithOctet (37 ∷ x)) (encodes-chars rest u)
-    (valid_chars_after_percent_give_octet (chars rest) (scalars-chars rest u)
+valid_text_from_percent_begins_with_octet rest u v = subst (λ x. BeginsWithOctet (37 ∷ x))
+    (encodes-chars rest u) (valid_chars_after_percent_give_octet (chars rest) (scalars-chars rest u)
     (sym (ap (λ cs. list_all (allows_token widest_set) (tokens_from_chars cs))
     (ascii_byte_is_first_of_chars 37 rest (lit< tt))) ∙ v))
 
@@ -221,8 +204,7 @@ unencoded_prefix_is_prepended_to_chunks (c ∷ cs) prefix ts e some =
 -- and those of what follows
 pub tokens_after_unencoded_prefix : (prefix back : List ℕ) → IsUtf8 prefix → lacks 37 prefix ≡ true
     → tokens (prefix ++ back) ≡ map Char (chars prefix) ++ tokens back
-tokens_after_unencoded_prefix prefix back u e =
-    ap tokens_from_chars (chars-append prefix back u)
+tokens_after_unencoded_prefix prefix back u e = ap tokens_from_chars (chars-append prefix back u)
     ∙ chars_without_percent_are_tokens (chars prefix) (chars back)
     (chars_lack_percent_if_bytes_do (chars prefix) (ap (lacks 37) (encodes-chars prefix u) ∙ e))
 
@@ -232,20 +214,17 @@ pub record BeginsWithText (text : List ℕ) (n : ℕ) : Type 0 where
   pub valid : IsValidFor widest_set (drop n text)
 
 -- decoding: what begins at a `%` does not join a text before it: the two are separate chunks
-text_before_percent_is_own_chunk : (text : List ℕ) (n : ℕ) → IsUtf8 (drop n text)
-    → IsValidFor widest_set (drop n text)
-    → n ≤ length text → (n < length text → get_or text n 0 ≡ 37)
-    → IsNotJoinedByTextBefore (chunks (drop n text))
-text_before_percent_is_own_chunk text n u v within there = ⊎_elim
-    (λ h.
+text_before_percent_is_own_chunk : (text : List ℕ) (n : ℕ)
+    → IsUtf8 (drop n text) → IsValidFor widest_set (drop n text) → n ≤ length text
+    → (n < length text → get_or text n 0 ≡ 37) → IsNotJoinedByTextBefore (chunks (drop n text))
+text_before_percent_is_own_chunk text n u v within there = ⊎_elim (λ h.
     let some : 0 < length (drop n text) = omega (arith, length-drop n text) in
     let first : get_or (drop n text) 0 0 ≡ 37 = get_or-drop n text 0 0
     ∙ ap (λ k. get_or text k 0) (add-zero n) ∙ there h in
-    text_before_octet_is_own_chunk (drop n text)
-    (percent_begins_octet (drop n text) u v some first))
-    (λ h. subst (λ x. IsNotJoinedByTextBefore (chunks x)) (sym (drop_all n text h))
-    text_before_nothing_is_own_chunk)
-    (cases_lt n (length text))
+    text_before_octet_is_own_chunk
+    (drop n text) (percent_begins_octet (drop n text) u v some first))
+    (λ h. subst (λ x. IsNotJoinedByTextBefore (chunks x))
+    (sym (drop_all n text h)) text_before_nothing_is_own_chunk) (cases_lt n (length text))
 
 -- decoding: the text before the first `%`, if it is not empty, is the first chunk
 unencoded_prefix_is_first_chunk : (text : List ℕ) (n : ℕ) → IsUtf8 text → IsValidFor widest_set text
@@ -259,11 +238,9 @@ unencoded_prefix_is_first_chunk text n u v e some =
     let inner : IsUtf8 prefix = IsUtf8-take text n u boundary in
     let outer : IsUtf8 back = IsUtf8-drop text n u boundary in
     let parts : tokens text ≡ map Char (chars prefix) ++ tokens back =
-    ap tokens (sym (take-append-drop n text))
-    ∙ tokens_after_unencoded_prefix prefix back inner (ap (λ k. lacks 37 (take k text)) e
-    ∙ text_before_percent_is_unencoded text) in
-    let valid : IsValidFor widest_set back =
-    grind (arith, list_all-append) in
+    ap tokens (sym (take-append-drop n text)) ∙ tokens_after_unencoded_prefix prefix back inner
+    (ap (λ k. lacks 37 (take k text)) e ∙ text_before_percent_is_unencoded text) in
+    let valid : IsValidFor widest_set back = grind (arith, list_all-append) in
     let within : n ≤ length text = subst (λ k. k ≤ length text) (sym e)
     (len_before_percent_is_at_most_length text) in
     let percent : n < length text → get_or text n 0 ≡ 37 = λ h. ap (λ k. get_or text k 0) e
@@ -278,8 +255,7 @@ unencoded_prefix_is_first_chunk text n u v e some =
 -- decoding: if a text does not begin with `%`, its first chunk ends at the first `%`
 text_chunk_ends_at_percent : (text : List ℕ) (n : ℕ) → IsUtf8 text → IsValidFor widest_set text
     → 0 < length text → get_or text 0 0 ≢ 37 → n ≡ len_before_percent text → BeginsWithText text n
-text_chunk_ends_at_percent text n u v some other e =
-    unencoded_prefix_is_first_chunk text n u v e
+text_chunk_ends_at_percent text n u v some other e = unencoded_prefix_is_first_chunk text n u v e
     (subst (λ k. 0 < length (take k text)) (sym e) (unencoded_prefix_is_nonempty text some other))
 
 -- general fact on texts, for decoding: a length that is not 0 is above 0
@@ -290,16 +266,14 @@ nonzero_length_is_positive bytes e = omega (arith, eqb-false (length bytes) 0 e)
 pub bytes_from_percent_begin_with_octet : (bytes text : List ℕ) → bytes ≡ text → IsUtf8 bytes
     → IsValidFor widest_set text → eqb (length bytes) 0 ≡ false → get_or bytes 0 0 ≡ 37
     → BeginsWithOctet text
-bytes_from_percent_begin_with_octet bytes text same u v some e =
-    percent_begins_octet text (subst IsUtf8 same u) v
-    (subst (λ x. 0 < length x) same (nonzero_length_is_positive bytes some))
+bytes_from_percent_begin_with_octet bytes text same u v some e = percent_begins_octet text
+    (subst IsUtf8 same u) v (subst (λ x. 0 < length x) same (nonzero_length_is_positive bytes some))
     (ap (λ x. get_or x 0 0) (sym same) ∙ e)
 
 -- decoding: if a text that decodes does not begin with `%`, its first chunk ends at the first `%`
 pub bytes_begin_with_text_up_to_percent : (bytes text : List ℕ) (n : ℕ) → bytes ≡ text
-    → IsUtf8 bytes
-    → IsValidFor widest_set text → eqb (length bytes) 0 ≡ false → get_or bytes 0 0 ≢ 37
-    → n ≡ position_or_len (λ b. eqb b 37) bytes → BeginsWithText text n × IsCharBoundary text n
+    → IsUtf8 bytes → IsValidFor widest_set text → eqb (length bytes) 0 ≡ false → get_or bytes 0 0
+    ≢ 37 → n ≡ position_or_len (λ b. eqb b 37) bytes → BeginsWithText text n × IsCharBoundary text n
 bytes_begin_with_text_up_to_percent bytes text n same u v some other e =
     let place : n ≡ position_or_len (λ b. eqb b 37) text = e
     ∙ ap (position_or_len (λ b. eqb b 37)) same in (

@@ -1,9 +1,5 @@
 -- The value of each digit, entry by entry.
-use Rattle.std.proofs.Common.{◌≡◌, ℕ, zero, suc, ◌<◌, Bool, true, not, ◌&&◌, ◌||◌, eqb, ltb, get_or, refl, subst}
-use Rattle.std.specs.Char.{digit_value, is_ascii_hexdigit}
-use Rattle.std.proofs.lemmas.Bool.{and_parts, eqb-true, ltb-true}
-use Rattle.std.proofs.lemmas.Bool.Decides.{Decides-below_and}
-use Rattle.uri_pct.specs.declared.octet.TheConstants.{DIGIT_VALUES}
+use Rattle.uri_pct.proofs.Common.{◌≡◌, ℕ, zero, suc, ◌<◌, Bool, true, not, ◌&&◌, ◌||◌, eqb, ltb, get_or, refl, subst, digit_value, is_ascii_hexdigit, and_parts, eqb-true, ltb-true, Decides-below_and, DIGIT_VALUES}
 
 -- decoding octets: the entry of a byte in the table of digits
 abbrev digit_table_entry : ℕ → ℕ

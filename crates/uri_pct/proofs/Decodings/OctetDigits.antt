@@ -1,8 +1,6 @@
 -- An octet has the same value with digits of either case.
-use Rattle.std.proofs.Common.{◌≡◌, ℕ, ◌/◌, ◌%◌, ◌<◌, Bool, List, ◌∷◌, ap, ◌∙◌, lit<}
+use Rattle.uri_pct.proofs.Common.{◌≡◌, ℕ, ◌/◌, ◌%◌, ◌<◌, Bool, List, ◌∷◌, ap, ◌∙◌, lit<, cond-true, and_parts, eqb-true, ltb-true, Octet, tokens, tokens_from_chars, is_pct_encoded}
 use Rattle.std.specs.Fmt.{digit_glyph}
-use Rattle.std.proofs.lemmas.Bool.{cond-true, and_parts, eqb-true, ltb-true}
-use Rattle.uri_pct.specs.Tokens.{Octet, tokens, tokens_from_chars, is_pct_encoded}
 use Rattle.uri_pct.proofs.UnreservedDecoding.Printing.{octet_digits_are_hexadecimal}
 use Rattle.uri_pct.proofs.ValidTexts.TokenCuts.{ascii_byte_is_first_of_chars}
 

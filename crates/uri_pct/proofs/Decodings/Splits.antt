@@ -1,7 +1,5 @@
 -- What is left of a text that is split at a delimiter.
-use Rattle.std.proofs.Common.{◌≡◌, eqb, Some, refl}
-use Rattle.std.specs.List.{slice_split}
-use Rattle.uri_pct.specs.EncodedTexts.{text_of, substrings_left}
+use Rattle.uri_pct.proofs.Common.{◌≡◌, eqb, Some, refl, slice_split, text_of, substrings_left}
 use Rattle.uri_pct.specs.declared.pct_enc.EStr.{EStr}
 use Rattle.uri_pct.specs.declared.split.Split.{Split}
 

@@ -1,11 +1,7 @@
 -- What is taken where text is appended.
-use Rattle.std.proofs.Common.{◌≡◌, ℕ, true, List, [], ◌∷◌, ◌++◌, refl, sym, ap, ◌∙◌, string_bytes, Result, Ok, Err, flat_map, OnOk, is_ok, IsUtf8, append-nil}
-use Rattle.uri_pct.specs.Parts.{Part, Literal, pieces_of_parts, parts}
-use Rattle.uri_pct.specs.Pieces.{lossy_piece, utf8_pieces, lossy_text}
+use Rattle.uri_pct.proofs.Common.{◌≡◌, ℕ, true, List, [], ◌∷◌, ◌++◌, refl, sym, ap, ◌∙◌, string_bytes, Result, Ok, Err, flat_map, OnOk, is_ok, IsUtf8, append-nil, Part, Literal, pieces_of_parts, parts, lossy_piece, utf8_pieces, lossy_text, widest_set, tokens, bytes_decoded_from, IsValidFor}
 use Rattle.uri_pct.specs.Models.TakenBytes.{TookText}
 use Rattle.uri_pct.specs.declared.decode_text.LossyText.{LossyText}
-use Rattle.uri_pct.specs.Chunks.{widest_set}
-use Rattle.uri_pct.specs.Tokens.{tokens, bytes_decoded_from, IsValidFor}
 use Rattle.uri_pct.proofs.Unicode.Lossy.{lossy_text_of_utf8_is_itself}
 use Rattle.uri_pct.proofs.Unicode.PartPieces.{parts_have_pieces_of_decoded_bytes}
 
@@ -22,14 +18,12 @@ literal_part_has_utf8_pieces_of_its_text text = append-nil (utf8_pieces text)
 -- decoding, parts taken: where text is appended,
 -- the text so far has taken the parts that decode to it; s, t: before and after
 pub appended_text_takes_lossy_text_of_parts : (s t : LossyText) (ps : List Part) (text : List ℕ)
-    → IsUtf8 text
-    → pieces_of_parts ps ≡ utf8_pieces text → string_bytes t.text ≡ string_bytes s.text ++ text
-    → TookText s ps t
-appended_text_takes_lossy_text_of_parts s t ps text u pieces bytes =
-    record {
-      text = bytes ∙ ap (λ x. string_bytes s.text ++ x)
-          (sym (ap (flat_map lossy_piece) pieces ∙ lossy_text_of_utf8_is_itself text u));
-    }
+    → IsUtf8 text → pieces_of_parts ps ≡ utf8_pieces text
+    → string_bytes t.text ≡ string_bytes s.text ++ text → TookText s ps t
+appended_text_takes_lossy_text_of_parts s t ps text u pieces bytes = record {
+  text = bytes ∙ ap (λ x. string_bytes s.text ++ x)
+      (sym (ap (flat_map lossy_piece) pieces ∙ lossy_text_of_utf8_is_itself text u));
+}
 
 -- decoding, parts taken: what is taken of a whole text is the lossy text of its decoded bytes
 pub parts_taken_give_lossy_text : (text : List ℕ) (s t : LossyText) → IsValidFor widest_set text

@@ -1,19 +1,6 @@
 -- The tokens of encoded texts and bytes: `tokens` inverts `print` on them, and a set with octets
 -- allows them.
-use Rattle.std.proofs.Common.{◌≡◌, ℕ, suc, ◌+◌, ◌%◌, ◌<◌, Bool, true, ltb, List, [], ◌∷◌, get_or, map, refl, sym, ap, ◌∙◌, arith, ⊎_elim}
-use Rattle.std.specs.List.{list_all, flat_map, All}
-use Rattle.std.specs.Char.{IsScalar, encode_utf8}
-use Rattle.std.specs.Str.{chars, IsUtf8, all_scalars}
-use Rattle.std.proofs.lemmas.Bool.{cases_Bool, cond-true, cond-false, and_parts, and_from, lt-ltb}
-use Rattle.std.proofs.lemmas.Bool.Decides.{nat_tests}
-use Rattle.std.proofs.lemmas.List.Folds.{list_all-append}
-use Rattle.std.proofs.lemmas.List.Elements.{All-head, All-tail}
-use Rattle.std.proofs.lemmas.Str.{encode_ascii, scalars-chars}
-use Rattle.uri_pct.specs.Sets.{TableSet, LacksPercent, IsSubset, allows}
-use Rattle.uri_pct.specs.Tokens.{Octet, allows_token}
-use Rattle.uri_pct.specs.Pieces.{Piece, WellFormed, IllFormed, IsOfCharacter, char_of, piece_bytes, bytes_of_pieces, utf8_pieces}
-use Rattle.uri_pct.specs.Encoding.{encode_char, encode_text, encode_piece, encode_bytes}
-use Rattle.uri_pct.specs.DecodeUnreserved.{is_printable}
+use Rattle.uri_pct.proofs.Common.{◌≡◌, ℕ, suc, ◌+◌, ◌%◌, ◌<◌, Bool, true, ltb, List, [], ◌∷◌, get_or, map, refl, sym, ap, ◌∙◌, arith, ⊎_elim, list_all, flat_map, All, IsScalar, encode_utf8, chars, IsUtf8, all_scalars, cases_Bool, cond-true, cond-false, and_parts, and_from, lt-ltb, nat_tests, list_all-append, All-head, All-tail, encode_ascii, scalars-chars, TableSet, LacksPercent, IsSubset, allows, Octet, allows_token, Piece, WellFormed, IllFormed, IsOfCharacter, char_of, piece_bytes, bytes_of_pieces, utf8_pieces, encode_char, encode_text, encode_piece, encode_bytes, is_printable}
 use Rattle.uri_pct.proofs.ValidTexts.Allowed.{allowed_char_is_printable}
 use Rattle.uri_pct.proofs.Unicode.CharacterPieces.{utf8_pieces-are-of-characters}
 use Rattle.uri_pct.proofs.ValidTexts.EStrs.{tokens_allowed_by_superset}
@@ -47,15 +34,14 @@ two_continuation_bytes_are_eight_bit x y = and_from _ _ (lt-ltb (128 + x % 64) 2
 -- encoding: the UTF-8 of a character is bytes
 pub utf8_bytes_are_eight_bit : (c : ℕ) → IsScalar c → list_all is_eight_bit (encode_utf8 c) ≡ true
 unfolding encode_utf8
-utf8_bytes_are_eight_bit c scalar =
-    grind (
-      arith,
-      nat_tests,
-      encode_ascii,
-      continuation_byte_is_eight_bit,
-      two_continuation_bytes_are_eight_bit,
-      scalar_is_below_0x110000,
-    )
+utf8_bytes_are_eight_bit c scalar = grind (
+  arith,
+  nat_tests,
+  encode_ascii,
+  continuation_byte_is_eight_bit,
+  two_continuation_bytes_are_eight_bit,
+  scalar_is_below_0x110000,
+)
 
 -- encoding: the octets of bytes are tokens that can be written
 pub octets_of_bytes_are_printable : (bytes : List ℕ) → list_all is_eight_bit bytes ≡ true
@@ -75,9 +61,8 @@ octets_are_allowed_if_pct_encoded set (b ∷ bytes) o = and_from _ _ o
 -- encoding: a character is encoded as tokens that can be written
 pub encoded_char_is_printable : (set : TableSet) (c : ℕ) → LacksPercent set → IsScalar c
     → list_all is_printable (encode_char set c) ≡ true
-encoded_char_is_printable set c lacks scalar = ⊎_elim
-    (λ e. ap (list_all is_printable) (cond-true _ _ _ e)
-    ∙ and_from _ true (allowed_char_is_printable set c lacks e) refl)
+encoded_char_is_printable set c lacks scalar = ⊎_elim (λ e. ap (list_all is_printable)
+    (cond-true _ _ _ e) ∙ and_from _ true (allowed_char_is_printable set c lacks e) refl)
     (λ e. ap (list_all is_printable) (cond-false _ _ _ e)
     ∙ octets_of_bytes_are_printable (encode_utf8 c) (utf8_bytes_are_eight_bit c scalar))
     (cases_Bool (allows set c))
@@ -85,11 +70,9 @@ encoded_char_is_printable set c lacks scalar = ⊎_elim
 -- encoding: a set with octets allows the tokens that a character is encoded as
 encoded_char_is_allowed : (set : TableSet) (c : ℕ) → set.pct_encoded ≡ true
     → list_all (allows_token set) (encode_char set c) ≡ true
-encoded_char_is_allowed set c o = ⊎_elim
-    (λ e. ap (list_all (allows_token set)) (cond-true _ _ _ e) ∙ and_from _ true e refl)
-    (λ e. ap (list_all (allows_token set)) (cond-false _ _ _ e)
-    ∙ octets_are_allowed_if_pct_encoded set (encode_utf8 c) o)
-    (cases_Bool (allows set c))
+encoded_char_is_allowed set c o = ⊎_elim (λ e. ap (list_all (allows_token set)) (cond-true _ _ _ e)
+    ∙ and_from _ true e refl) (λ e. ap (list_all (allows_token set)) (cond-false _ _ _ e)
+    ∙ octets_are_allowed_if_pct_encoded set (encode_utf8 c) o) (cases_Bool (allows set c))
 
 -- encoding: characters are encoded as tokens that can be written
 encoded_chars_are_printable : (set : TableSet) (cs : List ℕ) → LacksPercent set
@@ -97,9 +80,8 @@ encoded_chars_are_printable : (set : TableSet) (cs : List ℕ) → LacksPercent 
 encoded_chars_are_printable set [] lacks e = refl
 encoded_chars_are_printable set (c ∷ cs) lacks e =
     let p = and_parts _ (all_scalars cs) e in
-    list_all-append is_printable (encode_char set c) (flat_map (encode_char set) cs)
-    ∙ and_from _ _ (encoded_char_is_printable set c lacks p.0)
-    (encoded_chars_are_printable set cs lacks p.1)
+    list_all-append is_printable (encode_char set c) (flat_map (encode_char set) cs) ∙ and_from _ _
+    (encoded_char_is_printable set c lacks p.0) (encoded_chars_are_printable set cs lacks p.1)
 
 -- encoding: the tokens that a text is encoded as can be written
 pub encoded_text_is_printable : (set : TableSet) (text : List ℕ) → LacksPercent set → IsUtf8 text
@@ -118,9 +100,8 @@ encoded_chars_are_allowed set (c ∷ cs) o =
 -- encoding: a set allows a text that is encoded for a subset of it
 pub encoded_text_is_allowed : (sub set : TableSet) (text : List ℕ) → IsSubset sub set
     → sub.pct_encoded ≡ true → list_all (allows_token set) (encode_text sub text) ≡ true
-encoded_text_is_allowed sub set text subset o =
-    tokens_allowed_by_superset sub set (encode_text sub text) subset
-    (encoded_chars_are_allowed sub (chars text) o)
+encoded_text_is_allowed sub set text subset o = tokens_allowed_by_superset sub set
+    (encode_text sub text) subset (encoded_chars_are_allowed sub (chars text) o)
 
 -- encoding: the tokens that a piece of bytes is encoded as can be written
 encoded_piece_is_printable : (set : TableSet) (p : Piece) → LacksPercent set → IsOfCharacter p
@@ -168,6 +149,5 @@ encoded_pieces_are_allowed set (p ∷ ps) o =
 -- encoding: a set allows bytes that are encoded for a subset of it
 pub encoded_bytes_are_allowed : (sub set : TableSet) (bytes : List ℕ) → IsSubset sub set
     → sub.pct_encoded ≡ true → list_all (allows_token set) (encode_bytes sub bytes) ≡ true
-encoded_bytes_are_allowed sub set bytes subset o =
-    tokens_allowed_by_superset sub set (encode_bytes sub bytes) subset
-    (encoded_pieces_are_allowed sub (utf8_pieces bytes) o)
+encoded_bytes_are_allowed sub set bytes subset o = tokens_allowed_by_superset sub set
+    (encode_bytes sub bytes) subset (encoded_pieces_are_allowed sub (utf8_pieces bytes) o)

@@ -1,9 +1,5 @@
 -- The laws on encoding that the crate states.
-use Rattle.std.proofs.Common.{◌≡◌, ℕ, List, ◌++◌, IsUtf8}
-use Rattle.std.proofs.lemmas.List.Concat.{flat_map-append}
-use Rattle.uri_pct.specs.Sets.{TableSet, LacksPercent}
-use Rattle.uri_pct.specs.Tokens.{Token, tokens, bytes_decoded_from, bytes_of_one_token, print}
-use Rattle.uri_pct.specs.Encoding.{encode_text}
+use Rattle.uri_pct.proofs.Common.{◌≡◌, ℕ, List, ◌++◌, IsUtf8, flat_map-append, TableSet, LacksPercent, Token, tokens, bytes_decoded_from, bytes_of_one_token, print, encode_text}
 use Rattle.uri_pct.proofs.EncodedTexts.EncodedTokens.{encoded_text_is_printable}
 use Rattle.uri_pct.proofs.UnreservedDecoding.Printing.{printed_tokens_parse_to_themselves}
 
@@ -15,6 +11,5 @@ joined_tokens_decode_to_joined_bytes ts us = flat_map-append bytes_of_one_token 
 -- encoding: the text that is written of encoded tokens has these tokens
 pub encoded_text_parses_to_its_tokens : (set : TableSet) (text : List ℕ) → LacksPercent set
     → IsUtf8 text → tokens (print (encode_text set text)) ≡ encode_text set text
-encoded_text_parses_to_its_tokens set text lacks u =
-    printed_tokens_parse_to_themselves (encode_text set text)
-    (encoded_text_is_printable set text lacks u)
+encoded_text_parses_to_its_tokens set text lacks u = printed_tokens_parse_to_themselves
+    (encode_text set text) (encoded_text_is_printable set text lacks u)

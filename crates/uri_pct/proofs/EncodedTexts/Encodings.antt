@@ -1,32 +1,17 @@
 -- The tokens that texts and bytes are encoded as.
-use Rattle.std.proofs.Common.{◌≡◌, ℕ, ◌+◌, ◌-◌, ◌≤◌, true, false, List, [], ◌∷◌, ◌++◌, length, take, drop, map, refl, sym, ap, ◌∙◌, arith, append_assoc, flat_map, All}
-use Rattle.std.specs.Char.{encode_utf8, len_utf8}
-use Rattle.std.specs.Str.{chars, encode_utf8_all, all_scalars, IsUtf8}
-use Rattle.std.proofs.Math.Seq.{take-append_seam}
-use Rattle.std.proofs.lemmas.Bool.{cond-true, cond-false, and_parts}
-use Rattle.std.proofs.lemmas.List.{append-nil, drop-drop, length-take, take-append-le, take-take, nil_from_length}
-use Rattle.std.proofs.lemmas.List.Concat.{flat_map-append}
-use Rattle.std.proofs.lemmas.List.Elements.{All-head, All-tail}
-use Rattle.std.proofs.lemmas.Str.{chars_past_char, encodes-chars, scalars-chars, length-encode}
-use Rattle.uri_pct.specs.Sets.{TableSet, allows}
-use Rattle.uri_pct.specs.Tokens.{Token, Octet, bytes_decoded_from, bytes_of_one_token, text_of_token, print}
-use Rattle.uri_pct.specs.Pieces.{Piece, WellFormed, IllFormed, IsOfCharacter, char_of, piece_bytes, bytes_of_pieces, utf8_pieces}
-use Rattle.uri_pct.specs.Encoding.{encode_char, encode_text, encode_piece, encode_bytes}
-use Rattle.uri_pct.specs.Parts.{ill_formed_piece_if_any}
+use Rattle.uri_pct.proofs.Common.{◌≡◌, ℕ, ◌+◌, ◌-◌, ◌≤◌, true, false, List, [], ◌∷◌, ◌++◌, length, take, drop, map, refl, sym, ap, ◌∙◌, arith, append_assoc, flat_map, All, encode_utf8, len_utf8, chars, encode_utf8_all, all_scalars, IsUtf8, take-append_seam, cond-true, cond-false, and_parts, append-nil, drop-drop, length-take, take-append-le, take-take, nil_from_length, flat_map-append, All-head, All-tail, chars_past_char, encodes-chars, scalars-chars, length-encode, TableSet, allows, Token, Octet, bytes_decoded_from, bytes_of_one_token, text_of_token, print, Piece, WellFormed, IllFormed, IsOfCharacter, char_of, piece_bytes, bytes_of_pieces, utf8_pieces, encode_char, encode_text, encode_piece, encode_bytes, ill_formed_piece_if_any, nat_tests}
 use Rattle.uri_pct.proofs.Unicode.CharacterPieces.{utf8_pieces-are-of-characters, char_of_utf8_is_the_char}
 use Rattle.uri_pct.proofs.Unicode.Lossy.{piece_of_char, pieces_of_chars_come_before_the_rest}
 use Rattle.uri_pct.proofs.Unicode.Runs.{no_bytes_have_no_pieces}
 use Rattle.uri_pct.proofs.Unicode.Pieces.{bytes_of_utf8_pieces_are_the_bytes, take_then_take_is_take_of_sum}
-use Rattle.std.proofs.lemmas.Bool.Decides.{nat_tests}
 
 -- encoding: what is written of two lists of tokens is what is written of each
 pub print-append : (ts us : List Token) → print (ts ++ us) ≡ print ts ++ print us
 print-append ts us = flat_map-append text_of_token ts us
 
 -- encoding: a text is encoded as its first character and what is after it
-pub encode_text-by-first-char : (set : TableSet) (text rest : List ℕ) (c : ℕ) → IsUtf8 text
-    → text ≡ encode_utf8 c ++ rest
-    → encode_text set text ≡ encode_char set c ++ encode_text set rest
+pub encode_text-by-first-char : (set : TableSet) (text rest : List ℕ) (c : ℕ) → IsUtf8 text → text
+    ≡ encode_utf8 c ++ rest → encode_text set text ≡ encode_char set c ++ encode_text set rest
 encode_text-by-first-char set text rest c u e =
     ap (flat_map (encode_char set)) (chars_past_char text rest c u e)
 
@@ -56,10 +41,9 @@ encoded_char_decodes_to_its_bytes set c =
 encoded_chars_decode_to_their_bytes : (set : TableSet) (cs : List ℕ)
     → bytes_decoded_from (flat_map (encode_char set) cs) ≡ encode_utf8_all cs
 encoded_chars_decode_to_their_bytes set [] = refl
-encoded_chars_decode_to_their_bytes set (c ∷ cs) =
-    flat_map-append bytes_of_one_token (encode_char set c) (flat_map (encode_char set) cs)
-    ∙ ap (λ x. x ++ bytes_decoded_from (flat_map (encode_char set) cs))
-    (encoded_char_decodes_to_its_bytes set c)
+encoded_chars_decode_to_their_bytes set (c ∷ cs) = flat_map-append bytes_of_one_token
+    (encode_char set c) (flat_map (encode_char set) cs) ∙ ap (λ x. x
+    ++ bytes_decoded_from (flat_map (encode_char set) cs)) (encoded_char_decodes_to_its_bytes set c)
     ∙ ap (λ x. encode_utf8 c ++ x) (encoded_chars_decode_to_their_bytes set cs)
 
 -- encoding: encoded text decodes to the text
@@ -94,21 +78,18 @@ encoded_bytes_decode_to_themselves set bytes = encoded_pieces_decode_to_their_by
     ∙ bytes_of_utf8_pieces_are_the_bytes bytes
 
 -- encoding: a run of a text, up to the next character, has this character (c) more
-pub slice_with_one_more_char : (text : List ℕ) (start end c : ℕ) → start ≤ end
-    → drop end text ≡ encode_utf8 c ++ drop (end + len_utf8 c) text
-    → take (end + len_utf8 c - start) (drop start text)
-    ≡ take (end - start) (drop start text) ++ encode_utf8 c
+pub slice_with_one_more_char : (text : List ℕ) (start end c : ℕ)
+    → start ≤ end → drop end text ≡ encode_utf8 c ++ drop (end + len_utf8 c) text → take (end
+    + len_utf8 c - start) (drop start text) ≡ take (end - start) (drop start text) ++ encode_utf8 c
 slice_with_one_more_char text start end c ordered e =
     let n = end - start in
     let size : end + len_utf8 c - start ≡ n + len_utf8 c = omega arith in
     let place : start + n ≡ end = omega arith in
     let suffix : drop n (drop start text) ≡ encode_utf8 c ++ drop (end + len_utf8 c) text =
-    drop-drop n start text
-    ∙ ap (λ k. drop k text) place ∙ e in
+    drop-drop n start text ∙ ap (λ k. drop k text) place ∙ e in
     let prefix : take (len_utf8 c) (drop n (drop start text)) ≡ encode_utf8 c =
-    ap (take (len_utf8 c)) suffix
-    ∙ ap (λ k. take k (encode_utf8 c ++ drop (end + len_utf8 c) text)) (sym (length-encode c))
-    ∙ take-append_seam (encode_utf8 c) (drop (end + len_utf8 c) text) in
+    ap (take (len_utf8 c)) suffix ∙ ap (λ k. take k (encode_utf8 c ++ drop (end + len_utf8 c) text))
+    (sym (length-encode c)) ∙ take-append_seam (encode_utf8 c) (drop (end + len_utf8 c) text) in
     grind (arith, nat_tests, take_then_take_is_take_of_sum)
 
 -- encoding: a new text that begins with the old one does so with more after it
@@ -142,11 +123,10 @@ pub pieces_of_text_are_encoded_as_text : (set : TableSet) (text : List ℕ) → 
     → flat_map (encode_piece set) (utf8_pieces text) ≡ encode_text set text
 pieces_of_text_are_encoded_as_text set text u =
     let all = encodes-chars text u in
-    ap (λ x. flat_map (encode_piece set) (utf8_pieces x))
-    (sym (append-nil text) ∙ ap (λ x. x ++ []) (sym all))
-    ∙ ap (flat_map (encode_piece set))
-    (pieces_of_chars_come_before_the_rest (chars text) [] (scalars-chars text u)
-    ∙ ap (λ ps. map piece_of_char (chars text) ++ ps) no_bytes_have_no_pieces
+    ap (λ x. flat_map (encode_piece set) (utf8_pieces x)) (sym (append-nil text)
+    ∙ ap (λ x. x ++ []) (sym all))
+    ∙ ap (flat_map (encode_piece set)) (pieces_of_chars_come_before_the_rest (chars text) []
+    (scalars-chars text u) ∙ ap (λ ps. map piece_of_char (chars text) ++ ps) no_bytes_have_no_pieces
     ∙ append-nil (map piece_of_char (chars text)))
     ∙ pieces_of_chars_are_encoded_as_chars set (chars text) (scalars-chars text u)
 

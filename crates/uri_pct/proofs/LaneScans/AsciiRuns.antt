@@ -1,10 +1,6 @@
 -- A run of ASCII characters that a set allows is scanned, and after it the text has a character's
 -- boundary.
-use Rattle.std.proofs.Common.{◌≡◌, ℕ, zero, suc, ◌+◌, ◌-◌, ◌<◌, ◌≤◌, true, List, length, get_or, drop, arith, subst, IsUtf8, IsCharBoundary}
-use Rattle.std.proofs.lemmas.Str.{IsCharBoundary-after_ascii}
-use Rattle.uri_pct.specs.Sets.{TableSet, LacksPercent}
-use Rattle.uri_pct.specs.Prefixes.{valid_prefix}
-use Rattle.uri_pct.specs.Models.ByteRuns.{IsLongestRun}
+use Rattle.uri_pct.proofs.Common.{◌≡◌, ℕ, zero, suc, ◌+◌, ◌-◌, ◌<◌, ◌≤◌, true, List, length, get_or, drop, arith, subst, IsUtf8, IsCharBoundary, IsCharBoundary-after_ascii, TableSet, LacksPercent, valid_prefix, IsLongestRun}
 use Rattle.uri_pct.proofs.ValidTexts.PrefixSteps.{valid_prefix_passes_ascii_char_of_set}
 
 module _ (set : TableSet) (lacks : LacksPercent set)
@@ -15,9 +11,8 @@ module _ (set : TableSet) (lacks : LacksPercent set)
       (i + valid_prefix set (drop i bs) ≡ start + valid_prefix set (drop start bs))
       × IsCharBoundary bs i
 
-  allowed_ascii_is_scanned : (n : ℕ) → start + n ≤ length bs
-      → ((k : ℕ) → start ≤ k → k < start + n → set.ascii (get_or bs k 0) ≡ true)
-      → IsScannedTo (start + n)
+  allowed_ascii_is_scanned : (n : ℕ) → start + n ≤ length bs → ((k : ℕ)
+      → start ≤ k → k < start + n → set.ascii (get_or bs k 0) ≡ true) → IsScannedTo (start + n)
   allowed_ascii_is_scanned zero room pass = let e : start ≡ start + zero = omega arith in
       subst IsScannedTo e (omega arith, here)
   allowed_ascii_is_scanned (suc n) room pass =
@@ -30,8 +25,7 @@ module _ (set : TableSet) (lacks : LacksPercent set)
       let next : start + n + 1 ≡ start + suc n = omega arith in
       subst IsScannedTo next (
         omega (arith, before.0, step),
-        IsCharBoundary-after_ascii bs (start + n)
-            u (omega arith) below,
+        IsCharBoundary-after_ascii bs (start + n) u (omega arith) below,
       )
 
   pub ascii_run_is_scanned : (end : ℕ) → IsLongestRun set.ascii bs start end

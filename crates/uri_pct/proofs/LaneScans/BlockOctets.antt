@@ -1,18 +1,8 @@
 -- The first byte from a start on that fails a test, by the mask of its block, and octets after it.
-use Rattle.std.proofs.Common.{◌≡◌, ℕ, ◌+◌, ◌-◌, ◌^◌, ◌<◌, ◌≤◌, Bool, true, false, not, eqb, leb, List, length, get_or, refl, sym, ap, subst, ◌∙◌, arith, w64, bit_and, ◌&&◌, ⊎_elim}
-use Rattle.std.specs.Int.{bit_at, trailing_zeros}
-use Rattle.std.specs.Char.{is_ascii_hexdigit}
-use Rattle.std.proofs.Math.Bool.{and-true}
-use Rattle.std.proofs.lemmas.Nat.{and_le_l}
-use Rattle.std.proofs.lemmas.Nat.Bits.{bit_at-zero, bit_at_above, bit_at_ones}
-use Rattle.std.proofs.lemmas.Bool.{cases_lt, cases_Bool, both_ways, eq-eqb, eqb-true, and_parts, and_from, and_right, not-true, leb-true, le-leb}
-use Rattle.uri_pct.specs.Texts.{has_hex_digits_after}
-use Rattle.uri_pct.specs.Models.ByteRuns.{AreCharactersOrOctets, IsLongestRun}
-use Rattle.uri_pct.specs.Models.LaneMasks.{is_lane_of_octet}
+use Rattle.uri_pct.proofs.Common.{◌≡◌, ℕ, ◌+◌, ◌-◌, ◌^◌, ◌<◌, ◌≤◌, Bool, true, false, not, eqb, leb, List, length, get_or, refl, sym, ap, subst, ◌∙◌, arith, w64, bit_and, ◌&&◌, ⊎_elim, bit_at, trailing_zeros, is_ascii_hexdigit, and-true, and_le_l, bit_at-zero, bit_at_above, bit_at_ones, cases_lt, cases_Bool, both_ways, eq-eqb, eqb-true, and_parts, and_from, and_right, not-true, leb-true, le-leb, has_hex_digits_after, AreCharactersOrOctets, IsLongestRun, is_lane_of_octet, nat_tests}
 use Rattle.uri_pct.proofs.TableSets.Masks.{bit_of_bit_and, bit_that_is_not_one_is_zero}
 use Rattle.uri_pct.proofs.LaneScans.LaneBits.{is_set_bit, trailing_zeros_is_first_set_lane}
 use Rattle.uri_pct.proofs.LaneScans.OctetLanes.{first_is_false_if_and_is_false, lane_without_origin_is_in_no_octet, no_octet_begins_before_lane_outside, octets_before_lane_outside_are_whole}
-use Rattle.std.proofs.lemmas.Bool.Decides.{nat_tests}
 
 -- bit k of the mask is set where the byte at i + k is one from start on that fails the test, and
 -- those from start to i pass it
@@ -50,10 +40,9 @@ lane_below_14 left k h = lane_of_part left 16383 k (ap (λ n. eqb n 1) (bit_at_o
 
 lane_from_14 : (left k : ℕ) → 14 ≤ k → k < 16
     → is_set_bit (bit_and left 49152) k ≡ is_set_bit left k
-lane_from_14 left k from to = lane_of_part left 49152 k (⊎_elim
-    (λ (h : k < 15). let e : k ≡ 14 = omega arith in ap (is_set_bit 49152) e)
-    (λ (h : 15 ≤ k). let e : k ≡ 15 = omega arith in ap (is_set_bit 49152) e)
-    (cases_lt k 15))
+lane_from_14 left k from to = lane_of_part left 49152 k
+    (⊎_elim (λ (h : k < 15). let e : k ≡ 14 = omega arith in ap (is_set_bit 49152) e)
+    (λ (h : 15 ≤ k). let e : k ≡ 15 = omega arith in ap (is_set_bit 49152) e) (cases_lt k 15))
 
 no_lane_of_zero : (mask k : ℕ) → mask ≡ 0 → is_set_bit mask k ≡ false
 no_lane_of_zero mask k none = ap (λ n. is_set_bit n k) none ∙ ap (λ n. eqb n 1) (bit_at-zero k)
@@ -68,9 +57,8 @@ first_of_lower_lanes left below some =
     let f = trailing_zeros_is_first_set_lane low (omega (arith, below, and_le_l left 16383)) some in
     let both : (is_set_bit left j ≡ true) × (is_set_bit 16383 j ≡ true) =
     and_parts _ _ (sym (bit_of_bit_and left 16383 j) ∙ eq-eqb _ _ f.1) in
-    let near : j < 14 = ⊎_elim (λ (h : j < 14). h)
-    (λ (h : 14 ≤ j). absurd (both_ways _ (ap (λ n. eqb n 1)
-    (bit_at_above 16383 14 j (omega arith) h)) both.1)) (cases_lt j 14) in (
+    let near : j < 14 = ⊎_elim (λ (h : j < 14). h) (λ (h : 14 ≤ j). absurd (both_ways _
+    (ap (λ n. eqb n 1) (bit_at_above 16383 14 j (omega arith) h)) both.1)) (cases_lt j 14) in (
       near,
       record {
         within = f.0;
@@ -91,21 +79,18 @@ first_of_last_lanes left below none some =
       within = f.0;
       set = (and_parts _ _ (sym (bit_of_bit_and left 49152 (trailing_zeros w64 high))
           ∙ eq-eqb _ _ f.1)).0;
-      before = λ k h. ⊎_elim
-          (λ (l : k < 14). sym (lane_below_14 left k l)
+      before = λ k h. ⊎_elim (λ (l : k < 14). sym (lane_below_14 left k l)
           ∙ no_lane_of_zero (bit_and left 16383) k none)
           (λ (l : 14 ≤ k). sym (lane_from_14 left k l (omega (arith, h, f.0)))
-          ∙ ap (λ n. eqb n 1) (f.2 k h))
-          (cases_lt k 14);
+          ∙ ap (λ n. eqb n 1) (f.2 k h)) (cases_lt k 14);
     }
 
 -- no lane is set, if none of either part is
 pub no_lane_of_both_parts : (left : ℕ) → bit_and left 16383 ≡ 0 → bit_and left 49152 ≡ 0
     → (k : ℕ) → k < 16 → is_set_bit left k ≡ false
-no_lane_of_both_parts left low high k h = ⊎_elim
-    (λ (l : k < 14). sym (lane_below_14 left k l) ∙ no_lane_of_zero (bit_and left 16383) k low)
-    (λ (l : 14 ≤ k). sym (lane_from_14 left k l h) ∙ no_lane_of_zero (bit_and left 49152) k high)
-    (cases_lt k 14)
+no_lane_of_both_parts left low high k h = ⊎_elim (λ (l : k < 14). sym (lane_below_14 left k l)
+    ∙ no_lane_of_zero (bit_and left 16383) k low) (λ (l : 14 ≤ k). sym (lane_from_14 left k l h)
+    ∙ no_lane_of_zero (bit_and left 49152) k high) (cases_lt k 14)
 
 module _ (test : ℕ → Bool) (bs : List ℕ) (start i mask : ℕ)
     (m : MarksFailingLanesFrom test bs start i mask) where
@@ -121,11 +106,9 @@ module _ (test : ℕ → Bool) (bs : List ℕ) (start i mask : ℕ)
   bytes_before_lane_pass : (n : ℕ) → n ≤ 16 → ((k : ℕ) → k < n → is_set_bit mask k ≡ false)
       → (x : ℕ) → start ≤ x → x < i + n → test (get_or bs x 0) ≡ true
   bytes_before_lane_pass n few clear x from to = ⊎_elim
-      (λ (h : x < i). m.before x from h)
-      (λ (h : i ≤ x). let e : i + (x - i) ≡ x = omega arith in
-      subst (λ p. test (get_or bs p 0) ≡ true) e
-      (unmarked_lane_passes (x - i) (omega arith) (omega arith) (clear (x - i) (omega arith))))
-      (cases_lt x i)
+      (λ (h : x < i). m.before x from h) (λ (h : i ≤ x). let e : i + (x - i) ≡ x = omega arith in
+      subst (λ p. test (get_or bs p 0) ≡ true) e (unmarked_lane_passes (x - i)
+      (omega arith) (omega arith) (clear (x - i) (omega arith)))) (cases_lt x i)
 
   -- the longest run ends at the first lane that is marked
   pub run_ends_at_first_marked_byte : (mask ≡ 0 → ⊥) → i + 16 ≤ length bs
@@ -152,16 +135,14 @@ module _ (test : ℕ → Bool) (bs : List ℕ) (start i mask : ℕ)
   }
 
   -- the digits of an octet pass a test that all digits pass
-  pub digits_of_octet_are_unmarked
-      : ((c : ℕ) → is_ascii_hexdigit c ≡ true → test c ≡ true)
+  pub digits_of_octet_are_unmarked : ((c : ℕ) → is_ascii_hexdigit c ≡ true → test c ≡ true)
       → (k : ℕ) → k + 3 ≤ 16 → has_hex_digits_after bs (i + k) ≡ true
       → (bit_at mask (k + 1) ≡ 0) × (bit_at mask (k + 2) ≡ 0)
   unfolding has_hex_digits_after
   digits_of_octet_are_unmarked pass k room digits =
       let both = and_parts _ _ digits in
       let unmarked : (n : ℕ) → n < 16 → is_ascii_hexdigit (get_or bs (i + n) 0) ≡ true
-      → bit_at mask n ≡ 0 = λ n h e.
-      bit_that_is_not_one_is_zero mask n
+      → bit_at mask n ≡ 0 = λ n h e. bit_that_is_not_one_is_zero mask n
       (m.lane n h ∙ and_right _ _ (ap not (pass (get_or bs (i + n) 0) e))) in (
         unmarked (k + 1) (omega (arith, room))
             (ap (λ p. is_ascii_hexdigit (get_or bs p 0)) (omega arith) ∙ both.0),
@@ -182,20 +163,16 @@ module _ (test : ℕ → Bool) (bs : List ℕ) (start i mask : ℕ)
     begins j = leb i (start + j) && is_set_bit begun (start + j - i)
 
     -- an octet that begins at a lane before lane k is one that begins at or after start
-    origin_is_clear : (j k : ℕ) → i + k ≡ start + j → k < 16
-        → ((p : ℕ) → p < j → j ≤ p + 2 → begins p ≡ false)
-        → (o : ℕ) → o < k → k ≤ o + 2 → is_set_bit begun o ≡ false
-    origin_is_clear j k e h fresh o before near = ⊎_elim
-        (λ (set : is_set_bit begun o ≡ true).
+    origin_is_clear : (j k : ℕ) → i + k ≡ start + j → k < 16 → ((p : ℕ) → p < j
+        → j ≤ p + 2 → begins p ≡ false) → (o : ℕ) → o < k → k ≤ o + 2 → is_set_bit begun o ≡ false
+    origin_is_clear j k e h fresh o before near = ⊎_elim (λ (set : is_set_bit begun o ≡ true).
         let from = (marked_lane_fails o (omega (arith, h, before)) (inside o set)).0 in
         let p : ℕ = i + o - start in
         let here : start + p ≡ i + o = omega (arith, from) in
         let same : start + p - i ≡ o = omega (arith, here) in
-        absurd (both_ways _
-        (fresh p (omega (arith, here, e, before)) (omega (arith, here, e, near)))
-        (ap (λ b. b && is_set_bit begun (start + p - i))
-        (le-leb i (start + p) (omega (arith, here)))
-        ∙ ap (is_set_bit begun) same ∙ set)))
+        absurd (both_ways _ (fresh p (omega (arith, here, e, before))
+        (omega (arith, here, e, near))) (ap (λ b. b && is_set_bit begun (start + p - i))
+        (le-leb i (start + p) (omega (arith, here))) ∙ ap (is_set_bit begun) same ∙ set)))
         (λ (clear : is_set_bit begun o ≡ false). clear) (cases_Bool (is_set_bit begun o))
 
     octet_at : (j : ℕ) → begins j ≡ true → (i ≤ start + j)
@@ -206,18 +183,15 @@ module _ (test : ℕ → Bool) (bs : List ℕ) (start i mask : ℕ)
     bytes_before_first_left_lane = record {
       octet = begins;
       pass = λ j h o fresh. ⊎_elim
-          (λ (l : start + j < i). m.before (start + j) (omega arith) l)
-          (λ (l : i ≤ start + j).
+          (λ (l : start + j < i). m.before (start + j) (omega arith) l) (λ (l : i ≤ start + j).
           let k : ℕ = start + j - i in
           let e : i + k ≡ start + j = omega arith in
           let none : is_set_bit begun k ≡ false =
           sym (ap (λ b. b && is_set_bit begun k) (le-leb i (start + j) l)) ∙ o in
-          subst (λ p. test (get_or bs p 0) ≡ true) e
-          (unmarked_lane_passes k (omega arith) (omega arith) (first_is_false_if_and_is_false _ _
-          (sym (lane k (omega arith)) ∙ shut k (omega arith))
-          (ap not (lane_without_origin_is_in_no_octet begun k none
-          (origin_is_clear j k e (omega arith) fresh))))))
-          (cases_lt (start + j) i);
+          subst (λ p. test (get_or bs p 0) ≡ true) e (unmarked_lane_passes k (omega arith)
+          (omega arith) (first_is_false_if_and_is_false _ _ (sym (lane k (omega arith))
+          ∙ shut k (omega arith)) (ap not (lane_without_origin_is_in_no_octet begun k none
+          (origin_is_clear j k e (omega arith) fresh)))))) (cases_lt (start + j) i);
       percent = λ j o. let p = octet_at j o in
           let e : i + (start + j - i) ≡ start + j = omega (arith, p.0) in
           subst (λ x. get_or bs x 0 ≡ 37) e (starts (start + j - i) p.1).1;
@@ -226,8 +200,7 @@ module _ (test : ℕ → Bool) (bs : List ℕ) (start i mask : ℕ)
           subst (λ x. has_hex_digits_after bs x ≡ true) e (starts (start + j - i) p.1).2;
       whole = λ j h o. let p = octet_at j o in
           let w : start + j - i + 3 ≤ n = octets_before_lane_outside_are_whole begun n few
-          (λ k b. (starts k b).0)
-          (λ l. not-true _ (and_parts _ _ (sym (lane n l) ∙ ends l)).1)
+          (λ k b. (starts k b).0) (λ l. not-true _ (and_parts _ _ (sym (lane n l) ∙ ends l)).1)
           (start + j - i) (omega (arith, h, p.0)) p.1 in
           omega (arith, w, p.0);
     }
@@ -278,11 +251,10 @@ module _ (test : ℕ → Bool) (bs : List ℕ) (start i mask : ℕ)
       -- a `%` among these has no digits, if there is room for them
       pub left_percent_is_stray : n < 14 → get_or bs (i + n) 0 ≡ 37
           → has_hex_digits_after bs (i + n) ≡ false
-      left_percent_is_stray near percent = ⊎_elim
-          (λ (e : has_hex_digits_after bs (i + n) ≡ true).
-          absurd (both_ways _
-          (no_octet_begins_before_lane_outside begun n n first_left_lane_is_marked.1 (omega arith)
-          (omega arith)) (bit_of_bit_and octets mask n ∙ and_from _ _
+      left_percent_is_stray near percent =
+          ⊎_elim (λ (e : has_hex_digits_after bs (i + n) ≡ true). absurd
+          (both_ways _ (no_octet_begins_before_lane_outside begun n n first_left_lane_is_marked.1
+          (omega arith) (omega arith)) (bit_of_bit_and octets mask n ∙ and_from _ _
           (eq-eqb _ _ (all n (omega (arith, near)) percent e)) first_left_lane_is_marked.0)))
           (λ (e : has_hex_digits_after bs (i + n) ≡ false). e)
           (cases_Bool (has_hex_digits_after bs (i + n)))

@@ -1,13 +1,7 @@
 -- The lanes of each `/` that has a `.` or a `%` after it.
-use Rattle.std.proofs.Common.{◌≡◌, ℕ, ◌+◌, ◌<◌, ◌≤◌, Bool, false, eqb, List, map, length, get_or, sym, ap, ◌∙◌, arith, w64, bit_and, bit_or, ◌&&◌, ◌||◌}
-use Rattle.std.specs.Int.{bit_at, trailing_zeros}
-use Rattle.std.specs.Simd.Lanes.{mask_l, chunk}
-use Rattle.std.proofs.lemmas.Nat.{and_le_l}
-use Rattle.std.proofs.lemmas.Nat.Bits.{bit_at-zero}
-use Rattle.std.proofs.lemmas.Bool.{and_parts, eq-eqb, eqb-true}
+use Rattle.uri_pct.proofs.Common.{◌≡◌, ℕ, ◌+◌, ◌<◌, ◌≤◌, Bool, false, eqb, List, map, length, get_or, sym, ap, ◌∙◌, arith, w64, bit_and, bit_or, ◌&&◌, ◌||◌, bit_at, trailing_zeros, mask_l, chunk, and_le_l, bit_at-zero, and_parts, eq-eqb, eqb-true, nat_tests}
 use Rattle.uri_pct.proofs.TableSets.Masks.{bit_of_bit_and, bit_of_bit_or}
 use Rattle.uri_pct.proofs.LaneScans.LaneBits.{is_set_bit, mask_bit_is_equality_of_byte, equality_mask_is_below_2_16, trailing_zeros_is_first_set_lane}
-use Rattle.std.proofs.lemmas.Bool.Decides.{nat_tests}
 
 -- sixteen bytes at a time: the mask of the lanes from i on that equal a byte
 abbrev mask_of_lanes_equal_to : ℕ → List ℕ → ℕ → ℕ
@@ -40,8 +34,7 @@ module _ (bs : List ℕ) (i : ℕ) (room : i + 16 < length bs) (slashes dots oct
   pub no_slash_dot_where_mask_is_zero : slash_dot_mask ≡ 0 → (k : ℕ) → k < 16
       → is_slash_before_dot_or_percent bs (i + k) ≡ false
   no_slash_dot_where_mask_is_zero e k h = sym (mask_bit_is_slash_dot_at_lane k h)
-      ∙ ap (λ m. eqb (bit_at m k) 1) e
-      ∙ ap (λ m. eqb m 1) (bit_at-zero k)
+      ∙ ap (λ m. eqb (bit_at m k) 1) e ∙ ap (λ m. eqb m 1) (bit_at-zero k)
 
   module _ (some : slash_dot_mask ≡ 0 → ⊥) where
     trailing_zeros_is_first_slash_dot_lane : (trailing_zeros w64 slash_dot_mask < 16)
@@ -52,8 +45,7 @@ module _ (bs : List ℕ) (i : ℕ) (room : i + 16 < length bs) (slashes dots oct
           arith,
           s,
           equality_mask_is_below_2_16 47 bs i (omega (arith, room)),
-          and_le_l slashes
-              (bit_or dots octets),
+          and_le_l slashes (bit_or dots octets),
         )) some
 
     pub first_slash_dot_lane_is_at_most_16 : trailing_zeros w64 slash_dot_mask ≤ 16
@@ -61,8 +53,7 @@ module _ (bs : List ℕ) (i : ℕ) (room : i + 16 < length bs) (slashes dots oct
 
     pub no_slash_dot_before_first_lane : (k : ℕ) → k < trailing_zeros w64 slash_dot_mask
         → is_slash_before_dot_or_percent bs (i + k) ≡ false
-    no_slash_dot_before_first_lane k h = sym
-        (mask_bit_is_slash_dot_at_lane k
+    no_slash_dot_before_first_lane k h = sym (mask_bit_is_slash_dot_at_lane k
         (omega (arith, h, trailing_zeros_is_first_slash_dot_lane.0)))
         ∙ ap (λ m. eqb m 1) (trailing_zeros_is_first_slash_dot_lane.2 k h)
 

@@ -1,13 +1,5 @@
 -- Masks of lanes, bit by bit: shifted, and as the lanes of a load.
-use Rattle.std.proofs.Common.{◌≡◌, ℕ, zero, suc, ◌+◌, ◌-◌, ◌*◌, ◌/◌, ◌%◌, ◌^◌, ◌<◌, ◌≤◌, min, Bool, true, false, not, cond, eqb, List, map, length, get_or, refl, sym, ap, subst, ◌∙◌, arith, w64, ⊎_elim}
-use Rattle.std.specs.Int.{bit_at, trailing_zeros}
-use Rattle.std.proofs.lemmas.Nat.{shr-shr, and_mask, pow_pos}
-use Rattle.std.proofs.lemmas.Nat.Bits.{bit_at-lt, bit_at_and, bit_at_ones, bit_at_cat_high, bit_at_cat_low, bit_at-zero, bit_at_above, bit_at-trailing_zeros}
-use Rattle.std.specs.Simd.Lanes.{mask_l, chunk}
-use Rattle.std.proofs.lemmas.Bool.{cases_lt}
-use Rattle.std.proofs.lemmas.Simd.{bit_mask_l, mask_l-lt, get_or-chunk, length-chunk}
-use Rattle.std.proofs.lemmas.List.{get_or_default, length-map}
-use Rattle.std.proofs.Math.ListN.{get_or-map}
+use Rattle.uri_pct.proofs.Common.{◌≡◌, ℕ, zero, suc, ◌+◌, ◌-◌, ◌*◌, ◌/◌, ◌%◌, ◌^◌, ◌<◌, ◌≤◌, min, Bool, true, false, not, cond, eqb, List, map, length, get_or, refl, sym, ap, subst, ◌∙◌, arith, w64, ⊎_elim, bit_at, trailing_zeros, shr-shr, and_mask, pow_pos, bit_at-lt, bit_at_and, bit_at_ones, bit_at_cat_high, bit_at_cat_low, bit_at-zero, bit_at_above, bit_at-trailing_zeros, mask_l, chunk, cases_lt, bit_mask_l, mask_l-lt, get_or-chunk, length-chunk, get_or_default, length-map, get_or-map}
 use Rattle.uri_pct.proofs.LaneScans.LaneRuns.{MarksFailingLanes}
 
 -- sixteen bytes at a time, bits: the bit of the number is set
@@ -24,10 +16,9 @@ pub bit_of_left_shift : (n s k : ℕ) → k < 64 → s ≤ k → is_set_bit (n *
 bit_of_left_shift n s k h l =
     let b : bit_at (n * 2 ^ s) k < 2 = bit_at-lt (n * 2 ^ s) k in
     let z : n * 2 ^ s + 0 ≡ n * 2 ^ s = omega arith in
-    ap (λ m. eqb m 1)
-    (ap (λ m. bit_at m k) (sym (and_mask (n * 2 ^ s) 64)) ∙ bit_at_and (n * 2 ^ s) (2 ^ 64 - 1) k
-    ∙ ap (λ m. min (bit_at (n * 2 ^ s) k) m) (bit_at_ones 64 k h) ∙ omega arith
-    ∙ ap (λ m. bit_at m k) (sym z) ∙ bit_at_cat_high n s 0 k (pow_pos s) l)
+    ap (λ m. eqb m 1) (ap (λ m. bit_at m k) (sym (and_mask (n * 2 ^ s) 64)) ∙ bit_at_and (n
+    * 2 ^ s) (2 ^ 64 - 1) k ∙ ap (λ m. min (bit_at (n * 2 ^ s) k) m) (bit_at_ones 64 k h)
+    ∙ omega arith ∙ ap (λ m. bit_at m k) (sym z) ∙ bit_at_cat_high n s 0 k (pow_pos s) l)
 
 -- sixteen bytes at a time, bits: shifting a word left by s bits clears the s low ones
 pub low_bit_of_left_shift_is_clear : (n s k : ℕ) → k < 64 → k < s
@@ -52,17 +43,14 @@ clear_lane_passes_test test bs i w mask k m h e =
     unset false f = sym f
 
 -- sixteen bytes at a time: a lane is set in the mask of a test exactly if its byte passes the test
-pub mask_bit_is_test_of_byte : (test : ℕ → Bool) (bs : List ℕ) (i k : ℕ)
-    → i + 16 ≤ length bs → k < 16
-    → is_set_bit (mask_l (map test (chunk i 16 bs))) k ≡ test (get_or bs (i + k) 0)
+pub mask_bit_is_test_of_byte : (test : ℕ → Bool) (bs : List ℕ) (i k : ℕ) → i + 16 ≤ length bs
+    → k < 16 → is_set_bit (mask_l (map test (chunk i 16 bs))) k ≡ test (get_or bs (i + k) 0)
 mask_bit_is_test_of_byte test bs i k room h =
     let v = chunk i 16 bs in
     let ms = map test v in
     let long : length ms ≡ 16 = length-map v test ∙ length-chunk i 16 bs room in
-    ap (λ m. eqb m 1) (bit_mask_l ms k
-    ∙ ap (λ b. cond b 1 0) (get_or_default ms k false (test 0) (omega (arith, long))
-    ∙ get_or-map test v k 0
-    ∙ ap test (get_or-chunk i 16 bs k 0 h)))
+    ap (λ m. eqb m 1) (bit_mask_l ms k ∙ ap (λ b. cond b 1 0) (get_or_default ms k false
+    (test 0) (omega (arith, long)) ∙ get_or-map test v k 0 ∙ ap test (get_or-chunk i 16 bs k 0 h)))
     ∙ one_if (test (get_or bs (i + k) 0))
   where
     one_if : (b : Bool) → eqb (cond b 1 0) 1 ≡ b
@@ -91,9 +79,8 @@ trailing_zeros_is_first_set_lane mask below some =
     let pos : 0 < mask = pos-from-nonzero mask some in
     let z = bit_at-trailing_zeros w64 mask pos (omega (arith, below)) in
     let set : bit_at mask (trailing_zeros w64 mask) ≡ 1 = z.1 in (
-      ⊎_elim (λ (h : trailing_zeros w64 mask < 16). h)
-          (λ (h : 16 ≤ trailing_zeros w64 mask). let none =
-          bit_at_above mask 16 (trailing_zeros w64 mask) below h in
+      ⊎_elim (λ (h : trailing_zeros w64 mask < 16). h) (λ (h : 16 ≤ trailing_zeros w64 mask).
+          let none = bit_at_above mask 16 (trailing_zeros w64 mask) below h in
           absurd (omega (arith, none, set))) (cases_lt (trailing_zeros w64 mask) 16),
       set,
       z.2,

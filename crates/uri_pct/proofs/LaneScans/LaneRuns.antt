@@ -1,15 +1,5 @@
 -- From the mask of a load to the bytes under it.
-use Rattle.std.proofs.Common.{◌≡◌, ℕ, ◌+◌, ◌-◌, ◌/◌, ◌%◌, ◌^◌, ◌<◌, ◌≤◌, Bool, true, false, not, cond, List, map, length, get_or, refl, sym, ap, subst, ◌∙◌, arith, w64, pow_mono}
-use Rattle.std.specs.Int.{bit_at, trailing_zeros}
-use Rattle.std.specs.Simd.Lanes.{mask_l, chunk}
-use Rattle.std.proofs.lemmas.Nat.{shr-shr, shr_below}
-use Rattle.std.proofs.lemmas.Nat.Bits.{bit_at-zero, bit_at_above, bit_at-trailing_zeros}
-use Rattle.std.proofs.lemmas.Simd.{bit_mask_l, mask_l-lt, get_or-chunk, length-chunk}
-use Rattle.std.proofs.lemmas.List.{get_or_default, length-map}
-use Rattle.std.proofs.Math.ListN.{get_or-map}
-use Rattle.uri_pct.specs.Masks.{has_bit}
-use Rattle.uri_pct.specs.Models.ByteRuns.{IsLongestRun}
-use Rattle.std.proofs.lemmas.Bool.Decides.{nat_tests}
+use Rattle.uri_pct.proofs.Common.{◌≡◌, ℕ, ◌+◌, ◌-◌, ◌/◌, ◌%◌, ◌^◌, ◌<◌, ◌≤◌, Bool, true, false, not, cond, List, map, length, get_or, refl, sym, ap, subst, ◌∙◌, arith, w64, pow_mono, bit_at, trailing_zeros, mask_l, chunk, shr-shr, shr_below, bit_at-zero, bit_at_above, bit_at-trailing_zeros, bit_mask_l, mask_l-lt, get_or-chunk, length-chunk, get_or_default, length-map, get_or-map, has_bit, IsLongestRun, nat_tests}
 
 -- sixteen bytes at a time: bit k of the mask is set where the byte at i + k fails, for w bytes
 pub record MarksFailingLanes (test : ℕ → Bool) (bs : List ℕ) (i w mask : ℕ) : Type 0 where
@@ -25,10 +15,8 @@ load_mask_marks_failing_lanes test bs i w room =
     let long : length v ≡ w = length-chunk i w bs room in
     let both : length ms ≡ w = length-map v (λ b. not (test b)) ∙ long in
     record {
-      lane = λ k h.
-          bit_mask_l ms k
-          ∙ ap (λ b. cond b 1 0) (get_or_default ms k false (not (test 0)) (omega (arith, both))
-          ∙ get_or-map (λ b. not (test b)) v k 0
+      lane = λ k h. bit_mask_l ms k ∙ ap (λ b. cond b 1 0) (get_or_default ms k false
+          (not (test 0)) (omega (arith, both)) ∙ get_or-map (λ b. not (test b)) v k 0
           ∙ ap (λ b. not (test b)) (get_or-chunk i w bs k 0 h));
       below = subst (λ n. mask_l ms < 2 ^ n) both (mask_l-lt ms);
     }
@@ -114,9 +102,8 @@ module _ (test : ℕ → Bool) (bs : List ℕ) (i w mask : ℕ)
 
 -- sixteen bytes at a time: if two adjacent runs of bytes pass a test, all their bytes pass it
 adjacent_passing_runs_join : (test : ℕ → Bool) (bs : List ℕ) (a m b : ℕ)
-    → ((k : ℕ) → a ≤ k → k < m → test (get_or bs k 0) ≡ true)
-    → ((k : ℕ) → m ≤ k → k < b → test (get_or bs k 0) ≡ true) → (k : ℕ) → a ≤ k → k < b
-    → test (get_or bs k 0) ≡ true
+    → ((k : ℕ) → a ≤ k → k < m → test (get_or bs k 0) ≡ true) → ((k : ℕ) → m ≤ k
+    → k < b → test (get_or bs k 0) ≡ true) → (k : ℕ) → a ≤ k → k < b → test (get_or bs k 0) ≡ true
 adjacent_passing_runs_join test bs a m b low high k from to = grind (arith, nat_tests)
 
 -- where no lane is marked the run goes on, and else it ends at the first that is

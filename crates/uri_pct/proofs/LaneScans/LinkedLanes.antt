@@ -1,11 +1,5 @@
 -- The lanes that are linked to those before them: a mask has those that are not.
-use Rattle.std.proofs.Common.{◌≡◌, ℕ, ◌+◌, ◌-◌, ◌^◌, ◌<◌, ◌≤◌, Bool, true, false, not, eqb, List, get_or, sym, ap, ◌∙◌, arith, w64, bit_and, bit_or, ◌&&◌, ◌||◌, ⊎_elim}
-use Rattle.std.specs.Int.{bit_at, bit_not}
-use Rattle.std.specs.Char.{is_ascii_hexdigit}
-use Rattle.std.proofs.lemmas.Bool.{eq-eqb, or_left, or_right, or_parts, both_ways, cases_lt}
-use Rattle.uri_pct.specs.declared.table.characters.TheConstants.{HEXDIG_LOW, HEXDIG_HIGH}
-use Rattle.uri_pct.specs.Models.ByteRuns.{IsByteOfEncodedText}
-use Rattle.uri_pct.specs.Masks.{has_bit}
+use Rattle.uri_pct.proofs.Common.{◌≡◌, ℕ, ◌+◌, ◌-◌, ◌^◌, ◌<◌, ◌≤◌, Bool, true, false, not, eqb, List, get_or, sym, ap, ◌∙◌, arith, w64, bit_and, bit_or, ◌&&◌, ◌||◌, ⊎_elim, bit_at, bit_not, is_ascii_hexdigit, eq-eqb, or_left, or_right, or_parts, both_ways, cases_lt, HEXDIG_LOW, HEXDIG_HIGH, IsByteOfEncodedText, has_bit}
 use Rattle.uri_pct.proofs.TableSets.Masks.{bit_of_bit_and, bit_of_bit_or, bit_of_bit_and_not}
 use Rattle.uri_pct.proofs.LaneScans.LaneRuns.{MarksFailingLanes}
 use Rattle.uri_pct.proofs.LaneScans.LaneBits.{is_set_bit, clear_lane_passes_test}
@@ -22,30 +16,24 @@ module _ (test : ℕ → Bool) (bs : List ℕ) (i misses others percents one two
     (clear : bit_at
     (bit_or (bit_and misses (bit_not w64 percents)) (bit_and others (bit_or one two))) k ≡ 0)
   where
-    neither_mask_of_unlinked_lanes_has_bit
-        : (is_set_bit (bit_and misses (bit_not w64 percents)) k ≡ false)
-        × (is_set_bit (bit_and others (bit_or one two)) k ≡ false)
-    neither_mask_of_unlinked_lanes_has_bit = or_parts _ _
-        (sym (bit_of_bit_or (bit_and misses (bit_not w64 percents))
-        (bit_and others (bit_or one two)) k)
-        ∙ ap (λ m. eqb m 1) clear)
+    neither_mask_of_unlinked_lanes_has_bit : (is_set_bit (bit_and misses (bit_not w64 percents)) k
+        ≡ false) × (is_set_bit (bit_and others (bit_or one two)) k ≡ false)
+    neither_mask_of_unlinked_lanes_has_bit = or_parts _ _ (sym (bit_of_bit_or (bit_and misses
+        (bit_not w64 percents)) (bit_and others (bit_or one two)) k) ∙ ap (λ m. eqb m 1) clear)
 
     lane_after_percent_holds_hexdigit : (is_set_bit one k || is_set_bit two k) ≡ true
         → is_ascii_hexdigit (get_or bs (i + k) 0) ≡ true
-    lane_after_percent_holds_hexdigit e =
-        char_of_hex_masks_is_hexdigit _ (clear_lane_passes_test _ bs i 16 others k no_digits h
-        (first_is_false_if_and_is_false _ _
-        (ap (λ b. is_set_bit others k && b) (sym (bit_of_bit_or one two k))
-        ∙ sym (bit_of_bit_and others (bit_or one two) k)
-        ∙ neither_mask_of_unlinked_lanes_has_bit.1) e))
+    lane_after_percent_holds_hexdigit e = char_of_hex_masks_is_hexdigit _
+        (clear_lane_passes_test _ bs i 16 others k no_digits h (first_is_false_if_and_is_false _ _
+        (ap (λ b. is_set_bit others k && b) (sym (bit_of_bit_or one two k)) ∙ sym
+        (bit_of_bit_and others (bit_or one two) k) ∙ neither_mask_of_unlinked_lanes_has_bit.1) e))
 
     -- the byte at a clear lane passes the test or is a `%`, and is a digit after a `%`
     pub clear_lane_holds_byte_of_encoded_text : IsByteOfEncodedText test bs (i + k)
     clear_lane_holds_byte_of_encoded_text = record {
-      no_octet = λ e.
-          clear_lane_passes_test test bs i 16 misses k outside h (first_is_false_if_and_is_false _ _
-          (sym (bit_of_bit_and_not misses percents k fits (omega arith))
-          ∙ neither_mask_of_unlinked_lanes_has_bit.0) (ap not (here k h ∙ e)));
+      no_octet = λ e. clear_lane_passes_test test bs i 16 misses k outside h
+          (first_is_false_if_and_is_false _ _ (sym (bit_of_bit_and_not misses percents k fits
+          (omega arith)) ∙ neither_mask_of_unlinked_lanes_has_bit.0) (ap not (here k h ∙ e)));
       first = λ e.
           let p : i + k - 1 ≡ i - 1 + k = omega arith in
           lane_after_percent_holds_hexdigit (or_left _ _ (one_before k h
@@ -67,21 +55,16 @@ module _ (test : ℕ → Bool) (bs : List ℕ) (i : ℕ) (before : 2 ≤ i) (per
     no_byte_of_block_is_percent j few e = both_ways _ percent (sym (ap test e) ∙ pass j few)
 
     byte_one_before_is_no_percent : get_or bs (i + k - 1) 0 ≡ 37 → ⊥
-    byte_one_before_is_no_percent e = ⊎_elim
-        (λ (first : k < 1). one_before (ap (λ j. get_or bs j 0) (omega arith) ∙ e))
-        (λ (later : 1 ≤ k). no_byte_of_block_is_percent (k - 1) (omega arith)
-        (ap (λ j. get_or bs j 0) (omega arith) ∙ e))
-        (cases_lt k 1)
+    byte_one_before_is_no_percent e = ⊎_elim (λ (first : k < 1). one_before
+        (ap (λ j. get_or bs j 0) (omega arith) ∙ e)) (λ (later : 1 ≤ k). no_byte_of_block_is_percent
+        (k - 1) (omega arith) (ap (λ j. get_or bs j 0) (omega arith) ∙ e)) (cases_lt k 1)
 
     byte_two_before_is_no_percent : get_or bs (i + k - 2) 0 ≡ 37 → ⊥
     byte_two_before_is_no_percent e = ⊎_elim
-        (λ (first : k < 1). two_before (ap (λ j. get_or bs j 0) (omega arith) ∙ e))
-        (λ (later : 1 ≤ k). ⊎_elim
-        (λ (second : k < 2). one_before (ap (λ j. get_or bs j 0) (omega arith) ∙ e))
-        (λ (third : 2 ≤ k). no_byte_of_block_is_percent (k - 2) (omega arith)
-        (ap (λ j. get_or bs j 0) (omega arith) ∙ e))
-        (cases_lt k 2))
-        (cases_lt k 1)
+        (λ (first : k < 1). two_before (ap (λ j. get_or bs j 0) (omega arith) ∙ e)) (λ (later : 1
+        ≤ k). ⊎_elim (λ (second : k < 2). one_before (ap (λ j. get_or bs j 0) (omega arith) ∙ e))
+        (λ (third : 2 ≤ k). no_byte_of_block_is_percent (k - 2)
+        (omega arith) (ap (λ j. get_or bs j 0) (omega arith) ∙ e)) (cases_lt k 2)) (cases_lt k 1)
 
     pub byte_of_plain_block_is_of_encoded_text : IsByteOfEncodedText test bs (i + k)
     byte_of_plain_block_is_of_encoded_text = record {

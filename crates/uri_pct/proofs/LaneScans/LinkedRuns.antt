@@ -1,9 +1,5 @@
 -- Bytes that are linked from one to the next are bytes of a set and whole octets.
-use Rattle.std.proofs.Common.{◌≡◌, ℕ, ◌+◌, ◌-◌, ◌<◌, ◌≤◌, Bool, true, false, eqb, ltb, List, get_or, refl, sym, ap, ◌∙◌, arith, ◌&&◌}
-use Rattle.std.specs.Char.{is_ascii_hexdigit}
-use Rattle.std.proofs.lemmas.Bool.{and_parts, both_ways, lt-ltb, ltb-true, eqb-true}
-use Rattle.uri_pct.specs.Texts.{has_hex_digits_after}
-use Rattle.uri_pct.specs.Models.ByteRuns.{AreCharactersOrOctets, IsByteOfEncodedText}
+use Rattle.uri_pct.proofs.Common.{◌≡◌, ℕ, ◌+◌, ◌-◌, ◌<◌, ◌≤◌, Bool, true, false, eqb, ltb, List, get_or, refl, sym, ap, ◌∙◌, arith, ◌&&◌, is_ascii_hexdigit, and_parts, both_ways, lt-ltb, ltb-true, eqb-true, has_hex_digits_after, AreCharactersOrOctets, IsByteOfEncodedText}
 
 -- sixteen bytes at a time: a hexadecimal digit is no `%` (37)
 hexdigit_is_not_percent : (c : ℕ) → is_ascii_hexdigit c ≡ true → c ≡ 37 → ⊥

@@ -1,20 +1,9 @@
 -- The lanes at which octets begin, and those that are parts of octets.
-use Rattle.std.proofs.Common.{◌≡◌, ℕ, ◌+◌, ◌-◌, ◌*◌, ◌/◌, ◌%◌, ◌^◌, ◌<◌, ◌≤◌, min, Bool, true, false, not, eqb, leb, List, get_or, refl, sym, ap, ◌∙◌, arith, w64, bit_and, bit_or, ◌&&◌, ◌||◌, ⊎_elim}
-use Rattle.std.specs.Int.{bit_at, bit_not}
-use Rattle.std.specs.Char.{is_ascii_hexdigit}
-use Rattle.std.proofs.lemmas.Nat.{or_lt}
-use Rattle.std.proofs.lemmas.Nat.Bits.{bit_at_and, bit_at_above}
-use Rattle.std.proofs.lemmas.Bool.{cases_lt, both_ways, eqb-true, eq-eqb, and_from, or_from, or_parts, and_right, cases_Bool, le-leb, lt-leb}
-use Rattle.std.proofs.Math.Bool.{and-true, or-false}
-use Rattle.uri_pct.specs.declared.table.characters.TheConstants.{HEXDIG_LOW, HEXDIG_HIGH}
-use Rattle.uri_pct.specs.Texts.{has_hex_digits_after}
-use Rattle.uri_pct.specs.Models.LaneMasks.{is_lane_of_octet}
-use Rattle.uri_pct.specs.Masks.{has_bit}
+use Rattle.uri_pct.proofs.Common.{◌≡◌, ℕ, ◌+◌, ◌-◌, ◌*◌, ◌/◌, ◌%◌, ◌^◌, ◌<◌, ◌≤◌, min, Bool, true, false, not, eqb, leb, List, get_or, refl, sym, ap, ◌∙◌, arith, w64, bit_and, bit_or, ◌&&◌, ◌||◌, ⊎_elim, bit_at, bit_not, is_ascii_hexdigit, or_lt, bit_at_and, bit_at_above, cases_lt, both_ways, eqb-true, eq-eqb, and_from, or_from, or_parts, and_right, cases_Bool, le-leb, lt-leb, and-true, or-false, HEXDIG_LOW, HEXDIG_HIGH, has_hex_digits_after, is_lane_of_octet, has_bit, nat_tests}
 use Rattle.uri_pct.proofs.TableSets.Masks.{bit_of_bit_or, bit_of_bit_and, bit_of_bit_and_not}
 use Rattle.uri_pct.proofs.TableSets.Constants.{hexdig_masks_are_hexdig_set}
 use Rattle.uri_pct.proofs.LaneScans.LaneRuns.{MarksFailingLanes}
 use Rattle.uri_pct.proofs.LaneScans.LaneBits.{is_set_bit, bit_of_right_shift, bit_of_left_shift, low_bit_of_left_shift_is_clear, clear_lane_passes_test}
-use Rattle.std.proofs.lemmas.Bool.Decides.{nat_tests}
 
 -- sixteen bytes at a time: the two words of the table of digits have hexadecimal digits only
 pub char_of_hex_masks_is_hexdigit : (c : ℕ) → has_bit HEXDIG_LOW HEXDIG_HIGH c ≡ true
@@ -115,13 +104,11 @@ uncovered_lane_is_miss_outside_octets misses begun k fits h =
 -- sixteen bytes at a time: a lane is in no octet if none begins there or at one of the two before
 pub lane_without_origin_is_in_no_octet : (begun k : ℕ) → is_set_bit begun k ≡ false
     → ((j : ℕ) → j < k → k ≤ j + 2 → is_set_bit begun j ≡ false) → is_lane_of_octet begun k ≡ false
-lane_without_origin_is_in_no_octet begun k here before =
-    or_from _ _ (or_from _ _ here (none 1 (omega arith) (omega arith)))
-    (none 2 (omega arith) (omega arith))
+lane_without_origin_is_in_no_octet begun k here before = or_from _ _
+    (or_from _ _ here (none 1 (omega arith) (omega arith))) (none 2 (omega arith) (omega arith))
   where
     none : (s : ℕ) → 1 ≤ s → s ≤ 2 → (leb s k && is_set_bit begun (k - s)) ≡ false
-    none s one two = ⊎_elim
-        (λ (l : k < s). ap (λ b. b && is_set_bit begun (k - s)) (lt-leb s k l))
+    none s one two = ⊎_elim (λ (l : k < s). ap (λ b. b && is_set_bit begun (k - s)) (lt-leb s k l))
         (λ (l : s ≤ k). and_right (leb s k) _ (before (k - s) (omega arith) (omega arith)))
         (cases_lt k s)
 
@@ -133,11 +120,8 @@ no_octet_begins_before_lane_outside begun k j e from to =
     × ((leb 2 k && is_set_bit begun (k - 2)) ≡ false) = or_parts _ _ e in
     let inner : (is_set_bit begun k ≡ false) × ((leb 1 k && is_set_bit begun (k - 1)) ≡ false) =
     or_parts _ _ outer.0 in
-    ⊎_elim
-    (λ (l : j < k). ⊎_elim
-    (λ (m : j + 1 < k). earlier 2 (omega arith) (omega arith) outer.1)
-    (λ (m : k ≤ j + 1). earlier 1 (omega arith) (omega arith) inner.1)
-    (cases_lt (j + 1) k))
+    ⊎_elim (λ (l : j < k). ⊎_elim (λ (m : j + 1 < k). earlier 2 (omega arith) (omega arith) outer.1)
+    (λ (m : k ≤ j + 1). earlier 1 (omega arith) (omega arith) inner.1) (cases_lt (j + 1) k))
     (λ (l : k ≤ j). let here : j ≡ k = omega arith in ap (is_set_bit begun) here ∙ inner.0)
     (cases_lt j k)
   where
@@ -147,18 +131,14 @@ no_octet_begins_before_lane_outside begun k j e from to =
         ∙ sym (ap (λ b. b && is_set_bit begun (k - s)) (le-leb s k l)) ∙ f
 
 -- sixteen bytes at a time: octets that begin before a lane outside them end before it
-pub octets_before_lane_outside_are_whole : (begun n : ℕ) → n ≤ 16
-    → ((k : ℕ) → is_set_bit begun k ≡ true → k + 3 ≤ 16)
-    → (n < 16 → is_lane_of_octet begun n ≡ false)
-    → (k : ℕ) → k < n → is_set_bit begun k ≡ true → k + 3 ≤ n
-octets_before_lane_outside_are_whole begun n few room ends k h o = ⊎_elim
-    (λ (near : n < k + 3). ⊎_elim
-    (λ (l : n < 16). absurd (both_ways _
+pub octets_before_lane_outside_are_whole : (begun n : ℕ)
+    → n ≤ 16 → ((k : ℕ) → is_set_bit begun k ≡ true → k + 3 ≤ 16) → (n < 16
+    → is_lane_of_octet begun n ≡ false) → (k : ℕ) → k < n → is_set_bit begun k ≡ true → k + 3 ≤ n
+octets_before_lane_outside_are_whole begun n few room ends k h o =
+    ⊎_elim (λ (near : n < k + 3). ⊎_elim (λ (l : n < 16). absurd (both_ways _
     (no_octet_begins_before_lane_outside begun n k (ends l) (omega arith) (omega arith)) o))
-    (λ (l : 16 ≤ n). omega (arith, room k o, l, near))
-    (cases_lt n 16))
-    (λ (far : k + 3 ≤ n). far)
-    (cases_lt n (k + 3))
+    (λ (l : 16 ≤ n). omega (arith, room k o, l, near)) (cases_lt n 16))
+    (λ (far : k + 3 ≤ n). far) (cases_lt n (k + 3))
 
 -- sixteen bytes at a time: where a lane is a miss that is no digit of an octet, one begins there or
 -- it is in none
@@ -168,17 +148,14 @@ pub miss_outside_digits_is_in_octet_that_begins_there : (misses starts k : ℕ)
     ≡ (is_set_bit misses k && not (is_lane_of_octet (bit_and starts misses) k))
 miss_outside_digits_is_in_octet_that_begins_there misses starts k digits = ⊎_elim
     (λ (set : is_set_bit misses k ≡ true). ap (λ b. is_set_bit misses k && not b) (sym (here set)))
-    (λ (clear : is_set_bit misses k ≡ false).
-    ap (λ b. b && not (is_set_bit starts k)) clear
-    ∙ sym (ap (λ b. b && not (is_lane_of_octet begun k)) clear))
-    (cases_Bool (is_set_bit misses k))
+    (λ (clear : is_set_bit misses k ≡ false). ap (λ b. b && not (is_set_bit starts k)) clear
+    ∙ sym (ap (λ b. b && not (is_lane_of_octet begun k)) clear)) (cases_Bool (is_set_bit misses k))
   where
     begun : ℕ
     begun = bit_and starts misses
 
-    before : is_set_bit misses k ≡ true → (s : ℕ)
-        → ((j : ℕ) → is_set_bit starts j ≡ true → is_set_bit misses (j + s) ≡ false)
-        → (leb s k && is_set_bit begun (k - s)) ≡ false
+    before : is_set_bit misses k ≡ true → (s : ℕ) → ((j : ℕ) → is_set_bit starts j ≡ true
+        → is_set_bit misses (j + s) ≡ false) → (leb s k && is_set_bit begun (k - s)) ≡ false
     before set s none = grind (arith, nat_tests, is_set_bit, bit_of_bit_and)
 
     here : is_set_bit misses k ≡ true → is_lane_of_octet begun k ≡ is_set_bit starts k

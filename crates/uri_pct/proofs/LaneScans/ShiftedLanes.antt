@@ -1,15 +1,10 @@
 -- Lanes of a mask, which may be shifted right, and what holds where they are clear.
-use Rattle.std.proofs.Common.{◌≡◌, ℕ, ◌+◌, ◌-◌, ◌/◌, ◌%◌, ◌^◌, ◌<◌, ◌≤◌, sym, ap, subst, ◌∙◌, arith, w64, pow_mono, ⊎_elim}
-use Rattle.std.specs.Int.{bit_at, trailing_zeros}
-use Rattle.std.proofs.lemmas.Nat.{shr-shr, shr_below}
-use Rattle.std.proofs.lemmas.Nat.Bits.{bit_at-zero, bit_at_above}
-use Rattle.std.proofs.lemmas.Bool.{cases_lt}
+use Rattle.uri_pct.proofs.Common.{◌≡◌, ℕ, ◌+◌, ◌-◌, ◌/◌, ◌%◌, ◌^◌, ◌<◌, ◌≤◌, sym, ap, subst, ◌∙◌, arith, w64, pow_mono, ⊎_elim, bit_at, trailing_zeros, shr-shr, shr_below, bit_at-zero, bit_at_above, cases_lt}
 use Rattle.uri_pct.proofs.LaneScans.LaneBits.{trailing_zeros_is_first_set_lane}
 
 -- if a fact holds in two adjacent ranges, it holds in both together
-pub adjacent_ranges_join : (holds : ℕ → Type 0) (a m b : ℕ)
-    → ((k : ℕ) → a ≤ k → k < m → holds k) → ((k : ℕ) → m ≤ k → k < b → holds k)
-    → (k : ℕ) → a ≤ k → k < b → holds k
+pub adjacent_ranges_join : (holds : ℕ → Type 0) (a m b : ℕ) → ((k : ℕ) → a ≤ k → k < m → holds k)
+    → ((k : ℕ) → m ≤ k → k < b → holds k) → (k : ℕ) → a ≤ k → k < b → holds k
 adjacent_ranges_join holds a m b low high k from to =
     ⊎_elim (λ (h : k < m). low k from h) (λ (h : m ≤ k). high k h to) (cases_lt k m)
 
@@ -48,19 +43,16 @@ module _ (holds : ℕ → Type 0) (block s mask : ℕ) (few : s ≤ 16) (below :
   -- all lanes are clear
   pub empty_shifted_mask_holds : mask / 2 ^ s ≡ 0
       → (x : ℕ) → block + s ≤ x → x < block + 16 → holds x
-  empty_shifted_mask_holds none x from to =
-      clear_shifted_lanes_hold (16 - s) (omega arith)
-      (λ k h. ap (λ n. bit_at n k) none ∙ bit_at-zero k) x from (omega arith)
+  empty_shifted_mask_holds none x from to = clear_shifted_lanes_hold
+      (16 - s) (omega arith) (λ k h. ap (λ n. bit_at n k) none ∙ bit_at-zero k) x from (omega arith)
 
   -- the first lane that is set is one of the block, and those before it are clear
-  pub first_set_shifted_lane : (mask / 2 ^ s ≡ 0 → ⊥)
-      → (s + trailing_zeros w64 (mask / 2 ^ s) < 16) × ((x : ℕ) → block + s ≤ x
-      → x < block + s + trailing_zeros w64 (mask / 2 ^ s) → holds x)
+  pub first_set_shifted_lane : (mask / 2 ^ s ≡ 0 → ⊥) → (s + trailing_zeros w64 (mask / 2 ^ s) < 16)
+      × ((x : ℕ) → block + s ≤ x → x < block + s + trailing_zeros w64 (mask / 2 ^ s) → holds x)
   first_set_shifted_lane some =
       let n = trailing_zeros w64 (mask / 2 ^ s) in
-      let f = trailing_zeros_is_first_set_lane (mask / 2 ^ s)
-      (shr_below mask 16 s (omega (arith, below, pow_mono {i = 16} {j = 16 + s} (omega arith))))
-      some in
+      let f = trailing_zeros_is_first_set_lane (mask / 2 ^ s) (shr_below mask 16 s
+      (omega (arith, below, pow_mono {i = 16} {j = 16 + s} (omega arith)))) some in
       let whole : 16 - s + s ≡ 16 = omega arith in
       let narrow : mask / 2 ^ s < 2 ^ (16 - s) =
       shr_below mask (16 - s) s (subst (λ w. mask < 2 ^ w) (sym whole) below) in

@@ -1,11 +1,5 @@
 -- The constants are the sets of their rules.
-use Rattle.std.proofs.Common.{◌≡◌, ℕ, ◌%◌, ◌/◌, ◌^◌, ◌≤◌, Bool, true, false, refl, sym, ap, ◌∙◌, ⊎_elim, arith}
-use Rattle.std.specs.Char.{is_ascii_alphabetic, is_ascii_digit, is_ascii_hexdigit}
-use Rattle.std.proofs.lemmas.Bool.{agree_below, cond-true, cond-false, lt-ltb, le-ltb, cases_lt, false≢true}
-use Rattle.std.proofs.lemmas.Bool.Decides.{nat_tests}
-use Rattle.uri_pct.specs.Sets.{TableSet, characters_only, allows, allows_past_ascii, is_unreserved, is_gen_delim, is_sub_delim, is_reserved, is_scheme_char, is_reg_name_char, is_userinfo_char, is_pchar, is_segment_nz_nc_char, is_path_char, is_query_char, alpha_set, digit_set, hexdig_set, scheme_set, userinfo_set, ipv_future_set, reg_name_set, path_set, segment_nz_nc_set, pchar_set, query_set, fragment_set, unreserved_set, reserved_set, gen_delims_set, sub_delims_set, iuserinfo_set, ireg_name_set, ipath_set, isegment_nz_nc_set, iquery_set, ifragment_set}
-use Rattle.uri_pct.specs.Masks.{has_bit}
-use Rattle.uri_pct.specs.declared.table.characters.TheConstants.{ALPHA, DIGIT, FRAGMENT, GEN_DELIMS, HEXDIG, IPV_FUTURE, PATH, PCHAR, QUERY, REG_NAME, RESERVED, SCHEME, SEGMENT_NZ_NC, SUB_DELIMS, UNRESERVED, USERINFO}
+use Rattle.uri_pct.proofs.Common.{◌≡◌, ℕ, ◌%◌, ◌/◌, ◌^◌, ◌≤◌, Bool, true, false, refl, sym, ap, ◌∙◌, ⊎_elim, arith, is_ascii_alphabetic, is_ascii_digit, is_ascii_hexdigit, agree_below, cond-true, cond-false, lt-ltb, le-ltb, cases_lt, false≢true, nat_tests, TableSet, characters_only, allows, allows_past_ascii, is_unreserved, is_gen_delim, is_sub_delim, is_reserved, is_scheme_char, is_reg_name_char, is_userinfo_char, is_pchar, is_segment_nz_nc_char, is_path_char, is_query_char, alpha_set, digit_set, hexdig_set, scheme_set, userinfo_set, ipv_future_set, reg_name_set, path_set, segment_nz_nc_set, pchar_set, query_set, fragment_set, unreserved_set, reserved_set, gen_delims_set, sub_delims_set, iuserinfo_set, ireg_name_set, ipath_set, isegment_nz_nc_set, iquery_set, ifragment_set, has_bit, ALPHA, DIGIT, FRAGMENT, GEN_DELIMS, HEXDIG, IPV_FUTURE, PATH, PCHAR, QUERY, REG_NAME, RESERVED, SCHEME, SEGMENT_NZ_NC, SUB_DELIMS, UNRESERVED, USERINFO}
 use Rattle.uri_pct.proofs.TableSets.Masks.{has_bit-by-agreement}
 use Rattle.uri_pct.proofs.TableSets.Tables.{sets_equal_by_agreement, record_set, set_of_masks}
 
@@ -17,8 +11,7 @@ set_of_characters characters = set_of_masks (characters % 2 ^ 64) (characters / 
 agreeing_masks_are_set_of_test : (characters : ℕ) (pct_encoded : Bool) (test : ℕ → Bool)
     → agree_below (has_bit (characters % 2 ^ 64) (characters / 2 ^ 64)) test 128 ≡ true
     → ((c : ℕ) → 128 ≤ c → test c ≡ false)
-    → set_of_characters characters pct_encoded false false
-    ≡ record_set test pct_encoded false false
+    → set_of_characters characters pct_encoded false false ≡ record_set test pct_encoded false false
 agreeing_masks_are_set_of_test characters pct_encoded test same none =
     sets_equal_by_agreement _ test pct_encoded false false
     (has_bit-by-agreement (characters % 2 ^ 64) (characters / 2 ^ 64) test same none)
@@ -168,19 +161,16 @@ ifragment_masks_are_ifragment_set = masks_with_flags_are_set_with_flags FRAGMENT
     fragment_masks_are_fragment_set
 
 -- sets: what a set of characters alone allows passes the test of these
-allowed_character_passes_test : (test : ℕ → Bool) (c : ℕ) → allows (characters_only test) c
-    ≡ true → test c
-    ≡ true
+allowed_character_passes_test : (test : ℕ → Bool) (c : ℕ)
+    → allows (characters_only test) c ≡ true → test c ≡ true
 unfolding allows_past_ascii
-allowed_character_passes_test test c e = ⊎_elim
-    (λ low. sym (cond-true _ _ _ (lt-ltb c 128 low)) ∙ e)
-    (λ high. absurd (false≢true (sym (cond-false _ _ _ (le-ltb c 128 high)) ∙ e)))
-    (cases_lt c 128)
+allowed_character_passes_test test c e =
+    ⊎_elim (λ low. sym (cond-true _ _ _ (lt-ltb c 128 low)) ∙ e)
+    (λ high. absurd (false≢true (sym (cond-false _ _ _ (le-ltb c 128 high)) ∙ e))) (cases_lt c 128)
 
 -- tables: what the table of reserved characters allows is reserved
 pub reserved_table_allows_reserved_only : (c : ℕ)
-    → allows (set_of_characters RESERVED false false false) c ≡ true
-    → is_reserved c ≡ true
+    → allows (set_of_characters RESERVED false false false) c ≡ true → is_reserved c ≡ true
 reserved_table_allows_reserved_only c e = allowed_character_passes_test is_reserved c
     (sym (ap (λ set. allows set c) reserved_masks_are_reserved_set) ∙ e)
 

@@ -1,13 +1,5 @@
 -- First bytes that decide membership: each character from U+00C0 to U+D7FF is in `ucschar`.
-use Rattle.std.proofs.Common.{◌≡◌, ℕ, ◌+◌, ◌/◌, ◌<◌, ◌≤◌, true, cond, ltb, List, [], ◌∷◌, ◌++◌, length, get_or, drop, refl, sym, ap, subst, ◌∙◌, arith, get_or-drop, length-drop}
-use Rattle.std.specs.Char.{encode_utf8, len_utf8, IsScalar}
-use Rattle.std.specs.Int.{is_in_range}
-use Rattle.std.specs.Str.{encode_utf8_all, all_scalars, IsUtf8, IsCharBoundary}
-use Rattle.std.proofs.lemmas.Bool.{cond-true, and_parts, and_from, or_left, leb-true}
-use Rattle.std.proofs.lemmas.Bool.Decides.{nat_tests}
-use Rattle.std.proofs.lemmas.Str.{IsUtf8-drop, IsCharBoundary-past_char, drop_past_char}
-use Rattle.uri_pct.specs.Sets.{TableSet, allows_past_ascii, is_ucschar}
-use Rattle.uri_pct.specs.Prefixes.{valid_prefix}
+use Rattle.uri_pct.proofs.Common.{◌≡◌, ℕ, ◌+◌, ◌/◌, ◌<◌, ◌≤◌, true, cond, ltb, List, [], ◌∷◌, ◌++◌, length, get_or, drop, refl, sym, ap, subst, ◌∙◌, arith, get_or-drop, length-drop, encode_utf8, len_utf8, IsScalar, is_in_range, encode_utf8_all, all_scalars, IsUtf8, IsCharBoundary, cond-true, and_parts, and_from, or_left, leb-true, nat_tests, IsUtf8-drop, IsCharBoundary-past_char, drop_past_char, TableSet, allows_past_ascii, is_ucschar, valid_prefix}
 use Rattle.uri_pct.proofs.ValidTexts.PrefixSteps.{valid_prefix_by_char_past_ascii_at_index}
 use Rattle.uri_pct.proofs.TableSets.Ranges.{is_low_ucschar, ucschar_below_plane_1_is_low_ucschar}
 
@@ -23,9 +15,8 @@ empty_text_has_no_first_byte : (text : List ℕ) → [] ≡ text → 0 < length 
 empty_text_has_no_first_byte text e h = let n = ap length e in omega arith
 
 -- tables, lead bytes: a text that is not empty begins with a character
-nonempty_text_has_first_char : (text cs : List ℕ) → all_scalars cs ≡ true → encode_utf8_all cs
-    ≡ text → 0 < length text
-    → FirstChar text
+nonempty_text_has_first_char : (text cs : List ℕ)
+    → all_scalars cs ≡ true → encode_utf8_all cs ≡ text → 0 < length text → FirstChar text
 nonempty_text_has_first_char text [] s e h = absurd (empty_text_has_no_first_byte text e h)
 nonempty_text_has_first_char text (c ∷ cs) s e h = record {
   code = c;
@@ -130,9 +121,8 @@ byte_in_lead_range_is_c3_to_ed b e = let p =
 -- tables, lead bytes: a scan passes an allowed character past ASCII, of n bytes at i
 pub scan_passes_char : (set : TableSet) (bs rest : List ℕ) (i c n : ℕ) → IsUtf8 bs
     → IsCharBoundary bs i → i < length bs → 128 ≤ get_or bs i 0 → drop i bs ≡ encode_utf8 c ++ rest
-    → allows_past_ascii set c ≡ true → len_utf8 c ≡ n
-    → (valid_prefix set (drop i bs) ≡ valid_prefix set (drop (i + n) bs) + n)
-    × IsCharBoundary bs (i + n)
+    → allows_past_ascii set c ≡ true → len_utf8 c ≡ n → (valid_prefix set (drop i bs)
+    ≡ valid_prefix set (drop (i + n) bs) + n) × IsCharBoundary bs (i + n)
 scan_passes_char set bs rest i c n u here inside past joined allowed size =
     let whole : drop i bs ≡ encode_utf8 c ++ drop (i + len_utf8 c) bs = joined
     ∙ ap (λ t. encode_utf8 c ++ t) (sym (drop_past_char bs rest i c joined)) in
@@ -140,8 +130,7 @@ scan_passes_char set bs rest i c n u here inside past joined allowed size =
     × IsCharBoundary bs (i + k)) size (
       valid_prefix_by_char_past_ascii_at_index set bs i c u here whole past
           ∙ cond-true _ _ _ allowed,
-      IsCharBoundary-past_char bs rest i c (omega arith)
-          (IsUtf8-drop bs i u here) joined,
+      IsCharBoundary-past_char bs rest i c (omega arith) (IsUtf8-drop bs i u here) joined,
     )
 
 -- tables, lead bytes: where a character begins at i, the byte there is its lead byte
@@ -172,8 +161,7 @@ module _ (set : TableSet) (bs : List ℕ) (i : ℕ) (u : IsUtf8 bs) (here : IsCh
   -- the second byte of a character past ASCII is a continuation byte
   pub second_byte_past_ascii_continues : 128 ≤ get_or bs i 0
       → (128 ≤ get_or bs (i + 1) 0) × (get_or bs (i + 1) 0 < 192)
-  second_byte_past_ascii_continues past =
-      subst IsContinuationByte
+  second_byte_past_ascii_continues past = subst IsContinuationByte
       (ap (λ t. get_or t 1 0) (sym first_char.joined) ∙ get_or-drop i bs 1 0)
       (second_byte_of_char_continues first_char.code first_char.suffix
       (lead_byte_past_ascii_is_char_past_ascii first_char.code
@@ -181,8 +169,7 @@ module _ (set : TableSet) (bs : List ℕ) (i : ℕ) (u : IsUtf8 bs) (here : IsCh
 
   pub third_byte_from_e0_continues : 224 ≤ get_or bs i 0
       → (128 ≤ get_or bs (i + 2) 0) × (get_or bs (i + 2) 0 < 192)
-  third_byte_from_e0_continues high =
-      subst IsContinuationByte
+  third_byte_from_e0_continues high = subst IsContinuationByte
       (ap (λ t. get_or t 2 0) (sym first_char.joined) ∙ get_or-drop i bs 2 0)
       (third_byte_of_char_continues first_char.code first_char.suffix
       (lead_byte_from_224_is_char_from_2048 first_char.code
@@ -191,10 +178,9 @@ module _ (set : TableSet) (bs : List ℕ) (i : ℕ) (u : IsUtf8 bs) (here : IsCh
   scan_passes_length_by_lead : (n : ℕ) → 195 ≤ get_or bs i 0 → HasLengthByLead first_char.code n
       → (valid_prefix set (drop i bs) ≡ valid_prefix set (drop (i + n) bs) + n)
       × IsCharBoundary bs (i + n)
-  scan_passes_length_by_lead n high told =
-      scan_passes_char set bs first_char.suffix i first_char.code n u here inside (omega arith)
-      first_char.joined (char_with_length_by_lead_is_allowed set first_char.code n flag told)
-      told.size
+  scan_passes_length_by_lead n high told = scan_passes_char
+      set bs first_char.suffix i first_char.code n u here inside (omega arith) first_char.joined
+      (char_with_length_by_lead_is_allowed set first_char.code n flag told) told.size
 
   pub scan_passes_two_bytes : 195 ≤ get_or bs i 0 → get_or bs i 0 < 224
       → (valid_prefix set (drop i bs) ≡ valid_prefix set (drop (i + 2) bs) + 2)

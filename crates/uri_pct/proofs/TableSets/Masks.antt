@@ -1,12 +1,5 @@
 -- Two words as a set of ASCII characters.
-use Rattle.std.proofs.Common.{◌≡◌, ℕ, ◌+◌, ◌-◌, ◌*◌, ◌/◌, ◌%◌, ◌^◌, ◌<◌, ◌≤◌, min, max, Bool, true, false, not, eqb, ltb, List, refl, sym, ap, ◌∙◌, arith, bit_and, bit_or, ◌&&◌, ◌||◌, ⊎_elim, w64, slice_index_or}
-use Rattle.std.specs.Int.{bit_at, bit_not}
-use Rattle.std.proofs.Math.Bool.{or-false}
-use Rattle.std.proofs.lemmas.Nat.{and_mask}
-use Rattle.std.proofs.lemmas.Nat.Bits.{shr_and_one, bit_at-zero, bit_at-lt, bit_at_or, bit_at_and, bit_at_not, bit_at_set_same, bit_at_set_other, same_from_bits_below}
-use Rattle.std.proofs.lemmas.Bool.{cases_lt, cases_eq, cond-true, cond-false, lt-ltb, le-ltb, eq-eqb, ne_eqb, or_from, or_right, and_left, and_parts, agree_below, agree_below_at}
-use Rattle.std.proofs.lemmas.Bool.Decides.{nat_tests}
-use Rattle.uri_pct.specs.Masks.{has_bit}
+use Rattle.uri_pct.proofs.Common.{◌≡◌, ℕ, ◌+◌, ◌-◌, ◌*◌, ◌/◌, ◌%◌, ◌^◌, ◌<◌, ◌≤◌, min, max, Bool, true, false, not, eqb, ltb, List, refl, sym, ap, ◌∙◌, arith, bit_and, bit_or, ◌&&◌, ◌||◌, ⊎_elim, w64, slice_index_or, bit_at, bit_not, or-false, and_mask, shr_and_one, bit_at-zero, bit_at-lt, bit_at_or, bit_at_and, bit_at_not, bit_at_set_same, bit_at_set_other, same_from_bits_below, cases_lt, cases_eq, cond-true, cond-false, lt-ltb, le-ltb, eq-eqb, ne_eqb, or_from, or_right, and_left, and_parts, agree_below, agree_below_at, nat_tests, has_bit}
 
 -- tables: below 64 the low word decides whether a character is in the set
 pub has_bit_below_64_is_bit_of_low : (low high c : ℕ) → c < 64 → has_bit low high c
@@ -58,19 +51,16 @@ pub tested_bit-is-has_bit : (words : List ℕ) (b : ℕ) → slice_index_or word
 tested_bit-is-has_bit words b third fourth h =
     let low = slice_index_or words 0 0 in
     let high = slice_index_or words 1 0 in
-    ⊎_elim
-    (λ (below : b < 64). tested_bit_is_bit_of_its_word words b 0 (omega arith)
+    ⊎_elim (λ (below : b < 64). tested_bit_is_bit_of_its_word words b 0 (omega arith)
     ∙ ap (λ k. eqb (bit_at low k) 1) (omega arith)
-    ∙ sym (has_bit_below_64_is_bit_of_low low high b below))
-    (grind (
+    ∙ sym (has_bit_below_64_is_bit_of_low low high b below)) (grind (
       arith,
       nat_tests,
       tested_bit_is_bit_of_its_word,
       has_bit_from_64_is_bit_of_high,
       zero_word_has_no_bit,
       has_bit_past_ascii_is_false,
-    ))
-    (cases_lt b 64)
+    )) (cases_lt b 64)
 
 -- tables: the bits of two words are a test of characters if those of `low` agree
 -- with it below 64, those of `high` below 128, and the test fails from 128 on
@@ -78,14 +68,13 @@ has_bit_is_test_if_words_agree : (low high : ℕ) (f : ℕ → Bool)
     → ((c : ℕ) → c < 64 → eqb (bit_at low c) 1 ≡ f c)
     → ((c : ℕ) → 64 ≤ c → c < 128 → eqb (bit_at high (c - 64)) 1 ≡ f c)
     → ((c : ℕ) → 128 ≤ c → f c ≡ false) → (c : ℕ) → has_bit low high c ≡ f c
-has_bit_is_test_if_words_agree low high f first second third c =
-    grind (
-      arith,
-      nat_tests,
-      has_bit_below_64_is_bit_of_low,
-      has_bit_from_64_is_bit_of_high,
-      has_bit_past_ascii_is_false,
-    )
+has_bit_is_test_if_words_agree low high f first second third c = grind (
+  arith,
+  nat_tests,
+  has_bit_below_64_is_bit_of_low,
+  has_bit_from_64_is_bit_of_high,
+  has_bit_past_ascii_is_false,
+)
 
 -- general fact on booleans, for joining tables
 binary_function_of_equals_is_equal : (f : Bool → Bool → Bool) {a a' b b' : Bool} → a ≡ a' → b ≡ b'
@@ -118,59 +107,52 @@ bit_of_bit_and a b i = ap (λ n. eqb n 1) (bit_at_and a b i)
     ∙ min_of_bits_is_and (bit_at a i) (bit_at b i) (bit_at-lt a i) (bit_at-lt b i)
 
 -- bits, for differences of tables: a bit of `and not` is in the first word alone
-pub bit_of_bit_and_not : (a b i : ℕ) → b < 2 ^ 64 → i < 64
-    → eqb (bit_at (bit_and a (bit_not w64 b)) i) 1
-    ≡ (eqb (bit_at a i) 1 && not (eqb (bit_at b i) 1))
-bit_of_bit_and_not a b i fits within =
-    ap (λ n. eqb n 1) (bit_at_and a (bit_not w64 b) i)
+pub bit_of_bit_and_not : (a b i : ℕ) → b < 2 ^ 64 → i < 64 → eqb
+    (bit_at (bit_and a (bit_not w64 b)) i) 1 ≡ (eqb (bit_at a i) 1 && not (eqb (bit_at b i) 1))
+bit_of_bit_and_not a b i fits within = ap (λ n. eqb n 1) (bit_at_and a (bit_not w64 b) i)
     ∙ ap (λ n. eqb (min (bit_at a i) n) 1) (bit_at_not w64 b i fits within)
     ∙ min_with_complement_is_and_not (bit_at a i) (bit_at b i) (bit_at-lt a i) (bit_at-lt b i)
 
 -- tables: the union of two pairs of words has the characters of both
 pub has_bit_of_joined_masks_is_or : (low high low' high' c : ℕ)
     → has_bit (bit_or low low') (bit_or high high') c ≡ (has_bit low high c || has_bit low' high' c)
-has_bit_of_joined_masks_is_or low high low' high' =
-    grind (
-      arith,
-      nat_tests,
-      has_bit_is_test_if_words_agree,
-      bit_or,
-      bit_of_bit_or,
-      binary_function_of_equals_is_equal,
-      has_bit_below_64_is_bit_of_low,
-      has_bit_from_64_is_bit_of_high,
-      has_bit_past_ascii_is_false,
-    )
+has_bit_of_joined_masks_is_or low high low' high' = grind (
+  arith,
+  nat_tests,
+  has_bit_is_test_if_words_agree,
+  bit_or,
+  bit_of_bit_or,
+  binary_function_of_equals_is_equal,
+  has_bit_below_64_is_bit_of_low,
+  has_bit_from_64_is_bit_of_high,
+  has_bit_past_ascii_is_false,
+)
 
 -- tables: the difference of two pairs of words has the characters
 -- of the first that the second lacks
 pub has_bit_of_mask_difference_is_and_not : (low high low' high' c : ℕ) → low' < 2 ^ 64
     → high' < 2 ^ 64 → has_bit (bit_and low (bit_not w64 low')) (bit_and high (bit_not w64 high')) c
     ≡ (has_bit low high c && not (has_bit low' high' c))
-has_bit_of_mask_difference_is_and_not low high low' high' c fits fits' =
-    grind (
-      arith,
-      nat_tests,
-      has_bit_is_test_if_words_agree,
-      bit_and,
-      bit_of_bit_and_not,
-      binary_function_of_equals_is_equal,
-      has_bit_below_64_is_bit_of_low,
-      has_bit_from_64_is_bit_of_high,
-      has_bit_past_ascii_is_false,
-    )
+has_bit_of_mask_difference_is_and_not low high low' high' c fits fits' = grind (
+  arith,
+  nat_tests,
+  has_bit_is_test_if_words_agree,
+  bit_and,
+  bit_of_bit_and_not,
+  binary_function_of_equals_is_equal,
+  has_bit_below_64_is_bit_of_low,
+  has_bit_from_64_is_bit_of_high,
+  has_bit_past_ascii_is_false,
+)
 
 -- bits, for tables: the bits of a word after its bit k is set
 bit_after_one_bit_is_set : (n k i : ℕ) → k < 64
     → eqb (bit_at (bit_or n (1 * 2 ^ k % 2 ^ 64)) i) 1 ≡ (eqb (bit_at n i) 1 || eqb k i)
 bit_after_one_bit_is_set n k i within =
-    ⊎_elim
-    (λ (e : k ≡ i).
-    ap (λ j. eqb (bit_at (bit_or n (1 * 2 ^ k % 2 ^ 64)) j) 1) (sym e)
+    ⊎_elim (λ (e : k ≡ i). ap (λ j. eqb (bit_at (bit_or n (1 * 2 ^ k % 2 ^ 64)) j) 1) (sym e)
     ∙ ap (λ b. eqb b 1) (bit_at_set_same w64 n k within)
-    ∙ sym (or_right (eqb (bit_at n i) 1) (eqb k i) (eq-eqb k i e)))
-    (λ (ne : k ≡ i → ⊥).
-    ap (λ b. eqb b 1) (bit_at_set_other w64 n k within i (λ (e : i ≡ k). ne (sym e)))
+    ∙ sym (or_right (eqb (bit_at n i) 1) (eqb k i) (eq-eqb k i e))) (λ (ne : k ≡ i
+    → ⊥). ap (λ b. eqb b 1) (bit_at_set_other w64 n k within i (λ (e : i ≡ k). ne (sym e)))
     ∙ sym (or-false (eqb (bit_at n i) 1)) ∙ ap (λ b. eqb (bit_at n i) 1 || b) (sym (ne_eqb k i ne)))
     (cases_eq k i)
 
@@ -179,12 +161,11 @@ pub has_bit_after_low_bit_is_set : (low high k c : ℕ) → k < 64
     → has_bit (bit_or low (1 * 2 ^ k % 2 ^ 64)) high c ≡ (has_bit low high c || eqb k c)
 has_bit_after_low_bit_is_set low high k c within =
     has_bit_is_test_if_words_agree (bit_or low (1 * 2 ^ k % 2 ^ 64)) high
-    (λ c. has_bit low high c || eqb k c)
-    (λ c h. bit_after_one_bit_is_set low k c within
+    (λ c. has_bit low high c || eqb k c) (λ c h. bit_after_one_bit_is_set low k c within
     ∙ ap (λ a. a || eqb k c) (sym (has_bit_below_64_is_bit_of_low low high c h)))
     (grind (arith, nat_tests, has_bit_from_64_is_bit_of_high, or-false))
-    (λ c h. or_from (has_bit low high c) (eqb k c) (has_bit_past_ascii_is_false low high c h)
-    (ne_eqb k c (λ (e : k ≡ c). omega arith))) c
+    (λ c h. or_from (has_bit low high c) (eqb k c)
+    (has_bit_past_ascii_is_false low high c h) (ne_eqb k c (λ (e : k ≡ c). omega arith))) c
 
 -- general fact on numbers, for the high word of a table
 equality_is_kept_by_subtracting_64 : (k c : ℕ) → 64 ≤ k → 64 ≤ c → eqb (k - 64) (c - 64) ≡ eqb k c
@@ -193,17 +174,14 @@ equality_is_kept_by_subtracting_64 k c p q = grind (arith, nat_tests)
 -- tables: setting a bit of the high word adds the character k
 pub has_bit_after_high_bit_is_set : (low high k c : ℕ) → 64 ≤ k → k < 128
     → has_bit low (bit_or high (1 * 2 ^ (k - 64) % 2 ^ 64)) c ≡ (has_bit low high c || eqb k c)
-has_bit_after_high_bit_is_set low high k c from within =
-    has_bit_is_test_if_words_agree low (bit_or high (1 * 2 ^ (k - 64) % 2 ^ 64))
-    (λ c. has_bit low high c || eqb k c)
+has_bit_after_high_bit_is_set low high k c from within = has_bit_is_test_if_words_agree low
+    (bit_or high (1 * 2 ^ (k - 64) % 2 ^ 64)) (λ c. has_bit low high c || eqb k c)
     (grind (arith, nat_tests, has_bit_below_64_is_bit_of_low, or-false))
-    (λ c h j.
-    bit_after_one_bit_is_set high (k - 64) (c - 64) (omega arith)
-    ∙ binary_function_of_equals_is_equal (λ a b. a || b)
-    (sym (has_bit_from_64_is_bit_of_high low high c h j))
-    (equality_is_kept_by_subtracting_64 k c from h))
-    (λ c h. or_from (has_bit low high c) (eqb k c) (has_bit_past_ascii_is_false low high c h)
-    (ne_eqb k c (λ (e : k ≡ c). omega arith))) c
+    (λ c h j. bit_after_one_bit_is_set high (k - 64) (c - 64) (omega arith)
+    ∙ binary_function_of_equals_is_equal (λ a b. a || b) (sym (has_bit_from_64_is_bit_of_high low
+    high c h j)) (equality_is_kept_by_subtracting_64 k c from h))
+    (λ c h. or_from (has_bit low high c) (eqb k c)
+    (has_bit_past_ascii_is_false low high c h) (ne_eqb k c (λ (e : k ≡ c). omega arith))) c
 
 -- tables: two words that are zero have no character
 pub has_bit-zero-masks : (c : ℕ) → has_bit 0 0 c ≡ false
@@ -218,26 +196,21 @@ bit_that_is_not_one_is_zero n i e = grind (arith, nat_tests, bit_at-lt)
 -- bits, for tables: a word without any is 0
 number_without_set_bits_is_zero : (n : ℕ) → n < 2 ^ 64
     → ((i : ℕ) → i < 64 → eqb (bit_at n i) 1 ≡ false) → n ≡ 0
-number_without_set_bits_is_zero n fits none =
-    same_from_bits_below 64 n 0 fits (omega arith)
-    (λ i h. bit_that_is_not_one_is_zero n i (none i h) ∙ sym (bit_at-zero i))
+number_without_set_bits_is_zero n fits none = same_from_bits_below 64 n 0 fits
+    (omega arith) (λ i h. bit_that_is_not_one_is_zero n i (none i h) ∙ sym (bit_at-zero i))
 
 -- tables: a low word without characters is 0
 pub low_mask_without_bits_is_zero : (low high : ℕ) → low < 2 ^ 64
     → ((c : ℕ) → has_bit low high c ≡ false) → low ≡ 0
-low_mask_without_bits_is_zero low high fits none =
-    number_without_set_bits_is_zero low fits
+low_mask_without_bits_is_zero low high fits none = number_without_set_bits_is_zero low fits
     (λ i h. sym (has_bit_below_64_is_bit_of_low low high i h) ∙ none i)
 
 -- tables: a high word without characters is 0
 pub high_mask_without_bits_is_zero : (low high : ℕ) → high < 2 ^ 64
     → ((c : ℕ) → has_bit low high c ≡ false) → high ≡ 0
-high_mask_without_bits_is_zero low high fits none =
-    number_without_set_bits_is_zero high fits
-    (λ i h.
-    ap (λ j. eqb (bit_at high j) 1) (omega arith)
-    ∙ sym (has_bit_from_64_is_bit_of_high low high (i + 64) (omega arith) (omega arith))
-    ∙ none (i + 64))
+high_mask_without_bits_is_zero low high fits none = number_without_set_bits_is_zero high fits
+    (λ i h. ap (λ j. eqb (bit_at high j) 1) (omega arith) ∙ sym
+    (has_bit_from_64_is_bit_of_high low high (i + 64) (omega arith) (omega arith)) ∙ none (i + 64))
 
 -- tables: two words that agree with a test below 128 are the test,
 -- where that is false from there on
@@ -245,8 +218,7 @@ pub has_bit-by-agreement : (low high : ℕ) (test : ℕ → Bool)
     → agree_below (has_bit low high) test 128 ≡ true
     → ((c : ℕ) → 128 ≤ c → test c ≡ false) → (c : ℕ) → has_bit low high c ≡ test c
 has_bit-by-agreement low high test same none c =
-    ⊎_elim
-    (λ (below : c < 128). agree_below_at (has_bit low high) test 128 c same below)
+    ⊎_elim (λ (below : c < 128). agree_below_at (has_bit low high) test 128 c same below)
     (λ (past : 128 ≤ c). has_bit_past_ascii_is_false low high c past ∙ sym (none c past))
     (cases_lt c 128)
 
@@ -254,22 +226,18 @@ has_bit-by-agreement low high test same none c =
 pub has_bit-full-masks : (c : ℕ) → has_bit 0xFFFFFFFFFFFFFFFF 0xFFFFFFFFFFFFFFFF c ≡ ltb c 128
 unfolding has_bit
 has_bit-full-masks c = has_bit-by-agreement 0xFFFFFFFFFFFFFFFF 0xFFFFFFFFFFFFFFFF
-    (λ b. ltb b 128) refl
-    (λ b h. le-ltb b 128 h) c
+    (λ b. ltb b 128) refl (λ b h. le-ltb b 128 h) c
 
 -- tables: two words that have all bits of two others have their characters
 pub has_bit_of_words_with_all_bits : (low high low' high' c : ℕ) → bit_and low low' ≡ low'
     → bit_and high high' ≡ high' → has_bit low' high' c ≡ true → has_bit low high c ≡ true
 has_bit_of_words_with_all_bits low high low' high' c lows highs e =
-    (and_parts _ _ (sym (has_bit_is_test_if_words_agree (bit_and low low') (bit_and high high')
-    (λ c. has_bit low high c && has_bit low' high' c)
-    (λ c h. bit_of_bit_and low low' c
-    ∙ sym (binary_function_of_equals_is_equal (λ a b. a && b)
+    (and_parts _ _ (sym (has_bit_is_test_if_words_agree (bit_and low low')
+    (bit_and high high') (λ c. has_bit low high c && has_bit low' high' c)
+    (λ c h. bit_of_bit_and low low' c ∙ sym (binary_function_of_equals_is_equal (λ a b. a && b)
     (has_bit_below_64_is_bit_of_low low high c h) (has_bit_below_64_is_bit_of_low low' high' c h)))
-    (λ c h k. bit_of_bit_and high high' (c - 64)
-    ∙ sym (binary_function_of_equals_is_equal (λ a b. a && b)
-    (has_bit_from_64_is_bit_of_high low high c h k)
-    (has_bit_from_64_is_bit_of_high low' high' c h k)))
-    (λ c h. and_left (has_bit low high c) (has_bit low' high' c)
-    (has_bit_past_ascii_is_false low high c h))
-    c) ∙ ap (λ w. has_bit w (bit_and high high') c) lows ∙ ap (λ w. has_bit low' w c) highs ∙ e)).0
+    (λ c h k. bit_of_bit_and high high' (c - 64) ∙ sym (binary_function_of_equals_is_equal (λ a b. a
+    && b) (has_bit_from_64_is_bit_of_high low high c h k)
+    (has_bit_from_64_is_bit_of_high low' high' c h k))) (λ c h. and_left
+    (has_bit low high c) (has_bit low' high' c) (has_bit_past_ascii_is_false low high c h)) c)
+    ∙ ap (λ w. has_bit w (bit_and high high') c) lows ∙ ap (λ w. has_bit low' w c) highs ∙ e)).0

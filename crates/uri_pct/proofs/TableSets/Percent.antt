@@ -1,10 +1,5 @@
 -- No table holds the percent sign.
-use Rattle.std.proofs.Common.{◌≡◌, ◌∙◌, ℕ, Bool, true, false, not, ◌&&◌, ◌||◌, eqb, List, [], ◌∷◌, refl, ap}
-use Rattle.std.specs.List.{list_any}
-use Rattle.uri_pct.specs.Sets.{LacksPercent}
-use Rattle.uri_pct.specs.Tables.{set_of}
-use Rattle.uri_pct.specs.Texts.{lacks}
-use Rattle.uri_pct.specs.declared.table.Table.{Table}
+use Rattle.uri_pct.proofs.Common.{◌≡◌, ◌∙◌, ℕ, Bool, true, false, not, ◌&&◌, ◌||◌, eqb, List, [], ◌∷◌, refl, ap, list_any, LacksPercent, set_of, lacks, Table}
 use Rattle.uri_pct.proofs.TableSets.Masks.{has_bit_of_percent_is_bit_of_low}
 
 -- sets: that of a table never has `%`

@@ -1,11 +1,6 @@
 -- The ranges of `ucschar` and `iprivate`, in the cases that the code has: below plane 1, planes 1
 -- to 13, and above.
-use Rattle.std.proofs.Common.{◌≡◌, ℕ, zero, suc, ◌+◌, ◌*◌, ◌%◌, ◌<◌, ◌≤◌, Bool, false, leb, refl, ap, ◌∙◌, arith, ◌||◌, ⊎_elim}
-use Rattle.std.specs.Int.{is_in_range}
-use Rattle.std.proofs.Math.Bool.{or-false}
-use Rattle.std.proofs.lemmas.Bool.{cases_lt, and_left, and_right, or_from, lt-leb}
-use Rattle.std.proofs.lemmas.Bool.Decides.{nat_tests}
-use Rattle.uri_pct.specs.Sets.{is_ucschar, is_iprivate}
+use Rattle.uri_pct.proofs.Common.{◌≡◌, ℕ, zero, suc, ◌+◌, ◌*◌, ◌%◌, ◌<◌, ◌≤◌, Bool, false, leb, refl, ap, ◌∙◌, arith, ◌||◌, ⊎_elim, is_in_range, or-false, cases_lt, and_left, and_right, or_from, lt-leb, nat_tests, is_ucschar, is_iprivate}
 
 -- sets, for `ucschar` and `iprivate`: a character below a range is not in it
 char_below_range_is_not_in_it : (low high c : ℕ) → c < low → is_in_range low high c ≡ false
@@ -26,8 +21,7 @@ in_planes_below_plane_1_is_the_others : (others : Bool) (n c : ℕ) → c < 6553
     → in_planes others n c ≡ others
 unfolding in_planes
 in_planes_below_plane_1_is_the_others others zero c h = refl
-in_planes_below_plane_1_is_the_others others (suc n) c h =
-    ap (λ b. in_planes others n c || b)
+in_planes_below_plane_1_is_the_others others (suc n) c h = ap (λ b. in_planes others n c || b)
     (char_below_range_is_not_in_it (65536 * (n + 1)) (65536 * (n + 1) + 65533) c (omega arith))
     ∙ or-false (in_planes others n c) ∙ in_planes_below_plane_1_is_the_others others n c h
 
@@ -51,14 +45,11 @@ planes_lack_only_last_two_of_each : (n c : ℕ) → 65536 ≤ c → c < 65536 * 
 unfolding in_planes
 planes_lack_only_last_two_of_each zero c from below = absurd (omega arith)
 planes_lack_only_last_two_of_each (suc n) c from below =
-    ⊎_elim
-    (λ (lower : c < 65536 * (n + 1)).
-    ap (λ b. in_planes false n c || b)
-    (char_below_range_is_not_in_it (65536 * (n + 1)) (65536 * (n + 1) + 65533) c lower)
+    ⊎_elim (λ (lower : c < 65536 * (n + 1)). ap (λ b. in_planes false n c
+    || b) (char_below_range_is_not_in_it (65536 * (n + 1)) (65536 * (n + 1) + 65533) c lower)
     ∙ or-false (in_planes false n c) ∙ planes_lack_only_last_two_of_each n c from lower)
-    (λ (here : 65536 * (n + 1) ≤ c).
-    ap (λ b. b || is_in_range (65536 * (n + 1)) (65536 * (n + 1) + 65533) c)
-    (in_planes_above_last_plane_is_false n c here)
+    (λ (here : 65536 * (n + 1) ≤ c). ap (λ b. b || is_in_range
+    (65536 * (n + 1)) (65536 * (n + 1) + 65533) c) (in_planes_above_last_plane_is_false n c here)
     ∙ range_of_plane_lacks_only_last_two (n + 1) c here (omega arith))
     (cases_lt c (65536 * (n + 1)))
 
@@ -75,12 +66,10 @@ ucschar_is_planes_0_to_13_and_range_in_14 c = refl
 
 -- sets: `ucschar` below U+10000, as the code tests it (RFC 3987, section 2.2)
 pub ucschar_below_plane_1_is_low_ucschar : (c : ℕ) → c < 65536 → is_ucschar c ≡ is_low_ucschar c
-ucschar_below_plane_1_is_low_ucschar c h =
-    ucschar_is_planes_0_to_13_and_range_in_14 c
-    ∙ ap (λ b. in_planes (is_low_ucschar c) 13 c || b)
-    (char_below_range_is_not_in_it 0xE1000 0xEFFFD c (omega arith))
-    ∙ or-false (in_planes (is_low_ucschar c) 13 c) ∙ in_planes_below_plane_1_is_the_others
-    (is_low_ucschar c) 13 c h
+ucschar_below_plane_1_is_low_ucschar c h = ucschar_is_planes_0_to_13_and_range_in_14 c
+    ∙ ap (λ b. in_planes (is_low_ucschar c) 13 c || b) (char_below_range_is_not_in_it 0xE1000
+    0xEFFFD c (omega arith)) ∙ or-false (in_planes (is_low_ucschar c) 13 c)
+    ∙ in_planes_below_plane_1_is_the_others (is_low_ucschar c) 13 c h
 
 -- sets: the part of `ucschar` below U+10000 has nothing from there on
 no_low_ucschar_from_plane_1 : (c : ℕ) → 65536 ≤ c → is_low_ucschar c ≡ false
@@ -95,8 +84,7 @@ ucschar_from_plane_1_is_by_planes c h = ucschar_is_planes_0_to_13_and_range_in_1
 -- sets: in the planes 1 to 13 `ucschar` has all characters but the last two of each
 pub ucschar_of_planes_1_to_13_lacks_last_two : (c : ℕ) → 65536 ≤ c → c < 0xE0000 → is_ucschar c
     ≡ leb (c % 65536) 65533
-ucschar_of_planes_1_to_13_lacks_last_two c from below =
-    ucschar_from_plane_1_is_by_planes c from
+ucschar_of_planes_1_to_13_lacks_last_two c from below = ucschar_from_plane_1_is_by_planes c from
     ∙ ap (λ b. in_planes false 13 c || b) (char_below_range_is_not_in_it 0xE1000 0xEFFFD c
     (omega arith))
     ∙ or-false (in_planes false 13 c) ∙ planes_lack_only_last_two_of_each 13 c from below
@@ -104,8 +92,7 @@ ucschar_of_planes_1_to_13_lacks_last_two c from below =
 -- sets: from plane 14 on `ucschar` has U+E1000 to U+EFFFD
 pub ucschar_from_plane_14_is_one_range : (c : ℕ) → 0xE0000 ≤ c → is_ucschar c
     ≡ is_in_range 0xE1000 0xEFFFD c
-ucschar_from_plane_14_is_one_range c h =
-    ucschar_from_plane_1_is_by_planes c (omega arith)
+ucschar_from_plane_14_is_one_range c h = ucschar_from_plane_1_is_by_planes c (omega arith)
     ∙ ap (λ b. b || is_in_range 0xE1000 0xEFFFD c) (in_planes_above_last_plane_is_false 13 c h)
 
 -- sets: `iprivate` is three ranges (RFC 3987, section 2.2)

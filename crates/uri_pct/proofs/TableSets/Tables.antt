@@ -1,16 +1,7 @@
 -- Sets as two masks and three flags.
-use Rattle.std.proofs.Common.{◌≡◌, ℕ, ◌+◌, ◌^◌, ◌<◌, ◌≤◌, Bool, true, false, not, eqb, refl, sym, ap, arith, bit_or, ◌&&◌, ◌||◌, All, List, get_or}
+use Rattle.uri_pct.proofs.Common.{◌≡◌, ℕ, ◌+◌, ◌^◌, ◌<◌, ◌≤◌, Bool, true, false, not, eqb, refl, sym, ap, arith, bit_or, ◌&&◌, ◌||◌, All, List, get_or, and_le_l, and_le_r, and_parts, or_parts, not-true, eqb-true, ne_eqb, list_any_none, AllPass-from_list_all, list_all, TableSet, difference, IsSubset, is_one_of, has_bit, is_unencoded_ascii, empty_set, nat_tests}
 use Rattle.std.specs.Int.Bits.{bit_and, or_add_and}
-use Rattle.std.proofs.lemmas.Nat.{and_le_l, and_le_r}
-use Rattle.std.proofs.lemmas.Bool.{and_parts, or_parts, not-true, eqb-true, ne_eqb}
-use Rattle.std.proofs.lemmas.List.Folds.{list_any_none}
-use Rattle.std.proofs.lemmas.List.Sums.{AllPass-from_list_all}
-use Rattle.std.specs.List.{list_all}
-use Rattle.uri_pct.specs.Sets.{TableSet, difference, IsSubset, is_one_of}
-use Rattle.uri_pct.specs.Masks.{has_bit, is_unencoded_ascii}
-use Rattle.uri_pct.specs.Tables.{empty_set}
 use Rattle.uri_pct.proofs.TableSets.Masks.{has_bit-zero-masks, low_mask_without_bits_is_zero, high_mask_without_bits_is_zero}
-use Rattle.std.proofs.lemmas.Bool.Decides.{nat_tests}
 
 -- tables: the set of the characters that pass a test, with three flags
 abbrev pub record_set : (ℕ → Bool) → Bool → Bool → Bool → TableSet

@@ -1,13 +1,5 @@
 -- An octet of ASCII is a character by itself, whatever is before and after it.
-use Rattle.std.proofs.Common.{ℕ, ◌≡◌, ◌<◌, ◌≤◌, List, [], ◌∷◌, ◌++◌, length, take, drop, map, sym, ap, ◌∙◌, inl, IsUtf8}
-use Rattle.std.proofs.lemmas.List.Elements.{All-same, All-take, All-drop}
-use Rattle.std.proofs.Math.Seq.{take-append_seam, drop-append_seam}
-use Rattle.std.proofs.lemmas.Str.{IsUtf8-from_ascii}
-use Rattle.std.proofs.lemmas.Str.Ascii.{IsAscii-nil, IsAscii-push}
-use Rattle.uri_pct.specs.Chunks.{Chunk, Byte}
-use Rattle.uri_pct.specs.Parts.{ArePastAscii, Decoded, parts_from}
-use Rattle.uri_pct.specs.Pieces.{utf8_pieces}
-use Rattle.uri_pct.specs.Models.Unfinished.{CutsNoPiece}
+use Rattle.uri_pct.proofs.Common.{ℕ, ◌≡◌, ◌<◌, ◌≤◌, List, [], ◌∷◌, ◌++◌, length, take, drop, map, sym, ap, ◌∙◌, inl, IsUtf8, All-same, All-take, All-drop, take-append_seam, drop-append_seam, IsUtf8-from_ascii, IsAscii-nil, IsAscii-push, Chunk, Byte, ArePastAscii, Decoded, parts_from, utf8_pieces, CutsNoPiece}
 use Rattle.uri_pct.proofs.Unicode.CharacterPieces.{byte_below_80_or_from_c0_is_no_continuation}
 use Rattle.uri_pct.proofs.Unicode.Pieces.{utf8_pieces_are_cut_at_non_continuation}
 use Rattle.uri_pct.proofs.Unicode.Runs.{utf8_pieces_are_cut_after_text}
@@ -33,12 +25,10 @@ pub parts_from-ascii-octet : (run : List ℕ) (b : ℕ) (suffix : List Chunk) �
     → parts_from run (Byte b ∷ suffix)
     ≡ map Decoded (utf8_pieces run) ++ (map Decoded (utf8_pieces (b ∷ [])) ++ parts_from [] suffix)
 unfolding parts_from
-parts_from-ascii-octet run b suffix small =
-    parts_from_are_cut_where_pieces_are run (b ∷ []) [] suffix
-    (cut_before_ascii_divides_no_piece run b small)
-    ∙ ap (λ ps. map Decoded (utf8_pieces run) ++ ps)
-    (parts_from_are_cut_where_pieces_are (b ∷ []) [] [] suffix
-    (cut_after_ascii_divides_no_piece b small))
+parts_from-ascii-octet run b suffix small = parts_from_are_cut_where_pieces_are run (b
+    ∷ []) [] suffix (cut_before_ascii_divides_no_piece run b small)
+    ∙ ap (λ ps. map Decoded (utf8_pieces run) ++ ps) (parts_from_are_cut_where_pieces_are (b
+    ∷ []) [] [] suffix (cut_after_ascii_divides_no_piece b small))
 
 -- UTF-8 of decoded octets: a prefix of bytes past ASCII is past ASCII
 pub prefix_of_past_ascii_is_past_ascii : (prefix end bytes : List ℕ) → bytes ≡ prefix ++ end

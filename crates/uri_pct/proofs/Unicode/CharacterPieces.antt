@@ -1,14 +1,6 @@
 -- The bytes of a character are a well-formed piece in any context, and each well-formed piece is
 -- the bytes of a character.
-use Rattle.std.proofs.Common.{◌≡◌, ℕ, zero, suc, ◌+◌, ◌-◌, ◌*◌, ◌/◌, ◌%◌, ◌<◌, ◌≤◌, ◌⊎◌, true, false, eqb, leb, List, [], ◌∷◌, ◌++◌, length, take, refl, sym, ap, ◌∙◌, arith, ⊎_elim, Option, Some, None, option_map, subst, inl, inr, lit≤, slice_index, chars, append-nil}
-use Rattle.std.specs.List.{find, All, AllByRecursion}
-use Rattle.std.specs.Char.{encode_utf8, IsScalar}
-use Rattle.std.proofs.Math.Utf8.{scalar_cases, low_scalar}
-use Rattle.std.proofs.lemmas.List.Elements.{All-from_recursion}
-use Rattle.std.proofs.lemmas.Str.{encode_ascii, chars-encodes}
-use Rattle.std.proofs.lemmas.Bool.{cases_Bool, cond-true, cond-false, and_parts, and_left, and_right, leb-true, lt-leb, and_from, cases_lt}
-use Rattle.std.proofs.lemmas.Bool.Decides.{nat_tests}
-use Rattle.uri_pct.specs.Pieces.{Piece, WellFormed, IllFormed, ByteRange, Row, is_in_byte_range, continuation, well_formed_rows, begins_with_continuation, char_of, IsOfCharacter, following_ranges, len_in_ranges, first_piece_tail_len, first_piece, pieces_from, utf8_pieces}
+use Rattle.uri_pct.proofs.Common.{◌≡◌, ℕ, zero, suc, ◌+◌, ◌-◌, ◌*◌, ◌/◌, ◌%◌, ◌<◌, ◌≤◌, ◌⊎◌, true, false, eqb, leb, List, [], ◌∷◌, ◌++◌, length, take, refl, sym, ap, ◌∙◌, arith, ⊎_elim, Option, Some, None, option_map, subst, inl, inr, lit≤, slice_index, chars, append-nil, find, All, AllByRecursion, encode_utf8, IsScalar, scalar_cases, low_scalar, All-from_recursion, encode_ascii, chars-encodes, cases_Bool, cond-true, cond-false, and_parts, and_left, and_right, leb-true, lt-leb, and_from, cases_lt, nat_tests, Piece, WellFormed, IllFormed, ByteRange, Row, is_in_byte_range, continuation, well_formed_rows, begins_with_continuation, char_of, IsOfCharacter, following_ranges, len_in_ranges, first_piece_tail_len, first_piece, pieces_from, utf8_pieces}
 use Rattle.uri_pct.proofs.Unicode.Pieces.{utf8_pieces_are_cut_at_non_continuation}
 use Rattle.uri_pct.proofs.Unicode.FirstBytes.{fitting_bytes_are_well_formed_first_piece, no_range_follows_ascii_byte, following_ranges_of_c2_to_df, following_ranges_of_e0, following_ranges_of_e1_to_ec, following_ranges_of_ed, following_ranges_of_ee_to_ef, following_ranges_of_f0, following_ranges_of_f1_to_f3, following_ranges_of_f4}
 
@@ -25,8 +17,7 @@ unfolding encode_utf8
 utf8_of_char_of_three_bytes c low high = grind (arith, nat_tests)
 
 -- UTF-8: the bytes of a character from U+10000 on
-utf8_of_char_of_four_bytes : (c : ℕ) → 0x10000 ≤ c
-    → encode_utf8 c
+utf8_of_char_of_four_bytes : (c : ℕ) → 0x10000 ≤ c → encode_utf8 c
     ≡ (240 + c / 262144) ∷ (128 + c / 4096 % 64) ∷ (128 + c / 64 % 64) ∷ (128 + c % 64) ∷ []
 unfolding encode_utf8
 utf8_of_char_of_four_bytes c low = grind (arith, nat_tests)
@@ -52,11 +43,10 @@ char_of_two_bytes_begins_piece c rest low high = rw (utf8_of_char_of_two_bytes c
 char_of_three_bytes_begins_piece : (c : ℕ) (rest : List ℕ) (second : ByteRange) → 0x800 ≤ c
     → c < 0x10000 → following_ranges (224 + c / 4096) ≡ Some (second ∷ continuation ∷ [])
     → second.0 ≤ 128 + c / 64 % 64 → 128 + c / 64 % 64 ≤ second.1 → BeginsPiece c rest
-char_of_three_bytes_begins_piece c rest second low high row from byte_within_bounds = rw
-    (utf8_of_char_of_three_bytes c low high)
-    (fitting_bytes_are_well_formed_first_piece (224 + c / 4096) (second ∷ continuation ∷ [])
-    ((128 + c / 64 % 64) ∷ (128 + c % 64) ∷ []) rest row
-    ((from, byte_within_bounds), ((omega arith, omega arith), tt)))
+char_of_three_bytes_begins_piece c rest second low high row from byte_within_bounds =
+    rw (utf8_of_char_of_three_bytes c low high) (fitting_bytes_are_well_formed_first_piece
+    (224 + c / 4096) (second ∷ continuation ∷ []) ((128 + c / 64 % 64) ∷ (128 + c % 64) ∷ [])
+    rest row ((from, byte_within_bounds), ((omega arith, omega arith), tt)))
 
 -- UTF-8: a character of four bytes is a piece, if the second byte fits the row of the first
 char_of_four_bytes_begins_piece : (c : ℕ) (rest : List ℕ) (second : ByteRange) → 0x10000 ≤ c
@@ -71,15 +61,14 @@ char_of_four_bytes_begins_piece c rest second low row from byte_within_bounds = 
 -- UTF-8: a character below the surrogates is a piece
 char_below_surrogates_begins_piece : (c : ℕ) (rest : List ℕ) → c < 0xD800 → BeginsPiece c rest
 char_below_surrogates_begins_piece c rest high = ⊎_elim (λ h. ascii_char_begins_piece c rest h)
-    (λ l1.
-    ⊎_elim (λ h. char_of_two_bytes_begins_piece c rest l1 h) (λ l2.
-    ⊎_elim (λ h. char_of_three_bytes_begins_piece c rest (0xA0, 0xBF) l2 (omega arith)
-    (following_ranges_of_e0 _ (omega arith)) (omega arith) (omega arith)) (λ l3.
-    ⊎_elim (λ h. char_of_three_bytes_begins_piece c rest continuation l2 (omega arith)
+    (λ l1. ⊎_elim (λ h. char_of_two_bytes_begins_piece c rest l1 h)
+    (λ l2. ⊎_elim (λ h. char_of_three_bytes_begins_piece c rest (0xA0, 0xBF)
+    l2 (omega arith) (following_ranges_of_e0 _ (omega arith)) (omega arith) (omega arith))
+    (λ l3. ⊎_elim (λ h. char_of_three_bytes_begins_piece c rest continuation l2 (omega arith)
     (following_ranges_of_e1_to_ec _ (omega arith) (omega arith)) (omega arith) (omega arith))
     (λ l4. char_of_three_bytes_begins_piece c rest (0x80, 0x9F) l2 (omega arith)
-    (following_ranges_of_ed _ (omega arith)) (omega arith) (omega arith))
-    (cases_lt c 0xD000)) (cases_lt c 0x1000)) (cases_lt c 0x800)) (cases_lt c 0x80)
+    (following_ranges_of_ed _ (omega arith)) (omega arith) (omega arith)) (cases_lt c 0xD000))
+    (cases_lt c 0x1000)) (cases_lt c 0x800)) (cases_lt c 0x80)
 
 -- UTF-8: a character above the surrogates is a piece
 char_above_surrogates_begins_piece : (c : ℕ) (rest : List ℕ) → 0xE000 ≤ c → c < 0x110000
@@ -98,8 +87,7 @@ char_above_surrogates_begins_piece c rest low high = ⊎_elim
 -- UTF-8: the bytes of a character before any others are a well-formed piece
 pub first_char_is_first_piece : (c : ℕ) (rest : List ℕ) → IsScalar c
     → utf8_pieces (encode_utf8 c ++ rest) ≡ WellFormed (encode_utf8 c) ∷ utf8_pieces rest
-first_char_is_first_piece c rest scalar =
-    ⊎_elim (λ h. char_below_surrogates_begins_piece c rest h)
+first_char_is_first_piece c rest scalar = ⊎_elim (λ h. char_below_surrogates_begins_piece c rest h)
     (λ h. char_above_surrogates_begins_piece c rest h.0 h.1) (scalar_cases c scalar)
 
 -- UTF-8: a character begins with a byte that continues none
@@ -111,24 +99,20 @@ byte_below_80_or_from_c0_is_no_continuation b h = ⊎_elim (λ low. and_left _ _
 -- UTF-8: the bytes of a character do not begin with one that continues a character
 char_begins_with_no_continuation : (c : ℕ) (rest : List ℕ)
     → begins_with_continuation (encode_utf8 c ++ rest) ≡ false
-char_begins_with_no_continuation c rest = ⊎_elim
-    (λ h. rw (encode_ascii c h) (byte_below_80_or_from_c0_is_no_continuation c (inl h)))
-    (λ l1.
-    ⊎_elim (λ h. rw (utf8_of_char_of_two_bytes c l1 h)
-    (byte_below_80_or_from_c0_is_no_continuation (192 + c / 64) (inr (omega arith)))) (λ l2.
-    ⊎_elim (λ h. rw (utf8_of_char_of_three_bytes c l2 h)
+char_begins_with_no_continuation c rest =
+    ⊎_elim (λ h. rw (encode_ascii c h) (byte_below_80_or_from_c0_is_no_continuation c (inl h)))
+    (λ l1. ⊎_elim (λ h. rw (utf8_of_char_of_two_bytes c l1 h)
+    (byte_below_80_or_from_c0_is_no_continuation (192 + c / 64) (inr (omega arith))))
+    (λ l2. ⊎_elim (λ h. rw (utf8_of_char_of_three_bytes c l2 h)
     (byte_below_80_or_from_c0_is_no_continuation (224 + c / 4096) (inr (omega arith))))
-    (λ l3. rw (utf8_of_char_of_four_bytes c l3)
-    (byte_below_80_or_from_c0_is_no_continuation (240 + c / 262144) (inr (omega arith))))
-    (cases_lt c 0x10000)) (cases_lt c 0x800)) (cases_lt c 0x80)
+    (λ l3. rw (utf8_of_char_of_four_bytes c l3) (byte_below_80_or_from_c0_is_no_continuation (240
+    + c / 262144) (inr (omega arith)))) (cases_lt c 0x10000)) (cases_lt c 0x800)) (cases_lt c 0x80)
 
 -- UTF-8: a character separates the pieces before it from those after it
-pub char_separates_utf8_pieces : (xs : List ℕ) (c : ℕ) (ys : List ℕ) → IsScalar c
-    → utf8_pieces (xs ++ (encode_utf8 c ++ ys))
-    ≡ utf8_pieces xs ++ WellFormed (encode_utf8 c) ∷ utf8_pieces ys
-char_separates_utf8_pieces xs c ys scalar =
-    utf8_pieces_are_cut_at_non_continuation xs (encode_utf8 c ++ ys)
-    (char_begins_with_no_continuation c ys)
+pub char_separates_utf8_pieces : (xs : List ℕ) (c : ℕ) (ys : List ℕ) → IsScalar c → utf8_pieces (xs
+    ++ (encode_utf8 c ++ ys)) ≡ utf8_pieces xs ++ WellFormed (encode_utf8 c) ∷ utf8_pieces ys
+char_separates_utf8_pieces xs c ys scalar = utf8_pieces_are_cut_at_non_continuation xs
+    (encode_utf8 c ++ ys) (char_begins_with_no_continuation c ys)
     ∙ ap (λ ps. utf8_pieces xs ++ ps) (first_char_is_first_piece c ys scalar)
 
 -- UTF-8: what holds of each row of the table of first bytes holds of the row of a first byte
@@ -137,9 +121,8 @@ found_row_has_property_of_all_rows : (b : ℕ) (P : Option (List ByteRange) → 
     → AllByRecursion (λ (row : Row). is_in_byte_range row.0 b ≡ true → P (Some row.1)) rows
     → P (option_map (λ (row : Row). row.1) (find (λ (row : Row). is_in_byte_range row.0 b) rows))
 found_row_has_property_of_all_rows b P [] none all = none
-found_row_has_property_of_all_rows b P (row ∷ rows) none all =
-    ⊎_elim (λ e. rw e (all.0 e))
-    (λ e. rw e (found_row_has_property_of_all_rows b P rows none all.1))
+found_row_has_property_of_all_rows b P (row ∷ rows) none all = ⊎_elim
+    (λ e. rw e (all.0 e)) (λ e. rw e (found_row_has_property_of_all_rows b P rows none all.1))
     (cases_Bool (is_in_byte_range row.0 b))
 
 -- UTF-8: the bytes are those of a character
@@ -148,9 +131,8 @@ AreUtf8OfCharacter bytes = (c : ℕ) × IsScalar c × (encode_utf8 c ≡ bytes)
 
 -- UTF-8: if bytes fit all ranges, the first byte is in the first range and the others fit the rest
 first_byte_fits_first_range : (range : ByteRange) (ranges : List ByteRange) (text : List ℕ)
-    → len_in_ranges (range ∷ ranges) text ≡ suc (length ranges)
-    → (b : ℕ) × (rest : List ℕ) × (text ≡ b ∷ rest) × (range.0 ≤ b) × (b ≤ range.1)
-    × (len_in_ranges ranges rest ≡ length ranges)
+    → len_in_ranges (range ∷ ranges) text ≡ suc (length ranges) → (b : ℕ) × (rest : List ℕ) × (text
+    ≡ b ∷ rest) × (range.0 ≤ b) × (b ≤ range.1) × (len_in_ranges ranges rest ≡ length ranges)
 first_byte_fits_first_range range ranges [] e = absurd (omega arith)
 first_byte_fits_first_range range ranges (b ∷ rest) e = ⊎_elim
     (λ t. let p = and_parts (leb range.0 b) (leb b range.1) t in
@@ -175,9 +157,8 @@ well_formed_piece_fits_all_ranges : (b : ℕ) (ranges : List ByteRange) (rest by
     → first_piece (Some ranges) b rest ≡ WellFormed bytes
     → (len_in_ranges ranges rest ≡ length ranges) × (bytes ≡ b ∷ take (length ranges) rest)
 well_formed_piece_fits_all_ranges b ranges rest bytes e = ⊎_elim
-    (grind (arith, nat_tests))
-    (λ f. let g : IllFormed (b ∷ take (len_in_ranges ranges rest) rest) ≡ WellFormed bytes =
-    sym (cond-false _ _ _ f) ∙ e in cc)
+    (grind (arith, nat_tests)) (λ f. let g : IllFormed (b ∷ take (len_in_ranges ranges rest) rest)
+    ≡ WellFormed bytes = sym (cond-false _ _ _ f) ∙ e in cc)
     (cases_Bool (eqb (len_in_ranges ranges rest) (length ranges)))
 
 -- UTF-8: pieces of one byte are characters
@@ -186,8 +167,7 @@ pieces_of_one_byte_are_characters b high rest bytes e =
     let ascii : b < 0x80 = omega arith in (
       b,
       low_scalar b (omega arith),
-      encode_ascii b ascii
-          ∙ sym (well_formed_piece_fits_all_ranges b [] rest bytes e).1,
+      encode_ascii b ascii ∙ sym (well_formed_piece_fits_all_ranges b [] rest bytes e).1,
     )
 
 -- UTF-8: a number from U+E000 to U+10FFFF is a scalar value
@@ -207,10 +187,9 @@ three_bytes_are_utf8_of_their_value b t u c e l h l1 h1 l2 h2 =
     grind (arith, nat_tests, utf8_of_char_of_three_bytes)
 
 -- UTF-8: four bytes b, t, u, v are the character of their value c
-four_bytes_are_utf8_of_their_value : (b t u v c : ℕ) → c + 63447168
-    ≡ ((b * 64 + t) * 64 + u) * 64 + v → 0x10000 ≤ c
-    → 0x80 ≤ t → t ≤ 0xBF → 0x80 ≤ u → u ≤ 0xBF → 0x80 ≤ v → v ≤ 0xBF
-    → encode_utf8 c ≡ b ∷ t ∷ u ∷ v ∷ []
+four_bytes_are_utf8_of_their_value : (b t u v c : ℕ)
+    → c + 63447168 ≡ ((b * 64 + t) * 64 + u) * 64 + v → 0x10000 ≤ c → 0x80 ≤ t
+    → t ≤ 0xBF → 0x80 ≤ u → u ≤ 0xBF → 0x80 ≤ v → v ≤ 0xBF → encode_utf8 c ≡ b ∷ t ∷ u ∷ v ∷ []
 four_bytes_are_utf8_of_their_value b t u v c e l l1 h1 l2 h2 l3 h3 =
     grind (arith, nat_tests, utf8_of_char_of_four_bytes)
 
@@ -224,8 +203,7 @@ pieces_of_two_bytes_are_characters b low high rest bytes e =
     let whole : bytes ≡ b ∷ f.0 ∷ [] = p.1 ∙ ap (λ x. b ∷ take 1 x) f.2 in (
       c,
       low_scalar c (omega arith),
-      two_bytes_are_utf8_of_their_value b f.0 c (omega arith) low high f.3 f.4
-          ∙ sym whole,
+      two_bytes_are_utf8_of_their_value b f.0 c (omega arith) low high f.3 f.4 ∙ sym whole,
     )
 
 -- UTF-8: pieces of three bytes are characters, if the range of the second allows no other number
@@ -244,16 +222,14 @@ pieces_of_three_bytes_are_characters b second low least most fair rest bytes e =
     ∙ ap (λ x. b ∷ f.0 ∷ take 1 x) g.2 in (
       c,
       h.2,
-      three_bytes_are_utf8_of_their_value b f.0 g.0 c joined h.0 h.1 (omega arith)
-          (omega arith) g.3 g.4
-          ∙ sym whole,
+      three_bytes_are_utf8_of_their_value
+          b f.0 g.0 c joined h.0 h.1 (omega arith) (omega arith) g.3 g.4 ∙ sym whole,
     )
 
 -- UTF-8: pieces of four bytes are characters, if the range of the second allows no other number
 pieces_of_four_bytes_are_characters : (b : ℕ) (second : ByteRange) → 0xF0 ≤ b → 0x80 ≤ second.0
-    → second.1 ≤ 0xBF
-    → ((c t : ℕ) → second.0 ≤ t → t ≤ second.1 → (b * 64 + t) * 4096 ≤ c + 63438848
-    → c + 63438848 < (b * 64 + t) * 4096 + 4096 → (0x10000 ≤ c) × (c < 0x110000))
+    → second.1 ≤ 0xBF → ((c t : ℕ) → second.0 ≤ t → t ≤ second.1 → (b * 64 + t) * 4096
+    ≤ c + 63438848 → c + 63438848 < (b * 64 + t) * 4096 + 4096 → (0x10000 ≤ c) × (c < 0x110000))
     → FormsCharacters b (Some (second ∷ continuation ∷ continuation ∷ []))
 pieces_of_four_bytes_are_characters b second low least most fair rest bytes e =
     let p = well_formed_piece_fits_all_ranges b (second ∷ continuation ∷ continuation ∷ [])
@@ -292,18 +268,15 @@ well_formed_pieces_are_characters b = found_row_has_property_of_all_rows b
                 (λ c t k1 k2 k3 k4. (omega arith, omega arith, low_scalar c (omega arith))),
             (
               λ e. let h = byte_within_bounds b 0xED 0xED e in
-                  pieces_of_three_bytes_are_characters b (0x80, 0x9F) (omega arith)
-                  (lit≤ tt) (lit≤ tt)
-                  (λ c t k1 k2 k3 k4. (omega arith, omega arith, low_scalar c (omega arith))),
+                  pieces_of_three_bytes_are_characters b (0x80, 0x9F) (omega arith) (lit≤ tt) (lit≤
+                  tt) (λ c t k1 k2 k3 k4. (omega arith, omega arith, low_scalar c (omega arith))),
               (
                 λ e. let h = byte_within_bounds b 0xEE 0xEF e in
-                    pieces_of_three_bytes_are_characters b continuation (omega arith)
-                    (lit≤ tt) (lit≤ tt)
-                    (λ c t k1 k2 k3 k4. (
+                    pieces_of_three_bytes_are_characters b continuation
+                    (omega arith) (lit≤ tt) (lit≤ tt) (λ c t k1 k2 k3 k4. (
                       omega arith,
                       omega arith,
-                      char_above_surrogates_is_scalar c (omega arith)
-                          (omega arith),
+                      char_above_surrogates_is_scalar c (omega arith) (omega arith),
                     )),
                 (
                   λ e. let h = byte_within_bounds b 0xF0 0xF0 e in
@@ -312,13 +285,11 @@ well_formed_pieces_are_characters b = found_row_has_property_of_all_rows b
                   (
                     λ e. let h = byte_within_bounds b 0xF1 0xF3 e in
                         pieces_of_four_bytes_are_characters b continuation (omega arith)
-                        (lit≤ tt) (lit≤ tt)
-                        (λ c t k1 k2 k3 k4. (omega arith, omega arith)),
+                        (lit≤ tt) (lit≤ tt) (λ c t k1 k2 k3 k4. (omega arith, omega arith)),
                     (
                       λ e. let h = byte_within_bounds b 0xF4 0xF4 e in
                           pieces_of_four_bytes_are_characters b (0x80, 0x8F) (omega arith)
-                          (lit≤ tt) (lit≤ tt)
-                          (λ c t k1 k2 k3 k4. (omega arith, omega arith)),
+                          (lit≤ tt) (lit≤ tt) (λ c t k1 k2 k3 k4. (omega arith, omega arith)),
                       tt,
                     ),
                   ),

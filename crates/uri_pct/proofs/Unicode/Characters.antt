@@ -1,12 +1,5 @@
 -- The bytes of one character in UTF-8.
-use Rattle.std.proofs.Common.{◌≡◌, ℕ, ◌+◌, ◌/◌, ◌%◌, ◌<◌, ◌≤◌, Bool, true, List, [], ◌∷◌, ◌++◌, length, get_or, refl, sym, ap, ◌∙◌, arith, ◌&&◌, ⊎_elim, slice_index, nat_le}
-use Rattle.std.specs.List.{list_all}
-use Rattle.std.specs.Char.{is_ascii_hexdigit, encode_utf8}
-use Rattle.std.specs.Str.{encode_utf8_all, all_scalars, continuation_len}
-use Rattle.std.proofs.lemmas.Str.{chars-encodes, encode_ascii}
-use Rattle.std.proofs.lemmas.Bool.{cases_lt, cond-true, cond-false, and_left, and_from, lt-ltb, le-ltb}
-use Rattle.std.proofs.lemmas.Bool.Decides.{nat_tests}
-use Rattle.uri_pct.specs.Prefixes.{begins_with_hex_digits, first_char}
+use Rattle.uri_pct.proofs.Common.{◌≡◌, ℕ, ◌+◌, ◌/◌, ◌%◌, ◌<◌, ◌≤◌, Bool, true, List, [], ◌∷◌, ◌++◌, length, get_or, refl, sym, ap, ◌∙◌, arith, ◌&&◌, ⊎_elim, slice_index, nat_le, list_all, is_ascii_hexdigit, encode_utf8, encode_utf8_all, all_scalars, continuation_len, chars-encodes, encode_ascii, cases_lt, cond-true, cond-false, and_left, and_from, lt-ltb, le-ltb, nat_tests, begins_with_hex_digits, first_char}
 use Rattle.uri_pct.proofs.TableSets.Constants.{past_ascii_is_no_hexdigit}
 
 -- UTF-8: the byte is not ASCII
@@ -50,54 +43,35 @@ two_bytes_from_128_are_no_ascii x y = and_from _ _ (byte_from_128_is_no_ascii x)
 -- UTF-8: the bytes of a character are those of the one of its four forms that it is in
 pub char_has_encoding : (c : ℕ) → HasEncoding c
 unfolding encode_utf8
-char_has_encoding c = ⊎_elim
-    (λ h. let e = lt-ltb c 128 h in
+char_has_encoding c = ⊎_elim (λ h. let e = lt-ltb c 128 h in
     record {
       first = c;
       more = [];
       joined = encode_ascii c h;
       len = cond-true _ _ _ e;
-      high =
-          refl;
-    })
-    (λ h. let e = le-ltb c 128 h in ⊎_elim
-    (λ k. record {
+      high = refl;
+    }) (λ h. let e = le-ltb c 128 h in ⊎_elim (λ k. record {
       first = 192 + c / 64;
       more = (128 + c % 64) ∷ [];
-      joined = cond-false _ _ _ e
-          ∙ cond-true _ _ _ (lt-ltb c 2048 k);
-      len =
-          lead_from_192_has_one_continuation (192 + c / 64) (omega arith) (omega arith);
+      joined = cond-false _ _ _ e ∙ cond-true _ _ _ (lt-ltb c 2048 k);
+      len = lead_from_192_has_one_continuation (192 + c / 64) (omega arith) (omega arith);
       high = one_byte_from_128_is_no_ascii _;
-    })
-    (λ k. ⊎_elim
-    (λ m. record {
+    }) (λ k. ⊎_elim (λ m. record {
       first = 224 + c / 4096;
       more = (128 + c / 64 % 64) ∷ (128 + c % 64) ∷ [];
-      joined =
-          cond-false _ _ _ e ∙ cond-false _ _ _ (le-ltb c 2048 k)
-          ∙ cond-true _ _ _ (lt-ltb c 65536 m);
-      len =
-          lead_from_224_has_two_continuations (224 + c / 4096) (omega arith) (omega arith);
-      high =
-          two_bytes_from_128_are_no_ascii (c / 64 % 64) (c % 64);
-    })
-    (λ m. record {
+      joined = cond-false _ _ _ e
+          ∙ cond-false _ _ _ (le-ltb c 2048 k) ∙ cond-true _ _ _ (lt-ltb c 65536 m);
+      len = lead_from_224_has_two_continuations (224 + c / 4096) (omega arith) (omega arith);
+      high = two_bytes_from_128_are_no_ascii (c / 64 % 64) (c % 64);
+    }) (λ m. record {
       first = 240 + c / 262144;
-      more =
-          (128 + c / 4096 % 64) ∷ (128 + c / 64 % 64) ∷ (128 + c % 64) ∷ [];
-      joined =
-          cond-false _ _ _ e ∙ cond-false _ _ _ (le-ltb c 2048 k)
-          ∙ cond-false _ _ _ (le-ltb c 65536 m);
-      len =
-          lead_from_240_has_three_continuations (240 + c / 262144) (omega arith);
-      high =
-          and_from _ _ (byte_from_128_is_no_ascii (c / 4096 % 64))
+      more = (128 + c / 4096 % 64) ∷ (128 + c / 64 % 64) ∷ (128 + c % 64) ∷ [];
+      joined = cond-false _ _ _ e
+          ∙ cond-false _ _ _ (le-ltb c 2048 k) ∙ cond-false _ _ _ (le-ltb c 65536 m);
+      len = lead_from_240_has_three_continuations (240 + c / 262144) (omega arith);
+      high = and_from _ _ (byte_from_128_is_no_ascii (c / 4096 % 64))
           (two_bytes_from_128_are_no_ascii (c / 64 % 64) (c % 64));
-    })
-    (cases_lt c 65536))
-    (cases_lt c 2048))
-    (cases_lt c 128)
+    }) (cases_lt c 65536)) (cases_lt c 2048)) (cases_lt c 128)
 
 -- UTF-8: the first byte of a character past ASCII is past ASCII
 pub char_past_ascii_begins_past_ascii : (c : ℕ) (rest : List ℕ) → 128 ≤ c
@@ -121,17 +95,14 @@ first_byte_is_hexdigit_iff_first_char_is : (cs : List ℕ)
 first_byte_is_hexdigit_iff_first_char_is [] = refl
 first_byte_is_hexdigit_iff_first_char_is (c ∷ cs) = ⊎_elim (λ h. rw (encode_ascii c h) refl)
     (λ h. past_ascii_is_no_hexdigit _ (char_past_ascii_begins_past_ascii c (encode_utf8_all cs) h)
-    ∙ sym (past_ascii_is_no_hexdigit c h))
-    (cases_lt c 128)
+    ∙ sym (past_ascii_is_no_hexdigit c h)) (cases_lt c 128)
 
 -- UTF-8: characters begin with two hexadecimal digits exactly if their bytes do
 pub encoded_chars_begin_with_same_hex_digits : (cs : List ℕ)
     → begins_with_hex_digits (encode_utf8_all cs) ≡ begins_with_hex_digits cs
 unfolding begins_with_hex_digits
 encoded_chars_begin_with_same_hex_digits [] = refl
-encoded_chars_begin_with_same_hex_digits (c ∷ cs) = ⊎_elim
-    (λ h. rw (encode_ascii c h)
+encoded_chars_begin_with_same_hex_digits (c ∷ cs) = ⊎_elim (λ h. rw (encode_ascii c h)
     (ap (λ b. is_ascii_hexdigit c && b) (first_byte_is_hexdigit_iff_first_char_is cs)))
-    (λ h. and_left _ _ (past_ascii_is_no_hexdigit _
-    (char_past_ascii_begins_past_ascii c (encode_utf8_all cs) h))
-    ∙ sym (and_left _ _ (past_ascii_is_no_hexdigit c h))) (cases_lt c 128)
+    (λ h. and_left _ _ (past_ascii_is_no_hexdigit _ (char_past_ascii_begins_past_ascii c
+    (encode_utf8_all cs) h)) ∙ sym (and_left _ _ (past_ascii_is_no_hexdigit c h))) (cases_lt c 128)

@@ -1,8 +1,5 @@
 -- Which bytes may follow a first byte, row by row: Unicode, table 3-7.
-use Rattle.std.proofs.Common.{◌≡◌, ℕ, suc, ◌<◌, ◌≤◌, true, List, [], ◌∷◌, ◌++◌, length, refl, ap, ◌∙◌, arith, Some, take_at, drop_at}
-use Rattle.std.proofs.lemmas.Bool.{cond-true, le-leb, and_from}
-use Rattle.std.proofs.lemmas.Bool.Decides.{nat_tests}
-use Rattle.uri_pct.specs.Pieces.{WellFormed, ByteRange, is_in_byte_range, continuation, following_ranges, len_in_ranges, pieces_from, utf8_pieces}
+use Rattle.uri_pct.proofs.Common.{◌≡◌, ℕ, suc, ◌<◌, ◌≤◌, true, List, [], ◌∷◌, ◌++◌, length, refl, ap, ◌∙◌, arith, Some, take_at, drop_at, cond-true, le-leb, and_from, nat_tests, WellFormed, ByteRange, is_in_byte_range, continuation, following_ranges, len_in_ranges, pieces_from, utf8_pieces}
 use Rattle.uri_pct.proofs.Unicode.Pieces.{pieces_from_are_pieces_after_skipped_bytes}
 
 -- UTF-8: the bytes fit a row of the table, whatever follows them
@@ -38,20 +35,18 @@ fitting_bytes_reach_all_ranges (range ∷ ranges) (b ∷ tail) rest fits =
 
 -- UTF-8: a first byte and the bytes that fit its row are the first piece, a well-formed one
 pub fitting_bytes_are_well_formed_first_piece : (b : ℕ) (ranges : List ByteRange)
-    (tail rest : List ℕ)
-    → following_ranges b ≡ Some ranges → FitRanges ranges tail → utf8_pieces ((b ∷ tail) ++ rest)
-    ≡ WellFormed (b ∷ tail) ∷ utf8_pieces rest
+    (tail rest : List ℕ) → following_ranges b ≡ Some ranges → FitRanges ranges tail
+    → utf8_pieces ((b ∷ tail) ++ rest) ≡ WellFormed (b ∷ tail) ∷ utf8_pieces rest
 unfolding pieces_from
-fitting_bytes_are_well_formed_first_piece b ranges tail rest row fits =
-    grind (
-      arith,
-      nat_tests,
-      fitting_bytes_are_as_many_as_ranges,
-      fitting_bytes_reach_all_ranges,
-      take_at,
-      pieces_from_are_pieces_after_skipped_bytes,
-      drop_at,
-    )
+fitting_bytes_are_well_formed_first_piece b ranges tail rest row fits = grind (
+  arith,
+  nat_tests,
+  fitting_bytes_are_as_many_as_ranges,
+  fitting_bytes_reach_all_ranges,
+  take_at,
+  pieces_from_are_pieces_after_skipped_bytes,
+  drop_at,
+)
 
 -- UTF-8: an ASCII byte is a character, and no byte follows it
 pub no_range_follows_ascii_byte : (b : ℕ) → b < 0x80 → following_ranges b ≡ Some []

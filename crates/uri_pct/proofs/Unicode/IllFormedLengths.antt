@@ -1,9 +1,5 @@
 -- The length of an ill-formed piece is the number of its bytes that fit a row, as that of std.
-use Rattle.std.proofs.Common.{◌≡◌, ℕ, suc, ◌<◌, ◌≤◌, ◌⊎◌, List, [], ◌∷◌, ◌++◌, length, refl, sym, ap, ◌∙◌, arith, ⊎_elim, Option, Some, None, subst, inl, inr, unwrap_or}
-use Rattle.std.specs.Str.Lossy.{utf8_invalid_len, utf8_error_len, error_len_after_one, second_byte_min, second_byte_max}
-use Rattle.std.proofs.lemmas.Bool.{cases_Bool, cond-true, cases_lt}
-use Rattle.std.proofs.lemmas.Bool.Decides.{nat_tests}
-use Rattle.uri_pct.specs.Pieces.{IllFormed, ByteRange, is_in_byte_range, continuation, following_ranges, len_in_ranges, first_piece_tail_len, first_piece}
+use Rattle.uri_pct.proofs.Common.{◌≡◌, ℕ, suc, ◌<◌, ◌≤◌, ◌⊎◌, List, [], ◌∷◌, ◌++◌, length, refl, sym, ap, ◌∙◌, arith, ⊎_elim, Option, Some, None, subst, inl, inr, unwrap_or, utf8_invalid_len, utf8_error_len, error_len_after_one, second_byte_min, second_byte_max, cases_Bool, cond-true, cases_lt, nat_tests, IllFormed, ByteRange, is_in_byte_range, continuation, following_ranges, len_in_ranges, first_piece_tail_len, first_piece}
 use Rattle.uri_pct.proofs.Unicode.FirstBytes.{no_range_follows_ascii_byte, following_ranges_of_c2_to_df, following_ranges_of_e0, following_ranges_of_e1_to_ec, following_ranges_of_ed, following_ranges_of_ee_to_ef, following_ranges_of_f0, following_ranges_of_f1_to_f3, following_ranges_of_f4}
 
 -- ill-formed UTF-8: std takes one byte for ill-formed, if it begins no character
@@ -52,9 +48,8 @@ longer_row_fits_no_more_bytes (range ∷ ranges) more (b ∷ rest) h = ⊎_elim
     (λ e. rw e refl) (cases_Bool (is_in_byte_range range b))
 
 -- UTF-8: as many bytes fit ranges without the last, if that was not used
-row_without_unused_last_range_fits_as_many : (ranges : List ByteRange) (last : ByteRange)
-    (text : List ℕ)
-    → len_in_ranges (ranges ++ last ∷ []) text ≤ length ranges
+row_without_unused_last_range_fits_as_many : (ranges : List ByteRange)
+    (last : ByteRange) (text : List ℕ) → len_in_ranges (ranges ++ last ∷ []) text ≤ length ranges
     → len_in_ranges (ranges ++ last ∷ []) text ≡ len_in_ranges ranges text
 row_without_unused_last_range_fits_as_many [] last text h = omega arith
 row_without_unused_last_range_fits_as_many (range ∷ ranges) last [] h = refl
@@ -133,17 +128,15 @@ no_row_past_f4 b low = grind (arith, nat_tests)
 
 -- ill-formed UTF-8: an ill-formed piece is as long as for std, if its first byte is below E1
 ill_formed_len_is_std_len_below_e1 : (b : ℕ) → b < 0xE1 → HasStdInvalidLen b (following_ranges b)
-ill_formed_len_is_std_len_below_e1 b high = ⊎_elim
-    (λ h. subst (HasStdInvalidLen b) (sym (no_range_follows_ascii_byte b h))
-    (ill_formed_len_is_std_len_of_one_byte_row b)) (λ l1.
-    ⊎_elim (λ h. subst (HasStdInvalidLen b) (sym (no_row_from_80_to_c1 b l1 h))
-    (ill_formed_len_is_std_len_without_row b (inl h))) (λ l2.
-    ⊎_elim (λ h. subst (HasStdInvalidLen b) (sym (following_ranges_of_c2_to_df b l2 (omega arith)))
+ill_formed_len_is_std_len_below_e1 b high = ⊎_elim (λ h. subst (HasStdInvalidLen b)
+    (sym (no_range_follows_ascii_byte b h)) (ill_formed_len_is_std_len_of_one_byte_row b))
+    (λ l1. ⊎_elim (λ h. subst (HasStdInvalidLen b) (sym (no_row_from_80_to_c1 b l1 h))
+    (ill_formed_len_is_std_len_without_row b (inl h))) (λ l2. ⊎_elim
+    (λ h. subst (HasStdInvalidLen b) (sym (following_ranges_of_c2_to_df b l2 (omega arith)))
     (ill_formed_len_is_std_len_of_two_byte_row b continuation l2 (omega arith)
-    (grind (arith, nat_tests)) (grind (arith, nat_tests))))
-    (λ l3. subst (HasStdInvalidLen b) (sym (following_ranges_of_e0 b (omega arith)))
-    (ill_formed_len_is_std_len_of_three_byte_row b (0xA0, 0xBF) l2 (omega arith)
-    (grind (arith, nat_tests)) (grind (arith, nat_tests))))
+    (grind (arith, nat_tests)) (grind (arith, nat_tests)))) (λ l3. subst (HasStdInvalidLen b)
+    (sym (following_ranges_of_e0 b (omega arith))) (ill_formed_len_is_std_len_of_three_byte_row
+    b (0xA0, 0xBF) l2 (omega arith) (grind (arith, nat_tests)) (grind (arith, nat_tests))))
     (cases_lt b 0xE0)) (cases_lt b 0xC2)) (cases_lt b 0x80)
 
 -- ill-formed UTF-8: an ill-formed piece is as long as for std, if its first byte is E1 to EF
@@ -151,31 +144,28 @@ ill_formed_len_is_std_len_from_e1_to_ef : (b : ℕ) → 0xE1 ≤ b → b < 0xF0
     → HasStdInvalidLen b (following_ranges b)
 ill_formed_len_is_std_len_from_e1_to_ef b low high =
     ⊎_elim (λ h. subst (HasStdInvalidLen b) (sym (following_ranges_of_e1_to_ec b low (omega arith)))
-    (ill_formed_len_is_std_len_of_three_byte_row b continuation (omega arith) (omega arith)
-    (grind (arith, nat_tests)) (grind (arith, nat_tests)))) (λ l1.
-    ⊎_elim (λ h. subst (HasStdInvalidLen b) (sym (following_ranges_of_ed b (omega arith)))
-    (ill_formed_len_is_std_len_of_three_byte_row b (0x80, 0x9F) (omega arith) (omega arith)
-    (grind (arith, nat_tests)) (grind (arith, nat_tests))))
+    (ill_formed_len_is_std_len_of_three_byte_row b continuation
+    (omega arith) (omega arith) (grind (arith, nat_tests)) (grind (arith, nat_tests))))
+    (λ l1. ⊎_elim (λ h. subst (HasStdInvalidLen b)
+    (sym (following_ranges_of_ed b (omega arith))) (ill_formed_len_is_std_len_of_three_byte_row b
+    (0x80, 0x9F) (omega arith) (omega arith) (grind (arith, nat_tests)) (grind (arith, nat_tests))))
     (λ l2. subst (HasStdInvalidLen b) (sym (following_ranges_of_ee_to_ef b l2 (omega arith)))
     (ill_formed_len_is_std_len_of_three_byte_row b continuation (omega arith) (omega arith)
-    (grind (arith, nat_tests)) (grind (arith, nat_tests))))
-    (cases_lt b 0xEE)) (cases_lt b 0xED)
+    (grind (arith, nat_tests)) (grind (arith, nat_tests)))) (cases_lt b 0xEE)) (cases_lt b 0xED)
 
 -- ill-formed UTF-8: an ill-formed piece is as long as for std, if its first byte is F0 or greater
 ill_formed_len_is_std_len_from_f0 : (b : ℕ) → 0xF0 ≤ b → HasStdInvalidLen b (following_ranges b)
-ill_formed_len_is_std_len_from_f0 b low =
-    ⊎_elim (λ h. subst (HasStdInvalidLen b) (sym (following_ranges_of_f0 b (omega arith)))
-    (ill_formed_len_is_std_len_of_four_byte_row b (0x90, 0xBF) (omega arith) (omega arith)
-    (grind (arith, nat_tests)) (grind (arith, nat_tests)))) (λ l1.
-    ⊎_elim (λ h. subst (HasStdInvalidLen b) (sym (following_ranges_of_f1_to_f3 b l1 (omega arith)))
-    (ill_formed_len_is_std_len_of_four_byte_row b continuation (omega arith) (omega arith)
-    (grind (arith, nat_tests)) (grind (arith, nat_tests)))) (λ l2.
-    ⊎_elim (λ h. subst (HasStdInvalidLen b) (sym (following_ranges_of_f4 b (omega arith)))
+ill_formed_len_is_std_len_from_f0 b low = ⊎_elim (λ h. subst (HasStdInvalidLen b)
+    (sym (following_ranges_of_f0 b (omega arith))) (ill_formed_len_is_std_len_of_four_byte_row b
+    (0x90, 0xBF) (omega arith) (omega arith) (grind (arith, nat_tests)) (grind (arith, nat_tests))))
+    (λ l1. ⊎_elim (λ h. subst (HasStdInvalidLen b) (sym (following_ranges_of_f1_to_f3 b l1
+    (omega arith))) (ill_formed_len_is_std_len_of_four_byte_row b continuation
+    (omega arith) (omega arith) (grind (arith, nat_tests)) (grind (arith, nat_tests))))
+    (λ l2. ⊎_elim (λ h. subst (HasStdInvalidLen b) (sym (following_ranges_of_f4 b (omega arith)))
     (ill_formed_len_is_std_len_of_four_byte_row b (0x80, 0x8F) (omega arith) (omega arith)
-    (grind (arith, nat_tests)) (grind (arith, nat_tests))))
-    (λ l3. subst (HasStdInvalidLen b) (sym (no_row_past_f4 b (omega arith)))
-    (ill_formed_len_is_std_len_without_row b (inr (omega arith))))
-    (cases_lt b 0xF5)) (cases_lt b 0xF4)) (cases_lt b 0xF1)
+    (grind (arith, nat_tests)) (grind (arith, nat_tests)))) (λ l3. subst (HasStdInvalidLen b)
+    (sym (no_row_past_f4 b (omega arith))) (ill_formed_len_is_std_len_without_row b
+    (inr (omega arith)))) (cases_lt b 0xF5)) (cases_lt b 0xF4)) (cases_lt b 0xF1)
 
 -- ill-formed UTF-8: an ill-formed piece is as long as the part that std replaces
 pub ill_formed_len_is_std_len : (b : ℕ) → HasStdInvalidLen b (following_ranges b)

@@ -1,17 +1,8 @@
 -- Bytes are UTF-8 if each piece is well-formed, and the lossy text is that of std.
-use Rattle.std.proofs.Common.{◌≡◌, ℕ, zero, suc, ◌+◌, ◌-◌, ◌<◌, ◌≤◌, ◌↔◌, true, List, [], ◌∷◌, ◌++◌, length, take, drop, map, refl, sym, ap, ◌∙◌, arith, ⊎_elim, append_assoc, subst, encode_utf8, append-nil, take-append-drop, length-drop, take_all, drop-drop}
-use Rattle.std.specs.List.{list_all, flat_map, All}
-use Rattle.std.specs.Str.{IsUtf8, is_utf8, all_scalars, encode_utf8_all}
-use Rattle.std.specs.Str.Lossy.{valid_len_up_to, utf8_valid_len, utf8_lossy, replacement_bytes, utf8_invalid_len, after_first_chunk}
-use Rattle.std.proofs.lemmas.List.Concat.{flat_map-append}
-use Rattle.std.proofs.lemmas.List.Elements.{All-head, All-tail}
-use Rattle.std.proofs.lemmas.Str.{IsUtf8-append, IsUtf8-nil, IsUtf8-encode, IsUtf8-from_is_utf8, is_utf8-from_IsUtf8, utf8_valid_len_le, utf8_lossy_step, utf8_lossy-IsUtf8}
-use Rattle.std.proofs.lemmas.Bool.{cases_Bool, cond-true, cond-false, and_parts, cases_eq, both_ways}
-use Rattle.uri_pct.specs.Pieces.{Piece, WellFormed, IllFormed, IsOfCharacter, is_well_formed, piece_bytes, bytes_of_pieces, char_of, following_ranges, first_piece_tail_len, first_piece, pieces_from, utf8_pieces, lossy_piece, lossy_text}
+use Rattle.uri_pct.proofs.Common.{◌≡◌, ℕ, zero, suc, ◌+◌, ◌-◌, ◌<◌, ◌≤◌, ◌↔◌, true, List, [], ◌∷◌, ◌++◌, length, take, drop, map, refl, sym, ap, ◌∙◌, arith, ⊎_elim, append_assoc, subst, encode_utf8, append-nil, take-append-drop, length-drop, take_all, drop-drop, list_all, flat_map, All, IsUtf8, is_utf8, all_scalars, encode_utf8_all, valid_len_up_to, utf8_valid_len, utf8_lossy, replacement_bytes, utf8_invalid_len, after_first_chunk, flat_map-append, All-head, All-tail, IsUtf8-append, IsUtf8-nil, IsUtf8-encode, IsUtf8-from_is_utf8, is_utf8-from_IsUtf8, utf8_valid_len_le, utf8_lossy_step, utf8_lossy-IsUtf8, cases_Bool, cond-true, cond-false, and_parts, cases_eq, both_ways, Piece, WellFormed, IllFormed, IsOfCharacter, is_well_formed, piece_bytes, bytes_of_pieces, char_of, following_ranges, first_piece_tail_len, first_piece, pieces_from, utf8_pieces, lossy_piece, lossy_text, nat_tests}
 use Rattle.uri_pct.proofs.Unicode.Pieces.{bytes_of_utf8_pieces_are_the_bytes, pieces_from_are_pieces_after_skipped_bytes, first_piece_has_first_bytes, first_piece_tail_is_within_rest, take_then_take_is_take_of_sum}
 use Rattle.uri_pct.proofs.Unicode.CharacterPieces.{utf8_pieces-are-of-characters, first_char_is_first_piece, first_piece_is_of_character}
 use Rattle.uri_pct.proofs.Unicode.IllFormedLengths.{ill_formed_len_is_std_len}
-use Rattle.std.proofs.lemmas.Bool.Decides.{nat_tests}
 
 unfoldable pub piece_of_char : ℕ → Piece
 piece_of_char c = WellFormed (encode_utf8 c)
@@ -83,8 +74,7 @@ lossy_text_of_chars_is_their_utf8 (c ∷ cs) = ap (λ x. encode_utf8 c ++ x)
 -- lossy UTF-8: a text in UTF-8 is unchanged, whatever follows it
 lossy_text_keeps_utf8_prefix : (text rest : List ℕ) → IsUtf8 text
     → lossy_text (text ++ rest) ≡ text ++ lossy_text rest
-lossy_text_keeps_utf8_prefix text rest u =
-    ap (λ x. lossy_text (x ++ rest)) (sym u.1.1)
+lossy_text_keeps_utf8_prefix text rest u = ap (λ x. lossy_text (x ++ rest)) (sym u.1.1)
     ∙ ap (flat_map lossy_piece) (pieces_of_chars_come_before_the_rest u.0 rest u.1.0)
     ∙ flat_map-append lossy_piece (map piece_of_char u.0) (utf8_pieces rest)
     ∙ ap (λ x. x ++ lossy_text rest) (lossy_text_of_chars_is_their_utf8 u.0 ∙ u.1.1)
@@ -92,25 +82,20 @@ lossy_text_keeps_utf8_prefix text rest u =
 -- lossy UTF-8: the longest prefix of up to m bytes that std finds to be UTF-8 is so
 prefix_of_valid_len_is_utf8 : (bs : List ℕ) (m : ℕ) → IsUtf8 (take (valid_len_up_to bs m) bs)
 prefix_of_valid_len_is_utf8 bs zero = IsUtf8-nil
-prefix_of_valid_len_is_utf8 bs (suc m) = ⊎_elim
-    (λ e. subst (λ n. IsUtf8 (take n bs)) (sym (cond-true _ _ _ e))
-    (IsUtf8-from_is_utf8 (take (suc m) bs) e))
+prefix_of_valid_len_is_utf8 bs (suc m) = ⊎_elim (λ e. subst
+    (λ n. IsUtf8 (take n bs)) (sym (cond-true _ _ _ e)) (IsUtf8-from_is_utf8 (take (suc m) bs) e))
     (λ e. subst (λ n. IsUtf8 (take n bs)) (sym (cond-false _ _ _ e))
-    (prefix_of_valid_len_is_utf8 bs m))
-    (cases_Bool (is_utf8 (take (suc m) bs)))
+    (prefix_of_valid_len_is_utf8 bs m)) (cases_Bool (is_utf8 (take (suc m) bs)))
 
 -- lossy UTF-8: no prefix of up to m bytes that is UTF-8 is longer than the one that std finds
 prefix_of_valid_len_is_longest_utf8 : (bs : List ℕ) (m k : ℕ) → valid_len_up_to bs m < k → k ≤ m
     → IsUtf8 (take k bs) → ⊥
 prefix_of_valid_len_is_longest_utf8 bs zero k more within u = omega arith
-prefix_of_valid_len_is_longest_utf8 bs (suc m) k more within u = ⊎_elim
-    (λ e. let above : suc m < k = subst (λ n. n < k) (cond-true _ _ _ e) more in omega arith)
-    (λ e. ⊎_elim
-    (λ same. both_ways _ e
-    (is_utf8-from_IsUtf8 (take (suc m) bs) (subst (λ n. IsUtf8 (take n bs)) same u)))
-    (λ other. prefix_of_valid_len_is_longest_utf8 bs m k
-    (subst (λ n. n < k) (cond-false _ _ _ e) more) (omega (arith, other)) u)
-    (cases_eq k (suc m)))
+prefix_of_valid_len_is_longest_utf8 bs (suc m) k more within u =
+    ⊎_elim (λ e. let above : suc m < k = subst (λ n. n < k) (cond-true _ _ _ e) more in omega arith)
+    (λ e. ⊎_elim (λ same. both_ways _ e (is_utf8-from_IsUtf8 (take (suc m) bs)
+    (subst (λ n. IsUtf8 (take n bs)) same u))) (λ other. prefix_of_valid_len_is_longest_utf8 bs m k
+    (subst (λ n. n < k) (cond-false _ _ _ e) more) (omega (arith, other)) u) (cases_eq k (suc m)))
     (cases_Bool (is_utf8 (take (suc m) bs)))
 
 -- general fact on lists, for lossy UTF-8: a text that is not empty is a first byte and a rest
@@ -150,14 +135,12 @@ utf8_valid_len_prefix_is_utf8 bs = prefix_of_valid_len_is_utf8 bs (length bs)
 pub lossy_text_of_utf8_is_itself : (bs : List ℕ) → IsUtf8 bs → lossy_text bs ≡ bs
 unfolding pieces_from
 lossy_text_of_utf8_is_itself bs u = ap lossy_text (sym (append-nil bs))
-    ∙ lossy_text_keeps_utf8_prefix bs [] u
-    ∙ append-nil bs
+    ∙ lossy_text_keeps_utf8_prefix bs [] u ∙ append-nil bs
 
 -- lossy UTF-8: an ill-formed part becomes one replacement character, U+FFFD
 lossy_text_of_ill_formed_piece_is_replacement : (b : ℕ) (rest : List ℕ) (bytes : List ℕ)
-    → first_piece (following_ranges b) b rest ≡ IllFormed bytes
-    → lossy_text (b ∷ rest) ≡ replacement_bytes ++ lossy_text
-    (drop (first_piece_tail_len (following_ranges b) rest) rest)
+    → first_piece (following_ranges b) b rest ≡ IllFormed bytes → lossy_text (b ∷ rest)
+    ≡ replacement_bytes ++ lossy_text (drop (first_piece_tail_len (following_ranges b) rest) rest)
 unfolding pieces_from
 lossy_text_of_ill_formed_piece_is_replacement b rest bytes e =
     grind (arith, nat_tests, pieces_from_are_pieces_after_skipped_bytes)
@@ -165,11 +148,9 @@ lossy_text_of_ill_formed_piece_is_replacement b rest bytes e =
 -- lossy UTF-8: the lossy text is that of std
 -- after an ill-formed part, if it is for all shorter bytes
 lossy_text_is_utf8_lossy_after_ill_formed : (bs : List ℕ) (b : ℕ) (rest bytes : List ℕ)
-    → ¬ (utf8_valid_len bs ≡ length bs)
-    → drop (utf8_valid_len bs) bs ≡ b ∷ rest → first_piece (following_ranges b) b rest
-    ≡ IllFormed bytes
-    → ((ys : List ℕ) → length ys < length bs → lossy_text ys ≡ utf8_lossy ys)
-    → lossy_text bs ≡ utf8_lossy bs
+    → ¬ (utf8_valid_len bs ≡ length bs) → drop (utf8_valid_len bs) bs ≡ b ∷ rest
+    → first_piece (following_ranges b) b rest ≡ IllFormed bytes → ((ys : List ℕ)
+    → length ys < length bs → lossy_text ys ≡ utf8_lossy ys) → lossy_text bs ≡ utf8_lossy bs
 lossy_text_is_utf8_lossy_after_ill_formed bs b rest bytes faulty prefix bad shorter =
     let n = utf8_valid_len bs in
     let m = first_piece_tail_len (following_ranges b) rest in
@@ -202,9 +183,8 @@ lossy_text_is_utf8_lossy_if_not_utf8 bs faulty shorter =
 lossy_text_is_utf8_lossy_of_utf8 : (bs : List ℕ) → utf8_valid_len bs ≡ length bs → lossy_text bs
     ≡ utf8_lossy bs
 lossy_text_is_utf8_lossy_of_utf8 bs whole =
-    let text : IsUtf8 bs = subst IsUtf8
-    (ap (λ n. take n bs) whole ∙ take_all (length bs) bs (omega arith))
-    (utf8_valid_len_prefix_is_utf8 bs) in
+    let text : IsUtf8 bs = subst IsUtf8 (ap (λ n. take n bs) whole
+    ∙ take_all (length bs) bs (omega arith)) (utf8_valid_len_prefix_is_utf8 bs) in
     lossy_text_of_utf8_is_itself bs text ∙ sym (utf8_lossy-IsUtf8 bs text)
 
 -- lossy UTF-8: the lossy text is that of std, for bytes of a length below k

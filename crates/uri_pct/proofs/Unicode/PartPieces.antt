@@ -1,24 +1,10 @@
 -- The pieces of a text's parts are those of the bytes that it decodes to.
-use Rattle.std.proofs.Common.{◌≡◌, ℕ, true, List, [], ◌∷◌, ◌++◌, map, refl, sym, ap, ◌∙◌, append_assoc, arith, append-nil}
-use Rattle.std.specs.List.{list_all, flat_map}
-use Rattle.std.specs.Char.{encode_utf8, IsScalar}
-use Rattle.std.specs.Str.{chars, encode_utf8_all, IsUtf8}
-use Rattle.std.proofs.lemmas.Bool.{and_parts}
-use Rattle.std.proofs.lemmas.List.Concat.{flat_map-append}
-use Rattle.std.proofs.lemmas.Str.{IsUtf8-encode, encodes-chars}
-use Rattle.uri_pct.specs.Chunks.{Chunk, Text, Byte, prepend_to_chunks, chunks_of_tokens, chunk_bytes, widest_set}
-use Rattle.uri_pct.specs.Decodes.{undecoded, decoded, bytes_left}
+use Rattle.uri_pct.proofs.Common.{◌≡◌, ℕ, true, List, [], ◌∷◌, ◌++◌, map, refl, sym, ap, ◌∙◌, append_assoc, arith, append-nil, list_all, flat_map, encode_utf8, IsScalar, chars, encode_utf8_all, IsUtf8, and_parts, flat_map-append, IsUtf8-encode, encodes-chars, Chunk, Text, Byte, prepend_to_chunks, chunks_of_tokens, chunk_bytes, widest_set, undecoded, decoded, bytes_left, Decoded, parts_from, parts, pieces_of_parts, Piece, WellFormed, utf8_pieces, is_unencoded, Token, Char, Octet, tokens_from_chars, tokens, bytes_decoded_from, IsValidFor, is_printable, nat_tests}
 use Rattle.uri_pct.specs.declared.decode.Decode.{Decode}
-use Rattle.uri_pct.specs.Parts.{Decoded, parts_from, parts, pieces_of_parts}
-use Rattle.uri_pct.specs.Pieces.{Piece, WellFormed, utf8_pieces}
-use Rattle.uri_pct.specs.Texts.{is_unencoded}
-use Rattle.uri_pct.specs.Tokens.{Token, Char, Octet, tokens_from_chars, tokens, bytes_decoded_from, IsValidFor}
-use Rattle.uri_pct.specs.DecodeUnreserved.{is_printable}
 use Rattle.uri_pct.proofs.ValidTexts.Allowed.{valid_text_has_printable_tokens}
 use Rattle.uri_pct.proofs.Unicode.CharacterPieces.{char_separates_utf8_pieces, first_char_is_first_piece}
 use Rattle.uri_pct.proofs.Decodings.Decoding.{tokens_after_unencoded_prefix}
 use Rattle.uri_pct.proofs.Unicode.Runs.{no_bytes_have_no_pieces, utf8_pieces_are_cut_after_text}
-use Rattle.std.proofs.lemmas.Bool.Decides.{nat_tests}
 
 -- UTF-8 of decoded parts: a text that is put before chunks comes before their bytes
 prepended_text_comes_before_chunk_bytes : (text : List ℕ) (ps : List Chunk)
@@ -55,12 +41,10 @@ literal_chars_decode_to_their_utf8 (c ∷ cs) = ap (λ x. encode_utf8 c ++ x)
 pub unencoded_text_decodes_to_itself : (text : List ℕ) → IsUtf8 text → is_unencoded text ≡ true
     → bytes_decoded_from (tokens text) ≡ text
 unfolding tokens_from_chars chars
-unencoded_text_decodes_to_itself text u e =
-    ap (λ x. bytes_decoded_from (tokens x)) (sym (append-nil text))
-    ∙ ap bytes_decoded_from (tokens_after_unencoded_prefix text [] u e)
+unencoded_text_decodes_to_itself text u e = ap (λ x. bytes_decoded_from (tokens x))
+    (sym (append-nil text)) ∙ ap bytes_decoded_from (tokens_after_unencoded_prefix text [] u e)
     ∙ ap bytes_decoded_from (append-nil (map Char (chars text)))
-    ∙ literal_chars_decode_to_their_utf8 (chars text)
-    ∙ encodes-chars text u
+    ∙ literal_chars_decode_to_their_utf8 (chars text) ∙ encodes-chars text u
 
 -- UTF-8 of decoded parts: parts that are pieces of decoded bytes have these pieces
 pub decoded_parts_have_their_pieces : (ps : List Piece) → pieces_of_parts (map Decoded ps) ≡ ps
@@ -84,14 +68,12 @@ pieces_of_run_before_prepended_text : (run text : List ℕ) (ps : List Chunk) �
 unfolding prepend_to_chunks
 pieces_of_run_before_prepended_text run text [] u = pieces_of_run_before_text_chunk run text []
 pieces_of_run_before_prepended_text run text (Text more ∷ ps) u =
-    pieces_of_run_before_text_chunk run (text ++ more) ps
-    ∙ ap (λ x. utf8_pieces run ++ (x ++ pieces_of_parts (parts_from [] ps)))
-    (utf8_pieces_are_cut_after_text text more u)
-    ∙ ap (λ x. utf8_pieces run ++ x)
-    (append_assoc (utf8_pieces text) (utf8_pieces more) (pieces_of_parts (parts_from [] ps))
-    ∙ ap (λ x. utf8_pieces text ++ x) (sym (pieces_of_run_before_text_chunk [] more ps
-    ∙ ap (λ x. x ++ (utf8_pieces more ++ pieces_of_parts (parts_from [] ps)))
-    no_bytes_have_no_pieces)))
+    pieces_of_run_before_text_chunk run (text ++ more) ps ∙ ap (λ x. utf8_pieces run
+    ++ (x ++ pieces_of_parts (parts_from [] ps))) (utf8_pieces_are_cut_after_text text more u)
+    ∙ ap (λ x. utf8_pieces run
+    ++ x) (append_assoc (utf8_pieces text) (utf8_pieces more) (pieces_of_parts (parts_from [] ps))
+    ∙ ap (λ x. utf8_pieces text ++ x) (sym (pieces_of_run_before_text_chunk [] more ps ∙ ap (λ x. x
+    ++ (utf8_pieces more ++ pieces_of_parts (parts_from [] ps))) no_bytes_have_no_pieces)))
 pieces_of_run_before_prepended_text run text (Byte value ∷ ps) u = pieces_of_run_before_text_chunk
     run text (Byte value ∷ ps)
 
@@ -111,9 +93,8 @@ parts_after_run_have_pieces_of_decoded_bytes : (run : List ℕ) (ts : List Token
     → list_all is_printable ts ≡ true → pieces_of_parts (parts_from run (chunks_of_tokens ts))
     ≡ utf8_pieces (run ++ bytes_decoded_from ts)
 unfolding chunks_of_tokens parts_from
-parts_after_run_have_pieces_of_decoded_bytes run [] e = decoded_parts_have_their_pieces
-    (utf8_pieces run)
-    ∙ ap utf8_pieces (sym (append-nil run))
+parts_after_run_have_pieces_of_decoded_bytes run [] e =
+    decoded_parts_have_their_pieces (utf8_pieces run) ∙ ap utf8_pieces (sym (append-nil run))
 parts_after_run_have_pieces_of_decoded_bytes run (Octet value ∷ ts) e =
     parts_after_run_have_pieces_of_decoded_bytes (run ++ value ∷ []) ts
     (and_parts (is_printable (Octet value)) _ e).1
@@ -121,12 +102,11 @@ parts_after_run_have_pieces_of_decoded_bytes run (Octet value ∷ ts) e =
 parts_after_run_have_pieces_of_decoded_bytes run (Char c ∷ ts) e =
     let p = and_parts (is_printable (Char c)) _ e in
     let scalar = printable_char_is_scalar c p.0 in
-    pieces_of_run_before_prepended_text run (encode_utf8 c) (chunks_of_tokens ts)
-    (IsUtf8-encode c scalar)
+    pieces_of_run_before_prepended_text run
+    (encode_utf8 c) (chunks_of_tokens ts) (IsUtf8-encode c scalar)
     ∙ ap (λ x. utf8_pieces run ++ (x ++ pieces_of_parts (parts_from [] (chunks_of_tokens ts))))
-    (char_is_one_well_formed_piece c scalar)
-    ∙ ap (λ x. utf8_pieces run ++ WellFormed (encode_utf8 c) ∷ x)
-    (parts_after_run_have_pieces_of_decoded_bytes [] ts p.1)
+    (char_is_one_well_formed_piece c scalar) ∙ ap (λ x. utf8_pieces run
+    ++ WellFormed (encode_utf8 c) ∷ x) (parts_after_run_have_pieces_of_decoded_bytes [] ts p.1)
     ∙ sym (char_separates_utf8_pieces run c (bytes_decoded_from ts) scalar)
 
 -- UTF-8 of decoded parts: the parts of a text that decodes have the pieces of the decoded bytes

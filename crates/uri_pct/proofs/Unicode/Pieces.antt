@@ -1,11 +1,6 @@
 -- The pieces of bytes. Joined they are the bytes. What follows does not change the first ones. A
 -- byte that continues no character always begins one.
-use Rattle.std.proofs.Common.{◌≡◌, ℕ, zero, suc, ◌+◌, ◌≤◌, Bool, true, false, cond, leb, List, [], ◌∷◌, ◌++◌, length, take, drop, refl, sym, ap, ◌∙◌, arith, ◌&&◌, ⊎_elim, Option, Some, None, option_map, subst, zero-add}
-use Rattle.std.specs.List.{list_all, find}
-use Rattle.std.proofs.lemmas.List.{take-take, drop-take, take_at, take-append-drop, take-append-le}
-use Rattle.std.proofs.lemmas.Bool.{cases_Bool, cond-true, cond-false, and_parts}
-use Rattle.uri_pct.specs.Pieces.{Piece, ByteRange, Row, is_in_byte_range, continuation, well_formed_rows, begins_with_continuation, piece_bytes, bytes_of_pieces, following_ranges, len_in_ranges, first_piece_tail_len, first_piece, pieces_from, utf8_pieces}
-use Rattle.std.proofs.lemmas.Bool.Decides.{nat_tests}
+use Rattle.uri_pct.proofs.Common.{◌≡◌, ℕ, zero, suc, ◌+◌, ◌≤◌, Bool, true, false, cond, leb, List, [], ◌∷◌, ◌++◌, length, take, drop, refl, sym, ap, ◌∙◌, arith, ◌&&◌, ⊎_elim, Option, Some, None, option_map, subst, zero-add, list_all, find, take-take, drop-take, take_at, take-append-drop, take-append-le, cases_Bool, cond-true, cond-false, and_parts, Piece, ByteRange, Row, is_in_byte_range, continuation, well_formed_rows, begins_with_continuation, piece_bytes, bytes_of_pieces, following_ranges, len_in_ranges, first_piece_tail_len, first_piece, pieces_from, utf8_pieces, nat_tests}
 
 -- UTF-8: no more bytes fit ranges than there are
 len_in_ranges_is_at_most_length : (ranges : List ByteRange) (text : List ℕ)
@@ -48,9 +43,8 @@ pieces_after_skipped_bytes_join_to_the_rest (suc k) (b ∷ rest) =
 pieces_after_skipped_bytes_join_to_the_rest zero (b ∷ rest) =
     let n = first_piece_tail_len (following_ranges b) rest in
     ap (λ x. x ++ bytes_of_pieces (pieces_from n rest))
-    (first_piece_has_first_bytes (following_ranges b) b rest)
-    ∙ ap (λ x. b ∷ (take n rest ++ x)) (pieces_after_skipped_bytes_join_to_the_rest n rest)
-    ∙ ap (λ x. b ∷ x) (take-append-drop n rest)
+    (first_piece_has_first_bytes (following_ranges b) b rest) ∙ ap (λ x. b ∷ (take n rest ++ x))
+    (pieces_after_skipped_bytes_join_to_the_rest n rest) ∙ ap (λ x. b ∷ x) (take-append-drop n rest)
 
 -- UTF-8: the pieces of bytes are together the bytes
 pub bytes_of_utf8_pieces_are_the_bytes : (bytes : List ℕ) → bytes_of_pieces (utf8_pieces bytes)
@@ -68,9 +62,8 @@ are_continuation_ranges (Some ranges) = list_all is_continuation_range ranges
 -- UTF-8: if each row of the table has continuation bytes only, the row that a search finds has too
 found_row_has_continuation_ranges : (b : ℕ) (rows : List Row)
     → list_all (λ (row : Row). list_all is_continuation_range row.1) rows ≡ true
-    → are_continuation_ranges
-    (option_map (λ (row : Row). row.1) (find (λ (row : Row). is_in_byte_range row.0 b) rows))
-    ≡ true
+    → are_continuation_ranges (option_map (λ (row : Row). row.1)
+    (find (λ (row : Row). is_in_byte_range row.0 b) rows)) ≡ true
 unfolding are_continuation_ranges
 found_row_has_continuation_ranges b [] h = refl
 found_row_has_continuation_ranges b (row ∷ rows) h =
@@ -93,25 +86,22 @@ non_continuation_is_in_no_continuation_range range b inner out = grind (arith, n
 
 -- UTF-8: what follows does not fit the ranges, if it begins with a byte that continues no character
 fitting_stops_at_non_continuation : (ranges : List ByteRange) (xs ys : List ℕ)
-    → list_all is_continuation_range ranges ≡ true
-    → begins_with_continuation ys ≡ false → len_in_ranges ranges (xs ++ ys)
-    ≡ len_in_ranges ranges xs
+    → list_all is_continuation_range ranges ≡ true → begins_with_continuation ys ≡ false
+    → len_in_ranges ranges (xs ++ ys) ≡ len_in_ranges ranges xs
 fitting_stops_at_non_continuation [] xs ys inner out = refl
 fitting_stops_at_non_continuation (range ∷ ranges) [] [] inner out = refl
 fitting_stops_at_non_continuation (range ∷ ranges) [] (b ∷ ys) inner out =
     cond-false _ _ _ (non_continuation_is_in_no_continuation_range range b
     (and_parts (is_continuation_range range) _ inner).0 out)
-fitting_stops_at_non_continuation (range ∷ ranges) (x ∷ xs) ys inner out =
-    ap (λ n. cond (is_in_byte_range range x) (suc n) 0)
-    (fitting_stops_at_non_continuation ranges xs ys
+fitting_stops_at_non_continuation (range ∷ ranges) (x ∷ xs) ys inner out = ap
+    (λ n. cond (is_in_byte_range range x) (suc n) 0) (fitting_stops_at_non_continuation ranges xs ys
     (and_parts (is_continuation_range range) _ inner).1 out)
 
 -- UTF-8: the first piece ends before a byte that continues none;
 -- row: which bytes may follow its first
 first_piece_tail_stops_at_non_continuation : (row : Option (List ByteRange)) (xs ys : List ℕ)
-    → are_continuation_ranges row ≡ true
-    → begins_with_continuation ys ≡ false → first_piece_tail_len row (xs ++ ys)
-    ≡ first_piece_tail_len row xs
+    → are_continuation_ranges row ≡ true → begins_with_continuation ys ≡ false
+    → first_piece_tail_len row (xs ++ ys) ≡ first_piece_tail_len row xs
 unfolding are_continuation_ranges
 first_piece_tail_stops_at_non_continuation None xs ys inner out = refl
 first_piece_tail_stops_at_non_continuation (Some ranges) xs ys inner out =
@@ -129,9 +119,8 @@ first_piece_is_unchanged_by_suffix (Some ranges) b xs ys same =
 -- UTF-8: where the first piece takes no byte of what follows,
 -- the pieces are cut there if those of the rest are
 pub utf8_pieces_are_cut_after_first_if_rest_is : (x : ℕ) (xs ys : List ℕ)
-    → first_piece_tail_len (following_ranges x) (xs ++ ys)
-    ≡ first_piece_tail_len (following_ranges x) xs
-    → pieces_from (first_piece_tail_len (following_ranges x) xs) (xs ++ ys)
+    → first_piece_tail_len (following_ranges x) (xs ++ ys) ≡ first_piece_tail_len
+    (following_ranges x) xs → pieces_from (first_piece_tail_len (following_ranges x) xs) (xs ++ ys)
     ≡ pieces_from (first_piece_tail_len (following_ranges x) xs) xs ++ utf8_pieces ys
     → utf8_pieces ((x ∷ xs) ++ ys) ≡ utf8_pieces (x ∷ xs) ++ utf8_pieces ys
 unfolding pieces_from
@@ -149,11 +138,9 @@ pieces_from_are_cut_at_non_continuation (suc k) (x ∷ xs) ys h out =
     pieces_from_are_cut_at_non_continuation k xs ys (omega arith) out
 pieces_from_are_cut_at_non_continuation zero (x ∷ xs) ys h out =
     let row = following_ranges x in
-    utf8_pieces_are_cut_after_first_if_rest_is x xs ys
-    (first_piece_tail_stops_at_non_continuation row xs ys
-    (following_ranges_are_continuations x) out)
-    (pieces_from_are_cut_at_non_continuation (first_piece_tail_len row xs) xs ys
-    (first_piece_tail_is_within_rest row xs) out)
+    utf8_pieces_are_cut_after_first_if_rest_is x xs ys (first_piece_tail_stops_at_non_continuation
+    row xs ys (following_ranges_are_continuations x) out) (pieces_from_are_cut_at_non_continuation
+    (first_piece_tail_len row xs) xs ys (first_piece_tail_is_within_rest row xs) out)
 
 -- UTF-8: a byte that continues no character begins a piece
 pub utf8_pieces_are_cut_at_non_continuation : (xs ys : List ℕ) → begins_with_continuation ys ≡ false
@@ -218,9 +205,8 @@ bytes_of_first_pieces_are_prefix zero (suc j) (b ∷ rest) =
     let n = first_piece_tail_len (following_ranges b) rest in
     let ih = bytes_of_first_pieces_are_prefix n j rest in (
       suc (n + ih.0),
-      ap (λ x. x ++ bytes_of_pieces (take j (pieces_from n rest)))
-          (first_piece_has_first_bytes (following_ranges b) b rest)
-          ∙ ap (λ x. b ∷ (take n rest ++ x)) ih.1
+      ap (λ x. x ++ bytes_of_pieces (take j (pieces_from n rest))) (first_piece_has_first_bytes
+          (following_ranges b) b rest) ∙ ap (λ x. b ∷ (take n rest ++ x)) ih.1
           ∙ ap (λ x. b ∷ x) (take_then_take_is_take_of_sum n ih.0 rest),
     )
 
@@ -242,10 +228,9 @@ first_pieces_are_pieces_of_own_bytes zero (suc j) (b ∷ rest) =
     let kept = take (n + f.0) rest in
     ap (λ x. utf8_pieces (x ++ prefix)) (first_piece_has_first_bytes row b rest)
     ∙ ap (λ x. utf8_pieces (b ∷ (take n rest ++ x))) f.1
-    ∙ ap (λ x. utf8_pieces (b ∷ x)) (take_then_take_is_take_of_sum n f.0 rest)
-    ∙ ap (λ p. p ∷ pieces_from (first_piece_tail_len row kept) kept)
-    (cut_after_first_piece_keeps_it row b rest (n + f.0) (omega arith))
-    ∙ ap (λ m. first_piece row b rest ∷ pieces_from m kept)
+    ∙ ap (λ x. utf8_pieces (b ∷ x)) (take_then_take_is_take_of_sum n f.0 rest) ∙ ap (λ p. p
+    ∷ pieces_from (first_piece_tail_len row kept) kept) (cut_after_first_piece_keeps_it row b rest
+    (n + f.0) (omega arith)) ∙ ap (λ m. first_piece row b rest ∷ pieces_from m kept)
     (cut_after_first_piece_keeps_its_tail_len row rest (n + f.0) (omega arith))
     ∙ ap (λ ps. first_piece row b rest ∷ ps) (pieces_from_are_pieces_after_skipped_bytes n kept
     ∙ ap utf8_pieces (drop-take n f.0 rest ∙ sym f.1)
@@ -264,8 +249,7 @@ pub prefix_of_pieces_is_of_own_bytes : (ps qs : List Piece) → ArePiecesOfOwnBy
     → ArePiecesOfOwnBytes ps
 prefix_of_pieces_is_of_own_bytes ps qs cut =
     let same : take (length ps) (utf8_pieces (bytes_of_pieces (ps ++ qs))) ≡ ps =
-    ap (take (length ps)) cut
-    ∙ take_at ps qs (length ps) refl in
+    ap (take (length ps)) cut ∙ take_at ps qs (length ps) refl in
     sym (ap (λ x. utf8_pieces (bytes_of_pieces x)) same)
     ∙ first_pieces_are_pieces_of_own_bytes 0 (length ps) (bytes_of_pieces (ps ++ qs)) ∙ same
 

@@ -1,14 +1,6 @@
 -- If bytes do not end in an unfinished character, their pieces are the same whatever follows. So
 -- are the pieces of the bytes before an unfinished end.
-use Rattle.std.proofs.Common.{◌≡◌, ℕ, zero, suc, ◌-◌, ◌<◌, ◌≤◌, true, false, cond, leb, nat_lt, List, [], ◌∷◌, ◌++◌, length, take, drop, get_or, map, refl, sym, ap, ◌∙◌, append_assoc, arith, ⊎_elim, Option, Some, None, option_map}
-use Rattle.std.specs.List.{list_all, find}
-use Rattle.std.proofs.lemmas.List.{append-nil, map-append, take_all, drop_all, take-append-drop}
-use Rattle.std.proofs.lemmas.Bool.{cases_Bool, cond-true, cond-false, and_parts, leb-true, cases_lt}
-use Rattle.std.proofs.lemmas.Bool.Decides.{nat_tests}
-use Rattle.uri_pct.specs.Chunks.{Chunk, Text, Byte}
-use Rattle.uri_pct.specs.Parts.{Decoded, parts_from}
-use Rattle.uri_pct.specs.Pieces.{ByteRange, Row, is_in_byte_range, continuation, well_formed_rows, begins_with_continuation, following_ranges, len_in_ranges, first_piece_tail_len, pieces_from, utf8_pieces}
-use Rattle.uri_pct.specs.Models.Unfinished.{range_count, following_byte_count, unfinished_len, CutsNoPiece}
+use Rattle.uri_pct.proofs.Common.{◌≡◌, ℕ, zero, suc, ◌-◌, ◌<◌, ◌≤◌, true, false, cond, leb, nat_lt, List, [], ◌∷◌, ◌++◌, length, take, drop, get_or, map, refl, sym, ap, ◌∙◌, append_assoc, arith, ⊎_elim, Option, Some, None, option_map, list_all, find, append-nil, map-append, take_all, drop_all, take-append-drop, cases_Bool, cond-true, cond-false, and_parts, leb-true, cases_lt, nat_tests, Chunk, Text, Byte, Decoded, parts_from, ByteRange, Row, is_in_byte_range, continuation, well_formed_rows, begins_with_continuation, following_ranges, len_in_ranges, first_piece_tail_len, pieces_from, utf8_pieces, range_count, following_byte_count, unfinished_len, CutsNoPiece}
 use Rattle.uri_pct.proofs.Unicode.Pieces.{first_piece_tail_is_within_rest, utf8_pieces_are_cut_after_first_if_rest_is, utf8_pieces_are_cut_at_non_continuation}
 use Rattle.uri_pct.proofs.Unicode.FirstBytes.{no_range_follows_ascii_byte, following_ranges_of_c2_to_df}
 use Rattle.uri_pct.proofs.Unicode.IllFormedLengths.{no_row_from_80_to_c1, no_row_past_f4}
@@ -38,10 +30,8 @@ no_byte_follows_past_f4 b low = ap range_count (no_row_past_f4 b low)
 
 -- UTF-8: at most three bytes may follow a first one, as in each row of the table
 found_row_has_at_most_three_ranges : (b : ℕ) (rows : List Row)
-    → list_all (λ (row : Row). leb (length row.1) 3) rows ≡ true
-    → range_count (option_map (λ (row : Row). row.1)
-    (find (λ (row : Row). is_in_byte_range row.0 b) rows))
-    ≤ 3
+    → list_all (λ (row : Row). leb (length row.1) 3) rows ≡ true → range_count
+    (option_map (λ (row : Row). row.1) (find (λ (row : Row). is_in_byte_range row.0 b) rows)) ≤ 3
 found_row_has_at_most_three_ranges b [] h = omega arith
 found_row_has_at_most_three_ranges b (row ∷ rows) h =
     let p = and_parts (leb (length row.1) 3) _ h in
@@ -140,9 +130,8 @@ pieces_from_are_cut_after_finished_bytes zero (x ∷ xs) ys h none =
     let row = following_ranges x in
     let p = finished_first_byte_has_enough_bytes x xs none in
     utf8_pieces_are_cut_after_first_if_rest_is x xs ys
-    (suffix_of_enough_bytes_keeps_tail_len row xs ys p.0)
-    (pieces_from_are_cut_after_finished_bytes (first_piece_tail_len row xs) xs ys
-    (first_piece_tail_is_within_rest row xs) p.1)
+    (suffix_of_enough_bytes_keeps_tail_len row xs ys p.0) (pieces_from_are_cut_after_finished_bytes
+    (first_piece_tail_len row xs) xs ys (first_piece_tail_is_within_rest row xs) p.1)
 
 -- UTF-8: an unfinished character is no longer than the bytes
 unfinished_len_is_at_most_length : (xs : List ℕ) → unfinished_len xs ≤ length xs
@@ -165,9 +154,8 @@ unfinished_end_begins_with_no_continuation (x ∷ xs) ys some = ⊎_elim
     (λ e. let all = first_byte_lacking_bytes_makes_all_unfinished x xs e in
     let calls : 0 < following_byte_count x = grind (arith, nat_tests) in
     let whole : suc (length xs) - unfinished_len (x ∷ xs) ≡ 0 = omega arith in
-    ap (λ n. begins_with_continuation (drop n (x ∷ xs) ++ ys)) whole
-    ∙ lead_byte_is_no_continuation x calls)
-    (λ e. let left = first_byte_with_enough_bytes_is_finished x xs e in
+    ap (λ n. begins_with_continuation (drop n (x ∷ xs) ++ ys)) whole ∙ lead_byte_is_no_continuation
+    x calls) (λ e. let left = first_byte_with_enough_bytes_is_finished x xs e in
     let fits = unfinished_len_is_at_most_length xs in
     let prefix : suc (length xs) - unfinished_len (x ∷ xs) ≡ suc (length xs - unfinished_len xs) =
     omega arith in
@@ -176,13 +164,11 @@ unfinished_end_begins_with_no_continuation (x ∷ xs) ys some = ⊎_elim
     (cases_Bool (nat_lt (length xs) (following_byte_count x)))
 
 -- UTF-8: the cut before an unfinished end, or after the bytes if there is none, divides no piece
-cut_before_unfinished_end_divides_no_piece : (bytes : List ℕ)
-    → CutsNoPiece (take (length bytes - unfinished_len bytes) bytes)
-    (drop (length bytes - unfinished_len bytes) bytes)
+cut_before_unfinished_end_divides_no_piece : (bytes : List ℕ) → CutsNoPiece (take (length bytes
+    - unfinished_len bytes) bytes) (drop (length bytes - unfinished_len bytes) bytes)
 cut_before_unfinished_end_divides_no_piece bytes suffix =
     let n = length bytes - unfinished_len bytes in
-    ⊎_elim
-    (λ few. let none : unfinished_len bytes ≡ 0 = omega arith in
+    ⊎_elim (λ few. let none : unfinished_len bytes ≡ 0 = omega arith in
     let prefix : take n bytes ≡ bytes = take_all n bytes (omega arith) in
     let end : drop n bytes ≡ [] = drop_all n bytes (omega arith) in
     rw (prefix, end) (pieces_from_are_cut_after_finished_bytes 0 bytes suffix (omega arith) none))
@@ -200,24 +186,21 @@ parts_from_are_cut_where_pieces_are prefix end more (Byte value ∷ chunks) part
     let longer : (prefix ++ (end ++ more)) ++ value ∷ [] ≡ prefix ++ (end ++ (more ++ value ∷ [])) =
     append_assoc prefix (end ++ more) (value ∷ [])
     ∙ ap (λ x. prefix ++ x) (append_assoc end more (value ∷ [])) in
-    ap (λ x. parts_from x chunks) longer
-    ∙ parts_from_are_cut_where_pieces_are prefix end (more ++ value ∷ []) chunks parted
-    ∙ ap (λ x. map Decoded (utf8_pieces prefix) ++ parts_from x chunks)
-    (sym (append_assoc end more (value ∷ [])))
+    ap (λ x. parts_from x chunks) longer ∙ parts_from_are_cut_where_pieces_are prefix end (more
+    ++ value ∷ []) chunks parted ∙ ap (λ x. map Decoded (utf8_pieces prefix)
+    ++ parts_from x chunks) (sym (append_assoc end more (value ∷ [])))
 parts_from_are_cut_where_pieces_are prefix end more (Text text ∷ chunks) parted =
     grind (arith, nat_tests, map-append, append_assoc)
 
 -- UTF-8: the parts of a run of octets, cut before its unfinished end
 pub parts_from_are_cut_before_unfinished_end : (bytes : List ℕ) (suffix : List Chunk)
-    → parts_from bytes suffix
-    ≡ map Decoded (utf8_pieces (take (length bytes - unfinished_len bytes) bytes))
-    ++ parts_from (drop (length bytes - unfinished_len bytes) bytes) suffix
+    → parts_from bytes suffix ≡ map Decoded (utf8_pieces (take (length bytes - unfinished_len bytes)
+    bytes)) ++ parts_from (drop (length bytes - unfinished_len bytes) bytes) suffix
 parts_from_are_cut_before_unfinished_end bytes suffix =
     let n = length bytes - unfinished_len bytes in
     let prefix = take n bytes in
     let end = drop n bytes in
     ap (λ x. parts_from x suffix) (sym (take-append-drop n bytes)
-    ∙ ap (λ x. prefix ++ x) (sym (append-nil end)))
-    ∙ parts_from_are_cut_where_pieces_are prefix end [] suffix
-    (cut_before_unfinished_end_divides_no_piece bytes)
+    ∙ ap (λ x. prefix ++ x) (sym (append-nil end))) ∙ parts_from_are_cut_where_pieces_are
+    prefix end [] suffix (cut_before_unfinished_end_divides_no_piece bytes)
     ∙ ap (λ x. map Decoded (utf8_pieces prefix) ++ parts_from x suffix) (append-nil end)

@@ -1,17 +1,6 @@
 -- What decoding unreserved octets keeps: the bytes, what the set allows, and what is on either side
 -- of a character.
-use Rattle.std.proofs.Common.{◌≡◌, ℕ, Bool, true, false, List, [], ◌∷◌, ◌++◌, map, refl, sym, ap, ◌∙◌, ◌&&◌, append_assoc, arith}
-use Rattle.std.specs.Char.{encode_utf8, IsScalar}
-use Rattle.std.specs.List.{list_all, list_any, flat_map, All}
-use Rattle.std.proofs.lemmas.List.{append-nil, map-append}
-use Rattle.std.proofs.lemmas.List.Concat.{flat_map-append}
-use Rattle.std.proofs.lemmas.List.Folds.{list_all-append}
-use Rattle.std.proofs.lemmas.List.Elements.{All-head, All-tail}
-use Rattle.std.proofs.lemmas.Bool.{and_parts, and_from}
-use Rattle.uri_pct.specs.Sets.{TableSet, LacksPercent, IsSubset, unreserved_set}
-use Rattle.uri_pct.specs.Tokens.{Token, Char, Octet, tokens, bytes_decoded_from, bytes_of_one_token, print, allows_token, is_valid_for, IsValidFor}
-use Rattle.uri_pct.specs.Pieces.{Piece, WellFormed, IllFormed, piece_bytes, bytes_of_pieces, utf8_pieces, IsOfCharacter}
-use Rattle.uri_pct.specs.DecodeUnreserved.{is_printable, is_decodable, decode_piece, decode_run, decode_after_run, decode_tokens, is_literal_formatting, encode_formatting, decode_unreserved}
+use Rattle.uri_pct.proofs.Common.{◌≡◌, ℕ, Bool, true, false, List, [], ◌∷◌, ◌++◌, map, refl, sym, ap, ◌∙◌, ◌&&◌, append_assoc, arith, encode_utf8, IsScalar, list_all, list_any, flat_map, All, append-nil, map-append, flat_map-append, list_all-append, All-head, All-tail, and_parts, and_from, TableSet, LacksPercent, IsSubset, unreserved_set, Token, Char, Octet, tokens, bytes_decoded_from, bytes_of_one_token, print, allows_token, is_valid_for, IsValidFor, Piece, WellFormed, IllFormed, piece_bytes, bytes_of_pieces, utf8_pieces, IsOfCharacter, is_printable, is_decodable, decode_piece, decode_run, decode_after_run, decode_tokens, is_literal_formatting, encode_formatting, decode_unreserved, nat_tests}
 use Rattle.uri_pct.proofs.Unicode.Pieces.{bytes_of_utf8_pieces_are_the_bytes}
 use Rattle.uri_pct.proofs.Unicode.CharacterPieces.{utf8_pieces-are-of-characters, char_separates_utf8_pieces, char_of_utf8_is_the_char}
 use Rattle.uri_pct.proofs.EncodedTexts.EncodedTokens.{octets_of_bytes_are_printable, utf8_bytes_are_eight_bit}
@@ -20,7 +9,6 @@ use Rattle.uri_pct.proofs.ValidTexts.Allowed.{decodable_char_is_printable, decod
 use Rattle.uri_pct.proofs.UnreservedDecoding.Formatting.{never_literal_char_is_scalar_past_ascii, never_literal_char_is_decodable, encode_formatting_keeps_bytes, encode_formatting_keeps_tokens_printable, encode_formatting_keeps_tokens_allowed}
 use Rattle.uri_pct.proofs.UnreservedDecoding.Formatting as Formatting
 use Rattle.uri_pct.proofs.EncodedTexts.Encodings.{octets_decode_to_their_bytes}
-use Rattle.std.proofs.lemmas.Bool.Decides.{nat_tests}
 
 -- unreserved octets: a piece of decoded bytes keeps its bytes
 decoded_piece_keeps_its_bytes : (set : TableSet) (p : Piece) → IsOfCharacter p
@@ -36,24 +24,21 @@ decoded_pieces_keep_their_bytes set [] h = refl
 decoded_pieces_keep_their_bytes set (p ∷ ps) h =
     flat_map-append bytes_of_one_token (decode_piece set p) (flat_map (decode_piece set) ps)
     ∙ ap (λ x. x ++ bytes_decoded_from (flat_map (decode_piece set) ps))
-    (decoded_piece_keeps_its_bytes set p (All-head IsOfCharacter p ps h))
-    ∙ ap (λ x. piece_bytes p ++ x)
-    (decoded_pieces_keep_their_bytes set ps (All-tail IsOfCharacter p ps h))
+    (decoded_piece_keeps_its_bytes set p (All-head IsOfCharacter p ps h)) ∙ ap (λ x. piece_bytes p
+    ++ x) (decoded_pieces_keep_their_bytes set ps (All-tail IsOfCharacter p ps h))
 
 -- unreserved octets: a run of octets keeps its bytes when it is decoded
 decode_run_keeps_bytes : (set : TableSet) (run : List ℕ)
     → bytes_decoded_from (decode_run set run) ≡ run
 unfolding decode_run
-decode_run_keeps_bytes set run = decoded_pieces_keep_their_bytes set (utf8_pieces run)
-    (utf8_pieces-are-of-characters run)
-    ∙ bytes_of_utf8_pieces_are_the_bytes run
+decode_run_keeps_bytes set run = decoded_pieces_keep_their_bytes set
+    (utf8_pieces run) (utf8_pieces-are-of-characters run) ∙ bytes_of_utf8_pieces_are_the_bytes run
 
 -- unreserved octets: tokens after a run of octets keep their bytes when they are decoded
 decode_after_run_keeps_bytes : (set : TableSet) (run : List ℕ) (ts : List Token)
     → bytes_decoded_from (decode_after_run set run ts) ≡ run ++ bytes_decoded_from ts
 unfolding decode_after_run
-decode_after_run_keeps_bytes set run [] = decode_run_keeps_bytes set run
-    ∙ sym (append-nil run)
+decode_after_run_keeps_bytes set run [] = decode_run_keeps_bytes set run ∙ sym (append-nil run)
 decode_after_run_keeps_bytes set run (Octet value ∷ ts) =
     grind (arith, nat_tests, append_assoc, decode_after_run_keeps_bytes set (run ++ value ∷ []) ts)
 decode_after_run_keeps_bytes set run (Char c ∷ ts) =
@@ -66,8 +51,7 @@ decode_after_run_keeps_bytes set run (Char c ∷ ts) =
 pub decode_unreserved_keeps_bytes : (set : TableSet) (text : List ℕ)
     → bytes_decoded_from (decode_unreserved set text) ≡ bytes_decoded_from (tokens text)
 decode_unreserved_keeps_bytes set text = encode_formatting_keeps_bytes set
-    (decode_tokens set (tokens text))
-    ∙ decode_after_run_keeps_bytes set [] (tokens text)
+    (decode_tokens set (tokens text)) ∙ decode_after_run_keeps_bytes set [] (tokens text)
 
 -- unreserved octets: each decodable character passes a test of tokens
 abbrev PassesDecodable : (Token → Bool) → TableSet → Type 0
@@ -79,9 +63,8 @@ test_holds_of_joined_lists : (test : Token → Bool) (xs ys : List Token) → li
 test_holds_of_joined_lists test xs ys e f = list_all-append test xs ys ∙ and_from _ _ e f
 
 -- general fact on lists of tokens, for unreserved octets: both pass a test that they pass joined
-test_holds_of_both_lists : (test : Token → Bool) (xs ys : List Token) → list_all test (xs ++ ys)
-    ≡ true
-    → (list_all test xs ≡ true) × (list_all test ys ≡ true)
+test_holds_of_both_lists : (test : Token → Bool) (xs ys : List Token)
+    → list_all test (xs ++ ys) ≡ true → (list_all test xs ≡ true) × (list_all test ys ≡ true)
 test_holds_of_both_lists test xs ys e = and_parts (list_all test xs) (list_all test ys)
     (sym (list_all-append test xs ys) ∙ e)
 
@@ -117,17 +100,15 @@ decoded_run_passes_test test set run h e = decoded_pieces_pass_test test set (ut
 -- unreserved octets: a test that holds of tokens holds of the decoded ones,
 -- if decodable characters pass it; run: octets before them
 tokens_decoded_after_run_pass_test : (test : Token → Bool) (set : TableSet) (run : List ℕ)
-    (ts : List Token)
-    → PassesDecodable test set → list_all test (map Octet run) ≡ true → list_all test ts ≡ true
-    → list_all test (decode_after_run set run ts) ≡ true
+    (ts : List Token) → PassesDecodable test set → list_all test (map Octet run) ≡ true
+    → list_all test ts ≡ true → list_all test (decode_after_run set run ts) ≡ true
 unfolding decode_after_run
 tokens_decoded_after_run_pass_test test set run [] h e f = decoded_run_passes_test test set run h e
 tokens_decoded_after_run_pass_test test set run (Octet value ∷ ts) h e f =
     let p = and_parts (test (Octet value)) _ f in
     tokens_decoded_after_run_pass_test test set (run ++ value ∷ []) ts h
-    (ap (list_all test) (map-append Octet run (value ∷ []))
-    ∙ test_holds_of_joined_lists test (map Octet run) (Octet value ∷ []) e
-    (and_from _ true p.0 refl)) p.1
+    (ap (list_all test) (map-append Octet run (value ∷ [])) ∙ test_holds_of_joined_lists test
+    (map Octet run) (Octet value ∷ []) e (and_from _ true p.0 refl)) p.1
 tokens_decoded_after_run_pass_test test set run (Char c ∷ ts) h e f =
     let p = and_parts (test (Char c)) _ f in
     test_holds_of_joined_lists test (decode_run set run) (Char c ∷ decode_after_run set [] ts)
@@ -137,9 +118,8 @@ tokens_decoded_after_run_pass_test test set run (Char c ∷ ts) h e f =
 -- unreserved octets: decoded tokens can be written
 pub decode_tokens_keeps_tokens_printable : (set : TableSet) (ts : List Token)
     → list_all is_printable ts ≡ true → list_all is_printable (decode_tokens set ts) ≡ true
-decode_tokens_keeps_tokens_printable set ts e =
-    tokens_decoded_after_run_pass_test is_printable set [] ts
-    (λ c h. decodable_char_is_printable set c h) refl e
+decode_tokens_keeps_tokens_printable set ts e = tokens_decoded_after_run_pass_test
+    is_printable set [] ts (λ c h. decodable_char_is_printable set c h) refl e
 
 -- unreserved octets: decoding the unreserved octets of a text leaves tokens that can be written
 pub decode_unreserved_keeps_tokens_printable : (set : TableSet) (text : List ℕ)
@@ -169,10 +149,9 @@ printed_decode_unreserved_stays_valid set text lacks wide valid =
     ∙ decode_unreserved_keeps_tokens_allowed set text wide valid
 
 -- unreserved octets: a literal character separates the decoding before it from that after it
-char_separates_decoding_after_run : (set : TableSet) (run : List ℕ) (ts : List Token) (c : ℕ)
-    (us : List Token)
-    → decode_after_run set run (ts ++ Char c ∷ us) ≡ decode_after_run set run ts ++ Char c
-    ∷ decode_tokens set us
+char_separates_decoding_after_run : (set : TableSet) (run : List ℕ)
+    (ts : List Token) (c : ℕ) (us : List Token) → decode_after_run set run (ts ++ Char c ∷ us)
+    ≡ decode_after_run set run ts ++ Char c ∷ decode_tokens set us
 unfolding decode_after_run
 char_separates_decoding_after_run set run [] c us = refl
 char_separates_decoding_after_run set run (Octet value ∷ ts) c us =
@@ -188,19 +167,17 @@ char_separates_decoded_tokens set ts c us = char_separates_decoding_after_run se
 
 -- unreserved octets: the octets of a decodable character part a run as the character does
 decodable_char_octets_split_run : (set : TableSet) (run : List ℕ) (c : ℕ) (more : List ℕ)
-    → IsScalar c → is_decodable set c ≡ true
-    → decode_run set (run ++ (encode_utf8 c ++ more)) ≡ decode_run set run ++ Char c
-    ∷ decode_run set more
+    → IsScalar c → is_decodable set c ≡ true → decode_run set (run ++ (encode_utf8 c ++ more))
+    ≡ decode_run set run ++ Char c ∷ decode_run set more
 unfolding decode_run
 decodable_char_octets_split_run set run c more scalar decodable =
     grind (arith, nat_tests, char_of_utf8_is_the_char, char_separates_utf8_pieces, flat_map-append)
 
 -- unreserved octets: in a run, the octets
 -- of a decodable character decode to it, and it ends the run
-pub decodable_char_octets_split_decoding : (set : TableSet) (run : List ℕ) (c : ℕ) (more : List ℕ)
-    (ts : List Token)
-    → IsScalar c → is_decodable set c ≡ true
-    → decode_after_run set (run ++ (encode_utf8 c ++ more)) ts
+pub decodable_char_octets_split_decoding :
+    (set : TableSet) (run : List ℕ) (c : ℕ) (more : List ℕ) (ts : List Token) → IsScalar c
+    → is_decodable set c ≡ true → decode_after_run set (run ++ (encode_utf8 c ++ more)) ts
     ≡ decode_run set run ++ Char c ∷ decode_after_run set more ts
 unfolding decode_after_run
 decodable_char_octets_split_decoding set run c more [] scalar decodable =
@@ -218,15 +195,13 @@ pub octets_before_tokens_lengthen_run : (set : TableSet) (run more : List ℕ) (
 unfolding decode_after_run
 octets_before_tokens_lengthen_run set run [] ts = ap (λ r. decode_after_run set r ts)
     (sym (append-nil run))
-octets_before_tokens_lengthen_run set run (b ∷ more) ts = octets_before_tokens_lengthen_run set
-    (run ++ b ∷ []) more ts
-    ∙ ap (λ r. decode_after_run set r ts) (append_assoc run (b ∷ []) more)
+octets_before_tokens_lengthen_run set run (b ∷ more) ts = octets_before_tokens_lengthen_run set (run
+    ++ b ∷ []) more ts ∙ ap (λ r. decode_after_run set r ts) (append_assoc run (b ∷ []) more)
 
 -- unreserved octets: after a run, the octets of a decodable character decode to it, in any context
-decodable_char_octets_decode_as_char_after_run : (set : TableSet) (run : List ℕ) (ts : List Token)
-    (c : ℕ) (us : List Token)
-    → IsScalar c → is_decodable set c ≡ true
-    → decode_after_run set run (ts ++ (map Octet (encode_utf8 c) ++ us))
+decodable_char_octets_decode_as_char_after_run :
+    (set : TableSet) (run : List ℕ) (ts : List Token) (c : ℕ) (us : List Token) → IsScalar c
+    → is_decodable set c ≡ true → decode_after_run set run (ts ++ (map Octet (encode_utf8 c) ++ us))
     ≡ decode_after_run set run (ts ++ Char c ∷ us)
 unfolding decode_after_run
 decodable_char_octets_decode_as_char_after_run set run [] c us scalar decodable =
@@ -240,11 +215,9 @@ decodable_char_octets_decode_as_char_after_run set run (Char d ∷ ts) c us scal
     (decodable_char_octets_decode_as_char_after_run set [] ts c us scalar decodable)
 
 -- unreserved octets: the octets of a decodable character decode to the character, in any context
-pub decodable_char_octets_decode_as_char : (set : TableSet) (ts : List Token) (c : ℕ)
-    (us : List Token)
-    → IsScalar c → is_decodable set c ≡ true
-    → decode_tokens set (ts ++ (map Octet (encode_utf8 c) ++ us))
-    ≡ decode_tokens set (ts ++ Char c ∷ us)
+pub decodable_char_octets_decode_as_char : (set : TableSet) (ts : List Token)
+    (c : ℕ) (us : List Token) → IsScalar c → is_decodable set c ≡ true → decode_tokens set (ts
+    ++ (map Octet (encode_utf8 c) ++ us)) ≡ decode_tokens set (ts ++ Char c ∷ us)
 decodable_char_octets_decode_as_char set ts c us scalar decodable =
     decodable_char_octets_decode_as_char_after_run set [] ts c us scalar decodable
 
@@ -256,22 +229,20 @@ octets_of_formatting_chars_decode_as_chars set before (Octet value ∷ ts) =
     ap (decode_tokens set) (sym (append_assoc before (Octet value ∷ []) (encode_formatting set ts)))
     ∙ octets_of_formatting_chars_decode_as_chars set (before ++ Octet value ∷ []) ts
     ∙ ap (decode_tokens set) (append_assoc before (Octet value ∷ []) ts)
-octets_of_formatting_chars_decode_as_chars set before (Char c ∷ ts) =
-    grind (
-      arith,
-      nat_tests,
-      append_assoc,
-      decodable_char_octets_decode_as_char,
-      never_literal_char_is_scalar_past_ascii,
-      never_literal_char_is_decodable,
-      octets_of_formatting_chars_decode_as_chars set (before ++ Char c ∷ []) ts,
-    )
+octets_of_formatting_chars_decode_as_chars set before (Char c ∷ ts) = grind (
+  arith,
+  nat_tests,
+  append_assoc,
+  decodable_char_octets_decode_as_char,
+  never_literal_char_is_scalar_past_ascii,
+  never_literal_char_is_decodable,
+  octets_of_formatting_chars_decode_as_chars set (before ++ Char c ∷ []) ts,
+)
 
 -- unreserved octets: the octets of a decodable character, written, decode as the character does
-pub printed_octets_of_decodable_char_decode_as_char : (set : TableSet) (before : List Token) (c : ℕ)
-    (suffix : List Token)
-    → IsScalar c → is_decodable set c ≡ true
-    → list_all is_printable (before ++ Char c ∷ suffix) ≡ true
+pub printed_octets_of_decodable_char_decode_as_char :
+    (set : TableSet) (before : List Token) (c : ℕ) (suffix : List Token) → IsScalar c
+    → is_decodable set c ≡ true → list_all is_printable (before ++ Char c ∷ suffix) ≡ true
     → decode_unreserved set (print (before ++ (map Octet (encode_utf8 c) ++ suffix)))
     ≡ decode_unreserved set (print (before ++ Char c ∷ suffix))
 printed_octets_of_decodable_char_decode_as_char set before c suffix scalar decodable e =
@@ -283,14 +254,12 @@ printed_octets_of_decodable_char_decode_as_char set before c suffix scalar decod
     (and_parts (is_printable (Char c)) _ p.1).1 in
     ap of (printed_tokens_parse_to_themselves (before ++ (octets ++ suffix))
     (test_holds_of_joined_lists is_printable before (octets ++ suffix) p.0 joined))
-    ∙ ap (encode_formatting set)
-    (decodable_char_octets_decode_as_char set before c suffix scalar decodable)
-    ∙ sym (ap of (printed_tokens_parse_to_themselves (before ++ Char c ∷ suffix) e))
+    ∙ ap (encode_formatting set) (decodable_char_octets_decode_as_char set before c suffix scalar
+    decodable) ∙ sym (ap of (printed_tokens_parse_to_themselves (before ++ Char c ∷ suffix) e))
 
 -- unreserved octets: no formatting character is literal after decoding
-pub decode_unreserved_leaves_no_literal_formatting : (set : TableSet) (text : List ℕ)
-    → (set.ucschar && set.pct_encoded) ≡ true
-    → list_any is_literal_formatting (decode_unreserved set text) ≡ false
+pub decode_unreserved_leaves_no_literal_formatting : (set : TableSet) (text : List ℕ) → (set.ucschar
+    && set.pct_encoded) ≡ true → list_any is_literal_formatting (decode_unreserved set text) ≡ false
 decode_unreserved_leaves_no_literal_formatting set text e =
     Formatting.encode_formatting_leaves_no_literal_formatting set (decode_tokens set (tokens text))
     e

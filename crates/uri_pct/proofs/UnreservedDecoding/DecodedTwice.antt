@@ -1,14 +1,5 @@
 -- Decoding a decoded text changes nothing, also if letters were lowered in between.
-use Rattle.std.proofs.Common.{◌≡◌, ℕ, Bool, true, false, not, List, [], ◌∷◌, ◌++◌, map, refl, sym, ap, ◌∙◌, ⊎_elim, append_assoc, subst}
-use Rattle.std.specs.List.{list_all, flat_map}
-use Rattle.std.proofs.lemmas.List.{append-nil, map-append}
-use Rattle.std.proofs.lemmas.List.Concat.{flat_map-append}
-use Rattle.std.proofs.lemmas.List.Folds.{list_all-append}
-use Rattle.std.proofs.lemmas.Bool.{cases_Bool, cond-true, cond-false, and_parts, and_from, not-true, not-false}
-use Rattle.uri_pct.specs.Sets.{TableSet}
-use Rattle.uri_pct.specs.Tokens.{Token, Char, Octet, tokens, print}
-use Rattle.uri_pct.specs.Pieces.{Piece, WellFormed, IllFormed, char_of, piece_bytes, bytes_of_pieces, utf8_pieces}
-use Rattle.uri_pct.specs.DecodeUnreserved.{is_printable, is_decodable, decode_piece, decode_run, decode_after_run, decode_tokens, encode_formatting, decode_unreserved, lower_token}
+use Rattle.uri_pct.proofs.Common.{◌≡◌, ℕ, Bool, true, false, not, List, [], ◌∷◌, ◌++◌, map, refl, sym, ap, ◌∙◌, ⊎_elim, append_assoc, subst, list_all, flat_map, append-nil, map-append, flat_map-append, list_all-append, cases_Bool, cond-true, cond-false, and_parts, and_from, not-true, not-false, TableSet, Token, Char, Octet, tokens, print, Piece, WellFormed, IllFormed, char_of, piece_bytes, bytes_of_pieces, utf8_pieces, is_printable, is_decodable, decode_piece, decode_run, decode_after_run, decode_tokens, encode_formatting, decode_unreserved, lower_token}
 use Rattle.uri_pct.proofs.Unicode.Pieces.{ArePiecesOfOwnBytes, utf8_pieces-are-of-own-bytes, prefix_of_pieces_is_of_own_bytes, tail_of_pieces_is_of_own_bytes}
 use Rattle.uri_pct.proofs.UnreservedDecoding.Printing.{printed_tokens_parse_to_themselves}
 use Rattle.uri_pct.proofs.ValidTexts.Allowed.{lowered_tokens_are_printable}
@@ -31,9 +22,8 @@ decoding_decoded_tokens_keeps_them : (set : TableSet) (run : List ℕ) (ts : Lis
 unfolding decode_after_run
 decoding_decoded_tokens_keeps_them set run [] same = same ∙ sym (append-nil (map Octet run))
 decoding_decoded_tokens_keeps_them set run (Octet value ∷ ts) same =
-    decoding_decoded_tokens_keeps_them set (run ++ value ∷ []) ts same
-    ∙ ap (λ x. x ++ ts) (map-append Octet run (value ∷ []))
-    ∙ append_assoc (map Octet run) (Octet value ∷ []) ts
+    decoding_decoded_tokens_keeps_them set (run ++ value ∷ []) ts same ∙ ap (λ x. x
+    ++ ts) (map-append Octet run (value ∷ [])) ∙ append_assoc (map Octet run) (Octet value ∷ []) ts
 decoding_decoded_tokens_keeps_them set run (Char c ∷ ts) same =
     ap (λ x. x ++ Char c ∷ decode_after_run set [] ts) same.0
     ∙ ap (λ x. map Octet run ++ Char c ∷ x) (decoding_decoded_tokens_keeps_them set [] ts same.1)
@@ -102,14 +92,12 @@ decoded_piece_ends_run_before_it set done (WellFormed bytes) ps ts e unchanged s
 -- unreserved octets: the tokens of a decoded run are decoded,
 -- if the pieces before it are unchanged and what follows is decoded
 decoded_run_before_decoded_tokens_is_decoded : (set : TableSet) (done ps : List Piece)
-    (ts : List Token)
-    → ArePiecesOfOwnBytes (done ++ ps) → list_all (is_undecoded set) done ≡ true
+    (ts : List Token) → ArePiecesOfOwnBytes (done ++ ps) → list_all (is_undecoded set) done ≡ true
     → ((run : List ℕ) → IsUnchangedRun set run → IsDecoded set run ts)
     → IsDecoded set (bytes_of_pieces done) (flat_map (decode_piece set) ps ++ ts)
 decoded_run_before_decoded_tokens_is_decoded set done [] ts cut undecoded suffix =
-    suffix (bytes_of_pieces done)
-    (run_of_undecodable_pieces_is_unchanged set done (prefix_of_pieces_is_of_own_bytes done [] cut)
-    undecoded)
+    suffix (bytes_of_pieces done) (run_of_undecodable_pieces_is_unchanged set done
+    (prefix_of_pieces_is_of_own_bytes done [] cut) undecoded)
 decoded_run_before_decoded_tokens_is_decoded set done (p ∷ ps) ts cut undecoded suffix = ⊎_elim
     (λ e.
     let more : ArePiecesOfOwnBytes ((done ++ p ∷ []) ++ ps) =
@@ -128,21 +116,18 @@ decoded_run_before_decoded_tokens_is_decoded set done (p ∷ ps) ts cut undecode
     (subst (λ x. IsDecoded set (bytes_of_pieces done) (x ++ (flat_map (decode_piece set) ps ++ ts)))
     (sym (undecodable_piece_is_unchanged set p e)) octets))
     (λ e. decoded_piece_ends_run_before_it set done p ps ts e
-    (run_of_undecodable_pieces_is_unchanged set done (prefix_of_pieces_is_of_own_bytes done (p
-    ∷ ps) cut) undecoded) (decoded_run_before_decoded_tokens_is_decoded set [] ps ts
-    (suffix_of_pieces_is_of_own_bytes (done ++ p ∷ []) ps
-    (subst ArePiecesOfOwnBytes (sym (append_assoc done (p ∷ []) ps)) cut)) refl suffix))
-    (cases_Bool (is_undecoded set p))
+    (run_of_undecodable_pieces_is_unchanged set done (prefix_of_pieces_is_of_own_bytes done
+    (p ∷ ps) cut) undecoded) (decoded_run_before_decoded_tokens_is_decoded set [] ps ts
+    (suffix_of_pieces_is_of_own_bytes (done ++ p ∷ []) ps (subst ArePiecesOfOwnBytes
+    (sym (append_assoc done (p ∷ []) ps)) cut)) refl suffix)) (cases_Bool (is_undecoded set p))
 
 -- unreserved octets: what decoding returns is decoded
 decode_after_run_gives_decoded_tokens : (set : TableSet) (run : List ℕ) (ts : List Token)
     → IsDecoded set [] (decode_after_run set run ts)
 unfolding decode_after_run decode_run
 decode_after_run_gives_decoded_tokens set run [] = subst (IsDecoded set [])
-    (append-nil (decode_run set run))
-    (decoded_run_before_decoded_tokens_is_decoded set [] (utf8_pieces run) []
-    (utf8_pieces-are-of-own-bytes run) refl
-    (λ r unchanged. unchanged))
+    (append-nil (decode_run set run)) (decoded_run_before_decoded_tokens_is_decoded set []
+    (utf8_pieces run) [] (utf8_pieces-are-of-own-bytes run) refl (λ r unchanged. unchanged))
 decode_after_run_gives_decoded_tokens set run (Octet value ∷ ts) =
     decode_after_run_gives_decoded_tokens set (run ++ value ∷ []) ts
 decode_after_run_gives_decoded_tokens set run (Char c ∷ ts) =
@@ -178,19 +163,16 @@ lowered_decoded_tokens_are_decoded set run (Char c ∷ ts) h =
     (h.0, lowered_decoded_tokens_are_decoded set [] ts h.1)
 
 -- unreserved octets: decoded tokens in lower case are unchanged when they are decoded again
-pub decoding_keeps_lowered_decoded_tokens : (set : TableSet) (ts : List Token)
-    → decode_tokens set (map lower_token (decode_tokens set ts))
-    ≡ map lower_token (decode_tokens set ts)
+pub decoding_keeps_lowered_decoded_tokens : (set : TableSet) (ts : List Token) → decode_tokens set
+    (map lower_token (decode_tokens set ts)) ≡ map lower_token (decode_tokens set ts)
 decoding_keeps_lowered_decoded_tokens set ts = decoding_decoded_tokens_keeps_them set []
-    (map lower_token (decode_tokens set ts))
-    (lowered_decoded_tokens_are_decoded set [] (decode_tokens set ts)
-    (decode_after_run_gives_decoded_tokens set [] ts))
+    (map lower_token (decode_tokens set ts)) (lowered_decoded_tokens_are_decoded set []
+    (decode_tokens set ts) (decode_after_run_gives_decoded_tokens set [] ts))
 
 -- unreserved octets: decoded tokens in lower case decode to themselves
 pub decoding_keeps_lowered_decoded_text : (set : TableSet) (text : List ℕ)
-    → list_all is_printable (tokens text) ≡ true
-    → decode_unreserved set (print (map lower_token (decode_unreserved set text)))
-    ≡ map lower_token (decode_unreserved set text)
+    → list_all is_printable (tokens text) ≡ true → decode_unreserved set (print (map lower_token
+    (decode_unreserved set text))) ≡ map lower_token (decode_unreserved set text)
 decoding_keeps_lowered_decoded_text set text e =
     let ts = decode_tokens set (tokens text) in
     ap (λ us. encode_formatting set (decode_tokens set us))
@@ -200,6 +182,5 @@ decoding_keeps_lowered_decoded_text set text e =
     ∙ ap (λ us. encode_formatting set (decode_tokens set us))
     (encode_formatting_commutes_with_lowering set ts)
     ∙ ap (encode_formatting set) (DecodedTokens.octets_of_formatting_chars_decode_as_chars set []
-    (map lower_token ts)
-    ∙ decoding_keeps_lowered_decoded_tokens set (tokens text))
+    (map lower_token ts) ∙ decoding_keeps_lowered_decoded_tokens set (tokens text))
     ∙ sym (encode_formatting_commutes_with_lowering set ts)

@@ -1,17 +1,5 @@
 -- Formatting characters of bidirectional text as octets: what that keeps.
-use Rattle.std.proofs.Common.{◌≡◌, ℕ, ◌<◌, ◌≤◌, Bool, true, false, List, [], ◌∷◌, ◌++◌, map, refl, ap, ◌∙◌, arith, ◌&&◌}
-use Rattle.std.specs.Char.{IsScalar, encode_utf8, to_ascii_lowercase}
-use Rattle.std.specs.Int.{is_in_range}
-use Rattle.std.specs.List.{list_all, list_any}
-use Rattle.std.proofs.lemmas.List.{append-nil, map-append}
-use Rattle.std.proofs.lemmas.List.Concat.{flat_map-append}
-use Rattle.std.proofs.lemmas.List.Folds.{list_all-append}
-use Rattle.std.proofs.lemmas.Bool.{cond-false, and_parts, and_from, or_right}
-use Rattle.std.proofs.lemmas.Bool.Decides.{nat_tests}
-use Rattle.std.proofs.lemmas.Str.Ascii.{lowercase_ascii}
-use Rattle.uri_pct.specs.Sets.{TableSet, is_ucschar, allows_past_ascii}
-use Rattle.uri_pct.specs.Tokens.{Token, Char, Octet, bytes_decoded_from, bytes_of_one_token, allows_token}
-use Rattle.uri_pct.specs.DecodeUnreserved.{is_printable, is_decodable, lower_token, is_bidi_formatting, is_never_literal, formatting_as_octets, is_literal_formatting, encode_formatting}
+use Rattle.uri_pct.proofs.Common.{◌≡◌, ℕ, ◌<◌, ◌≤◌, Bool, true, false, List, [], ◌∷◌, ◌++◌, map, refl, ap, ◌∙◌, arith, ◌&&◌, IsScalar, encode_utf8, to_ascii_lowercase, is_in_range, list_all, list_any, append-nil, map-append, flat_map-append, list_all-append, cond-false, and_parts, and_from, or_right, nat_tests, lowercase_ascii, TableSet, is_ucschar, allows_past_ascii, Token, Char, Octet, bytes_decoded_from, bytes_of_one_token, allows_token, is_printable, is_decodable, lower_token, is_bidi_formatting, is_never_literal, formatting_as_octets, is_literal_formatting, encode_formatting}
 use Rattle.uri_pct.proofs.EncodedTexts.EncodedTokens.{octets_of_bytes_are_printable, octets_are_allowed_if_pct_encoded, utf8_bytes_are_eight_bit}
 use Rattle.uri_pct.proofs.EncodedTexts.Encodings.{octets_decode_to_their_bytes}
 
@@ -44,9 +32,8 @@ never_literal_char_is_formatting_in_set_with_flags set c e =
     (q.0, (q.1, p.1))
 
 -- unreserved octets: a formatting character is a Unicode scalar value past ASCII
-pub never_literal_char_is_scalar_past_ascii : (set : TableSet) (c : ℕ) → is_never_literal set c
-    ≡ true
-    → (128 ≤ c) × IsScalar c
+pub never_literal_char_is_scalar_past_ascii : (set : TableSet) (c : ℕ)
+    → is_never_literal set c ≡ true → (128 ≤ c) × IsScalar c
 never_literal_char_is_scalar_past_ascii set c e = formatting_char_is_scalar_past_ascii c
     (never_literal_char_is_formatting_in_set_with_flags set c e).1.1
 
@@ -89,9 +76,8 @@ and_with_false_is_false false y = refl
 ascii_char_is_unchanged : (set : TableSet) (c : ℕ) → c < 128
     → formatting_as_octets set (Char c) ≡ Char c ∷ []
 unfolding is_never_literal
-ascii_char_is_unchanged set c h = cond-false _ _ _
-    (ap (λ b. set.ucschar && set.pct_encoded && b) (ascii_char_is_no_formatting_char c h)
-    ∙ and_with_false_is_false set.ucschar set.pct_encoded)
+ascii_char_is_unchanged set c h = cond-false _ _ _ (ap (λ b. set.ucschar && set.pct_encoded && b)
+    (ascii_char_is_no_formatting_char c h) ∙ and_with_false_is_false set.ucschar set.pct_encoded)
 
 -- unreserved octets: to write a formatting character as octets keeps the decoded bytes
 formatting_as_octets_keeps_bytes : (set : TableSet) (t : Token)
@@ -104,10 +90,9 @@ formatting_as_octets_keeps_bytes set (Char c) =
 pub encode_formatting_keeps_bytes : (set : TableSet) (ts : List Token)
     → bytes_decoded_from (encode_formatting set ts) ≡ bytes_decoded_from ts
 encode_formatting_keeps_bytes set [] = refl
-encode_formatting_keeps_bytes set (t ∷ ts) =
-    flat_map-append bytes_of_one_token (formatting_as_octets set t) (encode_formatting set ts)
-    ∙ ap (λ x. x ++ bytes_decoded_from (encode_formatting set ts))
-    (formatting_as_octets_keeps_bytes set t)
+encode_formatting_keeps_bytes set (t ∷ ts) = flat_map-append bytes_of_one_token
+    (formatting_as_octets set t) (encode_formatting set ts) ∙ ap (λ x. x
+    ++ bytes_decoded_from (encode_formatting set ts)) (formatting_as_octets_keeps_bytes set t)
     ∙ ap (λ x. bytes_of_one_token t ++ x) (encode_formatting_keeps_bytes set ts)
 
 -- unreserved octets: a token passes a test
@@ -133,19 +118,17 @@ encode_formatting_passes_test test set (t ∷ ts) octets e =
 -- unreserved octets: percent-encoding formatting characters leaves tokens that can be written
 pub encode_formatting_keeps_tokens_printable : (set : TableSet) (ts : List Token)
     → list_all is_printable ts ≡ true → list_all is_printable (encode_formatting set ts) ≡ true
-encode_formatting_keeps_tokens_printable set ts e =
-    encode_formatting_passes_test is_printable set ts
-    (λ c h. octets_of_bytes_are_printable (encode_utf8 c)
+encode_formatting_keeps_tokens_printable set ts e = encode_formatting_passes_test
+    is_printable set ts (λ c h. octets_of_bytes_are_printable (encode_utf8 c)
     (utf8_bytes_are_eight_bit c (never_literal_char_is_scalar_past_ascii set c h).1)) e
 
 -- unreserved octets: percent-encoding formatting characters leaves tokens that the set allows
 pub encode_formatting_keeps_tokens_allowed : (set : TableSet) (ts : List Token)
     → list_all (allows_token set) ts ≡ true
     → list_all (allows_token set) (encode_formatting set ts) ≡ true
-encode_formatting_keeps_tokens_allowed set ts e =
-    encode_formatting_passes_test (allows_token set) set ts
-    (λ c h. octets_are_allowed_if_pct_encoded set (encode_utf8 c)
-    (never_literal_char_is_formatting_in_set_with_flags set c h).1.0) e
+encode_formatting_keeps_tokens_allowed set ts e = encode_formatting_passes_test
+    (allows_token set) set ts (λ c h. octets_are_allowed_if_pct_encoded set
+    (encode_utf8 c) (never_literal_char_is_formatting_in_set_with_flags set c h).1.0) e
 
 -- unreserved octets: lowering the letters of octets changes nothing
 pub lowering_keeps_octets : (bytes : List ℕ) → map lower_token (map Octet bytes) ≡ map Octet bytes
@@ -160,15 +143,14 @@ lowercase_keeps_char_past_ascii c h = grind (arith, nat_tests)
 formatting_as_octets_commutes_with_lowering : (set : TableSet) (t : Token)
     → map lower_token (formatting_as_octets set t) ≡ formatting_as_octets set (lower_token t)
 formatting_as_octets_commutes_with_lowering set (Octet value) = refl
-formatting_as_octets_commutes_with_lowering set (Char c) =
-    grind (
-      arith,
-      nat_tests,
-      ascii_char_is_unchanged,
-      lowercase_ascii,
-      lowercase_keeps_char_past_ascii,
-      lowering_keeps_octets,
-    )
+formatting_as_octets_commutes_with_lowering set (Char c) = grind (
+  arith,
+  nat_tests,
+  ascii_char_is_unchanged,
+  lowercase_ascii,
+  lowercase_keeps_char_past_ascii,
+  lowering_keeps_octets,
+)
 
 -- unreserved octets: percent-encoding formatting characters and lower case may swap
 pub encode_formatting_commutes_with_lowering : (set : TableSet) (ts : List Token)
@@ -177,14 +159,12 @@ encode_formatting_commutes_with_lowering set [] = refl
 encode_formatting_commutes_with_lowering set (t ∷ ts) =
     map-append lower_token (formatting_as_octets set t) (encode_formatting set ts)
     ∙ ap (λ x. x ++ map lower_token (encode_formatting set ts))
-    (formatting_as_octets_commutes_with_lowering set t)
-    ∙ ap (λ x. formatting_as_octets set (lower_token t) ++ x)
-    (encode_formatting_commutes_with_lowering set ts)
+    (formatting_as_octets_commutes_with_lowering set t) ∙ ap (λ x. formatting_as_octets set
+    (lower_token t) ++ x) (encode_formatting_commutes_with_lowering set ts)
 
 -- unreserved octets: an ASCII character separates the encoding before it from that after it
-pub ascii_char_separates_encode_formatting : (set : TableSet) (ts : List Token) (c : ℕ)
-    (us : List Token)
-    → c < 128 → encode_formatting set (ts ++ Char c ∷ us)
+pub ascii_char_separates_encode_formatting : (set : TableSet) (ts : List Token)
+    (c : ℕ) (us : List Token) → c < 128 → encode_formatting set (ts ++ Char c ∷ us)
     ≡ encode_formatting set ts ++ Char c ∷ encode_formatting set us
 ascii_char_separates_encode_formatting set ts c us low =
     grind (arith, nat_tests, flat_map-append, ascii_char_is_unchanged)
@@ -203,11 +183,10 @@ pub encode_formatting_leaves_no_literal_formatting : (set : TableSet) (ts : List
 encode_formatting_leaves_no_literal_formatting set [] e = refl
 encode_formatting_leaves_no_literal_formatting set (Octet value ∷ ts) e =
     encode_formatting_leaves_no_literal_formatting set ts e
-encode_formatting_leaves_no_literal_formatting set (Char c ∷ ts) e =
-    grind (
-      arith,
-      nat_tests,
-      octets_are_no_literal_formatting,
-      never_literal_is_formatting_if_both_flags,
-      encode_formatting_leaves_no_literal_formatting set ts e,
-    )
+encode_formatting_leaves_no_literal_formatting set (Char c ∷ ts) e = grind (
+  arith,
+  nat_tests,
+  octets_are_no_literal_formatting,
+  never_literal_is_formatting_if_both_flags,
+  encode_formatting_leaves_no_literal_formatting set ts e,
+)

@@ -1,29 +1,17 @@
 -- If a set has no characters past ASCII, each octet is decoded by itself.
-use Rattle.std.proofs.Common.{◌≡◌, ℕ, zero, suc, ◌<◌, ◌≤◌, true, false, cond, leb, List, [], ◌∷◌, ◌++◌, take, drop, map, refl, sym, ap, ◌∙◌, arith, ◌&&◌, ⊎_elim, append_assoc, Option, Some, None}
-use Rattle.std.specs.List.{list_all, flat_map}
-use Rattle.std.proofs.Math.Bool.{or-false}
-use Rattle.std.proofs.Math.Utf8.{low_scalar}
-use Rattle.std.proofs.lemmas.Str.{encode_ascii}
-use Rattle.std.proofs.lemmas.List.{append-nil, map-append, take-append-drop}
-use Rattle.std.proofs.lemmas.Bool.{cases_Bool, cond-false, and_parts, and_from, cases_lt, leb-true, le-leb, false_from_ne_true}
-use Rattle.uri_pct.specs.Sets.{TableSet, allows_past_ascii, is_unreserved}
-use Rattle.uri_pct.specs.Tokens.{Token, Char, Octet, tokens}
-use Rattle.uri_pct.specs.Pieces.{Piece, WellFormed, IllFormed, ByteRange, is_in_byte_range, char_of, piece_bytes, following_ranges, len_in_ranges, first_piece_tail_len, first_piece, pieces_from, IsOfCharacter}
-use Rattle.uri_pct.specs.DecodeUnreserved.{LacksPastAscii, is_decodable, decode_octet, decode_piece, decode_run, decode_after_run, decode_unreserved}
+use Rattle.uri_pct.proofs.Common.{◌≡◌, ℕ, zero, suc, ◌<◌, ◌≤◌, true, false, cond, leb, List, [], ◌∷◌, ◌++◌, take, drop, map, refl, sym, ap, ◌∙◌, arith, ◌&&◌, ⊎_elim, append_assoc, Option, Some, None, list_all, flat_map, or-false, low_scalar, encode_ascii, append-nil, map-append, take-append-drop, cases_Bool, cond-false, and_parts, and_from, cases_lt, leb-true, le-leb, false_from_ne_true, TableSet, allows_past_ascii, is_unreserved, Token, Char, Octet, tokens, Piece, WellFormed, IllFormed, ByteRange, is_in_byte_range, char_of, piece_bytes, following_ranges, len_in_ranges, first_piece_tail_len, first_piece, pieces_from, IsOfCharacter, LacksPastAscii, is_decodable, decode_octet, decode_piece, decode_run, decode_after_run, decode_unreserved, nat_tests}
 use Rattle.uri_pct.proofs.Unicode.Pieces.{is_continuation_range, are_continuation_ranges, following_ranges_are_continuations, first_piece_has_first_bytes}
 use Rattle.uri_pct.proofs.Unicode.CharacterPieces.{first_piece_is_of_character, char_of_utf8_is_the_char}
 use Rattle.uri_pct.proofs.Unicode.FirstBytes.{no_range_follows_ascii_byte}
 use Rattle.uri_pct.proofs.ValidTexts.Allowed.{unreserved_is_ascii}
 use Rattle.uri_pct.proofs.UnreservedDecoding.Formatting as Formatting
-use Rattle.std.proofs.lemmas.Bool.Decides.{nat_tests}
 
 -- unreserved octets of a URI: exactly unreserved characters are decoded,
 -- as the set has none past ASCII
 decodable_is_unreserved_in_uri : (set : TableSet) (c : ℕ) → LacksPastAscii set → is_decodable set c
     ≡ is_unreserved c
 unfolding is_decodable allows_past_ascii
-decodable_is_unreserved_in_uri set c alone = rw (alone.0, alone.1)
-    (or-false (is_unreserved c))
+decodable_is_unreserved_in_uri set c alone = rw (alone.0, alone.1) (or-false (is_unreserved c))
 
 -- unreserved octets of a URI: the token that an octet of this byte is decoded to
 decoded_octet_token : ℕ → Token
@@ -43,9 +31,8 @@ octets_past_ascii_are_unchanged (b ∷ rest) e =
     ∙ ap (λ x. Octet b ∷ x) (octets_past_ascii_are_unchanged rest p.1)
 
 -- unreserved octets of a URI: a byte that may follow a first one is past ASCII
-byte_in_continuation_range_is_past_ascii : (range : ByteRange) (b : ℕ) → is_continuation_range range
-    ≡ true
-    → is_in_byte_range range b ≡ true → leb 128 b ≡ true
+byte_in_continuation_range_is_past_ascii : (range : ByteRange) (b : ℕ)
+    → is_continuation_range range ≡ true → is_in_byte_range range b ≡ true → leb 128 b ≡ true
 unfolding is_continuation_range
 byte_in_continuation_range_is_past_ascii range b inner e = grind (arith, nat_tests)
 
@@ -57,11 +44,9 @@ bytes_in_continuation_ranges_are_past_ascii [] text inner = refl
 bytes_in_continuation_ranges_are_past_ascii (range ∷ ranges) [] inner = refl
 bytes_in_continuation_ranges_are_past_ascii (range ∷ ranges) (b ∷ rest) inner =
     let p = and_parts (is_continuation_range range) _ inner in
-    ⊎_elim
-    (λ e. rw e (and_from _ _ (byte_in_continuation_range_is_past_ascii range b p.0 e)
+    ⊎_elim (λ e. rw e (and_from _ _ (byte_in_continuation_range_is_past_ascii range b p.0 e)
     (bytes_in_continuation_ranges_are_past_ascii ranges rest p.1)))
-    (λ e. rw e refl)
-    (cases_Bool (is_in_byte_range range b))
+    (λ e. rw e refl) (cases_Bool (is_in_byte_range range b))
 
 -- unreserved octets of a URI: all bytes of the first piece
 -- but its first are past ASCII; row: which may follow
@@ -97,21 +82,16 @@ ascii_piece_is_decoded_as_octet_in_uri set b alone low =
 piece_is_decoded_octet_by_octet_in_uri : (set : TableSet) (b : ℕ) (rest : List ℕ)
     → LacksPastAscii set → decode_piece set (first_piece (following_ranges b) b rest)
     ≡ map decoded_octet_token (b ∷ take (first_piece_tail_len (following_ranges b) rest) rest)
-piece_is_decoded_octet_by_octet_in_uri set b rest alone = ⊎_elim
-    (λ low. rw (no_range_follows_ascii_byte b low)
-    (ascii_piece_is_decoded_as_octet_in_uri set b alone low))
-    (λ high.
+piece_is_decoded_octet_by_octet_in_uri set b rest alone =
+    ⊎_elim (λ low. rw (no_range_follows_ascii_byte b low)
+    (ascii_piece_is_decoded_as_octet_in_uri set b alone low)) (λ high.
     let bytes = first_piece_has_first_bytes (following_ranges b) b rest in
-    let past = and_from _ _ (le-leb 128 b high)
-    (first_piece_tail_is_past_ascii (following_ranges b) rest
-    (following_ranges_are_continuations b)) in
+    let past = and_from _ _ (le-leb 128 b high) (first_piece_tail_is_past_ascii
+    (following_ranges b) rest (following_ranges_are_continuations b)) in
     piece_past_ascii_is_unchanged_in_uri set (first_piece (following_ranges b) b rest) alone
     (first_piece_is_of_character b rest _ refl) (ap (list_all (leb 128)) bytes ∙ past)
-    ∙ ap (map Octet) bytes ∙ sym
-    (octets_past_ascii_are_unchanged
-    (b ∷ take (first_piece_tail_len (following_ranges b) rest) rest)
-    past))
-    (cases_lt b 128)
+    ∙ ap (map Octet) bytes ∙ sym (octets_past_ascii_are_unchanged (b
+    ∷ take (first_piece_tail_len (following_ranges b) rest) rest) past)) (cases_lt b 128)
 
 -- unreserved octets of a URI: pieces are decoded octet by octet; k: how many bytes are skipped
 pieces_are_decoded_octet_by_octet_in_uri : (set : TableSet) (k : ℕ) (bytes : List ℕ)
@@ -125,12 +105,10 @@ pieces_are_decoded_octet_by_octet_in_uri set (suc k) (b ∷ rest) alone =
 pieces_are_decoded_octet_by_octet_in_uri set zero (b ∷ rest) alone =
     let n = first_piece_tail_len (following_ranges b) rest in
     ap (λ x. x ++ flat_map (decode_piece set) (pieces_from n rest))
-    (piece_is_decoded_octet_by_octet_in_uri set b rest alone)
-    ∙ ap (λ x. map decoded_octet_token (b ∷ take n rest) ++ x)
-    (pieces_are_decoded_octet_by_octet_in_uri set n rest alone)
-    ∙ ap (λ x. decoded_octet_token b ∷ x)
-    (sym (map-append decoded_octet_token (take n rest) (drop n rest))
-    ∙ ap (map decoded_octet_token) (take-append-drop n rest))
+    (piece_is_decoded_octet_by_octet_in_uri set b rest alone) ∙ ap (λ x. map decoded_octet_token
+    (b ∷ take n rest) ++ x) (pieces_are_decoded_octet_by_octet_in_uri set n rest alone)
+    ∙ ap (λ x. decoded_octet_token b ∷ x) (sym (map-append decoded_octet_token
+    (take n rest) (drop n rest)) ∙ ap (map decoded_octet_token) (take-append-drop n rest))
 
 -- unreserved octets of a URI: without characters past ASCII,
 -- a run of octets is decoded octet by octet
@@ -148,21 +126,18 @@ unfolding decode_after_run decoded_octet_token
 tokens_are_decoded_octet_by_octet_in_uri set run [] alone = run_is_decoded_octet_by_octet_in_uri set
     run alone ∙ sym (append-nil (map decoded_octet_token run))
 tokens_are_decoded_octet_by_octet_in_uri set run (Octet value ∷ ts) alone =
-    tokens_are_decoded_octet_by_octet_in_uri set (run ++ value ∷ []) ts alone
-    ∙ ap (λ x. x ++ map decode_octet ts) (map-append decoded_octet_token run (value ∷ []))
-    ∙ append_assoc (map decoded_octet_token run) (decoded_octet_token value ∷ [])
-    (map decode_octet ts)
-tokens_are_decoded_octet_by_octet_in_uri set run (Char c ∷ ts) alone =
-    ap (λ x. x ++ Char c ∷ decode_after_run set [] ts)
-    (run_is_decoded_octet_by_octet_in_uri set run alone)
-    ∙ ap (λ x. map decoded_octet_token run ++ Char c ∷ x)
-    (tokens_are_decoded_octet_by_octet_in_uri set [] ts alone)
+    tokens_are_decoded_octet_by_octet_in_uri set (run ++ value ∷ []) ts alone ∙ ap (λ x. x
+    ++ map decode_octet ts) (map-append decoded_octet_token run (value ∷ [])) ∙ append_assoc
+    (map decoded_octet_token run) (decoded_octet_token value ∷ []) (map decode_octet ts)
+tokens_are_decoded_octet_by_octet_in_uri set run (Char c ∷ ts) alone = ap (λ x. x
+    ++ Char c ∷ decode_after_run set [] ts) (run_is_decoded_octet_by_octet_in_uri set run alone)
+    ∙ ap (λ x. map decoded_octet_token run
+    ++ Char c ∷ x) (tokens_are_decoded_octet_by_octet_in_uri set [] ts alone)
 
 -- unreserved octets of a URI: each octet is decoded by itself
 pub text_is_decoded_octet_by_octet_in_uri : (set : TableSet) (text : List ℕ) → LacksPastAscii set
     → decode_unreserved set text ≡ map decode_octet (tokens text)
 text_is_decoded_octet_by_octet_in_uri set text alone =
     Formatting.encode_formatting_without_flags_keeps_tokens set
-    (decode_after_run set [] (tokens text))
-    (ap (λ b. b && set.pct_encoded) alone.0)
+    (decode_after_run set [] (tokens text)) (ap (λ b. b && set.pct_encoded) alone.0)
     ∙ tokens_are_decoded_octet_by_octet_in_uri set [] (tokens text) alone

@@ -1,16 +1,6 @@
 -- `tokens` inverts `print`.
-use Rattle.std.proofs.Common.{◌≡◌, ℕ, ◌+◌, ◌*◌, ◌/◌, ◌%◌, ◌<◌, Bool, true, false, eqb, ltb, List, [], ◌∷◌, ◌++◌, refl, sym, ap, ◌∙◌, arith, ◌&&◌, append-nil}
-use Rattle.std.specs.List.{list_all, flat_map}
-use Rattle.std.specs.Char.{encode_utf8, digit_value, is_ascii_hexdigit}
+use Rattle.uri_pct.proofs.Common.{◌≡◌, ℕ, ◌+◌, ◌*◌, ◌/◌, ◌%◌, ◌<◌, Bool, true, false, eqb, ltb, List, [], ◌∷◌, ◌++◌, refl, sym, ap, ◌∙◌, arith, ◌&&◌, append-nil, list_all, flat_map, encode_utf8, digit_value, is_ascii_hexdigit, chars, encode_utf8_all, all_scalars, IsUtf8, low_scalar, chars-encodes, encode_ascii, encodes-append, agree_below_at, cond-true, cond-false, and_left, and_from, and_parts, eqb-true, ltb-true, not-true, TableSet, Token, Char, Octet, tokens, tokens_from_chars, print, text_of_token, is_pct_encoded, allows_token, is_valid_for, decode_unreserved, is_printable, nat_tests}
 use Rattle.std.specs.Fmt.{digit_glyph}
-use Rattle.std.specs.Str.{chars, encode_utf8_all, all_scalars, IsUtf8}
-use Rattle.std.proofs.Math.Utf8.{low_scalar}
-use Rattle.std.proofs.lemmas.Str.{chars-encodes, encode_ascii, encodes-append}
-use Rattle.std.proofs.lemmas.Bool.{agree_below_at, cond-true, cond-false, and_left, and_from, and_parts, eqb-true, ltb-true, not-true}
-use Rattle.uri_pct.specs.Sets.{TableSet}
-use Rattle.uri_pct.specs.Tokens.{Token, Char, Octet, tokens, tokens_from_chars, print, text_of_token, is_pct_encoded, allows_token, is_valid_for}
-use Rattle.uri_pct.specs.DecodeUnreserved.{decode_unreserved, is_printable}
-use Rattle.std.proofs.lemmas.Bool.Decides.{nat_tests}
 
 -- the decoded text, as printed
 unfoldable pub print_decoded : TableSet → List ℕ → List ℕ
@@ -86,9 +76,8 @@ print_is_utf8_of_chars_of_tokens : (ts : List Token) → list_all is_printable t
 print_is_utf8_of_chars_of_tokens [] e = refl
 print_is_utf8_of_chars_of_tokens (t ∷ ts) e =
     let p = and_parts (is_printable t) (list_all is_printable ts) e in
-    sym (encodes-append (chars_of_token t) (flat_map chars_of_token ts)
-    ∙ ap (λ x. x ++ encode_utf8_all (flat_map chars_of_token ts))
-    (chars_of_token_encode_to_its_text t p.0)
+    sym (encodes-append (chars_of_token t) (flat_map chars_of_token ts) ∙ ap (λ x. x
+    ++ encode_utf8_all (flat_map chars_of_token ts)) (chars_of_token_encode_to_its_text t p.0)
     ∙ ap (λ x. text_of_token t ++ x) (sym (print_is_utf8_of_chars_of_tokens ts p.1)))
 
 -- printing tokens: scalar values after scalar values are scalar values

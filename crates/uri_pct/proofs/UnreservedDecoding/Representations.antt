@@ -1,27 +1,17 @@
 -- A text represents at most one list of characters and octets: its tokens.
-use Rattle.std.proofs.Common.{◌≡◌, ℕ, ◌+◌, ◌*◌, true, eqb, List, [], ◌∷◌, ◌++◌, refl, sym, ap, subst, ◌∙◌, ⊎_elim, arith, ◌↔◌, append-nil}
-use Rattle.std.specs.List.{list_all}
-use Rattle.std.specs.Char.{IsScalar, encode_utf8, digit_value, is_ascii_hexdigit}
-use Rattle.std.specs.Str.{chars, encode_utf8_all, all_scalars, IsUtf8}
-use Rattle.std.proofs.lemmas.Str.{chars-append, chars-encodes, chars-nil, encode_ascii, IsUtf8-encode}
-use Rattle.std.proofs.lemmas.Bool.{cases_Bool, cond-true, cond-false, and_parts, and_from, eqb-false, ne_eqb, not-true}
-use Rattle.uri_pct.specs.Sets.{TableSet, LacksPercent}
-use Rattle.uri_pct.specs.DecodeUnreserved.{is_printable}
+use Rattle.uri_pct.proofs.Common.{◌≡◌, ℕ, ◌+◌, ◌*◌, true, eqb, List, [], ◌∷◌, ◌++◌, refl, sym, ap, subst, ◌∙◌, ⊎_elim, arith, ◌↔◌, append-nil, list_all, IsScalar, encode_utf8, digit_value, is_ascii_hexdigit, chars, encode_utf8_all, all_scalars, IsUtf8, chars-append, chars-encodes, chars-nil, encode_ascii, IsUtf8-encode, cases_Bool, cond-true, cond-false, and_parts, and_from, eqb-false, ne_eqb, not-true, TableSet, LacksPercent, is_printable, Token, Char, Octet, tokens, tokens_from_chars, is_pct_encoded, allows_token, is_valid_for, IsValidFor, nat_tests}
 use Rattle.uri_pct.specs.Representation.{RepresentsToken, Represents, RepresentsWithin}
-use Rattle.uri_pct.specs.Tokens.{Token, Char, Octet, tokens, tokens_from_chars, is_pct_encoded, allows_token, is_valid_for, IsValidFor}
 use Rattle.uri_pct.proofs.UnreservedDecoding.Printing.{char_but_percent_is_its_own_token}
 use Rattle.uri_pct.proofs.Unicode.Characters.{hexdigit_is_ascii}
 use Rattle.uri_pct.proofs.ValidTexts.Allowed.{valid_text_has_printable_tokens}
 use Rattle.uri_pct.proofs.ValidTexts.TokenCuts.{ascii_byte_is_first_of_chars}
-use Rattle.std.proofs.lemmas.Bool.Decides.{nat_tests}
 
 -- tokens printed and read: a character before any bytes is the first of their characters
 first_encoded_char_is_first_of_chars : (c : ℕ) (rest : List ℕ) → IsScalar c
     → chars (encode_utf8 c ++ rest) ≡ c ∷ chars rest
-first_encoded_char_is_first_of_chars c rest scalar = chars-append (encode_utf8 c) rest
-    (IsUtf8-encode c scalar)
-    ∙ ap (λ x. x ++ chars rest) (ap chars (sym (append-nil (encode_utf8 c)))
-    ∙ chars-encodes (c ∷ []) (and_from _ true scalar refl))
+first_encoded_char_is_first_of_chars c rest scalar =
+    chars-append (encode_utf8 c) rest (IsUtf8-encode c scalar) ∙ ap (λ x. x ++ chars rest) (ap chars
+    (sym (append-nil (encode_utf8 c))) ∙ chars-encodes (c ∷ []) (and_from _ true scalar refl))
 
 -- tokens printed and read: a `%` and two hexadecimal digits at the start are an octet
 octet_text_is_first_token : (high low : ℕ) (rest : List ℕ) → is_ascii_hexdigit high ≡ true
@@ -60,9 +50,8 @@ char_before_represented_text_is_represented c cs ts e rest =
 
 -- tokens printed and read: with an octet before it, a text represents this one and its tokens
 octet_before_represented_text_is_represented : (c high low : ℕ) (cs : List ℕ) (ts : List Token)
-    → is_pct_encoded c high low ≡ true → Represents (encode_utf8_all cs) ts
-    → Represents (encode_utf8_all (c ∷ high ∷ low ∷ cs))
-    (Octet (16 * digit_value high + digit_value low) ∷ ts)
+    → is_pct_encoded c high low ≡ true → Represents (encode_utf8_all cs) ts → Represents
+    (encode_utf8_all (c ∷ high ∷ low ∷ cs)) (Octet (16 * digit_value high + digit_value low) ∷ ts)
 unfolding Represents is_pct_encoded
 octet_before_represented_text_is_represented c high low cs ts e rest =
     let p = and_parts (eqb c 37) _ e in
@@ -83,22 +72,19 @@ chars_represent_their_tokens (c ∷ d ∷ []) e =
     let p = and_parts _ _ e in
     char_before_represented_text_is_represented c (d ∷ []) (Char d ∷ []) p.0
     (chars_represent_their_tokens (d ∷ []) p.1)
-chars_represent_their_tokens (c ∷ high ∷ low ∷ cs) e = ⊎_elim
-    (λ is.
+chars_represent_their_tokens (c ∷ high ∷ low ∷ cs) e = ⊎_elim (λ is.
     let at : tokens_from_chars (c ∷ high ∷ low ∷ cs)
     ≡ Octet (16 * digit_value high + digit_value low) ∷ tokens_from_chars cs = cond-true _ _ _ is in
     let p = and_parts _ _ (sym (ap (list_all is_printable) at) ∙ e) in
-    subst (Represents (encode_utf8_all (c ∷ high ∷ low ∷ cs))) (sym at)
-    (octet_before_represented_text_is_represented c high low cs (tokens_from_chars cs) is
-    (chars_represent_their_tokens cs p.1)))
-    (λ is.
+    subst (Represents (encode_utf8_all (c ∷ high ∷ low ∷ cs)))
+    (sym at) (octet_before_represented_text_is_represented c high low cs
+    (tokens_from_chars cs) is (chars_represent_their_tokens cs p.1))) (λ is.
     let at : tokens_from_chars (c ∷ high ∷ low ∷ cs) ≡ Char c ∷ tokens_from_chars (high ∷ low ∷ cs)
     = cond-false _ _ _ is in
     let p = and_parts _ _ (sym (ap (list_all is_printable) at) ∙ e) in
-    subst (Represents (encode_utf8_all (c ∷ high ∷ low ∷ cs))) (sym at)
-    (char_before_represented_text_is_represented c (high ∷ low ∷ cs) _ p.0
-    (chars_represent_their_tokens (high ∷ low ∷ cs) p.1)))
-    (cases_Bool (is_pct_encoded c high low))
+    subst (Represents (encode_utf8_all (c ∷ high ∷ low ∷ cs)))
+    (sym at) (char_before_represented_text_is_represented c (high ∷ low ∷ cs) _ p.0
+    (chars_represent_their_tokens (high ∷ low ∷ cs) p.1))) (cases_Bool (is_pct_encoded c high low))
 
 -- tokens printed and read: if two digits follow each `%`, a text represents its tokens
 pub text_represents_its_printable_tokens : (text : List ℕ) → IsUtf8 text
@@ -106,8 +92,7 @@ pub text_represents_its_printable_tokens : (text : List ℕ) → IsUtf8 text
 text_represents_its_printable_tokens text u e =
     let same = ap chars (sym u.1.1) ∙ chars-encodes u.0 u.1.0 in
     let joined = chars_represent_their_tokens u.0
-    (ap (λ cs. list_all is_printable (tokens_from_chars cs)) (sym same)
-    ∙ e) in
+    (ap (λ cs. list_all is_printable (tokens_from_chars cs)) (sym same) ∙ e) in
     subst (λ x. Represents x (tokens text)) u.1.1
     (subst (λ cs. Represents (encode_utf8_all u.0) (tokens_from_chars cs)) (sym same) joined)
 

@@ -1,15 +1,5 @@
 -- If a set allows a text, its tokens and its decoded tokens are printable.
-use Rattle.std.proofs.Common.{◌≡◌, ℕ, ◌+◌, ◌*◌, ◌<◌, ◌≤◌, Bool, true, false, eqb, ltb, List, [], ◌∷◌, map, refl, ap, arith, ◌&&◌, ⊎_elim, ◌⊎◌}
-use Rattle.std.specs.Char.{IsScalar, digit_value, is_ascii_hexdigit, to_ascii_lowercase}
-use Rattle.std.specs.Str.{all_scalars, chars}
-use Rattle.std.specs.List.{list_all}
-use Rattle.std.proofs.Math.Utf8.{low_scalar}
-use Rattle.std.proofs.lemmas.Bool.{cases_Bool, and_parts, and_from, or_cases, lt-ltb, not_from_false, ne_eqb, false_from_ne_true, cases_lt}
-use Rattle.std.proofs.lemmas.Str.Ascii.{lowercase-lowercase}
-use Rattle.std.proofs.lemmas.Bool.Decides.{nat_tests}
-use Rattle.uri_pct.specs.Sets.{TableSet, LacksPercent, IsSubset, allows, allows_past_ascii, is_ucschar, is_iprivate, is_unreserved, unreserved_set}
-use Rattle.uri_pct.specs.Tokens.{Token, Char, Octet, tokens, tokens_from_chars, is_pct_encoded, allows_token, is_valid_for, IsValidFor}
-use Rattle.uri_pct.specs.DecodeUnreserved.{is_printable, is_decodable, lower_token}
+use Rattle.uri_pct.proofs.Common.{◌≡◌, ℕ, ◌+◌, ◌*◌, ◌<◌, ◌≤◌, Bool, true, false, eqb, ltb, List, [], ◌∷◌, map, refl, ap, arith, ◌&&◌, ⊎_elim, ◌⊎◌, IsScalar, digit_value, is_ascii_hexdigit, to_ascii_lowercase, all_scalars, chars, list_all, low_scalar, cases_Bool, and_parts, and_from, or_cases, lt-ltb, not_from_false, ne_eqb, false_from_ne_true, cases_lt, lowercase-lowercase, nat_tests, TableSet, LacksPercent, IsSubset, allows, allows_past_ascii, is_ucschar, is_iprivate, is_unreserved, unreserved_set, Token, Char, Octet, tokens, tokens_from_chars, is_pct_encoded, allows_token, is_valid_for, IsValidFor, is_printable, is_decodable, lower_token}
 
 -- characters of valid texts: a character of `ucschar` is a Unicode scalar value past ASCII
 ucschar_is_scalar_past_ascii : (c : ℕ) → is_ucschar c ≡ true → (128 ≤ c) × IsScalar c
@@ -56,11 +46,9 @@ unreserved_char_is_not_percent c e = grind (arith, nat_tests)
 pub decodable_char_is_printable : (set : TableSet) (c : ℕ) → is_decodable set c ≡ true
     → is_printable (Char c) ≡ true
 unfolding is_decodable
-decodable_char_is_printable set c e = ⊎_elim
-    (λ u. let below = unreserved_is_ascii c u in
+decodable_char_is_printable set c e = ⊎_elim (λ u. let below = unreserved_is_ascii c u in
     scalar_but_percent_is_printable c (low_scalar c (omega arith))
-    (unreserved_char_is_not_percent c u))
-    (λ p. let h = allowed_past_ascii_is_scalar set c p in
+    (unreserved_char_is_not_percent c u)) (λ p. let h = allowed_past_ascii_is_scalar set c p in
     scalar_but_percent_is_printable c h.1 (ne_eqb c 37 (λ q. omega arith)))
     (or_cases (is_unreserved c) (allows_past_ascii set c) e)
 
@@ -87,14 +75,12 @@ octet_values_are_bytes_after_one_more_char : (c high low : ℕ) (rest : List ℕ
     → list_all is_char_or_byte_value (tokens_from_chars (high ∷ low ∷ rest)) ≡ true
     → list_all is_char_or_byte_value (tokens_from_chars (c ∷ high ∷ low ∷ rest)) ≡ true
 unfolding tokens_from_chars is_char_or_byte_value is_pct_encoded
-octet_values_are_bytes_after_one_more_char c high low rest suffix next = ⊎_elim
-    (λ e. let p = and_parts (is_ascii_hexdigit high) (is_ascii_hexdigit low)
-    (and_parts (eqb c 37) _ e).1 in
+octet_values_are_bytes_after_one_more_char c high low rest suffix next = ⊎_elim (λ e. let p =
+    and_parts (is_ascii_hexdigit high) (is_ascii_hexdigit low) (and_parts (eqb c 37) _ e).1 in
     let h = hexdigit_value_is_below_16 high p.0 in
     let l = hexdigit_value_is_below_16 low p.1 in
     rw e (and_from _ _ (lt-ltb (16 * digit_value high + digit_value low) 256 (omega arith)) suffix))
-    (λ e. rw e next)
-    (cases_Bool (is_pct_encoded c high low))
+    (λ e. rw e next) (cases_Bool (is_pct_encoded c high low))
 
 -- tokens of valid texts: the value of each octet of a text is a byte
 octet_values_are_bytes : (cs : List ℕ) → list_all is_char_or_byte_value (tokens_from_chars cs)
@@ -103,9 +89,8 @@ unfolding tokens_from_chars is_char_or_byte_value
 octet_values_are_bytes [] = refl
 octet_values_are_bytes (c ∷ []) = refl
 octet_values_are_bytes (c ∷ d ∷ []) = refl
-octet_values_are_bytes (c ∷ high ∷ low ∷ rest) =
-    octet_values_are_bytes_after_one_more_char c high low rest (octet_values_are_bytes rest)
-    (octet_values_are_bytes (high ∷ low ∷ rest))
+octet_values_are_bytes (c ∷ high ∷ low ∷ rest) = octet_values_are_bytes_after_one_more_char
+    c high low rest (octet_values_are_bytes rest) (octet_values_are_bytes (high ∷ low ∷ rest))
 
 -- tokens of valid texts: one that a set allows can be written
 allowed_token_is_printable : (set : TableSet) (t : Token) → LacksPercent set

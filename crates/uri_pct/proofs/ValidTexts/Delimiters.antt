@@ -1,11 +1,7 @@
 -- Where a text is cut at a byte, and the pieces between its places.
-use Rattle.std.proofs.Common.{◌≡◌, ℕ, suc, ◌<◌, ◌≢◌, Bool, true, false, eqb, not, List, [], ◌∷◌, ◌++◌, length, get_or, take, drop, refl, sym, ap, ◌∙◌, arith, ⊎_elim, Option, Some, None, MatchOption, Bor, take-append-drop}
-use Rattle.std.specs.List.{list_all, slice_split, onto_first}
-use Rattle.std.proofs.lemmas.Bool.{eq-eqb, eqb-true, false≢true, and_parts, and_from, not_from_false, not-true, ne_eqb, cases_Bool, cond-true, cond-false}
+use Rattle.uri_pct.proofs.Common.{◌≡◌, ℕ, suc, ◌<◌, ◌≢◌, Bool, true, false, eqb, not, List, [], ◌∷◌, ◌++◌, length, get_or, take, drop, refl, sym, ap, ◌∙◌, arith, ⊎_elim, Option, Some, None, MatchOption, Bor, take-append-drop, list_all, slice_split, onto_first, eq-eqb, eqb-true, false≢true, and_parts, and_from, not_from_false, not-true, ne_eqb, cases_Bool, cond-true, cond-false, lacks, is_absolute, IsCutAtFirst, IsCutAtLast, nat_tests}
 use Rattle.std.specs.Str.Pattern.{RFindsChar, SplitsAroundMatch}
 use Rattle.std.proofs.lemmas.Str.Pattern.{IsSplitOnceResult, split_parts, NoCharPasses-char, drop_at_char}
-use Rattle.uri_pct.specs.Texts.{lacks, is_absolute, IsCutAtFirst, IsCutAtLast}
-use Rattle.std.proofs.lemmas.Bool.Decides.{nat_tests}
 
 -- general fact on lists of bytes, for splitting
 -- at a delimiter: a text lacks a byte that is at none of its indices
@@ -33,9 +29,8 @@ split_once_cuts_at_first d bs (Some x) h small = let p = split_parts d bs (Some 
 -- splitting at an ASCII delimiter: what `rsplit_once` returns:
 -- the text is cut at the last such byte, or lacks it
 pub rsplit_once_cuts_at_last : (d : ℕ) (bs : List ℕ) (r : Option (Bor (List ℕ) × Bor (List ℕ)))
-    → MatchOption r (RFindsChar d bs None)
-    (λ x. SplitsAroundMatch (RFindsChar d) bs x.0.now x.1.now)
-    → d < 128 → MatchOption r (lacks d bs ≡ true) (λ x. IsCutAtLast d bs x.0.now x.1.now)
+    → MatchOption r (RFindsChar d bs None) (λ x. SplitsAroundMatch (RFindsChar d) bs x.0.now
+    x.1.now) → d < 128 → MatchOption r (lacks d bs ≡ true) (λ x. IsCutAtLast d bs x.0.now x.1.now)
 rsplit_once_cuts_at_last d bs None h small = byte_at_no_index_is_lacked d bs
     (λ i l. NoCharPasses-char d bs i h small l)
 rsplit_once_cuts_at_last d bs (Some x) h small =
@@ -43,9 +38,8 @@ rsplit_once_cuts_at_last d bs (Some x) h small =
       sym (take-append-drop h.0 bs)
           ∙ ap (λ y. take h.0 bs ++ y) (drop_at_char d bs h.0 h.1 found.1 small)
           ∙ ap (λ y. y ++ d ∷ drop h.1 bs) (sym h.3) ∙ ap (λ y. x.0.now ++ d ∷ y) (sym h.4),
-      ap (lacks d) h.4
-          ∙ byte_at_no_index_is_lacked d (drop h.1 bs)
-          (λ i l. NoCharPasses-char d (drop h.1 bs) i found.0 small l),
+      ap (lacks d) h.4 ∙ byte_at_no_index_is_lacked d
+          (drop h.1 bs) (λ i l. NoCharPasses-char d (drop h.1 bs) i found.0 small l),
     )
 
 -- splitting at delimiters: a split is a first piece and others
@@ -58,21 +52,18 @@ split_has_first_piece p (x ∷ xs) =
     (λ e. (x ∷ f.0, f.1, cond-false _ _ _ e ∙ ap (onto_first x) f.2)) (cases_Bool (p x))
 
 -- splitting at a delimiter: a byte x before the first piece is so with more pieces after
-onto_first_commutes_with_append : (x : ℕ) (piece : List ℕ) (pieces more all : List (List ℕ)) → all
-    ≡ piece ∷ pieces
-    → onto_first x (all ++ more) ≡ onto_first x all ++ more
+onto_first_commutes_with_append : (x : ℕ) (piece : List ℕ) (pieces more all : List (List ℕ))
+    → all ≡ piece ∷ pieces → onto_first x (all ++ more) ≡ onto_first x all ++ more
 onto_first_commutes_with_append x piece pieces more all e = rw e refl
 
 -- splitting at a delimiter d: the pieces of a text with one are those before it and those after it
-delimiter_separates_split_pieces : (d : ℕ) (before after : List ℕ)
-    → slice_split (λ b. eqb b d) (before ++ d ∷ after)
-    ≡ slice_split (λ b. eqb b d) before ++ slice_split (λ b. eqb b d) after
+delimiter_separates_split_pieces : (d : ℕ) (before after : List ℕ) → slice_split (λ b. eqb b d)
+    (before ++ d ∷ after) ≡ slice_split (λ b. eqb b d) before ++ slice_split (λ b. eqb b d) after
 delimiter_separates_split_pieces d [] after = rw (eqb-refl d) refl
 delimiter_separates_split_pieces d (x ∷ xs) after =
     let p = λ (b : ℕ). eqb b d in
     let f = split_has_first_piece p xs in
-    ⊎_elim
-    (λ e. rw e (ap (λ ps. [] ∷ ps) (delimiter_separates_split_pieces d xs after)))
+    ⊎_elim (λ e. rw e (ap (λ ps. [] ∷ ps) (delimiter_separates_split_pieces d xs after)))
     (λ e. rw e (ap (onto_first x) (delimiter_separates_split_pieces d xs after)
     ∙ onto_first_commutes_with_append x f.0 f.1 (slice_split p after) (slice_split p xs) f.2))
     (cases_Bool (eqb x d))
@@ -115,9 +106,8 @@ substrings_lack_delimiter d (x ∷ xs) =
     let p = λ (b : ℕ). eqb b d in
     let f = split_has_first_piece p xs in
     ⊎_elim (λ e. rw e (substrings_lack_delimiter d xs))
-    (λ e. rw e (onto_first_keeps_pieces_without_delimiter d x f.0 f.1 (slice_split p xs) f.2 e
-    (substrings_lack_delimiter d xs)))
-    (cases_Bool (eqb x d))
+    (λ e. rw e (onto_first_keeps_pieces_without_delimiter d x f.0 f.1
+    (slice_split p xs) f.2 e (substrings_lack_delimiter d xs))) (cases_Bool (eqb x d))
 
 -- splitting at a delimiter: an absolute path, whose segments are split, is `/` (47) and a rest
 pub absolute_path_begins_with_slash : (text : List ℕ) → is_absolute text ≡ true → text

@@ -1,13 +1,7 @@
 -- Texts that are valid for a set.
-use Rattle.std.proofs.Common.{◌≡◌, ℕ, ◌<◌, true, List, [], ◌∷◌, refl, sym, ◌∙◌, ⊎_elim, arith}
-use Rattle.std.specs.List.{list_all}
-use Rattle.std.specs.Str.{chars}
-use Rattle.std.proofs.lemmas.Bool.{and_parts, and_from, lt-ltb, cases_lt}
-use Rattle.uri_pct.specs.Sets.{TableSet, IsSubset, allows, allows_past_ascii}
-use Rattle.uri_pct.specs.Tokens.{Token, Char, Octet, allows_token, is_valid_for, tokens, tokens_from_chars, text_of_token}
+use Rattle.uri_pct.proofs.Common.{◌≡◌, ℕ, ◌<◌, true, List, [], ◌∷◌, refl, sym, ◌∙◌, ⊎_elim, arith, list_all, chars, and_parts, and_from, lt-ltb, cases_lt, TableSet, IsSubset, allows, allows_past_ascii, Token, Char, Octet, allows_token, is_valid_for, tokens, tokens_from_chars, text_of_token, nat_tests}
 use Rattle.uri_pct.proofs.UnreservedDecoding.Printing.{printed_tokens_are_valid_iff_allowed}
 use Rattle.uri_pct.proofs.ValidTexts.Validity.{ascii_char_is_allowed_iff_in_set, char_past_ascii_is_allowed_by_flags}
-use Rattle.std.proofs.lemmas.Bool.Decides.{nat_tests}
 
 -- valid texts: the empty text is valid for every set
 pub empty_text_is_valid : (set : TableSet) → is_valid_for set [] ≡ true
@@ -23,13 +17,10 @@ superset_allows_same_past_ascii s t c subset e = grind (arith, nat_tests)
 -- valid texts: a greater set t has the characters of s
 superset_allows_same_char : (s t : TableSet) (c : ℕ) → IsSubset s t → allows s c ≡ true
     → allows t c ≡ true
-superset_allows_same_char s t c subset e = ⊎_elim
-    (λ low. ascii_char_is_allowed_iff_in_set t c low
+superset_allows_same_char s t c subset e = ⊎_elim (λ low. ascii_char_is_allowed_iff_in_set t c low
     ∙ subset.ascii c (sym (ascii_char_is_allowed_iff_in_set s c low) ∙ e))
-    (λ high. char_past_ascii_is_allowed_by_flags t c high
-    ∙ superset_allows_same_past_ascii s t c subset
-    (sym (char_past_ascii_is_allowed_by_flags s c high) ∙ e))
-    (cases_lt c 128)
+    (λ high. char_past_ascii_is_allowed_by_flags t c high ∙ superset_allows_same_past_ascii
+    s t c subset (sym (char_past_ascii_is_allowed_by_flags s c high) ∙ e)) (cases_lt c 128)
 
 -- valid texts: tokens that a set s allows are allowed by a greater set t
 pub tokens_allowed_by_superset : (s t : TableSet) (ts : List Token) → IsSubset s t
@@ -52,10 +43,8 @@ valid_for_superset s t text subset e = tokens_allowed_by_superset s t (tokens te
 -- validity: the `%XX` of a byte is valid for a set with octets
 pub printed_octet_is_valid : (set : TableSet) (byte : ℕ) → byte < 256 → set.pct_encoded ≡ true
     → is_valid_for set (text_of_token (Octet byte)) ≡ true
-printed_octet_is_valid set byte small e =
-    printed_tokens_are_valid_iff_allowed set (Octet byte ∷ [])
-    (and_from _ true (lt-ltb byte 256 small) refl)
-    ∙ and_from _ true e refl
+printed_octet_is_valid set byte small e = printed_tokens_are_valid_iff_allowed set (Octet byte
+    ∷ []) (and_from _ true (lt-ltb byte 256 small) refl) ∙ and_from _ true e refl
 
 -- for the types of texts
 pub ruleset valid_texts = (empty_text_is_valid, printed_octet_is_valid, valid_for_superset)

@@ -1,11 +1,5 @@
 -- An owned text that is valid for a set grows.
-use Rattle.std.proofs.Common.{◌≡◌, ℕ, true, List, [], ◌∷◌, ◌++◌, cond, refl, sym, ap, ◌∙◌, subst, Result, Ok, Err, encode_utf8, OnOk, OnErr, is_ok, IsUtf8, append-nil}
-use Rattle.std.specs.List.{list_all}
-use Rattle.std.proofs.lemmas.Bool.{and_from, false≢true, false_from_ne_true}
-use Rattle.uri_pct.specs.Sets.{TableSet, LacksPercent, IsSubset, allows}
-use Rattle.uri_pct.specs.Tokens.{Token, Char, tokens, allows_token, IsValidFor, print}
-use Rattle.uri_pct.specs.Encoding.{encode_text, encode_bytes}
-use Rattle.uri_pct.specs.DecodeUnreserved.{is_printable}
+use Rattle.uri_pct.proofs.Common.{◌≡◌, ℕ, true, List, [], ◌∷◌, ◌++◌, cond, refl, sym, ap, ◌∙◌, subst, Result, Ok, Err, encode_utf8, OnOk, OnErr, is_ok, IsUtf8, append-nil, list_all, and_from, false≢true, false_from_ne_true, TableSet, LacksPercent, IsSubset, allows, Token, Char, tokens, allows_token, IsValidFor, print, encode_text, encode_bytes, is_printable}
 use Rattle.uri_pct.proofs.ValidTexts.Allowed.{allowed_char_is_printable}
 use Rattle.uri_pct.proofs.ValidTexts.Appending.{tokens_of_text_after_valid_text, valid_text_after_valid_text_is_valid, tokens_of_print_after_valid_text, printed_tokens_after_valid_text_are_valid}
 use Rattle.uri_pct.proofs.EncodedTexts.EncodedTokens.{is_eight_bit, encoded_text_is_printable, encoded_text_is_allowed, encoded_bytes_are_printable, encoded_bytes_are_allowed}
@@ -16,10 +10,9 @@ pub record Grows (set : TableSet) (old : List ℕ) (ts : List Token) (new : List
   pub tokens : tokens new ≡ tokens old ++ ts
 
 -- owned valid texts: with allowed tokens written after it, one is valid, and has those tokens more
-grows_by_tokens : (set : TableSet) (old new : List ℕ) (ts : List Token) → LacksPercent set
-    → IsUtf8 old
-    → IsValidFor set old → list_all is_printable ts ≡ true → list_all (allows_token set) ts ≡ true
-    → new ≡ old ++ print ts → Grows set old ts new
+grows_by_tokens : (set : TableSet) (old new : List ℕ) (ts : List Token)
+    → LacksPercent set → IsUtf8 old → IsValidFor set old → list_all is_printable ts ≡ true
+    → list_all (allows_token set) ts ≡ true → new ≡ old ++ print ts → Grows set old ts new
 grows_by_tokens set old new ts lacks u valid p a e = record {
   valid = subst (IsValidFor set) (sym e)
       (printed_tokens_after_valid_text_are_valid set lacks old ts u valid p a);
@@ -35,10 +28,9 @@ subset_lacks_percent sub set subset lacks =
 pub grows_by_encoded_text : (set sub : TableSet) (old new text : List ℕ) → LacksPercent set
     → IsSubset sub set → sub.pct_encoded ≡ true → IsUtf8 old → IsUtf8 text → IsValidFor set old
     → new ≡ old ++ print (encode_text sub text) → Grows set old (encode_text sub text) new
-grows_by_encoded_text set sub old new text lacks subset o u v valid e =
-    grows_by_tokens set old new (encode_text sub text) lacks u valid
-    (encoded_text_is_printable sub text (subset_lacks_percent sub set subset lacks) v)
-    (encoded_text_is_allowed sub set text subset o) e
+grows_by_encoded_text set sub old new text lacks subset o u v valid e = grows_by_tokens set old new
+    (encode_text sub text) lacks u valid (encoded_text_is_printable sub text
+    (subset_lacks_percent sub set subset lacks) v) (encoded_text_is_allowed sub set text subset o) e
 
 -- owned valid texts: with encoded bytes after it, one is valid, and has the encoded tokens more
 pub grows_by_encoded_bytes : (set sub : TableSet) (old new bytes : List ℕ) → LacksPercent set
@@ -54,10 +46,9 @@ grows_by_encoded_bytes set sub old new bytes lacks subset o u small valid e =
 pub grows_by_char : (set : TableSet) (old new : List ℕ) (c : ℕ) → LacksPercent set → IsUtf8 old
     → IsValidFor set old → allows set c ≡ true → new ≡ old ++ encode_utf8 c
     → Grows set old (Char c ∷ []) new
-grows_by_char set old new c lacks u valid a e =
-    grows_by_tokens set old new (Char c ∷ []) lacks u valid
-    (and_from _ true (allowed_char_is_printable set c lacks a) refl) (and_from _ true a refl)
-    (e ∙ ap (λ x. old ++ x) (sym (append-nil (encode_utf8 c))))
+grows_by_char set old new c lacks u valid a e = grows_by_tokens set old new
+    (Char c ∷ []) lacks u valid (and_from _ true (allowed_char_is_printable set c lacks a) refl)
+    (and_from _ true a refl) (e ∙ ap (λ x. old ++ x) (sym (append-nil (encode_utf8 c))))
 
 -- owned valid texts: with a valid text after it, one is valid, and has its tokens more
 pub grows_by_valid_text : (set : TableSet) (old new text : List ℕ) → LacksPercent set → IsUtf8 old

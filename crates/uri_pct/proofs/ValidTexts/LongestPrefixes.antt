@@ -1,20 +1,10 @@
 -- The longest prefix that is valid for a set: it is valid, and none that is longer is.
-use Rattle.std.proofs.Common.{◌≡◌, ℕ, ◌+◌, ◌≤◌, true, false, eqb, cond, List, [], ◌∷◌, ◌++◌, length, take, drop, refl, sym, ap, subst, ◌∙◌, arith, ◌&&◌, ⊎_elim, length-append, length-take-le, take-append-drop}
-use Rattle.std.proofs.Math.Seq.{take-append_seam}
-use Rattle.std.specs.List.{list_all}
-use Rattle.std.specs.Char.{encode_utf8, len_utf8, is_ascii_hexdigit}
-use Rattle.std.specs.Str.{chars, encode_utf8_all, all_scalars, IsUtf8, IsCharBoundary}
-use Rattle.std.proofs.lemmas.Bool.{cases_Bool, cond-true, cond-false, and_parts, and_from, and_right, eqb-true}
-use Rattle.std.proofs.lemmas.Str.{chars-encodes, encodes-append, encode_ascii, length-encode, IsUtf8-take, IsUtf8-drop, IsCharBoundary-at_seam, encodes-chars, scalars-chars}
-use Rattle.uri_pct.specs.Sets.{TableSet, LacksPercent, allows}
-use Rattle.uri_pct.specs.Tokens.{tokens_from_chars, allows_token, is_pct_encoded, is_valid_for, IsValidFor}
-use Rattle.uri_pct.specs.Prefixes.{begins_with_hex_digits, valid_prefix_from, valid_prefix}
+use Rattle.uri_pct.proofs.Common.{◌≡◌, ℕ, ◌+◌, ◌≤◌, true, false, eqb, cond, List, [], ◌∷◌, ◌++◌, length, take, drop, refl, sym, ap, subst, ◌∙◌, arith, ◌&&◌, ⊎_elim, length-append, length-take-le, take-append-drop, take-append_seam, list_all, encode_utf8, len_utf8, is_ascii_hexdigit, chars, encode_utf8_all, all_scalars, IsUtf8, IsCharBoundary, cases_Bool, cond-true, cond-false, and_parts, and_from, and_right, eqb-true, chars-encodes, encodes-append, encode_ascii, length-encode, IsUtf8-take, IsUtf8-drop, IsCharBoundary-at_seam, encodes-chars, scalars-chars, TableSet, LacksPercent, allows, tokens_from_chars, allows_token, is_pct_encoded, is_valid_for, IsValidFor, begins_with_hex_digits, valid_prefix_from, valid_prefix, nat_tests}
 use Rattle.uri_pct.proofs.Unicode.Characters.{encoded_chars_begin_with_same_hex_digits, hexdigit_is_ascii}
 use Rattle.uri_pct.proofs.UnreservedDecoding.Printing.{char_but_percent_is_its_own_token, scalars-append}
 use Rattle.uri_pct.proofs.ValidTexts.Cuts.{valid_prefix_by_first_byte}
 use Rattle.uri_pct.proofs.ValidTexts.Validity.{ascii_first_byte_is_allowed_iff_in_set, tail_of_scalars_is_scalars}
 use Rattle.uri_pct.proofs.ValidTexts.PrefixSteps.{valid_prefix_by_first_char}
-use Rattle.std.proofs.lemmas.Bool.Decides.{nat_tests}
 
 -- valid prefixes: the tokens of the characters are allowed
 abbrev are_allowed_chars : TableSet → List ℕ → Type 0
@@ -64,16 +54,15 @@ module _ (set : TableSet) (lacks : LacksPercent set) where
   valid_prefix_is_empty_at_disallowed_char : (c : ℕ) (cs : List ℕ) → all_scalars (c ∷ cs) ≡ true
       → allows set c ≡ false → (set.pct_encoded && (eqb c 37 && begins_with_hex_digits cs)) ≡ false
       → valid_prefix set (encode_utf8_all (c ∷ cs)) ≡ 0
-  valid_prefix_is_empty_at_disallowed_char c cs s a o =
-      grind (
-        arith,
-        nat_tests,
-        encode_ascii,
-        valid_prefix_by_first_byte,
-        encoded_chars_begin_with_same_hex_digits,
-        ascii_first_byte_is_allowed_iff_in_set,
-        valid_prefix_by_first_of_chars,
-      )
+  valid_prefix_is_empty_at_disallowed_char c cs s a o = grind (
+    arith,
+    nat_tests,
+    encode_ascii,
+    valid_prefix_by_first_byte,
+    encoded_chars_begin_with_same_hex_digits,
+    ascii_first_byte_is_allowed_iff_in_set,
+    valid_prefix_by_first_of_chars,
+  )
 
   valid_prefix_grows_by_octet : (c h l : ℕ) (cs : List ℕ) → set.pct_encoded ≡ true
       → is_pct_encoded c h l ≡ true → valid_prefix set (encode_utf8_all (c ∷ h ∷ l ∷ cs))
@@ -96,30 +85,24 @@ module _ (set : TableSet) (lacks : LacksPercent set) where
     before = [];
     suffix = cs;
     whole = refl;
-    end =
-        e;
+    end = e;
     valid = refl;
   }
 
   valid_prefix_of_char_is_found : (c : ℕ) (cs : List ℕ) → all_scalars (c ∷ cs) ≡ true
       → (set.pct_encoded && (eqb c 37 && begins_with_hex_digits cs)) ≡ false → Found cs
       → Found (c ∷ cs)
-  valid_prefix_of_char_is_found c cs s o f = ⊎_elim
-      (λ a. record {
-        before = c ∷ f.before;
-        suffix = f.suffix;
-        whole = ap (λ t. c ∷ t) f.whole;
-        end = valid_prefix_grows_by_allowed_char c cs s a
-            ∙ ap (λ n. n + length (encode_utf8 c)) f.end
-            ∙ addition_commutes (length (encode_utf8_all f.before)) (length (encode_utf8 c))
-            ∙ sym (length-append (encode_utf8 c) (encode_utf8_all f.before));
-        valid = ap (list_all (allows_token set))
-            (char_but_percent_is_its_own_token c f.before (allowed_char_is_not_percent c a))
-            ∙ and_from _ _ a f.valid;
-      })
-      (λ a. empty_valid_prefix_is_found (c ∷ cs)
-      (valid_prefix_is_empty_at_disallowed_char c cs s a o))
-      (cases_Bool (allows set c))
+  valid_prefix_of_char_is_found c cs s o f = ⊎_elim (λ a. record {
+    before = c ∷ f.before;
+    suffix = f.suffix;
+    whole = ap (λ t. c ∷ t) f.whole;
+    end = valid_prefix_grows_by_allowed_char c cs s a ∙ ap (λ n. n + length (encode_utf8 c)) f.end
+        ∙ addition_commutes (length (encode_utf8_all f.before)) (length (encode_utf8 c))
+        ∙ sym (length-append (encode_utf8 c) (encode_utf8_all f.before));
+    valid = ap (list_all (allows_token set)) (char_but_percent_is_its_own_token
+        c f.before (allowed_char_is_not_percent c a)) ∙ and_from _ _ a f.valid;
+  }) (λ a. empty_valid_prefix_is_found
+      (c ∷ cs) (valid_prefix_is_empty_at_disallowed_char c cs s a o)) (cases_Bool (allows set c))
 
   valid_prefix_of_octet_is_found : (c h l : ℕ) (cs : List ℕ) → set.pct_encoded ≡ true
       → is_pct_encoded c h l ≡ true → Found cs → Found (c ∷ h ∷ l ∷ cs)
@@ -146,12 +129,10 @@ module _ (set : TableSet) (lacks : LacksPercent set) where
       (valid_prefix_of_chars_is_found (d ∷ []) (tail_of_scalars_is_scalars c (d ∷ []) s))
   valid_prefix_of_chars_is_found (c ∷ h ∷ l ∷ cs) s =
       let rest = tail_of_scalars_is_scalars c (h ∷ l ∷ cs) s in
-      ⊎_elim
-      (λ o. let p = and_parts _ _ o in valid_prefix_of_octet_is_found c h l cs p.0 p.1
-      (valid_prefix_of_chars_is_found cs
-      (tail_of_scalars_is_scalars l cs (tail_of_scalars_is_scalars h (l ∷ cs) rest))))
-      (λ o. valid_prefix_of_char_is_found c (h ∷ l ∷ cs) s o
-      (valid_prefix_of_chars_is_found (h ∷ l ∷ cs) rest))
+      ⊎_elim (λ o. let p = and_parts _ _ o in valid_prefix_of_octet_is_found c h l cs p.0 p.1
+      (valid_prefix_of_chars_is_found cs (tail_of_scalars_is_scalars l cs
+      (tail_of_scalars_is_scalars h (l ∷ cs) rest)))) (λ o. valid_prefix_of_char_is_found c
+      (h ∷ l ∷ cs) s o (valid_prefix_of_chars_is_found (h ∷ l ∷ cs) rest))
       (cases_Bool (set.pct_encoded && is_pct_encoded c h l))
 
   -- valid characters are within the longest valid prefix
@@ -167,28 +148,23 @@ module _ (set : TableSet) (lacks : LacksPercent set) where
   valid_chars_are_within_valid_prefix (c ∷ d ∷ []) ys s v =
       let p = and_parts (allows set c) (allows set d && true) v in
       chars_with_one_more_stay_within c (d ∷ [])
-      (valid_prefix_grows_by_allowed_char c (d ∷ ys) s p.0)
-      (valid_chars_are_within_valid_prefix (d ∷ []) ys
-      (tail_of_scalars_is_scalars c (d ∷ ys) s) p.1)
+      (valid_prefix_grows_by_allowed_char c (d ∷ ys) s p.0) (valid_chars_are_within_valid_prefix (d
+      ∷ []) ys (tail_of_scalars_is_scalars c (d ∷ ys) s) p.1)
   valid_chars_are_within_valid_prefix (c ∷ h ∷ l ∷ xs) ys s v =
       let rest = tail_of_scalars_is_scalars c (h ∷ l ∷ (xs ++ ys)) s in
-      ⊎_elim
-      (λ o.
+      ⊎_elim (λ o.
       let p = and_parts set.pct_encoded (list_all (allows_token set) (tokens_from_chars xs))
       (sym (ap (list_all (allows_token set)) (cond-true _ _ _ o)) ∙ v) in
-      let ih = valid_chars_are_within_valid_prefix xs ys
-      (tail_of_scalars_is_scalars l (xs ++ ys) (tail_of_scalars_is_scalars h (l ∷ (xs ++ ys)) rest))
-      p.1 in
+      let ih = valid_chars_are_within_valid_prefix xs ys (tail_of_scalars_is_scalars l
+      (xs ++ ys) (tail_of_scalars_is_scalars h (l ∷ (xs ++ ys)) rest)) p.1 in
       let e = valid_prefix_grows_by_octet c h l (xs ++ ys) p.0 o in
       let n = octet_is_three_bytes_long c h l xs o in
-      omega (arith, e, n, ih))
-      (λ o.
+      omega (arith, e, n, ih)) (λ o.
       let p = and_parts (allows set c)
       (list_all (allows_token set) (tokens_from_chars (h ∷ l ∷ xs)))
       (sym (ap (list_all (allows_token set)) (cond-false _ _ _ o)) ∙ v) in
-      chars_with_one_more_stay_within c (h ∷ l ∷ xs)
-      (valid_prefix_grows_by_allowed_char c (h ∷ l ∷ (xs ++ ys)) s p.0)
-      (valid_chars_are_within_valid_prefix (h ∷ l ∷ xs) ys rest p.1))
+      chars_with_one_more_stay_within c (h ∷ l ∷ xs) (valid_prefix_grows_by_allowed_char c
+      (h ∷ l ∷ (xs ++ ys)) s p.0) (valid_chars_are_within_valid_prefix (h ∷ l ∷ xs) ys rest p.1))
       (cases_Bool (is_pct_encoded c h l))
 
 -- valid prefixes: the first of two joined lists of scalar values is one
@@ -213,10 +189,9 @@ module _ (set : TableSet) (lacks : LacksPercent set) where
       let f = valid_prefix_of_chars_is_found set lacks cs s in
       let suffix = second_of_joined_scalars_is_scalars f.before f.suffix
       (ap all_scalars (sym f.whole) ∙ s) in
-      subst (IsCharBoundary (encode_utf8_all cs)) (sym f.end)
-      (IsCharBoundary-at_seam (encode_utf8_all cs) (encode_utf8_all f.before)
-      (encode_utf8_all f.suffix) (ap encode_utf8_all f.whole ∙ encodes-append f.before f.suffix)
-      (f.suffix, (suffix, refl)))
+      subst (IsCharBoundary (encode_utf8_all cs)) (sym f.end) (IsCharBoundary-at_seam
+      (encode_utf8_all cs) (encode_utf8_all f.before) (encode_utf8_all f.suffix)
+      (ap encode_utf8_all f.whole ∙ encodes-append f.before f.suffix) (f.suffix, (suffix, refl)))
 
   valid_prefix_of_chars_is_valid : (cs : List ℕ) → all_scalars cs ≡ true
       → IsValidFor set (take (valid_prefix set (encode_utf8_all cs)) (encode_utf8_all cs))

@@ -1,14 +1,5 @@
 -- How far a text is without a mark, and that no mark is within a character of it.
-use Rattle.std.proofs.Common.{◌≡◌, ℕ, zero, suc, ◌+◌, ◌-◌, ◌*◌, ◌<◌, Bool, true, false, eqb, not, List, [], ◌∷◌, ◌++◌, length, get_or, take, drop, refl, sym, subst, ap, ◌∙◌, arith, ◌&&◌, ⊎_elim, nat_lt, slice_index}
-use Rattle.std.specs.List.{list_all, prefix_len}
-use Rattle.std.specs.Str.{IsUtf8, IsCharBoundary, encode_utf8_all, continuation_len, lead_bits, chars, chars_after}
-use Rattle.std.proofs.lemmas.Str.{IsCharBoundary-before_ascii}
-use Rattle.std.proofs.lemmas.List.Sums.{prefix_len-le-length, prefix_len_stops}
-use Rattle.std.proofs.lemmas.List.{drop_all, drop_more}
-use Rattle.std.proofs.lemmas.Bool.{not-false, or_cases, cases_lt, cases_Bool, cond-true, cond-false, and_from, and_parts, lt-ltb, eqb-true, ltb-true, not_from_true, not_from_false, not-true, false≢true}
-use Rattle.std.proofs.lemmas.Bool.Decides.{nat_tests}
-use Rattle.uri_pct.specs.Sets.{TableSet, is_one_of}
-use Rattle.uri_pct.specs.Prefixes.{first_char, allows_first}
+use Rattle.uri_pct.proofs.Common.{◌≡◌, ℕ, zero, suc, ◌+◌, ◌-◌, ◌*◌, ◌<◌, Bool, true, false, eqb, not, List, [], ◌∷◌, ◌++◌, length, get_or, take, drop, refl, sym, subst, ap, ◌∙◌, arith, ◌&&◌, ⊎_elim, nat_lt, slice_index, list_all, prefix_len, IsUtf8, IsCharBoundary, encode_utf8_all, continuation_len, lead_bits, chars, chars_after, IsCharBoundary-before_ascii, prefix_len-le-length, prefix_len_stops, drop_all, drop_more, not-false, or_cases, cases_lt, cases_Bool, cond-true, cond-false, and_from, and_parts, lt-ltb, eqb-true, ltb-true, not_from_true, not_from_false, not-true, false≢true, nat_tests, TableSet, is_one_of, first_char, allows_first}
 use Rattle.uri_pct.proofs.Unicode.Characters.{char_has_encoding, is_no_ascii_byte}
 
 -- cuts of valid texts: the length of the prefix before the first mark
@@ -55,9 +46,8 @@ ascii_byte_is_not_past_ascii b h l = grind (arith, nat_tests)
 -- cuts of valid texts: at ASCII marks, a text is never cut at a byte past ASCII
 byte_past_ascii_is_no_ascii_mark : (marks : List ℕ) → AreAscii marks → (b : ℕ)
     → is_no_ascii_byte b ≡ true → is_one_of marks b ≡ false
-byte_past_ascii_is_no_ascii_mark marks ascii b h = ⊎_elim
-    (λ m. let l = ascii b m in absurd (ascii_byte_is_not_past_ascii b h l)) (λ m. m)
-    (cases_Bool (is_one_of marks b))
+byte_past_ascii_is_no_ascii_mark marks ascii b h = ⊎_elim (λ m. let l = ascii b m in absurd
+    (ascii_byte_is_not_past_ascii b h l)) (λ m. m) (cases_Bool (is_one_of marks b))
 
 -- cuts of valid texts: at ASCII marks,
 -- a text is never cut among the bytes past ASCII of a character (more)
@@ -103,18 +93,15 @@ ascii_byte_is_skipped_at_once marks b rest h = ap (λ n. passes_no_mark_within_c
 -- cuts of valid texts: a cut at a mark that is in no character leaves
 -- the first character; k: bytes to skip, c: the character so far
 cut_at_mark_keeps_first_char : (marks : List ℕ) (k c : ℕ) (bs : List ℕ)
-    → passes_no_mark_within_chars marks k bs ≡ true
-    → slice_index (chars_after k c (take (length_before_marks marks bs) bs)) 0
-    ≡ slice_index (chars_after k c bs) 0
+    → passes_no_mark_within_chars marks k bs ≡ true → slice_index (chars_after k c
+    (take (length_before_marks marks bs) bs)) 0 ≡ slice_index (chars_after k c bs) 0
 unfolding passes_no_mark_within_chars
 cut_at_mark_keeps_first_char marks zero c [] s = refl
 cut_at_mark_keeps_first_char marks (suc k) c [] s = refl
-cut_at_mark_keeps_first_char marks zero c (b ∷ bs) s = ⊎_elim
+cut_at_mark_keeps_first_char marks zero c (b ∷ bs) s = ⊎_elim (λ m. ap (λ n. slice_index
+    (chars_after zero c (take n (b ∷ bs))) 0) (length_before_mark_at_start_is_zero marks b bs m))
     (λ m. ap (λ n. slice_index (chars_after zero c (take n (b ∷ bs))) 0)
-    (length_before_mark_at_start_is_zero marks b bs m))
-    (λ m. ap (λ n. slice_index (chars_after zero c (take n (b ∷ bs))) 0)
-    (length_before_marks_counts_other_byte marks b bs m))
-    (cases_Bool (is_one_of marks b))
+    (length_before_marks_counts_other_byte marks b bs m)) (cases_Bool (is_one_of marks b))
 cut_at_mark_keeps_first_char marks (suc k) c (b ∷ bs) s =
     let p = and_parts _ _ s in
     ap (λ n. slice_index (chars_after (suc k) c (take n (b ∷ bs))) 0)
@@ -123,9 +110,8 @@ cut_at_mark_keeps_first_char marks (suc k) c (b ∷ bs) s =
 
 -- cuts of valid texts: a cut at a mark that is
 -- in no character leaves whether the first character is allowed
-pub cut_at_mark_keeps_whether_first_is_allowed : (set : TableSet) (marks : List ℕ) (b : ℕ)
-    (bs : List ℕ)
-    → passes_no_mark_within_chars marks (continuation_len b) bs ≡ true
+pub cut_at_mark_keeps_whether_first_is_allowed : (set : TableSet) (marks : List ℕ)
+    (b : ℕ) (bs : List ℕ) → passes_no_mark_within_chars marks (continuation_len b) bs ≡ true
     → allows_first set b (take (length_before_marks marks bs) bs) ≡ allows_first set b bs
 unfolding allows_first first_char chars
 cut_at_mark_keeps_whether_first_is_allowed set marks b bs s = rw
@@ -147,9 +133,8 @@ byte_after_cut_is_mark marks bs h = not-false _
 -- cuts of valid texts: a character begins at the first ASCII mark, or the text ends
 pub first_mark_is_at_boundary : (marks : List ℕ) → AreAscii marks → (bs : List ℕ)
     → IsCharBoundary bs (length_before_marks marks bs)
-first_mark_is_at_boundary marks ascii bs = ⊎_elim
-    (λ h. IsCharBoundary-before_ascii bs (length_before_marks marks bs) h
-    (ascii _ (byte_after_cut_is_mark marks bs h)))
+first_mark_is_at_boundary marks ascii bs = ⊎_elim (λ h. IsCharBoundary-before_ascii bs
+    (length_before_marks marks bs) h (ascii _ (byte_after_cut_is_mark marks bs h)))
     (grind (arith, nat_tests, prefix_len-le-length))
     (cases_lt (length_before_marks marks bs) (length bs))
 

@@ -1,20 +1,11 @@
 -- One step of the longest prefix that a set allows: an octet, a character, and where it stops.
-use Rattle.std.proofs.Common.{◌≡◌, ℕ, suc, ◌+◌, ◌<◌, ◌≤◌, true, false, cond, eqb, List, [], ◌∷◌, ◌++◌, length, get_or, drop, sym, subst, ap, ◌∙◌, arith, ◌&&◌, ◌||◌, ⊎_elim, add-one}
-use Rattle.std.specs.Char.{encode_utf8, len_utf8}
-use Rattle.std.specs.Str.{continuation_len, IsUtf8, IsCharBoundary}
-use Rattle.std.proofs.lemmas.Str.{length-encode, chars_past_char, IsUtf8-drop, encode_ascii, len_utf8_ascii}
-use Rattle.std.proofs.lemmas.List.{at_drop_more, get_or-drop, drop_all}
-use Rattle.std.proofs.lemmas.Bool.{cases_Bool, cases_lt, cond-true, cond-false, and_from, and_left, and_right, and_parts, eq-eqb, ne_eqb, lt-ltb}
-use Rattle.uri_pct.specs.Sets.{TableSet, LacksPercent, allows, allows_past_ascii}
-use Rattle.uri_pct.specs.Prefixes.{begins_with_hex_digits, first_char, allows_first, valid_prefix_from, valid_prefix}
+use Rattle.uri_pct.proofs.Common.{◌≡◌, ℕ, suc, ◌+◌, ◌<◌, ◌≤◌, true, false, cond, eqb, List, [], ◌∷◌, ◌++◌, length, get_or, drop, sym, subst, ap, ◌∙◌, arith, ◌&&◌, ◌||◌, ⊎_elim, add-one, encode_utf8, len_utf8, continuation_len, IsUtf8, IsCharBoundary, length-encode, chars_past_char, IsUtf8-drop, encode_ascii, len_utf8_ascii, at_drop_more, get_or-drop, drop_all, cases_Bool, cases_lt, cond-true, cond-false, and_from, and_left, and_right, and_parts, eq-eqb, ne_eqb, lt-ltb, TableSet, LacksPercent, allows, allows_past_ascii, begins_with_hex_digits, first_char, allows_first, valid_prefix_from, valid_prefix, has_hex_digits_after, nat_tests}
 use Rattle.uri_pct.specs.Models.Scans.{may_begin_octet_or_past_ascii}
-use Rattle.uri_pct.specs.Texts.{has_hex_digits_after}
 use Rattle.uri_pct.proofs.Unicode.Characters.{char_has_encoding, hexdigit_is_ascii, char_past_ascii_begins_past_ascii}
 use Rattle.uri_pct.proofs.ValidTexts.Validity.{ascii_first_byte_is_allowed_iff_in_set, first_byte_past_ascii_is_allowed_by_its_char, ascii_char_is_allowed_iff_in_set, char_past_ascii_is_allowed_by_flags}
 use Rattle.uri_pct.proofs.ValidTexts.Cuts.{valid_prefix_by_first_byte}
 use Rattle.uri_pct.proofs.ValidTexts.MarksInTexts.{ascii_byte_has_no_continuation}
 use Rattle.uri_pct.proofs.ValidTexts.Prefixes.{percent_is_not_allowed_first}
-use Rattle.std.proofs.lemmas.Bool.Decides.{nat_tests}
 
 -- scanning: how far a scan goes from an index, by the byte there:
 -- it passes an octet or a character, or stops
@@ -55,23 +46,19 @@ pub valid_prefix_passes_octet : (set : TableSet) (bs : List ℕ) (i : ℕ) → i
     → valid_prefix set (drop i bs) ≡ valid_prefix set (drop (i + 3) bs) + 3
 valid_prefix_passes_octet set bs i h o p e =
     let f : i + 1 + 1 + 1 ≡ i + 3 = omega arith in
-    valid_prefix_by_byte_at_index set bs i (omega arith)
-    ∙ cond-true _ _ _ (and_from _ _ o (eq-eqb _ _ p))
-    ∙ cond-true _ _ _ (hex_digits_after_index_begin_suffix bs i ∙ e)
+    valid_prefix_by_byte_at_index set bs i (omega arith) ∙ cond-true _ _ _
+    (and_from _ _ o (eq-eqb _ _ p)) ∙ cond-true _ _ _ (hex_digits_after_index_begin_suffix bs i ∙ e)
     ∙ ap (λ n. n + 1) (skipped_byte_at_index_adds_one set 1 bs (i + 1) (omega arith)
     ∙ ap (λ n. n + 1) (skipped_byte_at_index_adds_one set 0 bs (i + 1 + 1) (omega arith)))
     ∙ (rw f (omega arith))
 
 -- scanning: a scan stops at a `%` that begins no allowed octet
-pub valid_prefix_stops_at_stray_percent : (set : TableSet) → LacksPercent set
-    → (bs : List ℕ) (i : ℕ) → i < length bs
-    → get_or bs i 0 ≡ 37 → (set.pct_encoded && has_hex_digits_after bs i) ≡ false
-    → valid_prefix set (drop i bs) ≡ 0
+pub valid_prefix_stops_at_stray_percent : (set : TableSet)
+    → LacksPercent set → (bs : List ℕ) (i : ℕ) → i < length bs → get_or bs i 0 ≡ 37
+    → (set.pct_encoded && has_hex_digits_after bs i) ≡ false → valid_prefix set (drop i bs) ≡ 0
 valid_prefix_stops_at_stray_percent set lacks bs i h p e = valid_prefix_by_byte_at_index set bs i h
-    ∙ ⊎_elim
-    (grind (arith, nat_tests, hex_digits_after_index_begin_suffix))
-    (λ o. cond-false _ _ _ (and_left _ _ o)
-    ∙ cond-false _ _ _ (percent_is_not_allowed_first set lacks _ _ (eq-eqb _ _ p)))
+    ∙ ⊎_elim (grind (arith, nat_tests, hex_digits_after_index_begin_suffix)) (λ o. cond-false _ _ _
+    (and_left _ _ o) ∙ cond-false _ _ _ (percent_is_not_allowed_first set lacks _ _ (eq-eqb _ _ p)))
     (cases_Bool set.pct_encoded)
 
 -- scanning: no character of a set is `%` (37)
@@ -128,12 +115,10 @@ valid_prefix_by_first_char_past_ascii set bs rest c u e h =
     let n : len_utf8 c ≡ length w.more + 1 = sym (length-encode c) ∙ ap length w.joined
     ∙ omega arith in
     let f : allows_first set w.first (w.more ++ rest) ≡ allows_past_ascii set c =
-    first_byte_past_ascii_is_allowed_by_its_char set w.first _ l
-    ∙ ap (allows_past_ascii set) (ap first_char (sym s)
-    ∙ first_char_of_text_is_the_encoded bs rest c u e) in
-    ap (valid_prefix set) s ∙ valid_prefix_by_first_byte set w.first (w.more ++ rest)
-    ∙ cond-false _ _ _ (and_right _ _
-    (ne_eqb w.first 37 (λ d. past_ascii_is_not_percent w.first l d)))
+    first_byte_past_ascii_is_allowed_by_its_char set w.first _ l ∙ ap (allows_past_ascii set)
+    (ap first_char (sym s) ∙ first_char_of_text_is_the_encoded bs rest c u e) in
+    ap (valid_prefix set) s ∙ valid_prefix_by_first_byte set w.first (w.more ++ rest) ∙ cond-false
+    _ _ _ (and_right _ _ (ne_eqb w.first 37 (λ d. past_ascii_is_not_percent w.first l d)))
     ∙ ap (λ t. cond t (valid_prefix_from set (continuation_len w.first) (w.more ++ rest) + 1) 0) f
     ∙ ap (λ t. cond (allows_past_ascii set c) t 0)
     (ap (λ k. valid_prefix_from set k (w.more ++ rest) + 1) w.len
@@ -143,26 +128,21 @@ valid_prefix_by_first_char_past_ascii set bs rest c u e h =
 pub valid_prefix_by_first_char : (set : TableSet) (text rest : List ℕ) (c : ℕ) → IsUtf8 text
     → text ≡ encode_utf8 c ++ rest → (set.pct_encoded && eqb c 37) ≡ false
     → valid_prefix set text ≡ cond (allows set c) (valid_prefix set rest + len_utf8 c) 0
-valid_prefix_by_first_char set text rest c u e o = ⊎_elim
-    (λ h. ap (valid_prefix set) (e ∙ ap (λ t. t ++ rest) (encode_ascii c h))
-    ∙ valid_prefix_by_first_byte set c rest ∙ cond-false _ _ _ o
-    ∙ ap (λ t. cond t (valid_prefix_from set (continuation_len c) rest + 1) 0)
+valid_prefix_by_first_char set text rest c u e o = ⊎_elim (λ h. ap (valid_prefix set) (e
+    ∙ ap (λ t. t ++ rest) (encode_ascii c h)) ∙ valid_prefix_by_first_byte set c rest
+    ∙ cond-false _ _ _ o ∙ ap (λ t. cond t (valid_prefix_from set (continuation_len c) rest + 1) 0)
     (ascii_first_byte_is_allowed_iff_in_set set c rest h
-    ∙ sym (ascii_char_is_allowed_iff_in_set set c h))
-    ∙ ap (λ k. cond (allows set c) (valid_prefix_from set k rest + 1) 0)
-    (ascii_byte_has_no_continuation c h)
+    ∙ sym (ascii_char_is_allowed_iff_in_set set c h)) ∙ ap (λ k. cond
+    (allows set c) (valid_prefix_from set k rest + 1) 0) (ascii_byte_has_no_continuation c h)
     ∙ ap (λ k. cond (allows set c) (valid_prefix set rest + k) 0) (sym (len_utf8_ascii c h)))
-    (λ h. valid_prefix_by_first_char_past_ascii set text rest c u e
-    (subst (λ t. 128 ≤ get_or t 0 0) (sym e) (char_past_ascii_begins_past_ascii c rest h))
-    ∙ ap (λ t. cond t (valid_prefix set rest + len_utf8 c) 0)
-    (sym (char_past_ascii_is_allowed_by_flags set c h)))
-    (cases_lt c 128)
+    (λ h. valid_prefix_by_first_char_past_ascii set text rest c u e (subst (λ t. 128 ≤ get_or t 0 0)
+    (sym e) (char_past_ascii_begins_past_ascii c rest h)) ∙ ap (λ t. cond t (valid_prefix set rest
+    + len_utf8 c) 0) (sym (char_past_ascii_is_allowed_by_flags set c h))) (cases_lt c 128)
 
 -- scanning: a scan passes a character past ASCII if the set allows it, and stops there otherwise
-pub valid_prefix_by_char_past_ascii_at_index : (set : TableSet) (bs : List ℕ) (i c : ℕ) → IsUtf8 bs
-    → IsCharBoundary bs i
-    → drop i bs ≡ encode_utf8 c ++ drop (i + len_utf8 c) bs → 128 ≤ get_or bs i 0
-    → valid_prefix set (drop i bs)
+pub valid_prefix_by_char_past_ascii_at_index : (set : TableSet) (bs : List ℕ) (i c : ℕ)
+    → IsUtf8 bs → IsCharBoundary bs i → drop i bs ≡ encode_utf8 c ++ drop (i + len_utf8 c) bs
+    → 128 ≤ get_or bs i 0 → valid_prefix set (drop i bs)
     ≡ cond (allows_past_ascii set c) (valid_prefix set (drop (i + len_utf8 c) bs) + len_utf8 c) 0
 valid_prefix_by_char_past_ascii_at_index set bs i c u b e h =
     grind (arith, nat_tests, get_or-drop, valid_prefix_by_first_char_past_ascii, IsUtf8-drop)
@@ -181,20 +161,14 @@ successor_is_not_zero n e = omega arith
 pub unscanned_percent_has_no_hex_digits : (set : TableSet) (bs : List ℕ) (i : ℕ) → i < length bs
     → set.pct_encoded ≡ true
     → get_or bs i 0 ≡ 37 → valid_prefix set (drop i bs) ≡ 0 → has_hex_digits_after bs i ≡ false
-unscanned_percent_has_no_hex_digits set bs i h o p z = ⊎_elim
-    (λ e.
-    absurd (successor_is_not_zero _
-    (sym (cond-true _ _ _ (hex_digits_after_index_begin_suffix bs i ∙ e))
-    ∙ sym (cond-true _ _ _ (and_from _ _ o (eq-eqb _ _ p)))
-    ∙ sym (valid_prefix_by_byte_at_index set bs i h)
-    ∙ z)))
-    (λ e. e)
-    (cases_Bool (has_hex_digits_after bs i))
+unscanned_percent_has_no_hex_digits set bs i h o p z = ⊎_elim (λ e. absurd (successor_is_not_zero _
+    (sym (cond-true _ _ _ (hex_digits_after_index_begin_suffix bs i ∙ e)) ∙ sym (cond-true _ _ _
+    (and_from _ _ o (eq-eqb _ _ p))) ∙ sym (valid_prefix_by_byte_at_index set bs i h) ∙ z)))
+    (λ e. e) (cases_Bool (has_hex_digits_after bs i))
 
 -- scanning: a set without the flags ucschar and iprivate allows nothing past ASCII
-no_flags_allow_nothing_past_ascii : (set : TableSet) → (set.ucschar || set.iprivate)
-    ≡ false → (c : ℕ)
-    → allows_past_ascii set c ≡ false
+no_flags_allow_nothing_past_ascii : (set : TableSet)
+    → (set.ucschar || set.iprivate) ≡ false → (c : ℕ) → allows_past_ascii set c ≡ false
 unfolding allows_past_ascii
 no_flags_allow_nothing_past_ascii set e c = grind (arith, nat_tests)
 
@@ -202,24 +176,21 @@ no_flags_allow_nothing_past_ascii set e c = grind (arith, nat_tests)
 valid_prefix_stops_past_ascii_without_flags : (set : TableSet) (bs : List ℕ) (i : ℕ) → i < length bs
     → 128 ≤ get_or bs i 0 → (set.ucschar || set.iprivate) ≡ false → valid_prefix set (drop i bs) ≡ 0
 valid_prefix_stops_past_ascii_without_flags set bs i h l e =
-    valid_prefix_by_byte_at_index set bs i h
-    ∙ cond-false _ _ _ (and_right _ _
+    valid_prefix_by_byte_at_index set bs i h ∙ cond-false _ _ _ (and_right _ _
     (ne_eqb (get_or bs i 0) 37 (past_ascii_is_not_percent (get_or bs i 0) l)))
     ∙ cond-false _ _ _ (first_byte_past_ascii_is_allowed_by_its_char set _ _ l
     ∙ no_flags_allow_nothing_past_ascii set e _)
 
 -- scanning: a scan stops at a byte that is neither in the set,
 -- nor begins an octet or a character past ASCII that may be
-pub valid_prefix_stops_where_none_may_begin : (set : TableSet) → LacksPercent set
-    → (bs : List ℕ) (i : ℕ) → i < length bs
-    → set.ascii (get_or bs i 0) ≡ false → may_begin_octet_or_past_ascii set (get_or bs i 0) ≡ false
-    → valid_prefix set (drop i bs) ≡ 0
+pub valid_prefix_stops_where_none_may_begin : (set : TableSet)
+    → LacksPercent set → (bs : List ℕ) (i : ℕ) → i < length bs → set.ascii (get_or bs i 0) ≡ false
+    → may_begin_octet_or_past_ascii set (get_or bs i 0) ≡ false → valid_prefix set (drop i bs) ≡ 0
 unfolding may_begin_octet_or_past_ascii
-valid_prefix_stops_where_none_may_begin set lacks bs i h a e =
-    grind (
-      arith,
-      nat_tests,
-      valid_prefix_stops_at_stray_percent,
-      valid_prefix_stops_at_ascii_outside_set,
-      valid_prefix_stops_past_ascii_without_flags,
-    )
+valid_prefix_stops_where_none_may_begin set lacks bs i h a e = grind (
+  arith,
+  nat_tests,
+  valid_prefix_stops_at_stray_percent,
+  valid_prefix_stops_at_ascii_outside_set,
+  valid_prefix_stops_past_ascii_without_flags,
+)

@@ -1,7 +1,6 @@
 -- What was there, where the text after it is cut off again.
-use Rattle.std.proofs.Common.{◌≡◌, ◌≤◌, length, take, sym, ap, arith, subst, string_bytes, String, IsUtf8, length-take}
+use Rattle.uri_pct.proofs.Common.{◌≡◌, ◌≤◌, length, take, sym, ap, arith, subst, string_bytes, String, IsUtf8, length-take, IsCharBoundary-from_take, IsUtf8-string_bytes}
 use Rattle.std.specs.String.Boundary.{IsSplitPoint}
-use Rattle.std.proofs.lemmas.Str.{IsCharBoundary-from_take, IsUtf8-string_bytes}
 
 -- owned texts: what was there before an append may be cut off again
 pub unchanged_text_ends_at_split_point : {Z : Type 0} (old new : String Z)

@@ -1,13 +1,6 @@
 -- A scan passes bytes and octets that the set allows.
-use Rattle.std.proofs.Common.{◌≡◌, ℕ, zero, suc, ◌+◌, ◌<◌, ◌≤◌, Bool, true, false, List, length, get_or, drop, sym, ap, subst, ◌∙◌, arith, ⊎_elim, IsUtf8, IsCharBoundary}
-use Rattle.std.proofs.lemmas.Str.{IsCharBoundary-after_ascii}
-use Rattle.std.proofs.lemmas.Bool.{cases_Bool, cases_lt, false_from_ne_true}
-use Rattle.uri_pct.specs.Sets.{TableSet, LacksPercent}
-use Rattle.uri_pct.specs.Prefixes.{valid_prefix}
-use Rattle.uri_pct.specs.Texts.{has_hex_digits_after}
-use Rattle.uri_pct.specs.Models.ByteRuns.{AreCharactersOrOctets}
+use Rattle.uri_pct.proofs.Common.{◌≡◌, ℕ, zero, suc, ◌+◌, ◌<◌, ◌≤◌, Bool, true, false, List, length, get_or, drop, sym, ap, subst, ◌∙◌, arith, ⊎_elim, IsUtf8, IsCharBoundary, IsCharBoundary-after_ascii, cases_Bool, cases_lt, false_from_ne_true, TableSet, LacksPercent, valid_prefix, has_hex_digits_after, AreCharactersOrOctets, nat_tests}
 use Rattle.uri_pct.proofs.ValidTexts.PrefixSteps.{valid_prefix_passes_ascii_char_of_set, valid_prefix_passes_octet, second_hex_digit_is_ascii}
-use Rattle.std.proofs.lemmas.Bool.Decides.{nat_tests}
 
 -- bytes and octets that are lanes from i on; `oct` marks where octets begin
 module _ (set : TableSet) (lacks : LacksPercent set) (pct : set.pct_encoded ≡ true)
@@ -25,8 +18,7 @@ module _ (set : TableSet) (lacks : LacksPercent set) (pct : set.pct_encoded ≡ 
 
   abbrev IsScanned : ℕ → Type 0
   IsScanned k = (i + n + valid_prefix set (drop (i + n) bs)
-      ≡ i + k + valid_prefix set (drop (i + k) bs))
-      × IsCharBoundary bs (i + n)
+      ≡ i + k + valid_prefix set (drop (i + k) bs)) × IsCharBoundary bs (i + n)
 
   byte_but_percent_begins_no_octet : (k : ℕ) → (get_or bs (i + k) 0 ≡ 37 → ⊥) → oct k ≡ false
   byte_but_percent_begins_no_octet k none = false_from_ne_true _ (λ o. none (percent k o))
@@ -37,10 +29,9 @@ module _ (set : TableSet) (lacks : LacksPercent set) (pct : set.pct_encoded ≡ 
   digits_of_octet_are_no_percent k o = grind (arith, nat_tests)
 
   no_octet_goes_on_after_character : (k : ℕ) → IsFresh k → oct k ≡ false → IsFresh (k + 1)
-  no_octet_goes_on_after_character k fresh none j l h = ⊎_elim
-      (λ (below : j < k). fresh j below (omega arith))
-      (λ (past : k ≤ j). let e : k ≡ j = omega arith in subst (λ m. oct m ≡ false) e none)
-      (cases_lt j k)
+  no_octet_goes_on_after_character k fresh none j l h =
+      ⊎_elim (λ (below : j < k). fresh j below (omega arith)) (λ (past : k ≤ j). let e : k
+      ≡ j = omega arith in subst (λ m. oct m ≡ false) e none) (cases_lt j k)
 
   no_octet_goes_on_after_octet : (k : ℕ) → oct k ≡ true → IsFresh (k + 3)
   no_octet_goes_on_after_octet k o j l h =
@@ -53,9 +44,8 @@ module _ (set : TableSet) (lacks : LacksPercent set) (pct : set.pct_encoded ≡ 
   run_is_scanned_from_index : (steps k : ℕ) → n ≤ k + steps → k ≤ n → IsFresh k
       → IsCharBoundary bs (i + k) → IsScanned k
   run_is_scanned_from_index zero k far near fresh b = end_of_run_is_scanned k (omega arith) b
-  run_is_scanned_from_index (suc steps) k far near fresh b = ⊎_elim
-      (λ (inside : k < n). ⊎_elim
-      (λ o.
+  run_is_scanned_from_index (suc steps) k far near fresh b =
+      ⊎_elim (λ (inside : k < n). ⊎_elim (λ o.
       let w = whole k inside o in
       let p = percent k o in
       let e = valid_prefix_passes_octet set bs (i + k) (omega arith) pct p (digits k o) in
@@ -67,8 +57,7 @@ module _ (set : TableSet) (lacks : LacksPercent set) (pct : set.pct_encoded ≡ 
       (no_octet_goes_on_after_octet k o) (subst (IsCharBoundary bs) last suffix) in
       let f : valid_prefix set (drop (i + k) bs) ≡ valid_prefix set (drop (i + (k + 3)) bs) + 3 = e
       ∙ ap (λ m. valid_prefix set (drop m bs) + 3) next in
-      (omega (arith, r.0, f), r.1))
-      (λ o.
+      (omega (arith, r.0, f), r.1)) (λ o.
       let a = given k inside o fresh in
       let e = valid_prefix_passes_ascii_char_of_set set lacks bs (i + k) (omega arith)
       (ascii _ a) a in
@@ -79,14 +68,11 @@ module _ (set : TableSet) (lacks : LacksPercent set) (pct : set.pct_encoded ≡ 
       (subst (IsCharBoundary bs) next suffix) in
       let f : valid_prefix set (drop (i + k) bs) ≡ valid_prefix set (drop (i + (k + 1)) bs) + 1 = e
       ∙ ap (λ m. valid_prefix set (drop m bs) + 1) next in
-      (omega (arith, r.0, f), r.1))
-      (cases_Bool (oct k)))
-      (λ (end : n ≤ k). end_of_run_is_scanned k (omega arith) b)
-      (cases_lt k n)
+      (omega (arith, r.0, f), r.1)) (cases_Bool (oct k)))
+      (λ (end : n ≤ k). end_of_run_is_scanned k (omega arith) b) (cases_lt k n)
 
   run_is_scanned_from_start : (i + n + valid_prefix set (drop (i + n) bs)
-      ≡ i + valid_prefix set (drop i bs))
-      × IsCharBoundary bs (i + n)
+      ≡ i + valid_prefix set (drop i bs)) × IsCharBoundary bs (i + n)
   run_is_scanned_from_start =
       let z : i + 0 ≡ i = omega arith in
       let r = run_is_scanned_from_index n 0 (omega arith) (omega arith)

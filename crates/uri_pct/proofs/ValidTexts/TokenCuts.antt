@@ -1,15 +1,5 @@
 -- A text that is cut at a character which neither begins an octet nor is in one.
-use Rattle.std.proofs.Common.{◌≡◌, ℕ, suc, ◌+◌, ◌*◌, ◌<◌, true, false, eqb, List, [], ◌∷◌, ◌++◌, length, get_or, take, refl, sym, ap, subst, ◌∙◌, arith, ⊎_elim, length-append}
-use Rattle.std.specs.List.{list_all}
-use Rattle.std.specs.Char.{is_ascii_hexdigit, digit_value}
-use Rattle.std.specs.Str.{chars, chars_after, IsUtf8}
-use Rattle.std.proofs.lemmas.Bool.{cases_Bool, cond-false, and_left, and_right, and_parts, lt-ltb}
-use Rattle.std.proofs.lemmas.Bool.Decides.{nat_tests}
-use Rattle.std.proofs.lemmas.List.Folds.{list_all-append}
-use Rattle.std.proofs.Math.Seq.{get_or-append_seam, take-append_seam}
-use Rattle.std.proofs.lemmas.Str.{chars-append, IsUtf8-take, IsCharBoundary-before_ascii}
-use Rattle.uri_pct.specs.Sets.{TableSet, is_reserved}
-use Rattle.uri_pct.specs.Tokens.{Char, Octet, is_pct_encoded, tokens_from_chars, tokens, allows_token, is_valid_for}
+use Rattle.uri_pct.proofs.Common.{◌≡◌, ℕ, suc, ◌+◌, ◌*◌, ◌<◌, true, false, eqb, List, [], ◌∷◌, ◌++◌, length, get_or, take, refl, sym, ap, subst, ◌∙◌, arith, ⊎_elim, length-append, list_all, is_ascii_hexdigit, digit_value, chars, chars_after, IsUtf8, cases_Bool, cond-false, and_left, and_right, and_parts, lt-ltb, nat_tests, list_all-append, get_or-append_seam, take-append_seam, chars-append, IsUtf8-take, IsCharBoundary-before_ascii, TableSet, is_reserved, Char, Octet, is_pct_encoded, tokens_from_chars, tokens, allows_token, is_valid_for}
 use Rattle.uri_pct.proofs.UnreservedDecoding.Printing.{char_but_percent_is_its_own_token}
 
 -- cuts of valid texts: an ASCII character that is no hexadecimal digit and not `%`
@@ -22,8 +12,7 @@ pub record IsNeverInOctet (c : ℕ) : Type 0 where
 pub reserved_is_never_in_octet : (c : ℕ) → is_reserved c ≡ true → IsNeverInOctet c
 reserved_is_never_in_octet c e = record {
   ascii = grind (arith, nat_tests);
-  no_digit =
-      grind (arith, nat_tests);
+  no_digit = grind (arith, nat_tests);
   no_percent = grind (arith, nat_tests);
 }
 
@@ -61,11 +50,10 @@ mark_separates_tokens_of_chars (c ∷ []) ds mark m = char_before_mark_is_own_to
 mark_separates_tokens_of_chars (c ∷ d ∷ []) ds mark m = cond-false _ _ _
     (octet_needs_second_hexdigit c d mark m.no_digit)
     ∙ ap (λ ts. Char c ∷ ts) (char_before_mark_is_own_token d mark ds m)
-mark_separates_tokens_of_chars (c ∷ high ∷ low ∷ cs) ds mark m = ⊎_elim
-    (λ e. rw e (ap (λ ts. Octet (16 * digit_value high + digit_value low) ∷ ts)
-    (mark_separates_tokens_of_chars cs ds mark m)))
-    (λ e. rw e (ap (λ ts. Char c ∷ ts)
-    (mark_separates_tokens_of_chars (high ∷ low ∷ cs) ds mark m)))
+mark_separates_tokens_of_chars (c ∷ high ∷ low ∷ cs) ds mark m =
+    ⊎_elim (λ e. rw e (ap (λ ts. Octet (16 * digit_value high + digit_value low) ∷ ts)
+    (mark_separates_tokens_of_chars cs ds mark m))) (λ e. rw e
+    (ap (λ ts. Char c ∷ ts) (mark_separates_tokens_of_chars (high ∷ low ∷ cs) ds mark m)))
     (cases_Bool (is_pct_encoded c high low))
 
 -- cuts of valid texts: the characters after an ASCII byte c come after it
@@ -96,11 +84,9 @@ texts_around_mark_are_valid : (set : TableSet) (before after : List ℕ) (mark :
     → (is_valid_for set before ≡ true) × (is_valid_for set after ≡ true)
 unfolding is_valid_for
 texts_around_mark_are_valid set before after mark m u e =
-    let both =
-    and_parts _ _
-    (sym (list_all-append (allows_token set) (tokens before) (Char mark ∷ tokens after))
-    ∙ sym (ap (list_all (allows_token set)) (mark_separates_tokens_of_text before after mark m u))
-    ∙ e) in
+    let both = and_parts _ _
+    (sym (list_all-append (allows_token set) (tokens before) (Char mark ∷ tokens after)) ∙ sym
+    (ap (list_all (allows_token set)) (mark_separates_tokens_of_text before after mark m u)) ∙ e) in
     (both.0, (and_parts _ _ both.1).1)
 
 -- cuts of valid texts: what is before an ASCII byte of a text is a text
@@ -121,16 +107,14 @@ text_before_ascii_mark_is_utf8 text before after mark small u same =
 pub valid_before_mark : (set : TableSet) (text before after : List ℕ) (mark : ℕ)
     → is_valid_for set text ≡ true → text ≡ before ++ mark ∷ after → IsNeverInOctet mark
     → IsUtf8 text → is_valid_for set before ≡ true
-valid_before_mark set text before after mark e same m u =
-    (texts_around_mark_are_valid set before after mark m
-    (text_before_ascii_mark_is_utf8 text before after mark m.ascii u same)
+valid_before_mark set text before after mark e same m u = (texts_around_mark_are_valid set
+    before after mark m (text_before_ascii_mark_is_utf8 text before after mark m.ascii u same)
     (sym (ap (is_valid_for set) same) ∙ e)).0
 
 -- validity: what is after a mark (in no octet) of a valid text is valid
 pub valid_after_mark : (set : TableSet) (text before after : List ℕ) (mark : ℕ)
     → is_valid_for set text ≡ true → text ≡ before ++ mark ∷ after → IsNeverInOctet mark
     → IsUtf8 text → is_valid_for set after ≡ true
-valid_after_mark set text before after mark e same m u =
-    (texts_around_mark_are_valid set before after mark m
-    (text_before_ascii_mark_is_utf8 text before after mark m.ascii u same)
+valid_after_mark set text before after mark e same m u = (texts_around_mark_are_valid set
+    before after mark m (text_before_ascii_mark_is_utf8 text before after mark m.ascii u same)
     (sym (ap (is_valid_for set) same) ∙ e)).1

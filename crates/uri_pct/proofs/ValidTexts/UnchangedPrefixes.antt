@@ -1,20 +1,9 @@
 -- The prefix of a text that a set without octets allows is encoded as it is.
-use Rattle.std.proofs.Common.{◌≡◌, ℕ, ◌+◌, ◌-◌, ◌<◌, ◌≤◌, true, false, cond, List, [], ◌∷◌, ◌++◌, length, take, drop, map, refl, sym, ap, subst, ◌∙◌, arith, ⊎_elim, append_assoc}
-use Rattle.std.specs.Char.{encode_utf8, len_utf8}
-use Rattle.std.specs.Str.{encode_utf8_all, all_scalars, IsUtf8, IsCharBoundary}
-use Rattle.std.proofs.Math.Seq.{take-append-add, drop-append-add}
-use Rattle.std.proofs.lemmas.Bool.{cases_Bool, cond-true, cond-false, and_parts}
-use Rattle.std.proofs.lemmas.List.{append-nil, drop-drop, drop_all, map-append}
-use Rattle.std.proofs.lemmas.Str.{length-encode, IsUtf8-drop}
-use Rattle.uri_pct.specs.Sets.{TableSet, allows, allows_past_ascii}
-use Rattle.uri_pct.specs.Prefixes.{valid_prefix_from, valid_prefix}
-use Rattle.uri_pct.specs.Tokens.{Octet, print}
-use Rattle.uri_pct.specs.Encoding.{encode_char, encode_text, IsEncodedBy}
+use Rattle.uri_pct.proofs.Common.{◌≡◌, ℕ, ◌+◌, ◌-◌, ◌<◌, ◌≤◌, true, false, cond, List, [], ◌∷◌, ◌++◌, length, take, drop, map, refl, sym, ap, subst, ◌∙◌, arith, ⊎_elim, append_assoc, encode_utf8, len_utf8, encode_utf8_all, all_scalars, IsUtf8, IsCharBoundary, take-append-add, drop-append-add, cases_Bool, cond-true, cond-false, and_parts, append-nil, drop-drop, drop_all, map-append, length-encode, IsUtf8-drop, TableSet, allows, allows_past_ascii, valid_prefix_from, valid_prefix, Octet, print, encode_char, encode_text, IsEncodedBy, nat_tests}
 use Rattle.uri_pct.proofs.Unicode.Characters.{char_has_encoding}
 use Rattle.uri_pct.proofs.EncodedTexts.Encodings.{print-append, encode_text-by-first-char, allowed_char_is_printed_literally, disallowed_char_is_encoded_as_octets, slice_with_one_more_char, empty_text_is_encoded_as_nothing}
 use Rattle.uri_pct.proofs.ValidTexts.Prefixes.{nothing_is_scanned_after_valid_prefix}
 use Rattle.uri_pct.proofs.ValidTexts.PrefixSteps.{valid_prefix_by_first_char}
-use Rattle.std.proofs.lemmas.Bool.Decides.{nat_tests}
 
 -- valid prefixes: the set that allows the same characters, and no octets
 abbrev pub set_without_octets : TableSet → TableSet
@@ -35,8 +24,7 @@ HasUnchangedPrefix set text n = print (encode_text set text)
 
 -- valid prefixes: an allowed character before an unchanged prefix lengthens it
 prefix_with_allowed_char_before_is_unchanged : (set : TableSet) (c n : ℕ) (rest : List ℕ)
-    → IsUtf8 (encode_utf8 c ++ rest)
-    → allows set c ≡ true → HasUnchangedPrefix set rest n
+    → IsUtf8 (encode_utf8 c ++ rest) → allows set c ≡ true → HasUnchangedPrefix set rest n
     → HasUnchangedPrefix set (encode_utf8 c ++ rest) (n + len_utf8 c)
 prefix_with_allowed_char_before_is_unchanged set c n rest u allowed unchanged =
     let text : List ℕ = encode_utf8 c ++ rest in
@@ -46,10 +34,9 @@ prefix_with_allowed_char_before_is_unchanged set c n rest u allowed unchanged =
     ∙ print-append (encode_char set c) (encode_text set rest)
     ∙ ap (λ x. x ++ print (encode_text set rest)) (allowed_char_is_printed_literally set c allowed)
     ∙ ap (λ x. encode_utf8 c ++ x) unchanged
-    ∙ sym (append_assoc (encode_utf8 c) (take n rest) suffix)
-    ∙ ap (λ x. x ++ suffix) (sym (take-append-add (encode_utf8 c) rest n))
-    ∙ ap (λ x. take (length (encode_utf8 c) + n) text ++ print (encode_text set x))
-    (sym (drop-append-add (encode_utf8 c) rest n))
+    ∙ sym (append_assoc (encode_utf8 c) (take n rest) suffix) ∙ ap (λ x. x ++ suffix)
+    (sym (take-append-add (encode_utf8 c) rest n)) ∙ ap (λ x. take (length (encode_utf8 c) + n) text
+    ++ print (encode_text set x)) (sym (drop-append-add (encode_utf8 c) rest n))
     ∙ ap (λ k. take k text ++ print (encode_text set (drop k text))) (sym size)
 
 -- valid prefixes: the longest prefix of characters of the set, without octets, is unchanged
@@ -63,8 +50,7 @@ literal_prefix_of_chars_is_unchanged set (c ∷ cs) s =
     let text : List ℕ = encode_utf8 c ++ rest in
     let u : IsUtf8 text = (c ∷ cs, (s, refl)) in
     let first = literal_prefix_by_first_char set text rest c u refl in
-    ⊎_elim
-    (λ a. subst (HasUnchangedPrefix set text) (sym (first ∙ cond-true _ _ _ a))
+    ⊎_elim (λ a. subst (HasUnchangedPrefix set text) (sym (first ∙ cond-true _ _ _ a))
     (prefix_with_allowed_char_before_is_unchanged set c (valid_prefix (set_without_octets set) rest)
     rest u a (literal_prefix_of_chars_is_unchanged set cs (and_parts _ (all_scalars cs) s).1)))
     (λ a. subst (HasUnchangedPrefix set text) (sym (first ∙ cond-false _ _ _ a)) refl)
@@ -109,13 +95,10 @@ char_after_allowed_run_is_not_allowed set text rest start end c u here e joined 
     ap (λ k. valid_prefix (set_without_octets set) (drop k text)) e
     ∙ ap (valid_prefix (set_without_octets set)) (sym (drop-drop n start text))
     ∙ nothing_is_scanned_after_valid_prefix (set_without_octets set) (drop start text) in
-    ⊎_elim
-    (λ a. absurd (sum_with_positive_is_not_zero (valid_prefix (set_without_octets set) rest)
-    (len_utf8 c) (utf8_length_of_char_is_positive c) (sym (cond-true _ _ _ a) ∙ sym
-    (literal_prefix_by_first_char set (drop end text) rest c (IsUtf8-drop text end u here) joined)
-    ∙ none)))
-    (λ a. a)
-    (cases_Bool (allows set c))
+    ⊎_elim (λ a. absurd (sum_with_positive_is_not_zero (valid_prefix (set_without_octets set) rest)
+    (len_utf8 c) (utf8_length_of_char_is_positive c)
+    (sym (cond-true _ _ _ a) ∙ sym (literal_prefix_by_first_char set (drop end text) rest c
+    (IsUtf8-drop text end u here) joined) ∙ none))) (λ a. a) (cases_Bool (allows set c))
 
 -- valid prefixes: the `%XX` of bytes
 printed_octets : List ℕ → List ℕ
@@ -137,18 +120,16 @@ empty_run_is_encoded_as_octets set text start = let none : start - start
 -- valid prefixes: a run that is encoded as octets,
 -- with one more character (c) that is not allowed, is so
 pub longer_run_is_encoded_as_octets : (set : TableSet) (text : List ℕ) (start end next c : ℕ)
-    → IsUtf8 (drop end text)
-    → start ≤ end → drop end text ≡ encode_utf8 c ++ drop (end + len_utf8 c) text
-    → next ≡ end + len_utf8 c → allows set c ≡ false
-    → IsEncodedBy (λ bytes. print (map Octet bytes)) set text start end
+    → IsUtf8 (drop end text) → start ≤ end
+    → drop end text ≡ encode_utf8 c ++ drop (end + len_utf8 c) text → next ≡ end + len_utf8 c
+    → allows set c ≡ false → IsEncodedBy (λ bytes. print (map Octet bytes)) set text start end
     → IsEncodedBy (λ bytes. print (map Octet bytes)) set text start next
 unfolding printed_octets
 longer_run_is_encoded_as_octets set text start end next c u ordered joined place refused before =
     let part : List ℕ = take (end - start) (drop start text) in
     let rest = print (encode_text set (drop (end + len_utf8 c) text)) in
-    let one : print (encode_text set (drop end text)) ≡ printed_octets (encode_utf8 c) ++ rest =
-    ap print (encode_text-by-first-char set (drop end text) (drop (end + len_utf8 c) text)
-    c u joined)
+    let one : print (encode_text set (drop end text)) ≡ printed_octets (encode_utf8 c) ++ rest = ap
+    print (encode_text-by-first-char set (drop end text) (drop (end + len_utf8 c) text) c u joined)
     ∙ print-append (encode_char set c) (encode_text set (drop (end + len_utf8 c) text))
     ∙ ap (λ ts. print ts ++ rest) (disallowed_char_is_encoded_as_octets set c refused) in
     before ∙ ap (λ x. printed_octets part ++ x) one
@@ -170,11 +151,9 @@ disallowed_run_is_not_empty set text start end c ordered joined allowed first =
 -- valid prefixes: after an unchanged run and one that is encoded, what was
 -- appended and the rest, encoded, still make the whole
 pub encoded_text_after_two_runs : (set : TableSet) (out mid new text all : List ℕ)
-    (start end next : ℕ)
-    → IsEncodedBy (λ bytes. bytes) set text start end
-    → IsEncodedBy (λ bytes. print (map Octet bytes)) set text end next
-    → mid ≡ out ++ take (end - start) (drop start text)
-    → new ≡ mid ++ print (map Octet (take (next - end) (drop end text)))
+    (start end next : ℕ) → IsEncodedBy (λ bytes. bytes) set text start end
+    → IsEncodedBy (λ bytes. print (map Octet bytes)) set text end next → mid ≡ out ++ take (end
+    - start) (drop start text) → new ≡ mid ++ print (map Octet (take (next - end) (drop end text)))
     → out ++ print (encode_text set (drop start text)) ≡ all
     → new ++ print (encode_text set (drop next text)) ≡ all
 encoded_text_after_two_runs set out mid new text all start end next kept refused copied

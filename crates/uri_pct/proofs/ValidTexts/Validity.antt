@@ -1,29 +1,18 @@
 -- Validity for a set, byte by byte.
-use Rattle.std.proofs.Common.{◌≡◌, ℕ, zero, suc, ◌<◌, ◌≤◌, Bool, true, false, cond, eqb, List, [], ◌∷◌, ◌++◌, length, get_or, drop, refl, sym, ap, ◌∙◌, arith, ◌&&◌, ⊎_elim}
-use Rattle.std.specs.List.{list_all}
-use Rattle.std.specs.Char.{is_ascii_hexdigit, encode_utf8}
-use Rattle.std.specs.Str.{IsUtf8, encode_utf8_all, all_scalars, continuation_len}
-use Rattle.std.proofs.lemmas.Str.{chars-encodes, encode_ascii}
-use Rattle.std.proofs.lemmas.Bool.{cases_lt, cases_Bool, and_parts, eqb-true, cond-true, cond-false, and_left, and_right, and_from, lt-ltb, le-ltb, ne_eqb}
-use Rattle.uri_pct.specs.Sets.{TableSet, LacksPercent, allows, allows_past_ascii}
-use Rattle.uri_pct.specs.Tokens.{tokens_from_chars, allows_token, is_valid_for, is_pct_encoded}
-use Rattle.uri_pct.specs.Prefixes.{begins_with_hex_digits, first_char, allows_first}
+use Rattle.uri_pct.proofs.Common.{◌≡◌, ℕ, zero, suc, ◌<◌, ◌≤◌, Bool, true, false, cond, eqb, List, [], ◌∷◌, ◌++◌, length, get_or, drop, refl, sym, ap, ◌∙◌, arith, ◌&&◌, ⊎_elim, list_all, is_ascii_hexdigit, encode_utf8, IsUtf8, encode_utf8_all, all_scalars, continuation_len, chars-encodes, encode_ascii, cases_lt, cases_Bool, and_parts, eqb-true, cond-true, cond-false, and_left, and_right, and_from, lt-ltb, le-ltb, ne_eqb, TableSet, LacksPercent, allows, allows_past_ascii, tokens_from_chars, allows_token, is_valid_for, is_pct_encoded, begins_with_hex_digits, first_char, allows_first, nat_tests}
 use Rattle.uri_pct.proofs.Unicode.Characters.{HasEncoding, char_has_encoding, char_past_ascii_begins_past_ascii, first_of_encoded_chars_is_first_char, hexdigit_is_ascii, encoded_chars_begin_with_same_hex_digits}
-use Rattle.std.proofs.lemmas.Bool.Decides.{nat_tests}
 
 -- the bytes are valid, of which so many are still to pass
 unfoldable pub valid_from : TableSet → ℕ → List ℕ → Bool
 valid_from set skip [] = true
-valid_from set zero (b ∷ rest) =
-    cond ((set.pct_encoded && eqb b 37) && begins_with_hex_digits rest) (valid_from set 2 rest)
-    (allows_first set b rest && valid_from set (continuation_len b) rest)
+valid_from set zero (b ∷ rest) = cond ((set.pct_encoded && eqb b 37) && begins_with_hex_digits rest)
+    (valid_from set 2 rest) (allows_first set b rest && valid_from set (continuation_len b) rest)
 valid_from set (suc k) (b ∷ rest) = valid_from set k rest
 
 -- validity: bytes are valid if the first begins an octet or an allowed character, and the rest is
-pub validity_by_first_byte : (set : TableSet) (b : ℕ) (rest : List ℕ)
-    → valid_from set 0 (b ∷ rest)
-    ≡ cond ((set.pct_encoded && eqb b 37) && begins_with_hex_digits rest) (valid_from set 2 rest)
-    (allows_first set b rest && valid_from set (continuation_len b) rest)
+pub validity_by_first_byte : (set : TableSet) (b : ℕ) (rest : List ℕ) → valid_from set 0 (b ∷ rest)
+    ≡ cond ((set.pct_encoded && eqb b 37) && begins_with_hex_digits rest)
+    (valid_from set 2 rest) (allows_first set b rest && valid_from set (continuation_len b) rest)
 unfolding valid_from
 validity_by_first_byte set b rest = refl
 
@@ -84,41 +73,33 @@ first_byte_is_past_ascii_if_char_is c w h =
     omega arith
 
 -- validity: bytes begin with an octet exactly if their characters do; w: the bytes of the first one
-first_byte_begins_no_octet_if_char_does_not : (set : TableSet) (c : ℕ) (cs : List ℕ)
-    (w : HasEncoding c)
-    → (eqb c 37 && begins_with_hex_digits cs) ≡ false
-    → ((set.pct_encoded && eqb w.first 37) && begins_with_hex_digits (w.more ++ encode_utf8_all cs))
-    ≡ false
-first_byte_begins_no_octet_if_char_does_not set c cs w e = ⊎_elim
-    (λ h.
+first_byte_begins_no_octet_if_char_does_not :
+    (set : TableSet) (c : ℕ) (cs : List ℕ) (w : HasEncoding c)
+    → (eqb c 37 && begins_with_hex_digits cs) ≡ false → ((set.pct_encoded && eqb w.first 37)
+    && begins_with_hex_digits (w.more ++ encode_utf8_all cs)) ≡ false
+first_byte_begins_no_octet_if_char_does_not set c cs w e = ⊎_elim (λ h.
     let f = ascii_char_is_its_only_byte c w h in
-    ap (λ t. (set.pct_encoded && eqb t 37) && begins_with_hex_digits (w.more ++ encode_utf8_all cs))
-    f.0
-    ∙ ap (λ t. (set.pct_encoded && eqb c 37) && begins_with_hex_digits (t ++ encode_utf8_all cs))
-    f.1
-    ∙ and_is_false_with_any_first set.pct_encoded (eqb c 37)
-    (begins_with_hex_digits (encode_utf8_all cs))
-    (ap (λ t. eqb c 37 && t) (encoded_chars_begin_with_same_hex_digits cs) ∙ e))
-    (λ h. and_left _ _ (and_right _ _ (ne_eqb w.first 37
-    (λ d. past_ascii_is_not_percent w.first refl (first_byte_is_past_ascii_if_char_is c w h) d))))
-    (cases_lt c 128)
+    ap (λ t. (set.pct_encoded && eqb t 37)
+    && begins_with_hex_digits (w.more ++ encode_utf8_all cs)) f.0 ∙ ap
+    (λ t. (set.pct_encoded && eqb c 37) && begins_with_hex_digits (t ++ encode_utf8_all cs)) f.1
+    ∙ and_is_false_with_any_first set.pct_encoded (eqb c 37) (begins_with_hex_digits
+    (encode_utf8_all cs)) (ap (λ t. eqb c 37 && t) (encoded_chars_begin_with_same_hex_digits cs)
+    ∙ e)) (λ h. and_left _ _ (and_right _ _ (ne_eqb w.first 37 (λ d. past_ascii_is_not_percent
+    w.first refl (first_byte_is_past_ascii_if_char_is c w h) d)))) (cases_lt c 128)
 
 -- validity: the first byte of characters is allowed exactly if the first character is; w: its bytes
 first_byte_is_allowed_iff_char_is : (set : TableSet) (c : ℕ) (cs : List ℕ) (w : HasEncoding c)
     → all_scalars (c ∷ cs) ≡ true
     → allows_first set w.first (w.more ++ encode_utf8_all cs) ≡ allows set c
-first_byte_is_allowed_iff_char_is set c cs w s = ⊎_elim
-    (λ h.
+first_byte_is_allowed_iff_char_is set c cs w s = ⊎_elim (λ h.
     let f = ascii_char_is_its_only_byte c w h in
     ap (λ t. allows_first set t (w.more ++ encode_utf8_all cs)) f.0
-    ∙ ascii_first_byte_is_allowed_iff_in_set set c _ h
-    ∙ sym (ascii_char_is_allowed_iff_in_set set c h))
-    (λ h. first_byte_past_ascii_is_allowed_by_its_char set w.first _
-    (first_byte_is_past_ascii_if_char_is c w h)
+    ∙ ascii_first_byte_is_allowed_iff_in_set set c _ h ∙ sym
+    (ascii_char_is_allowed_iff_in_set set c h)) (λ h. first_byte_past_ascii_is_allowed_by_its_char
+    set w.first _ (first_byte_is_past_ascii_if_char_is c w h)
     ∙ ap (allows_past_ascii set) (ap first_char (sym (utf8_of_chars_begins_with_first_byte c cs w))
     ∙ first_of_encoded_chars_is_first_char c cs s)
-    ∙ sym (char_past_ascii_is_allowed_by_flags set c h))
-    (cases_lt c 128)
+    ∙ sym (char_past_ascii_is_allowed_by_flags set c h)) (cases_lt c 128)
 
 -- validity: a character that begins no octet is valid if the set allows it
 validity_by_first_char : (set : TableSet) (c : ℕ) (cs : List ℕ) → all_scalars (c ∷ cs) ≡ true
@@ -131,9 +112,8 @@ validity_by_first_char set c cs s e =
     ∙ validity_by_first_byte set w.first (w.more ++ X)
     ∙ cond-false _ _ _ (first_byte_begins_no_octet_if_char_does_not set c cs w e)
     ∙ ap (λ t. t && valid_from set (continuation_len w.first) (w.more ++ X))
-    (first_byte_is_allowed_iff_char_is set c cs w s)
-    ∙ ap (λ t. allows set c && t) (ap (λ n. valid_from set n (w.more ++ X)) w.len
-    ∙ validity_skips_given_bytes set w.more X)
+    (first_byte_is_allowed_iff_char_is set c cs w s) ∙ ap (λ t. allows set c
+    && t) (ap (λ n. valid_from set n (w.more ++ X)) w.len ∙ validity_skips_given_bytes set w.more X)
 
 -- validity: two hexadecimal digits of an octet are skipped
 validity_skips_two_hexdigits : (set : TableSet) (h l : ℕ) (rest : List ℕ)
@@ -149,19 +129,16 @@ validity_after_percent_skips_two : (set : TableSet) (c : ℕ) (cs : List ℕ) �
     → valid_from set 0 (encode_utf8_all (c ∷ cs)) ≡ valid_from set 2 (encode_utf8_all cs)
 validity_after_percent_skips_two set c cs d b o =
     ap (λ t. valid_from set 0 (t ++ encode_utf8_all cs)) (encode_ascii c (omega arith))
-    ∙ validity_by_first_byte set c (encode_utf8_all cs)
-    ∙ cond-true _ _ _ (and_from _ _ (and_from _ _ o (ap (λ t. eqb t 37) d))
-    (encoded_chars_begin_with_same_hex_digits cs ∙ b))
+    ∙ validity_by_first_byte set c (encode_utf8_all cs) ∙ cond-true _ _ _ (and_from _ _
+    (and_from _ _ o (ap (λ t. eqb t 37) d)) (encoded_chars_begin_with_same_hex_digits cs ∙ b))
 
 -- validity: a `%` (37) is not valid for a set without octets
 stray_percent_is_not_valid : (set : TableSet) (c : ℕ) (cs : List ℕ) → LacksPercent set → c ≡ 37
     → set.pct_encoded ≡ false → valid_from set 0 (encode_utf8_all (c ∷ cs)) ≡ false
-stray_percent_is_not_valid set c cs p d o =
-    ap (λ t. valid_from set 0 (t ++ encode_utf8_all cs)) (encode_ascii c (omega arith))
-    ∙ validity_by_first_byte set c (encode_utf8_all cs)
-    ∙ cond-false _ _ _ (and_left _ _ (and_left _ _ o))
-    ∙ and_left _ _ (ascii_first_byte_is_allowed_iff_in_set set c _ (omega arith)
-    ∙ ap set.ascii d ∙ p)
+stray_percent_is_not_valid set c cs p d o = ap (λ t. valid_from set 0 (t ++ encode_utf8_all cs))
+    (encode_ascii c (omega arith)) ∙ validity_by_first_byte set c (encode_utf8_all cs)
+    ∙ cond-false _ _ _ (and_left _ _ (and_left _ _ o)) ∙ and_left _ _
+    (ascii_first_byte_is_allowed_iff_in_set set c _ (omega arith) ∙ ap set.ascii d ∙ p)
 
 -- validity: an octet is valid if the set has octets and what is after it is valid
 validity_by_first_octet : (set : TableSet) (c h l : ℕ) (cs : List ℕ) → LacksPercent set
@@ -172,8 +149,7 @@ validity_by_first_octet set c h l cs p e =
     let a = and_parts _ _ e in
     let q = and_parts _ _ a.1 in
     let d = eqb-true c 37 a.0 in
-    ⊎_elim
-    (λ o. validity_after_percent_skips_two set c (h ∷ l ∷ cs) d a.1 o
+    ⊎_elim (λ o. validity_after_percent_skips_two set c (h ∷ l ∷ cs) d a.1 o
     ∙ validity_skips_two_hexdigits set h l cs q.0 q.1
     ∙ sym (ap (λ b. b && valid_from set 0 (encode_utf8_all cs)) o))
     (λ o. stray_percent_is_not_valid set c (h ∷ l ∷ cs) p d o ∙ sym (and_left _ _ o))
@@ -198,19 +174,17 @@ unfolding valid_from tokens_from_chars begins_with_hex_digits
 validity_is_all_tokens_allowed set p [] s = refl
 validity_is_all_tokens_allowed set p (c ∷ []) s = validity_by_first_char set c [] s
     (and_right _ _ refl)
-validity_is_all_tokens_allowed set p (c ∷ d ∷ []) s = validity_by_first_char set c (d ∷ []) s
-    (and_right _ _ (and_right _ _ refl))
-    ∙ ap (λ b. allows set c && b)
-    (validity_is_all_tokens_allowed set p (d ∷ []) (tail_of_scalars_is_scalars c (d ∷ []) s))
-validity_is_all_tokens_allowed set p (c ∷ h ∷ l ∷ cs) s = ⊎_elim
-    (λ e. validity_by_first_octet set c h l cs p e ∙ ap (λ b. set.pct_encoded && b)
-    (validity_is_all_tokens_allowed set p cs (tail_of_scalars_is_scalars l cs
+validity_is_all_tokens_allowed set p (c ∷ d ∷ []) s = validity_by_first_char set c (d
+    ∷ []) s (and_right _ _ (and_right _ _ refl)) ∙ ap (λ b. allows set c
+    && b) (validity_is_all_tokens_allowed set p (d ∷ []) (tail_of_scalars_is_scalars c (d ∷ []) s))
+validity_is_all_tokens_allowed set p (c ∷ h ∷ l ∷ cs) s =
+    ⊎_elim (λ e. validity_by_first_octet set c h l cs p e ∙ ap (λ b. set.pct_encoded
+    && b) (validity_is_all_tokens_allowed set p cs (tail_of_scalars_is_scalars l cs
     (tail_of_scalars_is_scalars h (l ∷ cs) (tail_of_scalars_is_scalars c (h ∷ l ∷ cs) s))))
-    ∙ sym (ap (list_all (allows_token set)) (cond-true _ _ _ e)))
-    (λ e. validity_by_first_char set c (h ∷ l ∷ cs) s
-    (chars_not_pct_encoded_begin_no_octet c h l cs e)
-    ∙ ap (λ b. allows set c && b) (validity_is_all_tokens_allowed set p (h ∷ l ∷ cs)
-    (tail_of_scalars_is_scalars c (h ∷ l ∷ cs) s))
+    ∙ sym (ap (list_all (allows_token set)) (cond-true _ _ _ e))) (λ e.
+    validity_by_first_char set c (h ∷ l ∷ cs) s (chars_not_pct_encoded_begin_no_octet c h l cs e)
+    ∙ ap (λ b. allows set c && b) (validity_is_all_tokens_allowed set p
+    (h ∷ l ∷ cs) (tail_of_scalars_is_scalars c (h ∷ l ∷ cs) s))
     ∙ sym (ap (list_all (allows_token set)) (cond-false _ _ _ e)))
     (cases_Bool (is_pct_encoded c h l))
 

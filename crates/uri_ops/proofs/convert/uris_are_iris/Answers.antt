@@ -1,4 +1,4 @@
-use Rattle.uri_parts.proofs.TextKinds.KindSets.{uri_is_uri_ref, iri_is_iri_ref}
+use Rattle.uri_ops.proofs.Common.{uri_is_uri_ref, iri_is_iri_ref}
 use Rattle.uri_ops.proofs.TextKinds.Conversions.{uri_is_iri, uri_ref_is_iri_ref}
 use Rattle.uri_ops.proofs.convert.uris_are_iris.Goals as goal
 

@@ -1,4 +1,4 @@
-use Rattle.uri_pct.proofs.UnreservedDecoding.Printing.{print_decoded}
+use Rattle.uri_ops.proofs.Common.{print_decoded}
 use Rattle.uri_ops.proofs.Meanings.AllowedParts.{set-text-from-utf8}
 use Rattle.uri_ops.proofs.Paths.DecodedPaths.{removing-dots-and-decoding-swap, decoding-keeps-underflow}
 use Rattle.uri_ops.proofs.laws.removing_dots_and_decoding_swap.Goals as goal

@@ -1,6 +1,4 @@
-use Rattle.std.proofs.Common.{subst, sym, ◌∙◌}
-use Rattle.std.specs.Str.{IsUtf8}
-use Rattle.uri_parts.specs.CoreTexts.{core_text}
+use Rattle.uri_ops.proofs.Common.{subst, sym, ◌∙◌, IsUtf8, core_text}
 use Rattle.uri_ops.proofs.SchemeRules.RuledCopies.{unruled-text-is-its-normal-text}
 use Rattle.uri_ops.proofs.normalize.normalize_core.Goals as goal
 
@@ -9,10 +7,8 @@ pub returns-then-is_found_normal_by_ports-clause-text :
 returns-then-is_found_normal_by_ports-clause-text g c =
     let text = core_text c.args.core in
     record {
-      text = c.in_ok-from_str.ensures.ok ∙ c.as_str.ensures.text
-          ∙ unruled-text-is-its-normal-text g.K.Kind.kind
-          (g.S.SchemeRules.rules_of c.args.rules.now) c.requires text
-          (record {
+      text = c.in_ok-from_str.ensures.ok ∙ c.as_str.ensures.text ∙ unruled-text-is-its-normal-text
+          g.K.Kind.kind (g.S.SchemeRules.rules_of c.args.rules.now) c.requires text (record {
             utf8 = subst IsUtf8 c.as_str.ensures.text c.as_str.utf8;
             grammar = c.args.core.of_kind;
           }) (c.is_found_normal_by_ports.ensures.text c.if-is_found_normal_by_ports.true)

@@ -1,9 +1,6 @@
 -- The last blocks of equal texts are equal. Where they are, and no more is left, the texts are
 -- equal.
-use Rattle.std.proofs.Common.{◌≡◌, ◌∙◌, ◌-◌, drop, length, refl, sym, ap, arith}
-use Rattle.std.proofs.lemmas.Bool.{false≢true}
-use Rattle.std.proofs.lemmas.List.{length-append, take_all}
-use Rattle.std.proofs.lemmas.Slice.Eq.{bytes_eq-Decides}
+use Rattle.uri_ops.proofs.Common.{◌≡◌, ◌∙◌, ◌-◌, drop, length, refl, sym, ap, arith, false≢true, length-append, take_all, bytes_eq-Decides}
 use Rattle.uri_ops.proofs.FromEnd.Blocks.{equal_texts_have_equal_last_blocks, nothing_is_left_of_either, texts_of_equal_last_blocks_are_equal}
 use Rattle.uri_ops.proofs.read_back.are_equal.Goals as goal
 
@@ -28,8 +25,7 @@ returns-then-start-gt0 g c =
     let a = c.take_last_block-start.ensures.block in
     let b = c.take_last_block-other_start.ensures.block in
     let block = drop c.take_last_block-start.result c.take_last_block-start.new.block in
-    let found = drop c.take_last_block-other_start.result c.take_last_block-other_start.new.block
-    in
+    let found = drop c.take_last_block-other_start.result c.take_last_block-other_start.new.block in
     let all = take_all (1024 - c.take_last_block-start.result)
     (drop c.take_last_block-start.result c.take_last_block-start.new.block)
     (omega (arith, c.take_last_block-start.ensures.length)) in
@@ -45,22 +41,20 @@ returns-then-start-gt0 g c =
     )
 
 pub loop-one-smaller : goal.loop-one-smaller
-loop-one-smaller g c =
-    omega (
-      arith,
-      ap length c.take_last_block-start.ensures.block.whole,
-      length-append (g.A.ReadBack.unread c.take_last_block-start.new.text)
-          (drop c.take_last_block-start.result c.take_last_block-start.new.block),
-      c.take_last_block-start.ensures.length,
-    )
+loop-one-smaller g c = omega (
+  arith,
+  ap length c.take_last_block-start.ensures.block.whole,
+  length-append (g.A.ReadBack.unread c.take_last_block-start.new.text)
+      (drop c.take_last_block-start.result c.take_last_block-start.new.block),
+  c.take_last_block-start.ensures.length,
+)
 
 pub loop-one-preserved : goal.loop-one-preserved
 loop-one-preserved g c =
     let a = c.take_last_block-start.ensures.block in
     let b = c.take_last_block-other_start.ensures.block in
     let block = drop c.take_last_block-start.result c.take_last_block-start.new.block in
-    let found = drop c.take_last_block-other_start.result c.take_last_block-other_start.new.block
-    in
+    let found = drop c.take_last_block-other_start.result c.take_last_block-other_start.new.block in
     let all = take_all (1024 - c.take_last_block-start.result)
     (drop c.take_last_block-start.result c.take_last_block-start.new.block)
     (omega (arith, c.take_last_block-start.ensures.length)) in

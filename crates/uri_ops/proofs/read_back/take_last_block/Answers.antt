@@ -1,5 +1,4 @@
-use Rattle.std.proofs.Common.{arith}
-use Rattle.std.proofs.lemmas.List.{length-drop}
+use Rattle.uri_ops.proofs.Common.{arith, length-drop}
 use Rattle.uri_ops.proofs.FromEnd.Blocks.{bytes_at_end_are_last_block}
 use Rattle.uri_ops.proofs.read_back.take_last_block.Goals as goal
 
@@ -10,5 +9,4 @@ returns-clause-block g c =
     (omega arith) (omega arith) c.read_back.ensures.text c.read_back.ensures.end
 
 pub returns-clause-length : goal.returns-clause-length
-returns-clause-length g c =
-    omega (arith, length-drop c.read_back.result c.read_back.new.block)
+returns-clause-length g c = omega (arith, length-drop c.read_back.result c.read_back.new.block)

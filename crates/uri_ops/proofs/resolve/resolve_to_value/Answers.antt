@@ -1,4 +1,4 @@
-use Rattle.std.specs.Prelude.{string_bytes}
+use Rattle.uri_ops.proofs.Common.{string_bytes}
 use Rattle.uri_ops.proofs.Targeting.ResolvedTexts.{value-with-text-is-resolved}
 use Rattle.uri_ops.proofs.resolve.resolve_to_value.Goals as goal
 

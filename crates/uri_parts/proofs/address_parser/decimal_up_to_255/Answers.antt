@@ -1,9 +1,4 @@
-use Rattle.std.proofs.Common.{◌≡◌, ℕ, ◌+◌, ◌*◌, ◌<◌, ◌≤◌, List, take, get_or, length, arith, sym, lit≤}
-use Rattle.std.proofs.lemmas.List.{get_or_past}
-use Rattle.std.proofs.lemmas.Int.Digits.{digits_more, digits_value_more}
-use Rattle.std.specs.Char.{digit_value}
-use Rattle.std.specs.Str.Parse.{AllDigits, digits_value}
-use Rattle.std.proofs.NetLemmas.Numbers.{read_number_some_at, read_number_large_at, read_number_empty}
+use Rattle.uri_parts.proofs.Common.{◌≡◌, ℕ, ◌+◌, ◌*◌, ◌<◌, ◌≤◌, List, take, get_or, length, arith, sym, lit≤, get_or_past, digits_more, digits_value_more, digit_value, AllDigits, digits_value, read_number_some_at, read_number_large_at, read_number_empty}
 use Rattle.uri_parts.proofs.address_parser.decimal_up_to_255.Goals.{else-loop-byte-test, then-loop-byte-test+in_default}
 use Rattle.uri_parts.proofs.address_parser.decimal_up_to_255.Goals as goal
 

@@ -1,5 +1,4 @@
-use Rattle.std.proofs.Common.{◌≡◌, ◌≤◌, take}
-use Rattle.std.specs.Str.Parse.{AllDigits, digits_value}
+use Rattle.uri_parts.proofs.Common.{◌≡◌, ◌≤◌, take, AllDigits, digits_value}
 use Rattle.uri_parts.proofs.address_parser.decimal_up_to_255.Given as goal
 
 abbrev pub invariant-loop-byte : goal.invariant-loop-byte

@@ -1,4 +1,4 @@
-use Rattle.std.proofs.Common.{arith}
+use Rattle.uri_parts.proofs.Common.{arith}
 use Rattle.uri_parts.proofs.HostForms.HexDigits.{three-digits-are-below-4096, next-digit-extends-number, number-ends-at-other-byte}
 use Rattle.uri_parts.proofs.address_parser.with_next_digit.Goals as goal
 
@@ -16,6 +16,5 @@ returns-then-digit-eq16-clause-all c = λ e.
     c.if-digit-eq16.true (let few = c.requires.few in omega arith)
 
 pub returns-clause-found : goal.returns-clause-found
-returns-clause-found c =
-    next-digit-extends-number _ _ _ _ _ _ c.requires.found c.requires.next
-    c.digit_of-digit.ensures c.if-digit-eq16.false
+returns-clause-found c = next-digit-extends-number
+    _ _ _ _ _ _ c.requires.found c.requires.next c.digit_of-digit.ensures c.if-digit-eq16.false

@@ -1,4 +1,4 @@
-use Rattle.std.proofs.Common.{◌≡◌, ℕ, ◌<◌, ◌≤◌, ◌+◌, max, get_or}
+use Rattle.uri_parts.proofs.Common.{◌≡◌, ℕ, ◌<◌, ◌≤◌, ◌+◌, max, get_or}
 use Rattle.uri_parts.proofs.address_reader.merge_tail.Given as goal
 
 abbrev pub invariant-loop-i : goal.invariant-loop-i

@@ -1,9 +1,6 @@
-use Rattle.std.proofs.Common.{◌≡◌, ◌+◌, ◌-◌, ◌<◌, length, drop, get_or, sym, ap, ◌∙◌, arith, append-nil, length-drop, drop-drop, take, take_all, ℕ, List, [], ◌∷◌, ◌++◌, ◌≤◌, Some, None, nat_lt, le-ltb, refl}
+use Rattle.uri_parts.proofs.Common.{◌≡◌, ◌+◌, ◌-◌, ◌<◌, length, drop, get_or, sym, ap, ◌∙◌, arith, append-nil, length-drop, drop-drop, take, take_all, ℕ, List, [], ◌∷◌, ◌++◌, ◌≤◌, Some, None, nat_lt, le-ltb, refl, places, take_more_set, read_segments, read_ipv4_if, segments_of_ipv4}
 use Rattle.std.proofs.Math.ListN.{set}
-use Rattle.std.proofs.lemmas.List.{places, take_more_set}
 use Rattle.std.proofs.lemmas.Grind.{common_steps}
-use Rattle.std.specs.Net.Reader.{read_segments, read_ipv4_if}
-use Rattle.uri_parts.specs.Models.Literals.{segments_of_ipv4}
 use Rattle.uri_parts.proofs.HostForms.AddressParsing.{IsSuffix, suffix-at-position}
 use Rattle.uri_parts.proofs.HostForms.GroupReading.{reading-appends-value-of-group, reading-ends-without-group, reading-ends-after-group-without-colon, colon-separates-next-group, no-dot-after-digits-is-no-ipv4, ipv4-ends-reading, unparsed-ipv4-is-not-read, text-after-ipv4-is-suffix, byte-after-digits-at-position, colon-at-position-is-inside}
 use Rattle.uri_parts.proofs.address_reader.read_groups.Goals.{else-digits-eq46}
@@ -28,9 +25,8 @@ same-for-suffix f text i = ap f (take_all (length text - i) (drop i text)
     (omega (arith, length-drop i text)))
 
 -- an IPv4 address leaves a suffix of the text
-ipv4-leaves-suffix : (text two rest : List ℕ) (i : ℕ) → i ≤ length text
-    → Some (two, rest) ≡ segments_of_ipv4 (take (length text - i) (drop i text))
-    → IsSuffix rest text
+ipv4-leaves-suffix : (text two rest : List ℕ) (i : ℕ) → i ≤ length text →
+    Some (two, rest) ≡ segments_of_ipv4 (take (length text - i) (drop i text)) → IsSuffix rest text
 ipv4-leaves-suffix text two rest i within e = suffix-at-position text rest i within
     (text-after-ipv4-is-suffix _ two rest (e ∙ same-for-suffix segments_of_ipv4 text i))
 
@@ -71,20 +67,17 @@ returns-then-digits-ne58-clause-value c =
           (w.in_default.ensures ∙ same-for-suffix segments_of_ipv4 text group)
       | goal.then-digits-eq46+else-not-takes_ipv4+else-i-room w ↦
           rw (le-ltb 0 room (let full = w.if-i-room.false in omega arith)) refl
-      | else-digits-eq46 w ↦
-          no-dot-after-digits-is-no-ipv4 _ _ count digits.ensures.digits
+      | else-digits-eq46 w ↦ no-dot-after-digits-is-no-ipv4 _ _ count digits.ensures.digits
           (λ e. w.if-digits-eq46.false (byte ∙ e))
     ] in
-    let read = reading-ends-after-group-without-colon _ _ _ _ _ _ c.loop-i-test.true
-    c.loop-i.invariant.found c.loop-i.invariant.next _ digits.ensures.digits
-    c.if-digits-eq0.false c.if-digits-eq5.false no_ipv4
-    (λ e. c.if-digits-ne58.true (byte ∙ e)) in
+    let read = reading-ends-after-group-without-colon _ _ _ _
+    _ _ c.loop-i-test.true c.loop-i.invariant.found c.loop-i.invariant.next _ digits.ensures.digits
+    c.if-digits-eq0.false c.if-digits-eq5.false no_ipv4 (λ e. c.if-digits-ne58.true (byte ∙ e)) in
     rw (
       take_more_set c.loop-i.segments c.loop-i.i digits.result.value (omega arith),
       digits.ensures.value few,
       ← drop-drop count group text,
-    )
-    read
+    ) read
 
 pub loop-i-preserved : goal.loop-i-preserved
 loop-i-preserved c =
@@ -95,9 +88,8 @@ loop-i-preserved c =
     let within : c.loop-i.i < length c.loop-i.segments = omega arith in
     let few : count < 5 = grind arith in
     let byte = byte-after-digits-at-position text group count _ (digits.ensures.next few) in
-    let no_ipv4 = no-dot-after-digits-is-no-ipv4
-    (nat_lt 0 (length c.args.segments.now - (c.loop-i.i + 1))) (drop group text) count
-    digits.ensures.digits
+    let no_ipv4 = no-dot-after-digits-is-no-ipv4 (nat_lt 0
+    (length c.args.segments.now - (c.loop-i.i + 1))) (drop group text) count digits.ensures.digits
     (λ e. absurd (let dot = byte ∙ e in let colon = c.if-digits-ne58.false in omega arith)) in
     let read = reading-appends-value-of-group _ _ _ _ _ _ c.loop-i-test.true
     c.loop-i.invariant.found c.loop-i.invariant.next _ digits.ensures.digits

@@ -1,5 +1,5 @@
-use Rattle.std.proofs.Common.{◌≡◌, ◌≤◌, ◌-◌, ◌==◌, true, take, drop, length, Some}
-use Rattle.std.specs.Net.Reader.{read_segments, read_separator, after}
+use Rattle.uri_parts.proofs.Common.{◌≡◌, ◌≤◌, ◌-◌, ◌==◌, true, take, drop, length, Some, read_segments, read_separator}
+use Rattle.std.specs.Net.Reader.{after}
 use Rattle.uri_parts.proofs.address_reader.read_groups.Given as goal
 
 abbrev pub invariant-loop-i : goal.invariant-loop-i

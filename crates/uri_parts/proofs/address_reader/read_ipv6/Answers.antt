@@ -1,7 +1,6 @@
-use Rattle.std.proofs.Common.{◌≡◌, ℕ, ◌+◌, refl, ◌-◌, ◌≤◌, ◌==◌, true, false, length, take, replicate, drop, Some, sym, ap, ◌∙◌, arith, length-take-le, ne_eqb}
+use Rattle.uri_parts.proofs.Common.{◌≡◌, ℕ, ◌+◌, refl, ◌-◌, ◌≤◌, ◌==◌, true, false, length, take, replicate, drop, Some, sym, ap, ◌∙◌, arith, length-take-le, ne_eqb, read_ipv6, read_segments}
 use Rattle.std.proofs.lemmas.Slice.{take-put_mid}
 use borrow.Rule.Slice.PartMut.{put_mid}
-use Rattle.std.specs.Net.Reader.{read_ipv6, read_segments}
 use Rattle.uri_parts.proofs.HostForms.GroupReading.{colon-at-position-is-read, tail-groups-are-placed-last}
 use Rattle.uri_parts.proofs.address_reader.read_ipv6.Goals as goal
 
@@ -25,11 +24,10 @@ returns-clause-read c =
     length-take-le _ _ (omega arith) ∙ omega arith in
     let window = put_mid 8 (15 - h - 8) (replicate 16 0) tail in
     let put = tail-groups-are-placed-last head tail c.merge_tail.new.segments window h t
-    (8 - length (take h head) - length (take t tail)) size (omega arith)
-    (omega (arith, found_tail.within, part, c.if-head-eq8.false)) within
+    (8 - length (take h head) - length (take t tail)) size
+    (omega arith) (omega (arith, found_tail.within, part, c.if-head-eq8.false)) within
     (omega (arith, len_h, len_t)) zeros
-    (take-put_mid 8 (15 - h - 8) (replicate 16 0) tail _ refl (omega arith))
-    c.merge_tail.ensures in
+    (take-put_mid 8 (15 - h - 8) (replicate 16 0) tail _ refl (omega arith)) c.merge_tail.ensures in
     let text = c.args.text.now in
     let read_head = ap (λ n. read_segments n true (drop c.args.start text)) (sym eight)
     ∙ found_head.value in
@@ -41,8 +39,7 @@ returns-clause-read c =
     let read_tail : read_segments (7 - length (take h head)) true (drop (end + 2) text)
     ≡ (take t tail, c.in_ok-last.last.has_ipv4, drop c.in_ok-last.last.end text) =
     rw (len_h, ← part) found_tail.value in
-    let short : (length (take h head) == 8)
-    ≡ false = rw len_h (ne_eqb _ _ c.if-head-eq8.false) in
+    let short : (length (take h head) == 8) ≡ false = rw len_h (ne_eqb _ _ c.if-head-eq8.false) in
     let next : drop (end + 1 + 1) text ≡ drop (end + 2) text =
     ap (λ n. drop n text) (omega arith) in
     rw (
@@ -53,5 +50,4 @@ returns-clause-read c =
       two,
       next,
       read_tail,
-    )
-    (ap (λ s. Some (s, drop c.in_ok-last.last.end text)) put)
+    ) (ap (λ s. Some (s, drop c.in_ok-last.last.end text)) put)

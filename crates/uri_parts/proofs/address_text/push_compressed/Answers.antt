@@ -1,10 +1,4 @@
-use Rattle.std.proofs.Common.{◌≡◌, ℕ, ◌+◌, slice_set, ◌∷◌, ◌++◌, ◌<◌, [], List, length, take, All, arith, rules, sym, subst, inl, inr, IsAscii, IsUtf8}
-use Rattle.std.proofs.lemmas.Bool.{cases_lt}
-use Rattle.std.proofs.lemmas.List.{get_or_past, take_more_set}
-use Rattle.std.proofs.lemmas.List.Elements.{All-get_or}
-use Rattle.std.proofs.lemmas.Str.{IsAscii-append, IsUtf8-from_ascii}
-use Rattle.std.proofs.NetLemmas.Alphabet.{IsHexOrColon, All-hex_groups_text}
-use Rattle.std.specs.Net.Text.{hex_groups_text}
+use Rattle.uri_parts.proofs.Common.{◌≡◌, ℕ, ◌+◌, slice_set, ◌∷◌, ◌++◌, ◌<◌, [], List, length, take, All, arith, rules, sym, subst, inl, inr, IsAscii, IsUtf8, cases_lt, get_or_past, take_more_set, All-get_or, IsAscii-append, IsUtf8-from_ascii, IsHexOrColon, All-hex_groups_text, hex_groups_text}
 use Rattle.uri_parts.proofs.address_text.push_compressed.Goals as goal
 
 -- hexadecimal digits and colons are ASCII

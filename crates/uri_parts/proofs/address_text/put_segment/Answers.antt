@@ -1,4 +1,4 @@
-use Rattle.std.proofs.Common.{arith}
+use Rattle.uri_parts.proofs.Common.{arith}
 use Rattle.std.proofs.lemmas.Grind.{common_steps}
 use Rattle.uri_parts.proofs.HostForms.AddressTexts.{hex_has_no_leading_zeros}
 use Rattle.uri_parts.proofs.address_text.put_segment.Goals as goal

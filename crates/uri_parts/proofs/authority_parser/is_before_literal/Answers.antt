@@ -1,4 +1,4 @@
-use Rattle.std.proofs.Common.{arith}
+use Rattle.uri_parts.proofs.Common.{arith}
 use Rattle.uri_parts.proofs.Authorities.HostParsing.{bracket_begins_no_name}
 use Rattle.uri_parts.proofs.TextKinds.KindSets.{each_kind_separates_components}
 use Rattle.uri_parts.proofs.authority_parser.is_before_literal.Goals as goal

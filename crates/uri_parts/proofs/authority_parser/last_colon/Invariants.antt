@@ -1,5 +1,4 @@
-use Rattle.std.proofs.Common.{◌≤◌, ◌≡◌}
-use Rattle.uri_parts.specs.Refusals.{last_colon}
+use Rattle.uri_parts.proofs.Common.{◌≤◌, ◌≡◌, last_colon}
 use Rattle.uri_parts.proofs.authority_parser.last_colon.Given as goal
 
 abbrev pub invariant-loop-i : goal.invariant-loop-i

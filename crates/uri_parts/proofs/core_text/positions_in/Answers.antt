@@ -1,5 +1,4 @@
-use Rattle.std.proofs.Common.{sym, ap, ◌∙◌, is_ok}
-use Rattle.std.proofs.lemmas.Bool.{false≢true}
+use Rattle.uri_parts.proofs.Common.{sym, ap, ◌∙◌, is_ok, false≢true}
 use Rattle.uri_parts.proofs.core_text.positions_in.Goals as goal
 
 pub unreachable-requires : goal.unreachable-requires

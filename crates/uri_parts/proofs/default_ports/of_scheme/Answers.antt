@@ -1,7 +1,4 @@
-use Rattle.std.proofs.Common.{◌<◌, ◌-◌, ◌∙◌, ap, sym, arith, length, get_or}
-use Rattle.std.specs.Char.{to_ascii_lowercase, is_ascii_lowercase}
-use Rattle.std.proofs.lemmas.Bool.{eqb-false}
-use Rattle.uri_parts.specs.SchemePorts.{port_ignoring_case}
+use Rattle.uri_parts.proofs.Common.{◌<◌, ◌-◌, ◌∙◌, ap, sym, arith, length, get_or, to_ascii_lowercase, is_ascii_lowercase, eqb-false, port_ignoring_case}
 use Rattle.uri_parts.proofs.Authorities.SchemeRows.{default-port-by-rows-of-first-letter, no-default-port-without-first-letter, empty-scheme-has-no-default-port}
 use Rattle.uri_parts.proofs.default_ports.of_scheme.Goals as goal
 
@@ -22,7 +19,6 @@ returns c =
     let some = eqb-false _ 0 (sym c.is_empty.ensures ∙ c.if-is_empty.false) in
     let same = ap length c.as_bytes-bytes.ensures.value in
     let long : 0 < length scheme = omega (arith, some, same) in
-    c.port_of_named_row.ensures
-    ∙ ap (port_ignoring_case scheme) c.rows_of_letter-rows.ensures
+    c.port_of_named_row.ensures ∙ ap (port_ignoring_case scheme) c.rows_of_letter-rows.ensures
     ∙ default-port-by-rows-of-first-letter scheme nth long low (c.from.ensures
     ∙ ap (λ x. x - 97) letter)

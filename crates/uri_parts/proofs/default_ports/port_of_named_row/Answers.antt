@@ -1,4 +1,4 @@
-use Rattle.std.proofs.Common.{rules, tests, ap, sym, ◌∙◌, option_map}
+use Rattle.uri_parts.proofs.Common.{rules, tests, ap, sym, ◌∙◌, option_map}
 use Rattle.std.proofs.lemmas.Iterator.{YieldsList-from_slice}
 use Rattle.std.proofs.lemmas.Iterator.Search.{find_from_yields_List}
 use Rattle.uri_parts.proofs.Authorities.SchemePorts.{is_named, found-row-gives-port-of-name}

@@ -1,4 +1,4 @@
-use Rattle.std.proofs.Common.{map}
+use Rattle.uri_parts.proofs.Common.{map}
 use Rattle.uri_parts.proofs.Authorities.SchemePorts.{row_of}
 use Rattle.uri_parts.proofs.Authorities.SchemeRows.{rows-of-letter-are-at-its-place}
 use Rattle.uri_parts.proofs.default_ports.rows_of_letter.Goals as goal

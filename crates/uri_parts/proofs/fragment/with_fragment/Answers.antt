@@ -1,6 +1,4 @@
-use Rattle.std.proofs.Common.{Some, None, ap, sym, subst, ◌∙◌, ◌++◌, ◌∷◌, arith, option_map, string_bytes}
-use Rattle.uri_pct.specs.EncodedTexts.{text_of}
-use Rattle.uri_parts.specs.Fragments.{IsWithFragment}
+use Rattle.uri_parts.proofs.Common.{Some, None, ap, sym, subst, ◌∙◌, ◌++◌, ◌∷◌, arith, option_map, string_bytes, text_of, IsWithFragment}
 use Rattle.uri_parts.proofs.Splitting.Fragments.{appended_is_with_fragment, stays_of_kind_with_fragment, stays_of_kind_without_fragment, positions_stay_with_fragment}
 use Rattle.uri_parts.proofs.fragment.with_fragment.Goals as goal
 
@@ -9,9 +7,8 @@ without : (g : _) (c : goal.In_ok-push_str g)
     → IsWithFragment c.args.text.now None (string_bytes c.push_str.new.self)
 without g c = grind arith
 
-with : (g : _) (c : goal.In_ok-push_fragment g)
-    → IsWithFragment c.args.text.now (Some c.as_str.result.now)
-    (string_bytes c.push_fragment.new.text)
+with : (g : _) (c : goal.In_ok-push_fragment g) → IsWithFragment c.args.text.now
+    (Some c.as_str.result.now) (string_bytes c.push_fragment.new.text)
 with g c =
     let kept = c.without_fragment-kept.result.now in
     let fragment = c.as_str.result.now in

@@ -1,4 +1,4 @@
-use Rattle.std.proofs.Common.{arith}
+use Rattle.uri_parts.proofs.Common.{arith}
 use Rattle.uri_parts.proofs.Refusals.Literals.{literal-with-version-letter-scans-ipvfuture, literal-without-address-is-unexpected}
 use Rattle.uri_parts.proofs.ip_literal.any_literal_end.Goals as goal
 

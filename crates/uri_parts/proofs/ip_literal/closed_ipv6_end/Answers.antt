@@ -1,5 +1,4 @@
-use Rattle.std.proofs.Common.{◌≡◌, ◌+◌, ◌≤◌, true, length, drop, sym, ap, ◌∙◌, arith, length-drop, option_map, Ok}
-use Rattle.uri_parts.specs.Components.{starts}
+use Rattle.uri_parts.proofs.Common.{◌≡◌, ◌+◌, ◌≤◌, true, length, drop, sym, ap, ◌∙◌, arith, length-drop, option_map, Ok, starts}
 use Rattle.uri_parts.proofs.HostForms.Ipv6Literals.{no_ipv6_is_no_literal, unclosed_ipv6_is_no_literal}
 use Rattle.uri_parts.proofs.Refusals.Literals.{literal-ends-after-read-ipv6, literal-rejects-unparsed}
 use Rattle.uri_parts.proofs.ip_literal.closed_ipv6_end.Goals as goal
@@ -12,9 +11,8 @@ returns-then-next_is-clause-exact c =
     let closed : starts 93 (drop end text) ≡ true =
     sym c.next_is.ensures.value ∙ c.if-next_is.true in
     let within : end ≤ length text = found.end in
-    literal-ends-after-read-ipv6 text (drop end text) c.args.start
-    (ap (option_map (λ p. p.1)) found.read) closed
-    ∙ ap (λ n. Ok (n + 1)) (omega (arith, length-drop end text))
+    literal-ends-after-read-ipv6 text (drop end text) c.args.start (ap (option_map (λ p. p.1))
+    found.read) closed ∙ ap (λ n. Ok (n + 1)) (omega (arith, length-drop end text))
 
 pub returns-else-next_is-clause-absent : goal.returns-else-next_is-clause-absent
 returns-else-next_is-clause-absent c =

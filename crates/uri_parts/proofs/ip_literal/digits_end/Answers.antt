@@ -1,15 +1,12 @@
-use Rattle.std.proofs.Common.{◌<◌, arith, ap, sym, ◌∙◌}
-use Rattle.std.specs.Char.{is_digit}
+use Rattle.uri_parts.proofs.Common.{◌<◌, arith, ap, sym, ◌∙◌, is_digit, IsCharBoundary-after_ascii}
 use Rattle.uri_parts.proofs.Refusals.Digits.{digits_end-passes-digit}
-use Rattle.std.proofs.lemmas.Str.{IsCharBoundary-after_ascii}
 use Rattle.uri_parts.proofs.HostForms.LiteralTexts.{digit-is-ascii}
 use Rattle.uri_parts.proofs.ip_literal.digits_end.Goals as goal
 
 pub loop-end-preserved : goal.loop-end-preserved
 loop-end-preserved c =
     let bs = c.as_bytes-bytes.result.now in
-    let below : c.from.result < 128 =
-    grind (arith, digit-is-ascii) in
+    let below : c.from.result < 128 = grind (arith, digit-is-ascii) in
     record {
       boundary = IsCharBoundary-after_ascii bs c.loop-end.end c.as_bytes-bytes.ensures.utf8
           (omega arith) (omega arith);

@@ -1,5 +1,4 @@
-use Rattle.std.proofs.Common.{length, ◌-◌, ◌≤◌, ◌≡◌, IsCharBoundary}
-use Rattle.uri_parts.specs.LiteralErrors.{digits_end}
+use Rattle.uri_parts.proofs.Common.{length, ◌-◌, ◌≤◌, ◌≡◌, IsCharBoundary, digits_end}
 use Rattle.uri_parts.proofs.ip_literal.digits_end.Given as goal
 
 abbrev pub invariant-loop-end : goal.invariant-loop-end

@@ -1,5 +1,4 @@
-use Rattle.std.proofs.Common.{◌≡◌, ◌-◌, true, ◌==◌, IsCharBoundary}
-use Rattle.uri_parts.specs.LiteralErrors.{groups_from}
+use Rattle.uri_parts.proofs.Common.{◌≡◌, ◌-◌, true, ◌==◌, IsCharBoundary, groups_from}
 use Rattle.uri_parts.proofs.ip_literal.groups_end.Given as goal
 
 abbrev pub invariant-loop-counted : goal.invariant-loop-counted

@@ -1,5 +1,4 @@
-use Rattle.std.proofs.Common.{◌≡◌, ◌+◌, ◌-◌, sym, ap, ◌∙◌, arith, rules, option_and_then}
-use Rattle.uri_parts.specs.LiteralErrors.{octets_end}
+use Rattle.uri_parts.proofs.Common.{◌≡◌, ◌+◌, ◌-◌, sym, ap, ◌∙◌, arith, rules, option_and_then, octets_end}
 use Rattle.uri_parts.proofs.Refusals.Digits.{octets_end-goes-on-after-dot, octets_end-fails-without-dot}
 use Rattle.uri_parts.proofs.ip_literal.ipv4_end.Goals as goal
 

@@ -1,5 +1,4 @@
-use Rattle.std.proofs.Common.{◌≡◌, ◌-◌, IsCharBoundary}
-use Rattle.uri_parts.specs.LiteralErrors.{ipv4_end, octets_end}
+use Rattle.uri_parts.proofs.Common.{◌≡◌, ◌-◌, IsCharBoundary, ipv4_end, octets_end}
 use Rattle.uri_parts.proofs.ip_literal.ipv4_end.Given as goal
 
 abbrev pub invariant-loop-dots : goal.invariant-loop-dots

@@ -1,4 +1,4 @@
-use Rattle.std.proofs.Common.{arith}
+use Rattle.uri_parts.proofs.Common.{arith}
 use Rattle.uri_parts.proofs.HostForms.LiteralTexts.{boundary-after-ascii-byte}
 use Rattle.uri_parts.proofs.ip_literal.next_is.Goals as goal
 

@@ -1,4 +1,4 @@
-use Rattle.std.proofs.Common.{arith}
+use Rattle.uri_parts.proofs.Common.{arith}
 use Rattle.uri_parts.proofs.Refusals.Literals.{literal-malformed-ipv6, literal-unclosed-ipv6}
 use Rattle.uri_parts.proofs.ip_literal.refusal.Goals as goal
 

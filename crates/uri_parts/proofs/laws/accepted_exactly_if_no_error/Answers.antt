@@ -1,7 +1,4 @@
-use Rattle.std.proofs.Common.{◌≡◌, sym, refl, arith, Result, Ok, Err, None, IsOk}
-use Rattle.std.specs.Result.{result_err}
-use Rattle.std.proofs.lemmas.Option.{none-some}
-use Rattle.std.proofs.lemmas.Bool.{false≢true}
+use Rattle.uri_parts.proofs.Common.{◌≡◌, sym, refl, arith, Result, Ok, Err, None, IsOk, result_err, none-some, false≢true}
 use Rattle.uri_parts.proofs.laws.accepted_exactly_if_no_error.Goals as goal
 
 ok_is : {A E : Type 0} (r : Result A E) → result_err r ≡ None → IsOk r

@@ -1,4 +1,4 @@
-use Rattle.std.proofs.Common.{◌≡◌, ℕ, ◌<◌, ◌^◌, length, get_or, rules}
+use Rattle.uri_parts.proofs.Common.{◌≡◌, ℕ, ◌<◌, ◌^◌, length, get_or, rules}
 use Rattle.std.proofs.NetLemmas.Texts.{IsColonHex-ipv6_text}
 use Rattle.uri_parts.proofs.laws.ipv6_text_parses_to_its_segments.Goals as goal
 

@@ -1,13 +1,5 @@
-use Rattle.std.proofs.Common.{◌≡◌, ◌+◌, ap, sym, subst, ◌∙◌, arith}
-use Rattle.std.specs.Option.{option_or}
-use Rattle.std.specs.Result.{result_err}
-use Rattle.std.proofs.lemmas.Bool.{and_parts}
-use Rattle.uri_pct.specs.Prefixes.{valid_prefix}
-use Rattle.uri_pct.specs.Sets.{scheme_set}
-use Rattle.uri_parts.specs.Grammar.{first_segment_set}
+use Rattle.uri_parts.proofs.Common.{◌≡◌, ◌+◌, ap, sym, subst, ◌∙◌, arith, option_or, result_err, and_parts, valid_prefix, scheme_set, first_segment_set, authority_error, error_from_path}
 use Rattle.uri_parts.specs.Models.Cursors.{cursor_position}
-use Rattle.uri_parts.specs.Models.ParseErrors.{authority_error}
-use Rattle.uri_parts.specs.Refusals.{error_from_path}
 use Rattle.uri_parts.proofs.Refusals.Schemes.{error_of_scheme_and_slashes, error_without_scheme, error_of_scheme_without_slashes, last_of_three_fails}
 use Rattle.uri_parts.proofs.parse.pass_before_path.Goals as goal
 
@@ -24,9 +16,8 @@ returns-then-scheme-clause-refused g c =
     ≡ option_or (result_err c.pass_authority.result)
     (error_from_path kind t (cursor_position c.pass_authority.new.cursor)))
     scheme.ensures.text c.pass_authority.ensures.refused in
-    error_of_scheme_and_slashes (first_segment_set kind) kind text
-    (sym scheme.ensures.colon ∙ facts.0) others.0 others.1
-    ∙ (ap (authority_error kind text) (sym place) ∙ returned)
+    error_of_scheme_and_slashes (first_segment_set kind) kind text (sym scheme.ensures.colon
+    ∙ facts.0) others.0 others.1 ∙ (ap (authority_error kind text) (sym place) ∙ returned)
 
 pub returns-then-scheme-2-clause-refused : goal.returns-then-scheme-2-clause-refused
 returns-then-scheme-2-clause-refused g c =

@@ -1,16 +1,4 @@
-use Rattle.std.proofs.Common.{◌≡◌, ◌∷◌, ◌&&◌, ◌∙◌, ℕ, List, [], Bool, true, false, arith, ap, drop, refl, subst, sym, codes}
-use Rattle.std.specs.Prelude.{None, ◌==◌}
-use Rattle.std.proofs.lemmas.Bool.{eqb-true, false≢true, ne_eqb}
-use Rattle.uri_pct.specs.Prefixes.{valid_prefix}
-use Rattle.uri_pct.specs.Sets.{LacksPercent, TableSet, is_one_of}
-use Rattle.uri_pct.proofs.ValidTexts.Cuts.{excludes, valid_prefix_at_mark_is_empty}
-use Rattle.uri_pct.proofs.ValidTexts.LongestPrefixes.{empty_text_has_empty_valid_prefix}
-use Rattle.uri_parts.specs.Components.{has_authority, is_end, starts}
-use Rattle.uri_parts.specs.Grammar.{Kind, first_segment_set, kind_by_flags}
-use Rattle.uri_parts.specs.Models.Parsing.{path_positions, relative_positions, schemeless_positions}
-use Rattle.uri_parts.specs.Models.ParseErrors.{schemeless_error}
-use Rattle.uri_parts.specs.PackedPositions.{packed}
-use Rattle.uri_parts.specs.Refusals.{error_from_path, error_from_relative_path}
+use Rattle.uri_parts.proofs.Common.{◌≡◌, ◌∷◌, ◌&&◌, ◌∙◌, ℕ, List, [], Bool, true, false, arith, ap, drop, refl, subst, sym, codes, None, ◌==◌, eqb-true, false≢true, ne_eqb, valid_prefix, LacksPercent, TableSet, is_one_of, excludes, valid_prefix_at_mark_is_empty, empty_text_has_empty_valid_prefix, has_authority, is_end, starts, Kind, first_segment_set, kind_by_flags, path_positions, relative_positions, schemeless_positions, schemeless_error, packed, error_from_path, error_from_relative_path}
 use Rattle.uri_parts.proofs.TextKinds.KindSets.{each_kind_separates_components}
 use Rattle.uri_parts.proofs.parse.pass_schemeless.Goals as goal
 
@@ -64,9 +52,8 @@ module _ (set : TableSet) (kind : Kind) (text : List ℕ) (i : ℕ)
 
   packed_from_here : (n : ℕ) (t : List ℕ) → n ≡ i → t ≡ text → IsFrom n t
   unfolding path_positions
-  packed_from_here n t place same =
-      subst (IsFrom n) (sym same)
-      (subst (λ m. IsFrom m text) (sym place) (ap packed positions_from_here))
+  packed_from_here n t place same = subst
+      (IsFrom n) (sym same) (subst (λ m. IsFrom m text) (sym place) (ap packed positions_from_here))
 
   error_from_here : schemeless_error set kind text i ≡ error_from_path kind text i
   unfolding schemeless_error error_from_relative_path

@@ -1,4 +1,4 @@
-use Rattle.std.proofs.Common.{arith}
+use Rattle.uri_parts.proofs.Common.{arith}
 use Rattle.uri_parts.proofs.Parsing.WebSchemes.{text_after_scheme_and_slashes}
 use Rattle.uri_parts.proofs.scheme_prefix.pass_scheme.Goals as goal
 

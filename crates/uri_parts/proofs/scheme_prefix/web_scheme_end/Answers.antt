@@ -1,5 +1,4 @@
-use Rattle.std.proofs.Common.{arith, subst, IsCharBoundary}
-use Rattle.std.proofs.lemmas.Str.{IsCharBoundary-after_ascii}
+use Rattle.uri_parts.proofs.Common.{arith, subst, IsCharBoundary, IsCharBoundary-after_ascii}
 use Rattle.uri_parts.proofs.scheme_prefix.web_scheme_end.Goals as goal
 
 pub returns-then-are_same-clause-boundary : goal.returns-then-are_same-clause-boundary

@@ -1,5 +1,4 @@
-use Rattle.std.proofs.Common.{arith}
-use Rattle.std.proofs.lemmas.Str.{IsCharBoundary-after_ascii}
+use Rattle.uri_parts.proofs.Common.{arith, IsCharBoundary-after_ascii}
 use Rattle.uri_parts.proofs.slicing.after_mark.Goals as goal
 
 pub range_from-requires : goal.range_from-requires

@@ -1,5 +1,4 @@
-use Rattle.std.proofs.Common.{◌≡◌, ap, sym, ◌∙◌, rules, subst, IsCharBoundary}
-use Rattle.uri_pct.proofs.ValidTexts.MarksInTexts.{AreAscii-by-test, first_mark_is_at_boundary, length_before_marks}
+use Rattle.uri_parts.proofs.Common.{◌≡◌, ap, sym, ◌∙◌, rules, subst, IsCharBoundary, AreAscii-by-test, first_mark_is_at_boundary, length_before_marks}
 use Rattle.uri_parts.proofs.slicing.cut_before.Goals as goal
 
 pub split_at-requires : goal.split_at-requires

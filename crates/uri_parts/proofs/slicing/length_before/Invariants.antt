@@ -1,6 +1,4 @@
-use Rattle.std.proofs.Common.{length, ◌-◌, ◌≡◌, ◌+◌, not, drop}
-use Rattle.std.specs.List.{prefix_len}
-use Rattle.uri_pct.specs.Sets.{is_one_of}
+use Rattle.uri_parts.proofs.Common.{length, ◌-◌, ◌≡◌, ◌+◌, not, drop, prefix_len, is_one_of}
 use Rattle.uri_parts.proofs.slicing.length_before.Given as goal
 
 abbrev pub invariant-loop-i : goal.invariant-loop-i

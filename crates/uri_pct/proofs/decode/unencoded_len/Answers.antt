@@ -1,5 +1,4 @@
-use Rattle.std.proofs.Common.{ap, sym, ◌∙◌, ◌==◌}
-use Rattle.std.specs.List.{position_or_len}
+use Rattle.uri_pct.proofs.Common.{ap, sym, ◌∙◌, ◌==◌, position_or_len}
 use Rattle.uri_pct.specs.Delimiters.{percent_sign}
 use Rattle.uri_pct.proofs.LaneScans.FirstPlaces.{first_match_ends_run}
 use Rattle.uri_pct.proofs.decode.unencoded_len.Goals as goal

@@ -1,6 +1,4 @@
-use Rattle.std.proofs.Common.{◌≡◌, ◌+◌, drop, sym, ap, subst, arith, IsCharBoundary}
-use Rattle.std.specs.Char.{len_utf8}
-use Rattle.std.proofs.lemmas.Str.{IsCharBoundary-past_char, IsUtf8-drop}
+use Rattle.uri_pct.proofs.Common.{◌≡◌, ◌+◌, drop, sym, ap, subst, arith, IsCharBoundary, len_utf8, IsCharBoundary-past_char, IsUtf8-drop}
 use Rattle.uri_pct.proofs.ValidTexts.UnchangedPrefixes.{empty_run_is_encoded_as_octets, longer_run_is_encoded_as_octets, disallowed_run_is_not_empty}
 use Rattle.uri_pct.proofs.encode.disallowed_end.Goals as goal
 
@@ -18,9 +16,8 @@ loop-end-preserved c =
     ap (λ n. end + n) c.len_utf8-end.ensures.value in
     record {
       from = omega (arith, before.from);
-      boundary = subst (IsCharBoundary text) (sym place)
-          (IsCharBoundary-past_char text (drop (end + len_utf8 ch) text) end ch (omega arith) u
-          c.char_at-ch.ensures);
+      boundary = subst (IsCharBoundary text) (sym place) (IsCharBoundary-past_char
+          text (drop (end + len_utf8 ch) text) end ch (omega arith) u c.char_at-ch.ensures);
       octets = grind (arith, longer_run_is_encoded_as_octets);
     }
 

@@ -1,7 +1,4 @@
-use Rattle.std.proofs.Common.{◌≤◌, ◌-◌, length, map, IsCharBoundary}
-use Rattle.uri_pct.specs.Encoding.{IsEncodedBy}
-use Rattle.uri_pct.specs.Tables.{set_of}
-use Rattle.uri_pct.specs.Tokens.{Octet, print}
+use Rattle.uri_pct.proofs.Common.{◌≤◌, ◌-◌, length, map, IsCharBoundary, IsEncodedBy, set_of, Octet, print}
 use Rattle.uri_pct.proofs.encode.disallowed_end.Given as goal
 
 abbrev pub invariant-loop-end : goal.invariant-loop-end

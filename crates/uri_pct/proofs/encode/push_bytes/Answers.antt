@@ -1,8 +1,4 @@
-use Rattle.std.proofs.Common.{◌≡◌, ◌++◌, map, string_bytes, subst, arith, IsUtf8}
-use Rattle.std.specs.Str.Chunks.{utf8_chunks_rest, utf8_chunk_valid, utf8_chunk_invalid}
-use Rattle.uri_pct.specs.Encoding.{encode_text}
-use Rattle.uri_pct.specs.Tables.{set_of}
-use Rattle.uri_pct.specs.Tokens.{Octet, print}
+use Rattle.uri_pct.proofs.Common.{◌≡◌, ◌++◌, map, string_bytes, subst, arith, IsUtf8, utf8_chunks_rest, utf8_chunk_valid, utf8_chunk_invalid, encode_text, set_of, Octet, print}
 use Rattle.uri_pct.proofs.EncodedTexts.Encodings.{unchanged_prefix-transitive, encoded_bytes_after_chunk, encoded_bytes_at_end}
 use Rattle.uri_pct.proofs.Unicode.Runs.{utf8_pieces-of-std-chunk}
 use Rattle.uri_pct.proofs.encode.push_bytes.Goals as goal
@@ -23,9 +19,8 @@ loop-chunk-preserved c =
     let pieces = utf8_pieces-of-std-chunk (utf8_chunks_rest c.loop-chunk.chunk-iterator) text fault
     rest steps.0 steps.3.0 steps.3.1 steps.2 in
     record {
-      total = encoded_bytes_after_chunk set out mid new _ text fault rest _
-          (subst IsUtf8 c.valid.ensures c.valid.utf8) pieces first
-          then c.loop-chunk.invariant.total;
+      total = encoded_bytes_after_chunk set out mid new _ text fault rest _ (subst
+          IsUtf8 c.valid.ensures c.valid.utf8) pieces first then c.loop-chunk.invariant.total;
       keeps = grind (arith, unchanged_prefix-transitive);
     }
 

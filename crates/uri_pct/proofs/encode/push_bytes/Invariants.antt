@@ -1,8 +1,4 @@
-use Rattle.std.proofs.Common.{◌≡◌, ◌++◌, length, take, string_bytes}
-use Rattle.std.specs.Str.Chunks.{utf8_chunks_rest}
-use Rattle.uri_pct.specs.Encoding.{encode_bytes}
-use Rattle.uri_pct.specs.Tables.{set_of}
-use Rattle.uri_pct.specs.Tokens.{print}
+use Rattle.uri_pct.proofs.Common.{◌≡◌, ◌++◌, length, take, string_bytes, utf8_chunks_rest, encode_bytes, set_of, print}
 use Rattle.uri_pct.proofs.encode.push_bytes.Given as goal
 
 abbrev pub invariant-loop-chunk : goal.invariant-loop-chunk

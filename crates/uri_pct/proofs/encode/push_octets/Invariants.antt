@@ -1,5 +1,4 @@
-use Rattle.std.proofs.Common.{◌≡◌, ◌++◌, map, take, string_bytes}
-use Rattle.uri_pct.specs.Tokens.{Octet, print}
+use Rattle.uri_pct.proofs.Common.{◌≡◌, ◌++◌, map, take, string_bytes, Octet, print}
 use Rattle.uri_pct.proofs.encode.push_octets.Given as goal
 
 abbrev pub invariant-loop-byte : goal.invariant-loop-byte

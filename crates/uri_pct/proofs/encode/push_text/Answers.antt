@@ -1,7 +1,4 @@
-use Rattle.std.proofs.Common.{◌≡◌, ◌-◌, ◌++◌, length, take, drop, ap, ◌∙◌, arith, refl, string_bytes, take_all, map}
-use Rattle.std.proofs.lemmas.Str.{IsCharBoundary-start}
-use Rattle.uri_pct.specs.Tables.{set_of}
-use Rattle.uri_pct.specs.Tokens.{Octet, print}
+use Rattle.uri_pct.proofs.Common.{◌≡◌, ◌-◌, ◌++◌, length, take, drop, ap, ◌∙◌, arith, refl, string_bytes, take_all, map, IsCharBoundary-start, set_of, Octet, print}
 use Rattle.uri_pct.proofs.EncodedTexts.Encodings.{append_keeps_prefix, unchanged_prefix-transitive}
 use Rattle.uri_pct.proofs.ValidTexts.UnchangedPrefixes.{encoded_text_after_two_runs, encoded_text_at_end}
 use Rattle.uri_pct.proofs.encode.push_text.Goals as goal
@@ -9,8 +6,7 @@ use Rattle.uri_pct.proofs.encode.push_text.Goals as goal
 pub loop-done-init : goal.loop-done-init
 loop-done-init c = record {
   boundary = IsCharBoundary-start c.args.text.now c.utf8.text;
-  total =
-      refl;
+  total = refl;
   keeps = take_all _ (string_bytes c.args.out.now) (omega arith);
 }
 
@@ -19,9 +15,8 @@ returns-in_err-push_octets-clause-keeps c =
     let old = string_bytes c.args.out.now in
     let copied : string_bytes c.push_str.new.self
     ≡ string_bytes c.loop-done.out ++ c.range.result.now = c.in_ok-push_str.ensures.bytes in
-    let mid = ap (take (length old)) copied
-    ∙ append_keeps_prefix old (string_bytes c.loop-done.out) c.range.result.now
-    c.loop-done.invariant.keeps in
+    let mid = ap (take (length old)) copied ∙ append_keeps_prefix old
+    (string_bytes c.loop-done.out) c.range.result.now c.loop-done.invariant.keeps in
     grind (arith, unchanged_prefix-transitive)
 
 pub loop-done-preserved : goal.loop-done-preserved
@@ -36,8 +31,7 @@ loop-done-preserved c =
     let new = string_bytes c.push_octets.new.out in
     let pushed : mid ≡ out ++ c.range.result.now = c.in_ok-push_str.ensures.bytes in
     let copied : mid ≡ out ++ take (end - done) (drop done text) = grind arith in
-    let octets : new ≡ mid ++ print (map Octet (take (next - end) (drop end text))) =
-    grind arith in
+    let octets : new ≡ mid ++ print (map Octet (take (next - end) (drop end text))) = grind arith in
     record {
       boundary = c.disallowed_end-next.ensures.boundary;
       total = encoded_text_after_two_runs (set_of c.args.table.now) out mid new text _ done end next

@@ -1,7 +1,4 @@
-use Rattle.std.proofs.Common.{◌≡◌, ◌-◌, ◌++◌, length, take, drop, string_bytes, IsCharBoundary}
-use Rattle.uri_pct.specs.Encoding.{encode_text}
-use Rattle.uri_pct.specs.Tables.{set_of}
-use Rattle.uri_pct.specs.Tokens.{print}
+use Rattle.uri_pct.proofs.Common.{◌≡◌, ◌-◌, ◌++◌, length, take, drop, string_bytes, IsCharBoundary, encode_text, set_of, print}
 use Rattle.uri_pct.proofs.encode.push_text.Given as goal
 
 abbrev pub invariant-loop-done : goal.invariant-loop-done

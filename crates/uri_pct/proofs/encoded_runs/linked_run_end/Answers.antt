@@ -1,6 +1,4 @@
-use Rattle.std.proofs.Common.{◌+◌, ◌-◌, ℕ, length, arith}
-use Rattle.uri_pct.specs.Models.ByteRuns.{IsByteOfEncodedText}
-use Rattle.uri_pct.specs.Tables.{set_of}
+use Rattle.uri_pct.proofs.Common.{◌+◌, ◌-◌, ℕ, length, arith, IsByteOfEncodedText, set_of}
 use Rattle.uri_pct.proofs.LaneScans.ShiftedLanes as ShiftedLanes
 use Rattle.uri_pct.proofs.encoded_runs.linked_run_end.Goals as goal
 
@@ -27,10 +25,9 @@ loop-i-preserved c =
     record {
       from = omega (arith, c.loop-i.invariant.from);
       within = omega (arith, c.loop-i.invariant.within, c.loop-i-test.true);
-      linked = ShiftedLanes.adjacent_ranges_join linked c.args.start i (i + 16)
-          c.loop-i.invariant.linked
-          (ShiftedLanes.empty_mask_holds linked i o.result o.ensures.below o.ensures.lane
-          (omega (arith, c.if-mask-ne0.false)));
+      linked = ShiftedLanes.adjacent_ranges_join linked c.args.start i
+          (i + 16) c.loop-i.invariant.linked (ShiftedLanes.empty_mask_holds linked
+          i o.result o.ensures.below o.ensures.lane (omega (arith, c.if-mask-ne0.false)));
     }
 
 -- the last block has none
@@ -58,8 +55,7 @@ returns c =
     let o = c.outside_encoded_block-tail in
     let linked = IsByteOfEncodedText (set_of c.args.table.now).ascii c.args.bytes.now in
     let first = ShiftedLanes.first_set_shifted_lane linked last (i - last) o.result
-    (omega (arith, c.loop-i.invariant.within)) o.ensures.below o.ensures.lane
-    c.if-mask-eq0.false in
+    (omega (arith, c.loop-i.invariant.within)) o.ensures.below o.ensures.lane c.if-mask-eq0.false in
     record {
       from = omega (arith, c.loop-i.invariant.from);
       within = omega (arith, first.0, c.requires.long, c.loop-i-test.false);

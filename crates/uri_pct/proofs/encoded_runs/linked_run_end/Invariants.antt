@@ -1,6 +1,4 @@
-use Rattle.std.proofs.Common.{◌-◌, ◌≤◌, ◌<◌, ℕ, length}
-use Rattle.uri_pct.specs.Models.ByteRuns.{IsByteOfEncodedText}
-use Rattle.uri_pct.specs.Tables.{set_of}
+use Rattle.uri_pct.proofs.Common.{◌-◌, ◌≤◌, ◌<◌, ℕ, length, IsByteOfEncodedText, set_of}
 use Rattle.uri_pct.proofs.encoded_runs.linked_run_end.Given as goal
 
 abbrev pub invariant-loop-i : goal.invariant-loop-i

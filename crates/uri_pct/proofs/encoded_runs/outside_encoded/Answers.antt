@@ -1,8 +1,4 @@
-use Rattle.std.proofs.Common.{◌+◌, ◌-◌, ◌≤◌, length, ap, arith, ◌∙◌, bit_and, bit_or, w64}
-use Rattle.std.specs.Int.{bit_not}
-use Rattle.std.proofs.lemmas.Nat.{and_le_l, or_lt}
-use Rattle.uri_pct.specs.declared.table.characters.TheConstants.{HEXDIG_LOW, HEXDIG_HIGH}
-use Rattle.uri_pct.specs.Masks.{has_bit}
+use Rattle.uri_pct.proofs.Common.{◌+◌, ◌-◌, ◌≤◌, length, ap, arith, ◌∙◌, bit_and, bit_or, w64, bit_not, and_le_l, or_lt, HEXDIG_LOW, HEXDIG_HIGH, has_bit}
 use Rattle.uri_pct.proofs.LaneScans.LaneRuns.{set_mask_marks_lanes_outside}
 use Rattle.uri_pct.proofs.LaneScans.LaneBits.{is_set_bit, mask_bit_is_equality_of_byte}
 use Rattle.uri_pct.proofs.LaneScans.LinkedLanes.{clear_lane_holds_byte_of_encoded_text}
@@ -29,14 +25,11 @@ returns-clause-lane c n few clear =
     let i = c.args.at in
     let room : i + 16 ≤ length bs = c.requires.within in
     clear_lane_holds_byte_of_encoded_text (has_bit c.args.low c.args.high) bs i c.outside.result
-    c.lanes_without_hex_digit.result
-    c.lanes_equal_to-no_octet.result c.lanes_equal_to.result c.lanes_equal_to-2.result
-    c.requires.before
-    (set_mask_marks_lanes_outside c.args.low c.args.high bs i c.outside.result room
-    c.outside.ensures)
-    (set_mask_marks_lanes_outside HEXDIG_LOW HEXDIG_HIGH bs i
-    c.lanes_without_hex_digit.result room c.lanes_without_hex_digit.ensures)
-    c.lanes_equal_to-no_octet.type_inv
+    c.lanes_without_hex_digit.result c.lanes_equal_to-no_octet.result c.lanes_equal_to.result
+    c.lanes_equal_to-2.result c.requires.before (set_mask_marks_lanes_outside c.args.low
+    c.args.high bs i c.outside.result room c.outside.ensures)
+    (set_mask_marks_lanes_outside HEXDIG_LOW HEXDIG_HIGH bs i c.lanes_without_hex_digit.result
+    room c.lanes_without_hex_digit.ensures) c.lanes_equal_to-no_octet.type_inv
     (λ k h. ap (λ m. is_set_bit m k) c.lanes_equal_to-no_octet.ensures
     ∙ mask_bit_is_equality_of_byte 37 bs i k room h)
     (λ k h. ap (λ m. is_set_bit m k) c.lanes_equal_to.ensures

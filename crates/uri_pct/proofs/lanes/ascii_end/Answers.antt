@@ -1,4 +1,4 @@
-use Rattle.std.proofs.Common.{arith}
+use Rattle.uri_pct.proofs.Common.{arith}
 use Rattle.uri_pct.proofs.TableSets.Masks.{has_bit-full-masks}
 use Rattle.uri_pct.proofs.lanes.ascii_end.Goals as goal
 

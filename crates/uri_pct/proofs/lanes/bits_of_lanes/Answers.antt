@@ -1,7 +1,4 @@
-use Rattle.std.proofs.Common.{◌≡◌, ◌∙◌, ap, subst, sym, map, replicate, length, List, ℕ, bit_and, w8, arith}
-use Rattle.std.proofs.lemmas.Simd.{zip2_splat, SwzOk, swz_l}
-use Rattle.std.specs.Simd.Lanes.{zip2}
-use Rattle.uri_pct.specs.Models.LaneMasks.{bit_in_mask_byte}
+use Rattle.uri_pct.proofs.Common.{◌≡◌, ◌∙◌, ap, subst, sym, map, replicate, length, List, ℕ, bit_and, w8, arith, zip2_splat, SwzOk, swz_l, zip2, bit_in_mask_byte}
 use Rattle.uri_pct.proofs.LaneScans.LaneMasks.{lanes_fit_swizzle, swizzle_is_lookup, bit_index_fits_swizzle, swizzle_reads_bit_of_byte, swizzle_bits}
 use Rattle.uri_pct.proofs.lanes.bits_of_lanes.Goals as goal
 

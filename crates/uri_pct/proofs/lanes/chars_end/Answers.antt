@@ -1,16 +1,12 @@
-use Rattle.std.proofs.Common.{◌≡◌, ◌+◌, ◌-◌, ◌≤◌, ◌<◌, not, List, ℕ, length, get_or, arith, ◌^◌}
-use Rattle.std.proofs.lemmas.Nat.Bits.{bit_at-lt}
-use Rattle.uri_pct.specs.Masks.{has_bit}
-use Rattle.uri_pct.specs.Models.ByteRuns.{is_char_byte}
+use Rattle.uri_pct.proofs.Common.{◌≡◌, ◌+◌, ◌-◌, ◌≤◌, ◌<◌, not, List, ℕ, length, get_or, arith, ◌^◌, bit_at-lt, has_bit, is_char_byte}
 use Rattle.uri_pct.proofs.General.{bit_is_failing_test}
 use Rattle.uri_pct.proofs.LaneScans.LaneRuns.{MarksFailingLanes, last_load_marks_failing_lanes, run_goes_on_past_unmarked_lanes, run_ends_at_first_marked_lane}
 use Rattle.uri_pct.proofs.LaneScans.LaneBits.{is_set_bit}
 use Rattle.uri_pct.proofs.lanes.chars_end.Goals as goal
 
 -- what a block's mask says
-block : (low high : ℕ) (bs : List ℕ) (i mask : ℕ) → mask < 2 ^ 16
-    → ((k : ℕ) → k < 16 → is_set_bit mask k
-    ≡ not (is_char_byte (has_bit low high) (get_or bs (i + k) 0)))
+block : (low high : ℕ) (bs : List ℕ) (i mask : ℕ) → mask < 2 ^ 16 → ((k : ℕ)
+    → k < 16 → is_set_bit mask k ≡ not (is_char_byte (has_bit low high) (get_or bs (i + k) 0)))
     → MarksFailingLanes (is_char_byte (has_bit low high)) bs i 16 mask
 block low high bs i mask below lane = grind (arith, bit_is_failing_test, bit_at-lt)
 
@@ -42,9 +38,8 @@ returns-then-mask-eq0 c =
     let bs = c.args.bytes.now in
     let i = c.loop-i.i in
     let lanes = c.outside_chars-tail.ensures in
-    let m = last_load_marks_failing_lanes _ bs i c.outside_chars-tail.result
-    (omega arith) c.loop-i.invariant.within
-    (omega (arith, c.loop-i.invariant.within, c.loop-i-test.false))
+    let m = last_load_marks_failing_lanes _ bs i c.outside_chars-tail.result (omega arith)
+    c.loop-i.invariant.within (omega (arith, c.loop-i.invariant.within, c.loop-i-test.false))
     (block c.args.low c.args.high bs (length bs - 16) _ lanes.below lanes.lane) in
     record {
       from = omega (arith, c.requires);
@@ -60,9 +55,8 @@ returns c =
     let bs = c.args.bytes.now in
     let i = c.loop-i.i in
     let lanes = c.outside_chars-tail.ensures in
-    let m = last_load_marks_failing_lanes _ bs i c.outside_chars-tail.result
-    (omega arith) c.loop-i.invariant.within
-    (omega (arith, c.loop-i.invariant.within, c.loop-i-test.false))
+    let m = last_load_marks_failing_lanes _ bs i c.outside_chars-tail.result (omega arith)
+    c.loop-i.invariant.within (omega (arith, c.loop-i.invariant.within, c.loop-i-test.false))
     (block c.args.low c.args.high bs (length bs - 16) _ lanes.below lanes.lane) in
     run_ends_at_first_marked_lane _ bs c.args.start i (length bs - i) _ m c.loop-i.invariant.pass
     (omega (arith, c.if-mask-eq0.false)) (omega (arith, c.loop-i-test.false))

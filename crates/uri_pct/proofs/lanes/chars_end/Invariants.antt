@@ -1,6 +1,4 @@
-use Rattle.std.proofs.Common.{length, ◌-◌, ◌≡◌, ◌≤◌, ◌<◌, ℕ, true, slice_index}
-use Rattle.uri_pct.specs.Masks.{has_bit}
-use Rattle.uri_pct.specs.Models.ByteRuns.{is_char_byte}
+use Rattle.uri_pct.proofs.Common.{length, ◌-◌, ◌≡◌, ◌≤◌, ◌<◌, ℕ, true, slice_index, has_bit, is_char_byte}
 use Rattle.uri_pct.proofs.lanes.chars_end.Given as goal
 
 abbrev pub invariant-loop-i : goal.invariant-loop-i

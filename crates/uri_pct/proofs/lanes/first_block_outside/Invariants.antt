@@ -1,5 +1,4 @@
-use Rattle.std.proofs.Common.{length, ◌-◌, ◌≡◌, ◌≤◌, ◌<◌, ℕ, true, slice_index}
-use Rattle.uri_pct.specs.Masks.{has_bit}
+use Rattle.uri_pct.proofs.Common.{length, ◌-◌, ◌≡◌, ◌≤◌, ◌<◌, ℕ, true, slice_index, has_bit}
 use Rattle.uri_pct.proofs.lanes.first_block_outside.Given as goal
 
 abbrev pub invariant-loop-i : goal.invariant-loop-i

@@ -1,5 +1,4 @@
-use Rattle.std.proofs.Common.{arith, refl, rules}
-use Rattle.uri_pct.specs.Masks.{has_bit}
+use Rattle.uri_pct.proofs.Common.{arith, refl, rules, has_bit}
 use Rattle.uri_pct.proofs.LaneScans.LaneMasks.{index_of_mask_byte_is_small}
 use Rattle.uri_pct.proofs.LaneScans.LaneBits.{trailing_zeros_is_first_set_lane}
 use Rattle.uri_pct.proofs.LaneScans.BlockOctets.{MarksFailingLanesFrom, run_goes_on_to_end, run_ends_at_first_marked_byte, passing_bytes_are_characters, first_of_lower_lanes, first_of_last_lanes, no_lane_of_both_parts, digits_of_octet_are_unmarked, start_is_within_block, block_without_left_lanes, first_left_lane_fails, bytes_before_left_lanes, left_percent_is_stray}

@@ -1,8 +1,4 @@
-use Rattle.std.proofs.Common.{◌≡◌, ◌≤◌, ℕ, not, eqb, arith, ◌&&◌, nat_le}
-use Rattle.std.proofs.Math.Bool.{and-true}
-use Rattle.std.proofs.lemmas.Bool.Decides.{nat_tests}
-use Rattle.uri_pct.specs.Masks.{has_bit}
-use Rattle.uri_pct.specs.Models.ByteRuns.{is_char_byte}
+use Rattle.uri_pct.proofs.Common.{◌≡◌, ◌≤◌, ℕ, not, eqb, arith, ◌&&◌, nat_le, and-true, nat_tests, has_bit, is_char_byte}
 use Rattle.uri_pct.proofs.TableSets.Masks.{has_bit_past_ascii_is_false}
 use Rattle.uri_pct.proofs.lanes.is_char_byte.Goals as goal
 

@@ -1,6 +1,4 @@
-use Rattle.std.proofs.Common.{arith, w8, nat_le}
-use Rattle.std.specs.Simd.Lanes.{chunk}
-use Rattle.std.proofs.lemmas.Simd.{bitmask_splat, length-chunk}
+use Rattle.uri_pct.proofs.Common.{arith, w8, nat_le, chunk, bitmask_splat, length-chunk}
 use Rattle.uri_pct.proofs.lanes.lanes_at_most.Goals as goal
 
 pub returns : goal.returns

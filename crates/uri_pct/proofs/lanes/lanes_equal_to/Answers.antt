@@ -1,6 +1,4 @@
-use Rattle.std.proofs.Common.{w8, eqb, arith}
-use Rattle.std.specs.Simd.Lanes.{chunk}
-use Rattle.std.proofs.lemmas.Simd.{bitmask_splat, length-chunk}
+use Rattle.uri_pct.proofs.Common.{w8, eqb, arith, chunk, bitmask_splat, length-chunk}
 use Rattle.uri_pct.proofs.lanes.lanes_equal_to.Goals as goal
 
 pub returns : goal.returns

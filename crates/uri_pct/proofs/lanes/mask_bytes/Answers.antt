@@ -1,4 +1,4 @@
-use Rattle.uri_pct.specs.Models.LaneMasks.{bytes_of_masks}
+use Rattle.uri_pct.proofs.Common.{bytes_of_masks}
 use Rattle.uri_pct.proofs.LaneScans.LaneMasks.{small_indices_fit_swizzle, swizzle_by_small_indices_is_lookup}
 use Rattle.uri_pct.proofs.lanes.mask_bytes.Goals as goal
 

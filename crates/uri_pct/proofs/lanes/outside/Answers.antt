@@ -1,4 +1,4 @@
-use Rattle.std.specs.Simd.Lanes.{chunk}
+use Rattle.uri_pct.proofs.Common.{chunk}
 use Rattle.uri_pct.proofs.LaneScans.LaneMasks.{index_of_mask_byte_is_small}
 use Rattle.uri_pct.proofs.lanes.outside.Goals as goal
 

@@ -1,8 +1,4 @@
-use Rattle.std.proofs.Common.{◌≡◌, ◌∙◌, ◌/◌, ◌^◌, ◌%◌, ap, eqb, cond, bit_and, map, length, get_or, replicate, List, ℕ, arith}
-use Rattle.std.proofs.lemmas.List.{length-map}
-use Rattle.std.proofs.lemmas.Simd.{map-map}
-use Rattle.std.specs.Simd.Lanes.{zip2, mask_l, top}
-use Rattle.uri_pct.specs.Models.LaneMasks.{bytes_of_masks}
+use Rattle.uri_pct.proofs.Common.{◌≡◌, ◌∙◌, ◌/◌, ◌^◌, ◌%◌, ap, eqb, cond, bit_and, map, length, get_or, replicate, List, ℕ, arith, length-map, map-map, zip2, mask_l, top, bytes_of_masks}
 use Rattle.uri_pct.proofs.LaneScans.LaneMasks.{swizzle_mask_is_outside_set}
 use Rattle.uri_pct.proofs.lanes.outside_by_keys.Goals as goal
 

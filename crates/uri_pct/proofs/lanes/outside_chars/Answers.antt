@@ -1,7 +1,4 @@
-use Rattle.std.proofs.Common.{◌≡◌, ◌+◌, ◌≤◌, Bool, true, false, not, eqb, length, refl, sym, ap, subst, ◌∙◌, arith, bit_and, w64, ◌&&◌, ◌||◌, slice_index, nat_le}
-use Rattle.std.specs.Int.{bit_not}
-use Rattle.std.proofs.lemmas.Nat.{and_le_l}
-use Rattle.uri_pct.specs.Masks.{has_bit}
+use Rattle.uri_pct.proofs.Common.{◌≡◌, ◌+◌, ◌≤◌, Bool, true, false, not, eqb, length, refl, sym, ap, subst, ◌∙◌, arith, bit_and, w64, ◌&&◌, ◌||◌, slice_index, nat_le, bit_not, and_le_l, has_bit}
 use Rattle.uri_pct.proofs.TableSets.Masks.{bit_of_bit_and_not}
 use Rattle.uri_pct.proofs.LaneScans.LaneRuns.{MarksFailingLanes, load_mask_marks_failing_lanes}
 use Rattle.uri_pct.proofs.LaneScans.LaneBits.{is_set_bit, mask_bit_is_test_of_byte, mask_bit_is_equality_of_byte}
@@ -40,12 +37,10 @@ returns-clause-lane c k h =
     let is_other : is_set_bit others k ≡ nat_le b 127 =
     ap (λ m. is_set_bit m k) c.lanes_at_most-ascii.ensures
     ∙ mask_bit_is_test_of_byte (λ x. nat_le x 127) bs i k room h in
-    let is_c2 : is_set_bit c2 k ≡ eqb b 194 =
-    grind (arith, mask_bit_is_equality_of_byte) in
+    let is_c2 : is_set_bit c2 k ≡ eqb b 194 = grind (arith, mask_bit_is_equality_of_byte) in
     let is_out : is_set_bit c.outside.result k ≡ not (has_bit c.args.low c.args.high b) =
     ap (λ m. is_set_bit m k) c.outside.ensures
     ∙ mask_bit_is_test_of_byte (λ x. not (has_bit c.args.low c.args.high x)) bs i k room h in
-    let is_part : is_set_bit (bit_and past (bit_not w64 c2)) k
-    ≡ ((nat_le b 237 && not (nat_le b 127)) && not (eqb b 194)) =
-    grind (arith, bit_of_bit_and_not) in
+    let is_part : is_set_bit (bit_and past (bit_not w64 c2)) k ≡ ((nat_le b 237
+    && not (nat_le b 127)) && not (eqb b 194)) = grind (arith, bit_of_bit_and_not) in
     grind (arith, bit_of_bit_and_not, and_le_l, neither)

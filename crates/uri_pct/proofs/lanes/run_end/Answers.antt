@@ -1,5 +1,5 @@
 use Rattle.uri_pct.proofs.LaneScans.BlockOctets.{run_goes_on_to_end, run_ends_at_first_marked_byte}
-use Rattle.std.proofs.Common.{arith}
+use Rattle.uri_pct.proofs.Common.{arith}
 use Rattle.uri_pct.proofs.lanes.run_end.Goals as goal
 
 pub returns-then-mask-eq0 : goal.returns-then-mask-eq0

@@ -1,7 +1,4 @@
-use Rattle.std.proofs.Common.{◌≡◌, ◌-◌, ◌≤◌, ◌∙◌, sym, ap, eqb, arith, bit_and}
-use Rattle.std.specs.Int.{bit_at}
-use Rattle.std.proofs.lemmas.Nat.{and_mask}
-use Rattle.std.proofs.lemmas.Nat.Bits.{shr_and_one}
+use Rattle.uri_pct.proofs.Common.{◌≡◌, ◌-◌, ◌≤◌, ◌∙◌, sym, ap, eqb, arith, bit_and, bit_at, and_mask, shr_and_one}
 use Rattle.uri_pct.proofs.TableSets.Masks.{has_bit_below_64_is_bit_of_low, has_bit_from_64_is_bit_of_high}
 use Rattle.uri_pct.proofs.masks.has.Goals as goal
 use Rattle.uri_pct.proofs.masks.has.Goals.{then-byte-lt64, else-byte-lt64}

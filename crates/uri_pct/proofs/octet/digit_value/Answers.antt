@@ -1,4 +1,4 @@
-use Rattle.std.proofs.Common.{arith}
+use Rattle.uri_pct.proofs.Common.{arith}
 use Rattle.uri_pct.proofs.Decodings.DigitValues.{hex_digit_entry_is_value}
 use Rattle.uri_pct.proofs.octet.digit_value.Goals as goal
 

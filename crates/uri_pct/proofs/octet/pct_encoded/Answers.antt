@@ -1,6 +1,4 @@
-use Rattle.std.proofs.Common.{arith}
-use Rattle.std.proofs.lemmas.Str.{IsCharBoundary-from_ascii}
-use Rattle.uri_pct.specs.declared.octet.TheConstants.{OCTETS}
+use Rattle.uri_pct.proofs.Common.{arith, IsCharBoundary-from_ascii, OCTETS}
 use Rattle.uri_pct.proofs.Decodings.OctetTexts.{octet_entry_is_printed_octet, octet_table_is_ascii}
 use Rattle.uri_pct.proofs.octet.pct_encoded.Goals as goal
 

@@ -1,5 +1,4 @@
-use Rattle.std.proofs.Common.{◌≡◌, ◌≤◌, ◌+◌, ◌==◌, ℕ, List, length, map, not, arith, sym, ap, subst, ◌∙◌}
-use Rattle.std.specs.Simd.Lanes.{mask_l, chunk}
+use Rattle.uri_pct.proofs.Common.{◌≡◌, ◌≤◌, ◌+◌, ◌==◌, ℕ, List, length, map, not, arith, sym, ap, subst, ◌∙◌, mask_l, chunk}
 use Rattle.uri_pct.proofs.General.{twice_negated_is_the_same}
 use Rattle.uri_pct.proofs.LaneScans.LaneRuns.{MarksFailingLanes, load_mask_marks_failing_lanes, run_goes_on_past_unmarked_lanes, run_ends_at_first_marked_lane}
 use Rattle.uri_pct.proofs.search.find_byte.Goals as goal

@@ -1,4 +1,4 @@
-use Rattle.std.proofs.Common.{length, ◌-◌, ◌≡◌, ◌≤◌, ◌<◌, ℕ, true, not, ◌==◌, slice_index}
+use Rattle.uri_pct.proofs.Common.{length, ◌-◌, ◌≡◌, ◌≤◌, ◌<◌, ℕ, true, not, ◌==◌, slice_index}
 use Rattle.uri_pct.proofs.search.find_byte.Given as goal
 
 abbrev pub invariant-loop-i : goal.invariant-loop-i

@@ -1,5 +1,5 @@
 use Rattle.uri_pct.proofs.LaneScans.DotLanes.{first_slash_dot_lane_is_at_most_16, no_slash_dot_where_no_slash, no_slash_dot_before_first_lane, no_slash_dot_where_mask_is_zero, slash_is_at_first_slash_dot_lane}
-use Rattle.std.proofs.Common.{arith}
+use Rattle.uri_pct.proofs.Common.{arith}
 use Rattle.uri_pct.proofs.search.len_before_slash_dot.Goals as goal
 
 pub returns-then-slashes-eq0-clause-none : goal.returns-then-slashes-eq0-clause-none

@@ -1,5 +1,4 @@
-use Rattle.std.proofs.Common.{arith}
-use Rattle.std.proofs.lemmas.Str.{drop_past_char}
+use Rattle.uri_pct.proofs.Common.{arith, drop_past_char}
 use Rattle.uri_pct.proofs.utf8.char_at.Goals as goal
 
 pub returns : goal.returns

@@ -1,9 +1,4 @@
-use Rattle.std.proofs.Common.{◌≡◌, ℕ, ◌+◌, ◌-◌, ◌*◌, ◌<◌, ◌≤◌, List, [], ◌∷◌, ◌++◌, length, get_or, drop, sym, subst, arith, IsUtf8}
-use Rattle.std.specs.Char.{encode_utf8}
-use Rattle.std.proofs.Math.Utf8.{low_scalar}
-use Rattle.std.proofs.lemmas.Bool.Decides.{nat_tests}
-use Rattle.std.proofs.lemmas.List.{drop_more, drop_all}
-use Rattle.std.proofs.lemmas.Str.{IsUtf8-append, IsUtf8-encode}
+use Rattle.uri_pct.proofs.Common.{◌≡◌, ℕ, ◌+◌, ◌-◌, ◌*◌, ◌<◌, ◌≤◌, List, [], ◌∷◌, ◌++◌, length, get_or, drop, sym, subst, arith, IsUtf8, encode_utf8, low_scalar, nat_tests, drop_more, drop_all, IsUtf8-append, IsUtf8-encode}
 use Rattle.uri_pct.proofs.utf8_runs.are_chars_of_two_bytes.Goals as goal
 
 -- UTF-8: a byte of C2 to DF and one of 80 to BF are a character
@@ -26,13 +21,11 @@ suffix-is-pair-and-rest run i within = grind (arith, nat_tests, drop_more)
 
 -- UTF-8: what begins at an index is UTF-8 if a pair is there and UTF-8 follows it
 suffix-is-utf8 : (run : List ℕ) (i : ℕ) → i + 1 < length run
-    → 0xC2 ≤ get_or run i 0 → get_or run i 0 ≤ 0xDF
-    → 0x80 ≤ get_or run (i + 1) 0 → get_or run (i + 1) 0 < 0xC0
-    → IsUtf8 (drop (i + 2) run) → IsUtf8 (drop i run)
-suffix-is-utf8 run i within low high from below rest = subst IsUtf8
-    (sym (suffix-is-pair-and-rest run i within))
-    (IsUtf8-append _ _ (pair-is-utf8 (get_or run i 0) (get_or run (i + 1) 0) low high from below)
-    rest)
+    → 0xC2 ≤ get_or run i 0 → get_or run i 0 ≤ 0xDF → 0x80 ≤ get_or run (i + 1) 0
+    → get_or run (i + 1) 0 < 0xC0 → IsUtf8 (drop (i + 2) run) → IsUtf8 (drop i run)
+suffix-is-utf8 run i within low high from below rest =
+    subst IsUtf8 (sym (suffix-is-pair-and-rest run i within)) (IsUtf8-append _ _
+    (pair-is-utf8 (get_or run i 0) (get_or run (i + 1) 0) low high from below) rest)
 
 pub loop-end-init : goal.loop-end-init
 loop-end-init c = record { within = omega arith; utf8 = λ u. u }

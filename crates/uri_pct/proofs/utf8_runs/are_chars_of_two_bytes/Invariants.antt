@@ -1,4 +1,4 @@
-use Rattle.std.proofs.Common.{length, drop, ◌-◌, ◌≤◌, IsUtf8}
+use Rattle.uri_pct.proofs.Common.{length, drop, ◌-◌, ◌≤◌, IsUtf8}
 use Rattle.uri_pct.proofs.utf8_runs.are_chars_of_two_bytes.Given as goal
 
 abbrev pub invariant-loop-end : goal.invariant-loop-end

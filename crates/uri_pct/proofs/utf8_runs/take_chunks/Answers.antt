@@ -1,8 +1,4 @@
-use Rattle.std.proofs.Common.{◌≡◌, ◌++◌, [], map, refl, sym, subst, arith}
-use Rattle.std.specs.Str.Chunks.{utf8_chunks_rest, utf8_chunk_valid, utf8_chunk_invalid}
-use Rattle.std.proofs.lemmas.List.{map-append, nil_from_length}
-use Rattle.uri_pct.specs.Parts.{Decoded, ill_formed_piece_if_any}
-use Rattle.uri_pct.specs.Pieces.{utf8_pieces}
+use Rattle.uri_pct.proofs.Common.{◌≡◌, ◌++◌, [], map, refl, sym, subst, arith, utf8_chunks_rest, utf8_chunk_valid, utf8_chunk_invalid, map-append, nil_from_length, Decoded, ill_formed_piece_if_any, utf8_pieces}
 use Rattle.uri_pct.proofs.Unicode.AsciiOctets.{prefix_of_past_ascii_is_past_ascii, suffix_of_past_ascii_is_past_ascii}
 use Rattle.uri_pct.proofs.Unicode.Runs.{utf8_pieces-of-std-chunk, no_bytes_have_no_pieces}
 use Rattle.uri_pct.proofs.utf8_runs.take_chunks.Goals as goal
@@ -22,12 +18,10 @@ loop-chunk-preserved g c =
     let pieces : utf8_pieces (utf8_chunks_rest c.loop-chunk.chunk-iterator)
     ≡ (utf8_pieces text ++ ill_formed_piece_if_any fault) ++ utf8_pieces suffix =
     utf8_pieces-of-std-chunk _ text fault suffix steps.0 steps.3.0 steps.3.1 steps.2 in
-    let handed : map Decoded
-    (utf8_pieces c.valid.result.now ++ ill_formed_piece_if_any c.invalid.result.now)
-    ++ map Decoded (utf8_pieces suffix)
-    ≡ map Decoded (utf8_pieces (utf8_chunks_rest c.loop-chunk.chunk-iterator)) =
-    rw (c.valid.ensures, c.invalid.ensures)
-    (grind (arith, map-append)) in
+    let handed : map Decoded (utf8_pieces c.valid.result.now
+    ++ ill_formed_piece_if_any c.invalid.result.now) ++ map Decoded (utf8_pieces suffix)
+    ≡ map Decoded (utf8_pieces (utf8_chunks_rest c.loop-chunk.chunk-iterator))
+    = rw (c.valid.ensures, c.invalid.ensures) (grind (arith, map-append)) in
     record {
       past_ascii = suffix_of_past_ascii_is_past_ascii fault suffix _ refl
           (suffix_of_past_ascii_is_past_ascii text (fault ++ suffix) _ steps.0

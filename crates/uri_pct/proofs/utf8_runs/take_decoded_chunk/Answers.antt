@@ -1,9 +1,4 @@
-use Rattle.std.proofs.Common.{◌∷◌, [], map, sym, subst, arith}
-use Rattle.std.proofs.lemmas.Result.{on_ok_weaker}
-use Rattle.uri_pct.specs.Decodes.{chunk_of}
-use Rattle.uri_pct.specs.Models.Windows.{window_bytes}
-use Rattle.uri_pct.specs.Parts.{Literal, Decoded, parts_from}
-use Rattle.uri_pct.specs.Pieces.{utf8_pieces}
+use Rattle.uri_pct.proofs.Common.{◌∷◌, [], map, sym, subst, arith, on_ok_weaker, chunk_of, window_bytes, Literal, Decoded, parts_from, utf8_pieces}
 use Rattle.uri_pct.proofs.utf8_runs.take_decoded_chunk.Goals as goal
 
 pub returns-in_ok-take_window-in-Unencoded : goal.returns-in_ok-take_window-in-Unencoded

@@ -1,8 +1,4 @@
-use Rattle.std.proofs.Common.{◌≡◌, ◌-◌, ◌∙◌, ℕ, map, length, take, drop, refl, sym, ap, subst}
-use Rattle.uri_pct.specs.Models.Unfinished.{unfinished_len}
-use Rattle.uri_pct.specs.Models.Windows.{window_bytes}
-use Rattle.uri_pct.specs.Parts.{Decoded, parts_from}
-use Rattle.uri_pct.specs.Pieces.{utf8_pieces}
+use Rattle.uri_pct.proofs.Common.{◌≡◌, ◌-◌, ◌∙◌, ℕ, map, length, take, drop, refl, sym, ap, subst, unfinished_len, window_bytes, Decoded, parts_from, utf8_pieces}
 use Rattle.uri_pct.proofs.Unicode.Unfinished.{parts_from_are_cut_before_unfinished_end}
 use Rattle.uri_pct.proofs.utf8_runs.take_full_window.Goals as goal
 
@@ -14,13 +10,11 @@ returns-clause-taken g c = λ u suffix h.
     let start = c.args.taker.now in
     let middle = c.take_run.new.taker in
     let kept : c.unfinished_len-kept.result ≡ unfinished_len bytes =
-    c.unfinished_len-kept.ensures.value
-    ∙ ap unfinished_len c.as_slice-bytes.ensures.value in
+    c.unfinished_len-kept.ensures.value ∙ ap unfinished_len c.as_slice-bytes.ensures.value in
     let prefix : take (length c.as_slice-bytes.result.now - c.unfinished_len-kept.result)
     c.as_slice-bytes.result.now ≡ take n bytes = rw (kept, c.as_slice-bytes.ensures.value) refl in
-    let first : took start (map Decoded (utf8_pieces (take n bytes))) middle =
-    subst (λ items. took start (map Decoded (utf8_pieces items)) middle) prefix
-    c.in_ok-take_run.ensures in
+    let first : took start (map Decoded (utf8_pieces (take n bytes))) middle = subst (λ items.
+    took start (map Decoded (utf8_pieces items)) middle) prefix c.in_ok-take_run.ensures in
     let rest : took middle (parts_from (drop n bytes) suffix) u =
     subst (λ items. took middle (parts_from items suffix) u)
     (c.keep_last.ensures ∙ ap (λ k. drop (length bytes - k) bytes) kept) h in

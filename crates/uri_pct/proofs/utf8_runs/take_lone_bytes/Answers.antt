@@ -1,8 +1,4 @@
-use Rattle.std.proofs.Common.{◌≡◌, ℕ, ◌-◌, ◌<◌, ◌≤◌, List, [], ◌∷◌, ◌++◌, length, get_or, take, drop, map, sym, ap, ◌∙◌, subst, arith, inr, length-drop, take_all}
-use Rattle.std.proofs.lemmas.Bool.Decides.{nat_tests}
-use Rattle.std.proofs.lemmas.List.Elements.{All-same, All-drop}
-use Rattle.uri_pct.specs.Parts.{ArePastAscii, Decoded}
-use Rattle.uri_pct.specs.Pieces.{IllFormed, following_ranges, first_piece, pieces_from, utf8_pieces}
+use Rattle.uri_pct.proofs.Common.{◌≡◌, ℕ, ◌-◌, ◌<◌, ◌≤◌, List, [], ◌∷◌, ◌++◌, length, get_or, take, drop, map, sym, ap, ◌∙◌, subst, arith, inr, length-drop, take_all, nat_tests, All-same, All-drop, ArePastAscii, Decoded, IllFormed, following_ranges, first_piece, pieces_from, utf8_pieces}
 use Rattle.uri_pct.proofs.Unicode.CharacterPieces.{byte_below_80_or_from_c0_is_no_continuation}
 use Rattle.uri_pct.proofs.Unicode.Pieces.{utf8_pieces_are_cut_at_non_continuation}
 use Rattle.uri_pct.proofs.Unicode.Runs.{no_bytes_have_no_pieces}
@@ -20,14 +16,12 @@ unfolding pieces_from
 lone-byte-is-ill-formed b past = ap (λ p. p ∷ []) (lone-byte-is-no-character b past)
 
 -- UTF-8: the first of bytes past ASCII is ill-formed by itself, if the second continues nothing
-first-byte-is-ill-formed : (bytes : List ℕ) → ArePastAscii bytes → 1 < length bytes
-    → 192 ≤ get_or bytes 1 0
-    → utf8_pieces bytes ≡ IllFormed (take 1 bytes) ∷ utf8_pieces (drop 1 bytes)
+first-byte-is-ill-formed : (bytes : List ℕ) → ArePastAscii bytes → 1 < length bytes → 192
+    ≤ get_or bytes 1 0 → utf8_pieces bytes ≡ IllFormed (take 1 bytes) ∷ utf8_pieces (drop 1 bytes)
 first-byte-is-ill-formed [] past long high = absurd (omega arith)
 first-byte-is-ill-formed (b ∷ []) past long high = absurd (omega arith)
-first-byte-is-ill-formed (b ∷ d ∷ rest) past long high =
-    utf8_pieces_are_cut_at_non_continuation (b ∷ []) (d ∷ rest)
-    (byte_below_80_or_from_c0_is_no_continuation d (inr high))
+first-byte-is-ill-formed (b ∷ d ∷ rest) past long high = utf8_pieces_are_cut_at_non_continuation (b
+    ∷ []) (d ∷ rest) (byte_below_80_or_from_c0_is_no_continuation d (inr high))
     ∙ ap (λ ps. ps ++ utf8_pieces (d ∷ rest)) (lone-byte-is-ill-formed b (past 0 0 (omega arith)))
 
 -- general fact on lists, for a run: a slice from the second byte on is what is dropped to
@@ -36,17 +30,15 @@ slice-after-first-is-drop bytes = grind (arith, length-drop, take_all)
 
 -- decoding: the parts of a run whose first byte is ill-formed by itself are that byte and the rest
 parts-after-ill-formed-byte : (bytes : List ℕ) → ArePastAscii bytes → 1 < length bytes
-    → 192 ≤ get_or bytes 1 0 → (Decoded (IllFormed (take 1 bytes)) ∷ [])
-    ++ map Decoded (utf8_pieces (take (length bytes - 1) (drop 1 bytes)))
-    ≡ map Decoded (utf8_pieces bytes)
+    → 192 ≤ get_or bytes 1 0 → (Decoded (IllFormed (take 1 bytes)) ∷ []) ++ map Decoded
+    (utf8_pieces (take (length bytes - 1) (drop 1 bytes))) ≡ map Decoded (utf8_pieces bytes)
 parts-after-ill-formed-byte bytes past long high =
     grind (arith, nat_tests, slice-after-first-is-drop, first-byte-is-ill-formed)
 
 -- decoding: the parts of a run of one byte are that byte, ill-formed by itself
-parts-of-lone-byte : (bytes : List ℕ) → ArePastAscii bytes → length bytes ≡ 1
-    → (Decoded (IllFormed bytes) ∷ [])
-    ++ map Decoded (utf8_pieces (take (length bytes - 1) (drop 1 bytes)))
-    ≡ map Decoded (utf8_pieces bytes)
+parts-of-lone-byte : (bytes : List ℕ)
+    → ArePastAscii bytes → length bytes ≡ 1 → (Decoded (IllFormed bytes) ∷ []) ++ map Decoded
+    (utf8_pieces (take (length bytes - 1) (drop 1 bytes))) ≡ map Decoded (utf8_pieces bytes)
 parts-of-lone-byte [] past one = absurd (omega (arith, one))
 parts-of-lone-byte (b ∷ d ∷ rest) past one = absurd (omega (arith, one))
 parts-of-lone-byte (b ∷ []) past one =
@@ -64,10 +56,9 @@ loop-left-preserved g c =
     record {
       past_ascii = All-same (λ b. 128 ≤ b) _ _ (slice-after-first-is-drop bytes)
           (All-drop (λ b. 128 ≤ b) 1 bytes holds.past_ascii);
-      taken = λ u h. holds.taken u
-          (subst (λ ps. g.T.TakeParts.took before ps u) parts
-          (g.met.T.TakeParts.takes_appended_parts before after u _ _
-          c.in_ok-take_ill_formed.ensures h));
+      taken = λ u h. holds.taken u (subst (λ ps. g.T.TakeParts.took before ps u) parts
+          (g.met.T.TakeParts.takes_appended_parts
+          before after u _ _ c.in_ok-take_ill_formed.ensures h));
     }
 
 pub returns-clause-taken : goal.returns-clause-taken

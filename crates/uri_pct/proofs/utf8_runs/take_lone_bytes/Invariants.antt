@@ -1,6 +1,4 @@
-use Rattle.std.proofs.Common.{length, map}
-use Rattle.uri_pct.specs.Parts.{ArePastAscii, Decoded}
-use Rattle.uri_pct.specs.Pieces.{utf8_pieces}
+use Rattle.uri_pct.proofs.Common.{length, map, ArePastAscii, Decoded, utf8_pieces}
 use Rattle.uri_pct.proofs.utf8_runs.take_lone_bytes.Given as goal
 
 abbrev pub invariant-loop-left : goal.invariant-loop-left

@@ -1,4 +1,4 @@
-use Rattle.std.proofs.lemmas.Result.{on_ok_weaker}
+use Rattle.uri_pct.proofs.Common.{on_ok_weaker}
 use Rattle.uri_pct.proofs.utf8_runs.take_mixed_run.Goals as goal
 
 pub returns : goal.returns

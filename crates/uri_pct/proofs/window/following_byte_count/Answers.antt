@@ -1,4 +1,4 @@
-use Rattle.std.proofs.Common.{sym, arith}
+use Rattle.uri_pct.proofs.Common.{sym, arith}
 use Rattle.uri_pct.proofs.Unicode.Unfinished.{one_byte_follows_c2_to_df, two_bytes_follow_e0_to_ef, three_bytes_follow_f0_to_f4, no_byte_follows_below_c2, no_byte_follows_past_f4}
 use Rattle.uri_pct.proofs.window.following_byte_count.Goals as goal
 

@@ -1,5 +1,4 @@
-use Rattle.std.proofs.Common.{refl, arith}
-use Rattle.std.proofs.lemmas.Bool.Decides.{nat_tests}
+use Rattle.uri_pct.proofs.Common.{refl, arith, nat_tests}
 use Rattle.uri_pct.proofs.Unicode.Unfinished.{unfinished_len_by_last_three, unfinished_len_is_by_counts_of_last_three}
 use Rattle.uri_pct.proofs.window.unfinished_len.Goals as goal
 

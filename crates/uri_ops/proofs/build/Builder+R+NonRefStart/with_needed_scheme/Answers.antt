@@ -1,5 +1,4 @@
-use Rattle.std.proofs.Common.{ap}
-use Rattle.uri_ops.specs.Builders.{is_fresh}
+use Rattle.uri_ops.proofs.Common.{ap, is_fresh}
 use Rattle.uri_ops.proofs.build.Builder+R+NonRefStart.with_needed_scheme.Goals as goal
 
 pub from_draft-requires-clause-place : goal.from_draft-requires-clause-place

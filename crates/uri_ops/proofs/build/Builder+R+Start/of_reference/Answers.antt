@@ -1,6 +1,4 @@
-use Rattle.std.proofs.Common.{ap, ◌∙◌}
-use Rattle.uri_ops.specs.BuilderParts.{no_parts}
-use Rattle.uri_ops.specs.Builders.{is_fresh_reference, is_in_order}
+use Rattle.uri_ops.proofs.Common.{ap, ◌∙◌, no_parts, is_fresh_reference, is_in_order}
 use Rattle.uri_ops.proofs.build.Builder+R+Start.of_reference.Goals as goal
 
 pub from_draft-requires-clause-place : goal.from_draft-requires-clause-place

@@ -1,10 +1,7 @@
-use Rattle.std.proofs.Common.{ap, refl, sym, subst, ◌∙◌}
-use Rattle.uri_ops.specs.Builders.{draft_parts, lacks_authority}
-use Rattle.uri_ops.specs.Models.DraftPlaces.{IsHostAt}
+use Rattle.uri_ops.proofs.Common.{ap, refl, sym, subst, ◌∙◌, IsHostAt, with_authority}
 use Rattle.uri_ops.proofs.Builders.BuilderAuthorities.{authority-text-from-encoders}
 use Rattle.uri_ops.proofs.Builders.DraftHosts.{host-range-of-new-authority}
 use Rattle.uri_ops.proofs.Builders.PartRules.{parts-with-authority-meet-rules, parts-with-authority-are-in-order, in-order-parts-pass-the-test}
-use Rattle.uri_ops.specs.BuilderParts.{with_authority}
 use Rattle.uri_ops.proofs.Builders.BuilderDrafts.{step-adds-to-contents}
 use Rattle.uri_ops.proofs.build.Builder.authority.Goals as goal
 

@@ -1,4 +1,4 @@
-use Rattle.std.proofs.Common.{◌∙◌}
+use Rattle.uri_ops.proofs.Common.{◌∙◌}
 use Rattle.uri_ops.proofs.build.Builder.authority_with.Goals as goal
 
 pub returns : goal.returns

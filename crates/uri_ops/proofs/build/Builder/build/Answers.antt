@@ -1,8 +1,4 @@
-use Rattle.std.proofs.Common.{sym, ap, ◌∙◌, refl, subst}
-use Rattle.std.specs.Prelude.{is_some}
-use Rattle.std.proofs.lemmas.Bool.{false≢true}
-use Rattle.uri_parts.specs.PackedPositions.{packed}
-use Rattle.uri_ops.specs.Built.{IsTextOfParts, refusal}
+use Rattle.uri_ops.proofs.Common.{sym, ap, ◌∙◌, refl, subst, is_some, false≢true, packed, IsTextOfParts, refusal}
 use Rattle.uri_ops.proofs.Builders.Built.{built-draft-is-text-of-parts, built-positions-are-of-parts, built-text-is-of-kind, text-of-parts-is-accepted}
 use Rattle.uri_ops.proofs.build.Builder.build.Goals as goal
 
@@ -21,23 +17,16 @@ make_owned-requires-clause-at g c = c.of-positions.ensures ∙ ap packed (c.posi
 pub returns-in-Some-clause-exactly : goal.returns-in-Some-clause-exactly
 returns-in-Some-clause-exactly g c = λ _. (
   λ e. absurd (false≢true e),
-  λ w.
-      absurd
-      (false≢true
-      (sym
-      (ap is_some
-      (sym c.in-Some.is ∙ (c.refusal.ensures
-      ∙ (ap refusal c.into_draft-draft.ensures.same
-      ∙ text-of-parts-is-accepted g.R.RiMaybeRef.kind
-      (g.S.Contents.BuilderContents.parts c.args.self.contents) w)))))),
+  λ w. absurd (false≢true (sym (ap is_some (sym c.in-Some.is
+      ∙ (c.refusal.ensures ∙ (ap refusal c.into_draft-draft.ensures.same ∙ text-of-parts-is-accepted
+      g.R.RiMaybeRef.kind (g.S.Contents.BuilderContents.parts c.args.self.contents) w)))))),
 )
 
 pub returns-in-None-clause-exactly : goal.returns-in-None-clause-exactly
 returns-in-None-clause-exactly g c = λ _. (
   λ _. subst (IsTextOfParts g.R.RiMaybeRef.kind) c.into_draft-draft.ensures.same
       (built-draft-is-text-of-parts g.R.RiMaybeRef.kind g.met.R.RiMaybeRef.component_sets
-      c.into_draft-draft.result
-      c.if-draft.false c.into_draft-draft.ensures.rules c.into_draft-draft.ensures.before
-      (sym c.refusal.ensures ∙ c.in-None.is)),
+      c.into_draft-draft.result c.if-draft.false c.into_draft-draft.ensures.rules
+      c.into_draft-draft.ensures.before (sym c.refusal.ensures ∙ c.in-None.is)),
   λ _. refl,
 )

@@ -1,6 +1,4 @@
-use Rattle.std.proofs.Common.{refl, ap, ◌∙◌}
-use Rattle.uri_ops.specs.BuilderParts.{with_fragment}
-use Rattle.uri_ops.specs.Builders.{draft_parts}
+use Rattle.uri_ops.proofs.Common.{refl, ap, ◌∙◌, with_fragment, draft_parts}
 use Rattle.uri_ops.proofs.Builders.BuilderDrafts.{step-adds-to-contents, valid-utf8-is-text-for-encoder}
 use Rattle.uri_ops.proofs.Builders.DraftHosts.{host-range-stays-with-authority}
 use Rattle.uri_ops.proofs.Builders.PartRules.{parts-with-fragment-meet-rules, parts-with-fragment-are-in-order, before-fragment-lacks-fragment}
@@ -11,11 +9,10 @@ with_fragment-requires g c = before-fragment-lacks-fragment g.R.RiMaybeRef.kind.
     (draft_parts c.into_draft.result) c.into_draft.ensures.before
 
 pub from_draft-requires-clause-rules : goal.from_draft-requires-clause-rules
-from_draft-requires-clause-rules g c = parts-with-fragment-meet-rules _
-    g.R.RiMaybeRef.kind.needs_scheme _ _ _ c.with_fragment.ensures.adds c.into_draft.ensures.rules
-    (valid-utf8-is-text-for-encoder _ _ (g.met.R.Kind.Kind.fragment_set
-    ∙ ap (λ kind. kind.fragment) g.met.R.RiMaybeRef.kind_is_its_own) _ c.as_str.utf8
-    c.as_str.ensures.valid)
+from_draft-requires-clause-rules g c = parts-with-fragment-meet-rules
+    _ g.R.RiMaybeRef.kind.needs_scheme _ _ _ c.with_fragment.ensures.adds c.into_draft.ensures.rules
+    (valid-utf8-is-text-for-encoder _ _ (g.met.R.Kind.Kind.fragment_set ∙ ap (λ kind. kind.fragment)
+    g.met.R.RiMaybeRef.kind_is_its_own) _ c.as_str.utf8 c.as_str.ensures.valid)
 
 pub from_draft-requires-clause-place : goal.from_draft-requires-clause-place
 from_draft-requires-clause-place g c = parts-with-fragment-are-in-order g.R.RiMaybeRef.kind _ _ _ _

@@ -1,8 +1,4 @@
-use Rattle.std.proofs.Common.{ap, subst, ◌∙◌, refl}
-use Rattle.std.specs.Prelude.{unwrap_or}
-use Rattle.uri_ops.specs.BuilderParts.{lacks_host_and_port, lacks_port, with_host}
-use Rattle.uri_ops.specs.Builders.{draft_parts}
-use Rattle.uri_ops.specs.HostParts.{IsHostText}
+use Rattle.uri_ops.proofs.Common.{ap, subst, ◌∙◌, refl, unwrap_or, lacks_host_and_port, lacks_port, with_host, draft_parts, IsHostText}
 use Rattle.uri_ops.proofs.Builders.BuilderGrowth.{host-extends-open-authority}
 use Rattle.uri_ops.proofs.Builders.DraftHosts.{host-range-after-host, host-range-of-longer-authority}
 use Rattle.uri_ops.proofs.Builders.PartRules.{parts-with-longer-authority-meet-rules, parts-with-longer-authority-are-in-order, in-order-parts-end-in-authority}

@@ -1,6 +1,4 @@
-use Rattle.std.proofs.Common.{refl, ap, ◌∙◌}
-use Rattle.uri_ops.specs.BuilderParts.{with_path}
-use Rattle.uri_ops.specs.Builders.{draft_parts, lacks_path}
+use Rattle.uri_ops.proofs.Common.{refl, ap, ◌∙◌, with_path, draft_parts, lacks_path}
 use Rattle.uri_ops.proofs.Builders.BuilderDrafts.{step-adds-to-contents, valid-utf8-is-text-for-encoder}
 use Rattle.uri_ops.proofs.Builders.DraftHosts.{host-range-stays-with-authority}
 use Rattle.uri_ops.proofs.Builders.PartRules.{parts-with-path-meet-rules, parts-with-path-are-in-order, in-order-parts-pass-the-test}

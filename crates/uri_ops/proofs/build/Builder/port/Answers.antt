@@ -1,7 +1,4 @@
-use Rattle.std.proofs.Common.{◌++◌, codes, refl}
-use Rattle.std.specs.Prelude.{unwrap_or}
-use Rattle.uri_ops.specs.BuilderParts.{lacks_port, with_port}
-use Rattle.uri_ops.specs.Builders.{any_authority, draft_parts}
+use Rattle.uri_ops.proofs.Common.{◌++◌, codes, refl, unwrap_or, lacks_port, with_port, any_authority, draft_parts}
 use Rattle.uri_ops.proofs.Builders.BuilderGrowth.{port-extends-open-authority}
 use Rattle.uri_ops.proofs.Builders.DraftHosts.{host-range-of-longer-authority, host-range-after-port}
 use Rattle.uri_ops.proofs.Builders.PartRules.{parts-with-longer-authority-meet-rules, parts-with-longer-authority-are-in-order, in-order-parts-end-in-authority}

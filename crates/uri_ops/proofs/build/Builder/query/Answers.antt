@@ -1,6 +1,4 @@
-use Rattle.std.proofs.Common.{refl, ap, ◌∙◌}
-use Rattle.uri_ops.specs.BuilderParts.{with_query}
-use Rattle.uri_ops.specs.Builders.{draft_parts}
+use Rattle.uri_ops.proofs.Common.{refl, ap, ◌∙◌, with_query}
 use Rattle.uri_ops.proofs.Builders.BuilderDrafts.{step-adds-to-contents, valid-utf8-is-text-for-encoder}
 use Rattle.uri_ops.proofs.Builders.DraftHosts.{host-range-stays-with-authority}
 use Rattle.uri_ops.proofs.Builders.PartRules.{parts-with-query-meet-rules, parts-with-query-are-in-order, path-last-lacks-query-and-fragment}
@@ -10,11 +8,10 @@ pub with_query-requires : goal.with_query-requires
 with_query-requires g c = path-last-lacks-query-and-fragment _ _ c.into_draft.ensures.before
 
 pub from_draft-requires-clause-rules : goal.from_draft-requires-clause-rules
-from_draft-requires-clause-rules g c = parts-with-query-meet-rules _
-    g.R.RiMaybeRef.kind.needs_scheme _ _ _ c.with_query.ensures.adds c.into_draft.ensures.rules
-    (valid-utf8-is-text-for-encoder _ _
-    (g.met.R.Kind.Kind.query_set ∙ ap (λ kind. kind.query) g.met.R.RiMaybeRef.kind_is_its_own) _
-    c.as_str.utf8 c.as_str.ensures.valid)
+from_draft-requires-clause-rules g c =
+    parts-with-query-meet-rules _ g.R.RiMaybeRef.kind.needs_scheme _ _ _ c.with_query.ensures.adds
+    c.into_draft.ensures.rules (valid-utf8-is-text-for-encoder _ _ (g.met.R.Kind.Kind.query_set ∙ ap
+    (λ kind. kind.query) g.met.R.RiMaybeRef.kind_is_its_own) _ c.as_str.utf8 c.as_str.ensures.valid)
 
 pub from_draft-requires-clause-place : goal.from_draft-requires-clause-place
 from_draft-requires-clause-place g c = parts-with-query-are-in-order g.R.RiMaybeRef.kind _ _ _ _

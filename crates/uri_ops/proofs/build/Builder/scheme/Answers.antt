@@ -1,6 +1,4 @@
-use Rattle.std.proofs.Common.{refl}
-use Rattle.uri_ops.specs.BuilderParts.{with_scheme}
-use Rattle.uri_ops.specs.Builders.{draft_parts}
+use Rattle.uri_ops.proofs.Common.{refl, with_scheme}
 use Rattle.uri_ops.proofs.Builders.BuilderDrafts.{step-adds-to-contents, scheme-rule-gives-scheme-text}
 use Rattle.uri_ops.proofs.Builders.DraftHosts.{host-range-stays-with-authority}
 use Rattle.uri_ops.proofs.Builders.PartRules.{fresh-builder-lacks-all-parts, parts-with-scheme-meet-rules, parts-with-scheme-are-in-order}

@@ -1,6 +1,4 @@
-use Rattle.std.proofs.Common.{[], ap, refl}
-use Rattle.uri_ops.specs.Builders.{draft_parts, lacks_authority}
-use Rattle.uri_ops.specs.BuilderParts.{with_authority}
+use Rattle.uri_ops.proofs.Common.{[], ap, refl, draft_parts, with_authority}
 use Rattle.uri_ops.proofs.Builders.BuilderDrafts.{step-adds-to-contents}
 use Rattle.uri_ops.proofs.Builders.BuilderAuthorities.{empty-text-is-authority}
 use Rattle.uri_ops.proofs.Builders.DraftHosts.{host-range-of-new-authority, empty-authority-has-host-range}

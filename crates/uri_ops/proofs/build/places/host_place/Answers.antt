@@ -1,7 +1,4 @@
-use Rattle.std.proofs.Common.{◌≡◌, ◌+◌, length, sym, ap, ◌∙◌, arith, option_map}
-use Rattle.uri_pct.specs.EncodedTexts.{text_of}
-use Rattle.uri_parts.specs.AuthorityTexts.{authority_text}
-use Rattle.uri_parts.specs.Positions.{host_start_of, delimited_length}
+use Rattle.uri_ops.proofs.Common.{◌≡◌, length, sym, ap, ◌∙◌, arith, option_map, text_of, authority_text, host_start_of, delimited_length}
 use Rattle.uri_ops.proofs.Builders.DraftHosts.{host-range-from-ends}
 use Rattle.uri_ops.proofs.build.places.host_place.Goals as goal
 use Rattle.uri_ops.proofs.build.places.host_place.Goals.{in-Some, in-None}
@@ -20,6 +17,4 @@ returns g c =
           omega (arith, w.start-is, same)
     ] in
     let host = ap length c.host-host_len.ensures in
-    host-range-from-ends _ _
-    _ a c.args.authority.valid
-    start (omega (arith, start, host))
+    host-range-from-ends _ _ _ a c.args.authority.valid start (omega (arith, start, host))

@@ -1,5 +1,4 @@
-use Rattle.std.proofs.Common.{length, ◌-◌, ◌≤◌, ◌≡◌, take}
-use Rattle.uri_ops.specs.Encoded.{encode_past_ascii}
+use Rattle.uri_ops.proofs.Common.{length, ◌-◌, ◌≤◌, ◌≡◌, take, encode_past_ascii}
 use Rattle.uri_ops.proofs.convert.encoded.ascii_prefix_len.Given as goal
 
 abbrev pub invariant-loop-i : goal.invariant-loop-i

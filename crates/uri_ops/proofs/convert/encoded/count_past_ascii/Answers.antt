@@ -1,4 +1,4 @@
-use Rattle.std.proofs.Common.{arith, ap, length}
+use Rattle.uri_ops.proofs.Common.{arith, ap, length}
 use Rattle.uri_ops.proofs.AsciiForms.EncodedPaths.{encoding-of-nil-is-nil}
 use Rattle.uri_ops.proofs.AsciiForms.EncodedRuns.{ascii-byte-adds-one, byte-past-ascii-adds-three}
 use Rattle.uri_ops.proofs.convert.encoded.count_past_ascii.Goals as goal
@@ -17,15 +17,13 @@ loop-byte-preserved c =
           let e = byte-past-ascii-adds-three bytes i c.loop-byte-test.true w.if-byte-ge128.true in
           record {
             few = omega (arith, before.few, w.count-is);
-            total =
-                omega (arith, e, before.total, w.count-is);
+            total = omega (arith, e, before.total, w.count-is);
           }
       | else-byte-ge128 w ↦
           let e = ascii-byte-adds-one bytes i c.loop-byte-test.true
           (omega (arith, w.if-byte-ge128.false)) in
           record {
             few = omega (arith, before.few, w.count-is);
-            total =
-                omega (arith, e, before.total, w.count-is);
+            total = omega (arith, e, before.total, w.count-is);
           }
     ]

@@ -1,12 +1,4 @@
-use Rattle.std.proofs.Common.{rules, ◌≡◌, arith, ap, sym, subst, ◌∙◌, length, string_bytes, take}
-use Rattle.std.specs.Str.{IsUtf8}
-use Rattle.std.proofs.lemmas.Bool.{false≢true}
-use Rattle.std.proofs.lemmas.List.{take_all}
-use Rattle.uri_parts.specs.CoreTexts.{core_text}
-use Rattle.uri_parts.specs.Grammar.{IsOfKind}
-use Rattle.uri_parts.specs.PackedPositions.{packed}
-use Rattle.uri_parts.specs.Positions.{ArePositionsOf}
-use Rattle.uri_ops.specs.Encoded.{encode_past_ascii}
+use Rattle.uri_ops.proofs.Common.{rules, ◌≡◌, arith, ap, sym, subst, ◌∙◌, length, string_bytes, take, IsUtf8, false≢true, take_all, core_text, IsOfKind, packed, ArePositionsOf, encode_past_ascii}
 use Rattle.uri_ops.specs.Models.EncodedPlaces.{ArePositionsOrdered, positions_in_encoded}
 use Rattle.uri_ops.proofs.AsciiForms.EncodedPlaces.{encoded-positions-are-right, positions-are-ordered}
 use Rattle.uri_ops.proofs.AsciiForms.EncodedTokens.{encoded-text-is-utf8}
@@ -28,8 +20,7 @@ push_encoded_components-requires-clause-ordered g c =
     let text = core_text c.core-core.result in
     subst (λ t. ArePositionsOrdered (length t) c.positions.result)
     (sym (c.as_bytes-bytes.ensures.value ∙ c.as_str-text.ensures.text))
-    (positions-are-ordered g.R.RiMaybeRef.kind g.met.R.RiMaybeRef.component_sets text
-    (record {
+    (positions-are-ordered g.R.RiMaybeRef.kind g.met.R.RiMaybeRef.component_sets text (record {
       utf8 = subst IsUtf8 c.as_str-text.ensures.text c.as_str-text.utf8;
       grammar = subst (IsOfKind g.R.RiMaybeRef.kind) (sym c.core-core.ensures.text)
           c.core-core.ensures.of_kind;
@@ -50,11 +41,10 @@ returns-clause-at g c =
     search rules in
     let places = c.in_ok-positions.ensures.places
     ∙ ap (λ t. positions_in_encoded t c.positions.result) same in
-    c.of.ensures ∙ ap packed (subst (λ p. ArePositionsOf (string_bytes c.in-Ok.text) p) (sym places)
-    (subst (λ t. ArePositionsOf t (positions_in_encoded text c.positions.result))
-    (sym (written ∙ ap encode_past_ascii same))
-    (encoded-positions-are-right g.R.RiMaybeRef.kind g.met.R.RiMaybeRef.component_sets text
-    (record {
+    c.of.ensures ∙ ap packed (subst (λ p. ArePositionsOf (string_bytes c.in-Ok.text) p)
+    (sym places) (subst (λ t. ArePositionsOf t (positions_in_encoded text c.positions.result))
+    (sym (written ∙ ap encode_past_ascii same)) (encoded-positions-are-right g.R.RiMaybeRef.kind
+    g.met.R.RiMaybeRef.component_sets text (record {
       utf8 = subst IsUtf8 c.as_str-text.ensures.text c.as_str-text.utf8;
       grammar = subst (IsOfKind g.R.RiMaybeRef.kind) (sym c.core-core.ensures.text)
           c.core-core.ensures.of_kind;

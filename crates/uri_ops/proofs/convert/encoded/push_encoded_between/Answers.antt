@@ -1,4 +1,4 @@
-use Rattle.std.proofs.Common.{length, ap, ◌∙◌}
+use Rattle.uri_ops.proofs.Common.{length, ap, ◌∙◌}
 use Rattle.uri_ops.proofs.AsciiForms.EncodedPlaces.{encoded-prefix-grows-by-encoded-slice}
 use Rattle.uri_ops.proofs.convert.encoded.push_encoded_between.Goals as goal
 

@@ -1,4 +1,4 @@
-use Rattle.std.proofs.Common.{sym, ◌∙◌}
+use Rattle.uri_ops.proofs.Common.{sym, ◌∙◌}
 use Rattle.uri_ops.proofs.AsciiForms.EncodedPaths.{encoding-of-nil-is-nil}
 use Rattle.uri_ops.proofs.convert.encoded.push_encoded_to_authority_end.Goals as goal
 

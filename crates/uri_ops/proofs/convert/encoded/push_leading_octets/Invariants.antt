@@ -1,5 +1,4 @@
-use Rattle.std.proofs.Common.{length, ◌-◌, ◌*◌, ◌≤◌, ◌≡◌, take}
-use Rattle.uri_ops.specs.Encoded.{encode_past_ascii}
+use Rattle.uri_ops.proofs.Common.{length, ◌-◌, ◌*◌, ◌≤◌, ◌≡◌, take, encode_past_ascii}
 use Rattle.uri_ops.proofs.convert.encoded.push_leading_octets.Given as goal
 
 abbrev pub invariant-loop-count : goal.invariant-loop-count

@@ -1,6 +1,4 @@
-use Rattle.std.proofs.Common.{◌≡◌, ℕ, ◌+◌, ◌-◌, List, ◌++◌, length, take, drop, arith, ap, sym, ◌∙◌, append_assoc}
-use Rattle.std.proofs.Math.Seq.{take-add}
-use Rattle.uri_ops.specs.Encoded.{encode_past_ascii}
+use Rattle.uri_ops.proofs.Common.{◌≡◌, ℕ, ◌+◌, ◌-◌, List, ◌++◌, length, take, drop, arith, ap, sym, ◌∙◌, append_assoc, take-add, encode_past_ascii}
 use Rattle.uri_ops.proofs.AsciiForms.EncodedPaths.{encoding-of-append-is-append}
 use Rattle.uri_ops.proofs.AsciiForms.EncodedRuns.{pushed-ascii-run-is-encoding, nothing-pushed-is-encoding, end-of-run-is-within-bytes, slice_from-is-drop}
 use Rattle.uri_ops.proofs.convert.encoded.push_past_ascii_encoded.Goals as goal
@@ -10,9 +8,8 @@ loop-done-init c = record { inside = omega arith; total = nothing-pushed-is-enco
 
 -- IRIs as URIs: appending the encoding of n bytes from i on continues the encoded text
 pushed-encoding-is-encoding : (old mid new bytes : List ℕ) (i n : ℕ)
-    → mid ≡ old ++ encode_past_ascii (take i bytes)
-    → new ≡ mid ++ encode_past_ascii (take n (take (length bytes - i) (drop i bytes)))
-    → new ≡ old ++ encode_past_ascii (take (i + n) bytes)
+    → mid ≡ old ++ encode_past_ascii (take i bytes) → new ≡ mid ++ encode_past_ascii (take n
+    (take (length bytes - i) (drop i bytes))) → new ≡ old ++ encode_past_ascii (take (i + n) bytes)
 pushed-encoding-is-encoding old mid new bytes i n o e =
     let prefix = encode_past_ascii (take i bytes) in
     let more = encode_past_ascii (take n (drop i bytes)) in

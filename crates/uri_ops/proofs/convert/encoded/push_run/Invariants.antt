@@ -1,4 +1,4 @@
-use Rattle.std.proofs.Common.{◌≡◌, ◌++◌, take}
+use Rattle.uri_ops.proofs.Common.{◌≡◌, ◌++◌, take}
 use Rattle.uri_ops.proofs.convert.encoded.push_run.Given as goal
 
 abbrev pub invariant-loop-byte : goal.invariant-loop-byte

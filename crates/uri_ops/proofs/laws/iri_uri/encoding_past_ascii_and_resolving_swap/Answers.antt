@@ -5,6 +5,5 @@ pub returns-clause-resolution : goal.returns-clause-resolution
 returns-clause-resolution c = λ base reference u v. resolving-and-encoding-swap base reference u v
 
 pub returns-clause-underflow : goal.returns-clause-underflow
-returns-clause-underflow c = λ base reference target u v e. encoding-keeps-target-underflow
-    base reference
-    target u v e
+returns-clause-underflow c =
+    λ base reference target u v e. encoding-keeps-target-underflow base reference target u v e

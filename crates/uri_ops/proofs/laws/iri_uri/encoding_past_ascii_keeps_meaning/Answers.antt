@@ -1,5 +1,4 @@
-use Rattle.std.proofs.Common.{refl}
-use Rattle.uri_parts.specs.Ports.{no_defaults}
+use Rattle.uri_ops.proofs.Common.{refl, no_defaults}
 use Rattle.uri_ops.proofs.Theorems.{encoded-text-is-of-ascii_kind, encoding-keeps-meaning_of-text, encoding-keeps-meaning_under-text}
 use Rattle.uri_ops.proofs.laws.iri_uri.encoding_past_ascii_keeps_meaning.Goals as goal
 

@@ -1,5 +1,5 @@
 use Rattle.uri_ops.proofs.TextKinds.WiderKinds.{text-is-of-wider-kind, ascii_kind-is-within-kind, kind-with-scheme-is-within-kind}
-use Rattle.uri_parts.specs.Grammar.{uri_ref, iri_ref}
+use Rattle.uri_ops.proofs.Common.{uri_ref, iri_ref}
 use Rattle.uri_ops.proofs.laws.iri_uri.texts_are_of_wider_kinds_too.Goals as goal
 
 pub returns-clause-wider : goal.returns-clause-wider

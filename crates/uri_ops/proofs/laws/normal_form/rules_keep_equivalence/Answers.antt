@@ -1,5 +1,4 @@
-use Rattle.std.proofs.Common.{ap}
-use Rattle.uri_ops.specs.SchemeRules.{under_rules}
+use Rattle.uri_ops.proofs.Common.{ap, under_rules}
 use Rattle.uri_ops.proofs.laws.normal_form.rules_keep_equivalence.Goals as goal
 
 pub returns : goal.returns

@@ -1,13 +1,4 @@
-use Rattle.std.proofs.Common.{◌≡◌, ℕ, Bool, ◌&&◌, List, ◌++◌, cond, sym, ap, ◌∙◌, string_bytes, ⊎_elim}
-use Rattle.std.specs.Str.{IsAscii}
-use Rattle.std.proofs.lemmas.Bool.{cases_Bool, cond-true, cond-false}
-use Rattle.std.proofs.lemmas.Str.{IsUtf8-from_ascii}
-use Rattle.uri_pct.specs.Chunks.{widest_set}
-use Rattle.uri_pct.specs.DecodeUnreserved.{decode_unreserved, encoded_formatting_text}
-use Rattle.uri_pct.specs.Sets.{TableSet}
-use Rattle.uri_pct.specs.Tables.{set_of}
-use Rattle.uri_pct.specs.Tokens.{IsValidFor, print}
-use Rattle.uri_ops.specs.Models.Decodings.{decoded_text, lowered_if}
+use Rattle.uri_ops.proofs.Common.{◌≡◌, ℕ, Bool, ◌&&◌, List, ◌++◌, cond, sym, ap, ◌∙◌, string_bytes, ⊎_elim, IsAscii, cases_Bool, cond-true, cond-false, IsUtf8-from_ascii, widest_set, decode_unreserved, encoded_formatting_text, TableSet, set_of, IsValidFor, print, decoded_text, lowered_if}
 use Rattle.uri_ops.proofs.Meanings.AsciiSuffixes.{ascii-lacks-byte-E2}
 use Rattle.uri_ops.proofs.Meanings.DecodedPrefixes.{unset-flags-lack-past-ascii}
 use Rattle.uri_ops.proofs.Meanings.WrittenFormatting.{encoding-formatting-completes-decoding, decoding-without-formatting-is-complete, no-byte-E2-no-formatting, text-without-formatting-is-unchanged}
@@ -35,11 +26,9 @@ formatting-leaves-ascii : (set : TableSet) (text : List ℕ) → IsAscii text
     → formatted set text ≡ text
 formatting-leaves-ascii set text ascii =
     let utf8 = IsUtf8-from_ascii text ascii in
-    ⊎_elim
-    (λ e. cond-true _ _ _ e ∙ text-without-formatting-is-unchanged text utf8
+    ⊎_elim (λ e. cond-true _ _ _ e ∙ text-without-formatting-is-unchanged text utf8
     (no-byte-E2-no-formatting text utf8 (ascii-lacks-byte-E2 text ascii)))
-    (λ e. cond-false _ _ _ e)
-    (cases_Bool (set.ucschar && set.pct_encoded))
+    (λ e. cond-false _ _ _ e) (cases_Bool (set.ucschar && set.pct_encoded))
 
 pub returns-then-push_short : goal.returns-then-push_short
 returns-then-push_short c =

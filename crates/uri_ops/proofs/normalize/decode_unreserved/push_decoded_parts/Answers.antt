@@ -1,9 +1,4 @@
-use Rattle.std.proofs.Common.{◌≡◌, ◌++◌, ap, refl, rules, subst, sym, ◌∙◌, string_bytes}
-use Rattle.uri_pct.specs.Chunks.{widest_set}
-use Rattle.uri_pct.specs.DecodeUnreserved.{decode_tokens}
-use Rattle.uri_pct.specs.Tables.{set_of}
-use Rattle.uri_pct.specs.Tokens.{IsValidFor, print, tokens}
-use Rattle.uri_ops.specs.Models.Decodings.{lowered_if}
+use Rattle.uri_ops.proofs.Common.{◌≡◌, ◌++◌, ap, refl, rules, subst, sym, ◌∙◌, string_bytes, widest_set, decode_tokens, set_of, IsValidFor, print, tokens, lowered_if}
 use Rattle.uri_ops.proofs.Meanings.TakenDecodings.{all-parts-give-decoded-tokens}
 use Rattle.uri_ops.proofs.normalize.decode_unreserved.push_decoded_parts.Goals as goal
 
@@ -14,11 +9,9 @@ returns c =
     let rest = c.of_text.result.rest.now in
     let took = c.in_ok-take_parts.ensures in
     let name = sym took.same in
-    let bytes : now ≡ old ++ print
-    (lowered_if c.args.lowers (decode_tokens (set_of c.args.table.now) (tokens c.args.text.now))) =
-    all-parts-give-decoded-tokens rest old _ c.take_parts.new.taker
-    (subst (IsValidFor widest_set) (sym c.of_text.ensures) c.requires) refl took
-    ∙ ap (λ t. old ++ print
-    (lowered_if c.args.lowers (decode_tokens (set_of c.args.table.now) (tokens t))))
-    c.of_text.ensures in
+    let bytes : now ≡ old ++ print (lowered_if c.args.lowers
+    (decode_tokens (set_of c.args.table.now) (tokens c.args.text.now))) =
+    all-parts-give-decoded-tokens rest old _ c.take_parts.new.taker (subst (IsValidFor widest_set)
+    (sym c.of_text.ensures) c.requires) refl took ∙ ap (λ t. old ++ print (lowered_if c.args.lowers
+    (decode_tokens (set_of c.args.table.now) (tokens t)))) c.of_text.ensures in
     search rules

@@ -1,13 +1,4 @@
-use Rattle.std.proofs.Common.{◌≡◌, ◌+◌, ◌*◌, ◌-◌, ◌++◌, ◌∷◌, [], ◌<◌, ◌≤◌, ◌⊎◌, inl, inr, false, true, not, eqb, length, drop, refl, sym, ap, ◌∙◌, subst, arith, string_bytes}
-use Rattle.std.specs.Char.{digit_value}
-use Rattle.std.specs.List.{position_or_len}
-use Rattle.std.proofs.lemmas.List.{length-drop}
-use Rattle.std.proofs.lemmas.Result.{on_ok_weaker}
-use Rattle.std.proofs.lemmas.Str.{IsUtf8-drop, IsCharBoundary-start, IsCharBoundary-from_rest}
-use Rattle.uri_pct.specs.DecodeUnreserved.{decode_octet}
-use Rattle.uri_pct.specs.Tables.{set_of}
-use Rattle.uri_pct.specs.Tokens.{Octet, print}
-use Rattle.uri_ops.specs.Models.Decodings.{KeepsPrefixWhenDecoded, decoded_text, lowered_if, lowered_text_if}
+use Rattle.uri_ops.proofs.Common.{◌≡◌, ◌+◌, ◌*◌, ◌-◌, ◌++◌, ◌∷◌, [], ◌<◌, ◌≤◌, ◌⊎◌, inl, inr, false, true, not, eqb, length, drop, refl, sym, ap, ◌∙◌, subst, arith, string_bytes, digit_value, position_or_len, length-drop, on_ok_weaker, IsUtf8-drop, IsCharBoundary-start, IsCharBoundary-from_rest, decode_octet, set_of, Octet, print, KeepsPrefixWhenDecoded, decoded_text, lowered_if, lowered_text_if}
 use Rattle.uri_ops.proofs.Meanings.DecodedPrefixes.{LiteralPrefix, octet-is-decoded-alone, text-before-percent-is-literal-prefix, empty-prefix-is-unchanged, unchanged-prefix-grows, unchanged-prefix-is-pushed, last-prefix-is-pushed, suffix-of-suffix-is-valid, decoded-octet-is-pushed, unchanged-prefix-is-unchanged-from-zero, unset-flags-lack-past-ascii}
 use Rattle.uri_ops.proofs.Meanings.DecodedOctets.{uppercase-reserved-octet-is-unchanged}
 use Rattle.uri_ops.proofs.normalize.decode_unreserved.push_decoded_runs.Goals as goal
@@ -56,9 +47,8 @@ loop-end-preserved-then-bytes-end-ne37 c =
       start = holds.start;
       boundary = IsCharBoundary-from_rest text end more holds.boundary.0 p.boundary;
       valid = suffix-of-suffix-is-valid text end more p.valid;
-      prefix = unchanged-prefix-grows c.args.lowers (set_of c.args.table.now) text
-          c.loop-end.done end more
-          holds.order holds.prefix (p.prefix c.args.lowers (set_of c.args.table.now));
+      prefix = unchanged-prefix-grows c.args.lowers (set_of c.args.table.now) text c.loop-end.done
+          end more holds.order holds.prefix (p.prefix c.args.lowers (set_of c.args.table.now));
       total = holds.total;
     }
 
@@ -75,10 +65,9 @@ returns-then-not-alone c =
     (string_bytes c.push_literal-then-not-alone.new.out)
     (string_bytes c.args.out.now ++ decoded_text lowers set text) c.loop-end.done c.loop-end.end
     holds.order holds.prefix pushed holds.total in
-    on_ok_weaker c.push_decoded_parts.result
-    (λ decoded. decoded ∙ ap (λ x. string_bytes c.push_literal-then-not-alone.new.out
-    ++ decoded_text lowers set x) c.range_from-then-not-alone.ensures.value ∙ total)
-    c.push_decoded_parts.ensures
+    on_ok_weaker c.push_decoded_parts.result (λ decoded. decoded
+    ∙ ap (λ x. string_bytes c.push_literal-then-not-alone.new.out ++ decoded_text lowers set x)
+    c.range_from-then-not-alone.ensures.value ∙ total) c.push_decoded_parts.ensures
 
 pub loop-end-preserved-in-Some : goal.loop-end-preserved-in-Some
 loop-end-preserved-in-Some c =
@@ -94,9 +83,8 @@ loop-end-preserved-in-Some c =
     let at = c.octet_digits-high.ensures in
     let pushed = c.in_ok-push_literal.ensures
     ∙ ap (λ x. out ++ lowered_text_if lowers x) c.range.ensures.value in
-    let total = unchanged-prefix-is-pushed lowers set text out prefix whole c.loop-end.done end
-    holds.order
-    holds.prefix pushed holds.total in
+    let total = unchanged-prefix-is-pushed lowers
+    set text out prefix whole c.loop-end.done end holds.order holds.prefix pushed holds.total in
     let none = unset-flags-lack-past-ascii set c.allows_some_past_ascii-alone.result
     c.allows_some_past_ascii-alone.ensures in
     let value = 16 * digit_value c.octet_digits-high.result.0
@@ -129,10 +117,8 @@ loop-end-preserved-then-are_uppercase_digits c =
     let at = c.octet_digits-high.ensures in
     let either : (alone ≡ true) ⊎ (c.octet_digits-high.result.0 < 56) =
     elim c.else-high-ge56.branch [
-      | else-high-ge56-via-then-high-ge56+else-not-alone w ↦ inl
-          (ap not w.if-not-alone.false)
-      | else-high-ge56-via-else-high-ge56 w ↦ inr
-          w.if-high-ge56.false
+      | else-high-ge56-via-then-high-ge56+else-not-alone w ↦ inl (ap not w.if-not-alone.false)
+      | else-high-ge56-via-else-high-ge56 w ↦ inr w.if-high-ge56.false
     ] in
     let none = unset-flags-lack-past-ascii set c.allows_some_past_ascii-alone.result
     c.allows_some_past_ascii-alone.ensures in
@@ -146,10 +132,8 @@ loop-end-preserved-then-are_uppercase_digits c =
       boundary = at.boundary;
       valid = at.valid;
       prefix = unchanged-prefix-grows c.args.lowers set text c.loop-end.done end 3 holds.order
-          holds.prefix
-          (subst (λ lowers. KeepsPrefixWhenDecoded lowers set (drop end text) 3)
-          (sym c.if-not-lowers.true)
-          octet);
+          holds.prefix (subst (λ lowers. KeepsPrefixWhenDecoded lowers set (drop end text) 3)
+          (sym c.if-not-lowers.true) octet);
       total = holds.total;
     }
 
@@ -167,15 +151,12 @@ loop-end-preserved c =
     let at = c.octet_digits-high.ensures in
     let pushed = c.in_ok-push_literal-3.ensures
     ∙ ap (λ x. out ++ lowered_text_if lowers x) c.range-in-loop-end.ensures.value in
-    let total = unchanged-prefix-is-pushed lowers set text out prefix whole c.loop-end.done end
-    holds.order
-    holds.prefix pushed holds.total in
+    let total = unchanged-prefix-is-pushed lowers
+    set text out prefix whole c.loop-end.done end holds.order holds.prefix pushed holds.total in
     let either : (alone ≡ true) ⊎ (c.octet_digits-high.result.0 < 56) =
     elim c.else-high-ge56.branch [
-      | else-high-ge56-via-then-high-ge56+else-not-alone w ↦ inl
-          (ap not w.if-not-alone.false)
-      | else-high-ge56-via-else-high-ge56 w ↦ inr
-          w.if-high-ge56.false
+      | else-high-ge56-via-then-high-ge56+else-not-alone w ↦ inl (ap not w.if-not-alone.false)
+      | else-high-ge56-via-else-high-ge56 w ↦ inr w.if-high-ge56.false
     ] in
     let none = unset-flags-lack-past-ascii set c.allows_some_past_ascii-alone.result
     c.allows_some_past_ascii-alone.ensures in
@@ -187,9 +168,8 @@ loop-end-preserved c =
       valid = at.valid;
       prefix = subst (KeepsPrefixWhenDecoded lowers set (drop (end + 3) text)) nothing
           (empty-prefix-is-unchanged lowers set (drop (end + 3) text));
-      total = decoded-octet-is-pushed at lowers set prefix (string_bytes c.push_octet.new.out) whole
-          alone none either
-          (c.in_ok-push_octet.ensures lowers ∙ ap (λ v. prefix
+      total = decoded-octet-is-pushed at lowers set prefix (string_bytes c.push_octet.new.out)
+          whole alone none either (c.in_ok-push_octet.ensures lowers ∙ ap (λ v. prefix
           ++ print (lowered_if lowers (decode_octet (Octet v) ∷ []))) c.octet_value.ensures) total;
     }
 
@@ -204,9 +184,7 @@ returns c =
     let holds = c.loop-end.invariant in
     let over : length text ≤ c.loop-end.end =
     omega (arith, c.loop-end-test.false, ap length c.as_bytes-bytes.ensures.value) in
-    on_ok_weaker c.push_literal-2.result
-    (λ pushed. last-prefix-is-pushed lowers set text out
-    (string_bytes c.push_literal-2.new.out) whole done
-    c.loop-end.end holds.order over holds.prefix
+    on_ok_weaker c.push_literal-2.result (λ pushed. last-prefix-is-pushed lowers set text out
+    (string_bytes c.push_literal-2.new.out) whole done c.loop-end.end holds.order over holds.prefix
     (pushed ∙ ap (λ x. out ++ lowered_text_if lowers x) c.range_from-2.ensures.value) holds.total)
     c.push_literal-2.ensures

@@ -1,9 +1,4 @@
-use Rattle.std.proofs.Common.{◌≡◌, ◌≤◌, ◌-◌, ◌++◌, length, drop, string_bytes}
-use Rattle.std.specs.Str.{IsCharBoundary}
-use Rattle.uri_pct.specs.Chunks.{widest_set}
-use Rattle.uri_pct.specs.Tables.{set_of}
-use Rattle.uri_pct.specs.Tokens.{IsValidFor}
-use Rattle.uri_ops.specs.Models.Decodings.{KeepsPrefixWhenDecoded, decoded_text}
+use Rattle.uri_ops.proofs.Common.{◌≡◌, ◌≤◌, ◌-◌, ◌++◌, length, drop, string_bytes, IsCharBoundary, widest_set, set_of, IsValidFor, KeepsPrefixWhenDecoded, decoded_text}
 use Rattle.uri_ops.proofs.normalize.decode_unreserved.push_decoded_runs.Given as goal
 
 abbrev pub invariant-loop-end : goal.invariant-loop-end

@@ -1,7 +1,4 @@
-use Rattle.std.proofs.Common.{◌≤◌, ◌++◌, refl, arith, length, string_bytes}
-use Rattle.std.proofs.lemmas.Result.{on_ok_weaker}
-use Rattle.uri_pct.specs.Tables.{set_of}
-use Rattle.uri_ops.specs.Models.Decodings.{decoded_text}
+use Rattle.uri_ops.proofs.Common.{◌≤◌, ◌++◌, refl, arith, length, string_bytes, on_ok_weaker, set_of, decoded_text}
 use Rattle.uri_ops.proofs.Meanings.DecodedPrefixes.{text-before-percent-is-literal-prefix, unchanged-prefix-is-unchanged-from-zero, last-prefix-is-pushed}
 use Rattle.uri_ops.proofs.normalize.decode_unreserved.push_decoded_tokens.Goals as goal
 
@@ -19,8 +16,5 @@ returns-then-first-text c =
     unchanged-prefix-is-unchanged-from-zero lowers set text first (literal.prefix lowers set) in
     let whole = out ++ decoded_text lowers set text in
     let new = string_bytes c.push_literal.new.out in
-    on_ok_weaker c.push_literal.result
-    (λ pushed.
-    last-prefix-is-pushed lowers set text out new whole 0 first (omega arith) over prefix
-    pushed refl)
-    c.push_literal.ensures
+    on_ok_weaker c.push_literal.result (λ pushed. last-prefix-is-pushed lowers
+    set text out new whole 0 first (omega arith) over prefix pushed refl) c.push_literal.ensures

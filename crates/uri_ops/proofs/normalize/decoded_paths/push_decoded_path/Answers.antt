@@ -1,16 +1,4 @@
-use Rattle.std.proofs.Common.{◌≡◌, ◌++◌, true, length, rules, string_bytes, sym, subst, ap, ◌∙◌, lit<}
-use Rattle.std.specs.Prelude.{codes}
-use Rattle.std.proofs.lemmas.Bool.{not-false}
-use Rattle.std.proofs.lemmas.Str.{encode_ascii}
-use Rattle.uri_pct.specs.Chunks.{widest_set}
-use Rattle.uri_pct.specs.DecodeUnreserved.{decode_unreserved}
-use Rattle.uri_pct.specs.Tables.{set_of}
-use Rattle.uri_pct.specs.Tokens.{print}
-use Rattle.uri_pct.proofs.Decodings.Decoding.{every_set_is_subset_of_widest}
-use Rattle.uri_pct.proofs.UnreservedDecoding.Printing.{print_decoded}
-use Rattle.uri_pct.proofs.ValidTexts.EStrs.{valid_for_superset}
-use Rattle.uri_ops.specs.Dots.{lacks_dot_segments, remove_dot_segments, underflows}
-use Rattle.uri_ops.specs.Models.Directories.{IsDotlessDirectory}
+use Rattle.uri_ops.proofs.Common.{◌≡◌, ◌++◌, true, length, rules, string_bytes, sym, subst, ap, ◌∙◌, lit<, codes, not-false, encode_ascii, widest_set, decode_unreserved, set_of, print, every_set_is_subset_of_widest, print_decoded, valid_for_superset, lacks_dot_segments, remove_dot_segments, underflows, IsDotlessDirectory}
 use Rattle.uri_ops.proofs.Meanings.AllowedParts.{is_set_text, set-text-from-utf8}
 use Rattle.uri_ops.proofs.Paths.DotLaws.{remove-dots-of-dotless, dotless-path-does-not-underflow}
 use Rattle.uri_ops.proofs.Paths.Piecewise.{decoding-keeps-slashes-and-dots}
@@ -31,9 +19,8 @@ returns-then-not-has_dot_segments c =
     let lacks : lacks_dot_segments path ≡ true = not-false _
     (sym c.has_dot_segments.ensures ∙ c.if-not-has_dot_segments.true) in
     record {
-      text = c.in_ok-push_decoded.ensures
-          ∙ ap (λ t. string_bytes c.args.out.now ++ print (decode_unreserved set t))
-          (sym (remove-dots-of-dotless path c.requires.absolute lacks));
+      text = c.in_ok-push_decoded.ensures ∙ ap (λ t. string_bytes c.args.out.now ++ print
+          (decode_unreserved set t)) (sym (remove-dots-of-dotless path c.requires.absolute lacks));
       underflow = sym (dotless-path-does-not-underflow path c.requires.absolute lacks);
     }
 
@@ -45,11 +32,9 @@ pub push_segments-requires-clause-directory : goal.push_segments-requires-clause
 push_segments-requires-clause-directory c =
     let old = string_bytes c.args.out.now in
     let at : c.len-start.result ≡ length old = search rules in
-    subst IsDotlessDirectory
-    (sym (text-after-old-is-pushed-text old c.len-start.result at (string_bytes c.push.new.self)
-    (codes "/")
-    (c.in_ok-push.ensures.bytes ∙ ap (λ t. old ++ t) (encode_ascii 47 (lit< tt)))))
-    root-is-dotless-directory
+    subst IsDotlessDirectory (sym (text-after-old-is-pushed-text old c.len-start.result at
+    (string_bytes c.push.new.self) (codes "/") (c.in_ok-push.ensures.bytes
+    ∙ ap (λ t. old ++ t) (encode_ascii 47 (lit< tt))))) root-is-dotless-directory
 
 pub push_segments-requires-clause-keeps : goal.push_segments-requires-clause-keeps
 unfolding print_decoded is_set_text
@@ -78,12 +63,11 @@ returns c =
     let valid = set-text-from-utf8 set path c.utf8.path c.requires.valid in
     record {
       text = whole old c.len-start.result at new (codes "/") (string_bytes c.push_segments.new.out)
-          (print (decode_unreserved set (remove_dot_segments path))) root
-          c.in_ok-underflowed.ensures.before
-          (c.in_ok-underflowed.ensures.text
-          ∙ ap (λ t. remove_dot_segments (t ++ print (decode_unreserved set rest))) kept
-          ∙ root-and-decoded-rest-lose-dots-as-path set c.requires.set c.requires.slash path rest
-          c.requires.absolute valid c.range_from.ensures.value);
+          (print (decode_unreserved set (remove_dot_segments path)))
+          root c.in_ok-underflowed.ensures.before (c.in_ok-underflowed.ensures.text
+          ∙ ap (λ t. remove_dot_segments (t ++ print (decode_unreserved set rest)))
+          kept ∙ root-and-decoded-rest-lose-dots-as-path set c.requires.set
+          c.requires.slash path rest c.requires.absolute valid c.range_from.ensures.value);
       underflow = c.in_ok-underflowed.ensures.underflow
           ∙ ap (λ t. underflows (t ++ print (decode_unreserved set rest))) kept
           ∙ root-and-decoded-rest-underflow-as-path set c.requires.set c.requires.slash path rest

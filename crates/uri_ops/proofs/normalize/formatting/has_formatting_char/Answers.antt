@@ -1,10 +1,5 @@
-use Rattle.std.proofs.Common.{◌≡◌, true, false, ◌||◌, sym, ap, ◌∙◌}
-use Rattle.std.specs.List.{list_any}
-use Rattle.std.specs.Str.{chars}
-use Rattle.std.specs.Str.Iter.{chars_rest}
+use Rattle.uri_ops.proofs.Common.{◌≡◌, true, false, ◌||◌, sym, ap, ◌∙◌, list_any, chars, chars_rest, IsUtf8-past_char, chars_past_char, is_bidi_formatting}
 use Rattle.std.proofs.StrCases.{chars_of_empty}
-use Rattle.std.proofs.lemmas.Str.{IsUtf8-past_char, chars_past_char}
-use Rattle.uri_pct.specs.DecodeUnreserved.{is_bidi_formatting}
 use Rattle.uri_ops.proofs.normalize.formatting.has_formatting_char.Goals as goal
 
 pub returns-then-is_bidi_formatting : goal.returns-then-is_bidi_formatting
@@ -31,6 +26,5 @@ loop-ch-preserved c =
     )
 
 pub returns : goal.returns
-returns c = sym (ap (list_any is_bidi_formatting)
-    (chars_of_empty _ c.in-None.ensures.steps.0.0))
+returns c = sym (ap (list_any is_bidi_formatting) (chars_of_empty _ c.in-None.ensures.steps.0.0))
     ∙ c.loop-ch.invariant.1

@@ -1,7 +1,4 @@
-use Rattle.std.proofs.Common.{◌≡◌, ◌++◌, string_bytes}
-use Rattle.std.specs.Str.{IsUtf8}
-use Rattle.std.specs.Str.Iter.{chars_rest}
-use Rattle.uri_pct.specs.DecodeUnreserved.{encoded_formatting_text}
+use Rattle.uri_ops.proofs.Common.{◌≡◌, ◌++◌, string_bytes, IsUtf8, chars_rest, encoded_formatting_text}
 use Rattle.uri_ops.proofs.normalize.formatting.push_with_formatting_encoded.Given as goal
 
 abbrev pub invariant-loop-ch : goal.invariant-loop-ch

@@ -1,6 +1,4 @@
-use Rattle.std.proofs.Common.{◌≡◌, ℕ, ◌<◌, Bool, true, eqb, get_or, refl, arith}
-use Rattle.std.specs.Char.{to_ascii_lowercase}
-use Rattle.std.proofs.lemmas.Bool.{agree_below_at, eqb-true}
+use Rattle.uri_ops.proofs.Common.{◌≡◌, ℕ, ◌<◌, Bool, true, eqb, get_or, refl, arith, to_ascii_lowercase, agree_below_at, eqb-true}
 use Rattle.uri_ops.specs.declared.normalize.literal_runs.TheConstants.{LOWERED}
 use Rattle.uri_ops.proofs.normalize.literal_runs.lowered.Goals as goal
 

@@ -1,6 +1,4 @@
-use Rattle.std.proofs.Common.{◌≡◌, ◌++◌, length, take, sym, subst, ap, ◌∙◌, take_all, arith, string_bytes}
-use Rattle.std.specs.Str.{IsUtf8, str_to_ascii_lowercase}
-use Rattle.std.proofs.lemmas.Str.{IsUtf8-append}
+use Rattle.uri_ops.proofs.Common.{◌≡◌, ◌++◌, length, take, sym, subst, ap, ◌∙◌, take_all, arith, string_bytes, IsUtf8, str_to_ascii_lowercase, IsUtf8-append}
 use Rattle.uri_ops.proofs.Meanings.Cased.{lowered-text-is-utf8}
 use Rattle.uri_ops.proofs.normalize.literal_runs.push_lower.Goals as goal
 

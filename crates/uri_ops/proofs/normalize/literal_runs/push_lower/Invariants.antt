@@ -1,5 +1,4 @@
-use Rattle.std.proofs.Common.{◌≡◌, ◌+◌, ◌-◌, ◌≤◌, ◌++◌, length, take, string_bytes, vec_capacity, vec_len}
-use Rattle.std.specs.Str.{str_to_ascii_lowercase}
+use Rattle.uri_ops.proofs.Common.{◌≡◌, ◌+◌, ◌-◌, ◌≤◌, ◌++◌, length, take, string_bytes, vec_capacity, vec_len, str_to_ascii_lowercase}
 use Rattle.uri_ops.proofs.normalize.literal_runs.push_lower.Given as goal
 
 abbrev pub invariant-loop-byte : goal.invariant-loop-byte

@@ -1,7 +1,4 @@
-use Rattle.std.proofs.Common.{ap, sym, ◌∙◌}
-use Rattle.uri_parts.specs.Components.{starts}
-use Rattle.uri_parts.specs.Hosts.{host_kind}
-use Rattle.uri_pct.specs.Delimiters.{left_bracket}
+use Rattle.uri_ops.proofs.Common.{ap, sym, ◌∙◌, starts, host_kind, left_bracket}
 use Rattle.uri_ops.proofs.Meanings.BracketedHosts.{normal-ipvfuture-is-lowered}
 use Rattle.uri_ops.proofs.normalize.normal_authority.push_bracketed_host.Goals as goal
 
@@ -13,5 +10,4 @@ returns-in_default g c =
       normal-ipvfuture-is-lowered c.host_parsed.result g.R.Encoder.set host
           c.in_default.not-Ipv6 (ap (starts left_bracket) c.host.ensures ∙ c.requires)
           (c.host_parsed.ensures.kind ∙ ap host_kind (sym c.host.ensures)),
-    )
-    c.push_lower.ensures
+    ) c.push_lower.ensures

@@ -1,12 +1,4 @@
-use Rattle.std.proofs.Common.{rules, ◌≡◌, ◌++◌, ◌&&◌, false, true, length, sym, ap, ◌∙◌, string_bytes}
-use Rattle.std.specs.Prelude.{is_some}
-use Rattle.std.proofs.lemmas.Bool.{and_right}
-use Rattle.std.proofs.lemmas.Str.{IsUtf8-string_bytes}
-use Rattle.uri_pct.specs.DecodeUnreserved.{decode_unreserved}
-use Rattle.uri_pct.specs.EncodedTexts.{text_of}
-use Rattle.uri_pct.specs.Tokens.{print}
-use Rattle.uri_parts.specs.Components.{starts}
-use Rattle.uri_ops.specs.Dots.{remove_dot_segments}
+use Rattle.uri_ops.proofs.Common.{rules, ◌≡◌, ◌++◌, ◌&&◌, false, true, length, sym, ap, ◌∙◌, string_bytes, is_some, and_right, IsUtf8-string_bytes, decode_unreserved, text_of, print, starts, remove_dot_segments}
 use Rattle.uri_ops.proofs.Normal.NormalPieces.{path-with-dots-is-normal-when-decoded, pushed-path-without-dots-is-normal, absolute-is-leading-slash}
 use Rattle.uri_ops.proofs.Paths.GuardedPaths.{guard-inserted-before-path, pushed-path-begins-at-boundary}
 use Rattle.uri_ops.proofs.normalize.normal_text.push_normal_path.Goals as goal
@@ -19,15 +11,12 @@ returns-then-not-has_scheme-clause-text g c = λ scheme authority s a.
       | then-not-has_scheme-via-then-not-has_scheme w ↦ ap (λ b. b && starts 47 path)
           (s ∙ w.if-not-has_scheme.true)
       | then-not-has_scheme-via-else-not-has_scheme+then-not-is_absolute w ↦ and_right
-          (is_some scheme)
-          (starts 47 path) (absolute-is-leading-slash path ∙ sym w.is_absolute.ensures
-          ∙ w.if-not-is_absolute.true)
+          (is_some scheme) (starts 47 path)
+          (absolute-is-leading-slash path ∙ sym w.is_absolute.ensures ∙ w.if-not-is_absolute.true)
     ] in
-    c.in_ok-push_decoded_component.ensures
-    ∙ ap (λ t. string_bytes c.args.out.now ++ t)
+    c.in_ok-push_decoded_component.ensures ∙ ap (λ t. string_bytes c.args.out.now ++ t)
     (sym (path-with-dots-is-normal-when-decoded g.E.Encoder.set c.requires.set scheme authority path
-    (search rules)
-    c.args.path.valid off))
+    (search rules) c.args.path.valid off))
 
 pub guard_path-requires : goal.guard_path-requires
 guard_path-requires g c =
@@ -47,7 +36,6 @@ returns-in_ok-guard_path-clause-text g c = λ scheme authority s same.
     pushed-path-without-dots-is-normal g.E.Encoder.set scheme authority path old
     (string_bytes c.guard_path.new.out) (s ∙ c.if-not-has_scheme.false) absolute
     (guard-inserted-before-path authority old (string_bytes c.push_decoded_path.new.out)
-    (string_bytes c.guard_path.new.out) _ c.len-start.result (same ∙ c.if-not-has_authority.true)
-    at (c.in_ok-underflowed.ensures.text
-    ∙ (λ i. old ++ print (decode_unreserved (c.table.ensures i)
+    (string_bytes c.guard_path.new.out) _ c.len-start.result (same ∙ c.if-not-has_authority.true) at
+    (c.in_ok-underflowed.ensures.text ∙ (λ i. old ++ print (decode_unreserved (c.table.ensures i)
     (remove_dot_segments (c.as_str.ensures.text i))))) c.in_ok-guard_path.ensures)

@@ -1,17 +1,5 @@
-use Rattle.std.proofs.Common.{◌≡◌, [], ◌+◌, ◌++◌, codes, length, sym, ap, ◌∙◌, option_map, rules, string_bytes, subst}
-use Rattle.std.specs.Prelude.{is_some}
-use Rattle.std.specs.Str.{IsUtf8}
-use Rattle.uri_parts.specs.AuthorityTexts.{authority_text}
+use Rattle.uri_ops.proofs.Common.{◌≡◌, [], ◌+◌, ◌++◌, codes, length, sym, ap, ◌∙◌, option_map, rules, string_bytes, subst, is_some, IsUtf8, authority_text, components, marked, core_text, IsTextOf, packed, authority_meaning, meaning_of, default_port_of, normal_authority_with_delimiter, normal_authority, normal_part, normal_parts, normal_path_text, normal_scheme, normal_text, path_underflows, text_underflows, ruled_components, ruled_text, authority_parts_at, is_some-option_map}
 use Rattle.uri_parts.specs.Schemes.{scheme_text}
-use Rattle.uri_parts.specs.Components.{components, marked}
-use Rattle.uri_parts.specs.CoreTexts.{core_text}
-use Rattle.uri_parts.specs.Grammar.{IsTextOf}
-use Rattle.uri_parts.specs.PackedPositions.{packed}
-use Rattle.uri_ops.specs.Meaning.{authority_meaning, meaning_of}
-use Rattle.uri_ops.specs.Normal.{default_port_of, normal_authority_with_delimiter, normal_authority, normal_part, normal_parts, normal_path_text, normal_scheme, normal_text, path_underflows}
-use Rattle.uri_ops.specs.Normalizers.{text_underflows}
-use Rattle.uri_ops.specs.Models.RuledComponents.{ruled_components, ruled_text}
-use Rattle.uri_ops.specs.Models.Written.{authority_parts_at}
 use Rattle.uri_ops.proofs.Builders.BuilderGrowth.{string_len-is-length-of-bytes}
 use Rattle.uri_ops.proofs.Normal.NormalPieces.{is_some-of-mapped-twice}
 use Rattle.uri_ops.proofs.Normal.NormalPlaces.{written-positions-are-of-normal-text}
@@ -19,7 +7,6 @@ use Rattle.uri_ops.proofs.Normal.WrittenPlaces.{pushed-components-are-normal-tex
 use Rattle.uri_ops.proofs.SchemeRules.RuledParts.{ruled-components-underflow-alike}
 use Rattle.uri_ops.proofs.SchemeRules.RuledTexts.{components-of-ruled_text, ruled-text-has-meaning-under, ruled-text-is-text-of-kind}
 use Rattle.uri_ops.proofs.normalize.normal_text.written_normal_text.Goals as goal
-use Rattle.uri_pct.proofs.General.{is_some-option_map}
 
 pub ruled_path-path-requires : goal.ruled_path-path-requires
 ruled_path-path-requires g c = c.requires
@@ -60,30 +47,24 @@ returns g c =
     c.in_ok-scheme_end.scheme_end c.in_ok-query_end.query_end c.in_ok-places.places
     (c.in_ok-scheme_end.ensures.text
     ∙ (λ i. old ++ marked [] (normal_scheme (scheme i)) (codes ":")))
-    (c.in_ok-places.ensures.text kind users names
-    ∙ (λ i. o1 ++ normal_authority_with_delimiter kind
-    (default_port_of ports (scheme i)) (given_authority i)))
+    (c.in_ok-places.ensures.text kind users names ∙ (λ i. o1
+    ++ normal_authority_with_delimiter kind (default_port_of ports (scheme i)) (given_authority i)))
     (c.in_ok-underflows.ensures.text p.scheme authority has_scheme
-    (is_some-of-mapped-twice meaning normal_authority p.authority
-    ∙ ap is_some (sym given_authority) ∙ is_some-option_map authority_text _
-    ∙ sym c.is_some-has_authority.ensures)
+    (is_some-of-mapped-twice meaning normal_authority p.authority ∙ ap is_some (sym given_authority)
+    ∙ is_some-option_map authority_text _ ∙ sym c.is_some-has_authority.ensures)
     ∙ (λ i. o2 ++ normal_path_text (g.met.K.Kind.path_set i) p.scheme authority (given_path i)))
     (c.in_ok-query_end.ensures.text
     ∙ (λ i. o3 ++ marked (codes "?") (normal_part (g.met.K.Kind.query_set i) (query i)) []))
     (c.in_ok-push_with_delimiter.ensures.text
-    ∙ (λ i. o4 ++ marked (codes "#")
-    (normal_part (g.met.K.Kind.fragment_set i) (fragment i)) []))
+    ∙ (λ i. o4 ++ marked (codes "#") (normal_part (g.met.K.Kind.fragment_set i) (fragment i)) []))
     (c.len-path_start.ensures ∙ string_len-is-length-of-bytes c.push_authority.new.out)
     (c.len-path_end.ensures ∙ string_len-is-length-of-bytes c.push_normal_path.new.out)
     (c.in_ok-scheme_end.ensures.end
     ∙ (λ i. option_map (λ s. length old + length s) (normal_scheme (scheme i))))
-    (c.in_ok-places.ensures.places kind users names
-    ∙ (λ i. option_map (λ a. authority_parts_at (length o1 + 2)
-    (normal_parts (authority_meaning kind (default_port_of ports (scheme i)) a)))
-    (given_authority i)))
-    (c.in_ok-query_end.ensures.end
-    ∙ (λ i. option_map (λ s. length o3 + 1 + length s)
-    (normal_part (g.met.K.Kind.query_set i) (query i)))) in
+    (c.in_ok-places.ensures.places kind users names ∙ (λ i. option_map (λ a. authority_parts_at
+    (length o1 + 2) (normal_parts (authority_meaning kind (default_port_of ports (scheme i)) a)))
+    (given_authority i))) (c.in_ok-query_end.ensures.end ∙ (λ i. option_map
+    (λ s. length o3 + 1 + length s) (normal_part (g.met.K.Kind.query_set i) (query i)))) in
     let whole = written.0 ∙ ap (λ t. t ++ normal_text (meaning_of kind ports text)) empty in
     record {
       text = record {
@@ -95,8 +76,7 @@ returns g c =
           (ruled-text-is-text-of-kind kind scheme_rules c.requires given given_is_of_kind)
           whole (c.of-positions.ensures ∙ ap packed (written.1 empty));
       underflow = c.in_ok-underflows.ensures.underflow p.scheme has_scheme
-          ∙ ap (path_underflows p.scheme) c.ruled_path-path.ensures
-          ∙ ap (λ q. path_underflows q.scheme
-          (ruled_components kind scheme_rules (components given)).path) split
+          ∙ ap (path_underflows p.scheme) c.ruled_path-path.ensures ∙ ap (λ q. path_underflows
+          q.scheme (ruled_components kind scheme_rules (components given)).path) split
           ∙ ruled-components-underflow-alike kind scheme_rules (components given);
     }

@@ -1,11 +1,4 @@
-use Rattle.std.proofs.Common.{◌≡◌, ◌<◌, ◌+◌, ◌*◌, ◌++◌, ◌∷◌, [], false, inr, slice_set, drop, take, refl, sym, ap, ◌∙◌, subst, arith}
-use Rattle.std.specs.Char.{digit_value, encode_utf8}
-use Rattle.std.specs.Str.{IsAscii}
-use Rattle.std.proofs.lemmas.Bool.{ltb-true, true≢false}
-use Rattle.std.proofs.lemmas.List.{take_more_set}
-use Rattle.std.proofs.lemmas.Str.{encode_ascii}
-use Rattle.std.proofs.lemmas.Str.Ascii.{IsAscii-nil, IsAscii-push}
-use Rattle.uri_ops.specs.Models.Decodings.{decoded_text, lowered_code_if}
+use Rattle.uri_ops.proofs.Common.{◌≡◌, ◌<◌, ◌+◌, ◌*◌, ◌++◌, ◌∷◌, [], false, inr, slice_set, drop, take, refl, sym, ap, ◌∙◌, subst, arith, digit_value, encode_utf8, IsAscii, ltb-true, true≢false, take_more_set, encode_ascii, IsAscii-nil, IsAscii-push, decoded_text, lowered_code_if}
 use Rattle.uri_ops.proofs.Meanings.DecodedPrefixes.{octet-is-decoded-alone, decoded-octet-is-pushed}
 use Rattle.uri_ops.proofs.Meanings.UnreservedCodes.{unreserved-octet-prints-its-code, lowered-code-of-ascii-is-ascii}
 use Rattle.uri_ops.proofs.normalize.octet_runs.decode_block.Goals as goal

@@ -1,9 +1,4 @@
-use Rattle.std.proofs.Common.{◌-◌, ◌≡◌, ◌≤◌, ◌+◌, ◌*◌, ◌++◌, drop, take}
-use Rattle.std.specs.Str.{IsAscii, IsCharBoundary}
-use Rattle.uri_pct.specs.Chunks.{widest_set}
-use Rattle.uri_pct.specs.Sets.{TableSet}
-use Rattle.uri_pct.specs.Tokens.{IsValidFor}
-use Rattle.uri_ops.specs.Models.Decodings.{decoded_text}
+use Rattle.uri_ops.proofs.Common.{◌-◌, ◌≡◌, ◌≤◌, ◌+◌, ◌*◌, ◌++◌, drop, take, IsAscii, IsCharBoundary, widest_set, TableSet, IsValidFor, decoded_text}
 use Rattle.uri_ops.proofs.normalize.octet_runs.decode_block.Given as goal
 
 abbrev pub invariant-loop-count : goal.invariant-loop-count
@@ -13,8 +8,7 @@ invariant-loop-count l = record {
   ascii : IsAscii (take l.count l.block);
   boundary : IsCharBoundary l.text l.end;
   valid : IsValidFor widest_set (drop l.end l.text);
-  decoded : (set : TableSet)
-      → take l.count l.block ++ decoded_text l.lowers set (drop l.end l.text)
+  decoded : (set : TableSet) → take l.count l.block ++ decoded_text l.lowers set (drop l.end l.text)
       ≡ decoded_text l.lowers set (drop l.start l.text);
 }
 

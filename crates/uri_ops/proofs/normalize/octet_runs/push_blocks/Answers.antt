@@ -1,6 +1,4 @@
-use Rattle.std.proofs.Common.{◌≡◌, ◌++◌, ◌+◌, ◌*◌, List, ℕ, drop, ap, ◌∙◌, append_assoc, arith, refl, string_bytes}
-use Rattle.uri_ops.specs.Models.Decodings.{decoded_text}
-use Rattle.std.proofs.lemmas.Str.{IsUtf8-from_ascii}
+use Rattle.uri_ops.proofs.Common.{◌≡◌, ◌++◌, ◌+◌, ◌*◌, List, ℕ, drop, ap, ◌∙◌, append_assoc, arith, refl, string_bytes, decoded_text, IsUtf8-from_ascii}
 use Rattle.uri_ops.proofs.normalize.octet_runs.push_blocks.Goals as goal
 
 -- general fact on lists, for decoding: after the first part of what is left was appended, what is
@@ -28,30 +26,22 @@ loop-end-preserved c = record {
   valid = c.decode_block-count.ensures.valid;
   total = λ set. whole-is-kept (string_bytes c.loop-end.out)
       (string_bytes c.push_short_str.new.out) c.from_utf8_unchecked.result.now
-      (decoded_text c.args.lowers set (drop c.loop-end.end c.args.text.now))
-      (decoded_text c.args.lowers set
-      (drop (c.loop-end.end + 3 * c.decode_block-count.result) c.args.text.now))
-      (string_bytes c.args.out.now
-      ++ decoded_text c.args.lowers set (drop c.args.start c.args.text.now))
-      c.in_ok-push_short_str.ensures
-      (ap (λ x. x ++ decoded_text c.args.lowers set
-      (drop (c.loop-end.end + 3 * c.decode_block-count.result) c.args.text.now))
-      c.from_utf8_unchecked.ensures
-      ∙ c.decode_block-count.ensures.decoded set)
-      (c.loop-end.invariant.total set);
+      (decoded_text c.args.lowers set (drop c.loop-end.end c.args.text.now)) (decoded_text
+      c.args.lowers set (drop (c.loop-end.end + 3 * c.decode_block-count.result) c.args.text.now))
+      (string_bytes c.args.out.now ++ decoded_text c.args.lowers set
+      (drop c.args.start c.args.text.now)) c.in_ok-push_short_str.ensures
+      (ap (λ x. x ++ decoded_text c.args.lowers set (drop (c.loop-end.end
+      + 3 * c.decode_block-count.result) c.args.text.now)) c.from_utf8_unchecked.ensures
+      ∙ c.decode_block-count.ensures.decoded set) (c.loop-end.invariant.total set);
 }
 
 pub returns-then-count-lt-BLOCK-clause-text : goal.returns-then-count-lt-BLOCK-clause-text
 returns-then-count-lt-BLOCK-clause-text c = λ set. whole-is-kept (string_bytes c.loop-end.out)
     (string_bytes c.push_short_str.new.out) c.from_utf8_unchecked.result.now
-    (decoded_text c.args.lowers set (drop c.loop-end.end c.args.text.now))
-    (decoded_text c.args.lowers set
-    (drop (c.loop-end.end + 3 * c.decode_block-count.result) c.args.text.now))
-    (string_bytes c.args.out.now
-    ++ decoded_text c.args.lowers set (drop c.args.start c.args.text.now))
-    c.in_ok-push_short_str.ensures
-    (ap (λ x. x ++ decoded_text c.args.lowers set
-    (drop (c.loop-end.end + 3 * c.decode_block-count.result) c.args.text.now))
-    c.from_utf8_unchecked.ensures
-    ∙ c.decode_block-count.ensures.decoded set)
-    (c.loop-end.invariant.total set)
+    (decoded_text c.args.lowers set (drop c.loop-end.end c.args.text.now)) (decoded_text
+    c.args.lowers set (drop (c.loop-end.end + 3 * c.decode_block-count.result) c.args.text.now))
+    (string_bytes c.args.out.now ++ decoded_text c.args.lowers set
+    (drop c.args.start c.args.text.now)) c.in_ok-push_short_str.ensures
+    (ap (λ x. x ++ decoded_text c.args.lowers set (drop (c.loop-end.end
+    + 3 * c.decode_block-count.result) c.args.text.now)) c.from_utf8_unchecked.ensures
+    ∙ c.decode_block-count.ensures.decoded set) (c.loop-end.invariant.total set)

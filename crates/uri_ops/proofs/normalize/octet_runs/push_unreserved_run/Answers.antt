@@ -1,8 +1,4 @@
-use Rattle.std.proofs.Common.{◌+◌, ◌*◌, ◌++◌, inr, false, drop, refl, sym, arith, ◌∙◌, string_bytes}
-use Rattle.std.specs.Char.{digit_value}
-use Rattle.std.proofs.lemmas.Bool.{true≢false}
-use Rattle.std.proofs.lemmas.Result.{IfOk-weaker}
-use Rattle.uri_ops.specs.Models.Decodings.{decoded_text}
+use Rattle.uri_ops.proofs.Common.{◌+◌, ◌*◌, ◌++◌, inr, false, drop, refl, sym, arith, ◌∙◌, string_bytes, digit_value, true≢false, IfOk-weaker, decoded_text}
 use Rattle.uri_ops.proofs.Meanings.DecodedPrefixes.{decoded-octet-is-pushed}
 use Rattle.uri_ops.proofs.normalize.octet_runs.push_unreserved_run.Goals as goal
 
@@ -30,10 +26,9 @@ loop-end-preserved c =
       boundary = at.boundary;
       valid = at.valid;
       total = λ set. decoded-octet-is-pushed at lowers set (string_bytes c.loop-end.out)
-          (string_bytes c.push_unreserved.new.out)
-          (string_bytes c.args.out.now
-          ++ decoded_text lowers set (drop c.args.start c.args.text.now))
-          false (λ never. absurd (true≢false (sym never))) (inr c.in-Some.ensures.2)
+          (string_bytes c.push_unreserved.new.out) (string_bytes c.args.out.now
+          ++ decoded_text lowers set (drop c.args.start c.args.text.now)) false
+          (λ never. absurd (true≢false (sym never))) (inr c.in-Some.ensures.2)
           (c.in_ok-push_unreserved.ensures lowers value c.in-Some.ensures.1 c.in-Some.ensures.0)
           (holds.total set);
     }

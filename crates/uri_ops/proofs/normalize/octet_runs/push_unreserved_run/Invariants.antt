@@ -1,9 +1,4 @@
-use Rattle.std.proofs.Common.{◌-◌, ◌≤◌, ◌≡◌, ◌++◌, drop, length, string_bytes}
-use Rattle.std.specs.Str.{IsCharBoundary}
-use Rattle.uri_pct.specs.Chunks.{widest_set}
-use Rattle.uri_pct.specs.Sets.{TableSet}
-use Rattle.uri_pct.specs.Tokens.{IsValidFor}
-use Rattle.uri_ops.specs.Models.Decodings.{decoded_text}
+use Rattle.uri_ops.proofs.Common.{◌-◌, ◌≤◌, ◌≡◌, ◌++◌, drop, length, string_bytes, IsCharBoundary, widest_set, TableSet, IsValidFor, decoded_text}
 use Rattle.uri_ops.proofs.normalize.octet_runs.push_unreserved_run.Given as goal
 
 abbrev pub invariant-loop-end : goal.invariant-loop-end
@@ -11,8 +6,7 @@ invariant-loop-end l = record {
   from : l.start ≤ l.end;
   boundary : IsCharBoundary l.text l.end;
   valid : IsValidFor widest_set (drop l.end l.text);
-  total : (set : TableSet)
-      → string_bytes l.out ++ decoded_text l.lowers set (drop l.end l.text)
+  total : (set : TableSet) → string_bytes l.out ++ decoded_text l.lowers set (drop l.end l.text)
       ≡ string_bytes l.fn.out ++ decoded_text l.lowers set (drop l.start l.text);
 }
 

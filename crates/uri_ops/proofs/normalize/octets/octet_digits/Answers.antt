@@ -1,5 +1,4 @@
-use Rattle.std.proofs.Common.{◌+◌, ap, arith, get_or, length, subst, sym}
-use Rattle.uri_ops.specs.Models.Decodings.{IsOctetAt}
+use Rattle.uri_ops.proofs.Common.{◌+◌, ap, arith, get_or, length, subst, sym, IsOctetAt}
 use Rattle.uri_ops.proofs.Meanings.DecodedPrefixes.{percent-in-valid-text-begins-octet}
 use Rattle.uri_ops.proofs.normalize.octets.octet_digits.Goals as goal
 

@@ -1,5 +1,4 @@
-use Rattle.std.proofs.Common.{◌++◌, sym, ap, ◌∙◌, string_bytes}
-use Rattle.std.specs.Char.{encode_utf8}
+use Rattle.uri_ops.proofs.Common.{◌++◌, sym, ap, ◌∙◌, string_bytes, encode_utf8}
 use Rattle.uri_ops.proofs.Meanings.UnreservedCodes.{unreserved-octet-prints-its-code}
 use Rattle.uri_ops.proofs.normalize.octets.push_unreserved.Goals as goal
 

@@ -1,5 +1,4 @@
-use Rattle.std.proofs.Common.{◌<◌, ◌≤◌, get_or, subst, sym, ◌∙◌}
-use Rattle.std.proofs.lemmas.Bool.{ltb-true, ltb-false}
+use Rattle.uri_ops.proofs.Common.{◌<◌, ◌≤◌, get_or, subst, sym, ◌∙◌, ltb-true, ltb-false}
 use Rattle.uri_ops.proofs.Meanings.UnreservedCodes.{code_table, ascii-entry-is-unreserved, entry-past-ascii-is-not-unreserved}
 use Rattle.uri_ops.proofs.normalize.octets.unreserved.Goals as goal
 

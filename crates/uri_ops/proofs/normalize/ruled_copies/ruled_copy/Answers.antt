@@ -1,24 +1,14 @@
-use Rattle.std.proofs.Common.{ap, string_bytes, subst, sym, ◌∙◌}
-use Rattle.std.specs.Str.{IsUtf8}
-use Rattle.uri_parts.specs.Components.{components, recompose}
-use Rattle.uri_parts.specs.CoreTexts.{core_text}
-use Rattle.uri_parts.specs.Grammar.{IsTextOf}
-use Rattle.uri_parts.specs.PackedPositions.{packed}
-use Rattle.uri_parts.specs.Positions.{positions_of}
-use Rattle.uri_ops.specs.Models.RuledComponents.{changed_components}
+use Rattle.uri_ops.proofs.Common.{ap, string_bytes, subst, sym, ◌∙◌, IsUtf8, components, recompose, core_text, IsTextOf, packed, positions_of, changed_components}
 use Rattle.uri_ops.proofs.SchemeRules.RuledCopies.{changed-text-is-normal-text, components-of-changed-text, default-host-is-localhost, path-for-root-is-empty}
 use Rattle.uri_ops.proofs.normalize.ruled_copies.ruled_copy.Goals as goal
 
 pub changed_copy-requires-clause-host : goal.changed_copy-requires-clause-host
-changed_copy-requires-clause-host g c =
-    λ e. default-host-is-localhost _ _ (sym c.requires.host ∙ e)
+changed_copy-requires-clause-host g c = λ e. default-host-is-localhost _ _ (sym c.requires.host ∙ e)
 
 pub changed_copy-requires-clause-root : goal.changed_copy-requires-clause-root
-changed_copy-requires-clause-root g c =
-    λ e. path-for-root-is-empty _ _ (sym c.requires.root ∙ e)
+changed_copy-requires-clause-root g c = λ e. path-for-root-is-empty _ _ (sym c.requires.root ∙ e)
 
-given-is-of-kind : (g : _) (c : goal.In_ok-made g)
-    → IsTextOf g.K.Kind.kind (core_text c.args.core)
+given-is-of-kind : (g : _) (c : goal.In_ok-made g) → IsTextOf g.K.Kind.kind (core_text c.args.core)
 given-is-of-kind g c = record {
   utf8 = subst IsUtf8 c.as_str-text.ensures.text c.as_str-text.utf8;
   grammar = c.args.core.of_kind;
@@ -30,8 +20,7 @@ returns-clause-text g c =
     record {
       text = changed-text-is-normal-text g.K.Kind.kind (g.S.SchemeRules.rules_of c.args.rules.now)
           c.requires.sets (core_text c.args.core) (given-is-of-kind g c) c.requires.normal
-          (string_bytes c.in_ok-made.made.text)
-          (c.in_ok-made.ensures.text
+          (string_bytes c.in_ok-made.made.text) (c.in_ok-made.ensures.text
           ∙ (λ i. recompose (changed_components (c.requires.host i) (c.requires.root i) p)));
     }
 
@@ -40,9 +29,8 @@ returns-clause-at g c =
     let p = components (core_text c.args.core) in
     c.in_ok-made.ensures.places
     ∙ (λ i. packed (positions_of (changed_components (c.requires.host i) (c.requires.root i) p)))
-    ∙ sym (ap (λ q. packed (positions_of q))
-    (components-of-changed-text g.K.Kind.kind (g.S.SchemeRules.rules_of c.args.rules.now)
-    c.requires.sets (core_text c.args.core) (given-is-of-kind g c) c.requires.normal
-    (string_bytes c.in_ok-made.made.text)
-    (c.in_ok-made.ensures.text
+    ∙ sym (ap (λ q. packed (positions_of q)) (components-of-changed-text g.K.Kind.kind
+    (g.S.SchemeRules.rules_of c.args.rules.now) c.requires.sets
+    (core_text c.args.core) (given-is-of-kind g c) c.requires.normal
+    (string_bytes c.in_ok-made.made.text) (c.in_ok-made.ensures.text
     ∙ (λ i. recompose (changed_components (c.requires.host i) (c.requires.root i) p)))))

@@ -1,5 +1,4 @@
-use Rattle.std.proofs.Common.{codes, subst, sym}
-use Rattle.uri_pct.specs.Tokens.{IsValidFor}
+use Rattle.uri_ops.proofs.Common.{codes, subst, sym, IsValidFor}
 use Rattle.uri_ops.proofs.Meanings.AllowedParts.{set-text-is-valid}
 use Rattle.uri_ops.proofs.SchemeRules.RuledTexts.{slash-is-set-text}
 use Rattle.uri_ops.proofs.normalize.ruled_parts.ruled_path.Goals as goal

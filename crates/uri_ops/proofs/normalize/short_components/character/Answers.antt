@@ -1,7 +1,5 @@
-use Rattle.std.proofs.Common.{◌≡◌, ℕ, ◌<◌, ◌≤◌, Bool, true, false, ◌&&◌, List, cond, eqb, ltb, not, get_or, refl, sym, subst, ◌∙◌, arith, ⊎_elim}
-use Rattle.std.proofs.lemmas.Bool.{agree_below_at, and_parts, cases_Bool, cond-true, cond-false, eqb-true, ltb-true, ltb-false}
+use Rattle.uri_ops.proofs.Common.{◌≡◌, ℕ, ◌<◌, ◌≤◌, Bool, true, false, ◌&&◌, List, cond, eqb, ltb, not, get_or, refl, sym, subst, ◌∙◌, arith, ⊎_elim, agree_below_at, and_parts, cases_Bool, cond-true, cond-false, eqb-true, ltb-true, ltb-false, lowered_code_if}
 use Rattle.uri_ops.specs.declared.normalize.short_components.TheConstants.{CHARACTERS, LOWERED_CHARACTERS}
-use Rattle.uri_ops.specs.Models.Decodings.{lowered_code_if}
 use Rattle.uri_ops.proofs.Meanings.UnreservedCodes.{lowered-code-of-ascii-is-ascii}
 use Rattle.uri_ops.proofs.normalize.short_components.character.Goals as goal
 
@@ -31,23 +29,18 @@ entry-of-byte lowers b small = eqb-true _ _ (entries-pass-test lowers b small)
 -- short components: an entry that is ASCII is of an ASCII character but `%`
 ascii-entry-is-of-character : (lowers : Bool) (b : ℕ) → b < 256 → get_or (table lowers) b 0 < 128
     → (get_or (table lowers) b 0 ≡ lowered_code_if lowers b) × (is_character b ≡ true)
-ascii-entry-is-of-character lowers b small ascii = ⊎_elim
-    (λ e. (entry-of-byte lowers b small ∙ cond-true _ _ _ e, e))
-    (λ e.
+ascii-entry-is-of-character lowers b small ascii =
+    ⊎_elim (λ e. (entry-of-byte lowers b small ∙ cond-true _ _ _ e, e)) (λ e.
     let other = entry-of-byte lowers b small ∙ cond-false _ _ _ e in
-    absurd (omega (arith, other, ascii)))
-    (cases_Bool (is_character b))
+    absurd (omega (arith, other, ascii))) (cases_Bool (is_character b))
 
 -- short components: an entry past ASCII is of `%` or of a byte past ASCII
 entry-past-ascii-is-of-no-character : (lowers : Bool) (b : ℕ) → b < 256
     → 128 ≤ get_or (table lowers) b 0 → is_character b ≡ false
-entry-past-ascii-is-of-no-character lowers b small past = ⊎_elim
-    (λ e.
+entry-past-ascii-is-of-no-character lowers b small past = ⊎_elim (λ e.
     let same = entry-of-byte lowers b small ∙ cond-true _ _ _ e in
     let below = lowered-code-of-ascii-is-ascii lowers b (ltb-true b 128 (and_parts _ _ e).0) in
-    absurd (omega (arith, same, below, past)))
-    (λ e. e)
-    (cases_Bool (is_character b))
+    absurd (omega (arith, same, below, past))) (λ e. e) (cases_Bool (is_character b))
 
 pub returns-then-is_ascii : goal.returns-then-is_ascii
 returns-then-is_ascii c =

@@ -1,6 +1,4 @@
-use Rattle.std.proofs.Common.{◌≡◌, ◌++◌, ◌≤◌, [], take, drop, length, sym, ap, subst, ◌∙◌, arith, append-nil, string_bytes}
-use Rattle.std.specs.Str.{IsAscii, IsUtf8}
-use Rattle.uri_ops.specs.Models.Decodings.{decoded_text}
+use Rattle.uri_ops.proofs.Common.{◌≡◌, ◌++◌, ◌≤◌, [], take, drop, length, sym, ap, subst, ◌∙◌, arith, append-nil, string_bytes, IsAscii, IsUtf8, decoded_text}
 use Rattle.uri_ops.proofs.Meanings.AsciiSuffixes.{ascii-suffix-keeps-utf8, suffix-and-rest-are-text}
 use Rattle.uri_ops.proofs.Meanings.DecodedPrefixes.{none_written}
 use Rattle.uri_ops.proofs.normalize.short_components.push_short.Goals as goal
@@ -16,10 +14,8 @@ put_bytes-requires c =
     subst IsUtf8 (sym same) c.take_bytes-bytes.ensures.utf8
 
 pub put_bytes-requires-2 : goal.put_bytes-requires-2
-put_bytes-requires-2 c =
-    ascii-suffix-keeps-utf8 c.take_bytes-bytes.result.items c.push_short_bytes-end.new.out.items
-    c.take_bytes-bytes.ensures.utf8
-    (record {
+put_bytes-requires-2 c = ascii-suffix-keeps-utf8 c.take_bytes-bytes.result.items
+    c.push_short_bytes-end.new.out.items c.take_bytes-bytes.ensures.utf8 (record {
       unchanged = c.push_short_bytes-end.ensures.unchanged;
       ascii = c.push_short_bytes-end.ensures.ascii;
     })
@@ -38,12 +34,10 @@ returns-clause-done c = λ _ set none.
     c.push_short_bytes-end.result (omega (arith, within, c.if-end-text.false))
     (c.push_short_bytes-end.ensures.text set none) in
     let suffix : drop (length old) new ≡ decoded = sym (append-nil (drop (length old) new))
-    ∙ suffix-and-rest-are-text old new [] decoded
-    (record {
+    ∙ suffix-and-rest-are-text old new [] decoded (record {
       unchanged = c.push_short_bytes-end.ensures.unchanged;
       ascii = c.push_short_bytes-end.ensures.ascii;
-    })
-    (append-nil new ∙ pushed) in (
+    }) (append-nil new ∙ pushed) in (
       c.put_bytes-2.ensures ∙ pushed ∙ ap (λ x. x ++ decoded) taken,
       subst IsAscii suffix c.push_short_bytes-end.ensures.ascii,
     )

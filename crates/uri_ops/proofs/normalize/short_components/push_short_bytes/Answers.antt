@@ -1,13 +1,4 @@
-use Rattle.std.proofs.Common.{◌≡◌, ℕ, List, ◌+◌, ◌*◌, ◌++◌, ◌∷◌, [], ◌<◌, ◌⊎◌, inl, inr, Bool, true, false, get_or, drop, length, refl, sym, ap, subst, ◌∙◌, arith}
-use Rattle.std.specs.Char.{digit_value}
-use Rattle.std.proofs.lemmas.Bool.{and_parts, ltb-true, not-true}
-use Rattle.std.proofs.lemmas.Str.{IsCharBoundary-start}
-use Rattle.std.proofs.lemmas.Str.Ascii.{IsAscii-nil, IsAscii-push}
-use Rattle.uri_pct.specs.DecodeUnreserved.{decode_octet}
-use Rattle.uri_pct.specs.Tokens.{Octet, print}
-use Rattle.uri_pct.specs.Chunks.{widest_set}
-use Rattle.uri_pct.specs.Sets.{TableSet}
-use Rattle.uri_ops.specs.Models.Decodings.{decoded_text, lowered_code_if, lowered_if, lowered_text_if}
+use Rattle.uri_ops.proofs.Common.{◌≡◌, ℕ, List, ◌+◌, ◌*◌, ◌++◌, ◌∷◌, [], ◌<◌, ◌⊎◌, inl, inr, Bool, true, false, get_or, drop, length, refl, sym, ap, subst, ◌∙◌, arith, digit_value, and_parts, ltb-true, not-true, IsCharBoundary-start, IsAscii-nil, IsAscii-push, decode_octet, Octet, print, widest_set, TableSet, decoded_text, lowered_code_if, lowered_if, lowered_text_if}
 use Rattle.uri_ops.proofs.Meanings.AsciiSuffixes.{digits-are-of-byte, longer-suffix-is-ascii, no-suffix-is-ascii, octet-decoded-alone-is-ascii}
 use Rattle.uri_ops.proofs.Meanings.DecodedPrefixes.{character_step, decoded-octet-is-pushed}
 use Rattle.uri_ops.proofs.Meanings.UnreservedCodes.{lowered-code-of-ascii-is-ascii}
@@ -46,11 +37,10 @@ loop-end-preserved-in-Some c =
     let pushed : c.push_reserved.new.self.items ≡ out ++ lowered_text_if lowers (byte ∷ []) =
     c.push_reserved.ensures.items
     ∙ ap (λ x. out ++ x) (ap (λ x. x ∷ []) ch ∙ character-is-lowered-text lowers byte) in
-    let step = λ (set : TableSet) (whole : List ℕ)
-    (total : out ++ decoded_text lowers set (drop end text) ≡ whole).
-    character_step lowers set bytes text out c.push_reserved.new.self.items whole end
-    c.as_bytes-bytes.ensures.value c.utf8.text holds.boundary holds.valid c.loop-end-test.true
-    small (not-true _ parts.1) pushed total in
+    let step = λ (set : TableSet) (whole : List ℕ) (total : out
+    ++ decoded_text lowers set (drop end text) ≡ whole). character_step lowers set bytes
+    text out c.push_reserved.new.self.items whole end c.as_bytes-bytes.ensures.value c.utf8.text
+    holds.boundary holds.valid c.loop-end-test.true small (not-true _ parts.1) pushed total in
     let first = step widest_set (out ++ decoded_text lowers widest_set (drop end text)) refl in
     let ascii : c.in-Some.ch < 128 = subst (λ x. x < 128) (sym ch)
     (lowered-code-of-ascii-is-ascii lowers byte small) in
@@ -70,9 +60,8 @@ loop-end-preserved-in-Some c =
         c.push_reserved.ensures.capacity,
         ap length c.as_bytes-bytes.ensures.value,
       );
-      total = λ set none.
-          (step set (c.args.out.now.items ++ decoded_text lowers set text)
-          (holds.total set none)).total;
+      total = λ set none. (step set
+          (c.args.out.now.items ++ decoded_text lowers set text) (holds.total set none)).total;
     }
 
 pub push_octet_of_digits-requires-clause-room : goal.push_octet_of_digits-requires-clause-room
@@ -90,18 +79,15 @@ loop-end-preserved c =
     let at = c.octet_digits-high.ensures in
     let high = c.octet_digits-high.result.0 in
     let low = c.octet_digits-high.result.1 in
-    let either : (alone ≡ true) ⊎ (high < 56) =
-    elim c.else-high-ge56.branch [
+    let either : (alone ≡ true) ⊎ (high < 56) = elim c.else-high-ge56.branch [
       | else-high-ge56-via-then-high-ge56+else-not-alone w ↦ inl w.if-not-alone.false
       | else-high-ge56-via-else-high-ge56 w ↦ inr w.if-high-ge56.false
     ] in
-    let suffix = longer-suffix-is-ascii c.args.out.now.items out new
-    (print (lowered_if lowers
+    let suffix = longer-suffix-is-ascii c.args.out.now.items out new (print (lowered_if lowers
     (decode_octet (Octet (16 * digit_value high + digit_value low)) ∷ [])))
     (record { unchanged = holds.unchanged; ascii = holds.ascii })
-    c.push_octet_of_digits.ensures.items
-    (octet-decoded-alone-is-ascii lowers (16 * digit_value high + digit_value low)
-    (digits-are-of-byte high low at.high_digit at.low_digit)) in
+    c.push_octet_of_digits.ensures.items (octet-decoded-alone-is-ascii lowers (16 * digit_value high
+    + digit_value low) (digits-are-of-byte high low at.high_digit at.low_digit)) in
     record {
       within = omega (arith, at.within);
       boundary = at.boundary;

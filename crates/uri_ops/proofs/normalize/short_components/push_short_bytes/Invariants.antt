@@ -1,10 +1,4 @@
-use Rattle.std.proofs.Common.{◌≡◌, ◌+◌, ◌-◌, ◌≤◌, ◌++◌, length, drop, take, true, vec_capacity, vec_len}
-use Rattle.std.specs.Str.{IsAscii, IsCharBoundary}
-use Rattle.uri_pct.specs.Chunks.{widest_set}
-use Rattle.uri_pct.specs.DecodeUnreserved.{LacksPastAscii}
-use Rattle.uri_pct.specs.Sets.{TableSet}
-use Rattle.uri_pct.specs.Tokens.{IsValidFor}
-use Rattle.uri_ops.specs.Models.Decodings.{decoded_text}
+use Rattle.uri_ops.proofs.Common.{◌≡◌, ◌+◌, ◌-◌, ◌≤◌, ◌++◌, length, drop, take, true, vec_capacity, vec_len, IsAscii, IsCharBoundary, widest_set, LacksPastAscii, TableSet, IsValidFor, decoded_text}
 use Rattle.uri_ops.proofs.normalize.short_components.push_short_bytes.Given as goal
 
 abbrev pub invariant-loop-end : goal.invariant-loop-end
@@ -15,9 +9,8 @@ invariant-loop-end l = record {
   unchanged : take (length l.fn.out.items) l.out.items ≡ l.fn.out.items;
   ascii : IsAscii (drop (length l.fn.out.items) l.out.items);
   room : vec_len l.out + (length l.text - l.end) ≤ vec_capacity l.out;
-  total : (set : TableSet) → (l.alone ≡ true → LacksPastAscii set)
-      → l.out.items ++ decoded_text l.lowers set (drop l.end l.text)
-      ≡ l.fn.out.items ++ decoded_text l.lowers set l.text;
+  total : (set : TableSet) → (l.alone ≡ true → LacksPastAscii set) → l.out.items ++ decoded_text
+      l.lowers set (drop l.end l.text) ≡ l.fn.out.items ++ decoded_text l.lowers set l.text;
 }
 
 abbrev pub decreases-loop-end : goal.decreases-loop-end

@@ -1,19 +1,4 @@
-use Rattle.std.proofs.Common.{◌≡◌, ℕ, zero, suc, ◌+◌, ◌-◌, ◌*◌, ◌/◌, ◌%◌, ◌<◌, ◌≤◌, Bool, true, false, not, ◌||◌, ◌==◌, List, [], ◌∷◌, ◌++◌, length, take, drop, replicate, flat_map, refl, sym, ap, subst, ◌∙◌, arith, inl, inr, append_assoc, length-append, add-one, le-leb, lt-ltb, ne_eqb}
-use Rattle.std.specs.Prelude.{codes, decimal, bytes_eq, ⊤, Option, Some, None}
-use Rattle.std.specs.Char.{digit_value, digit_char, to_ascii_lowercase}
-use Rattle.std.specs.Str.{str_to_ascii_lowercase}
-use Rattle.std.specs.Net.Grammar.{IsDotted, IsGroup, IsGroupsAfter, IsGroups, IsColonHex, IsElided}
-use Rattle.std.specs.Net.Text.{hex, groups_text, zero_run, longest_zero_run, compressed_text, hex_groups_text, ipv6_text}
-use Rattle.std.proofs.lemmas.Bool.{and_parts, and_from, cond-true, cond-false, leb-true, lt-leb, true≢false}
-use Rattle.std.proofs.lemmas.Bool.Decides.{nat_tests}
-use Rattle.std.proofs.lemmas.List.{drop_all, drop_at, length-replicate, take_at}
-use Rattle.std.proofs.lemmas.Slice.Eq.{bytes_eq-Decides}
-use Rattle.uri_pct.specs.Sets.{TableSet}
-use Rattle.uri_parts.specs.Components.{starts}
-use Rattle.uri_parts.specs.Hosts.{bracketed, host_kind, ipv6_value, is_host, literal_kind, literal_of}
-use Rattle.uri_parts.proofs.HostForms.Addresses.{ipv6_value-sound}
-use Rattle.uri_ops.specs.Meaning.{host_meaning}
-use Rattle.uri_ops.specs.Normal.{host_text}
+use Rattle.uri_ops.proofs.Common.{◌≡◌, ℕ, zero, suc, ◌+◌, ◌-◌, ◌*◌, ◌/◌, ◌%◌, ◌<◌, ◌≤◌, Bool, true, false, not, ◌||◌, ◌==◌, List, [], ◌∷◌, ◌++◌, length, take, drop, replicate, flat_map, refl, sym, ap, subst, ◌∙◌, arith, inl, inr, append_assoc, length-append, add-one, le-leb, lt-ltb, ne_eqb, codes, decimal, bytes_eq, ⊤, Option, Some, None, digit_value, digit_char, to_ascii_lowercase, str_to_ascii_lowercase, IsDotted, IsGroup, IsGroupsAfter, IsGroups, IsColonHex, IsElided, hex, groups_text, zero_run, longest_zero_run, compressed_text, hex_groups_text, ipv6_text, and_parts, and_from, cond-true, cond-false, leb-true, lt-leb, true≢false, nat_tests, drop_all, drop_at, length-replicate, take_at, bytes_eq-Decides, TableSet, starts, bracketed, host_kind, ipv6_value, is_host, literal_kind, literal_of, ipv6_value-sound, host_meaning, host_text}
 use Rattle.uri_ops.proofs.normalize.unchanged.is_address_unchanged.Invariants.{unusual, usual, colons_of}
 use Rattle.uri_ops.proofs.normalize.unchanged.is_address_unchanged.Goals as goal
 
@@ -61,9 +46,8 @@ hex-of-three : (s : ℕ) → 0x100 ≤ s → s < 0x1000
 unfolding hex
 hex-of-three s k h = rw (lt-leb 0x1000 s h, le-leb 0x100 s k) refl
 
-hex-of-four : (s : ℕ) → 0x1000 ≤ s
-    → hex s ≡ digit_char (s / 0x1000) ∷ digit_char (s / 0x100 % 16) ∷ digit_char (s / 0x10 % 16)
-    ∷ digit_char (s % 16) ∷ []
+hex-of-four : (s : ℕ) → 0x1000 ≤ s → hex s ≡ digit_char (s
+    / 0x1000) ∷ digit_char (s / 0x100 % 16) ∷ digit_char (s / 0x10 % 16) ∷ digit_char (s % 16) ∷ []
 unfolding hex
 hex-of-four s k = rw (le-leb 0x1000 s k) refl
 
@@ -140,8 +124,7 @@ usual-group-is-hex p (a ∷ b ∷ c ∷ d ∷ []) s begins e h =
       hex-of-four s (omega (arith, value, va)) ∙ (λ i. da i ∷ db i ∷ dc i ∷ dd i ∷ []),
       omega (arith, value, va),
     )
-usual-group-is-hex p (a ∷ b ∷ c ∷ d ∷ x ∷ group) s begins e h =
-    absurd (omega (arith, h.1))
+usual-group-is-hex p (a ∷ b ∷ c ∷ d ∷ x ∷ group) s begins e h = absurd (omega (arith, h.1))
 
 -- normal addresses: a usual text has no `.`
 usual-text-has-no-dot : (p : ℕ) (xs ys : List ℕ) → usual p (xs ++ codes "." ++ ys) ≡ true → ⊥
@@ -170,9 +153,8 @@ record AreNormalAfter (text segments : List ℕ) : Type 0 where
   positive : AllPositive segments
   count : length segments ≤ colons_of text
 
-usual-later-groups-are-normal : (ipv4 : Bool) (p : ℕ) (text segments : List ℕ)
-    → usual p text ≡ true → IsGroupsAfter ipv4 (codes ":") text segments
-    → AreNormalAfter text segments
+usual-later-groups-are-normal : (ipv4 : Bool) (p : ℕ) (text segments : List ℕ) → usual p text ≡ true
+    → IsGroupsAfter ipv4 (codes ":") text segments → AreNormalAfter text segments
 usual-later-groups-are-normal ipv4 p text [] u h = record {
   same = h;
   positive = tt;
@@ -188,10 +170,9 @@ usual-later-groups-are-normal ipv4 p text (s ∷ segments) u (inl (group, rest, 
       positive = (own.1, later.positive);
       count = omega (arith, ap colons_of e, colons_of-append group rest, later.count);
     }
-usual-later-groups-are-normal ipv4 p text (s ∷ segments) u
-    (inr (last, octets, allowed, e, dotted, same)) =
-    absurd (usual-text-is-not-dotted p (codes ":") last octets
-    (subst (λ t. usual p t ≡ true) e u) dotted)
+usual-later-groups-are-normal ipv4 p text
+    (s ∷ segments) u (inr (last, octets, allowed, e, dotted, same)) = absurd
+    (usual-text-is-not-dotted p (codes ":") last octets (subst (λ t. usual p t ≡ true) e u) dotted)
 
 -- normal addresses: groups with `:` between them are written as in a normal form
 record AreNormalGroups (text segments : List ℕ) : Type 0 where
@@ -199,9 +180,8 @@ record AreNormalGroups (text segments : List ℕ) : Type 0 where
   positive : AllPositive segments
   count : length segments ≤ colons_of text + 1
 
-usual-groups-are-normal : (ipv4 : Bool) (p : ℕ) (text segments : List ℕ)
-    → (p == 58 || p == 91) ≡ true → usual p text ≡ true → IsGroups ipv4 text segments
-    → AreNormalGroups text segments
+usual-groups-are-normal : (ipv4 : Bool) (p : ℕ) (text segments : List ℕ) → (p == 58 || p == 91)
+    ≡ true → usual p text ≡ true → IsGroups ipv4 text segments → AreNormalGroups text segments
 usual-groups-are-normal ipv4 p text [] begins u h = record {
   same = h;
   positive = tt;
@@ -265,8 +245,7 @@ zeros-are-longest_zero_run (s ∷ head) n tail h t k =
 -- normal addresses: with `::` for two zeros or more, after a number above 0, an address is printed
 -- so
 elided-text-is-printed : (s : ℕ) (head tail : List ℕ) (n : ℕ) → AllPositive (s ∷ head)
-    → AllPositive tail → 1 < n
-    → ipv6_text ((s ∷ head) ++ replicate n 0 ++ tail)
+    → AllPositive tail → 1 < n → ipv6_text ((s ∷ head) ++ replicate n 0 ++ tail)
     ≡ groups_text (s ∷ head) ++ codes "::" ++ groups_text tail
 unfolding ipv6_text hex_groups_text
 elided-text-is-printed s head tail n h t k =
@@ -275,17 +254,13 @@ elided-text-is-printed s head tail n h t k =
     let all : List ℕ = first ++ zeros ++ tail in
     let other : bytes_eq (take 6 all) (0 ∷ 0 ∷ 0 ∷ 0 ∷ 0 ∷ 0xffff ∷ []) ≡ false =
     rw (ne_eqb s 0 (λ e. omega (arith, h.0))) refl in
-    let run : longest_zero_run all ≡ (length first, n) =
-    ap longest_zero_run (append_assoc first zeros tail)
-    ∙ zeros-are-longest_zero_run first n tail h t (omega arith) in
-    let before : take (length first) all ≡ first =
-    ap (take (length first)) (append_assoc first zeros tail)
-    ∙ take_at first (zeros ++ tail) (length first) refl in
-    let after : drop (length first + n) all ≡ tail =
-    drop_at (first ++ zeros) tail (length first + n)
-    (omega (arith, length-append first zeros, length-replicate {A = ℕ} n 0)) in
-    cond-false _ _ _ other ∙ ap (compressed_text all) run
-    ∙ cond-true _ _ _ (lt-ltb 1 n k)
+    let run : longest_zero_run all ≡ (length first, n) = ap longest_zero_run
+    (append_assoc first zeros tail) ∙ zeros-are-longest_zero_run first n tail h t (omega arith) in
+    let before : take (length first) all ≡ first = ap (take (length first))
+    (append_assoc first zeros tail) ∙ take_at first (zeros ++ tail) (length first) refl in
+    let after : drop (length first + n) all ≡ tail = drop_at (first ++ zeros) tail
+    (length first + n) (omega (arith, length-append first zeros, length-replicate {A = ℕ} n 0)) in
+    cond-false _ _ _ other ∙ ap (compressed_text all) run ∙ cond-true _ _ _ (lt-ltb 1 n k)
     ∙ (λ i. groups_text (before i) ++ codes "::" ++ groups_text (after i))
 
 -- normal addresses: normal groups on each side of `::` are printed so, as long as the text is usual
@@ -321,10 +296,9 @@ usual-elided-text-is-printed text segments u few h =
       after.count,
     ) in
     ap ipv6_text h.value
-    ∙ normal-groups-around-zeros-are-printed h.head h.tail h.head_text h.tail_text
-    (8 - length h.head - length h.tail) before.same after.same before.positive after.positive
-    (omega (arith, count)) (subst (λ t. usual 91 t ≡ true) spelled u)
-    ∙ sym spelled
+    ∙ normal-groups-around-zeros-are-printed h.head h.tail h.head_text h.tail_text (8
+    - length h.head - length h.tail) before.same after.same before.positive after.positive
+    (omega (arith, count)) (subst (λ t. usual 91 t ≡ true) spelled u) ∙ sym spelled
 
 -- normal addresses: a usual address in which six `:` are is printed as it is
 usual-text-is-printed : (text segments : List ℕ) → usual 91 text ≡ true → colons_of text ≤ 6

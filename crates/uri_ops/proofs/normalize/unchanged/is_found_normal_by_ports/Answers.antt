@@ -1,15 +1,4 @@
-use Rattle.std.proofs.Common.{◌≡◌, ◌<◌, ◌≤◌, List, ℕ, true, length, arith, ap, option_map, sym, subst, ◌∙◌}
-use Rattle.std.specs.Prelude.{IfSome, is_some}
-use Rattle.std.specs.Str.{IsUtf8}
-use Rattle.std.proofs.lemmas.Bool.{both_ways}
-use Rattle.uri_parts.specs.Authority.{authority_parts}
-use Rattle.uri_parts.specs.AuthorityTexts.{authority_text}
-use Rattle.uri_parts.specs.Components.{Components, components}
-use Rattle.uri_parts.specs.CoreTexts.{core_text}
-use Rattle.uri_parts.specs.Positions.{positions_of}
-use Rattle.uri_ops.specs.Models.Unchanged.{AreUnchanged, HasUnchangedOctets, IsUnchangedPort, IsUnchangedPrefix, is_unchanged_at}
-use Rattle.uri_ops.specs.Normal.{default_port_of}
-use Rattle.uri_ops.specs.Normalizers.{text_underflows}
+use Rattle.uri_ops.proofs.Common.{◌≡◌, ◌<◌, ◌≤◌, List, ℕ, true, length, arith, ap, option_map, sym, subst, ◌∙◌, IfSome, is_some, IsUtf8, both_ways, authority_parts, authority_text, Components, components, core_text, positions_of, AreUnchanged, HasUnchangedOctets, IsUnchangedPort, IsUnchangedPrefix, is_unchanged_at, default_port_of, text_underflows}
 use Rattle.uri_ops.proofs.Normal.UnchangedPaths.{path-of-unchanged-text-is-unchanged, text-has-unchanged-octets}
 use Rattle.uri_ops.proofs.Normal.UnchangedTexts.{unchanged-text-is-its-normal-text}
 use Rattle.uri_ops.proofs.TextKinds.FourKinds.{one-of-four-kinds-has-sets}
@@ -53,16 +42,12 @@ returns-then-is_unchanged_from-clause-text g c = λ e.
     let both = unchanged g c c.if-is_unchanged_from.true in
     let port : IfSome (components text).authority (λ a. IsUnchangedPort
     (default_port_of ports (components text).scheme) (authority_parts a).port) =
-    subst (λ o. IfSome o (λ a. IsUnchangedPort
-    (default_port_of ports (components text).scheme) (authority_parts a).port))
-    c.authority.ensures
-    (subst (λ s. IfSome (option_map authority_text c.authority.result)
-    (λ a. IsUnchangedPort (default_port_of ports s) (authority_parts a).port))
-    c.scheme.ensures (c.is_port_unchanged.ensures e)) in
-    unchanged-text-is-its-normal-text kind
-    (one-of-four-kinds-has-sets kind g.met.K.Kind.known) c.lacks_past_ascii.result
-    c.lacks_past_ascii.ensures ports text
-    (record {
+    subst (λ o. IfSome o (λ a. IsUnchangedPort (default_port_of ports (components text).scheme)
+    (authority_parts a).port)) c.authority.ensures (subst (λ s. IfSome
+    (option_map authority_text c.authority.result) (λ a. IsUnchangedPort (default_port_of ports s)
+    (authority_parts a).port)) c.scheme.ensures (c.is_port_unchanged.ensures e)) in
+    unchanged-text-is-its-normal-text kind (one-of-four-kinds-has-sets kind g.met.K.Kind.known)
+    c.lacks_past_ascii.result c.lacks_past_ascii.ensures ports text (record {
       utf8 = subst IsUtf8 c.as_str.ensures.text c.as_str.utf8;
       grammar = c.args.core.of_kind;
     }) both.0 both.1 port

@@ -1,8 +1,6 @@
-use Rattle.std.proofs.Common.{◌≡◌, true, rules, tests, sym, ap, ◌∙◌}
-use Rattle.std.specs.List.{list_all}
+use Rattle.uri_ops.proofs.Common.{◌≡◌, true, rules, tests, sym, ap, ◌∙◌, list_all, is_unchanged_host_byte}
 use Rattle.std.proofs.lemmas.Iterator.{YieldsList-from_slice}
 use Rattle.std.proofs.lemmas.Iterator.Search.{all_from_yields_List}
-use Rattle.uri_ops.specs.Models.Unchanged.{is_unchanged_host_byte}
 use Rattle.uri_ops.proofs.Normal.UnchangedPrefixes.{host_of_unchanged_bytes_is_unchanged, unchanged_bytes_are_lower}
 use Rattle.uri_ops.proofs.normalize.unchanged.is_name_unchanged.Goals as goal
 

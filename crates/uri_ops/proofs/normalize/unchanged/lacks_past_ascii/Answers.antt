@@ -1,7 +1,4 @@
-use Rattle.std.proofs.Common.{◌≡◌, Bool, true, false, sym, ap, ◌∙◌, subst, refl}
-use Rattle.std.proofs.lemmas.Bool.{both_ways, not-true, or_parts}
-use Rattle.uri_parts.specs.Grammar.{Kind, kind_by_flags}
-use Rattle.uri_ops.specs.Models.Unchanged.{KindLacksPastAscii}
+use Rattle.uri_ops.proofs.Common.{◌≡◌, Bool, true, false, sym, ap, ◌∙◌, subst, refl, both_ways, not-true, or_parts, Kind, kind_by_flags, KindLacksPastAscii}
 use Rattle.uri_ops.proofs.normalize.unchanged.lacks_past_ascii.Goals as goal
 
 -- a kind of which queries have no characters past ASCII is one of URIs

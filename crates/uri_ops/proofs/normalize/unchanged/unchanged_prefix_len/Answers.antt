@@ -1,16 +1,4 @@
-use Rattle.std.proofs.Common.{◌≡◌, ◌++◌, ◌≤◌, List, ℕ, [], true, length, take, sym, ap, ◌∙◌, subst, arith}
-use Rattle.std.specs.Prelude.{IfSome, Some, codes, slice_index}
-use Rattle.std.specs.List.{list_all}
-use Rattle.std.specs.Str.{IsUtf8}
-use Rattle.uri_parts.specs.Authority.{authority_parts, recompose_authority}
-use Rattle.uri_parts.specs.Components.{Components, components, marked}
-use Rattle.uri_parts.specs.CoreTexts.{core_text}
-use Rattle.uri_parts.specs.Grammar.{Kind, is_authority}
-use Rattle.uri_parts.specs.PackedPositions.{packed}
-use Rattle.uri_parts.specs.Positions.{positions_of}
-use Rattle.uri_parts.proofs.Authorities.Authority.{is_authority_for-sound}
-use Rattle.uri_parts.proofs.Splitting.Recompose.{recompose-components}
-use Rattle.uri_ops.specs.Models.Unchanged.{is_literal_byte, is_unchanged_host_byte}
+use Rattle.uri_ops.proofs.Common.{◌≡◌, ◌++◌, ◌≤◌, List, ℕ, [], true, length, take, sym, ap, ◌∙◌, subst, arith, IfSome, Some, codes, slice_index, list_all, IsUtf8, authority_parts, recompose_authority, Components, components, marked, core_text, Kind, is_authority, packed, positions_of, is_authority_for-sound, recompose-components, is_literal_byte, is_unchanged_host_byte}
 use Rattle.uri_ops.proofs.Meanings.TextParts.{ArePartsOfKind}
 use Rattle.uri_ops.proofs.Normal.NormalTexts.{text-has-parts-of-kind}
 use Rattle.uri_ops.proofs.Normal.UnchangedPrefixes.{host-ends-before-path, unchanged-prefix-has-unchanged-scheme-and-host}
@@ -26,9 +14,8 @@ returns-then-is_prefix_unchanged g c = λ some.
       grammar = c.args.core.of_kind;
     }) in
     let whole : (a : List ℕ) → p.authority ≡ Some a → recompose_authority (authority_parts a) ≡ a =
-    λ a found. (is_authority_for-sound kind.userinfo kind.reg_name a
-    (subst (λ o. IfSome o (λ a. IsUtf8 a × (is_authority kind a ≡ true))) found
-    parts.authority).1).whole in
+    λ a found. (is_authority_for-sound kind.userinfo kind.reg_name a (subst (λ o. IfSome o
+    (λ a. IsUtf8 a × (is_authority kind a ≡ true))) found parts.authority).1).whole in
     let host_end : ℕ = c.packed_positions-host_end.result.host_end in
     let end : host_end ≡ (packed (positions_of p)).host_end =
     ap (λ q. q.host_end) c.packed_positions-host_end.ensures in
@@ -40,8 +27,7 @@ returns-then-is_prefix_unchanged g c = λ some.
     let both = unchanged-prefix-has-unchanged-scheme-and-host p.scheme p.authority rest whole
     (omega (arith, end, some))
     (ap (λ t. list_all is_unchanged_host_byte (take (packed (positions_of p)).host_end t))
-    (recompose-components text)
-    ∙ ap (λ n. list_all is_unchanged_host_byte (take n text)) (sym end)
+    (recompose-components text) ∙ ap (λ n. list_all is_unchanged_host_byte (take n text)) (sym end)
     ∙ ap (λ t. list_all is_unchanged_host_byte (take host_end t)) (sym bytes)
     ∙ found.unchanged passed) in
     let before = host-ends-before-path p whole in

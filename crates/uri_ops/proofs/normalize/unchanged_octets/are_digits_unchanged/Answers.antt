@@ -1,8 +1,6 @@
-use Rattle.std.proofs.Common.{◌≡◌, ℕ, ◌<◌, ◌||◌, Bool, true, false, not, cond, eqb, bit_and, get_or, refl, sym, ap, ◌∙◌, ⊎_elim, arith}
+use Rattle.uri_ops.proofs.Common.{◌≡◌, ℕ, ◌<◌, ◌||◌, Bool, true, false, not, cond, eqb, bit_and, get_or, refl, sym, ap, ◌∙◌, ⊎_elim, arith, agree_below, agree_below_at, cases_Bool, cond-false, cond-true, eqb-true, is_unchanged_octet}
 use Rattle.std.specs.Int.Bits.{and_zero_l}
-use Rattle.std.proofs.lemmas.Bool.{agree_below, agree_below_at, cases_Bool, cond-false, cond-true, eqb-true}
 use Rattle.uri_ops.specs.declared.normalize.unchanged_octets.TheConstants.{FIRST_DIGITS, SECOND_DIGITS}
-use Rattle.uri_ops.specs.Models.Unchanged.{is_unchanged_octet}
 use Rattle.uri_ops.proofs.normalize.unchanged_octets.are_digits_unchanged.Goals as goal
 use Rattle.uri_ops.proofs.normalize.unchanged_octets.are_digits_unchanged.Goals.{else-alone, then-alone}
 
@@ -25,8 +23,7 @@ is_sound alone high low = not (passes alone high low) || is_unchanged_octet alon
 
 -- unchanged octets: a first digit has no class, or the test is sound with each second digit
 abbrev is_row_sound : Bool → ℕ → Bool
-is_row_sound alone high =
-    eqb (first high) 0 || agree_below (is_sound alone high) (λ _. true) 256
+is_row_sound alone high = eqb (first high) 0 || agree_below (is_sound alone high) (λ _. true) 256
 
 rows-are-sound : (alone : Bool) (high : ℕ) → high < 256 → is_row_sound alone high ≡ true
 rows-are-sound true high small = agree_below_at (is_row_sound true) (λ _. true) 256 high refl small
@@ -35,18 +32,15 @@ rows-are-sound false high small =
 
 test-is-sound : (alone : Bool) (high low : ℕ) → high < 256 → low < 256
     → is_sound alone high low ≡ true
-test-is-sound alone high low small below = ⊎_elim
-    (λ none.
+test-is-sound alone high low small below = ⊎_elim (λ none.
     let s = second low in
     let k : ℕ = cond alone 255 127 in
     let same = is_unchanged_octet alone high low in
     ap (λ n. not (not (eqb (bit_and (bit_and n s) k) 0)) || same) (eqb-true _ _ none)
-    ∙ ap (λ n. not (not (eqb (bit_and n k) 0)) || same) (and_zero_l s)
-    ∙ ap (λ n. not (not (eqb n 0)) || same) (and_zero_l k))
-    (λ some. agree_below_at (is_sound alone high) (λ _. true) 256 low
-    (ap (λ b. b || agree_below (is_sound alone high) (λ _. true) 256) (sym some)
-    ∙ rows-are-sound alone high small) below)
-    (cases_Bool (eqb (first high) 0))
+    ∙ ap (λ n. not (not (eqb (bit_and n k) 0)) || same) (and_zero_l s) ∙ ap
+    (λ n. not (not (eqb n 0)) || same) (and_zero_l k)) (λ some. agree_below_at (is_sound alone high)
+    (λ _. true) 256 low (ap (λ b. b || agree_below (is_sound alone high) (λ _. true) 256) (sym some)
+    ∙ rows-are-sound alone high small) below) (cases_Bool (eqb (first high) 0))
 
 digits-that-pass-are-unchanged : (alone : Bool) (high low : ℕ) → high < 256 → low < 256
     → passes alone high low ≡ true → is_unchanged_octet alone high low ≡ true

@@ -1,6 +1,4 @@
-use Rattle.std.proofs.Common.{◌≡◌, ◌∙◌, ◌<◌, ◌≤◌, Bool, true, ℕ, List, length, ap, sym, arith, ⊎_elim}
-use Rattle.std.proofs.lemmas.Bool.{cases_lt}
-use Rattle.uri_ops.specs.Models.Unchanged.{is_unchanged_at}
+use Rattle.uri_ops.proofs.Common.{◌≡◌, ◌∙◌, ◌<◌, ◌≤◌, Bool, true, ℕ, List, length, ap, sym, arith, ⊎_elim, cases_lt, is_unchanged_at}
 use Rattle.uri_ops.proofs.Normal.UnchangedBytes.{dot-that-begins-no-segment-is-unchanged, literal-index-is-unchanged}
 use Rattle.uri_ops.proofs.normalize.unchanged_octets.is_unchanged_from.Goals as goal
 use Rattle.uri_ops.proofs.normalize.unchanged_octets.is_unchanged_from.Goals.{else-bytes-end-eq46, then-bytes-end-eq46+then-is_dot_unchanged}
@@ -41,18 +39,13 @@ loop-end-preserved c =
       from = omega (arith, c.loop-end.invariant.from, run.from, more.from);
       within = more.within;
       unchanged = λ k from to. ⊎_elim
-          (λ (h : k < i). c.loop-end.invariant.unchanged k from h)
-          (λ (h : i ≤ k). ⊎_elim
+          (λ (h : k < i). c.loop-end.invariant.unchanged k from h) (λ (h : i ≤ k). ⊎_elim
           (λ (before : k < end). literal-index-is-unchanged alone limit bs k (run.pass k h before))
-          (λ (after : end ≤ k). more.unchanged k after to)
-          (cases_lt k end))
-          (cases_lt k i);
+          (λ (after : end ≤ k). more.unchanged k after to) (cases_lt k end)) (cases_lt k i);
     }
 
 pub returns : goal.returns
-returns c = λ e k from to. ⊎_elim
-    (λ (h : k < c.loop-end.i). c.loop-end.invariant.unchanged k from h)
+returns c =
+    λ e k from to. ⊎_elim (λ (h : k < c.loop-end.i). c.loop-end.invariant.unchanged k from h)
     (λ (h : c.loop-end.i ≤ k). literal-index-is-unchanged c.args.alone c.args.limit c.args.bytes.now
-    k
-    (c.literal_end.ensures.none c.in_default.is k h to))
-    (cases_lt k c.loop-end.i)
+    k (c.literal_end.ensures.none c.in_default.is k h to)) (cases_lt k c.loop-end.i)

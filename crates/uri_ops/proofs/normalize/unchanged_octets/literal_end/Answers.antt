@@ -1,14 +1,10 @@
-use Rattle.std.proofs.Common.{◌≡◌, ◌+◌, ◌-◌, ◌≤◌, ◌<◌, ◌^◌, not, true, List, ℕ, length, arith, w64}
-use Rattle.std.specs.Int.{trailing_zeros}
-use Rattle.uri_pct.proofs.LaneScans.LaneBits.{is_set_bit}
-use Rattle.uri_ops.specs.Models.Unchanged.{IsLiteralRun, is_literal_at}
+use Rattle.uri_ops.proofs.Common.{◌≡◌, ◌+◌, ◌-◌, ◌≤◌, ◌<◌, ◌^◌, not, true, List, ℕ, length, arith, w64, trailing_zeros, is_set_bit, IsLiteralRun, is_literal_at}
 use Rattle.uri_ops.proofs.Normal.LiteralBlocks.{MarksIndices, first-bit-is-of-block, indices-before-first-bit-pass, indices-pass-where-mask-is-zero, shifted-mask-marks-later-indices}
 use Rattle.uri_ops.proofs.normalize.unchanged_octets.literal_end.Goals as goal
 
 -- what a block's mask says
-block : (bs : List ℕ) (i mask : ℕ) → mask < 2 ^ 16
-    → ((k : ℕ) → k < 16 → is_set_bit mask k ≡ not (is_literal_at bs (i + k)))
-    → MarksIndices (is_literal_at bs) i 16 mask
+block : (bs : List ℕ) (i mask : ℕ) → mask < 2 ^ 16 → ((k : ℕ) → k < 16 → is_set_bit mask k
+    ≡ not (is_literal_at bs (i + k))) → MarksIndices (is_literal_at bs) i 16 mask
 block bs i mask below lane = record { lane = lane; below = below }
 
 pub loop-i-preserved : goal.loop-i-preserved
@@ -30,11 +26,10 @@ returns-then-mask-eq0-clause-none c = λ _ k from to.
     let i = c.loop-i.i in
     let lanes = c.lanes_of_special_bytes-tail.ensures in
     let within = c.loop-i.invariant.within in
-    indices-pass-where-mask-is-zero _ c.args.start i _ _
-    (shifted-mask-marks-later-indices _ (length bs - 16) i _
-    (omega (arith, within, c.loop-i-test.false)) (omega (arith, within))
-    (block bs (length bs - 16) _ lanes.below lanes.lane)) c.loop-i.invariant.pass
-    c.if-mask-eq0.true k from (omega (arith, to, within))
+    indices-pass-where-mask-is-zero _ c.args.start i _ _ (shifted-mask-marks-later-indices _
+    (length bs - 16) i _ (omega (arith, within, c.loop-i-test.false))
+    (omega (arith, within)) (block bs (length bs - 16) _ lanes.below lanes.lane))
+    c.loop-i.invariant.pass c.if-mask-eq0.true k from (omega (arith, to, within))
 
 module _ (bs : List ℕ) (start i w mask : ℕ) (m : MarksIndices (is_literal_at bs) i w mask)
     (pass : (k : ℕ) → start ≤ k → k < i → is_literal_at bs k ≡ true) (from : start ≤ i)
@@ -71,7 +66,6 @@ returns-clause-some c =
     let w : ℕ = length bs - 16 + 16 - i in
     let room : i + w ≤ length bs = omega (arith, within) in
     let small : w ≤ 16 = omega (arith, within, later) in
-    run-ends-at-first-bit bs c.args.start i w _
-    (shifted-mask-marks-later-indices _ (length bs - 16) i _ later near
-    (block bs (length bs - 16) _ lanes.below lanes.lane))
+    run-ends-at-first-bit bs c.args.start i w _ (shifted-mask-marks-later-indices _
+    (length bs - 16) i _ later near (block bs (length bs - 16) _ lanes.below lanes.lane))
     c.loop-i.invariant.pass c.loop-i.invariant.from room (omega (arith, c.if-mask-eq0.false)) small

@@ -1,5 +1,4 @@
-use Rattle.std.proofs.Common.{length, ◌-◌, ◌≡◌, ◌≤◌, ◌<◌, ℕ, true}
-use Rattle.uri_ops.specs.Models.Unchanged.{is_literal_at}
+use Rattle.uri_ops.proofs.Common.{length, ◌-◌, ◌≡◌, ◌≤◌, ◌<◌, ℕ, true, is_literal_at}
 use Rattle.uri_ops.proofs.normalize.unchanged_octets.literal_end.Given as goal
 
 abbrev pub invariant-loop-i : goal.invariant-loop-i

@@ -1,5 +1,4 @@
-use Rattle.std.proofs.Common.{◌++◌, length}
-use Rattle.uri_ops.specs.Models.Directories.{BeginsWith, EndsIn, IsDotlessDirectory, RemovalState}
+use Rattle.uri_ops.proofs.Common.{◌++◌, length, BeginsWith, EndsIn, IsDotlessDirectory, RemovalState}
 use Rattle.uri_ops.proofs.path.dot_segments.follow_leading_dots.Given as goal
 use denote.Shadow.{shadow}
 use denote.Text.{Utf8}

@@ -1,11 +1,4 @@
-use Rattle.std.proofs.Common.{not, ◌≡◌, ◌<◌, ◌+◌, ◌++◌, length, take, drop, false, arith, refl, sym, ap, subst, ◌∙◌}
-use Rattle.std.specs.Str.{IsCharBoundary}
-use Rattle.std.proofs.lemmas.List.{drop-drop}
-use Rattle.std.proofs.lemmas.Str.{IsCharBoundary-from_rest}
-use Rattle.uri_pct.proofs.Unicode.Pieces.{take_then_take_is_take_of_sum}
-use Rattle.uri_ops.specs.Dots.{is_double_dot, is_single_dot}
-use Rattle.uri_ops.specs.Models.Directories.{RemovalState}
-use Rattle.uri_ops.specs.Models.LeadingSegments.{DescribesLeadingDots}
+use Rattle.uri_ops.proofs.Common.{not, ◌≡◌, ◌<◌, ◌+◌, ◌++◌, length, take, drop, false, arith, refl, sym, ap, subst, ◌∙◌, IsCharBoundary, drop-drop, IsCharBoundary-from_rest, take_then_take_is_take_of_sum, is_double_dot, is_single_dot, RemovalState, DescribesLeadingDots}
 use Rattle.uri_ops.proofs.Paths.DotStarts.{path-without-leading-dot-begins-with-none}
 use Rattle.uri_ops.proofs.Paths.FoundDotSegments.{dot-segment-before-rest-is-in-path, double-dot-is-dot-segment, single-dot-is-dot-segment}
 use Rattle.uri_ops.proofs.Paths.LeftPaths.{removal-state-of-equals, removal-passes-dotless-prefix}
@@ -28,9 +21,8 @@ dotless_prefix_len-dotless-requires-clause-some c =
 
 pub dotless_prefix_len-dotless-requires-clause-first
     : goal.dotless_prefix_len-dotless-requires-clause-first
-dotless_prefix_len-dotless-requires-clause-first c =
-    path-without-leading-dot-begins-with-none c.args.path.now
-    (absolute-path-begins-with-no-dot c.args.path.now c.requires).0
+dotless_prefix_len-dotless-requires-clause-first c = path-without-leading-dot-begins-with-none
+    c.args.path.now (absolute-path-begins-with-no-dot c.args.path.now c.requires).0
 
 pub loop-done-preserved : goal.loop-done-preserved
 loop-done-preserved c =
@@ -44,9 +36,8 @@ loop-done-preserved c =
     let holds : RemovalState path (take done path) rest false
     = subst (λ r. RemovalState path (take done path) r false) (sym is) c.loop-done.invariant.left in
     let prefix = c.dotless_prefix_len-done.ensures.dotless in
-    let taken : take (done + next) path ≡ take done path ++ take next rest
-    = sym (ap (λ r. take done path ++ take next r) is
-    ∙ take_then_take_is_take_of_sum done next path) in
+    let taken : take (done + next) path ≡ take done path ++ take next rest = sym
+    (ap (λ r. take done path ++ take next r) is ∙ take_then_take_is_take_of_sum done next path) in
     let left : drop (done + next) path ≡ drop next rest
     = sym (ap (drop next) is ∙ drop-drop next done path) in
     let place : IsCharBoundary (drop done path) next
@@ -62,18 +53,16 @@ pub returns-in-SingleDot : goal.returns-in-SingleDot
 returns-in-SingleDot c =
     let path = c.args.path.now in
     let rest = c.range_from-rest.result.now in
-    sym (ap not (dot-segment-before-rest-is-in-path is_single_dot single-dot-is-dot-segment path
-    rest c.loop-done.done _ c.range_from-rest.ensures.value
-    (omega (arith, c.range_from-rest.ensures.len, c.loop-done-test.true))
-    c.loop-done.invariant.left
+    sym (ap not (dot-segment-before-rest-is-in-path is_single_dot
+    single-dot-is-dot-segment path rest c.loop-done.done _ c.range_from-rest.ensures.value
+    (omega (arith, c.range_from-rest.ensures.len, c.loop-done-test.true)) c.loop-done.invariant.left
     (subst (DescribesLeadingDots rest) c.in-SingleDot.is c.leading_dot_segment.ensures.leading)))
 
 pub returns-in-DoubleDot : goal.returns-in-DoubleDot
 returns-in-DoubleDot c =
     let path = c.args.path.now in
     let rest = c.range_from-rest.result.now in
-    sym (ap not (dot-segment-before-rest-is-in-path is_double_dot double-dot-is-dot-segment path
-    rest c.loop-done.done _ c.range_from-rest.ensures.value
-    (omega (arith, c.range_from-rest.ensures.len, c.loop-done-test.true))
-    c.loop-done.invariant.left
+    sym (ap not (dot-segment-before-rest-is-in-path is_double_dot
+    double-dot-is-dot-segment path rest c.loop-done.done _ c.range_from-rest.ensures.value
+    (omega (arith, c.range_from-rest.ensures.len, c.loop-done-test.true)) c.loop-done.invariant.left
     (subst (DescribesLeadingDots rest) c.in-DoubleDot.is c.leading_dot_segment.ensures.leading)))

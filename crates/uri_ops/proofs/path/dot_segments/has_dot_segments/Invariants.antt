@@ -1,6 +1,4 @@
-use Rattle.std.proofs.Common.{◌-◌, length, take, drop, false}
-use Rattle.std.specs.Str.{IsCharBoundary}
-use Rattle.uri_ops.specs.Models.Directories.{RemovalState}
+use Rattle.uri_ops.proofs.Common.{◌-◌, length, take, drop, false, IsCharBoundary, RemovalState}
 use Rattle.uri_ops.proofs.path.dot_segments.has_dot_segments.Given as goal
 
 abbrev pub invariant-loop-done : goal.invariant-loop-done

@@ -1,6 +1,4 @@
-use Rattle.std.proofs.Common.{◌≡◌, ◌≤◌, ◌<◌, ◌+◌, ◌-◌, ◌^◌, drop, inr, length, ap, subst, sym, ◌∙◌, arith}
-use Rattle.uri_pct.proofs.LaneScans.LaneBits.{equality_mask_is_below_2_16}
-use Rattle.uri_ops.specs.Dots.{has_slash}
+use Rattle.uri_ops.proofs.Common.{◌≡◌, ◌≤◌, ◌<◌, ◌+◌, ◌-◌, ◌^◌, drop, inr, length, ap, subst, sym, ◌∙◌, arith, equality_mask_is_below_2_16, has_slash}
 use Rattle.uri_ops.proofs.Paths.LastSlashes.{prefix-to-last-slash}
 use Rattle.uri_ops.proofs.Paths.SlashBlocks.{last-lane-of-block-is-last-slash, zero-mask-block-extends-slashless-suffix}
 use Rattle.uri_ops.proofs.path.dot_segments.last_slash.Goals as goal
@@ -25,8 +23,7 @@ returns-then-mask-ne0 c =
     c.last_lane.ensures.above
     (ap (λ n. has_slash (drop n bytes)) all ∙ c.loop-left.invariant.none) in
     let from : c.args.start ≤ block + lane = omega (arith, c.loop-left-test.true) in
-    let within : block + lane < length bytes =
-    omega (arith, room, c.last_lane.ensures.within) in
+    let within : block + lane < length bytes = omega (arith, room, c.last_lane.ensures.within) in
     record {
       prefix = prefix-to-last-slash bytes c.args.start (block + lane) from within found.0 found.1;
       last = found.1;

@@ -1,5 +1,4 @@
-use Rattle.std.proofs.Common.{◌-◌, ◌≡◌, ◌≤◌, false, length, drop}
-use Rattle.uri_ops.specs.Dots.{has_slash}
+use Rattle.uri_ops.proofs.Common.{◌-◌, ◌≡◌, ◌≤◌, false, length, drop, has_slash}
 use Rattle.uri_ops.proofs.path.dot_segments.last_slash.Given as goal
 
 abbrev pub invariant-loop-left : goal.invariant-loop-left

@@ -1,5 +1,4 @@
-use Rattle.std.proofs.Common.{◌≡◌, ◌+◌, ◌-◌, length, take, ap, ◌∙◌, arith}
-use Rattle.std.proofs.lemmas.Str.{IsCharBoundary-after_ascii}
+use Rattle.uri_ops.proofs.Common.{◌≡◌, ◌+◌, ◌-◌, length, take, ap, ◌∙◌, arith, IsCharBoundary-after_ascii}
 use Rattle.uri_ops.proofs.Paths.ClimbedDirectories.{first-bytes-are-prefix}
 use Rattle.uri_ops.proofs.Paths.LastSlashes.{popped-directory-is-parent, slash-before-popped-segment}
 use Rattle.uri_ops.proofs.Paths.LeftPaths.{slice-from-zero-is-prefix}
@@ -11,9 +10,8 @@ range-requires-clause-end_boundary c =
     let all = take (length text - 1) c.as_bytes.result.now in
     let all_is : all ≡ take (length text - 1) text =
     ap (take (length text - 1)) c.as_bytes.ensures.value in
-    let slash = slash-before-popped-segment text 0 c.requires all all_is
-    c.last_slash-slash.result
-    c.last_slash-slash.ensures.place in
+    let slash = slash-before-popped-segment
+    text 0 c.requires all all_is c.last_slash-slash.result c.last_slash-slash.ensures.place in
     IsCharBoundary-after_ascii text c.last_slash-slash.result c.utf8.directory slash.0
     (omega (arith, slash.1))
 
@@ -29,8 +27,6 @@ returns-clause-parent c =
     let all = take (length text - 1) c.as_bytes.result.now in
     let all_is : all ≡ take (length text - 1) text =
     ap (take (length text - 1)) c.as_bytes.ensures.value in
-    slice-from-zero-is-prefix text c.range.result.now (c.last_slash-slash.result + 1)
-    c.range.ensures.value
-    ∙ popped-directory-is-parent text 0 c.requires all all_is c.last_slash-slash.result
-    c.last_slash-slash.ensures.place
-    c.last_slash-slash.ensures.prefix
+    slice-from-zero-is-prefix text c.range.result.now (c.last_slash-slash.result
+    + 1) c.range.ensures.value ∙ popped-directory-is-parent text 0 c.requires all all_is
+    c.last_slash-slash.result c.last_slash-slash.ensures.place c.last_slash-slash.ensures.prefix

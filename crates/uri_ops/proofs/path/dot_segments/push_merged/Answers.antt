@@ -1,4 +1,4 @@
-use Rattle.std.proofs.Common.{◌≡◌, length, rules, string_bytes}
+use Rattle.uri_ops.proofs.Common.{◌≡◌, length, rules, string_bytes}
 use Rattle.uri_ops.proofs.Paths.LeftPaths.{slice-from-zero-is-prefix}
 use Rattle.uri_ops.proofs.Paths.PushedPaths.{pushed-base-directory-is-dotless-directory, prefix-loses-dots-as-directory, prefix-underflows-as-directory, pushed-merged-path-loses-its-dots, base-or-rest-underflows-as-merged-path}
 use Rattle.uri_ops.proofs.Paths.Piecewise.{identity-keeps-slashes-and-dots}
@@ -15,11 +15,9 @@ push_segments-requires-clause-directory c =
     c.args.base.now c.path_or_slash-base.result.now c.path_or_slash-base.ensures.absolute
     c.path_or_slash-base.ensures.directory c.range-directory.result.now
     (prefix-loses-dots-as-directory c.path_or_slash-base.result.now c.range-directory.result.now
-    c.directory_end.result
-    (slice-from-zero-is-prefix c.path_or_slash-base.result.now c.range-directory.result.now
-    c.directory_end.result
-    c.range-directory.ensures.value) c.directory_end.ensures.text)
-    c.in_ok-of_base.ensures.text
+    c.directory_end.result (slice-from-zero-is-prefix c.path_or_slash-base.result.now
+    c.range-directory.result.now c.directory_end.result c.range-directory.ensures.value)
+    c.directory_end.ensures.text) c.in_ok-of_base.ensures.text
 
 pub returns : goal.returns
 returns c =
@@ -41,7 +39,6 @@ returns c =
           c.len-start.result at new c.args.base.now base c.path_or_slash-base.ensures.absolute
           c.path_or_slash-base.ensures.directory directory loses c.in_ok-of_base.ensures.text
           c.args.reference.now c.in_ok-of_base.of_base c.in_ok-of_reference.of_reference
-          c.in_ok-of_base.ensures.underflow
-          (prefix-underflows-as-directory base directory end taken
-          c.directory_end.ensures.underflow) c.in_ok-of_reference.ensures.underflow;
+          c.in_ok-of_base.ensures.underflow (prefix-underflows-as-directory base directory
+          end taken c.directory_end.ensures.underflow) c.in_ok-of_reference.ensures.underflow;
     }

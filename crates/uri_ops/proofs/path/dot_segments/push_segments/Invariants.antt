@@ -1,5 +1,4 @@
-use Rattle.std.proofs.Common.{◌≡◌, ◌++◌, length, take, drop, string_bytes, true}
-use Rattle.uri_ops.specs.Models.Directories.{RemovalState}
+use Rattle.uri_ops.proofs.Common.{◌≡◌, ◌++◌, length, take, drop, string_bytes, true, RemovalState}
 use Rattle.uri_ops.proofs.path.dot_segments.push_segments.Given as goal
 use denote.Shadow.{shadow}
 use denote.Text.{Utf8}

@@ -1,4 +1,4 @@
-use Rattle.std.proofs.Common.{◌≡◌, ◌++◌, ap, length, rules, string_bytes, ◌∙◌}
+use Rattle.uri_ops.proofs.Common.{◌≡◌, ◌++◌, ap, length, rules, string_bytes, ◌∙◌}
 use Rattle.uri_ops.proofs.Paths.DotStarts.{path-without-leading-dot-begins-with-none}
 use Rattle.uri_ops.proofs.Paths.LeftPaths.{slice-from-zero-is-prefix}
 use Rattle.uri_ops.proofs.Paths.PushedPaths.{absolute-path-begins-with-no-dot, pushed-dotless-path-prefix-is-directory, pushed-path-loses-its-dots, pushed-rest-underflows-as-path, dotless-path-is-its-own-removal}
@@ -12,9 +12,8 @@ dotless_prefix_len-dotless-requires-clause-some c =
 
 pub dotless_prefix_len-dotless-requires-clause-first
     : goal.dotless_prefix_len-dotless-requires-clause-first
-dotless_prefix_len-dotless-requires-clause-first c =
-    path-without-leading-dot-begins-with-none c.args.path.now
-    (absolute-path-begins-with-no-dot c.args.path.now c.requires).0
+dotless_prefix_len-dotless-requires-clause-first c = path-without-leading-dot-begins-with-none
+    c.args.path.now (absolute-path-begins-with-no-dot c.args.path.now c.requires).0
 
 pub returns-then-dotless-path : goal.returns-then-dotless-path
 returns-then-dotless-path c =
@@ -37,13 +36,11 @@ push_segments-requires-clause-directory c =
     let path = c.args.path.now in
     let n = c.dotless_prefix_len-dotless.result in
     pushed-dotless-path-prefix-is-directory (string_bytes c.args.out.now) c.len-start.result at
-    (string_bytes c.push_str.new.self)
-    path c.requires n c.range.result.now
+    (string_bytes c.push_str.new.self) path c.requires n c.range.result.now
     (slice-from-zero-is-prefix path c.range.result.now n c.range.ensures.value)
     c.in_ok-push_str.ensures.bytes
     c.dotless_prefix_len-dotless.ensures.some c.dotless_prefix_len-dotless.ensures.place.0
-    c.if-dotless-path.false
-    c.dotless_prefix_len-dotless.ensures.dotless.dotless
+    c.if-dotless-path.false c.dotless_prefix_len-dotless.ensures.dotless.dotless
     c.dotless_prefix_len-dotless.ensures.dotless.closed
 
 pub returns : goal.returns
@@ -54,11 +51,10 @@ returns c =
     let taken = slice-from-zero-is-prefix path c.range.result.now n c.range.ensures.value in
     let new = string_bytes c.push_str.new.self in
     record {
-      text = pushed-path-loses-its-dots (string_bytes c.args.out.now) c.len-start.result at new path
-          c.requires n c.range.result.now taken c.in_ok-push_str.ensures.bytes
-          c.range_from.result.now c.range_from.ensures.value
-          (string_bytes c.push_segments.new.out) c.in_ok-underflowed.ensures.before
-          c.in_ok-underflowed.ensures.text;
+      text = pushed-path-loses-its-dots (string_bytes c.args.out.now) c.len-start.result
+          at new path c.requires n c.range.result.now taken c.in_ok-push_str.ensures.bytes
+          c.range_from.result.now c.range_from.ensures.value (string_bytes c.push_segments.new.out)
+          c.in_ok-underflowed.ensures.before c.in_ok-underflowed.ensures.text;
       underflow = pushed-rest-underflows-as-path (string_bytes c.args.out.now) c.len-start.result at
           new path c.requires n c.range.result.now taken c.in_ok-push_str.ensures.bytes
           c.range_from.result.now c.range_from.ensures.value c.in_ok-underflowed.underflowed

@@ -1,5 +1,4 @@
-use Rattle.std.proofs.Common.{◌≡◌, ◌+◌, ◌-◌, ◌∙◌, List, ℕ, ap, arith, get_or, length, subst}
-use Rattle.uri_ops.specs.Models.LeadingSegments.{IsDotlessPrefix, IsPrefixToSlashDot, BeginsWithoutDotSegment}
+use Rattle.uri_ops.proofs.Common.{◌≡◌, ◌+◌, ◌-◌, ◌∙◌, List, ℕ, ap, arith, get_or, length, subst, IsDotlessPrefix, IsPrefixToSlashDot, BeginsWithoutDotSegment}
 use Rattle.uri_ops.proofs.Paths.DotStarts.{prefix-to-slash-dot-ends-at-boundary, prefix-to-slash-dot-is-dotless}
 use Rattle.uri_ops.proofs.path.leading_segment.dotless_prefix_len.Goals as goal
 
@@ -17,17 +16,15 @@ returns-then-bytes-gt-LANES-clause-dotless c = dotless-prefix-of-bytes c.as_byte
 pub returns-then-bytes-gt-LANES-clause-place : goal.returns-then-bytes-gt-LANES-clause-place
 returns-then-bytes-gt-LANES-clause-place c =
     let n = c.long_dotless_prefix_len.result in
-    prefix-to-slash-dot-ends-at-boundary c.args.path.now n
-    (subst (λ t. IsPrefixToSlashDot t n) c.as_bytes-bytes.ensures.value
-    c.long_dotless_prefix_len.ensures) c.utf8.path
+    prefix-to-slash-dot-ends-at-boundary c.args.path.now n (subst (λ t. IsPrefixToSlashDot t n)
+    c.as_bytes-bytes.ensures.value c.long_dotless_prefix_len.ensures) c.utf8.path
 
 pub returns-then-bytes-i-eq37-clause-dotless : goal.returns-then-bytes-i-eq37-clause-dotless
 returns-then-bytes-i-eq37-clause-dotless c =
     let bytes : List ℕ = c.as_bytes-bytes.result.now in
     let i : ℕ = c.loop-i.i in
     let place : i + 1 - 1 ≡ i = omega arith in
-    dotless-prefix-of-bytes bytes c.args.path.now (i + 1) c.as_bytes-bytes.ensures.value
-    (record {
+    dotless-prefix-of-bytes bytes c.args.path.now (i + 1) c.as_bytes-bytes.ensures.value (record {
       some = omega arith;
       within = omega (arith, c.loop-i-test.true);
       none = λ k to. c.loop-i.invariant.none k (omega (arith, to));

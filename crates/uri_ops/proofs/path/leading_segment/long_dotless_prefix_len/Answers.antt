@@ -1,4 +1,4 @@
-use Rattle.std.proofs.Common.{◌≡◌, ◌+◌, ◌-◌, ap, arith, get_or, length, ◌∙◌}
+use Rattle.uri_ops.proofs.Common.{◌≡◌, ◌+◌, ◌-◌, ap, arith, get_or, length, ◌∙◌}
 use Rattle.uri_ops.proofs.Paths.DotStarts.{window-extends-dotless-prefix}
 use Rattle.uri_ops.proofs.path.leading_segment.long_dotless_prefix_len.Goals as goal
 

@@ -1,6 +1,4 @@
-use Rattle.std.proofs.Common.{arith, sym}
-use Rattle.std.proofs.lemmas.List.{drop-drop}
-use Rattle.std.proofs.lemmas.Str.{IsCharBoundary-after_ascii}
+use Rattle.uri_ops.proofs.Common.{arith, sym, drop-drop, IsCharBoundary-after_ascii}
 use Rattle.uri_ops.proofs.Paths.LastSlashes.{byte-after-segment-is-slash}
 use Rattle.uri_ops.proofs.path.leading_segment.next_segment_start.Goals as goal
 
@@ -9,9 +7,7 @@ returns-then-end-path-clause-rest c = sym (drop-drop 1 c.args.end c.args.path.no
 
 pub returns-then-end-path-clause-place : goal.returns-then-end-path-clause-place
 returns-then-end-path-clause-place c =
-    IsCharBoundary-after_ascii c.args.path.now c.args.end c.utf8.path c.if-end-path.true
-    (omega (
+    IsCharBoundary-after_ascii c.args.path.now c.args.end c.utf8.path c.if-end-path.true (omega (
       arith,
-      byte-after-segment-is-slash c.args.path.now c.args.end c.requires.suffix
-          c.if-end-path.true,
+      byte-after-segment-is-slash c.args.path.now c.args.end c.requires.suffix c.if-end-path.true,
     ))

@@ -1,9 +1,6 @@
-use Rattle.std.proofs.Common.{◌≡◌, [], ◌∷◌, false, ◌++◌, take, drop, bytes_eq, refl, arith, ap, ◌∙◌, codes}
+use Rattle.uri_ops.proofs.Common.{◌≡◌, [], ◌∷◌, false, ◌++◌, take, drop, bytes_eq, refl, arith, ap, ◌∙◌, codes, bytes_eq-Decides, ipv4_text, ipv6_text, bracketed}
 use Rattle.std.specs.Net.Addr.{octets_of}
-use Rattle.std.proofs.lemmas.Slice.Eq.{bytes_eq-Decides}
-use Rattle.std.specs.Net.Text.{ipv4_text, ipv6_text}
 use Rattle.uri_parts.specs.Addresses.{ipv6_segments}
-use Rattle.uri_parts.specs.Hosts.{bracketed}
 use Rattle.uri_ops.proofs.read_back.address_text.ipv6_host.Goals as goal
 
 pub returns-in-Some-clause-text : goal.returns-in-Some-clause-text
@@ -14,8 +11,7 @@ returns-in-Some-clause-text c =
     let same = (bytes_eq-Decides prefix mapped).1
     (rw c.to_std.ensures at (c.in-Some.ensures.found.0 refl)) in
     let octets : c.octets.result ≡ octets_of (drop 6 (ipv6_segments c.args.address.now)) =
-    c.octets.ensures ∙ c.in-Some.ensures.value
-    ∙ ap (λ s. octets_of (drop 6 s)) c.to_std.ensures in
+    c.octets.ensures ∙ c.in-Some.ensures.value ∙ ap (λ s. octets_of (drop 6 s)) c.to_std.ensures in
     rw same (c.mapped_host.ensures.text
     ∙ ap (λ o. bracketed (codes "::ffff:" ++ ipv4_text o)) octets)
 

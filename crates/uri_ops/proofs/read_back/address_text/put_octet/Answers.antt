@@ -1,5 +1,4 @@
-use Rattle.std.proofs.Common.{arith}
-use Rattle.std.proofs.lemmas.Grind.{common_steps}
+use Rattle.uri_ops.proofs.Common.{arith, common_steps}
 use Rattle.uri_ops.proofs.FromEnd.Octets.{decimal_has_no_leading_zeros}
 use Rattle.uri_ops.proofs.read_back.address_text.put_octet.Goals as goal
 

@@ -1,5 +1,4 @@
-use Rattle.std.proofs.Common.{◌≡◌, ◌∷◌, ◌++◌, ◌+◌, ◌*◌, ◌≤◌, get_or, take}
-use Rattle.std.specs.Net.Text.{groups_text}
+use Rattle.uri_ops.proofs.Common.{◌≡◌, ◌∷◌, ◌++◌, ◌+◌, ◌*◌, ◌≤◌, get_or, take, groups_text}
 use Rattle.uri_ops.proofs.read_back.address_text.put_segments.Given as goal
 
 abbrev pub invariant-loop-segment : goal.invariant-loop-segment

@@ -1,6 +1,5 @@
 -- What was passed is ASCII, and in no octet.
-use Rattle.std.proofs.Common.{◌≤◌}
-use Rattle.uri_ops.specs.FromEnd.LastTokens.{IsAsciiSuffix}
+use Rattle.uri_ops.proofs.Common.{◌≤◌, IsAsciiSuffix}
 use Rattle.uri_ops.proofs.read_back.last_tokens.ascii_suffix_start.Given as goal
 
 abbrev pub invariant-loop-start : goal.invariant-loop-start

@@ -1,11 +1,5 @@
 -- Bytes that are UTF-8, and begin with a character that is as long as they are, are that character.
-use Rattle.std.proofs.Common.{length, sym, ap, ◌∙◌, subst, arith}
-use Rattle.std.specs.Char.{len_utf8}
-use Rattle.std.specs.Str.{IsUtf8}
-use Rattle.std.proofs.lemmas.Bool.{eqb-true, false≢true}
-use Rattle.std.proofs.lemmas.Str.{IsUtf8-encode, IsCharBoundary-start, length-encode}
-use Rattle.uri_pct.specs.DecodeUnreserved.{is_decodable}
-use Rattle.uri_pct.specs.Tables.{set_of}
+use Rattle.uri_ops.proofs.Common.{length, sym, ap, ◌∙◌, subst, arith, len_utf8, IsUtf8, eqb-true, false≢true, IsUtf8-encode, IsCharBoundary-start, length-encode, is_decodable, set_of}
 use Rattle.uri_ops.proofs.FromEnd.LastDecodables.{char_has_one_to_four_bytes, first_char_is_only_char}
 use Rattle.uri_ops.proofs.read_back.last_tokens.decodable.Goals as goal
 
@@ -28,11 +22,9 @@ returns-else-len_utf8-bytes c = λ d scalar decodable e.
     let one = first_char_is_only_char c.in-Ok.text.now _ c.char_at-ch.result d c.char_at-ch.ensures
     (c.in-Ok.ensures.cases.0 ∙ e) in
     elim c.else-len_utf8-bytes.branch [
-      | goal.else-len_utf8-bytes-via-then-len_utf8-bytes+else-allows w ↦
-          false≢true (sym w.if-allows.false ∙ w.allows.ensures
-          ∙ w.decodable.ensures c.char_at-ch.result
+      | goal.else-len_utf8-bytes-via-then-len_utf8-bytes+else-allows w ↦ false≢true
+          (sym w.if-allows.false ∙ w.allows.ensures ∙ w.decodable.ensures c.char_at-ch.result
           ∙ ap (is_decodable (set_of c.args.table.now)) one.0 ∙ decodable)
-      | goal.else-len_utf8-bytes-via-else-len_utf8-bytes w ↦
-          w.if-len_utf8-bytes.false (c.len_utf8.ensures.value ∙ ap len_utf8 one.0
-          ∙ sym (length-encode d) ∙ sym (ap length e))
+      | goal.else-len_utf8-bytes-via-else-len_utf8-bytes w ↦ w.if-len_utf8-bytes.false
+          (c.len_utf8.ensures.value ∙ ap len_utf8 one.0 ∙ sym (length-encode d) ∙ sym (ap length e))
     ]

@@ -1,8 +1,5 @@
 -- Octets are passed from the end until they are a decodable character, or there are four of them.
-use Rattle.std.proofs.Common.{drop, refl, sym, arith}
-use Rattle.std.proofs.lemmas.List.{append-nil, length-drop}
-use Rattle.uri_pct.specs.Tables.{set_of}
-use Rattle.uri_pct.specs.Tokens.{tokens}
+use Rattle.uri_ops.proofs.Common.{drop, refl, sym, arith, append-nil, length-drop, set_of, tokens}
 use Rattle.uri_ops.proofs.FromEnd.LastDecodables.{no_decodable_ends_after_no_octet, none_ends_no_bytes, no_decodable_ends_with_four_octets}
 use Rattle.uri_ops.proofs.read_back.last_tokens.split_last_decodable.Goals as goal
 

@@ -1,10 +1,7 @@
 -- The bytes from `start` on are the values of the octets that are passed, and no decodable
 -- character ends with them.
-use Rattle.std.proofs.Common.{◌≡◌, ◌≤◌, length, drop, map}
-use Rattle.std.specs.Str.{IsUtf8}
-use Rattle.uri_pct.specs.Tables.{set_of}
-use Rattle.uri_pct.specs.Tokens.{Octet}
-use Rattle.uri_ops.specs.FromEnd.LastTokens.{EndInNoDecodable, EndsIn}
+use Rattle.uri_ops.proofs.Common.{◌≡◌, ◌≤◌, length, drop, map, IsUtf8, set_of, Octet, EndInNoDecodable}
+use Rattle.uri_ops.specs.FromEnd.LastTokens.{EndsIn}
 use Rattle.uri_ops.proofs.read_back.last_tokens.split_last_decodable.Given as goal
 
 abbrev pub invariant-loop-start : goal.invariant-loop-start

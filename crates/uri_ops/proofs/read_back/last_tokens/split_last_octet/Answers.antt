@@ -1,7 +1,5 @@
 -- The third byte from the end says whether an octet ends the text.
-use Rattle.std.proofs.Common.{◌≡◌, ◌-◌, length, get_or, sym, ap, ◌∙◌, arith, take}
-use Rattle.uri_pct.specs.Chunks.{widest_set}
-use Rattle.uri_pct.specs.Tokens.{IsValidFor, is_valid_for}
+use Rattle.uri_ops.proofs.Common.{◌≡◌, ◌-◌, length, get_or, sym, ap, ◌∙◌, arith, take, widest_set, IsValidFor, is_valid_for}
 use Rattle.uri_ops.proofs.FromEnd.LastTokens.{no_octet_ends_text, percent_third_from_end_begins_last_octet, equal_text_ends_in_same_octet}
 use Rattle.uri_ops.proofs.read_back.last_tokens.split_last_octet.Goals as goal
 
@@ -12,8 +10,7 @@ returns-then-bytes-lt3 c =
 pub returns-then-bytes-start-ne37 : goal.returns-then-bytes-start-ne37
 returns-then-bytes-start-ne37 c =
     let bytes = c.as_bytes-bytes.result.now in
-    no_octet_ends_text c.args.text.now c.utf8.text c.requires
-    (λ n long percent.
+    no_octet_ends_text c.args.text.now c.utf8.text c.requires (λ n long percent.
     let same : length bytes - 3 ≡ n = omega arith in
     c.if-bytes-start-ne37.true (ap (λ m. get_or bytes m 0) same
     ∙ ap (λ t. get_or t n 0) c.as_bytes-bytes.ensures.value ∙ percent))

@@ -1,7 +1,4 @@
-use Rattle.std.proofs.Common.{[], true, ◌∙◌}
-use Rattle.uri_pct.specs.Chunks.{widest_set}
-use Rattle.uri_pct.specs.Tables.{set_of}
-use Rattle.uri_pct.proofs.ValidTexts.EStrs.{empty_text_is_valid}
+use Rattle.uri_ops.proofs.Common.{[], true, ◌∙◌, widest_set, set_of, empty_text_is_valid}
 use Rattle.uri_ops.proofs.FromEnd.NormalParts.{nothing_is_written, two_pieces}
 use Rattle.uri_ops.proofs.read_back.normal_authority.authority_back.Goals as goal
 
@@ -11,8 +8,7 @@ new-requires g c = empty_text_is_valid widest_set
 pub returns-in-None : goal.returns-in-None
 returns-in-None g c =
     let host = two_pieces _ _ _ [] [] c.join-in-None.ensures
-    (c.new.ensures ∙ nothing_is_written true (set_of c.table.result))
-    c.copied-in-None-2.ensures in
+    (c.new.ensures ∙ nothing_is_written true (set_of c.table.result)) c.copied-in-None-2.ensures in
     let port = two_pieces _ _ _ [] [] c.join-in-None-2.ensures c.copied-in-None-3.ensures
     c.copied-in-None-4.ensures in
     let nothing = two_pieces _ _ _ [] [] c.join-in-None-5.ensures c.copied-in-None.ensures

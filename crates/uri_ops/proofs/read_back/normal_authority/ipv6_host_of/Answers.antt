@@ -1,6 +1,4 @@
-use Rattle.std.proofs.Common.{sym, ap, ◌∙◌}
-use Rattle.uri_pct.specs.Delimiters.{left_bracket}
-use Rattle.uri_parts.specs.Components.{starts}
+use Rattle.uri_ops.proofs.Common.{sym, ap, ◌∙◌, left_bracket, starts}
 use Rattle.uri_ops.proofs.FromEnd.NormalParts.{name_has_no_address}
 use Rattle.uri_ops.proofs.read_back.normal_authority.ipv6_host_of.Goals as goal
 

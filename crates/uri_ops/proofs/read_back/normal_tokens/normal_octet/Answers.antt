@@ -1,6 +1,5 @@
 -- The character of an unreserved octet is held, or the octet.
-use Rattle.std.proofs.Common.{length, sym, ap, ◌∙◌, arith}
-use Rattle.std.specs.Char.{encode_utf8}
+use Rattle.uri_ops.proofs.Common.{length, sym, ap, ◌∙◌, arith, encode_utf8}
 use Rattle.uri_ops.proofs.FromEnd.LastDecodables.{char_has_one_to_four_bytes}
 use Rattle.uri_ops.proofs.Meanings.AsciiSuffixes.{reserved-octet-is-written}
 use Rattle.uri_ops.proofs.Meanings.UnreservedCodes.{unreserved-octet-prints-its-code}

@@ -1,8 +1,5 @@
 -- The last token is a character, the octets of one, or an octet, and is written last.
-use Rattle.std.proofs.Common.{◌++◌, sym, ap, ◌∙◌}
-use Rattle.uri_pct.specs.Tables.{set_of}
-use Rattle.uri_ops.specs.FromEnd.NormalComponents.{normal_component}
-use Rattle.std.proofs.lemmas.Bool.{ltb-true}
+use Rattle.uri_ops.proofs.Common.{◌++◌, sym, ap, ◌∙◌, set_of, normal_component, ltb-true}
 use Rattle.uri_ops.proofs.FromEnd.LastAscii.{last_ascii_octet_is_written_last}
 use Rattle.uri_ops.proofs.FromEnd.NormalTokens.{last_char_is_written_last, char_has_text, last_decodable_is_written_last, last_octet_is_written_last}
 use Rattle.uri_ops.proofs.read_back.normal_tokens.split_last_token.Goals as goal

@@ -1,7 +1,4 @@
-use Rattle.std.proofs.Common.{None, Some, refl, ap, subst, ◌∙◌, arith, lit<}
-use Rattle.std.specs.Str.{IsUtf8}
-use Rattle.uri_parts.proofs.TextKinds.GrammarTexts.{utf8_around_ascii_byte}
-use Rattle.uri_ops.specs.FromEnd.SegmentsLeft.{segments_left, without_last_segments}
+use Rattle.uri_ops.proofs.Common.{None, Some, refl, ap, subst, ◌∙◌, arith, lit<, IsUtf8, utf8_around_ascii_byte, segments_left, without_last_segments}
 use Rattle.uri_ops.proofs.FromEnd.SegmentsLeft.{abempty-path-by-test, abempty-path-passes-test, cut-at-last-slash, other-segment-is-left, segments_left-of-nothing, segments_left-with-segment, without_last_segments-of-nothing}
 use Rattle.uri_ops.proofs.read_back.segments_back.split_last_segment.Goals as goal
 
@@ -30,10 +27,9 @@ returns-in-None c =
     let kept = c.in-None.ensures.kept in
     record {
       left = c.loop-prefix.invariant.left
-          ∙ ap (λ n. without_last_segments n (segments_left c.loop-prefix.rest.now)) kept.0
-          ∙ ap segments_left at.whole
-          ∙ segments_left-with-segment prefix at.rooted segment at.free
-          ∙ other-segment-is-left segment (segments_left prefix) kept.1;
+          ∙ ap (λ n. without_last_segments n (segments_left c.loop-prefix.rest.now))
+          kept.0 ∙ ap segments_left at.whole ∙ segments_left-with-segment prefix
+          at.rooted segment at.free ∙ other-segment-is-left segment (segments_left prefix) kept.1;
       rooted = abempty-path-passes-test prefix at.rooted;
       lacks_slash = at.free;
       shorter = omega (arith, at.shorter);
@@ -51,9 +47,8 @@ loop-prefix-preserved c =
           (subst IsUtf8 at.whole c.loop-prefix.invariant.utf8)).0;
       rooted = at.rooted;
       fits = omega (arith, at.shorter, c.in-Some-climbs_before.ensures.small);
-      left = c.loop-prefix.invariant.left
-          ∙ ap (without_last_segments climbs) (ap segments_left at.whole
-          ∙ segments_left-with-segment prefix at.rooted segment at.free)
+      left = c.loop-prefix.invariant.left ∙ ap (without_last_segments climbs)
+          (ap segments_left at.whole ∙ segments_left-with-segment prefix at.rooted segment at.free)
           ∙ c.in-Some-climbs_before.ensures.kept (segments_left prefix);
     }
 
@@ -62,6 +57,5 @@ returns c =
     let climbs = c.loop-prefix.climbs in
     let none = cut-at-last-slash c.loop-prefix.rest.now c.loop-prefix.invariant.rooted None
     c.in_default.ensures.cases in
-    c.loop-prefix.invariant.left
-    ∙ ap (without_last_segments climbs) (ap segments_left none ∙ segments_left-of-nothing)
-    ∙ without_last_segments-of-nothing climbs
+    c.loop-prefix.invariant.left ∙ ap (without_last_segments climbs) (ap segments_left none
+    ∙ segments_left-of-nothing) ∙ without_last_segments-of-nothing climbs

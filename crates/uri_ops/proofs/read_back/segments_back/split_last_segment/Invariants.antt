@@ -1,8 +1,6 @@
-use Rattle.std.proofs.Common.{◌≡◌, ◌≤◌, ◌+◌, length}
+use Rattle.uri_ops.proofs.Common.{◌≡◌, ◌≤◌, ◌+◌, length, IsAbemptyPath, segments_left, without_last_segments}
 use denote.Text.{Utf8}
 use denote.Shadow.{shadow}
-use Rattle.uri_parts.specs.Components.{IsAbemptyPath}
-use Rattle.uri_ops.specs.FromEnd.SegmentsLeft.{segments_left, without_last_segments}
 use Rattle.uri_ops.proofs.read_back.segments_back.split_last_segment.Given as goal
 
 abbrev pub invariant-loop-prefix : goal.invariant-loop-prefix

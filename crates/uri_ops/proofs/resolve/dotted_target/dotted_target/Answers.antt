@@ -1,9 +1,4 @@
-use Rattle.std.proofs.Common.{subst, sym}
-use Rattle.uri_ops.specs.declared.resolve.target_case.TargetCase.TheVariants.{WithScheme, WithAuthority, EmptyPath, AbsolutePath, MergedPath}
-use Rattle.uri_ops.specs.Models.TargetCases.{IsCaseOf, IsDottedTarget}
-use Rattle.uri_parts.specs.Components.{IsAbemptyPath}
-use Rattle.uri_ops.specs.Resolving.{components_of}
-use Rattle.uri_ops.specs.Target.{merged, query_or}
+use Rattle.uri_ops.proofs.Common.{subst, sym, WithScheme, WithAuthority, EmptyPath, AbsolutePath, MergedPath, IsCaseOf, IsDottedTarget, IsAbemptyPath, components_of, merged, query_or}
 use Rattle.uri_ops.proofs.Targeting.JoinedPieces.{base-of-merged-path-is-rooted}
 use Rattle.uri_ops.proofs.Targeting.TargetCases.{case-gives-line}
 use Rattle.uri_ops.proofs.resolve.dotted_target.dotted_target.Goals as goal
@@ -26,8 +21,7 @@ returns-in-WithAuthority c =
     let r = components_of c.args.reference.now in
     let has = subst (IsCaseOf r) c.in-WithAuthority.is c.requires.case in
     subst (λ t. IsDottedTarget t c.with_authority.result)
-    (sym (case-gives-line WithAuthority b r has))
-    c.with_authority.ensures
+    (sym (case-gives-line WithAuthority b r has)) c.with_authority.ensures
 
 pub returns-in-EmptyPath : goal.returns-in-EmptyPath
 returns-in-EmptyPath c =
@@ -35,9 +29,8 @@ returns-in-EmptyPath c =
     let r = components_of c.args.reference.now in
     let has = subst (IsCaseOf r) c.in-EmptyPath.is c.requires.case in
     subst (λ t. IsDottedTarget t c.with_base_authority.result)
-    (sym (case-gives-line EmptyPath b r has))
-    (c.with_base_authority.ensures b.path (query_or b.query r.query) c.path.ensures
-    c.query_or_base_query-query.ensures)
+    (sym (case-gives-line EmptyPath b r has)) (c.with_base_authority.ensures b.path
+    (query_or b.query r.query) c.path.ensures c.query_or_base_query-query.ensures)
 
 pub returns-in-AbsolutePath : goal.returns-in-AbsolutePath
 returns-in-AbsolutePath c =
@@ -45,9 +38,8 @@ returns-in-AbsolutePath c =
     let r = components_of c.args.reference.now in
     let has = subst (IsCaseOf r) c.in-AbsolutePath.is c.requires.case in
     subst (λ t. IsDottedTarget t c.with_base_authority-in-AbsolutePath.result)
-    (sym (case-gives-line AbsolutePath b r has))
-    (c.with_base_authority-in-AbsolutePath.ensures r.path r.query c.path-in-AbsolutePath.ensures
-    c.query_with_delimiter-query.ensures)
+    (sym (case-gives-line AbsolutePath b r has)) (c.with_base_authority-in-AbsolutePath.ensures
+    r.path r.query c.path-in-AbsolutePath.ensures c.query_with_delimiter-query.ensures)
 
 pub with_base_authority-requires-in-MergedPath : goal.with_base_authority-requires-in-MergedPath
 with_base_authority-requires-in-MergedPath c =
@@ -62,7 +54,6 @@ returns-in-MergedPath c =
     let r = components_of c.args.reference.now in
     let has = subst (IsCaseOf r) c.in-MergedPath.is c.requires.case in
     subst (λ t. IsDottedTarget t c.with_base_authority-in-MergedPath.result)
-    (sym (case-gives-line MergedPath b r has))
-    (c.with_base_authority-in-MergedPath.ensures (merged b.path r.path) r.query
-    (λ i. merged (c.path-in-MergedPath.ensures i) (c.path-in-MergedPath-2.ensures i))
-    c.query_with_delimiter-query-in-MergedPath.ensures)
+    (sym (case-gives-line MergedPath b r has)) (c.with_base_authority-in-MergedPath.ensures
+    (merged b.path r.path) r.query (λ i. merged (c.path-in-MergedPath.ensures i)
+    (c.path-in-MergedPath-2.ensures i)) c.query_with_delimiter-query-in-MergedPath.ensures)

@@ -1,4 +1,4 @@
-use Rattle.uri_ops.specs.Resolving.{components_of}
+use Rattle.uri_ops.proofs.Common.{components_of}
 use Rattle.uri_ops.proofs.Targeting.TargetCases.{base-scheme-before-reference-authority, reference-authority-after-base-scheme}
 use Rattle.uri_ops.proofs.resolve.dotted_target.with_authority.Goals as goal
 

@@ -1,5 +1,4 @@
-use Rattle.std.proofs.Common.{rules, ◌≡◌, false, is_some}
-use Rattle.uri_ops.specs.Resolving.{components_of}
+use Rattle.uri_ops.proofs.Common.{rules, ◌≡◌, false, is_some, components_of}
 use Rattle.uri_ops.proofs.Targeting.CopiedTargets.{copied_target, copied_taken, copied_underflow}
 use Rattle.uri_ops.proofs.resolve.found_target.found_target.Goals as goal
 

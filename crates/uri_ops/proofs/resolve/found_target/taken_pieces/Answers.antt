@@ -1,10 +1,5 @@
-use Rattle.std.proofs.Common.{◌++◌, ap, subst, sym, ◌∙◌}
-use Rattle.uri_parts.specs.Components.{recompose}
-use Rattle.uri_parts.specs.PackedPositions.{packed}
-use Rattle.uri_parts.specs.Positions.{positions_of}
-use Rattle.uri_parts.proofs.Splitting.Recompose.{recompose-components}
+use Rattle.uri_ops.proofs.Common.{◌++◌, ap, subst, sym, ◌∙◌, recompose, packed, positions_of, recompose-components, components_of}
 use Rattle.uri_ops.specs.Models.FoundTargets.{IsMadeOf}
-use Rattle.uri_ops.specs.Resolving.{components_of}
 use Rattle.uri_ops.proofs.Targeting.FoundTargets.{text-of-found-target-is-target, text-of-target-has-positions}
 use Rattle.uri_ops.proofs.resolve.found_target.taken_pieces.Goals as goal
 
@@ -15,10 +10,8 @@ returns-in-Reference-clause-target c =
     let found = c.in-Ok.ensures.found in
     let made = subst (IsMadeOf c.args.allow_path_underflow b r) c.in-Reference.is found.made in
     text-of-found-target-is-target b r c.args.allow_path_underflow c.as_str.result.now found.none
-    found.taken
-    (c.as_str.ensures.text ∙ sym (recompose-components c.args.reference.now.text.now)
-    ∙ sym (ap recompose made.0))
-    (λ _. made.1)
+    found.taken (c.as_str.ensures.text ∙ sym (recompose-components c.args.reference.now.text.now)
+    ∙ sym (ap recompose made.0)) (λ _. made.1)
 
 pub returns-in-Reference-clause-at : goal.returns-in-Reference-clause-at
 returns-in-Reference-clause-at c =
@@ -27,9 +20,8 @@ returns-in-Reference-clause-at c =
     let made = subst (IsMadeOf c.args.allow_path_underflow b r) c.in-Reference.is
     c.in-Ok.ensures.found.made in
     text-of-target-has-positions c.args.base.now.text.now c.args.reference.now.text.now
-    c.as_str.result.now c.packed_positions.result c.requires
-    (c.as_str.ensures.text ∙ sym (recompose-components c.args.reference.now.text.now)
-    ∙ sym (ap recompose made.0))
+    c.as_str.result.now c.packed_positions.result c.requires (c.as_str.ensures.text
+    ∙ sym (recompose-components c.args.reference.now.text.now) ∙ sym (ap recompose made.0))
     (c.packed_positions.ensures ∙ sym (ap (λ p. packed (positions_of p)) made.0))
 
 pub returns-in-Pieces-clause-target : goal.returns-in-Pieces-clause-target
@@ -39,9 +31,8 @@ returns-in-Pieces-clause-target c =
     let pieces = c.in-Pieces.pieces in
     let found = c.in-Ok.ensures.found in
     let made = subst (IsMadeOf c.args.allow_path_underflow b r) c.in-Pieces.is found.made in
-    text-of-found-target-is-target b r c.args.allow_path_underflow
-    (pieces.prefix.now ++ pieces.suffix.now) found.none found.taken
-    made.0.text (λ a. made.0.underflow ∙ made.1 a)
+    text-of-found-target-is-target b r c.args.allow_path_underflow (pieces.prefix.now
+    ++ pieces.suffix.now) found.none found.taken made.0.text (λ a. made.0.underflow ∙ made.1 a)
 
 pub returns-in-Pieces-clause-at : goal.returns-in-Pieces-clause-at
 returns-in-Pieces-clause-at c =
@@ -51,5 +42,4 @@ returns-in-Pieces-clause-at c =
     let made = subst (IsMadeOf c.args.allow_path_underflow b r) c.in-Pieces.is
     c.in-Ok.ensures.found.made in
     text-of-target-has-positions c.args.base.now.text.now c.args.reference.now.text.now
-    (pieces.prefix.now ++ pieces.suffix.now) pieces.positions
-    c.requires made.0.text made.0.places
+    (pieces.prefix.now ++ pieces.suffix.now) pieces.positions c.requires made.0.text made.0.places

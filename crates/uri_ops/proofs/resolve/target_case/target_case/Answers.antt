@@ -1,6 +1,4 @@
-use Rattle.std.proofs.Common.{ap, sym, ◌∙◌}
-use Rattle.uri_parts.specs.Components.{starts}
-use Rattle.uri_ops.specs.Dots.{is_empty}
+use Rattle.uri_ops.proofs.Common.{ap, sym, ◌∙◌, starts, is_empty}
 use Rattle.uri_ops.proofs.Targeting.JoinedPieces.{zero-length-is-empty}
 use Rattle.uri_ops.proofs.resolve.target_case.target_case.Goals as goal
 

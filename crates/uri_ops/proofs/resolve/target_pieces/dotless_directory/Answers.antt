@@ -1,22 +1,15 @@
-use Rattle.std.proofs.Common.{rules, ◌≡◌, ◌+◌, ap, drop, false, is_some, take, true, ◌∙◌}
-use Rattle.uri_parts.proofs.Splitting.Fragments.{slice_range-from-start}
-use Rattle.uri_ops.specs.Dots.{IsAbsolute, has_slash, is_double_dot}
-use Rattle.uri_ops.specs.Models.Places.{IsSlashOrStart}
-use Rattle.uri_ops.specs.Resolving.{components_of}
+use Rattle.uri_ops.proofs.Common.{rules, ◌≡◌, ◌+◌, ap, drop, false, is_some, take, true, ◌∙◌, slice_range-from-start, IsAbsolute, has_slash, is_double_dot, IsSlashOrStart, components_of}
 use Rattle.uri_ops.proofs.Paths.LastSlashes.{position-after-slash-is-boundary}
 use Rattle.uri_ops.proofs.Targeting.TargetPieces.{prefix-with-last-slash-is-directory-of-base}
 use Rattle.uri_ops.proofs.resolve.target_pieces.dotless_directory.Goals as goal
 
 pub range_from-requires : goal.range_from-requires
-range_from-requires c = λ _. position-after-slash-is-boundary c.path-path.result.now
-    c.last_slash-slash.result
-    (search rules) (search rules) c.path-path.utf8
+range_from-requires c = λ _. position-after-slash-is-boundary
+    c.path-path.result.now c.last_slash-slash.result (search rules) (search rules) c.path-path.utf8
 
 pub range-directory-requires-clause-end_boundary : goal.range-directory-requires-clause-end_boundary
-range-directory-requires-clause-end_boundary c =
-    position-after-slash-is-boundary c.path-path.result.now c.last_slash-slash.result (search rules)
-    (search rules)
-    c.path-path.utf8
+range-directory-requires-clause-end_boundary c = position-after-slash-is-boundary
+    c.path-path.result.now c.last_slash-slash.result (search rules) (search rules) c.path-path.utf8
 
 pub returns-then-is_dotless : goal.returns-then-is_dotless
 returns-then-is_dotless c =

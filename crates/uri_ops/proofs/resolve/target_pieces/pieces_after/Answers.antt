@@ -1,6 +1,4 @@
-use Rattle.std.proofs.Common.{ap, refl, ◌∙◌}
-use Rattle.std.specs.Prelude.{length, ◌+◌}
-use Rattle.uri_ops.specs.Resolving.{components_of}
+use Rattle.uri_ops.proofs.Common.{ap, refl, ◌∙◌, length, ◌+◌, components_of}
 use Rattle.uri_ops.proofs.Targeting.TargetPieces.{joined-pieces-are-target-text, joined-pieces-have-target-positions}
 use Rattle.uri_ops.proofs.resolve.target_pieces.pieces_after.Goals as goal
 
@@ -22,6 +20,5 @@ returns c =
       places = (λ i. record (base i) {
         path_end = length prefix + length rest;
         query_end = length prefix + (length rest + length c.query_with_delimiter.result.now);
-      })
-          ∙ joined-pieces-have-target-positions b r prefix rest c.args.underflows h _ _ refl end;
+      }) ∙ joined-pieces-have-target-positions b r prefix rest c.args.underflows h _ _ refl end;
     }

@@ -1,7 +1,4 @@
-use Rattle.std.proofs.Common.{rules, ◌≡◌, [], false, is_some, subst, sym, true}
-use Rattle.uri_ops.specs.Dots.{lacks_dot_segments}
-use Rattle.uri_ops.specs.Models.TargetPieces.{HasJoinedPath}
-use Rattle.uri_ops.specs.Resolving.{components_of}
+use Rattle.uri_ops.proofs.Common.{rules, ◌≡◌, [], false, is_some, subst, sym, true, lacks_dot_segments, HasJoinedPath, components_of}
 use Rattle.uri_ops.proofs.Targeting.TargetPieces.{absolute-path-after-authority-is-joined}
 use Rattle.uri_ops.proofs.resolve.target_pieces.pieces_with_absolute_path.Goals as goal
 

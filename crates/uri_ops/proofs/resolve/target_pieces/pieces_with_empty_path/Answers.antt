@@ -1,9 +1,4 @@
-use Rattle.std.proofs.Common.{rules, ◌≡◌, [], ap, false, is_some, subst, sym, true, ◌++◌, ◌∙◌}
-use Rattle.uri_parts.specs.PackedPositions.{packed}
-use Rattle.uri_parts.proofs.Splitting.Recompose.{recompose-components}
-use Rattle.uri_ops.specs.Dots.{IsAbsolute, lacks_dot_segments}
-use Rattle.uri_ops.specs.Models.TargetPieces.{HasJoinedPath}
-use Rattle.uri_ops.specs.Resolving.{components_of}
+use Rattle.uri_ops.proofs.Common.{rules, ◌≡◌, [], ap, false, is_some, subst, sym, true, ◌++◌, ◌∙◌, packed, recompose-components, IsAbsolute, lacks_dot_segments, HasJoinedPath, components_of}
 use Rattle.uri_ops.proofs.Targeting.TargetPieces.{base-rejects-no-reference, dotless-base-path-does-not-underflow, fragment-after-base-is-target-text, fragment-after-base-keeps-positions, query-after-base-path-is-joined}
 use Rattle.uri_ops.proofs.resolve.target_pieces.pieces_with_empty_path.Goals as goal
 
@@ -39,9 +34,8 @@ returns c =
           c.requires.authority c.requires.path some absolute dotless;
       text = ap (λ t. prefix ++ t)
           (c.as_str.ensures.text ∙ sym (recompose-components c.args.reference.now.text.now))
-          ∙ fragment-after-base-is-target-text b r prefix c.requires.scheme
-          c.requires.authority c.requires.path some absolute dotless query
-          c.before_fragment.ensures;
+          ∙ fragment-after-base-is-target-text b r prefix c.requires.scheme c.requires.authority
+          c.requires.path some absolute dotless query c.before_fragment.ensures;
       places = c.packed_positions.ensures
           ∙ ap packed (fragment-after-base-keeps-positions b r prefix c.requires.scheme
           c.requires.authority c.requires.path some absolute dotless query);

@@ -1,17 +1,13 @@
-use Rattle.std.proofs.Common.{ap, subst, ◌++◌, ◌∙◌}
-use Rattle.uri_ops.specs.Models.Directories.{EndsIn, RemovalState}
-use Rattle.uri_ops.specs.Models.Places.{before_path}
-use Rattle.uri_ops.specs.Resolving.{components_of}
+use Rattle.uri_ops.proofs.Common.{ap, subst, ◌++◌, ◌∙◌, EndsIn, RemovalState, before_path, components_of}
 use Rattle.uri_ops.proofs.Paths.ClimbedDirectories.{directory-at-start-ends-at-slash, path-with-directory-at-start-is-absolute, prefix-of-prefix-is-prefix}
 use Rattle.uri_ops.proofs.Targeting.TargetPieces.{relative-path-after-directory-is-joined}
 use Rattle.uri_ops.proofs.resolve.target_pieces.pieces_with_merged_path.Goals as goal
 
 pub through_slash-prefix-requires-clause-absolute
     : goal.through_slash-prefix-requires-clause-absolute
-through_slash-prefix-requires-clause-absolute c =
-    path-with-directory-at-start-is-absolute (components_of c.args.base.now).path
-    c.in_ok-directory.directory.now c.in_ok-directory.ensures.dotless
-    c.in_ok-directory.ensures.place
+through_slash-prefix-requires-clause-absolute c = path-with-directory-at-start-is-absolute
+    (components_of c.args.base.now).path c.in_ok-directory.directory.now
+    c.in_ok-directory.ensures.dotless c.in_ok-directory.ensures.place
 
 pub through_slash-prefix-requires-clause-place : goal.through_slash-prefix-requires-clause-place
 through_slash-prefix-requires-clause-place c =
@@ -19,9 +15,8 @@ through_slash-prefix-requires-clause-place c =
     let directory = c.in_ok-directory.directory.now in
     let followed = c.follow_leading_dots-underflows in
     let kept = followed.result.0.now in
-    (directory-at-start-ends-at-slash path kept followed.ensures.kept
-    (prefix-of-prefix-is-prefix path directory kept c.in_ok-directory.ensures.place
-    followed.ensures.prefix)).1
+    (directory-at-start-ends-at-slash path kept followed.ensures.kept (prefix-of-prefix-is-prefix
+    path directory kept c.in_ok-directory.ensures.place followed.ensures.prefix)).1
 
 pub pieces_after-requires-clause-rest : goal.pieces_after-requires-clause-rest
 pieces_after-requires-clause-rest c =

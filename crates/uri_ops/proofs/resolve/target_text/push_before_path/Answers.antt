@@ -1,4 +1,4 @@
-use Rattle.std.proofs.Common.{ap, ◌++◌, ◌∙◌, string_bytes, append_assoc}
+use Rattle.uri_ops.proofs.Common.{ap, ◌++◌, ◌∙◌, string_bytes, append_assoc}
 use Rattle.uri_ops.proofs.resolve.target_text.push_before_path.Goals as goal
 
 pub returns : goal.returns

@@ -1,11 +1,5 @@
-use Rattle.std.proofs.Common.{rules, ap, subst, sym, ◌∙◌}
-use Rattle.uri_parts.specs.Components.{recompose}
-use Rattle.uri_parts.specs.PackedPositions.{packed}
-use Rattle.uri_parts.specs.Positions.{positions_of}
-use Rattle.uri_parts.proofs.Splitting.Recompose.{recompose-components}
+use Rattle.uri_ops.proofs.Common.{rules, ap, subst, sym, ◌∙◌, recompose, packed, positions_of, recompose-components, components_of, dotted_target}
 use Rattle.uri_ops.specs.Models.FoundTargets.{IsMadeOf}
-use Rattle.uri_ops.specs.Resolving.{components_of}
-use Rattle.uri_ops.specs.Target.{dotted_target}
 use Rattle.uri_ops.proofs.Targeting.FoundTargets.{text-of-found-target-is-target, text-of-target-has-positions}
 use Rattle.uri_ops.proofs.resolve.target_text.target_text.Goals as goal
 
@@ -34,8 +28,7 @@ returns-in_ok-from_str-in-Reference-clause-at c =
     ∙ sym (recompose-components c.args.reference.now.text.now) ∙ sym (ap recompose made.0))
     (c.packed_positions.ensures ∙ sym (ap (λ p. packed (positions_of p)) made.0))
 
-pub returns-in_ok-joined-in-Pieces-clause-target
-    : goal.returns-in_ok-joined-in-Pieces-clause-target
+pub returns-in_ok-joined-in-Pieces-clause-target : goal.returns-in_ok-joined-in-Pieces-clause-target
 returns-in_ok-joined-in-Pieces-clause-target c =
     let b = components_of c.args.base.now in
     let r = components_of c.args.reference.now in

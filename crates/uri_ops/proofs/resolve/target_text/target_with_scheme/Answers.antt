@@ -1,8 +1,4 @@
-use Rattle.std.proofs.Common.{ap, sym, ◌∙◌}
-use Rattle.uri_parts.specs.Components.{components}
-use Rattle.uri_parts.specs.PackedPositions.{packed}
-use Rattle.uri_parts.specs.Positions.{positions_of}
-use Rattle.uri_ops.specs.Resolving.{components_of}
+use Rattle.uri_ops.proofs.Common.{ap, sym, ◌∙◌, components, packed, positions_of, components_of}
 use Rattle.uri_ops.proofs.Targeting.TargetCases.{settled-text-has-settled-components}
 use Rattle.uri_ops.proofs.resolve.target_text.target_with_scheme.Goals as goal
 
@@ -16,7 +12,6 @@ returns-clause-text c =
 pub returns-clause-at : goal.returns-clause-at
 returns-clause-at c =
     let r = components_of c.args.reference.now in
-    c.in_ok-target.ensures.places r c.with_scheme.ensures
-    ∙ sym (ap (λ p. packed (positions_of p))
+    c.in_ok-target.ensures.places r c.with_scheme.ensures ∙ sym (ap (λ p. packed (positions_of p))
     (ap components (c.in_ok-target.ensures.text r c.with_scheme.ensures)
     ∙ settled-text-has-settled-components c.args.reference.now.text.now c.requires))

@@ -1,4 +1,4 @@
-use Rattle.std.proofs.Common.{arith}
+use Rattle.uri_parts.proofs.Common.{arith}
 use Rattle.uri_parts.proofs.Authorities.AuthorityPlaces.{host_is_at_positions}
 use Rattle.uri_parts.proofs.component.Authority.host.Goals as goal
 

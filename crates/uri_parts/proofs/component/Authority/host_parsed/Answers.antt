@@ -1,7 +1,5 @@
-use Rattle.std.proofs.Common.{◌≡◌, ◌∙◌, ap, sym, true, false, Some, None, drop, arith, codes}
+use Rattle.uri_parts.proofs.Common.{◌≡◌, ◌∙◌, ap, sym, true, false, Some, None, drop, arith, codes, starts, before_any, host_kind}
 use Rattle.uri_parts.specs.Addresses.{ipv4_octets, ipv6_segments}
-use Rattle.uri_parts.specs.Components.{starts, before_any}
-use Rattle.uri_parts.specs.Hosts.{host_kind}
 use Rattle.uri_parts.proofs.Authorities.AuthorityPlaces.{holds, reg_name_host_is_valid, kind_of_unbracketed_host, kind_of_bracketed_host}
 use Rattle.uri_parts.proofs.component.Authority.host_parsed.Goals as goal
 
@@ -12,19 +10,16 @@ pub returns-in-Some-parse-clause-kind : goal.returns-in-Some-parse-clause-kind
 returns-in-Some-parse-clause-kind g c =
     let host = c.host-host.result.now in
     let s : starts 91 host ≡ true = sym c.in-Some.ensures.begins in
-    let a : c.cut_before.result.0.now ≡ before_any (codes "]") (drop 1 host) =
-    grind arith in
+    let a : c.cut_before.result.0.now ≡ before_any (codes "]") (drop 1 host) = grind arith in
     kind_of_bracketed_host host c.cut_before.result.0.now
-    (Some (ipv6_segments c.in-Some-parse.address)) s
-    a c.in-Some-parse.ensures
+    (Some (ipv6_segments c.in-Some-parse.address)) s a c.in-Some-parse.ensures
     ∙ ap host_kind c.host-host.ensures
 
 pub returns-in-None-parse-clause-kind : goal.returns-in-None-parse-clause-kind
 returns-in-None-parse-clause-kind g c =
     let host = c.host-host.result.now in
     let s : starts 91 host ≡ true = sym c.in-Some.ensures.begins in
-    let a : c.cut_before.result.0.now ≡ before_any (codes "]") (drop 1 host) =
-    grind arith in
+    let a : c.cut_before.result.0.now ≡ before_any (codes "]") (drop 1 host) = grind arith in
     kind_of_bracketed_host host c.cut_before.result.0.now None s a c.in-None-parse.ensures
     ∙ ap host_kind c.host-host.ensures
 
@@ -32,9 +27,8 @@ pub returns-in-Some-parse-2-clause-kind : goal.returns-in-Some-parse-2-clause-ki
 returns-in-Some-parse-2-clause-kind g c =
     let host = c.host-host.result.now in
     let s : starts 91 host ≡ false = sym c.in-None.ensures.begins in
-    kind_of_unbracketed_host host (Some (ipv4_octets c.in-Some-parse-2.address)) s
-    c.in-Some-parse-2.ensures
-    ∙ ap host_kind c.host-host.ensures
+    kind_of_unbracketed_host host (Some (ipv4_octets c.in-Some-parse-2.address))
+    s c.in-Some-parse-2.ensures ∙ ap host_kind c.host-host.ensures
 
 pub returns-in-None-parse-2-clause-kind : goal.returns-in-None-parse-2-clause-kind
 returns-in-None-parse-2-clause-kind g c =

@@ -1,4 +1,4 @@
-use Rattle.std.proofs.Common.{arith}
+use Rattle.uri_parts.proofs.Common.{arith}
 use Rattle.uri_parts.proofs.Authorities.AuthorityPlaces.{empty_is_authority}
 use Rattle.uri_parts.proofs.component.Authority.new_empty.Goals as goal
 

@@ -1,4 +1,4 @@
-use Rattle.std.proofs.Common.{arith}
+use Rattle.uri_parts.proofs.Common.{arith}
 use Rattle.uri_parts.proofs.Authorities.AuthorityPlaces.{port_is_after_host, port_follows_host}
 use Rattle.uri_parts.proofs.component.Authority.port.Goals as goal
 

@@ -1,5 +1,4 @@
-use Rattle.std.proofs.Common.{ap, sym, ◌∙◌, length, eqb, Some, rules, option_map}
-use Rattle.uri_pct.specs.EncodedTexts.{text_of}
+use Rattle.uri_parts.proofs.Common.{ap, sym, ◌∙◌, length, eqb, Some, rules, option_map, text_of}
 use Rattle.uri_parts.proofs.Authorities.Ports.{port-is-parsed-as-its-number}
 use Rattle.uri_parts.proofs.component.Authority.port_to_u16.Goals as goal
 

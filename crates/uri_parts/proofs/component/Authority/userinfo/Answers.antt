@@ -1,4 +1,4 @@
-use Rattle.std.proofs.Common.{arith}
+use Rattle.uri_parts.proofs.Common.{arith}
 use Rattle.uri_parts.proofs.Authorities.AuthorityPlaces.{userinfo_is_before_host}
 use Rattle.uri_parts.proofs.component.Authority.userinfo.Goals as goal
 

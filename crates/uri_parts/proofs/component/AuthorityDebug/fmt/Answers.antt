@@ -1,11 +1,4 @@
-use Rattle.std.proofs.Common.{ap, subst, ◌∙◌, List, ℕ, Option}
-use Rattle.std.proofs.Math.Seq.{take-length}
-use Rattle.std.specs.Fmt.{DisplaysOnOk, debug_option, debug_str}
-use Rattle.uri_pct.specs.EncodedTexts.{text_of}
-use Rattle.uri_parts.specs.Authority.{authority_parts}
-use Rattle.uri_parts.specs.AuthorityTexts.{authority_text}
-use Rattle.uri_parts.specs.Hosts.{host_kind}
-use Rattle.uri_parts.specs.Printing.{debug_authority}
+use Rattle.uri_parts.proofs.Common.{ap, subst, ◌∙◌, List, ℕ, Option, take-length, DisplaysOnOk, debug_option, debug_str, text_of, authority_parts, authority_text, host_kind, debug_authority}
 use Rattle.uri_parts.proofs.PrintedComponents.{debug_option-of-map, debug_host-of-kind, debug_authority_of-equal}
 use Rattle.uri_parts.proofs.component.AuthorityDebug.fmt.Goals as goal
 
@@ -15,14 +8,11 @@ returns-then-is_plain g c =
     let host : List ℕ = (authority_parts (authority_text c.args.self.now)).host in
     record {
       writes = subst (λ (o : Option (List ℕ)). DisplaysOnOk g.W.Write.write_str_gives c.args.f.now
-          c.write.result o c.write.new.self)
-          (debug_authority_of-equal
-          (debug_option-of-map text_of debug_str c.userinfo-userinfo.result
-          ∙ ap (debug_option debug_str) c.userinfo-userinfo.ensures)
-          (ap debug_str (take-length c.host-host.result.now ∙ c.host-host.ensures))
-          (debug_host-of-kind c.host_parsed-parsed.result (host_kind host) host
-          c.host_parsed-parsed.ensures.kind c.host_parsed-parsed.ensures.name)
+          c.write.result o c.write.new.self) (debug_authority_of-equal (debug_option-of-map
+          text_of debug_str c.userinfo-userinfo.result ∙ ap (debug_option debug_str)
+          c.userinfo-userinfo.ensures) (ap debug_str (take-length c.host-host.result.now
+          ∙ c.host-host.ensures)) (debug_host-of-kind c.host_parsed-parsed.result
+          (host_kind host) host c.host_parsed-parsed.ensures.kind c.host_parsed-parsed.ensures.name)
           (debug_option-of-map text_of debug_str c.port-port.result
-          ∙ ap (debug_option debug_str) c.port-port.ensures))
-          c.write.ensures.writes;
+          ∙ ap (debug_option debug_str) c.port-port.ensures)) c.write.ensures.writes;
     }

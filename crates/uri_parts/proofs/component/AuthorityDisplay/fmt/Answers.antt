@@ -1,4 +1,4 @@
-use Rattle.std.proofs.Common.{rules}
+use Rattle.uri_parts.proofs.Common.{rules}
 use Rattle.uri_parts.proofs.component.AuthorityDisplay.fmt.Goals as goal
 
 pub returns-clause-writes : goal.returns-clause-writes

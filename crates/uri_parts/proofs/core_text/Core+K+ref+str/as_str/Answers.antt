@@ -1,4 +1,4 @@
-use Rattle.std.proofs.Common.{rules}
+use Rattle.uri_parts.proofs.Common.{rules}
 use Rattle.uri_parts.proofs.core_text.Core+K+ref+str.as_str.Goals as goal
 
 pub returns-clause-text : goal.returns-clause-text

@@ -1,4 +1,4 @@
-use Rattle.std.proofs.Common.{rules}
+use Rattle.uri_parts.proofs.Common.{rules}
 use Rattle.uri_parts.proofs.core_text.Core+K+ref+str.to_owned.Goals as goal
 
 pub new-requires-clause-of_kind : goal.new-requires-clause-of_kind

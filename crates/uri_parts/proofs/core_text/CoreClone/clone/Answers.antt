@@ -1,8 +1,6 @@
 -- A copy of a core is the core: what holds of its fields has one proof.
-use Rattle.std.proofs.Common.{ℕ, List, ap}
+use Rattle.uri_parts.proofs.Common.{ℕ, List, ap, Kind, IsOfKind, ArePackedPositionsOf}
 use Rattle.std.proofs.Props.{props}
-use Rattle.uri_parts.specs.Grammar.{Kind, IsOfKind}
-use Rattle.uri_parts.specs.PackedPositions.{ArePackedPositionsOf}
 use Rattle.uri_parts.specs.declared.packed_positions.PackedPositions.{PackedPositions}
 use Rattle.uri_parts.proofs.core_text.CoreClone.clone.Goals as goal
 
@@ -22,6 +20,5 @@ returns g c =
         kind = record {};
         of_kind = h.0;
         at = h.1;
-      }) (held_once g.K.Kind.kind text packed (_, _)
-          (c.args.self.now.of_kind, c.args.self.now.at));
+      }) (held_once g.K.Kind.kind text packed (_, _) (c.args.self.now.of_kind, c.args.self.now.at));
     }

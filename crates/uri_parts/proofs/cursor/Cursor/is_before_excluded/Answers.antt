@@ -1,12 +1,5 @@
-use Rattle.std.proofs.Common.{◌≡◌, ◌≢◌, ◌<◌, ◌≤◌, ◌∙◌, ◌||◌, ◌⊎◌, Bool, ℕ, List, false, true, length, arith, drop, get_or, sym, ⊎_elim, Ok}
-use Rattle.std.proofs.lemmas.Bool.{not-true}
-use Rattle.std.proofs.lemmas.Bool.Decides.{nat_tests}
+use Rattle.uri_parts.proofs.Common.{◌≡◌, ◌≢◌, ◌<◌, ◌≤◌, ◌∙◌, ◌||◌, ◌⊎◌, Bool, ℕ, List, false, true, length, arith, drop, get_or, sym, ⊎_elim, Ok, not-true, nat_tests, LacksPercent, TableSet, is_path_char, is_segment_nz_nc_char, is_userinfo_char, valid_prefix_stops_where_none_may_begin, Kind, first_segment_set, kind_by_flags, scan, is_end}
 use Rattle.uri_pct.specs.Models.Scans.{may_begin_octet_or_past_ascii}
-use Rattle.uri_pct.specs.Sets.{LacksPercent, TableSet, is_path_char, is_segment_nz_nc_char, is_userinfo_char}
-use Rattle.uri_pct.proofs.ValidTexts.PrefixSteps.{valid_prefix_stops_where_none_may_begin}
-use Rattle.uri_parts.specs.Grammar.{Kind, first_segment_set, kind_by_flags}
-use Rattle.uri_parts.specs.Scanning.{scan}
-use Rattle.uri_parts.specs.Components.{is_end}
 use Rattle.uri_parts.proofs.Parsing.NextBytes.{starts_at_position, text_ends_where_position_is_length}
 use Rattle.uri_parts.proofs.cursor.Cursor.is_before_excluded.Goals as goal
 
@@ -49,9 +42,8 @@ segment_excludes = grind (arith, for_both, is_no_segment_char)
 
 -- a scan that may not go on where it begins passes nothing
 scan_stops : (set : TableSet) → LacksPercent set → (text : List ℕ) (i : ℕ) → i < length text
-    → set.ascii (get_or text i 0) ≡ false
-    → may_begin_octet_or_past_ascii set (get_or text i 0) ≡ false → get_or text i 0 ≢ 37
-    → scan text set i ≡ Ok i
+    → set.ascii (get_or text i 0) ≡ false → may_begin_octet_or_past_ascii set (get_or text i 0)
+    ≡ false → get_or text i 0 ≢ 37 → scan text set i ≡ Ok i
 scan_stops set lacks text i inside refused none other =
     grind (arith, valid_prefix_stops_where_none_may_begin, starts_at_position)
 
@@ -74,29 +66,25 @@ module _ (set_in : Kind → TableSet) (excludes : ExcludesBytes set_in) (kind : 
   stops_at_control low = grind (arith, scan_stops, inside_text)
 
   -- a character past ASCII is next in a URI, by its tables
-  stops_past_ascii : (tables : Kind) → tables ≡ kind
-      → (tables.path.ucschar || tables.path.iprivate) ≡ false → 128 ≤ get_or bytes i 0
-      → scan text (set_in kind) i ≡ Ok i
+  stops_past_ascii : (tables : Kind) → tables ≡ kind → (tables.path.ucschar || tables.path.iprivate)
+      ≡ false → 128 ≤ get_or bytes i 0 → scan text (set_in kind) i ≡ Ok i
   unfolding may_begin_octet_or_past_ascii
   stops_past_ascii tables of_kind none high = grind (arith, scan_stops, inside_text)
 
 pub returns-then-byte-le32-clause-userinfo : goal.returns-then-byte-le32-clause-userinfo
 returns-then-byte-le32-clause-userinfo g c t =
     stops_at_control (λ k. k.userinfo) userinfo_excludes g.K.Kind.kind g.met.K.Kind.known _ _ _
-    c.as_bytes-bytes.ensures.value c.args.self.now.boundary.0 c.if-i-bytes.false
-    c.if-byte-le32.true
+    c.as_bytes-bytes.ensures.value c.args.self.now.boundary.0 c.if-i-bytes.false c.if-byte-le32.true
 
 pub returns-then-byte-le32-clause-path : goal.returns-then-byte-le32-clause-path
 returns-then-byte-le32-clause-path g c t =
     stops_at_control (λ k. k.path) path_excludes g.K.Kind.kind g.met.K.Kind.known _ _ _
-    c.as_bytes-bytes.ensures.value c.args.self.now.boundary.0 c.if-i-bytes.false
-    c.if-byte-le32.true
+    c.as_bytes-bytes.ensures.value c.args.self.now.boundary.0 c.if-i-bytes.false c.if-byte-le32.true
 
 pub returns-then-byte-le32-clause-segment : goal.returns-then-byte-le32-clause-segment
 returns-then-byte-le32-clause-segment g c t =
     stops_at_control first_segment_set segment_excludes g.K.Kind.kind g.met.K.Kind.known _ _ _
-    c.as_bytes-bytes.ensures.value c.args.self.now.boundary.0 c.if-i-bytes.false
-    c.if-byte-le32.true
+    c.as_bytes-bytes.ensures.value c.args.self.now.boundary.0 c.if-i-bytes.false c.if-byte-le32.true
 
 pub returns-then-byte-ge128-clause-userinfo : goal.returns-then-byte-ge128-clause-userinfo
 returns-then-byte-ge128-clause-userinfo g c t =

@@ -1,5 +1,4 @@
-use Rattle.std.proofs.Common.{arith, ◌+◌, ◌≡◌}
-use Rattle.std.proofs.lemmas.Str.{IsCharBoundary-after_ascii}
+use Rattle.uri_parts.proofs.Common.{arith, ◌+◌, ◌≡◌, IsCharBoundary-after_ascii}
 use Rattle.uri_parts.proofs.cursor.Cursor.skip_slashes.Goals as goal
 
 pub invariant_of-self : goal.invariant_of-self

@@ -1,5 +1,4 @@
-use Rattle.std.proofs.Common.{◌≡◌, None, subst}
-use Rattle.uri_parts.specs.Hosts.{ipv4_value}
+use Rattle.uri_parts.proofs.Common.{◌≡◌, None, subst, ipv4_value}
 use Rattle.uri_parts.proofs.HostForms.ParsedAddresses.{text-of-no-ipv4-has-no-value}
 use Rattle.uri_parts.proofs.net.Ipv4Addr.parse.Goals as goal
 

@@ -1,6 +1,4 @@
-use Rattle.std.proofs.Common.{◌≡◌, ◌++◌, flat_map}
-use Rattle.uri_pct.specs.Chunks.{chunk_bytes}
-use Rattle.uri_pct.specs.Decodes.{chunks_left, decoded}
+use Rattle.uri_pct.proofs.Common.{◌≡◌, ◌++◌, flat_map, chunk_bytes, chunks_left, decoded}
 use Rattle.uri_pct.proofs.decode.Decode.decoded_bytes.Given as goal
 
 abbrev pub invariant-loop-chunk : goal.invariant-loop-chunk

@@ -1,5 +1,4 @@
-use Rattle.std.proofs.Common.{not, ap, ◌∙◌}
-use Rattle.uri_pct.specs.Texts.{is_unencoded}
+use Rattle.uri_pct.proofs.Common.{not, ap, ◌∙◌, is_unencoded}
 use Rattle.uri_pct.proofs.TableSets.Percent.{byte_not_found_is_lacked}
 use Rattle.uri_pct.proofs.decode.Decode.is_unencoded.Goals as goal
 

@@ -1,4 +1,4 @@
-use Rattle.std.proofs.Common.{sym, ◌∙◌, arith}
+use Rattle.uri_pct.proofs.Common.{sym, ◌∙◌, arith}
 use Rattle.uri_pct.proofs.Unicode.PartPieces.{bytes_left-is-decoded, unencoded_text_decodes_to_itself}
 use Rattle.uri_pct.proofs.decode.Decode.to_bytes.Goals as goal
 

@@ -1,5 +1,4 @@
-use Rattle.std.proofs.Common.{rules, ℕ, Vec, Global, sym, ap, ◌∙◌, subst, arith, IsUtf8}
-use Rattle.std.proofs.lemmas.Str.{IsUtf8-string_bytes}
+use Rattle.uri_pct.proofs.Common.{rules, ℕ, Vec, Global, sym, ap, ◌∙◌, subst, arith, IsUtf8, IsUtf8-string_bytes}
 use Rattle.uri_pct.proofs.Unicode.PartPieces.{unencoded_text_decodes_to_itself, bytes_left-is-decoded}
 use Rattle.uri_pct.proofs.decode.Decode.to_string.Goals as goal
 

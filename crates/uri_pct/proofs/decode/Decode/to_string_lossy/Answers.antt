@@ -1,5 +1,4 @@
-use Rattle.std.proofs.Common.{sym, ap, ◌∙◌, arith}
-use Rattle.uri_pct.specs.Pieces.{lossy_text}
+use Rattle.uri_pct.proofs.Common.{sym, ap, ◌∙◌, arith, lossy_text}
 use Rattle.uri_pct.proofs.Unicode.Lossy.{lossy_text_of_utf8_is_itself}
 use Rattle.uri_pct.proofs.Unicode.PartPieces.{unencoded_text_decodes_to_itself, bytes_left-is-decoded}
 use Rattle.uri_pct.proofs.Decodings.Taking.{parts_taken_give_lossy_text}

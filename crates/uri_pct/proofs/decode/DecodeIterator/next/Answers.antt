@@ -1,9 +1,5 @@
-use Rattle.std.proofs.Common.{◌≡◌, ◌∷◌, ◌+◌, ◌*◌, length, sym, ap, ◌∙◌, subst, arith, rules}
-use Rattle.std.specs.Char.{digit_value}
-use Rattle.uri_pct.specs.Chunks.{Byte, Text, chunks, widest_set}
-use Rattle.uri_pct.specs.Tokens.{IsValidFor}
+use Rattle.uri_pct.proofs.Common.{◌≡◌, ◌∷◌, ◌+◌, ◌*◌, length, sym, ap, ◌∙◌, subst, arith, rules, digit_value, Byte, Text, chunks, widest_set, IsValidFor, nil_from_length}
 use Rattle.uri_pct.proofs.Decodings.Decoding.{BeginsWithOctet, boundary_after_octet, bytes_from_percent_begin_with_octet, bytes_begin_with_text_up_to_percent, first_chunk_is_value_of_octet, empty_text_has_no_chunks}
-use Rattle.std.proofs.lemmas.List.{nil_from_length}
 use Rattle.uri_pct.proofs.decode.DecodeIterator.next.Goals as goal
 use Rattle.uri_pct.proofs.decode.DecodeIterator.next.Goals.{Then-bytes-eq37}
 
@@ -12,8 +8,7 @@ returns-then-is_empty-clause-steps c = grind (arith, nil_from_length, empty_text
 
 -- the text begins with the octet of its first `%`
 octet : (c : Then-bytes-eq37) → BeginsWithOctet c.args.self.now.rest.now
-octet c =
-    bytes_from_percent_begin_with_octet c.as_bytes-bytes.result.now c.args.self.now.rest.now
+octet c = bytes_from_percent_begin_with_octet c.as_bytes-bytes.result.now c.args.self.now.rest.now
     c.as_bytes-bytes.ensures.value c.as_bytes-bytes.ensures.utf8 c.args.self.now.whole
     (sym c.is_empty.ensures ∙ c.if-is_empty.false) c.if-bytes-eq37.true
 
@@ -48,8 +43,7 @@ invariant_of-self c =
     let suffix : c.range_from-self.result.now ≡ o.suffix = grind arith in
     record { whole = subst (IsValidFor widest_set) (sym suffix) o.valid }
 
-octet_steps : (c : goal.After-self-1)
-    → chunks c.args.self.now.rest.now
+octet_steps : (c : goal.After-self-1) → chunks c.args.self.now.rest.now
     ≡ Byte c.octet_value-value.result ∷ chunks c.range_from-self.result.now
 octet_steps c =
     let o = bytes_from_percent_begin_with_octet c.as_bytes-bytes.result.now c.args.self.now.rest.now
@@ -83,8 +77,7 @@ invariant_of-self-2 c =
     c.if-bytes-eq37.false (grind arith) in
     record { whole = subst (IsValidFor widest_set) (sym c.split_at.ensures.back) t.0.valid }
 
-text_steps : (c : goal.After-text-2-1)
-    → chunks c.args.self.now.rest.now
+text_steps : (c : goal.After-text-2-1) → chunks c.args.self.now.rest.now
     ≡ Text c.split_at.result.0.now ∷ chunks c.split_at.result.1.now
 text_steps c = grind (arith, bytes_begin_with_text_up_to_percent)
 

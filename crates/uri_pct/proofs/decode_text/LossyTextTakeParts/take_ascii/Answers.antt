@@ -1,7 +1,4 @@
-use Rattle.std.proofs.Common.{[], ◌∷◌, ◌++◌, ap, ◌∙◌, encode_utf8, string_bytes}
-use Rattle.std.proofs.lemmas.Bool.{cond-true}
-use Rattle.std.proofs.lemmas.Str.{encode_ascii}
-use Rattle.uri_pct.specs.Pieces.{utf8_pieces}
+use Rattle.uri_pct.proofs.Common.{[], ◌∷◌, ◌++◌, ap, ◌∙◌, encode_utf8, string_bytes, cond-true, encode_ascii, utf8_pieces}
 use Rattle.uri_pct.proofs.Decodings.Taking.{OnOk-from-is_ok, appended_text_takes_lossy_text_of_parts}
 use Rattle.uri_pct.proofs.Unicode.AsciiOctets.{ascii_byte_is_utf8}
 use Rattle.uri_pct.proofs.Unicode.PartPieces.{decoded_parts_have_their_pieces}

@@ -1,6 +1,4 @@
-use Rattle.std.proofs.Common.{◌∙◌}
-use Rattle.std.specs.Char.{encode_utf8}
-use Rattle.std.proofs.lemmas.Bool.{cond-true}
+use Rattle.uri_pct.proofs.Common.{◌∙◌, encode_utf8, cond-true}
 use Rattle.uri_pct.proofs.Decodings.Taking.{OnOk-from-is_ok}
 use Rattle.uri_pct.proofs.decode_text.LossyTextTakeParts.take_ill_formed.Goals as goal
 

@@ -1,5 +1,4 @@
-use Rattle.std.proofs.Common.{◌∙◌}
-use Rattle.std.proofs.lemmas.Bool.{cond-true}
+use Rattle.uri_pct.proofs.Common.{◌∙◌, cond-true}
 use Rattle.uri_pct.proofs.Decodings.Taking.{OnOk-from-is_ok, appended_text_takes_lossy_text_of_parts, literal_part_has_utf8_pieces_of_its_text}
 use Rattle.uri_pct.proofs.decode_text.LossyTextTakeParts.take_unencoded.Goals as goal
 

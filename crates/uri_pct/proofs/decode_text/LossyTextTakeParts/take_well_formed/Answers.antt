@@ -1,6 +1,4 @@
-use Rattle.std.proofs.Common.{◌∙◌}
-use Rattle.std.proofs.lemmas.Bool.{cond-true}
-use Rattle.uri_pct.specs.Pieces.{utf8_pieces}
+use Rattle.uri_pct.proofs.Common.{◌∙◌, cond-true, utf8_pieces}
 use Rattle.uri_pct.proofs.Decodings.Taking.{OnOk-from-is_ok, appended_text_takes_lossy_text_of_parts}
 use Rattle.uri_pct.proofs.Unicode.PartPieces.{decoded_parts_have_their_pieces}
 use Rattle.uri_pct.proofs.decode_text.LossyTextTakeParts.take_well_formed.Goals as goal

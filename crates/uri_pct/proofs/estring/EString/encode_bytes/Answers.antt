@@ -1,8 +1,4 @@
-use Rattle.std.proofs.Common.{◌++◌, ap, ◌∙◌, string_bytes}
-use Rattle.uri_pct.specs.Encoding.{encode_bytes}
-use Rattle.uri_pct.specs.Tables.{set_of}
-use Rattle.uri_pct.specs.Tokens.{print}
-use Rattle.std.proofs.lemmas.Str.{IsUtf8-string_bytes}
+use Rattle.uri_pct.proofs.Common.{◌++◌, ap, ◌∙◌, string_bytes, encode_bytes, set_of, print, IsUtf8-string_bytes}
 use Rattle.uri_pct.proofs.EncodedTexts.EncodedTokens.{bytes_below_256_are_eight_bit}
 use Rattle.uri_pct.proofs.ValidTexts.Growing.{grows_by_encoded_bytes, valid_after_ok_or_err}
 use Rattle.uri_pct.proofs.estring.EString.encode_bytes.Goals as goal
@@ -17,11 +13,10 @@ invariant_of-self g c =
     let more = print (encode_bytes (set_of c.table.result) c.args.bytes.now) in
     record {
       valid = valid_after_ok_or_err set old new more c.append_bytes.result c.append_bytes.ensures.ok
-          c.append_bytes.ensures.err before.valid
-          (λ e. (grows_by_encoded_bytes set sub old new c.args.bytes.now before.lacks_percent
-          c.requires.subset c.requires.octets (IsUtf8-string_bytes before.text)
-          (bytes_below_256_are_eight_bit c.args.bytes.now (λ i. (c.type_inv.bytes i).fits))
-          before.valid
+          c.append_bytes.ensures.err before.valid (λ e. (grows_by_encoded_bytes set
+          sub old new c.args.bytes.now before.lacks_percent c.requires.subset c.requires.octets
+          (IsUtf8-string_bytes before.text) (bytes_below_256_are_eight_bit c.args.bytes.now
+          (λ i. (c.type_inv.bytes i).fits)) before.valid
           (e ∙ ap (λ s. old ++ print (encode_bytes s c.args.bytes.now)) c.table.ensures)).valid);
       lacks_percent = before.lacks_percent;
     }

@@ -1,8 +1,4 @@
-use Rattle.std.proofs.Common.{◌++◌, ap, ◌∙◌, string_bytes}
-use Rattle.uri_pct.specs.Encoding.{encode_text}
-use Rattle.uri_pct.specs.Tables.{set_of}
-use Rattle.uri_pct.specs.Tokens.{print}
-use Rattle.std.proofs.lemmas.Str.{IsUtf8-string_bytes}
+use Rattle.uri_pct.proofs.Common.{◌++◌, ap, ◌∙◌, string_bytes, encode_text, set_of, print, IsUtf8-string_bytes}
 use Rattle.uri_pct.proofs.ValidTexts.Growing.{grows_by_encoded_text, valid_after_ok_or_err}
 use Rattle.uri_pct.proofs.estring.EString.encode_str.Goals as goal
 
@@ -16,10 +12,9 @@ invariant_of-self g c =
     let more = print (encode_text (set_of c.table.result) c.args.text.now) in
     record {
       valid = valid_after_ok_or_err set old new more c.append_text.result c.append_text.ensures.ok
-          c.append_text.ensures.err before.valid
-          (λ e. (grows_by_encoded_text set sub old new c.args.text.now before.lacks_percent
-          c.requires.subset
-          c.requires.octets (IsUtf8-string_bytes before.text) c.utf8.text before.valid
+          c.append_text.ensures.err before.valid (λ e. (grows_by_encoded_text set
+          sub old new c.args.text.now before.lacks_percent c.requires.subset c.requires.octets
+          (IsUtf8-string_bytes before.text) c.utf8.text before.valid
           (e ∙ ap (λ s. old ++ print (encode_text s c.args.text.now)) c.table.ensures)).valid);
       lacks_percent = before.lacks_percent;
     }
@@ -30,8 +25,7 @@ returns-clause-tokens g c =
     let sub = g.SubE.Encoder.set in
     let before = c.args.self.now in
     let old = string_bytes before.text in
-    (grows_by_encoded_text set sub old (string_bytes c.append_text.new.out) c.args.text.now
-    before.lacks_percent
-    c.requires.subset c.requires.octets (IsUtf8-string_bytes before.text) c.utf8.text before.valid
-    (c.in_ok-append_text.ensures.ok
+    (grows_by_encoded_text set sub old (string_bytes c.append_text.new.out)
+    c.args.text.now before.lacks_percent c.requires.subset c.requires.octets
+    (IsUtf8-string_bytes before.text) c.utf8.text before.valid (c.in_ok-append_text.ensures.ok
     ∙ ap (λ s. old ++ print (encode_text s c.args.text.now)) c.table.ensures)).tokens

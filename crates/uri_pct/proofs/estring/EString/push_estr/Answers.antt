@@ -1,6 +1,4 @@
-use Rattle.std.proofs.Common.{◌++◌, ap, ◌∙◌, string_bytes}
-use Rattle.uri_pct.specs.Tokens.{tokens}
-use Rattle.std.proofs.lemmas.Str.{IsUtf8-string_bytes}
+use Rattle.uri_pct.proofs.Common.{◌++◌, ap, ◌∙◌, string_bytes, tokens, IsUtf8-string_bytes}
 use Rattle.uri_pct.proofs.ValidTexts.Growing.{grows_by_valid_text, valid_after_push}
 use Rattle.uri_pct.proofs.estring.EString.push_estr.Goals as goal
 
@@ -13,10 +11,8 @@ invariant_of-self g c =
     let text = c.as_str.result.now in
     record {
       valid = valid_after_push set old new text c.push_str.result c.push_str.ensures.bytes
-          before.valid
-          (λ e. (grows_by_valid_text set old new text before.lacks_percent
-          (IsUtf8-string_bytes before.text)
-          before.valid c.as_str.ensures.valid e).valid);
+          before.valid (λ e. (grows_by_valid_text set old new text before.lacks_percent
+          (IsUtf8-string_bytes before.text) before.valid c.as_str.ensures.valid e).valid);
       lacks_percent = before.lacks_percent;
     }
 
@@ -26,5 +22,4 @@ returns-clause-tokens g c =
     let old = string_bytes before.text in
     (grows_by_valid_text g.E.Encoder.set old (string_bytes c.push_str.new.self) c.as_str.result.now
     before.lacks_percent (IsUtf8-string_bytes before.text) before.valid c.as_str.ensures.valid
-    c.in_ok-push_str.ensures.bytes).tokens
-    ∙ ap (λ x. tokens old ++ tokens x) c.as_str.ensures.text
+    c.in_ok-push_str.ensures.bytes).tokens ∙ ap (λ x. tokens old ++ tokens x) c.as_str.ensures.text

@@ -1,5 +1,4 @@
-use Rattle.std.proofs.Common.{arith}
-use Rattle.uri_pct.specs.Chunks.{widest_set}
+use Rattle.uri_pct.proofs.Common.{arith, widest_set}
 use Rattle.uri_pct.proofs.Decodings.Counts.{chunks_are_no_more_than_bytes}
 use Rattle.uri_pct.proofs.ValidTexts.EStrs.{valid_for_superset}
 use Rattle.uri_pct.proofs.Decodings.Decoding.{every_set_is_subset_of_widest}

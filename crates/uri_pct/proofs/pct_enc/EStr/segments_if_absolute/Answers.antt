@@ -1,6 +1,4 @@
-use Rattle.std.proofs.Common.{◌≡◌, ◌<◌, ◌∷◌, [], length, get_or, drop, ap, arith, List, ℕ}
-use Rattle.std.proofs.lemmas.Bool.{not-false}
-use Rattle.std.proofs.lemmas.Str.{IsCharBoundary-after_ascii}
+use Rattle.uri_pct.proofs.Common.{◌≡◌, ◌<◌, ◌∷◌, [], length, get_or, drop, ap, arith, List, ℕ, not-false, IsCharBoundary-after_ascii}
 use Rattle.uri_pct.proofs.ValidTexts.Delimiters.{absolute_path_begins_with_slash}
 use Rattle.uri_pct.proofs.ValidTexts.TokenCuts.{reserved_is_never_in_octet, slash_is_reserved, valid_after_mark}
 use Rattle.uri_pct.proofs.pct_enc.EStr.segments_if_absolute.Goals as goal

@@ -1,7 +1,5 @@
-use Rattle.std.proofs.Common.{arith}
+use Rattle.uri_pct.proofs.Common.{arith, AllPass-from_list_all, lacks}
 use Rattle.std.proofs.lemmas.List.Splits.{join_with_byte-slice_split}
-use Rattle.std.proofs.lemmas.List.Sums.{AllPass-from_list_all}
-use Rattle.uri_pct.specs.Texts.{lacks}
 use Rattle.uri_pct.proofs.Decodings.Counts.{split_pieces_are_at_most_length_plus_one}
 use Rattle.uri_pct.proofs.ValidTexts.Delimiters.{substrings_lack_delimiter}
 use Rattle.uri_pct.proofs.pct_enc.EStr.split.Goals as goal

@@ -1,4 +1,4 @@
-use Rattle.std.proofs.Common.{sym, ◌∙◌}
+use Rattle.uri_pct.proofs.Common.{sym, ◌∙◌}
 use Rattle.uri_pct.proofs.TableSets.Masks.{has_bit-only-ascii}
 use Rattle.uri_pct.proofs.table.Table.allows_ascii.Goals as goal
 

@@ -1,4 +1,4 @@
-use Rattle.std.proofs.lemmas.Str.{IsCharBoundary-start}
+use Rattle.uri_pct.proofs.Common.{IsCharBoundary-start}
 use Rattle.uri_pct.proofs.table.Table.allows_text.Goals as goal
 
 pub scan-requires : goal.scan-requires

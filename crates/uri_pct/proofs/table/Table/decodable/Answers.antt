@@ -1,4 +1,4 @@
-use Rattle.uri_pct.specs.Tables.{set_of}
+use Rattle.uri_pct.proofs.Common.{set_of}
 use Rattle.uri_pct.proofs.TableSets.Decodable.{decodable_table_allows_decodable}
 use Rattle.uri_pct.proofs.table.Table.decodable.Goals as goal
 

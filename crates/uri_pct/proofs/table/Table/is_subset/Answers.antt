@@ -1,5 +1,4 @@
-use Rattle.std.proofs.Common.{◌∙◌, sym}
-use Rattle.uri_pct.specs.Tables.{set_of}
+use Rattle.uri_pct.proofs.Common.{◌∙◌, sym, set_of}
 use Rattle.uri_pct.proofs.TableSets.Tables.{subset_if_difference_is_empty, difference_from_superset_is_empty}
 use Rattle.uri_pct.proofs.table.Table.is_subset.Goals as goal
 

@@ -1,6 +1,4 @@
-use Rattle.std.proofs.Common.{◌≡◌, ℕ, take}
-use Rattle.uri_pct.specs.Sets.{is_one_of}
-use Rattle.uri_pct.specs.Masks.{has_bit}
+use Rattle.uri_pct.proofs.Common.{◌≡◌, ℕ, take, is_one_of, has_bit}
 use Rattle.uri_pct.proofs.table.Table.new.Given as goal
 
 abbrev pub invariant-loop-byte : goal.invariant-loop-byte

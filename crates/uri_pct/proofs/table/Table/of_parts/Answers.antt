@@ -1,4 +1,4 @@
-use Rattle.std.proofs.Common.{arith}
+use Rattle.uri_pct.proofs.Common.{arith}
 use Rattle.uri_pct.proofs.TableSets.Masks.{has_bit_of_percent_is_bit_of_low}
 use Rattle.uri_pct.proofs.table.Table.of_parts.Goals as goal
 

@@ -1,20 +1,14 @@
-use Rattle.std.proofs.Common.{◌≡◌, ◌≤◌, ◌+◌, ◌-◌, ℕ, List, true, length, drop, subst, sym, arith, IsUtf8, IsCharBoundary}
-use Rattle.uri_pct.specs.Models.ByteRuns.{AreCharactersOrOctets}
-use Rattle.uri_pct.specs.Prefixes.{valid_prefix}
-use Rattle.uri_pct.specs.Tables.{set_of}
-use Rattle.uri_pct.specs.declared.table.Table.{Table}
+use Rattle.uri_pct.proofs.Common.{◌≡◌, ◌≤◌, ◌+◌, ◌-◌, ℕ, List, true, length, drop, subst, sym, arith, IsUtf8, IsCharBoundary, AreCharactersOrOctets, valid_prefix, set_of, Table}
 use Rattle.uri_pct.proofs.TableSets.Masks.{has_bit-only-ascii}
 use Rattle.uri_pct.proofs.TableSets.Percent.{lacks_percent}
 use Rattle.uri_pct.proofs.ValidTexts.ScannedRuns.{characters_and_octets_are_scanned}
 use Rattle.uri_pct.proofs.table.Table.pass_blocks.Goals as goal
 
 -- a run that is as long as its end says
-passed : (t : Table) (bs : List ℕ) (start end : ℕ) → t.pct_encoded ≡ true → IsUtf8 bs
-    → IsCharBoundary bs start → start ≤ end → end ≤ length bs
-    → AreCharactersOrOctets (set_of t).ascii bs start (end - start)
-    → (end + valid_prefix (set_of t) (drop end bs)
-    ≡ start + valid_prefix (set_of t) (drop start bs))
-    × IsCharBoundary bs end
+passed : (t : Table) (bs : List ℕ) (start end : ℕ)
+    → t.pct_encoded ≡ true → IsUtf8 bs → IsCharBoundary bs start → start ≤ end → end ≤ length bs
+    → AreCharactersOrOctets (set_of t).ascii bs start (end - start) → (end + valid_prefix (set_of t)
+    (drop end bs) ≡ start + valid_prefix (set_of t) (drop start bs)) × IsCharBoundary bs end
 passed t bs start end pct u here from within allowed =
     let e : start + (end - start) ≡ end = omega arith in
     subst (λ n. (n + valid_prefix (set_of t) (drop n bs)
@@ -31,6 +25,5 @@ returns-clause-boundary c =
     let b = c.as_bytes-bytes in
     rw (← b.ensures.value)
     (passed c.args.self.now b.result.now c.args.start c.encoded_run_end.result
-    c.requires.octets b.ensures.utf8
-    (subst (λ t. IsCharBoundary t c.args.start) (sym b.ensures.value) c.requires.here)
-    run.from run.within run.allowed).1
+    c.requires.octets b.ensures.utf8 (subst (λ t. IsCharBoundary t c.args.start)
+    (sym b.ensures.value) c.requires.here) run.from run.within run.allowed).1

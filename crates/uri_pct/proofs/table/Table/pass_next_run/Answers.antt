@@ -1,11 +1,4 @@
-use Rattle.std.proofs.Common.{◌≡◌, ◌+◌, ◌<◌, true, false, length, drop, get_or, arith, ◌&&◌, sym, ◌∙◌, ap, subst, ℕ, List, slice_index, IsUtf8, IsCharBoundary}
-use Rattle.std.proofs.lemmas.Bool.{and_left}
-use Rattle.std.proofs.lemmas.Str.{IsCharBoundary-after_ascii}
-use Rattle.uri_pct.specs.Prefixes.{valid_prefix}
-use Rattle.uri_pct.specs.Texts.{has_hex_digits_after}
-use Rattle.uri_pct.specs.Tables.{set_of}
-use Rattle.uri_pct.specs.declared.table.Table.{Table}
-use Rattle.uri_pct.specs.Models.ByteRuns.{IsLongestRun, is_char_byte}
+use Rattle.uri_pct.proofs.Common.{◌≡◌, ◌+◌, ◌<◌, true, false, length, drop, get_or, arith, ◌&&◌, sym, ◌∙◌, ap, subst, ℕ, List, slice_index, IsUtf8, IsCharBoundary, and_left, IsCharBoundary-after_ascii, valid_prefix, has_hex_digits_after, set_of, Table, IsLongestRun, is_char_byte}
 use Rattle.uri_pct.proofs.ValidTexts.PrefixSteps.{valid_prefix_passes_ascii_char_of_set, valid_prefix_stops_at_ascii_outside_set, valid_prefix_stops_at_stray_percent}
 use Rattle.uri_pct.proofs.TableSets.Percent.{lacks_percent}
 use Rattle.uri_pct.proofs.TableSets.Masks.{has_bit-only-ascii}
@@ -51,9 +44,8 @@ no_octet t text bs i same u within low given =
     )
 
 pub pass_ascii_run-requires : goal.pass_ascii_run-requires
-pass_ascii_run-requires c =
-    (no_octet c.args.self.now c.args.text.now c.as_bytes-bytes.result.now c.args.start
-    c.as_bytes-bytes.ensures.value c.utf8.text c.requires.inside c.if-byte-lt128.true
+pass_ascii_run-requires c = (no_octet c.args.self.now c.args.text.now c.as_bytes-bytes.result.now
+    c.args.start c.as_bytes-bytes.ensures.value c.utf8.text c.requires.inside c.if-byte-lt128.true
     (sym (ap (λ f. f (get_or c.as_bytes-bytes.result.now c.args.start 0)) c.masks-low.ensures)
     ∙ sym c.has.ensures ∙ c.if-not-has.false)).1
 
@@ -61,9 +53,8 @@ pub returns-then-byte-lt128-clause-total : goal.returns-then-byte-lt128-clause-t
 returns-then-byte-lt128-clause-total c = grind (arith, no_octet)
 
 -- characters past ASCII
-run : (c : goal.After-chars_end)
-    → IsLongestRun (is_char_byte (set_of c.args.self.now).ascii) c.args.text.now c.args.start
-    c.chars_end.result
+run : (c : goal.After-chars_end) → IsLongestRun
+    (is_char_byte (set_of c.args.self.now).ascii) c.args.text.now c.args.start c.chars_end.result
 run c = grind arith
 
 pub returns-then-allows_lead-clause-total : goal.returns-then-allows_lead-clause-total

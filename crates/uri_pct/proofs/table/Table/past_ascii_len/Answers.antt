@@ -1,7 +1,4 @@
-use Rattle.std.proofs.Common.{◌≡◌, ◌+◌, drop, sym, ◌∙◌, IsCharBoundary}
-use Rattle.std.proofs.lemmas.Bool.{cond-false}
-use Rattle.uri_pct.specs.Prefixes.{valid_prefix}
-use Rattle.uri_pct.specs.Tables.{set_of}
+use Rattle.uri_pct.proofs.Common.{◌≡◌, ◌+◌, drop, sym, ◌∙◌, IsCharBoundary, cond-false, valid_prefix, set_of}
 use Rattle.uri_pct.proofs.ValidTexts.PrefixSteps.{valid_prefix_by_char_past_ascii_at_index}
 use Rattle.uri_pct.proofs.TableSets.LeadBytes.{scan_passes_char}
 use Rattle.uri_pct.proofs.table.Table.past_ascii_len.Goals as goal
@@ -14,16 +11,13 @@ returns-then-not-allows_past_ascii-clause-refused c = λ _.
     ∙ cond-false _ _ _ (sym c.allows_past_ascii.ensures ∙ c.if-not-allows_past_ascii.true)
 
 decoded_char : (c : goal.After-len_utf8)
-    → (valid_prefix (set_of c.args.self.now) (drop c.args.index c.args.text.now)
-    ≡ valid_prefix (set_of c.args.self.now)
-    (drop (c.args.index + c.len_utf8.result) c.args.text.now)
-    + c.len_utf8.result)
-    × IsCharBoundary c.args.text.now (c.args.index + c.len_utf8.result)
-decoded_char c =
-    scan_passes_char (set_of c.args.self.now) c.args.text.now _ c.args.index c.char_at-ch.result
-    c.len_utf8.result c.utf8.text c.requires.here c.requires.inside c.requires.past
-    c.char_at-ch.ensures (sym c.allows_past_ascii.ensures ∙ c.if-not-allows_past_ascii.false)
-    (sym c.len_utf8.ensures.value)
+    → (valid_prefix (set_of c.args.self.now) (drop c.args.index c.args.text.now) ≡ valid_prefix
+    (set_of c.args.self.now) (drop (c.args.index + c.len_utf8.result) c.args.text.now)
+    + c.len_utf8.result) × IsCharBoundary c.args.text.now (c.args.index + c.len_utf8.result)
+decoded_char c = scan_passes_char (set_of c.args.self.now)
+    c.args.text.now _ c.args.index c.char_at-ch.result c.len_utf8.result c.utf8.text c.requires.here
+    c.requires.inside c.requires.past c.char_at-ch.ensures (sym c.allows_past_ascii.ensures
+    ∙ c.if-not-allows_past_ascii.false) (sym c.len_utf8.ensures.value)
 
 pub returns-clause-boundary : goal.returns-clause-boundary
 returns-clause-boundary c = (decoded_char c).1

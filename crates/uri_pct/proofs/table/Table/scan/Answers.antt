@@ -1,10 +1,6 @@
-use Rattle.std.proofs.Common.{◌≡◌, ◌<◌, ◌≤◌, ◌∙◌, ◌||◌, ℕ, List, false, length, drop, get_or, arith, sym, ap, subst, ⊎_elim, slice_index}
-use Rattle.std.proofs.lemmas.Bool.{and_right, cond-false, ne_eqb, cases_lt}
-use Rattle.uri_pct.specs.declared.table.Table.{Table}
+use Rattle.uri_pct.proofs.Common.{◌≡◌, ◌<◌, ◌≤◌, ◌∙◌, ◌||◌, ℕ, List, false, length, drop, get_or, arith, sym, ap, subst, ⊎_elim, slice_index, and_right, cond-false, ne_eqb, cases_lt, Table, valid_prefix, set_of}
 use Rattle.uri_pct.specs.Models.Scans.{may_begin_octet_or_past_ascii}
 use Rattle.uri_pct.proofs.TableSets.Masks.{has_bit_past_ascii_is_false}
-use Rattle.uri_pct.specs.Prefixes.{valid_prefix}
-use Rattle.uri_pct.specs.Tables.{set_of}
 use Rattle.uri_pct.proofs.ValidTexts.PrefixSteps.{valid_prefix_at_end_is_empty, valid_prefix_stops_where_none_may_begin}
 use Rattle.uri_pct.proofs.TableSets.Percent.{lacks_percent}
 use Rattle.uri_pct.proofs.table.Table.scan.Goals as goal
@@ -14,9 +10,8 @@ use Rattle.uri_pct.proofs.table.Table.scan.Goals.{then-run_end-bytes-via-then-ru
 past_done : (t : Table) (bs : List ℕ) (i : ℕ) → i < length bs → 128 ≤ get_or bs i 0
     → ((set_of t).ucschar || (set_of t).iprivate) ≡ false → valid_prefix (set_of t) (drop i bs) ≡ 0
 unfolding may_begin_octet_or_past_ascii
-past_done t bs i inside past none =
-    valid_prefix_stops_where_none_may_begin (set_of t) (lacks_percent t) bs i inside
-    (has_bit_past_ascii_is_false t.low t.high _ past)
+past_done t bs i inside past none = valid_prefix_stops_where_none_may_begin
+    (set_of t) (lacks_percent t) bs i inside (has_bit_past_ascii_is_false t.low t.high _ past)
     (cond-false _ _ _ (ne_eqb (get_or bs i 0) 37 (λ e. omega arith)) ∙ and_right _ _ none)
 
 pub returns-then-start-bytes-clause-end : goal.returns-then-start-bytes-clause-end
@@ -32,12 +27,10 @@ returns-then-not-allows_some_past_ascii-clause-end c =
     let within : end ≤ length text = c.pass_encoded-end.ensures.boundary.0 in
     let long : length c.as_bytes-bytes.result.now ≡ length text = ap length same in
     let e : valid_prefix set (drop end text) ≡ 0 = elim c.then-not-allows_some_past_ascii.branch [
-      | goal.then-not-allows_some_past_ascii-via-then-not-allows_some_past_ascii w ↦
-          ⊎_elim (λ (inside : end < length text).
-          ⊎_elim (λ (below : slice_index text end < 128).
-          c.pass_encoded-end.ensures.stop inside below)
-          (λ (past : 128 ≤ slice_index text end).
-          past_done c.args.self.now text end inside past
+      | goal.then-not-allows_some_past_ascii-via-then-not-allows_some_past_ascii w ↦ ⊎_elim
+          (λ (inside : end < length text). ⊎_elim
+          (λ (below : slice_index text end < 128). c.pass_encoded-end.ensures.stop inside below)
+          (λ (past : 128 ≤ slice_index text end). past_done c.args.self.now text end inside past
           (sym c.allows_some_past_ascii.ensures ∙ w.if-not-allows_some_past_ascii.true))
           (cases_lt (slice_index text end) 128))
           (λ (over : length text ≤ end). valid_prefix_at_end_is_empty set text end over)

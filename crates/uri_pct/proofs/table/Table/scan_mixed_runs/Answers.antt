@@ -1,4 +1,4 @@
-use Rattle.std.proofs.Common.{arith}
+use Rattle.uri_pct.proofs.Common.{arith}
 use Rattle.uri_pct.proofs.ValidTexts.PrefixSteps.{valid_prefix_at_end_is_empty}
 use Rattle.uri_pct.proofs.table.Table.scan_mixed_runs.Goals as goal
 

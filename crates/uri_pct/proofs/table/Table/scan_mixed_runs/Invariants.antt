@@ -1,6 +1,4 @@
-use Rattle.std.proofs.Common.{length, ◌-◌, ◌≡◌, ◌+◌, drop, IsCharBoundary}
-use Rattle.uri_pct.specs.Prefixes.{valid_prefix}
-use Rattle.uri_pct.specs.Tables.{set_of}
+use Rattle.uri_pct.proofs.Common.{length, ◌-◌, ◌≡◌, ◌+◌, drop, IsCharBoundary, valid_prefix, set_of}
 use Rattle.uri_pct.proofs.table.Table.scan_mixed_runs.Given as goal
 
 abbrev pub invariant-loop-i : goal.invariant-loop-i

@@ -1,9 +1,4 @@
-use Rattle.std.proofs.Common.{◌≡◌, ◌+◌, ◌<◌, true, false, length, drop, get_or, arith, rules, ◌&&◌, sym, ◌∙◌, subst}
-use Rattle.std.proofs.lemmas.Bool.{and_right}
-use Rattle.std.proofs.lemmas.Str.{IsCharBoundary-after_ascii}
-use Rattle.uri_pct.specs.Prefixes.{valid_prefix}
-use Rattle.uri_pct.specs.Texts.{has_hex_digits_after}
-use Rattle.uri_pct.specs.Tables.{set_of}
+use Rattle.uri_pct.proofs.Common.{◌≡◌, ◌+◌, ◌<◌, true, false, length, drop, get_or, arith, rules, ◌&&◌, sym, ◌∙◌, subst, and_right, IsCharBoundary-after_ascii, valid_prefix, has_hex_digits_after, set_of}
 use Rattle.uri_pct.proofs.ValidTexts.PrefixSteps.{valid_prefix_passes_ascii_char_of_set, valid_prefix_stops_at_ascii_outside_set, valid_prefix_stops_at_stray_percent}
 use Rattle.uri_pct.proofs.TableSets.Percent.{lacks_percent}
 use Rattle.uri_pct.proofs.ValidTexts.ScannedRuns.{octet_is_scanned}
@@ -25,8 +20,7 @@ loop-i-preserved c =
     let set = set_of c.args.table.now in
     let bs = c.as_bytes-bytes.result.now in
     let i = c.loop-i.i in
-    let inside : set.ascii (get_or bs i 0) ≡ true =
-    grind arith in
+    let inside : set.ascii (get_or bs i 0) ≡ true = grind arith in
     let below : get_or bs i 0 < 128 = omega (arith, c.if-byte-ge128.false) in
     let e : valid_prefix set (drop i bs) ≡ valid_prefix set (drop (i + 1) bs) + 1 =
     grind (arith, valid_prefix_passes_ascii_char_of_set, lacks_percent) in
@@ -46,9 +40,8 @@ returns-then-not-has_octet_digits-clause-stop c = λ _ _.
     let stray : (set.pct_encoded && has_hex_digits_after bs i) ≡ false =
     and_right _ _ (sym c.has_octet_digits.ensures.value ∙ c.if-not-has_octet_digits.true) in
     subst (λ t. valid_prefix set (drop i t) ≡ 0) c.as_bytes-bytes.ensures.value
-    (valid_prefix_stops_at_stray_percent set (lacks_percent c.args.table.now) bs i
-    c.loop-i-test.true
-    c.if-byte-eq37.true stray)
+    (valid_prefix_stops_at_stray_percent set
+    (lacks_percent c.args.table.now) bs i c.loop-i-test.true c.if-byte-eq37.true stray)
 
 pub returns-then-byte-ge128-clause-stop : goal.returns-then-byte-ge128-clause-stop
 returns-then-byte-ge128-clause-stop c =

@@ -1,6 +1,4 @@
-use Rattle.std.proofs.Common.{◌∙◌, sym, not, arith}
-use Rattle.std.proofs.lemmas.Bool.{and_left}
-use Rattle.uri_pct.specs.Masks.{has_bit}
+use Rattle.uri_pct.proofs.Common.{◌∙◌, sym, not, arith, and_left, has_bit}
 use Rattle.uri_pct.proofs.TableSets.Masks.{has_bit_of_mask_difference_is_and_not, has_bit_of_percent_is_bit_of_low}
 use Rattle.uri_pct.proofs.TableSets.Percent.{lacks_percent}
 use Rattle.uri_pct.proofs.TableSets.Tables.{sets_equal_by_agreement}
@@ -11,10 +9,9 @@ invariant_of-result c =
     let s = c.args.self in
     let t = c.args.other.now in
     record {
-      lacks_percent =
-          sym (has_bit_of_percent_is_bit_of_low _ _)
-          ∙ has_bit_of_mask_difference_is_and_not s.low s.high t.low t.high 37 (omega arith)
-          (omega arith)
+      lacks_percent = sym (has_bit_of_percent_is_bit_of_low _ _)
+          ∙ has_bit_of_mask_difference_is_and_not s.low s.high t.low t.high 37
+          (omega arith) (omega arith)
           ∙ and_left (has_bit s.low s.high 37) (not (has_bit t.low t.high 37)) (lacks_percent s);
     }
 

@@ -1,8 +1,5 @@
 -- The table of members has each byte right for each of its sets, which is computed.
-use Rattle.std.proofs.Common.{◌≡◌, ◌<◌, ◌==◌, ◌%◌, ◌/◌, ◌^◌, ℕ, Bool, true, not, bit_and, refl, slice_index, sym, ◌∙◌, ap}
-use Rattle.std.proofs.lemmas.Bool.{agree_below, agree_below_at}
-use Rattle.uri_pct.specs.Masks.{has_bit}
-use Rattle.uri_pct.specs.declared.table.characters.TheConstants.{DIGIT, PATH, QUERY, REG_NAME, SCHEME, SEGMENT_NZ_NC, USERINFO}
+use Rattle.uri_pct.proofs.Common.{◌≡◌, ◌<◌, ◌==◌, ◌%◌, ◌/◌, ◌^◌, ℕ, Bool, true, not, bit_and, refl, slice_index, sym, ◌∙◌, ap, agree_below, agree_below_at, has_bit, DIGIT, PATH, QUERY, REG_NAME, SCHEME, SEGMENT_NZ_NC, USERINFO}
 use Rattle.uri_pct.specs.declared.table.members.TheConstants.{MEMBERS}
 use Rattle.uri_pct.proofs.table.members.member_bit.Goals as goal
 
@@ -16,9 +13,8 @@ table_is_right : (characters bit low high : ℕ)
     → agree_below (has_member bit) (has_bit (characters % 2 ^ 64) (characters / 2 ^ 64)) 256 ≡ true
     → low ≡ characters % 2 ^ 64 → high ≡ characters / 2 ^ 64 → (b : ℕ) → b < 256
     → has_member bit b ≡ has_bit low high b
-table_is_right characters bit low high same l h b small =
-    agree_below_at (has_member bit) (has_bit (characters % 2 ^ 64) (characters / 2 ^ 64)) 256 b same
-    small
+table_is_right characters bit low high same l h b small = agree_below_at
+    (has_member bit) (has_bit (characters % 2 ^ 64) (characters / 2 ^ 64)) 256 b same small
     ∙ sym (ap (λ n. has_bit n high b) l ∙ ap (λ n. has_bit (characters % 2 ^ 64) n b) h)
 
 pub returns-then-high : goal.returns-then-high

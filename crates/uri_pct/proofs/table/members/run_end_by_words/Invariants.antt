@@ -1,13 +1,11 @@
-use Rattle.std.proofs.Common.{length, ◌-◌, ◌≡◌, ◌≤◌, ◌<◌, ℕ, true, slice_index}
-use Rattle.uri_pct.specs.Masks.{has_bit}
+use Rattle.uri_pct.proofs.Common.{length, ◌-◌, ◌≡◌, ◌≤◌, ◌<◌, ℕ, true, slice_index, has_bit}
 use Rattle.uri_pct.proofs.table.members.run_end_by_words.Given as goal
 
 abbrev pub invariant-loop-i : goal.invariant-loop-i
 invariant-loop-i l = record {
   from : l.start ≤ l.i;
   within : l.i ≤ length l.bytes;
-  pass : (k : ℕ) → l.start ≤ k → k < l.i
-      → has_bit l.low l.high (slice_index l.bytes k) ≡ true;
+  pass : (k : ℕ) → l.start ≤ k → k < l.i → has_bit l.low l.high (slice_index l.bytes k) ≡ true;
 }
 
 abbrev pub decreases-loop-i : goal.decreases-loop-i

@@ -1,6 +1,4 @@
-use Rattle.std.proofs.Common.{◌≡◌, ◌-◌, ◌≤◌, ℕ, List, length, take, drop, arith, take_at, length-take, length-drop}
-use Rattle.std.specs.List.{copy_within}
-use Rattle.std.proofs.lemmas.List.Elements.{All-same, All-drop}
+use Rattle.uri_pct.proofs.Common.{◌≡◌, ◌-◌, ◌≤◌, ℕ, List, length, take, drop, arith, take_at, length-take, length-drop, copy_within, All-same, All-drop}
 use Rattle.std.proofs.lemmas.Slice.{between_is}
 use Rattle.uri_pct.proofs.window.Window.keep_last.Goals as goal
 

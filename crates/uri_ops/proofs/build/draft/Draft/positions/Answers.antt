@@ -1,5 +1,4 @@
-use Rattle.std.proofs.Common.{◌+◌, ◌≤◌, length, sym, subst, ◌∙◌}
-use Rattle.uri_ops.specs.Models.DraftPlaces.{delimited_len}
+use Rattle.uri_ops.proofs.Common.{◌+◌, ◌≤◌, length, sym, subst, ◌∙◌, delimited_len}
 use Rattle.uri_ops.proofs.Builders.DraftPositions.{host-end-is-in-authority, host-start-is-in-authority, draft-positions-are-of-its-parts, part-lengths-fit-in-text}
 use Rattle.uri_ops.proofs.build.draft.Draft.positions.Goals as goal
 
@@ -8,9 +7,8 @@ pub positions_from_lengths-requires-clause-inside
 positions_from_lengths-requires-clause-inside c =
     let d = c.args.self.now in
     subst (λ t. delimited_len 1 d.lengths.scheme + delimited_len 2 d.lengths.authority
-    + delimited_len 0 d.lengths.path
-    + delimited_len 1 d.lengths.query ≤ length t) (sym c.as_str.ensures.value)
-    (part-lengths-fit-in-text d c.requires.whole c.requires.host)
+    + delimited_len 0 d.lengths.path + delimited_len 1 d.lengths.query ≤ length t)
+    (sym c.as_str.ensures.value) (part-lengths-fit-in-text d c.requires.whole c.requires.host)
 
 pub positions_from_lengths-requires-clause-host_start
     : goal.positions_from_lengths-requires-clause-host_start

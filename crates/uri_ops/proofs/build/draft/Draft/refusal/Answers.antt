@@ -1,7 +1,4 @@
-use Rattle.std.proofs.Common.{sym, ◌∙◌, string_bytes, take, drop}
-use Rattle.uri_ops.specs.Built.{build_error_of_path}
-use Rattle.uri_ops.specs.Drafts.{after_part}
-use Rattle.uri_pct.proofs.General.{is_some-option_map}
+use Rattle.uri_ops.proofs.Common.{sym, ◌∙◌, string_bytes, build_error_of_path, is_some-option_map}
 use Rattle.uri_ops.proofs.build.draft.Draft.refusal.Goals as goal
 
 pub returns : goal.returns

@@ -1,6 +1,4 @@
-use Rattle.std.proofs.Common.{◌++◌, length, codes}
-use Rattle.std.specs.Prelude.{Some}
-use Rattle.uri_ops.specs.BuilderParts.{with_query}
+use Rattle.uri_ops.proofs.Common.{◌++◌, length, codes, Some, with_query}
 use Rattle.uri_ops.proofs.Builders.BuilderDrafts.{change-of-draft-by-appending, draft-with-query}
 use Rattle.uri_ops.proofs.build.draft.Draft.with_query.Goals as goal
 
@@ -10,7 +8,6 @@ appended-requires c = λ e. (draft-with-query c.args.self c.args.query.now c.req
 pub returns-clause-adds : goal.returns-clause-adds
 returns-clause-adds c =
     change-of-draft-by-appending (with_query c.args.query.now) c.args.self c.appended.result
-    (record c.args.self.lengths { query = Some (length c.args.query.now) })
-    (codes "?" ++ c.args.query.now) c.appended.ensures.kept c.appended.ensures.lengths
-    c.appended.ensures.text
+    (record c.args.self.lengths { query = Some (length c.args.query.now) }) (codes "?"
+    ++ c.args.query.now) c.appended.ensures.kept c.appended.ensures.lengths c.appended.ensures.text
     (λ e. (draft-with-query c.args.self c.args.query.now c.requires e).parts)

@@ -1,6 +1,4 @@
-use Rattle.std.proofs.Common.{refl, subst}
-use Rattle.uri_pct.specs.Sets.{ireg_name_set}
-use Rattle.uri_ops.specs.HostParts.{IsHostText}
+use Rattle.uri_ops.proofs.Common.{refl, subst, ireg_name_set, IsHostText}
 use Rattle.uri_ops.proofs.Builders.BuilderHosts.{valid-name-is-host}
 use Rattle.uri_ops.proofs.build.host_port.EStrIRegNameWithEncoderIRegName.push_host.Goals as goal
 

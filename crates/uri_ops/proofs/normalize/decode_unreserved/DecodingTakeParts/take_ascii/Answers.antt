@@ -1,9 +1,4 @@
-use Rattle.std.proofs.Common.{[], ◌∷◌, refl}
-use Rattle.std.proofs.lemmas.Result.{on_ok_weaker}
-use Rattle.uri_pct.specs.DecodeUnreserved.{decode_octet}
-use Rattle.uri_pct.specs.Tables.{set_of}
-use Rattle.uri_pct.specs.Tokens.{Octet, print}
-use Rattle.uri_ops.specs.Models.Decodings.{lowered_if}
+use Rattle.uri_ops.proofs.Common.{[], ◌∷◌, refl, on_ok_weaker, decode_octet, set_of, Octet, print, lowered_if}
 use Rattle.uri_ops.proofs.Meanings.DecodedOctets.{decoded-part-of-ascii-octet}
 use Rattle.uri_ops.proofs.Meanings.TakenDecodings.{appended-text-is-decoded-parts}
 use Rattle.uri_ops.proofs.normalize.decode_unreserved.DecodingTakeParts.take_ascii.Goals as goal
@@ -12,7 +7,6 @@ pub returns : goal.returns
 returns c =
     let s = c.args.self.now in
     let alone = print (lowered_if s.lowers (decode_octet (Octet c.args.byte) ∷ [])) in
-    on_ok_weaker c.push_decoded_octet.result
-    (λ written. appended-text-is-decoded-parts s _ _ alone refl refl refl written
-    (decoded-part-of-ascii-octet s.lowers (set_of s.table) c.args.byte c.requires))
-    c.push_decoded_octet.ensures
+    on_ok_weaker c.push_decoded_octet.result (λ written. appended-text-is-decoded-parts
+    s _ _ alone refl refl refl written (decoded-part-of-ascii-octet s.lowers
+    (set_of s.table) c.args.byte c.requires)) c.push_decoded_octet.ensures

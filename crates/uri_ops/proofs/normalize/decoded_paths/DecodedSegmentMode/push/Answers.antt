@@ -1,10 +1,4 @@
-use Rattle.std.proofs.Common.{◌≡◌, ◌++◌, ap, lit<, refl, string_bytes, sym, ◌∙◌}
-use Rattle.std.specs.Prelude.{codes}
-use Rattle.std.proofs.lemmas.Bool.{and_parts}
-use Rattle.std.proofs.lemmas.Str.{encode_ascii}
-use Rattle.uri_pct.specs.DecodeUnreserved.{decode_unreserved}
-use Rattle.uri_pct.specs.Tables.{set_of}
-use Rattle.uri_pct.specs.Tokens.{print}
+use Rattle.uri_ops.proofs.Common.{◌≡◌, ◌++◌, ap, lit<, refl, string_bytes, sym, ◌∙◌, codes, and_parts, encode_ascii, decode_unreserved, set_of, print}
 use Rattle.uri_ops.proofs.Meanings.Decodable.{valid-text-is-decodable}
 use Rattle.uri_ops.proofs.Paths.WrittenPieces.{text-of-one-byte-slash-is-slash, slash-decodes-to-slash}
 use Rattle.uri_ops.proofs.normalize.decoded_paths.DecodedSegmentMode.push.Goals as goal
@@ -16,12 +10,10 @@ returns-then-is_slash c =
     ∙ text-of-one-byte-slash-is-slash c.as_bytes.result.now (sym c.is_slash.ensures
     ∙ c.if-is_slash.true) in
     c.in_ok-push.ensures.bytes
-    ∙ ap (λ t. string_bytes c.args.out.now ++ t)
-    (encode_ascii 47 (lit< tt) ∙ sym (slash-decodes-to-slash set)
-    ∙ ap (λ t. print (decode_unreserved set t)) (sym piece))
+    ∙ ap (λ t. string_bytes c.args.out.now ++ t) (encode_ascii 47 (lit< tt)
+    ∙ sym (slash-decodes-to-slash set) ∙ ap (λ t. print (decode_unreserved set t)) (sym piece))
 
 pub push_decoded-requires : goal.push_decoded-requires
 push_decoded-requires c =
     let table = c.args.self.table.now in
-    valid-text-is-decodable table (set_of table) c.args.piece.now refl
-    (and_parts _ _ c.requires).1
+    valid-text-is-decodable table (set_of table) c.args.piece.now refl (and_parts _ _ c.requires).1

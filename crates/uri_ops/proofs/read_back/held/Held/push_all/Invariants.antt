@@ -1,6 +1,5 @@
 -- The bytes so far come after those that were held.
-use Rattle.std.proofs.Common.{◌≡◌, ◌+◌, ◌++◌, length, take}
-use Rattle.uri_ops.specs.FromEnd.Held.{held_text}
+use Rattle.uri_ops.proofs.Common.{◌≡◌, ◌+◌, ◌++◌, length, take, held_text}
 use Rattle.uri_ops.proofs.read_back.held.Held.push_all.Given as goal
 
 abbrev pub invariant-loop-byte : goal.invariant-loop-byte

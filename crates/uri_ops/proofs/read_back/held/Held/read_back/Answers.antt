@@ -1,8 +1,6 @@
 -- The last bytes that are held are put into the block, and the others stay.
-use Rattle.std.proofs.Common.{◌-◌, ◌≤◌, ◌++◌, length, take, drop, ap, ◌∙◌, arith}
-use Rattle.std.proofs.lemmas.List.{length-take, take-take}
+use Rattle.uri_ops.proofs.Common.{◌-◌, ◌≤◌, ◌++◌, length, take, drop, ap, ◌∙◌, arith, length-take, take-take, false}
 use Rattle.uri_ops.proofs.FromEnd.Blocks.{literal_is_read}
-use Rattle.std.specs.Prelude.{false}
 use Rattle.uri_ops.proofs.read_back.held.Held.read_back.Goals as goal
 
 pub returns-clause-text : goal.returns-clause-text

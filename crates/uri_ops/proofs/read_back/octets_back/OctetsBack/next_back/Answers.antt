@@ -1,7 +1,6 @@
 -- Where nothing is held, and no text is left, nothing is left. A last ASCII character is the last
 -- byte.
-use Rattle.std.proofs.Common.{sym}
-use Rattle.uri_pct.specs.Tables.{set_of}
+use Rattle.uri_ops.proofs.Common.{sym, set_of}
 use Rattle.uri_ops.proofs.FromEnd.NormalTokens.{last_ascii_is_written_last, nothing_is_left}
 use Rattle.uri_ops.proofs.read_back.octets_back.OctetsBack.next_back.Goals as goal
 
@@ -15,11 +14,9 @@ returns-then-is_empty-clause-end c = λ none.
     nothing_is_left c.args.self.now.lowers (set_of c.args.self.now.table) c.args.self.now.rest.now _
     (sym c.if-is_empty.ensures) c.in_default.ensures.1
 
-pub returns-in-Some-split_last_ascii-clause-some :
-    goal.returns-in-Some-split_last_ascii-clause-some
+pub returns-in-Some-split_last_ascii-clause-some : goal.returns-in-Some-split_last_ascii-clause-some
 returns-in-Some-split_last_ascii-clause-some c =
     last_ascii_is_written_last (set_of c.args.self.now.table) c.args.self.now.lowers
-    c.args.self.now.rest.now c.in-Some-split_last_ascii.rest.now _ _
-    c.in-Some-split_last_ascii.byte c.normal_ascii.result c.in-Some-split_last_ascii.ensures.1
-    c.in-Some-split_last_ascii.ensures.0 c.normal_ascii.ensures c.in_default.ensures.0
-    c.in_default.ensures.1
+    c.args.self.now.rest.now c.in-Some-split_last_ascii.rest.now _ _ c.in-Some-split_last_ascii.byte
+    c.normal_ascii.result c.in-Some-split_last_ascii.ensures.1 c.in-Some-split_last_ascii.ensures.0
+    c.normal_ascii.ensures c.in_default.ensures.0 c.in_default.ensures.1

@@ -1,6 +1,5 @@
 -- Where no text is left and the block is not full, nothing is held.
-use Rattle.std.proofs.Common.{sym}
-use Rattle.uri_pct.specs.Tables.{set_of}
+use Rattle.uri_ops.proofs.Common.{sym, set_of}
 use Rattle.uri_ops.proofs.FromEnd.NormalTokens.{nothing_is_left}
 use Rattle.uri_ops.proofs.read_back.octets_back.OctetsBack.read_back.Goals as goal
 

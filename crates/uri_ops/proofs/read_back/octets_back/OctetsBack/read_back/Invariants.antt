@@ -1,8 +1,6 @@
 -- The bytes that were taken are in the block from `start` on, and what was held is among them if
 -- the block is not full.
-use Rattle.std.proofs.Common.{◌≡◌, ◌≤◌, ◌<◌, ◌++◌, [], length, drop}
-use Rattle.uri_ops.specs.FromEnd.Held.{held_text}
-use Rattle.uri_ops.specs.FromEnd.OctetsBack.{octets_unread}
+use Rattle.uri_ops.proofs.Common.{◌≡◌, ◌≤◌, ◌<◌, ◌++◌, [], length, drop, held_text, octets_unread}
 use Rattle.uri_ops.proofs.read_back.octets_back.OctetsBack.read_back.Given as goal
 
 abbrev pub invariant-loop-start : goal.invariant-loop-start

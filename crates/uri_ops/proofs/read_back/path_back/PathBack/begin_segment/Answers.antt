@@ -1,8 +1,4 @@
-use Rattle.std.proofs.Common.{subst}
-use Rattle.std.proofs.lemmas.Str.{IsUtf8-from_is_utf8, is_utf8-from_IsUtf8}
-use Rattle.uri_pct.specs.Tables.{set_of}
-use Rattle.uri_ops.specs.FromEnd.OctetsBack.{octets_unread}
-use Rattle.uri_ops.specs.FromEnd.SegmentsLeft.{segments_left}
+use Rattle.uri_ops.proofs.Common.{subst, IsUtf8-from_is_utf8, is_utf8-from_IsUtf8, set_of, octets_unread, segments_left}
 use Rattle.uri_ops.proofs.FromEnd.PathBack.{IsDecodableText, decodable-text-splits, unread-of-begun-segment, unread-of-read-path}
 use Rattle.uri_ops.proofs.read_back.path_back.PathBack.begin_segment.Goals as goal
 

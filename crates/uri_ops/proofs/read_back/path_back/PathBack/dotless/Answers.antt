@@ -1,9 +1,4 @@
-use Rattle.std.proofs.Common.{inr}
-use Rattle.std.proofs.lemmas.Str.{is_utf8-from_IsUtf8}
-use Rattle.uri_pct.specs.Tables.{set_of}
-use Rattle.uri_ops.specs.Dots.{remove_dot_segments}
-use Rattle.uri_ops.specs.FromEnd.OctetsBack.{octets_unread}
-use Rattle.uri_ops.specs.FromEnd.SegmentsLeft.{segments_left}
+use Rattle.uri_ops.proofs.Common.{inr, is_utf8-from_IsUtf8, set_of, remove_dot_segments, octets_unread, segments_left}
 use Rattle.uri_ops.proofs.FromEnd.PathBack.{empty-text-is-decodable, segments_left-are-decodable, unread-of-dotless-path}
 use Rattle.uri_ops.proofs.FromEnd.SegmentsLeft.{abempty-path-passes-test}
 use Rattle.uri_ops.proofs.read_back.path_back.PathBack.dotless.Goals as goal

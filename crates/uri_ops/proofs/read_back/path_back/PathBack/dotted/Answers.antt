@@ -1,10 +1,4 @@
-use Rattle.std.proofs.Common.{[], refl, ap, subst, sym, ◌∙◌}
-use Rattle.std.specs.Str.{is_utf8}
-use Rattle.std.proofs.lemmas.Str.{is_utf8-from_IsUtf8}
-use Rattle.uri_pct.specs.Chunks.{widest_set}
-use Rattle.uri_pct.specs.Tables.{set_of}
-use Rattle.uri_pct.specs.Tokens.{IsValidFor}
-use Rattle.uri_ops.specs.FromEnd.OctetsBack.{octets_unread}
+use Rattle.uri_ops.proofs.Common.{[], refl, ap, subst, sym, ◌∙◌, is_utf8, is_utf8-from_IsUtf8, widest_set, set_of, IsValidFor, octets_unread}
 use Rattle.uri_ops.proofs.FromEnd.PathBack.{empty-text-is-decodable, unread-of-dotted-path}
 use Rattle.uri_ops.proofs.FromEnd.SegmentsLeft.{segments_left-of-nothing}
 use Rattle.uri_ops.proofs.read_back.path_back.PathBack.dotted.Goals as goal

@@ -1,9 +1,5 @@
 -- A path without dot segments is what the removal of them leaves.
-use Rattle.std.proofs.Common.{◌≡◌, true, false, if◌then◌else◌, sym, ap, ◌∙◌}
-use Rattle.std.proofs.lemmas.Bool.{cond-true, cond-false, not-false}
-use Rattle.uri_pct.specs.Tables.{set_of}
-use Rattle.uri_ops.specs.Dots.{lacks_dot_segments, remove_dot_segments}
-use Rattle.uri_ops.specs.FromEnd.NormalComponents.{normal_component}
+use Rattle.uri_ops.proofs.Common.{◌≡◌, true, false, if◌then◌else◌, sym, ap, ◌∙◌, cond-true, cond-false, not-false, set_of, remove_dot_segments, normal_component}
 use Rattle.uri_ops.proofs.Paths.DotLaws.{remove-dots-of-dotless}
 use Rattle.uri_ops.proofs.read_back.path_back.PathBack.new.Goals as goal
 

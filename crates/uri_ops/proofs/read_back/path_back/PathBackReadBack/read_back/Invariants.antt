@@ -1,7 +1,6 @@
 -- The bytes that were taken are in the block from `end` on. Nothing is left of the segment unless
 -- the block is full.
-use Rattle.std.proofs.Common.{◌≡◌, ◌≤◌, ◌<◌, ◌++◌, [], length, drop}
-use Rattle.uri_ops.specs.FromEnd.OctetsBack.{octets_unread}
+use Rattle.uri_ops.proofs.Common.{◌≡◌, ◌≤◌, ◌<◌, ◌++◌, [], length, drop, octets_unread}
 use Rattle.uri_ops.specs.FromEnd.PathBack.{path_unread}
 use Rattle.uri_ops.proofs.read_back.path_back.PathBackReadBack.read_back.Given as goal
 

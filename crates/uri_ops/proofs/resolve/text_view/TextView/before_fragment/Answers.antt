@@ -1,22 +1,15 @@
-use Rattle.std.proofs.Common.{[], ap, sym, subst, ◌++◌, ◌∙◌}
-use Rattle.std.specs.Prelude.{codes, slice_range}
-use Rattle.std.specs.Str.{IsCharBoundary}
-use Rattle.uri_parts.specs.Components.{components, marked}
-use Rattle.uri_ops.specs.Models.Places.{before_path}
+use Rattle.uri_ops.proofs.Common.{[], ap, sym, subst, ◌++◌, ◌∙◌, codes, slice_range, IsCharBoundary, components, marked, before_path}
 use Rattle.uri_ops.proofs.Targeting.TextViews.{query-end-is-boundary, slice-before-fragment}
 use Rattle.uri_ops.proofs.resolve.text_view.TextView.before_fragment.Goals as goal
 
 pub range-requires-clause-end_boundary : goal.range-requires-clause-end_boundary
-range-requires-clause-end_boundary c =
-    subst (IsCharBoundary c.as_str-text.result.now) (sym c.before_fragment.ensures)
-    (query-end-is-boundary c.as_str-text.result.now c.unpack-positions.result c.as_str-text.utf8
-    c.unpack-positions.ensures)
+range-requires-clause-end_boundary c = subst (IsCharBoundary c.as_str-text.result.now)
+    (sym c.before_fragment.ensures) (query-end-is-boundary c.as_str-text.result.now
+    c.unpack-positions.result c.as_str-text.utf8 c.unpack-positions.ensures)
 
 pub returns : goal.returns
-returns c =
-    c.range.ensures.value
+returns c = c.range.ensures.value
     ∙ ap (slice_range c.as_str-text.result.now 0) c.before_fragment.ensures
     ∙ slice-before-fragment c.as_str-text.result.now c.unpack-positions.result c.as_str-text.utf8
-    c.unpack-positions.ensures
-    ∙ ap (λ t. (before_path (components t) ++ (components t).path) ++ marked (codes "?")
-    (components t).query []) c.as_str-text.ensures.text
+    c.unpack-positions.ensures ∙ ap (λ t. (before_path (components t) ++ (components t).path)
+    ++ marked (codes "?") (components t).query []) c.as_str-text.ensures.text

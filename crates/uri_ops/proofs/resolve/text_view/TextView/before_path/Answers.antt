@@ -1,17 +1,12 @@
-use Rattle.std.proofs.Common.{ap, ◌∙◌}
-use Rattle.uri_parts.specs.Components.{components}
-use Rattle.uri_ops.specs.Models.Places.{before_path}
+use Rattle.uri_ops.proofs.Common.{ap, ◌∙◌, components, before_path}
 use Rattle.uri_ops.proofs.Targeting.TextViews.{path_start-is-boundary, slice-before-path}
 use Rattle.uri_ops.proofs.resolve.text_view.TextView.before_path.Goals as goal
 
 pub range-requires-clause-end_boundary : goal.range-requires-clause-end_boundary
-range-requires-clause-end_boundary c =
-    path_start-is-boundary c.as_str-text.result.now c.unpack-positions.result c.as_str-text.utf8
-    c.unpack-positions.ensures
+range-requires-clause-end_boundary c = path_start-is-boundary
+    c.as_str-text.result.now c.unpack-positions.result c.as_str-text.utf8 c.unpack-positions.ensures
 
 pub returns : goal.returns
-returns c =
-    c.range.ensures.value
+returns c = c.range.ensures.value
     ∙ slice-before-path c.as_str-text.result.now c.unpack-positions.result c.as_str-text.utf8
-    c.unpack-positions.ensures
-    ∙ ap (λ t. before_path (components t)) c.as_str-text.ensures.text
+    c.unpack-positions.ensures ∙ ap (λ t. before_path (components t)) c.as_str-text.ensures.text

@@ -1,6 +1,4 @@
-use Rattle.std.proofs.Common.{ap, subst, ◌∙◌}
-use Rattle.std.specs.Str.{IsUtf8}
-use Rattle.uri_parts.specs.Components.{components}
+use Rattle.uri_ops.proofs.Common.{ap, subst, ◌∙◌, IsUtf8, components}
 use Rattle.uri_ops.proofs.resolve.text_view.TextView.of.Goals as goal
 
 pub returns-clause-components : goal.returns-clause-components

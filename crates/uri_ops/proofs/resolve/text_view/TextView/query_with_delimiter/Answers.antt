@@ -1,26 +1,18 @@
-use Rattle.std.proofs.Common.{ap, sym, subst, [], ◌∙◌}
-use Rattle.std.specs.Prelude.{codes, slice_range}
-use Rattle.std.specs.Str.{IsCharBoundary}
-use Rattle.uri_parts.specs.Components.{components, marked}
+use Rattle.uri_ops.proofs.Common.{ap, sym, subst, [], ◌∙◌, codes, slice_range, IsCharBoundary, components, marked}
 use Rattle.uri_ops.proofs.Targeting.TextViews.{path_end-is-boundary, query-end-is-boundary, slice-of-query}
 use Rattle.uri_ops.proofs.resolve.text_view.TextView.query_with_delimiter.Goals as goal
 
 pub range-requires-clause-start_boundary : goal.range-requires-clause-start_boundary
-range-requires-clause-start_boundary c =
-    λ _. path_end-is-boundary c.as_str-text.result.now c.unpack-positions.result c.as_str-text.utf8
-    c.unpack-positions.ensures
+range-requires-clause-start_boundary c = λ _. path_end-is-boundary
+    c.as_str-text.result.now c.unpack-positions.result c.as_str-text.utf8 c.unpack-positions.ensures
 
 pub range-requires-clause-end_boundary : goal.range-requires-clause-end_boundary
-range-requires-clause-end_boundary c =
-    subst (IsCharBoundary c.as_str-text.result.now) (sym c.before_fragment.ensures)
-    (query-end-is-boundary c.as_str-text.result.now c.unpack-positions.result c.as_str-text.utf8
-    c.unpack-positions.ensures)
+range-requires-clause-end_boundary c = subst (IsCharBoundary c.as_str-text.result.now)
+    (sym c.before_fragment.ensures) (query-end-is-boundary c.as_str-text.result.now
+    c.unpack-positions.result c.as_str-text.utf8 c.unpack-positions.ensures)
 
 pub returns : goal.returns
-returns c =
-    c.range.ensures.value
-    ∙ ap (slice_range c.as_str-text.result.now c.unpack-positions.result.path_end)
-    c.before_fragment.ensures
-    ∙ slice-of-query c.as_str-text.result.now c.unpack-positions.result c.as_str-text.utf8
-    c.unpack-positions.ensures
+returns c = c.range.ensures.value ∙ ap (slice_range c.as_str-text.result.now
+    c.unpack-positions.result.path_end) c.before_fragment.ensures ∙ slice-of-query
+    c.as_str-text.result.now c.unpack-positions.result c.as_str-text.utf8 c.unpack-positions.ensures
     ∙ ap (λ t. marked (codes "?") (components t).query []) c.as_str-text.ensures.text

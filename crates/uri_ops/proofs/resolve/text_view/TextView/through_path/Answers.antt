@@ -1,6 +1,4 @@
-use Rattle.std.proofs.Common.{ap, ◌++◌, ◌∙◌}
-use Rattle.uri_parts.specs.Components.{components}
-use Rattle.uri_ops.specs.Models.Places.{before_path}
+use Rattle.uri_ops.proofs.Common.{ap, ◌++◌, ◌∙◌, components, before_path}
 use Rattle.uri_ops.proofs.Targeting.TextViews.{slice-through-path, path_end-is-boundary}
 use Rattle.uri_ops.proofs.resolve.text_view.TextView.through_path.Goals as goal
 
@@ -9,8 +7,6 @@ range-requires-clause-end_boundary c = path_end-is-boundary c.as_str-text.result
     c.unpack-positions.result c.as_str-text.utf8 c.unpack-positions.ensures
 
 pub returns : goal.returns
-returns c =
-    c.range.ensures.value
-    ∙ slice-through-path c.as_str-text.result.now c.unpack-positions.result c.as_str-text.utf8
-    c.unpack-positions.ensures
+returns c = c.range.ensures.value ∙ slice-through-path
+    c.as_str-text.result.now c.unpack-positions.result c.as_str-text.utf8 c.unpack-positions.ensures
     ∙ ap (λ t. before_path (components t) ++ (components t).path) c.as_str-text.ensures.text

@@ -1,7 +1,4 @@
-use Rattle.std.proofs.Common.{ap, subst, sym, take, ◌+◌, ◌∙◌}
-use Rattle.std.specs.Str.{IsCharBoundary, IsUtf8}
-use Rattle.uri_parts.specs.Positions.{ArePositionsOf}
-use Rattle.uri_parts.proofs.Splitting.Fragments.{slice_range-from-start}
+use Rattle.uri_ops.proofs.Common.{ap, subst, sym, take, ◌+◌, ◌∙◌, IsCharBoundary, IsUtf8, ArePositionsOf, slice_range-from-start}
 use Rattle.uri_ops.proofs.Targeting.TextViews.{through_slash}
 use Rattle.uri_ops.proofs.resolve.text_view.TextView.through_slash.Goals as goal
 
@@ -12,9 +9,8 @@ range-requires-clause-end_boundary c =
     let same = c.as_str-text.ensures.text in
     let at : ArePositionsOf text p =
     subst (λ t. ArePositionsOf t p) same c.unpack-positions.ensures in
-    subst (λ t. IsCharBoundary t (p.path_start + c.args.slash + 1)) (sym same)
-    (through_slash text p (subst IsUtf8 same c.as_str-text.utf8) at c.args.slash c.requires.absolute
-    c.requires.place).0
+    subst (λ t. IsCharBoundary t (p.path_start + c.args.slash + 1)) (sym same) (through_slash text p
+    (subst IsUtf8 same c.as_str-text.utf8) at c.args.slash c.requires.absolute c.requires.place).0
 
 pub returns : goal.returns
 returns c =
@@ -25,6 +21,5 @@ returns c =
     let at : ArePositionsOf text p =
     subst (λ t. ArePositionsOf t p) same c.unpack-positions.ensures in
     c.range.ensures.value ∙ slice_range-from-start c.as_str-text.result.now end
-    ∙ ap (take end) same
-    ∙ (through_slash text p (subst IsUtf8 same c.as_str-text.utf8) at c.args.slash
-    c.requires.absolute c.requires.place).1
+    ∙ ap (take end) same ∙ (through_slash text p
+    (subst IsUtf8 same c.as_str-text.utf8) at c.args.slash c.requires.absolute c.requires.place).1

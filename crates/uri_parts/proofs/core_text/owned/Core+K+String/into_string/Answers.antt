@@ -1,4 +1,4 @@
-use Rattle.std.proofs.Common.{rules}
+use Rattle.uri_parts.proofs.Common.{rules}
 use Rattle.uri_parts.proofs.core_text.owned.Core+K+String.into_string.Goals as goal
 
 pub returns : goal.returns
