@@ -1,6 +1,6 @@
 -- The outcomes of errors in an authority.
 use Rattle.error_laws.proofs.Common.{◌≡◌, ℕ, suc, ◌+◌, ◌-◌, ◌<◌, ◌≤◌, Bool, true, false, cond, eqb, ap, List, ◌∷◌, ◌++◌, take, drop, Some, refl, sym, subst, ◌∙◌, arith, ◌&&◌, ⊎_elim, length-drop, rules, codes, nat_lt, IsUtf8, drop-drop, cases_Bool, cases_lt, cond-true, cond-false, and_left, and_right, and_from, eq-eqb, ltb-true, ltb-false, lt-ltb, le-ltb, both_ways, nat_tests, same_Some, valid_prefix, digit_set, is_one_of, ParseError, starts, Kind, OptionalParseError, ◌>>=◌, last_colon, error_from_abempty_path, error_from_host, error_from_name, error_from_authority, is_next, scan_end, text-begins-with-one-byte-alone, userinfo-stops-with-name-without-colon, scan-stops-at-stray-percent-or-goes-on, nothing-is-scanned-at-mark, empty-or-marked-for-more-marks, begins-with-mark, begins-with-no-other, text-at-mark-is-mark-and-rest, utf8_around_ascii_byte, is_unrooted, is_late_from_host, is_late_from_authority}
-use Rattle.uri_pct.proofs.ValidTexts.TokenCuts.{reserved_is_never_in_octet, valid_before_mark}
+use Rattle.uri_pct.proofs.Offered.{reserved_is_never_in_octet, valid_before_mark}
 use Rattle.error_laws.proofs.Marks.{literal-is-utf8, At}
 use Rattle.error_laws.proofs.HostOutcomes.{host-outcome, scan-stops-at-its-end}
 use Rattle.error_laws.proofs.KindFacts.{Facts, path-stops-with-userinfo}

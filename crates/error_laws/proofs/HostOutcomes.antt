@@ -2,10 +2,9 @@
 use Rattle.error_laws.proofs.Common.{◌≡◌, ℕ, ◌+◌, ◌≤◌, Bool, true, false, eqb, List, [], ◌++◌, length, take, drop, Option, Some, None, refl, sym, ap, subst, ◌∙◌, arith, ◌⊎◌, ◌&&◌, ◌||◌, ⊎_elim, length-append, take_all, length-take-le, drop_at, take-append-drop, rules, codes, Ok, Err, is_ok, cases_Bool, cond-true, cond-false, and_parts, or_left, both_ways, false≢true, ltb-true, eq-eqb, not-true, not_from_false, nat_tests, drop-drop, drop_all, none-some, same_Some, IsUtf8-nil, IsUtf8-append, IsUtf8-take, IsCharBoundary-from_drop, valid_prefix, TableSet, nothing_is_scanned_after_valid_prefix, ParseError, starts, unexpected, Kind, literal, ipv6_end, cannot_begin_ipv6, closed, OptionalParseError, ◌>>=◌, error_from_port, error_from_host, ScanResult, is_next, is_at_end, scan_end, text-begins-with-one-byte-alone, userinfo-stops-with-name-without-colon, stray-percent-stops-every-set, scan-stops-at-stray-percent-or-goes-on, empty-or-marked-for-more-marks, holds_at_end, is_ipv6_end_uncounted, is_late_from_port, is_late_from_host}
 use Rattle.std.specs.Option.{option_map_or}
 use Rattle.std.specs.Str.{IsUtf8}
-use Rattle.uri_parts.proofs.Refusals.Complete.{cannot_begin_ipv6-has-no-end}
+use Rattle.uri_parts.proofs.Offered.{cannot_begin_ipv6-has-no-end, literal-without-address-is-unexpected}
 use Rattle.error_laws.proofs.Marks.{literal-is-utf8, At}
 use Rattle.error_laws.proofs.LongerTexts.{longer-text-begins-no-version, end-is-past-text}
-use Rattle.uri_parts.proofs.Refusals.Literals.{literal-without-address-is-unexpected}
 use Rattle.error_laws.proofs.KindFacts.{Facts, path-stops-with-userinfo}
 use Rattle.error_laws.proofs.LiteralHosts.{Closes, CanClose, literal-closes}
 use Rattle.error_laws.proofs.LongerAddresses.{ipv6-closes-with-text, ipv6-ends-within-text}

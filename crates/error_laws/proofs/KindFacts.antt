@@ -1,8 +1,6 @@
 -- What the sets of the four kinds have in common, and what goes on where another stops.
 use Rattle.error_laws.proofs.Common.{arith, ◌≡◌, ℕ, Bool, true, false, List, [], refl, ⊎_elim, rules, codes, nat_tests, valid_prefix, allows_past_ascii, is_one_of, is_userinfo_char, is_path_char, excludes, starts, Kind, first_segment_set, kind_by_flags, Adjoins, greater-set-goes-on-with-mark, nothing-is-scanned-at-mark, begins-with-further-mark}
-use Rattle.uri_parts.proofs.Refusals.Whole.{known-kind-adjoins}
-use Rattle.uri_parts.proofs.TextKinds.KindSets.{each_kind_separates_components}
-use Rattle.uri_parts.proofs.TextKinds.Separations.{SeparatesComponents, HasAllBut, greater-set-has-all-but-marks}
+use Rattle.uri_parts.proofs.Offered.{known-kind-adjoins, each_kind_separates_components, SeparatesComponents, HasAllBut, greater-set-has-all-but-marks}
 
 -- error law: what it needs of the sets of each of the four kinds
 pub record Facts (kind : Kind) : Type 0 where

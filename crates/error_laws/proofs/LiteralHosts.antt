@@ -3,12 +3,9 @@ use Rattle.error_laws.proofs.Common.{◌≡◌, ℕ, ◌+◌, ◌<◌, ◌≤◌
 use Rattle.std.specs.Net.Grammar.{IsColonHex}
 use Rattle.std.specs.Option.{option_map_or}
 use Rattle.std.specs.Str.{IsUtf8, chars}
-use Rattle.uri_pct.proofs.ValidTexts.Appending.{valid_text_after_valid_text_is_valid}
+use Rattle.uri_pct.proofs.Offered.{valid_text_after_valid_text_is_valid}
 use Rattle.uri_parts.specs.Hosts.{IsIpvFuture}
-use Rattle.uri_parts.proofs.HostForms.Addresses.{is_address_char, is_address_text, ipv6_value-complete, ipv6-text-is-address-text}
-use Rattle.uri_parts.proofs.HostForms.Futures.{is_ipv_future-complete, version-letter-is-ascii, ipv6-text-lacks-excluded-marks, ipvfuture-text-lacks-excluded-marks}
-use Rattle.uri_parts.proofs.Parsing.Acceptance.{is_literal}
-use Rattle.uri_parts.proofs.Splitting.Recompose.{text-with-mark-is-mark-and-rest}
+use Rattle.uri_parts.proofs.Offered.{is_address_char, is_address_text, ipv6_value-complete, ipv6-text-is-address-text, is_ipv_future-complete, version-letter-is-ascii, ipv6-text-lacks-excluded-marks, ipvfuture-text-lacks-excluded-marks, is_literal, text-with-mark-is-mark-and-rest}
 use Rattle.error_laws.proofs.Marks.{literal-is-utf8, tested-ascii-is-utf8}
 use Rattle.error_laws.proofs.LongerAddresses.{ipv6-ends-within-text}
 use Rattle.error_laws.proofs.SharedPrefixes.{IsPosition, position-after-mark, scan-ends-at-position, scanned-part-is-valid, taken-in-two-steps}

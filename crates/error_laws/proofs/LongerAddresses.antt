@@ -1,7 +1,7 @@
 -- Where the groups of an IPv6 address end in a text that goes on, and with a `]` after it.
 use Rattle.error_laws.proofs.Common.{◌≡◌, ◌≢◌, ℕ, zero, suc, ◌+◌, ◌-◌, ◌<◌, ◌≤◌, Bool, true, false, not, cond, eqb, List, [], ◌++◌, length, drop, ◌⊎◌, inl, inr, Option, Some, None, refl, sym, ap, subst, ◌∙◌, arith, ◌&&◌, ◌||◌, ⊎_elim, drop_at, codes, nat_lt, rules, cases_Bool, cases_lt, cond-false, both_ways, eqb-true, eq-eqb, and_parts, and_right, and_left, le-ltb, false≢true, cases_eq, drop-append-le, drop_more, drop_all, none-some, cond_some, nat_tests, starts, is_end, Groups, Groups_end, Elision, Malformed, digits_end, ipv4_end, after_ipv4, groups_from, after_elision, after_groups, ipv6_end, is_next, is_at_end}
 use Rattle.std.specs.Net.Reader.{digit_count}
-use Rattle.uri_parts.proofs.Refusals.GroupTurns.{groups_from-ends-without-room, dotted, text-with-mark-is-not-ended, groups_from-ends-without-group, groups_from-elides-at-two-colons, groups_from-rejects-lone-colon, groups_from-ends-with-text, groups_from-rejects-misplaced-colon, groups_from-rejects-ipv4-without-room, groups_from-goes-on-after-group}
+use Rattle.uri_parts.proofs.Offered.{groups_from-ends-without-room, dotted, text-with-mark-is-not-ended, groups_from-ends-without-group, groups_from-elides-at-two-colons, groups_from-rejects-lone-colon, groups_from-ends-with-text, groups_from-rejects-misplaced-colon, groups_from-rejects-ipv4-without-room, groups_from-goes-on-after-group}
 use Rattle.error_laws.proofs.LongerTexts.{groups_end, end_with_room, elided-address-has-room, groups-with-room-end-address, next-is-kept-in-longer-text, end-is-past-text, closing, bytes-are-no-end, empty-text-is-end, digits_end-is-kept-in-longer-text, ipv4-ends-within-text, next-before-bracket-is-kept, digits_end-is-no-earlier-in-longer-text, digits_end-is-kept-where-none-follow, digits_end-is-within-text, ipv4-is-kept-before-bracket}
 use Rattle.error_laws.proofs.SharedPrefixes.{mark-is-within-text}
 

@@ -4,7 +4,7 @@ use Rattle.std.specs.Char.{is_digit}
 use Rattle.std.specs.Net.Reader.{digit_count}
 use Rattle.std.proofs.lemmas.List.Sums.{prefix_len-le-length}
 use Rattle.error_laws.proofs.SharedPrefixes.{is_next-by-byte, mark-is-within-text}
-use Rattle.uri_parts.proofs.Refusals.Literals.{version-letter-begins-no-ipv6}
+use Rattle.uri_parts.proofs.Offered.{version-letter-begins-no-ipv6}
 
 -- error law: what is next before the end of a text is next in a longer text too
 pub next-is-kept-in-longer-text : (text more : List ℕ) (mark i : ℕ) → i < length text

@@ -1,6 +1,6 @@
 -- Scans that end at marks, and ASCII texts.
 use Rattle.error_laws.proofs.Common.{◌≡◌, ℕ, true, List, [], ◌∷◌, ◌++◌, length, drop, ap, sym, ◌∙◌, zero, suc, Bool, ltb, ◌<◌, arith, IsUtf8, IsAscii, eqb-true, and_parts, ltb-true, valid_prefix, TableSet, LacksPercent, IsValidFor, is_valid_for, excludes, cut, IsEmptyOrMarked, cut-at-end-of-text-without-marks, valid_text_lacks_excluded_marks, IsUtf8-from_ascii}
-use Rattle.uri_parts.proofs.Authorities.AuthorityCuts.{length-of-text-before-marks}
+use Rattle.uri_parts.proofs.Offered.{length-of-text-before-marks}
 use Rattle.std.specs.List.{list_all}
 
 -- error law: at an index of a text it ends, or one of the marks is next

@@ -1,6 +1,6 @@
 -- The outcomes of errors in a fragment, a query, a path and a port.
 use Rattle.error_laws.proofs.Common.{◌≡◌, ℕ, ◌+◌, ◌<◌, ◌≤◌, Bool, true, false, cond, eqb, List, [], ◌∷◌, drop, Some, None, refl, sym, ap, subst, ◌∙◌, arith, ◌&&◌, ◌||◌, inl, ⊎_elim, inr, ◌⊎◌, length-drop, codes, Ok, IsUtf8, cases_Bool, cond-true, cond-false, and_parts, and_from, or_left, or_right, or_from, or_parts, both_ways, eq-eqb, eqb-true, ne_eqb, ltb-true, lt-ltb, not-true, not_from_false, or_cases, same_Some, none-some, IsUtf8-nil, IsCharBoundary-from_take, nat_tests, valid_prefix, TableSet, LacksPercent, digit_set, is_one_of, IsValidFor, excludes, ParseError, starts, is_end, unexpected, stray_percent, Kind, OptionalParseError, ◌>>=◌, error_from_end, error_from_fragment, error_from_query, error_from_path, error_from_abempty_path, error_from_port, error_from_host, is_next, is_at_end, scan_end, scan, scan-stops-at-stray-percent-or-goes-on, IsEmptyOrMarked, empty-or-marked-for-more-marks, begins-with-no-other, is_unrooted, is_late_from_port}
-use Rattle.uri_pct.proofs.ValidTexts.LongestPrefixes.{empty_text_has_empty_valid_prefix, valid_prefix_is_longest}
+use Rattle.uri_pct.proofs.Offered.{empty_text_has_empty_valid_prefix, valid_prefix_is_longest}
 use Rattle.error_laws.proofs.KindFacts.{Facts}
 use Rattle.error_laws.proofs.LongerTexts.{empty-text-is-end}
 use Rattle.error_laws.proofs.Marks.{At}

@@ -1,6 +1,6 @@
 -- Which texts are exceptions to the law of viable prefixes, by the definition alone.
 use Rattle.error_laws.proofs.Common.{◌≡◌, map, refl, has_late_error, is_late_from_authority, is_late_from_host, is_late_from_port}
-use Rattle.uri_parts.proofs.Refusals.OnLiterals.{errors_on_literals}
+use Rattle.uri_parts.proofs.Offered.{errors_on_literals}
 use Rattle.error_laws.specs.ViablePrefixRows.{late_error_rows}
 
 -- error law: the stored examples have the late errors that their rows say

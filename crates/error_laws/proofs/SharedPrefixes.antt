@@ -3,12 +3,9 @@
 use Rattle.error_laws.proofs.Common.{◌≡◌, ℕ, ◌+◌, ◌-◌, ◌<◌, ◌≤◌, true, false, eqb, List, [], ◌∷◌, ◌++◌, ap, length, get_or, take, drop, refl, sym, subst, ◌∙◌, arith, ◌&&◌, ⊎_elim, length-append, length-drop, length-take-le, take-append-drop, take_at, drop_at, append_assoc, Ok, is_ok, codes, IsUtf8, rules, cases_Bool, cond-true, cond-false, and_parts, eqb-true, and_right, false≢true, drop-drop, drop-take, take-take, get_or-take, get_or-drop, drop_more, drop_all, same_Some, IsUtf8-take, IsUtf8-drop, IsCharBoundary-from_drop, IsCharBoundary-from_take, IsCharBoundary-before_ascii, nat_tests, allows_first, valid_prefix, TableSet, LacksPercent, allows_past_ascii, digit_set, is_one_of, IsValidFor, excludes, valid_prefix_is_at_most_length, Lacks, starts, before_any, from_any, has_authority, literal, is_next, scan_end, scan, valid_prefix-at-digit-is-one-more, valid_prefix-at-other-byte-is-zero, IsEmptyOrMarked, text-is-cut-at-first-mark, cut-at-end-of-text-without-marks, begins-with-no-other, utf8_around_ascii_byte}
 use Rattle.std.specs.Result.{result_ok}
 use Rattle.std.proofs.Math.Seq.{take-append-add}
-use Rattle.uri_pct.proofs.ValidTexts.LongestPrefixes.{valid_prefix_ends_at_boundary, valid_prefix_is_valid}
+use Rattle.uri_pct.proofs.Offered.{valid_prefix_ends_at_boundary, valid_prefix_is_valid}
 use Rattle.uri_parts.specs.Models.Literals.{literal_length}
-use Rattle.uri_parts.proofs.Parsing.Acceptance.{is_literal, parses_literal}
-use Rattle.uri_parts.proofs.Parsing.ScanStops.{utf8_after_mark}
-use Rattle.uri_parts.proofs.Refusals.LiteralEnds.{literal-ends-as-parsed}
-use Rattle.uri_parts.proofs.Splitting.Recompose.{text-with-mark-is-mark-and-rest}
+use Rattle.uri_parts.proofs.Offered.{is_literal, parses_literal, utf8_after_mark, literal-ends-as-parsed, text-with-mark-is-mark-and-rest}
 use Rattle.error_laws.proofs.Marks.{At, valid-text-is-scanned-to-mark}
 
 -- error law: where a mark is next, the text does not end

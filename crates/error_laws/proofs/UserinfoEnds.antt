@@ -1,8 +1,7 @@
 -- Where userinfo, a name and a port end in one another, and the last `:` of a text.
 use Rattle.error_laws.proofs.Common.{◌≡◌, ℕ, zero, suc, ◌+◌, ◌<◌, ◌≤◌, true, false, List, ◌∷◌, drop, refl, ap, ◌∙◌, arith, ⊎_elim, drop-drop, rules, cases_Bool, cond-true, cond-false, and_right, eq-eqb, valid_prefix_from, valid_prefix, digit_set, valid_prefix_by_first_byte, valid_prefix_of_superset_goes_on_from_subset, Kind, last_colon, error_from_port, error_from_abempty_path, error_from_host, error_from_authority, is_next, scan_end, text-at-mark-is-mark-and-rest}
-use Rattle.uri_pct.proofs.ValidTexts.MarksInTexts.{ascii_byte_has_no_continuation}
-use Rattle.uri_pct.proofs.ValidTexts.Validity.{ascii_first_byte_is_allowed_iff_in_set}
-use Rattle.uri_parts.proofs.Refusals.Colons.{last_colon_is_below_position}
+use Rattle.uri_pct.proofs.Offered.{ascii_byte_has_no_continuation, ascii_first_byte_is_allowed_iff_in_set}
+use Rattle.uri_parts.proofs.Offered.{last_colon_is_below_position}
 use Rattle.error_laws.proofs.KindFacts.{Facts}
 use Rattle.error_laws.proofs.SharedPrefixes.{Alike, scan-goes-on, next-is-shared}
 

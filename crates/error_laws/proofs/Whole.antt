@@ -1,11 +1,7 @@
 -- The outcomes of errors in a whole text: the law of viable prefixes, and its exceptions.
 use Rattle.error_laws.proofs.Common.{◌≡◌, ℕ, ◌+◌, ◌<◌, ◌≤◌, Bool, true, false, cond, eqb, List, [], ◌∷◌, ◌++◌, length, get_or, take, drop, Some, None, refl, sym, ap, subst, ◌∙◌, arith, ◌&&◌, ⊎_elim, length-drop, take-append-drop, zero-add, codes, is_none, slice_index, IsUtf8, drop-drop, get_or-drop, cases_Bool, cases_lt, cond-true, cond-false, and_parts, and_left, and_right, and_cases, both_ways, false≢true, ltb-true, lt-ltb, not-true, not-false, or_right, same_Some, IsUtf8-nil, valid_prefix, TableSet, scheme_set, excludes, valid_prefix_of_superset_goes_on_from_subset, ParseError, has_authority, starts, unexpected, stray_percent, Kind, IsTextOf, is_of_kind, first_segment_set, OptionalParseError, ◌>>=◌, refusal, error_from_path, error_from_authority, error_from_hier_part, error_from_relative_path, is_next, scan_end, scan, scan-stops-at-stray-percent-or-goes-on, nothing-is-scanned-at-mark, IsEmptyOrMarked, empty-or-marked-for-more-marks, begins-with-mark, begins-with-no-other, IsViablePrefix, begins_without_letter, has_late_error, is_late_from_authority, is_late_from_hier}
 use Rattle.std.specs.Char.{is_ascii_alphabetic}
-use Rattle.uri_parts.proofs.Parsing.ScanStops.{utf8_after_slashes}
-use Rattle.uri_parts.proofs.Parsing.WholeTexts.{parses-is-is_of_kind, slashes-begin-with-no-colon, slashes-begin-with-no-scheme}
-use Rattle.uri_parts.proofs.Refusals.Accepted.{no-error-iff-text-is-parsed}
-use Rattle.uri_parts.proofs.Refusals.OnLiterals.{errors_on_literals}
-use Rattle.uri_parts.proofs.Refusals.Whole.{parsed_error-is-refusal}
+use Rattle.uri_parts.proofs.Offered.{utf8_after_slashes, parses-is-is_of_kind, slashes-begin-with-no-colon, slashes-begin-with-no-scheme, no-error-iff-text-is-parsed, errors_on_literals, parsed_error-is-refusal}
 use Rattle.error_laws.proofs.Marks.{literal-is-utf8, At}
 use Rattle.error_laws.proofs.AuthorityOutcomes.{authority-outcome}
 use Rattle.error_laws.proofs.HostOutcomes.{scan-stops-at-its-end}

@@ -6,7 +6,7 @@ use Rattle.uri_parts.specs.Components.{Components, components}
 use Rattle.uri_ops.specs.Resolving.{IsErrorFor, IsErrorWithUnderflowAllowed, IsTarget}
 use Rattle.uri_ops.specs.Target.{resolution_of_texts}
 use Rattle.uri_ops.specs.declared.resolve.error.ResolveError.{ResolveError}
-use Rattle.uri_ops.proofs.Targeting.NormalTargets.{allowed-underflow-is-no-error}
+use Rattle.uri_ops.proofs.Offered.{allowed-underflow-is-no-error}
 
 -- targets for callers: a returned text is what a reference resolves to
 pub target_is_resolution : {A E : Type 0} (base reference : List ℕ) (text_of : A → List ℕ)

@@ -12,8 +12,7 @@ use Rattle.uri_ops.specs.Resolving.{IsErrorWithUnderflowAllowed}
 use Rattle.uri_ops.specs.SchemeRules.{Rules, meaning_under}
 use Rattle.uri_ops.specs.Target.{resolution_of_texts}
 use Rattle.uri_ops.specs.declared.resolve.error.ResolveError.{ResolveError}
-use Rattle.uri_ops.proofs.Targeting.NormalTargets.{equal-mapped-results-are-ok-alike, equal-mapped-results-have-equal-errors, equal-mapped-results-have-equal-targets, mapped, resolution-is-unique, same-resolution-error-with-underflow-allowed}
-use Rattle.uri_ops.proofs.SchemeRules.RuledTargets.{resolving-respects-meaning}
+use Rattle.uri_ops.proofs.Offered.{equal-mapped-results-are-ok-alike, equal-mapped-results-have-equal-errors, equal-mapped-results-have-equal-targets, mapped, resolution-is-unique, same-resolution-error-with-underflow-allowed, resolving-respects-meaning}
 use Rattle.fluent_uri.specs.Targets.{target_of_texts}
 
 -- general fact on results, for targets: what a result has is what it is

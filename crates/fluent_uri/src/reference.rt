@@ -45,7 +45,7 @@ impl<K: Kind, T: AsStr + Copy> Copy for Reference<K, T> {}
 
 impl<K: Kind, T: AsStr> RiMaybeRef for Reference<K, T> {
     ghost use Rattle.std.specs.Prelude.{refl};
-    ghost use Rattle.uri_ops.proofs.TextKinds.FourKinds.{one-of-four-kinds-has-sets};
+    ghost use Rattle.uri_ops.proofs.Offered.{one-of-four-kinds-has-sets};
     ghost use Rattle.fluent_uri.specs.References.{reference_text};
 
     type Owned = Reference<K, String>;

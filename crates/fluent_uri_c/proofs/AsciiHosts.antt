@@ -1,14 +1,14 @@
 -- What is returned of a host in ASCII is the result that is defined.
 use Rattle.fluent_uri_c.proofs.Common.{◌≡◌, ℕ, true, List, [], arith, inl, inr, refl, sym, ap, ◌∙◌, subst, IsSomeAnd, Option, Some, None, Ok, Err, is_none, not, ok_or, option_map, is_utf8, cond-false, cond-true, false_from_ne_true, IsUtf8-from_is_utf8, is_utf8-from_IsUtf8, Components, components, recompose, Kind, Rejection, text_error}
 use Rattle.uri_ops.specs.Encoded.{encode_past_ascii}
-use Rattle.uri_ops.proofs.Meanings.AsciiCharacters.{ascii-bytes-are-utf8}
+use Rattle.uri_ops.proofs.Offered.{ascii-bytes-are-utf8}
 use Rattle.uri_parts.specs.Authority.{authority_parts}
 use Rattle.uri_parts.specs.Connecting.{name_bytes}
 use Rattle.uri_idna.specs.declared.error.AsciiHostError.{AsciiHostError}
 use Rattle.uri_idna.specs.declared.error.AsciiHostError.TheVariants.{InvalidName, NameNotUtf8, OutOfMemory}
 use Rattle.uri_idna.specs.AsciiHosts.{IsAsciiHostError, ascii_host, ascii_host_of, is_unencoded_ascii}
 use Rattle.uri_idna.specs.AsciiReferences.{IsAsciiHostErrorOf, ascii_components, with_authority, with_host}
-use Rattle.uri_idna.proofs.Names.{name_not_utf8_has_no_ascii_form, unencoded_ascii_name_stays}
+use Rattle.uri_idna.proofs.Offered.{name_not_utf8_has_no_ascii_form, unencoded_ascii_name_stays}
 use Rattle.fluent_uri_c.specs.AsciiHosts.{ascii_host_or_error, ascii_host_rejection, ascii_uri_of_kind, ascii_uri_or_error, host_or_empty, no_ascii_host, takes_memory_for_host}
 use Rattle.fluent_uri_c.proofs.HostNames.{empty_is_name}
 use Rattle.fluent_uri_c.proofs.Mends.{IsErrorOf}

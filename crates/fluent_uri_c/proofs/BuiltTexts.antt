@@ -6,14 +6,11 @@ use Rattle.fluent_uri.specs.Components.{marked, starts}
 use Rattle.fluent_uri.specs.Hosts.{host_kind, is_host}
 use Rattle.fluent_uri.specs.Sets.{TableSet, digit_set, scheme_set}
 use Rattle.fluent_uri.specs.Tokens.{is_valid_for}
-use Rattle.uri_parts.proofs.Theorems.{authority_parts-are-unique, is_authority_for-complete, is_host-sound}
+use Rattle.uri_parts.proofs.Offered.{authority_parts-are-unique, is_authority_for-complete, is_host-sound}
 use Rattle.uri_ops.specs.declared.build.error.BuildError.{BuildError}
 use Rattle.uri_ops.specs.Built.{build_error_of_path}
 use Rattle.uri_ops.specs.ComponentSets.{HasComponentSets}
-use Rattle.uri_ops.proofs.Builders.BuilderAuthorities.{authority-text-from-rule}
-use Rattle.uri_ops.proofs.Builders.Built.{accepted-parts-have-their-text}
-use Rattle.uri_ops.proofs.Meanings.AsciiCharacters.{ascii-bytes-are-utf8}
-use Rattle.uri_ops.proofs.Meanings.AuthorityMeanings.{kind-sets-lack-authority-delimiters}
+use Rattle.uri_ops.proofs.Offered.{authority-text-from-rule, accepted-parts-have-their-text, ascii-bytes-are-utf8, kind-sets-lack-authority-delimiters}
 use Rattle.fluent_uri_c.specs.declared.building.ComponentSpans.{ComponentSpans}
 
 -- building for C: a component that passes its test is UTF-8, and valid for its set

@@ -2,11 +2,10 @@
 use Rattle.fluent_uri_c.proofs.Common.{◌≡◌, ℕ, ◌<◌, ◌≤◌, true, false, ◌&&◌, List, length, refl, sym, ap, ◌∙◌, arith, zero-add, Some, None, IsTrue, IsUtf8, and_from, and_right, eq-eqb, ne_eqb, drop_all, is_utf8-from_IsUtf8, LacksPercent, TableSet, starts, is_text_for, parse_rejection, IsPossibleUtf8, component_error, component_refusal, is_possible_length}
 use Rattle.uri_pct.specs.Delimiters.{percent_sign}
 use Rattle.uri_pct.specs.Prefixes.{valid_prefix}
-use Rattle.uri_pct.proofs.ValidTexts.Cuts.{is_valid_for_is_scanned_to_end}
-use Rattle.uri_pct.proofs.ValidTexts.Prefixes.{valid_prefix_is_at_most_length}
+use Rattle.uri_pct.proofs.Offered.{is_valid_for_is_scanned_to_end, valid_prefix_is_at_most_length}
 use Rattle.uri_parts.specs.Errors.{unexpected}
 use Rattle.uri_parts.specs.Scanning.{is_next, scan_end}
-use Rattle.uri_parts.proofs.Parsing.NextBytes.{text_ends_where_position_is_length}
+use Rattle.uri_parts.proofs.Offered.{text_ends_where_position_is_length}
 use Rattle.fluent_uri_c.proofs.ValidBytes.{utf8_error-of-utf8}
 
 -- components for C: a text, and where a scan by the set ends in it

@@ -37,7 +37,7 @@ unfoldable pub use Rattle.uri_ops.specs.BuilderParts.{is_scheme_text, is_text_fo
 pub use Rattle.uri_ops.specs.NormalTargets.{reference_kind, IsNormalFormOfTarget}
 pub use Rattle.uri_ops.specs.RuleSets.{rules_of_set}
 pub use Rattle.uri_ops.specs.declared.scheme_rules.RuleSet.{RuleSet}
-pub use Rattle.uri_parts.proofs.Splitting.ComponentPositions.{authority_is_at_positions, fragment_is_at_positions, no_fragment_at_end, query_is_at_positions, path_is_at_positions}
+pub use Rattle.uri_parts.proofs.Offered.{authority_is_at_positions, fragment_is_at_positions, no_fragment_at_end, query_is_at_positions, path_is_at_positions}
 pub use Rattle.uri_parts.specs.Components.{Components, components, recompose, starts, before_any, from_any}
 pub use Rattle.uri_parts.specs.Grammar.{Kind, IsOfKind, iri_ref, kind_by_flags}
 pub use Rattle.uri_parts.specs.Hosts.{RegName, ipv6_value, is_future_address}

@@ -3,8 +3,7 @@
 use Rattle.fluent_uri_c.proofs.Common.{◌≡◌, ℕ, ◌+◌, ◌-◌, ◌<◌, ◌≤◌, true, List, ◌++◌, length, take, drop, map, sym, ap, ◌∙◌, arith, ⊎_elim, append_assoc, length-append, length-drop, encode_utf8, slice_range, IsUtf8, IsCharBoundary, cases_lt, drop-drop, take_at, IsUtf8-drop, TableSet, LacksPercent, Octet, print, mended}
 use Rattle.std.proofs.lemmas.List.Edits.{between_none}
 use Rattle.uri_pct.specs.Prefixes.{valid_prefix}
-use Rattle.uri_mend.proofs.ComponentProgress.{nothing-is-scanned-after-scan}
-use Rattle.uri_mend.proofs.MendedSteps.{scanned-prefix-is-unchanged, unscanned-char-is-encoded}
+use Rattle.uri_mend.proofs.Offered.{nothing-is-scanned-after-scan, scanned-prefix-is-unchanged, unscanned-char-is-encoded}
 
 -- mended components for C: the octets of a part of a text
 abbrev octets_between : List ℕ → ℕ → ℕ → List ℕ

@@ -2,7 +2,7 @@
 use Rattle.fluent_uri_c.proofs.Common.{◌≡◌, ℕ, true, false, List, ◌∷◌, ◌++◌, refl, sym, ap, ◌∙◌, ◌&&◌, ◌||◌, [], drop, eqb, length, not, bytes_eq, codes, is_some, nat_lt, prefix_len, eq-eqb, eqb-true, false≢true, append_cancel_left, take-append-drop, TableSet, hexdig_set, is_one_of, is_valid_for, before_any, from_any, starts, ipv6_value, is_future_address, is_host, is_ipv_future}
 use Rattle.std.proofs.Math.Bool.{or-false}
 use Rattle.std.proofs.lemmas.Slice.Eq.{bytes_eq-Decides}
-use Rattle.uri_ops.proofs.Paths.DotBytes.{tests-that-imply-each-other-are-equal}
+use Rattle.uri_ops.proofs.Offered.{tests-that-imply-each-other-are-equal}
 
 -- hosts for C: what follows the same text is compared by itself
 suffixes-are-compared : (b s f : List ℕ) → bytes_eq (b ++ s) (b ++ f) ≡ bytes_eq f s

@@ -4,10 +4,8 @@ use Rattle.std.proofs.lemmas.Slice.{between_is}
 use Rattle.uri_parts.specs.declared.positions.AuthorityPositions.{AuthorityPositions}
 use Rattle.uri_parts.specs.Authority.{authority_parts, is_authority_for}
 use Rattle.uri_parts.specs.Positions.{ArePositionsOf, authority_at, delimited_length, host_start_of, host_end_of}
-use Rattle.uri_parts.proofs.Authorities.AuthorityPlaces.{host_is_at_positions, port_follows_host, port_is_after_host, userinfo_is_before_host}
-use Rattle.uri_parts.proofs.Splitting.Places.{IsComponentAt}
-use Rattle.uri_parts.proofs.TextKinds.ComponentRules.{authority-of-text-of-kind-is-valid}
-use Rattle.uri_ops.proofs.Meanings.TextParts.{components-of-utf8-are-utf8}
+use Rattle.uri_parts.proofs.Offered.{host_is_at_positions, port_follows_host, port_is_after_host, userinfo_is_before_host, IsComponentAt, authority-of-text-of-kind-is-valid}
+use Rattle.uri_ops.proofs.Offered.{components-of-utf8-are-utf8}
 use Rattle.fluent_uri_c.specs.declared.parts.Span.{Span}
 
 -- parts for C: a component at its positions is the span from start to end

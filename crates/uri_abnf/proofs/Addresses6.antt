@@ -2,7 +2,7 @@
 use Rattle.uri_abnf.proofs.Common.{◌≡◌, ℕ, zero, suc, Bool, true, false, List, [], ◌∷◌, ◌++◌, refl, sym, ap, subst, ◌∙◌, inl, inr, ⊎_elim, arith, ◌≤◌, ◌<◌, ◌+◌, append_assoc, append-nil, length, codes, digit_value, is_ascii_hexdigit, IsDotted, IsGroup, IsGroups, IsGroupsAfter, IsColonHex, false≢true, nat_tests, Abnf, Has, IsPower, opt, times, upto, lit, ◌⋅◌, h16, ls32, IPv6address, HEXDIG}
 use Rattle.std.specs.Str.Parse.{AllDigits, digits_value}
 use Rattle.std.specs.Net.Addr.{segments_of}
-use Rattle.uri_pct.proofs.ValidTexts.Allowed.{hexdigit_value_is_below_16}
+use Rattle.uri_pct.proofs.Offered.{hexdigit_value_is_below_16}
 use Rattle.uri_abnf.proofs.Elements.{hexdig-has, hexdig-is-had}
 use Rattle.uri_abnf.proofs.Addresses4.{ipv4-gives, ipv4-is-had}
 use Rattle.uri_abnf.proofs.Texts.{letterless-has}

@@ -1,7 +1,7 @@
 -- Expressions of ASCII characters only: their texts are their own characters.
 use Rattle.uri_abnf.proofs.Common.{◌≡◌, ℕ, zero, suc, Bool, true, List, [], ◌∷◌, ◌++◌, refl, sym, ap, subst, ◌∙◌, inl, inr, arith, ◌<◌, ◌&&◌, nat_lt, map, get_or, drop, list_all, to_ascii_lowercase, chars, encode_utf8_all, all_scalars, and_parts, ltb-true, nat_tests, encodes-append, chars-encodes, encodes-chars, encode_ascii, Abnf, Rule, Literal, Range, Sequence, Either, Repeat, Optional, Has, IsPower, IsOf}
 use Rattle.std.proofs.Math.Utf8.{low_scalar}
-use Rattle.uri_pct.proofs.UnreservedDecoding.Printing.{scalars-append}
+use Rattle.uri_pct.proofs.Offered.{scalars-append}
 
 abbrev pub ascii_only : Abnf → Bool
 ascii_only (Rule name a) = ascii_only a

@@ -1,6 +1,6 @@
 -- The rules on authorities: RFC 3986, section 3.2.
 use Rattle.uri_abnf.proofs.Common.{ℕ, List, [], ◌++◌, refl, sym, ap, subst, ◌∙◌, arith, codes, IsUtf8, digit_set, IfSome-weaken, AuthorityParts, IsAuthorityFor, Lacks, marked, Kind, valid_text_lacks_excluded_marks, Abnf, IsOf, any, opt, lit, ◌⋅◌, Rules, IsAuthorityDerived, port, DIGIT}
-use Rattle.uri_ops.proofs.Meanings.AuthorityMeanings.{authority-parts-are-utf8, authority-text-lacks-its-ends}
+use Rattle.uri_ops.proofs.Offered.{authority-parts-are-utf8, authority-text-lacks-its-ends}
 use Rattle.uri_abnf.proofs.Delimited.{after-gives, after-is-had, before-gives, before-is-had}
 use Rattle.uri_abnf.proofs.Hosts.{host-gives, host-is-had, host-lacks}
 use Rattle.uri_abnf.proofs.Rules.{Fit, IsRuleOf}

@@ -13,11 +13,11 @@ pub use Rattle.uri_abnf.specs.Abnf.{Abnf, Has, lit, times, ◌⋅◌, ◌⋯◌,
 pub use Rattle.uri_abnf.specs.Derivations.{Rules, IsAuthorityDerived, uri_rules, iri_rules, IsDerived, path_rule, unrooted_path_rule, start_rule}
 unfoldable pub use Rattle.uri_abnf.specs.Rfc3986.{dec-octet, IPv4address, h16, ls32, IPv6address, port, unreserved, sub-delims, pct-encoded, pchar, scheme, IPvFuture, IP-literal, reserved, gen-delims}
 unfoldable pub use Rattle.uri_abnf.specs.Rfc5234.{DIGIT, HEXDIG, ALPHA}
-pub use Rattle.uri_parts.proofs.TextKinds.GrammarTexts.{valid_text_lacks_excluded_marks, utf8_around_ascii_byte}
+pub use Rattle.uri_parts.proofs.Offered.{valid_text_lacks_excluded_marks, utf8_around_ascii_byte}
 pub use Rattle.uri_parts.specs.Authority.{AuthorityParts, IsAuthorityFor, authority_parts, LackAuthorityDelimiters}
 pub use Rattle.uri_parts.specs.Components.{Lacks, marked, Components, IsSplitOf, IsAbemptyPath, components, has_authority, has_scheme, starts}
 pub use Rattle.uri_parts.specs.Grammar.{Kind, uri, iri, has_colon_in_first_segment, IsOfKind, IsTextOf, kind_by_flags, uri_ref, iri_ref, is_scheme, is_authority}
-pub use Rattle.uri_pct.proofs.General.{IfSome-weaken, None-from-not-is_some}
+pub use Rattle.uri_pct.proofs.Offered.{IfSome-weaken, None-from-not-is_some}
 pub use Rattle.uri_pct.specs.Sets.{digit_set, userinfo_set, reg_name_set, path_set, query_set, fragment_set, iuserinfo_set, ireg_name_set, ipath_set, iquery_set, ifragment_set, pchar_set, segment_nz_nc_set, isegment_nz_nc_set, international, is_one_of, hexdig_set, ipv_future_set, TableSet, scheme_set, is_unreserved, is_reserved, LacksPercent, allows}
 unfoldable pub use Rattle.uri_pct.specs.Sets.{allows_past_ascii, is_ucschar, is_iprivate}
 pub use Rattle.uri_pct.specs.Tokens.{IsValidFor, allows_token}

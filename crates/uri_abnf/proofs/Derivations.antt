@@ -1,6 +1,6 @@
 -- References are derived from their components: RFC 3986, sections 3 and 4.
 use Rattle.uri_abnf.proofs.Common.{◌≡◌, ℕ, List, [], ◌++◌, refl, sym, ap, subst, ◌∙◌, ⊎_elim, append_assoc, append-nil, arith, Option, None, Some, codes, IfSome, IsSome, is_some, cases_Bool, false≢true, None-from-not-is_some, Components, marked, Abnf, IsOf, lit, opt, ◌⋅◌, ◌∣◌, Rules, IsDerived, path_rule, unrooted_path_rule, scheme}
-use Rattle.uri_parts.proofs.Splitting.Marks.{query_text}
+use Rattle.uri_parts.proofs.Offered.{query_text}
 use Rattle.uri_abnf.proofs.Delimited.{after-gives, after-is-had}
 use Rattle.uri_abnf.proofs.Rules.{AreMade, tail, hierarchy, after_colon, relative}
 use Rattle.uri_abnf.proofs.Texts.{cut-gives, cut-is-had, either-gives, left-is-had, right-is-had, mark-gives, mark-is-had, slashes-mark, colon-mark, same-text, question-mark, hash-mark}

@@ -1,10 +1,8 @@
 -- The rules on hosts: RFC 3986, section 3.2.2.
 use Rattle.uri_abnf.proofs.Common.{◌≡◌, ℕ, true, List, [], ◌∷◌, ◌++◌, refl, sym, ap, subst, ◌∙◌, ⊎_elim, arith, ◌<◌, codes, IsUtf8, chars, IsColonHex, IsDotted, or_right, cond-false, nat_tests, is_one_of, hexdig_set, ipv_future_set, Lacks, Kind, valid_text_lacks_excluded_marks, utf8_around_ascii_byte, Abnf, IsOf, some, lit, ◌⋅◌, ◌∣◌, Rules, dec-octet, h16, ls32, unreserved, sub-delims, IPvFuture, IPv6address, IP-literal, IPv4address, DIGIT, HEXDIG}
 use Rattle.uri_parts.specs.Hosts.{HostKind, Ipv4, Ipv6, IpvFuture, RegName, IsHost, IsIpvFuture, bracketed, is_host, host_kind}
-use Rattle.uri_parts.proofs.Authorities.Authority.{names_exclude_delimiters}
-use Rattle.uri_parts.proofs.HostForms.Hosts.{is_host-sound, address-in-brackets-is-utf8, lacking_text_does_not_begin_with}
-use Rattle.uri_parts.proofs.HostForms.Futures.{ipv4-text-lacks-name-marks, ipv6-text-lacks-excluded-marks, ipvfuture-text-lacks-excluded-marks}
-use Rattle.uri_ops.proofs.Meanings.HostMeanings.{bracketed-address-lacks-delimiters}
+use Rattle.uri_parts.proofs.Offered.{names_exclude_delimiters, is_host-sound, address-in-brackets-is-utf8, lacking_text_does_not_begin_with, ipv4-text-lacks-name-marks, ipv6-text-lacks-excluded-marks, ipvfuture-text-lacks-excluded-marks}
+use Rattle.uri_ops.proofs.Offered.{bracketed-address-lacks-delimiters}
 use Rattle.uri_abnf.proofs.Addresses4.{ipv4-gives, ipv4-is-had}
 use Rattle.uri_abnf.proofs.Addresses6.{ipv6-gives, ipv6-is-had}
 use Rattle.uri_abnf.proofs.AsciiTexts.{ascii_only, ascii-text-gives, ascii-text-is-had}

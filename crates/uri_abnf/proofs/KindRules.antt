@@ -1,10 +1,8 @@
 -- What is derived by the rules is what the kinds ask of a text and its components.
 use Rattle.uri_abnf.proofs.Common.{◌≡◌, ℕ, false, List, [], ◌++◌, refl, sym, subst, inl, inr, ⊎_elim, ◌<◌, length, arith, ◌⊎◌, ◌↔◌, Option, None, Some, codes, IfSome, IfNone, IsSome, IsUtf8, and_parts, scheme_set, IfSome-weaken, Components, IsSplitOf, Lacks, marked, IsAbemptyPath, components, has_authority, has_scheme, Kind, has_colon_in_first_segment, valid_text_lacks_excluded_marks, IsOf, Rules, IsDerived, path_rule, unrooted_path_rule, scheme}
 use Rattle.uri_parts.specs.GrammarInWords.{HasAuthorityParts, FollowsRules}
-use Rattle.uri_parts.proofs.Splitting.Cuts.{IsEmptyOrMarked}
-use Rattle.uri_parts.proofs.Splitting.Splits.{only-split-is-components}
-use Rattle.uri_ops.proofs.Meanings.ComponentEnds.{no_scheme}
-use Rattle.uri_ops.proofs.Meanings.TextParts.{AreUtf8, components-of-utf8-are-utf8}
+use Rattle.uri_parts.proofs.Offered.{IsEmptyOrMarked, only-split-is-components}
+use Rattle.uri_ops.proofs.Offered.{no_scheme, AreUtf8, components-of-utf8-are-utf8}
 use Rattle.uri_abnf.proofs.Authorities.{authority-derives, derived-is-authority, authority-lacks, derived-authority-follows, following-authority-derives}
 use Rattle.uri_abnf.proofs.Derivations.{reference-derives, derived-is-reference}
 use Rattle.uri_abnf.proofs.Rules.{Fit, IsText}

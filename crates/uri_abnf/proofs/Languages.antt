@@ -1,8 +1,8 @@
 -- The texts of the kinds are the languages of the start rules, and their components are derived.
 use Rattle.uri_abnf.proofs.Common.{◌≡◌, ℕ, Bool, true, false, List, refl, sym, subst, ◌∙◌, inl, inr, ⊎_elim, arith, ◌↔◌, ◌⊎◌, IsSome, None, IsUtf8, and_parts, false≢true, Components, components, Kind, IsOfKind, IsTextOf, kind_by_flags, uri, uri_ref, iri, iri_ref, Has, IsOf, Rules, IsDerived, start_rule, uri_rules, iri_rules}
 use Rattle.uri_parts.specs.GrammarInWords.{IsInGrammar}
-use Rattle.uri_parts.proofs.Splitting.Splits.{only-split-is-components}
-use Rattle.uri_ops.proofs.TextKinds.GrammarTexts.{uris-are-texts-of-grammar, uri_refs-are-texts-of-grammar, iris-are-texts-of-grammar, iri_refs-are-texts-of-grammar}
+use Rattle.uri_parts.proofs.Offered.{only-split-is-components}
+use Rattle.uri_ops.proofs.Offered.{uris-are-texts-of-grammar, uri_refs-are-texts-of-grammar, iris-are-texts-of-grammar, iri_refs-are-texts-of-grammar}
 use Rattle.uri_abnf.specs.Rfc3986 as R
 use Rattle.uri_abnf.specs.Rfc3987 as I
 use Rattle.uri_abnf.specs.Rfc5234 as Core

@@ -2,9 +2,8 @@
 use Rattle.uri_abnf.proofs.Common.{◌≡◌, ℕ, true, false, List, [], ◌∷◌, refl, sym, subst, ◌∙◌, arith, rules, ◌↔◌, IsUtf8, nat_tests, TableSet, is_unreserved, is_reserved, AuthorityParts, authority_parts, Kind, is_scheme, is_authority, Abnf, Has, IsOf, Rules, IsAuthorityDerived, scheme, reserved, gen-delims, sub-delims, unreserved, IPv4address, IPv6address, IPvFuture, ALPHA, DIGIT}
 use Rattle.uri_pct.specs.DecodeUnreserved.{is_decodable}
 use Rattle.uri_parts.specs.Hosts.{IsHost, Ipv4, Ipv6, IpvFuture, RegName, bracketed}
-use Rattle.uri_parts.proofs.Authorities.Authority.{is_authority_for-sound, is_authority_for-complete, authority_parts-are-unique}
-use Rattle.uri_parts.proofs.HostForms.Hosts.{address-in-brackets-is-utf8}
-use Rattle.uri_ops.proofs.Meanings.HostMeanings.{bracketed-utf8-is-utf8}
+use Rattle.uri_parts.proofs.Offered.{is_authority_for-sound, is_authority_for-complete, authority_parts-are-unique, address-in-brackets-is-utf8}
+use Rattle.uri_ops.proofs.Offered.{bracketed-utf8-is-utf8}
 use Rattle.uri_abnf.proofs.Authorities.{authority-derives, derived-is-authority, derived-authority-follows, following-authority-derives}
 use Rattle.uri_abnf.proofs.Elements.{IsElement, has_char, has_octets, class-has, char-is-had}
 use Rattle.uri_abnf.proofs.Hosts.{ipv4-text-gives, ipv4-text-is-had, ipv6-text-gives, ipv6-text-is-had, future-gives, future-is-had}

@@ -1,8 +1,8 @@
 -- The rules on paths are what the kinds ask of a path: RFC 3986, section 3.3.
 use Rattle.uri_abnf.proofs.Common.{◌≡◌, ℕ, zero, suc, true, false, List, [], ◌∷◌, ◌++◌, refl, sym, ap, subst, ◌∙◌, inl, inr, ⊎_elim, arith, ◌<◌, length, ◌⊎◌, ◌↔◌, ◌==◌, codes, IsTrue, list_any, IsUtf8, chars, encode_utf8_all, false≢true, eqb-true, nat_tests, encodes-chars, IsUtf8-nil, TableSet, is_one_of, IsValidFor, Lacks, IsAbemptyPath, has_authority, starts, has_colon_in_first_segment, valid_text_lacks_excluded_marks, Abnf, Has, IsOf, any, some, opt, times, lit, ◌⋅◌, ◌∣◌}
 use Rattle.std.proofs.lemmas.List.Folds.{list_any-append}
-use Rattle.uri_pct.proofs.ValidTexts.Cuts.{excludes}
-use Rattle.uri_parts.proofs.Splitting.Cuts.{IsEmptyOrMarked, cut-at-end-of-text-without-marks}
+use Rattle.uri_pct.proofs.Offered.{excludes}
+use Rattle.uri_parts.proofs.Offered.{IsEmptyOrMarked, cut-at-end-of-text-without-marks}
 use Rattle.uri_abnf.proofs.Elements.{has_char, has_octets}
 use Rattle.uri_abnf.proofs.Paths.{segments, path-is-segments, segment-is-path, segments-are-path}
 use Rattle.uri_abnf.proofs.Texts.{IsCut, cut-gives, cut-is-had, either-gives, left-is-had, right-is-had, opt-gives, opt-is-had, opt-has-nothing, mark-gives, mark-is-had, slash-mark, text-of-no-chars, letterless-has, times-0-gives, times-0-has-nothing}

@@ -1,6 +1,6 @@
 -- How the rules of both RFCs are made of one another, and what their components are.
 use Rattle.uri_abnf.proofs.Common.{◌≡◌, ℕ, true, false, List, arith, ◌↔◌, codes, IsUtf8, TableSet, LacksPercent, IsValidFor, LackAuthorityDelimiters, IsAbemptyPath, has_authority, Kind, has_colon_in_first_segment, Abnf, Has, IsOf, any, lit, opt, ◌⋅◌, ◌∣◌, Rules, scheme, port, IP-literal, IPv4address}
-use Rattle.uri_pct.proofs.ValidTexts.Cuts.{excludes}
+use Rattle.uri_pct.proofs.Offered.{excludes}
 use Rattle.uri_abnf.proofs.Texts.{same-text}
 use Rattle.uri_abnf.proofs.Tokens.{IsSetOf, any-is-valid, valid-is-any}
 

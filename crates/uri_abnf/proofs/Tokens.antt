@@ -1,6 +1,6 @@
 -- Texts of the characters and percent-encoded octets that an expression has.
 use Rattle.uri_abnf.proofs.Common.{◌≡◌, ℕ, zero, suc, true, false, List, [], ◌∷◌, ◌++◌, refl, sym, ap, subst, ◌∙◌, eq-eqb, ⊎_elim, arith, ◌≤◌, ◌<◌, length, ◌==◌, list_all, is_ascii_hexdigit, IsUtf8, chars, cases_Bool, cond-true, cond-false, and_parts, and_from, eqb-true, false_from_ne_true, false≢true, TableSet, allows, LacksPercent, tokens_from_chars, allows_token, is_pct_encoded, IsValidFor, is_valid_for, Abnf, Has, IsPower, IsOf, any, some}
-use Rattle.uri_pct.proofs.UnreservedDecoding.Printing.{char_but_percent_is_its_own_token}
+use Rattle.uri_pct.proofs.Offered.{char_but_percent_is_its_own_token}
 use Rattle.uri_abnf.proofs.Elements.{IsElement, has_char, has_octets, element-gives, char-is-had, octet-is-had, element-has-octet}
 use Rattle.uri_abnf.proofs.Texts.{text-of-no-chars}
 

@@ -1,7 +1,7 @@
 -- The loop of section 5.2.4: each pass shortens the input buffer, so that the loop empties it.
 use Rattle.uri_basic.proofs.Common.{◌≡◌, ℕ, zero, suc, ◌<◌, ◌≤◌, true, false, not, List, [], ◌∷◌, rules, ◌++◌, length, drop, refl, sym, ap, ◌∙◌, arith, ⊎_elim, ◌==◌, codes, bytes_eq, cases_Bool, cond-true, cond-false, cond_both, false≢true, not_from_false, length-drop, length-take, nil_from_length, bytes_eq-Decides, is_one_of, from_any, starts, is_empty, Buffers, after_first_segment, has_prefix, output_of, run, step}
 use Rattle.std.proofs.lemmas.Bool.Decides.{nat_tests}
-use Rattle.uri_ops.proofs.Paths.DotRuns.{not-empty-has-length}
+use Rattle.uri_ops.proofs.Offered.{not-empty-has-length}
 
 -- removing dot segments: two texts that pass the test of equality have equal lengths
 equal-bytes-have-equal-lengths : (a b : List ℕ) → bytes_eq a b ≡ true → length a ≡ length b

@@ -1,6 +1,6 @@
 -- Whether a path has dot segments with percent-encoded dots, or without: RFC 3986, section 3.3.
 use Rattle.uri_basic.proofs.Common.{◌≡◌, ℕ, Bool, true, false, not, List, [], ◌∷◌, ◌++◌, ◌&&◌, refl, sym, ap, ◌∙◌, ◌||◌, drop, rules, codes, list_all, list_any, and_left, and_parts, not-true, or_from, or_parts, list_any-append, IsAbsolute, directory, is_dot_segment, lacks_dot_segments, segments, up_to_last_slash, appended-segments-lack-slashes, path-after-slash-appends-its-segments, property-of-absolute-path-by-segments, segments-of-dotless-path-are-dotless, AllPass, is_dotless, pop, popped-segments-pass-test, before_last_slash-of-slashed-is-popped, lacks_slash, segments-of-slashed-segments, segments-of-text-lack-slashes, slashed, slashed-of-append, slashed-of-push, slashed-of-segments-is-text-after-slash, has_encoded_dot_segment, has_literal_dot_segment, is_literal_dot_segment}
-use Rattle.uri_relative.proofs.Climbs.{directory-of-dotless-segments}
+use Rattle.uri_relative.proofs.Offered.{directory-of-dotless-segments}
 
 -- dot segments: a segment is one, and a dot of it is percent-encoded
 abbrev is_encoded : List ℕ → Bool

@@ -1,8 +1,6 @@
 -- What holds of a path without its dot segments, by its segments.
 use Rattle.uri_basic.proofs.Common.{◌≡◌, ℕ, Bool, true, false, not, List, [], ◌∷◌, ◌++◌, drop, refl, sym, ap, subst, ◌∙◌, append_assoc, cond, inl, inr, ⊎_elim, rules, codes, ◌==◌, list_all, and_from, and_parts, cases_Bool, cond-true, cond-false, cond_both, eqb-true, false≢true, or_cases, or_parts, append-nil, list_all-append, TableSet, is_one_of, IsAbemptyPath, Lacks, IsAbsolute, before_last_slash, has_slash, is_empty, last_segment, segments, lacked-delimiters-fail-test, test-of-delimiters-gives-lacks, before_last_slash-passes-test, AllPass, segments-pass-true-test, NoSlashes, segments-of-text-are-not-none, slashed, segments-of-text-lack-slashes, first-segment-and-rest-lack-slashes, slashed-of-segments-is-text-after-slash, appended-absolute-path-is-absolute, eq_true_from_IsTrue, IsDirectoryOrNothing, after_segment, parent, remove_dot_segments}
-use Rattle.uri_ops.proofs.Meanings.AllowedParts.{empty-text-is-set-text, is_set_text}
-use Rattle.uri_ops.proofs.Paths.DecodedPaths.{set-text-splits, set-texts-join-at-slash, joined-segments-of-set-text-are-set-texts}
-use Rattle.uri_ops.proofs.Paths.Segments.{is_none}
+use Rattle.uri_ops.proofs.Offered.{empty-text-is-set-text, is_set_text, set-text-splits, set-texts-join-at-slash, joined-segments-of-set-text-are-set-texts, is_none}
 use Rattle.uri_basic.proofs.Segments.{after-segment-keeps, kept_of, path-left-by-segments, path-left-of-path, parent-is-directory}
 
 -- paths: what holds of a text with these segments

@@ -1,13 +1,12 @@
 -- The paths of relativized references: how they are parsed, and what they lead to.
 use Rattle.uri_basic.proofs.Common.{◌≡◌, ℕ, zero, suc, ◌-◌, ◌<◌, Bool, true, false, not, cond, eqb, List, [], ◌∷◌, ◌++◌, ◌&&◌, ◌||◌, take, drop, refl, sym, ap, ◌∙◌, inr, ⊎_elim, arith, append_assoc, true≢false, rules, None, Option, codes, is_none, is_some, nat_lt, list_all, and_from, and_parts, and_right, cond-false, cond-true, cond_both, eq-eqb, eqb-true, false≢true, ltb-true, or_cases, or_left, or_parts, take-append-drop, list_all-append, eq_true_from_IsTrue, is_one_of, Components, IsAbemptyPath, Lacks, has_authority, starts, has_colon_in_first_segment, IsAbsolute, directory, is_empty, lacks_dot_segments, or_slash, up_to_last_slash, guarded, is_opaque, directory-is-absolute, remove-dots-of-dotless, lacked-delimiters-fail-test, test-of-delimiters-gives-lacks, appended-absolute-path-is-absolute, has_encoded_dot_segment, remove_dot_segments, merge}
 use Rattle.uri_pct.specs.Delimiters.{slash}
-use Rattle.uri_parts.proofs.Splitting.Marks.{cons_is_not_nil}
+use Rattle.uri_parts.proofs.Offered.{cons_is_not_nil}
 use Rattle.uri_ops.specs.Dots as Dots
-use Rattle.uri_ops.proofs.Paths.TakenSegments.{absolute-path-is-slash-and-rest}
+use Rattle.uri_ops.proofs.Offered.{absolute-path-is-slash-and-rest}
 use Rattle.uri_relative.specs.Relative.{IsSharedPrefix, double_dots, needs_leading_dot, relative_path, slashes}
 use Rattle.uri_relative.specs.Rule.{path_from_base, shared_directory_len, shortest_or_preferred_path}
-use Rattle.uri_relative.proofs.Climbs.{merged-relative-path-leads-to-path, remove_dot_segments-follows-dots}
-use Rattle.uri_relative.proofs.Ways.{guard-counts-as-no-segment, rootless-path-has-no-authority}
+use Rattle.uri_relative.proofs.Offered.{merged-relative-path-leads-to-path, remove_dot_segments-follows-dots, guard-counts-as-no-segment, rootless-path-has-no-authority}
 use Rattle.uri_basic.proofs.DotSegments.{directory-of-dotless-path-is-up-to-last-slash, dotless-path-has-no-encoded-dot, dotless-path-has-no-literal-dot, encoded-dots-after-directory, encoded-dots-at-slash}
 use Rattle.uri_basic.proofs.SameRemovals.{removal-of-path-without-dots, same-removal}
 use Rattle.uri_basic.proofs.SameTargets.{base-with-empty-path-has-authority}

@@ -2,17 +2,13 @@
 use Rattle.uri_basic.proofs.Common.{◌≡◌, ℕ, Bool, true, false, not, cond, List, [], ◌++◌, ◌&&◌, refl, sym, ap, ◌∙◌, subst, ⊎_elim, rules, IfNone, IfSome, None, Ok, Option, Some, bytes_eq, codes, is_none, is_some, and_parts, both_ways, cases_Bool, cond-false, cond-true, cond_both, false≢true, not-false, bytes_eq-Decides, eq_true_from_IsTrue, Components, IsSplitOf, Lacks, components, has_scheme, recompose, starts, components-are-split-of-text, equal-to-true-is-IsTrue, recompose-components, IsAbsolute, lacks_dot_segments, with_final_path, guarded, is_opaque, removing-dots-keeps-absolute, removing-dots-leaves-no-dot-segment, test-of-delimiters-gives-lacks, has_literal_dot_segment, basic_resolution, basic_resolution_of_texts, target}
 use Rattle.std.specs.Option.{option_eq}
 use Rattle.uri_pct.specs.Delimiters.{slash}
-use Rattle.uri_parts.proofs.Splitting.Splits.{only-split-is-components}
+use Rattle.uri_parts.proofs.Offered.{only-split-is-components}
 use Rattle.uri_ops.specs.Dots as Dots
-use Rattle.uri_ops.proofs.Meanings.ComponentEnds.{no_scheme}
-use Rattle.uri_ops.proofs.Paths.TakenSegments.{absolute-path-is-slash-and-rest}
+use Rattle.uri_ops.proofs.Offered.{no_scheme, absolute-path-is-slash-and-rest, settled-text-has-settled-components}
 use Rattle.uri_relative.specs.Forms.{from_authority}
 use Rattle.uri_relative.specs.Leading.{settled}
 use Rattle.uri_relative.specs.Rule.{has_same_authority, has_same_authority_and_path, has_same_query, has_same_scheme, reference_components, reference_to, shortest_or_preferred_path}
-use Rattle.uri_relative.proofs.Forms.{path-and-query-are-split}
-use Rattle.uri_ops.proofs.Targeting.TargetCases.{settled-text-has-settled-components}
-use Rattle.uri_relative.proofs.RootedTargets.{base-that-is-not-opaque-is-rooted}
-use Rattle.uri_relative.proofs.Settled.{dotless-target-is-settled, final-path-is-idempotent, rootless-target-is-settled}
+use Rattle.uri_relative.proofs.Offered.{path-and-query-are-split, base-that-is-not-opaque-is-rooted, dotless-target-is-settled, final-path-is-idempotent, rootless-target-is-settled}
 use Rattle.uri_basic.proofs.DotSegments.{dotless-path-has-no-literal-dot}
 use Rattle.uri_basic.proofs.RelativePaths.{IsFinalPath, LeadsByPath, chosen-path-leads-to-path}
 use Rattle.uri_basic.proofs.SameRemovals.{removal-of-path-without-dots}

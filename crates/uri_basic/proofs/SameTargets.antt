@@ -1,7 +1,6 @@
 -- Where nothing deviates, the basic algorithm and `Resolver` have the same target.
 use Rattle.uri_basic.proofs.Common.{◌≡◌, ℕ, true, false, not, List, [], refl, sym, ap, subst, rules, ◌∙◌, ◌&&◌, ⊎_elim, None, Ok, Option, Some, is_none, is_some, and_from, and_right, cases_Bool, cond-true, cond-false, and_left, false≢true, not_from_false, Components, components, has_authority, recompose, starts, equal-to-true-is-IsTrue, directory, is_double_dot, is_empty, last_segment, dotless_if_absolute, dotted_target, guarded, is_opaque, merged, resolution_of, target_of, remove-dots-of-dotless, merging-base-is-not-opaque, not_some_is_none, some_is_not_none, NothingDeviates, has_encoded_dot_segment, has_literal_dot_segment, is_merged, takes_base_path, remove_dot_segments, basic_resolution, basic_resolution_of_texts, is_ambiguous, merge, target}
-use Rattle.uri_ops.proofs.Paths.DotRuns.{empty-text-is-nil}
-use Rattle.uri_ops.proofs.Targeting.NormalTargets.{resolution-is-unique}
+use Rattle.uri_ops.proofs.Offered.{empty-text-is-nil, resolution-is-unique}
 use Rattle.uri_relative.specs.Leading.{LeadsTo, settled, without_fragment}
 use Rattle.uri_basic.proofs.SameRemovals.{removal-of-path-without-dots, same-removal}
 

@@ -1,7 +1,7 @@
 -- Removing dot segments segment by segment, as the code does: the path that is left of a directory
 -- and the rest of a path.
 use Rattle.uri_basic.proofs.Common.{◌≡◌, ℕ, true, false, List, [], ◌∷◌, ◌++◌, refl, sym, ap, ◌∙◌, rules, append_assoc, inr, ⊎_elim, codes, bytes_eq, cases_Bool, cond-true, cond-false, cond_both, or_parts, append-nil, bytes_eq-Decides, before_last_slash, has_slash, before_last_slash-of-slashless-tail, NoSlashes, first-segment-and-rest-lack-slashes, slashed, output_of, remove_dot_segments, IsDirectoryOrNothing, after_segment, buffers_at, parent, path_left}
-use Rattle.uri_relative.proofs.LongestPrefixes.{text-with-slash-is-nonempty}
+use Rattle.uri_relative.proofs.Offered.{text-with-slash-is-nonempty}
 use Rattle.uri_basic.proofs.Buffers.{output-after-step, output-of-empty-input}
 use Rattle.uri_basic.proofs.Steps.{last-segment-is-text, other-last-segment-begins-with-no-dots, other-segment-begins-with-no-dots, output-after-rooted-segment, output-after-rootless-segment, segment-ends-before-slash}
 

@@ -3,7 +3,7 @@ use Rattle.uri_basic.proofs.Common.{◌≡◌, ℕ, ◌+◌, ◌-◌, ◌≤◌,
 use Rattle.uri_parts.specs.declared.packed_positions.PackedPositions.{PackedPositions}
 use Rattle.uri_parts.specs.declared.positions.AuthorityPositions.{AuthorityPositions}
 use Rattle.uri_ops.specs.Models.Places.{before_path}
-use Rattle.uri_ops.proofs.Normal.WrittenPlaces.{length-before_path-is-path_start, length-with-delimiter-after}
+use Rattle.uri_ops.proofs.Offered.{length-before_path-is-path_start, length-with-delimiter-after}
 use Rattle.uri_basic.specs.Models.Pieces.{ArePlacesToHost, after_path}
 use Rattle.uri_basic.proofs.Targets.{basic-target-has-its-components, result-by-test}
 

@@ -1,3 +1,4 @@
 pub mod AsciiNames
 pub mod Names
 pub mod Replaced
+pub mod Offered

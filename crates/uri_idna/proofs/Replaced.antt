@@ -6,15 +6,11 @@ use Rattle.std.proofs.lemmas.Str.{IsUtf8-append}
 use Rattle.uri_parts.specs.Authority.{AuthorityParts, IsAuthorityFor, authority_parts, recompose_authority}
 use Rattle.uri_parts.specs.Components.{Components, IsAbemptyPath, IsSplitOf, Lacks, components, has_scheme, marked, recompose}
 use Rattle.uri_parts.specs.Grammar.{IsOfKind, IsTextOf, Kind, components_meet_rules, has_colon_in_first_segment, is_authority}
-use Rattle.uri_parts.proofs.Theorems.{authority_parts-are-unique, components-are-split-of-text, is_authority_for-complete, is_authority_for-sound, only-split-is-components, recompose-components}
+use Rattle.uri_parts.proofs.Offered.{authority_parts-are-unique, components-are-split-of-text, is_authority_for-complete, is_authority_for-sound, only-split-is-components, recompose-components}
 use Rattle.uri_ops.specs.BuilderParts.{is_authority_text}
 use Rattle.uri_ops.specs.ComponentSets.{HasComponentSets}
-use Rattle.uri_ops.proofs.Builders.BuilderAuthorities.{authority-lacks-its-ends, authority-text-from-rule, authority-text-is-utf8, authority-text-meets-rule}
-use Rattle.uri_ops.proofs.Meanings.AsciiCharacters.{ascii-bytes-are-utf8}
-use Rattle.uri_ops.proofs.Meanings.AuthorityMeanings.{authority-parts-are-utf8, kind-sets-lack-authority-delimiters}
+use Rattle.uri_ops.proofs.Offered.{authority-lacks-its-ends, authority-text-from-rule, authority-text-is-utf8, authority-text-meets-rule, ascii-bytes-are-utf8, authority-parts-are-utf8, kind-sets-lack-authority-delimiters, ArePartsOfKind, components-of-kind-meet-grammar, text-has-parts-of-kind}
 use Rattle.uri_idna.specs.AsciiHosts.{ascii_host}
-use Rattle.uri_ops.proofs.Meanings.TextParts.{ArePartsOfKind, components-of-kind-meet-grammar}
-use Rattle.uri_ops.proofs.Normal.NormalTexts.{text-has-parts-of-kind}
 use Rattle.uri_idna.specs.AsciiReferences.{HasAsciiHost, IsAuthorityWithAsciiHost, IsWithAsciiHost, ascii_components, with_ascii_host, with_authority, with_host}
 use Rattle.uri_idna.proofs.AsciiNames.{ascii-host-is-host}
 

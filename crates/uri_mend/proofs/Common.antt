@@ -25,23 +25,14 @@ pub use Rattle.uri_mend.specs.Trimming.{tab_and_newlines, without_any, without_o
 unfoldable pub use Rattle.uri_mend.specs.Trimming.{trimmed_link}
 pub use Rattle.uri_mend.specs.declared.component.TheConstants.{NEVER_HIGH, NEVER_LOW}
 pub use Rattle.uri_mend.specs.declared.link.Link.{Link}
-pub use Rattle.uri_ops.proofs.Meanings.TextParts.{components-of-utf8-are-utf8, grammar-gives-components-of-kind, AreUtf8}
-pub use Rattle.uri_ops.proofs.TextKinds.FourKinds.{one-of-four-kinds-has-sets}
+pub use Rattle.uri_ops.proofs.Offered.{components-of-utf8-are-utf8, grammar-gives-components-of-kind, AreUtf8, one-of-four-kinds-has-sets}
 pub use Rattle.uri_ops.specs.ComponentSets.{HasComponentSets}
 pub use Rattle.uri_ops.specs.Models.Places.{before_path}
-pub use Rattle.uri_parts.proofs.Splitting.Cuts.{before_any-past-other, from_any-past-other, cut-at-end-of-text-without-marks, text-is-cut-at-first-mark, from_any-at-mark, before_any-at-mark, IsEmptyOrMarked}
-pub use Rattle.uri_parts.proofs.Splitting.Recompose.{recompose-components, components-are-split-of-text, equal-to-true-is-IsTrue}
-pub use Rattle.uri_parts.proofs.Splitting.Splits.{equal-parts-make-equal-components, only-split-is-components}
+pub use Rattle.uri_parts.proofs.Offered.{before_any-past-other, from_any-past-other, cut-at-end-of-text-without-marks, text-is-cut-at-first-mark, from_any-at-mark, before_any-at-mark, IsEmptyOrMarked, recompose-components, components-are-split-of-text, equal-to-true-is-IsTrue, equal-parts-make-equal-components, only-split-is-components}
 pub use Rattle.uri_parts.specs.Components.{recompose, before_any, from_any, components, starts, when, has_scheme, has_authority, after_scheme, after_authority, marked, after_query, Components, Lacks, IsSplitOf, IsAbemptyPath}
 pub use Rattle.uri_parts.specs.Grammar.{Kind, is_scheme, IsTextOf, has_colon_in_first_segment, IsOfKind, absent_or_passes, is_authority, components_meet_rules, kind_by_flags, is_of_kind}
 pub use Rattle.uri_parts.specs.PackedPositions.{ArePackedPositionsOf, packed}
-pub use Rattle.uri_pct.proofs.EncodedTexts.EncodedTokens.{is_eight_bit, utf8_bytes_are_eight_bit, octets_are_allowed_if_pct_encoded, encoded_char_is_printable}
-pub use Rattle.uri_pct.proofs.EncodedTexts.Encodings.{allowed_char_is_printed_literally, disallowed_char_is_encoded_as_octets, print-append, octets_decode_to_their_bytes}
-pub use Rattle.uri_pct.proofs.TableSets.Masks.{has_bit_past_ascii_is_false, has_bit-only-ascii}
-pub use Rattle.uri_pct.proofs.TableSets.Percent.{lacks_percent}
-pub use Rattle.uri_pct.proofs.Unicode.Characters.{is_no_ascii_byte, hexdigit_is_ascii, HasEncoding, char_has_encoding, char_past_ascii_begins_past_ascii, encoded_chars_begin_with_same_hex_digits}
-pub use Rattle.uri_pct.proofs.ValidTexts.Cuts.{excludes, valid_prefix-ends-by-mark, is_valid_for_is_scanned_to_end, valid_prefix_by_first_byte}
-pub use Rattle.uri_pct.proofs.ValidTexts.MarksInTexts.{AreAscii, first_mark_is_at_boundary, length_before_marks, test_holds_of_each, AreAscii-by-test}
+pub use Rattle.uri_pct.proofs.Offered.{is_eight_bit, utf8_bytes_are_eight_bit, octets_are_allowed_if_pct_encoded, encoded_char_is_printable, allowed_char_is_printed_literally, disallowed_char_is_encoded_as_octets, print-append, octets_decode_to_their_bytes, has_bit_past_ascii_is_false, has_bit-only-ascii, lacks_percent, is_no_ascii_byte, hexdigit_is_ascii, HasEncoding, char_has_encoding, char_past_ascii_begins_past_ascii, encoded_chars_begin_with_same_hex_digits, excludes, valid_prefix-ends-by-mark, is_valid_for_is_scanned_to_end, valid_prefix_by_first_byte, AreAscii, first_mark_is_at_boundary, length_before_marks, test_holds_of_each, AreAscii-by-test}
 pub use Rattle.uri_pct.specs.Encoding.{encode_char}
 unfoldable pub use Rattle.uri_pct.specs.Masks.{has_bit}
 pub use Rattle.uri_pct.specs.Prefixes.{valid_prefix}

@@ -1,6 +1,6 @@
 -- How far a component was mended: what a scan passes, and the octets after it.
 use Rattle.uri_mend.proofs.Common.{◌≡◌, ℕ, ◌+◌, ◌-◌, ◌≤◌, true, List, [], ◌++◌, take, drop, sym, ap, ◌∙◌, arith, append_assoc, IsUtf8, IsCharBoundary, take-add, append-nil, drop-drop, IsUtf8-drop, chars-nil, valid_prefix, TableSet, LacksPercent, excludes, before_any, from_any, mended, mended_from_chars}
-use Rattle.uri_pct.proofs.ValidTexts.Prefixes.{nothing_is_scanned_after_valid_prefix}
+use Rattle.uri_pct.proofs.Offered.{nothing_is_scanned_after_valid_prefix}
 use Rattle.uri_mend.proofs.ComponentSteps.{scanned-component-is-unchanged}
 
 -- progress: a run of a text that goes on

@@ -3,7 +3,7 @@
 -- where it stops becomes octets, up to the first of the marks that end the component.
 use Rattle.uri_mend.proofs.Common.{◌≡◌, ℕ, ◌+◌, ◌<◌, ◌≤◌, true, false, not, eqb, List, [], ◌∷◌, ◌++◌, ◌&&◌, length, take, drop, map, get_or, refl, sym, ap, subst, ◌∙◌, arith, ⊎_elim, ltb, length-drop, encode_utf8, is_ascii_hexdigit, list_all, IsUtf8, IsCharBoundary, and_from, and_parts, cases_Bool, cases_lt, leb-true, ltb-true, not-true, not_from_false, drop-append-le, get_or-drop, get_or-take, length-take-le, take-append-le, take-take, IsUtf8-take, valid_prefix, TableSet, LacksPercent, is_one_of, IsValidFor, Octet, print, HasEncoding, char_has_encoding, is_no_ascii_byte, excludes, valid_prefix-ends-by-mark, AreAscii, first_mark_is_at_boundary, length_before_marks, test_holds_of_each, before_any, from_any, before_any-past-other, from_any-past-other, cut-at-end-of-text-without-marks, text-is-cut-at-first-mark, mended}
 use Rattle.std.proofs.lemmas.List.Sums.{prefix_len-le-length}
-use Rattle.uri_pct.proofs.ValidTexts.LongestPrefixes.{valid_prefix_ends_at_boundary, valid_prefix_is_longest, valid_prefix_is_valid}
+use Rattle.uri_pct.proofs.Offered.{valid_prefix_ends_at_boundary, valid_prefix_is_longest, valid_prefix_is_valid}
 use Rattle.uri_mend.proofs.MendedSteps.{scanned-prefix-is-unchanged, unscanned-char-is-encoded}
 
 -- general fact on texts, for components: a boundary of a text is one of its prefix

@@ -3,8 +3,7 @@ use Rattle.uri_mend.proofs.Common.{◌≡◌, ℕ, suc, ◌+◌, ◌-◌, ◌<�
 use Rattle.uri_pct.specs.Models.ByteRuns.{is_char_byte}
 use Rattle.uri_pct.specs.Models.Scans.{may_begin_octet_or_past_ascii}
 use Rattle.uri_pct.specs.Texts.{has_hex_digits_after}
-use Rattle.uri_pct.proofs.TableSets.Constants.{past_ascii_is_no_hexdigit}
-use Rattle.uri_pct.proofs.ValidTexts.PrefixSteps.{valid_prefix_stops_at_ascii_outside_set, valid_prefix_stops_at_stray_percent, valid_prefix_stops_where_none_may_begin}
+use Rattle.uri_pct.proofs.Offered.{past_ascii_is_no_hexdigit, valid_prefix_stops_at_ascii_outside_set, valid_prefix_stops_at_stray_percent, valid_prefix_stops_where_none_may_begin}
 use Rattle.uri_mend.proofs.ComponentSteps.{component-char-is-encoded}
 
 -- runs: a byte of a run that is found by lanes is past ASCII, or one that no component may have

@@ -2,7 +2,7 @@
 -- characters of the text percent-encodes those that mending does. And mended components decode to
 -- what they did.
 use Rattle.uri_mend.proofs.Common.{◌≡◌, ℕ, true, false, List, [], ◌∷◌, ◌++◌, map, refl, sym, ap, subst, ◌∙◌, ⊎_elim, inl, inr, Option, Some, None, IfSome, option_map, encode_utf8, list_all, flat_map, IsUtf8, cases_Bool, cond-true, cond-false, and_parts, both_ways, list_all-append, TableSet, LacksPercent, allows, Token, Char, Octet, allows_token, tokens, is_valid_for, components, Kind, IsTextOf, HasComponentSets, components-of-utf8-are-utf8, grammar-gives-components-of-kind, mend_token, mended, link_components, mended_components}
-use Rattle.uri_ops.proofs.Meanings.AllowedParts.{is_set_text, set-text-is-valid}
+use Rattle.uri_ops.proofs.Offered.{is_set_text, set-text-is-valid}
 use Rattle.uri_mend.specs.Encodings.{decoded, DecodeAlike, IsTokenOrItsOctets, AreEncodedAs, IsPartEncodedAs, AreComponentsEncodedAs}
 use Rattle.uri_mend.proofs.MendedTokens.{tokens-of-mended-text, mended-text-decodes-alike}
 use Rattle.uri_mend.proofs.MendedReferences.{link-components-are-mendable}

@@ -19,3 +19,4 @@ pub mod AsciiMending
 pub mod MendedPositions
 pub mod MendedResults
 pub mod TrimmedLinks
+pub mod Offered

@@ -3,7 +3,7 @@ use Rattle.uri_mend.proofs.Common.{◌≡◌, ℕ, ◌+◌, ◌-◌, ◌<◌, �
 use Rattle.uri_parts.specs.Positions.{authority_at, delimited_length, positions_of}
 use Rattle.uri_parts.specs.declared.packed_positions.PackedPositions.{PackedPositions}
 use Rattle.uri_parts.specs.declared.positions.AuthorityPositions.{AuthorityPositions}
-use Rattle.uri_parts.proofs.Parsing.WholeTexts.{utf8_after_scheme, utf8_after_authority}
+use Rattle.uri_parts.proofs.Offered.{utf8_after_scheme, utf8_after_authority}
 use Rattle.uri_mend.proofs.LinkComponents.{link-components-without-false-scheme}
 use Rattle.uri_mend.proofs.LinkPieces.{path-without-false-scheme, prefix-without-false-scheme, query-without-false-scheme, text-is-cut-before-path, text-without-false-scheme-is-mended}
 use Rattle.uri_mend.proofs.MendedPositions.{length-before-path}

@@ -1,6 +1,6 @@
 -- The reference that a text is mended to has all that is said of one.
 use Rattle.uri_mend.proofs.Common.{◌≡◌, ◌+◌, length, true, false, refl, sym, ap, ◌∙◌, subst, List, ℕ, ◌≤◌, arith, length-append, length-take-le, Bool, IfSome, None, Option, Some, [], ◌++◌, ◌-◌, drop, option_map, take, IsUtf8, LacksPercent, TableSet, Components, components, Kind, IsOfKind, components_meet_rules, HasComponentSets, components-of-utf8-are-utf8, grammar-gives-components-of-kind, IsLink, mended, dot_segment_if, mended_tail, Link, can_be_mended, has_false_scheme, link_components, mended_components, mended_text, with_dot_segment}
-use Rattle.uri_ops.proofs.Normal.NormalTexts.{recomposed-components-are-utf8}
+use Rattle.uri_ops.proofs.Offered.{recomposed-components-are-utf8}
 use Rattle.uri_mend.specs.Encodings.{AreComponentsEncodedAs, DecodeAlike}
 use Rattle.uri_mend.specs.Mended.{IsMended}
 use Rattle.uri_mend.proofs.FewestEncodings.{mended-components-are-encoded, mended-components-decode-alike, mended-components-encode-fewest}

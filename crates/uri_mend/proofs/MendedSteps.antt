@@ -2,7 +2,7 @@
 -- it stops becomes octets.
 use Rattle.uri_mend.proofs.Common.{◌≡◌, ℕ, ◌+◌, true, false, cond, eqb, List, [], ◌∷◌, ◌++◌, length, take, drop, map, refl, sym, ap, subst, ◌∙◌, arith, ⊎_elim, append_assoc, ◌&&◌, encode_utf8, len_utf8, is_ascii_hexdigit, chars, encode_utf8_all, all_scalars, IsUtf8, take-append-add, drop-append-add, cases_Bool, cond-true, cond-false, and_parts, and_from, eqb-true, and_right, append-nil, take_all, drop_all, length-encode, chars_past_char, chars-encodes, encode_ascii, len_utf8_bounds, chars-nil, encodes-chars, scalars-chars, TableSet, LacksPercent, allows, valid_prefix, valid_prefix_from, begins_with_hex_digits, Octet, print, is_pct_encoded, is_valid_for, encode_char, allowed_char_is_printed_literally, disallowed_char_is_encoded_as_octets, hexdigit_is_ascii, encoded_chars_begin_with_same_hex_digits, is_valid_for_is_scanned_to_end, valid_prefix_by_first_byte, mended_from_chars, mended}
 use Rattle.uri_pct.specs.Texts.{has_hex_digits_after}
-use Rattle.uri_pct.proofs.ValidTexts.PrefixSteps.{valid_prefix_by_first_char, valid_prefix_passes_octet}
+use Rattle.uri_pct.proofs.Offered.{valid_prefix_by_first_char, valid_prefix_passes_octet}
 
 -- mended components: a first character that begins no octet is mended by itself
 pub mended-by-first-of-chars : (set : TableSet) (c : ℕ) (cs : List ℕ)

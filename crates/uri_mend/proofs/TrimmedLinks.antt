@@ -1,7 +1,7 @@
 -- Links of pages without their white space.
 use Rattle.uri_mend.proofs.Common.{◌≡◌, ℕ, true, false, List, [], ◌∷◌, ◌++◌, drop, refl, sym, ap, ◌∙◌, ⊎_elim, append_assoc, arith, length, subst, ◌<◌, is_ascii_whitespace, list_any, prefix_len, IsCharBoundary, IsTrimAscii, IsUtf8, cases_Bool, cond-true, cond-false, not_from_true, not_from_false, or_parts, IsCharBoundary-after_ascii, is_one_of, AreAscii-by-test, before_any, from_any, before_any-at-mark, before_any-past-other, from_any-at-mark, from_any-past-other, IsEmptyOrMarked, text-is-cut-at-first-mark, tab_and_newlines, without_any, without_outer_space}
 use Rattle.std.proofs.lemmas.Str.Ascii.{trim_ascii_is}
-use Rattle.uri_parts.proofs.Parsing.ScanStops.{utf8_from_marks}
+use Rattle.uri_parts.proofs.Offered.{utf8_from_marks}
 
 -- trimming: a text without these characters is what is before the first of them, and what is after
 -- it without them

@@ -1,9 +1,9 @@
 -- What mending leaves as it is: a text of the kind; and what it refuses: a scheme and an authority
 -- that begin no text of the kind.
 use Rattle.uri_mend.proofs.Common.{◌≡◌, ℕ, Bool, true, false, not, List, [], ◌∷◌, ◌++◌, refl, sym, ap, ◌∙◌, ⊎_elim, ◌&&◌, ◌||◌, arith, inl, eqb, drop, codes, Option, Some, None, IfSome, IfNone, is_some, option_map, IsUtf8, cases_Bool, cond-false, and_parts, and_from, both_ways, and_left, and_right, eqb-true, append-nil, TableSet, LacksPercent, is_valid_for, Components, components, recompose, marked, starts, Lacks, IsSplitOf, IsAbemptyPath, has_scheme, has_authority, from_any, before_any, after_scheme, after_authority, when, Kind, IsOfKind, is_of_kind, absent_or_passes, is_scheme, is_authority, has_colon_in_first_segment, components_meet_rules, recompose-components, only-split-is-components, HasComponentSets, before_path, components-of-utf8-are-utf8, grammar-gives-components-of-kind, mended, has_false_scheme, link_components, mended_components, mended_text, can_be_mended}
-use Rattle.uri_pct.proofs.ValidTexts.EStrs.{empty_text_is_valid}
-use Rattle.uri_parts.proofs.Splitting.Relative.{colon_in_first_segment-is-at-start}
-use Rattle.uri_ops.proofs.Meanings.AllowedParts.{is_set_text, set-text-is-valid, set-text-is-utf8}
+use Rattle.uri_pct.proofs.Offered.{empty_text_is_valid}
+use Rattle.uri_parts.proofs.Offered.{colon_in_first_segment-is-at-start}
+use Rattle.uri_ops.proofs.Offered.{is_set_text, set-text-is-valid, set-text-is-utf8}
 use Rattle.uri_mend.proofs.MendedSteps.{valid-text-is-its-own-mended-text}
 use Rattle.uri_mend.proofs.LinkComponents.{no-false-scheme-gets-nothing}
 use Rattle.uri_mend.proofs.MendedReferences.{AreMendable, no-scheme-is-found, part-with-property-passes, link-components-are-mendable}

@@ -9,3 +9,4 @@ pub mod AsciiForms
 pub mod Builders
 pub mod TextKinds
 pub mod Theorems
+pub mod Offered

@@ -8,7 +8,7 @@ use Rattle.std.specs.Str.{IsUtf8}
 use Rattle.uri_parts.specs.Grammar.{Kind, IsOfKind, IsTextOf}
 use Rattle.uri_ops.specs.ComponentSets.{HasComponentSets}
 use Rattle.uri_ops.specs.SchemeRules.{Rules}
-use Rattle.uri_ops.proofs.SchemeRules.RuledTexts.{same-normal-text-same-meaning}
+use Rattle.uri_ops.proofs.Offered.{same-normal-text-same-meaning}
 use Rattle.uri_order.specs.NormalForms.{AreEquivalent, normal_form}
 
 -- a text of a kind, in UTF-8, is so where it equals another text

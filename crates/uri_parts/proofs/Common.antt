@@ -63,12 +63,7 @@ unfoldable pub use Rattle.uri_parts.specs.SchemePorts.{default_port, port_ignori
 pub use Rattle.uri_parts.specs.declared.error.ParseError.{ParseError}
 pub use Rattle.uri_parts.specs.declared.positions.AuthorityPositions.{AuthorityPositions}
 pub use Rattle.uri_parts.specs.declared.positions.Positions.{Positions}
-pub use Rattle.uri_pct.proofs.General.{second-holds-if-first-is-false, eq_true_from_IsTrue, None-from-not-is_some, IfSome-weaken}
-pub use Rattle.uri_pct.proofs.ValidTexts.Cuts.{excludes, cut, valid_prefix_at_mark_is_empty, is_valid_for_is_scanned_to_end, excluded_mark_is_not_in_set, excluded_mark_is_no_percent, valid_prefix-ends-by-mark, valid_prefix_by_first_byte}
-pub use Rattle.uri_pct.proofs.ValidTexts.LongestPrefixes.{empty_text_has_empty_valid_prefix, valid_prefix_ends_at_boundary}
-pub use Rattle.uri_pct.proofs.ValidTexts.MarksInTexts.{length_before_marks, AreAscii-by-test, AreAscii, first_mark_is_at_boundary, cut_leaves_mark_or_nothing, length_before_marks_counts_other_byte, ascii_byte_has_no_continuation, length_before_mark_at_start_is_zero}
-pub use Rattle.uri_pct.proofs.ValidTexts.PrefixSteps.{valid_prefix_passes_ascii_char_of_set, unscanned_percent_has_no_hex_digits, successor_is_not_zero, valid_prefix_stops_where_none_may_begin}
-pub use Rattle.uri_pct.proofs.ValidTexts.Prefixes.{valid_prefix_of_superset_goes_on_from_subset, nothing_is_scanned_after_valid_prefix}
+pub use Rattle.uri_pct.proofs.Offered.{second-holds-if-first-is-false, eq_true_from_IsTrue, None-from-not-is_some, IfSome-weaken, excludes, cut, valid_prefix_at_mark_is_empty, is_valid_for_is_scanned_to_end, excluded_mark_is_not_in_set, excluded_mark_is_no_percent, valid_prefix-ends-by-mark, valid_prefix_by_first_byte, empty_text_has_empty_valid_prefix, valid_prefix_ends_at_boundary, length_before_marks, AreAscii-by-test, AreAscii, first_mark_is_at_boundary, cut_leaves_mark_or_nothing, length_before_marks_counts_other_byte, ascii_byte_has_no_continuation, length_before_mark_at_start_is_zero, valid_prefix_passes_ascii_char_of_set, unscanned_percent_has_no_hex_digits, successor_is_not_zero, valid_prefix_stops_where_none_may_begin, valid_prefix_of_superset_goes_on_from_subset, nothing_is_scanned_after_valid_prefix}
 pub use Rattle.uri_pct.specs.Delimiters.{at_sign, colon, full_stop, left_bracket, number_sign, percent_sign, question_mark, right_bracket}
 pub use Rattle.uri_pct.specs.EncodedTexts.{text_of}
 pub use Rattle.uri_pct.specs.Prefixes.{valid_prefix, after}

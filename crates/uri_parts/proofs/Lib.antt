@@ -8,3 +8,4 @@ pub mod Refusals
 pub mod Theorems
 pub mod Steps
 pub mod PrintedComponents
+pub mod Offered

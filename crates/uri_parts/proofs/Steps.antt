@@ -1,6 +1,6 @@
 -- What the proofs of the parser's functions cite and unfold: their attributes name it.
 use Rattle.uri_parts.proofs.Common.{⊤, error_from_end, error_from_fragment, error_from_query, error_from_path, error_from_relative_path, port_length, name_and_port_length, name_ends_authority, host_end, host_and_port_length, further_userinfo_length, userinfo_length, host_offset, other_authority, other_authority_length, found_authority_length, found_authority, error_after_port, port_error, host_error, left_over_error, name_error, userinfo_error, other_authority_error, authority_error, hier_part_error, schemeless_error, parsed_error, query_end_at, path_positions, authority_positions, hier_part_positions, relative_positions, schemeless_positions, parsed_positions}
-use Rattle.uri_pct.proofs.TableSets.Constants.{digit_masks_are_digit_set, scheme_masks_are_scheme_set, segment_nz_nc_masks_are_segment_nz_nc_set, isegment_nz_nc_masks_are_isegment_nz_nc_set}
+use Rattle.uri_pct.proofs.Offered.{digit_masks_are_digit_set, scheme_masks_are_scheme_set, segment_nz_nc_masks_are_segment_nz_nc_set, isegment_nz_nc_masks_are_isegment_nz_nc_set}
 use Rattle.uri_parts.proofs.Authorities.AuthorityCuts.{suffix, drop-after-drop-of-one}
 use Rattle.uri_parts.proofs.Parsing.NextBytes.{starts_at_position, stray_percent_ends_scan, authority_may_end_at_end, authority_may_end_at_byte, authority_may_end_at_slash, text_ends_where_position_is_length, name_has_no_port_where_authority_may_end}
 use Rattle.uri_parts.proofs.Parsing.WebSchemes.{scheme_of_http_ends_at_4, scheme_of_https_ends_at_5}

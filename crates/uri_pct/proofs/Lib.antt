@@ -8,3 +8,4 @@ pub mod Decodings
 pub mod EncodedTexts
 pub mod UnreservedDecoding
 pub mod Theorems
+pub mod Offered

@@ -7,30 +7,17 @@ pub use Rattle.std.proofs.lemmas.Bool.Decides.{nat_tests, Decides-like}
 pub use Rattle.std.proofs.lemmas.List.{length-take-le}
 pub use Rattle.std.proofs.lemmas.List.Folds.{list_all-append, list_any_at}
 pub use Rattle.std.proofs.lemmas.Str.{IsUtf8-nil, IsCharBoundary-after_ascii, IsCharBoundary-from_take}
-pub use Rattle.uri_ops.proofs.Meanings.AllowedParts.{validity-splits-at-slash, set-text-from-utf8, set-text-is-valid, is_set_text}
-pub use Rattle.uri_ops.proofs.Paths.DotLaws.{path-after-slash-appends-its-segments, appended-segments-lack-slashes, property-of-path-to-slash-by-segments, property-of-absolute-path-by-segments, segments-of-dotless-path-are-dotless, remove-dots-of-dotless, dotless-path-does-not-underflow, removing-dots-keeps-absolute, removing-dots-leaves-no-dot-segment, length-of-slashed-append-is-sum, popped-segments-are-no-longer, removing-dots-lengthens-no-path}
-pub use Rattle.uri_ops.proofs.Paths.DotRuns.{empty-text-is-nil, not-empty-has-length, single-dot-is-not-empty}
-pub use Rattle.uri_ops.proofs.Paths.PathMeanings.{removing-dots-keeps-leading-slash, path-without-dots-is-set-text, guarded-set-text-is-set-text, two-slashes-begin-with-slash, guard-is-removed-as-dot-segment, dotless_if_absolute-is-idempotent, dot-is-set-text}
-pub use Rattle.uri_ops.proofs.Paths.Segments.{pop-undoes-push, pushed-segments-are-not-none, AllPass, is_dotless, parent-of-dotless-is-pop, appended-segments-pass-test, dotless_of-append, steps-of-dotless-append-all, end_of}
-unfoldable pub use Rattle.uri_ops.proofs.Paths.Segments.{pop, step_of, next_output, closing, steps, dotless_of}
-pub use Rattle.uri_ops.proofs.Paths.SlashedSegments.{NoSlashes, lacks_slash, segments-of-slashed-segments, segments-of-text-are-not-none, directory-by-segments, first-segment-and-rest-lack-slashes, is_one_of-slash-is-equality, remove-dots-by-segments, segments-of-text-lack-slashes, slashed-of-append, slashed-of-push, slashed-of-segments-is-text-after-slash}
-unfoldable pub use Rattle.uri_ops.proofs.Paths.SlashedSegments.{slashed}
-pub use Rattle.uri_ops.proofs.Paths.TakenSegments.{removing-dots-after-directory, underflow-after-directory, absolute-path-is-slash-and-rest}
-pub use Rattle.uri_ops.proofs.Targeting.RefusalOrder.{ok-result-has-no-opaque-rejection}
-unfoldable pub use Rattle.uri_ops.proofs.Targeting.RefusalOrder.{result_or_target_error}
-pub use Rattle.uri_ops.proofs.Targeting.TargetCases.{settled-text-has-settled-components}
-pub use Rattle.uri_ops.proofs.Targeting.Targets.{target-text-has-target-components}
-pub use Rattle.uri_ops.proofs.TextKinds.FourKinds.{one-of-four-kinds-has-sets}
+pub use Rattle.uri_ops.proofs.Offered.{validity-splits-at-slash, set-text-from-utf8, set-text-is-valid, is_set_text, path-after-slash-appends-its-segments, appended-segments-lack-slashes, property-of-path-to-slash-by-segments, property-of-absolute-path-by-segments, segments-of-dotless-path-are-dotless, remove-dots-of-dotless, dotless-path-does-not-underflow, removing-dots-keeps-absolute, removing-dots-leaves-no-dot-segment, length-of-slashed-append-is-sum, popped-segments-are-no-longer, removing-dots-lengthens-no-path, empty-text-is-nil, not-empty-has-length, single-dot-is-not-empty, removing-dots-keeps-leading-slash, path-without-dots-is-set-text, guarded-set-text-is-set-text, two-slashes-begin-with-slash, guard-is-removed-as-dot-segment, dotless_if_absolute-is-idempotent, dot-is-set-text, pop-undoes-push, pushed-segments-are-not-none, AllPass, is_dotless, parent-of-dotless-is-pop, appended-segments-pass-test, dotless_of-append, steps-of-dotless-append-all, end_of, NoSlashes, lacks_slash, segments-of-slashed-segments, segments-of-text-are-not-none, directory-by-segments, first-segment-and-rest-lack-slashes, is_one_of-slash-is-equality, remove-dots-by-segments, segments-of-text-lack-slashes, slashed-of-append, slashed-of-push, slashed-of-segments-is-text-after-slash, removing-dots-after-directory, underflow-after-directory, absolute-path-is-slash-and-rest, ok-result-has-no-opaque-rejection, settled-text-has-settled-components, target-text-has-target-components, one-of-four-kinds-has-sets}
+unfoldable pub use Rattle.uri_ops.proofs.Offered.{pop, step_of, next_output, closing, steps, dotless_of, slashed, result_or_target_error}
 pub use Rattle.uri_ops.specs.Dots.{is_empty, IsAbsolute, EndsInSlash, lacks_dot_segments, segments, remove_dot_segments, underflows, directory, has_slash, or_slash, is_double_dot, is_single_dot}
 pub use Rattle.uri_ops.specs.Resolving.{with_final_path, components_of}
 pub use Rattle.uri_ops.specs.Target.{is_opaque, is_opaque_rejection, query_or, target_of, underflows_if_absolute, guarded, is_fragment_only, dotted_target, dotless_if_absolute, resolution_of, merged, target_underflows, resolution_of_texts}
-pub use Rattle.uri_parts.proofs.Splitting.Recompose.{equal-to-true-is-IsTrue, components-are-split-of-text, recompose-components}
-pub use Rattle.uri_parts.proofs.TextKinds.KindSets.{kind-that-needs-scheme-has-one}
+pub use Rattle.uri_parts.proofs.Offered.{equal-to-true-is-IsTrue, components-are-split-of-text, recompose-components, kind-that-needs-scheme-has-one}
 pub use Rattle.uri_parts.specs.Components.{IsAbemptyPath, Components, marked, components, recompose, starts, IsSplitOf, Lacks, has_authority, has_scheme}
 pub use Rattle.uri_parts.specs.CoreTexts.{core_text}
 pub use Rattle.uri_parts.specs.Grammar.{Kind, components_meet_rules, has_colon_in_first_segment, absent_or_passes, is_authority, is_scheme, IsOfKind}
 pub use Rattle.uri_parts.specs.Positions.{authority_at, delimited_length, positions_of}
-pub use Rattle.uri_pct.proofs.General.{eq_true_from_IsTrue, None-from-not-is_some, not_some_is_none, none-is-not-some}
+pub use Rattle.uri_pct.proofs.Offered.{eq_true_from_IsTrue, None-from-not-is_some, not_some_is_none, none-is-not-some}
 pub use Rattle.uri_pct.specs.Delimiters.{slash}
 pub use Rattle.uri_pct.specs.Sets.{TableSet, allows, is_one_of}
 pub use Rattle.uri_relative.specs.Forms.{IsDotlessTargetOf, IsReferenceTo, IsUnguarded, NeedsPath, after_path, from_authority, is_guarded, after_scheme}

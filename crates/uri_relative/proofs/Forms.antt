@@ -1,12 +1,10 @@
 -- The forms of references that lead to a target: RFC 3986, sections 4.2 and 5.2.2.
 use Rattle.uri_relative.proofs.Common.{◌≡◌, ℕ, ◌+◌, ◌≤◌, ◌<◌, Bool, true, false, not, List, [], ◌++◌, ◌&&◌, ◌||◌, ◌∷◌, length, refl, sym, ap, ◌∙◌, subst, arith, rules, codes, Option, None, Some, IfSome, IfNone, is_some, length-append, and-false, and_from, and_parts, both_ways, cond_both, or_left, cond-false, cond-true, false≢true, IsUtf8-nil, nat_tests, slash, Components, IsAbemptyPath, IsSplitOf, Lacks, marked, has_authority, has_scheme, recompose, starts, Kind, components_meet_rules, has_colon_in_first_segment, absent_or_passes, is_authority, is_scheme, TableSet, allows, IsAbsolute, lacks_dot_segments, underflows_if_absolute, guarded, is_opaque, is_fragment_only, dotted_target, validity-splits-at-slash, absolute-path-is-slash-and-rest, IsDotlessTargetOf, IsReferenceTo, IsUnguarded, NeedsPath, after_path, from_authority, IsRelativeTo, needs_authority, IsPathTo, IsShortestPath, Shortest}
 use Rattle.uri_pct.specs.Tokens.{is_valid_for}
-use Rattle.uri_pct.proofs.ValidTexts.EStrs.{empty_text_is_valid}
-use Rattle.uri_parts.proofs.Splitting.Marks.{IsEmptyOrMarked-query_text}
+use Rattle.uri_pct.proofs.Offered.{empty_text_is_valid}
+use Rattle.uri_parts.proofs.Offered.{IsEmptyOrMarked-query_text}
 use Rattle.uri_ops.specs.NormalTargets.{reference_kind}
-use Rattle.uri_ops.proofs.Meanings.ComponentEnds.{no_scheme}
-use Rattle.uri_ops.proofs.Meanings.AsciiCharacters.{ascii-bytes-are-utf8}
-use Rattle.uri_ops.proofs.Paths.PathCharacters.{lacked-delimiters-fail-test, test-of-delimiters-gives-lacks}
+use Rattle.uri_ops.proofs.Offered.{no_scheme, ascii-bytes-are-utf8, lacked-delimiters-fail-test, test-of-delimiters-gives-lacks}
 use Rattle.uri_relative.proofs.References.{target_of-fragment-form, target_of-authority-form, target_of-path-form, path-form-does-not-underflow, target_of-query-form, target_of-whole-target}
 use Rattle.uri_relative.proofs.Settled.{settled-target-does-not-underflow}
 use Rattle.uri_relative.proofs.ShortestForms.{fragment-form-is-shortest, path-form-is-shortest, query-form-is-shortest}

@@ -1,6 +1,6 @@
 -- When the path of a target begins with `/`: RFC 3986, sections 5.2.2 and 5.2.3.
 use Rattle.uri_relative.proofs.Common.{◌≡◌, ℕ, true, false, List, arith, Option, nat_tests, eq_true_from_IsTrue, slash, IsAbemptyPath, starts, equal-to-true-is-IsTrue, IsAbsolute, is_empty, dotless_if_absolute, guarded, removing-dots-keeps-leading-slash, joined_path}
-use Rattle.uri_ops.proofs.Paths.MergedPaths.{merged-path-is-absolute}
+use Rattle.uri_ops.proofs.Offered.{merged-path-is-absolute}
 
 -- targets to relativize: a path without its dot segments, and guarded, begins with `/` where it
 -- did; a: the authority

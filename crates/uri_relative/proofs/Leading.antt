@@ -1,8 +1,8 @@
 -- References that lead to a target: RFC 3986, section 5.2.
 use Rattle.uri_relative.proofs.Common.{◌≡◌, ℕ, Bool, true, false, not, List, ◌++◌, ◌&&◌, ◌||◌, sym, ap, ◌∙◌, append_assoc, subst, arith, Ok, is_some, IsUtf8, and-false, cond-false, nat_tests, Components, IsSplitOf, components, recompose, Kind, IsOfKind, components-are-split-of-text, recompose-components, kind-that-needs-scheme-has-one, with_final_path, dotless_if_absolute, is_fragment_only, is_opaque, resolution_of, target_of, set-text-from-utf8, set-text-is-valid, path-without-dots-is-set-text, guarded-set-text-is-set-text, settled-text-has-settled-components, IsDotlessTargetOf, IsReferenceTo, LeadsBackToTarget, IsNoLonger, IsRelativeTo, LeadsTo, without_fragment, settled}
-use Rattle.uri_parts.proofs.Splitting.Splits.{only-split-is-components}
+use Rattle.uri_parts.proofs.Offered.{only-split-is-components}
 use Rattle.uri_ops.specs.ComponentSets.{HasComponentSets}
-use Rattle.uri_ops.proofs.Meanings.TextParts.{components-of-utf8-are-utf8}
+use Rattle.uri_ops.proofs.Offered.{components-of-utf8-are-utf8}
 use Rattle.uri_relative.proofs.Forms.{components-of-kind-meet-rules}
 use Rattle.uri_relative.proofs.Returning.{reference-leads-back-to-resolved-target}
 use Rattle.uri_relative.proofs.Settled.{final-path-is-idempotent}

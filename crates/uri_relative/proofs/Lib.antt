@@ -22,3 +22,4 @@ pub mod SharedLengths
 pub mod Rules
 pub mod JoinedPaths
 pub mod Exceptions
+pub mod Offered

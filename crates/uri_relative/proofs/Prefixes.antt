@@ -3,8 +3,7 @@ use Rattle.uri_relative.proofs.Common.{◌≡◌, ℕ, zero, suc, ◌+◌, ◌<�
 use Rattle.std.proofs.lemmas.List.{append-nil, get_or-drop, get_or-take, length-drop, length-take-le, take-take, take_more}
 use Rattle.std.proofs.Math.Seq.{get_or-append_seam}
 use Rattle.uri_ops.specs.Models.Places.{IsSlashOrStart}
-use Rattle.uri_ops.proofs.Paths.LastSlashes.{slash-position-is-of-slash}
-use Rattle.uri_ops.proofs.Paths.PushedPaths.{prefix-of-absolute-path-is-absolute}
+use Rattle.uri_ops.proofs.Offered.{slash-position-is-of-slash, prefix-of-absolute-path-is-absolute}
 
 -- relativized paths: a shorter prefix of a shared one is shared
 shorter-prefix-is-shared-too : (m n : ℕ) (a b : List ℕ) → m ≤ n → take n a ≡ take n b

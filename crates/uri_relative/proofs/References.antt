@@ -1,6 +1,6 @@
 -- What the references of each form resolve to: RFC 3986, section 5.2.2.
 use Rattle.uri_relative.proofs.Common.{◌≡◌, ℕ, Bool, true, false, List, [], ◌&&◌, refl, sym, ap, ◌∙◌, ⊎_elim, arith, Option, None, is_some, cases_Bool, cond-true, cond-false, nat_tests, eq_true_from_IsTrue, slash, Components, IsAbemptyPath, starts, remove_dot_segments, underflows, dotless_if_absolute, underflows_if_absolute, guarded, dotted_target, merged, target_of, target_underflows, with_final_path, IsPathTo, joined_path}
-use Rattle.uri_ops.proofs.Paths.MergedPaths.{merged-path-is-absolute}
+use Rattle.uri_ops.proofs.Offered.{merged-path-is-absolute}
 
 -- general fact on records, for relativized references: components are equal if each is
 equal-parts-make-equal-components : (c d : Components) → c.scheme ≡ d.scheme → c.authority

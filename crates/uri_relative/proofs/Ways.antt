@@ -3,11 +3,9 @@ use Rattle.uri_relative.proofs.Common.{◌≡◌, ℕ, zero, suc, ◌+◌, ◌-�
 use Rattle.std.specs.List.{list_all}
 use Rattle.std.specs.Str.{IsUtf8, IsCharBoundary, chars}
 use Rattle.uri_pct.specs.Tokens.{is_valid_for, tokens_from_chars}
-use Rattle.uri_pct.proofs.ValidTexts.Validity.{ascii_char_is_allowed_iff_in_set}
+use Rattle.uri_pct.proofs.Offered.{ascii_char_is_allowed_iff_in_set}
 use Rattle.uri_ops.specs.ComponentSets.{IsComponentSet}
-use Rattle.uri_ops.proofs.Meanings.AsciiCharacters.{ascii-bytes-are-utf8}
-use Rattle.uri_ops.proofs.Paths.PathCharacters.{lacked-delimiters-fail-test, test-of-delimiters-gives-lacks}
-use Rattle.uri_ops.proofs.Paths.DecodedPaths.{set-text-splits, set-texts-join-at-slash}
+use Rattle.uri_ops.proofs.Offered.{ascii-bytes-are-utf8, lacked-delimiters-fail-test, test-of-delimiters-gives-lacks, set-text-splits, set-texts-join-at-slash}
 use Rattle.uri_relative.proofs.Climbs.{FollowsDotsFromDirectory, remove_dot_segments-follows-dots, underflows-follows-dots, merged-relative-path-leads-to-path, merged-relative-path-does-not-underflow, relative_path-of-some-climbs}
 
 -- relativized paths: the path is not empty, has no leading `/`, and no `:` in its first segment

@@ -3,8 +3,8 @@
 use Rattle.uri_streams.proofs.Common.{◌≡◌, ℕ, List, [], ◌∷◌, refl, sym, ap, ◌∙◌, subst, Option, Some, None, map, AllByRecursion, flat_map, encode_utf8, IsUtf8, is_utf8, chars, recursion_from_All, IsUtf8-append, IsUtf8-encode, IsUtf8-nil, IsUtf8-from_is_utf8, decode_pair, components, recompose, IsTextOf, json_of, JsonValue, IsJsonTextOf, components_value, query_value, pairs_of_query, query_json, kind_named, KindName}
 use Rattle.std.specs.Str.Lossy.{replacement_bytes}
 use Rattle.uri_pct.specs.Pieces.{Piece, WellFormed, IllFormed, IsOfCharacter, char_of, lossy_piece, lossy_text, utf8_pieces}
-use Rattle.uri_pct.proofs.Unicode.CharacterPieces.{utf8_pieces-are-of-characters}
-use Rattle.uri_parts.proofs.Splitting.Recompose.{recompose-components}
+use Rattle.uri_pct.proofs.Offered.{utf8_pieces-are-of-characters}
+use Rattle.uri_parts.proofs.Offered.{recompose-components}
 use Rattle.uri_streams.proofs.JsonComponents.{equal-objects-have-equal-components}
 use Rattle.uri_streams.proofs.JsonObjects.{json_of-is-json-object}
 use Rattle.uri_streams.proofs.JsonPairs.{AreUtf8, pairs-are-json-array, equal-arrays-have-equal-pairs}

@@ -1,5 +1,5 @@
 use Rattle.uri_abnf.proofs.Common.{true, refl, uri, iri, uri_rules, iri_rules}
-use Rattle.uri_ops.proofs.TextKinds.GrammarTexts.{uris-are-texts-of-grammar, iris-are-texts-of-grammar}
+use Rattle.uri_ops.proofs.Offered.{uris-are-texts-of-grammar, iris-are-texts-of-grammar}
 use Rattle.uri_abnf.proofs.BothRfcs.{uri-rules-fit, iri-rules-fit}
 use Rattle.uri_abnf.proofs.Languages.{absolute-texts}
 use Rattle.uri_abnf.proofs.absolute_rules_have_no_fragment.Goals as goal

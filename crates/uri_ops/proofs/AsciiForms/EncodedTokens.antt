@@ -1,8 +1,7 @@
 -- The tokens of a text without characters past ASCII: the octets of each are in its place.
 use Rattle.uri_ops.proofs.Common.{◌≡◌, ℕ, ◌+◌, ◌*◌, ◌/◌, ◌%◌, ◌<◌, ◌≤◌, Bool, true, false, cond, eqb, ltb, List, [], ◌∷◌, ◌++◌, get_or, map, refl, sym, ap, subst, ◌∙◌, arith, ◌&&◌, ⊎_elim, append_assoc, IsScalar, encode_utf8, digit_value, is_ascii_hexdigit, digit_glyph, list_all, flat_map, chars, IsUtf8, encode_utf8_all, all_scalars, chars-encodes, chars-IsAscii, encode_ascii, append-nil, flat_map-append, list_all-append, cases_Bool, cases_lt, agree_below_at, cond-true, cond-false, and_left, and_right, and_from, and_parts, eqb-true, ltb-true, lt-ltb, le-ltb, nat_tests, Token, Char, Octet, tokens, tokens_from_chars, bytes_decoded_from, bytes_of_one_token, is_pct_encoded, text_of_token, begins_with_hex_digits, char_has_encoding, is_no_ascii_byte, char_past_ascii_begins_past_ascii, hexdigit_is_ascii, encode_byte_past_ascii, encode_past_ascii, chars_not_pct_encoded_begin_no_octet}
 use Rattle.uri_ops.proofs.Meanings.AsciiCharacters.{ascii-bytes-are-ascii-text, ascii-bytes-are-utf8}
-use Rattle.uri_pct.proofs.TableSets.Constants.{past_ascii_is_no_hexdigit}
-use Rattle.uri_pct.proofs.EncodedTexts.Encodings.{octets_decode_to_their_bytes}
+use Rattle.uri_pct.proofs.Offered.{past_ascii_is_no_hexdigit, octets_decode_to_their_bytes}
 
 -- IRIs as URIs: the digits that a byte is written with are hexadecimal, and have its value
 abbrev has_two_hex_digits : ℕ → Bool

@@ -1,7 +1,7 @@
 -- A component that ends in ASCII: its last characters are written as they are, but for case, and its
 -- last octet is decoded by itself.
 use Rattle.uri_ops.proofs.Common.{◌≡◌, ℕ, ◌-◌, ◌<◌, inl, Bool, true, false, List, [], ◌∷◌, ◌++◌, length, get_or, take, drop, refl, sym, ap, ◌∙◌, subst, arith, ⊎_elim, append_assoc, length-append, flat_map, IsUtf8, cases_Bool, append-nil, get_or_append_left, get_or_at, length-drop, length-take, take-append-drop, take_all, flat_map-append, IsUtf8-append, encode_ascii, widest_set, decode_after_run, decode_octet, decode_piece, decode_run, encode_formatting, formatting_as_octets, decode_tokens, pieces_from, utf8_pieces, TableSet, is_unreserved, IsValidFor, Token, Char, Octet, print, tokens, byte_below_80_or_from_c0_is_no_continuation, utf8_pieces_are_cut_at_non_continuation, ascii_char_separates_encode_formatting, IsAsciiSuffix, LacksPercentThird, cased, normal_component, lowered_code_if, lowered_if}
-use Rattle.uri_pct.proofs.Unicode.AsciiOctets.{ascii_byte_is_utf8}
+use Rattle.uri_pct.proofs.Offered.{ascii_byte_is_utf8}
 use Rattle.uri_ops.specs.FromEnd.LastTokens.{EndsIn}
 use Rattle.uri_ops.proofs.FromEnd.LastOctets.{decoded}
 use Rattle.uri_ops.proofs.FromEnd.LastTokens.{last_char_is_last_token, no_octet_ends_text}

@@ -1,8 +1,7 @@
 -- The last token of a valid text: an octet if the third byte from the end is `%`, else a character.
 use Rattle.uri_ops.proofs.Common.{◌≡◌, ℕ, suc, ◌+◌, ◌-◌, ◌*◌, ◌<◌, ◌≤◌, ◌⊎◌, inl, inr, true, false, List, [], ◌∷◌, ◌++◌, length, get_or, take, drop, refl, sym, ap, ◌∙◌, subst, arith, ⊎_elim, append_assoc, eqb, lit<, list_all, IsScalar, encode_utf8, digit_value, is_ascii_hexdigit, chars, all_scalars, IsUtf8, cases_Bool, cond-true, cond-false, and_parts, and_from, and_right, ne_eqb, take-append-drop, drop_more, length-drop, get_or-drop, get_or_at, length-append, append-nil, take_at, drop_at, nil_from_length, take_all, take_more, list_all-append, chars-append, chars-nil, IsUtf8-take, IsUtf8-drop, IsCharBoundary-before_ascii, chars-encodes, cons_from_encodes, IsCharBoundary-from_take, encode_ascii, widest_set, Token, Char, Octet, is_pct_encoded, tokens_from_chars, tokens, allows_token, is_valid_for, IsValidFor, BeginsWithOctet, bytes_from_percent_begin_with_octet, valid_text_has_printable_tokens, EndInNoOctet, LacksPercentThird}
 use Rattle.uri_pct.specs.Representation.{RepresentsToken, Represents}
-use Rattle.uri_pct.proofs.UnreservedDecoding.Representations.{text_represents_its_printable_tokens}
-use Rattle.uri_pct.proofs.ValidTexts.TokenCuts.{ascii_byte_is_first_of_chars}
+use Rattle.uri_pct.proofs.Offered.{text_represents_its_printable_tokens, ascii_byte_is_first_of_chars}
 use Rattle.uri_ops.specs.FromEnd.LastTokens.{EndsIn}
 
 -- cuts of valid texts: two characters of which the second is `%` (37) are no octet with a third

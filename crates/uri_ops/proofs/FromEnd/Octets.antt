@@ -1,7 +1,7 @@
 -- The decimal digits of an octet.
 use Rattle.uri_ops.proofs.Common.{◌≡◌, ℕ, ◌/◌, ◌%◌, ◌<◌, ◌^◌, ◌≤◌, [], ◌∷◌, ◌++◌, ltb, arith, inl, inr, cases_lt, nat_tests, digit_char, decimal}
 use Rattle.std.proofs.lemmas.Fmt.{decimal_digit, decimal_step}
-use Rattle.uri_parts.proofs.HostForms.AddressTexts.{unless_leading}
+use Rattle.uri_parts.proofs.Offered.{unless_leading}
 
 -- a number below 1000 is its decimal digits, without leading zeros
 pub decimal_has_no_leading_zeros : (n : ℕ) → n < 1000 → decimal n ≡ unless_leading (ltb n 100) (n

@@ -1,7 +1,7 @@
 -- The segments that are left of a path, from the last one.
 use Rattle.uri_ops.proofs.Common.{◌≡◌, ℕ, zero, suc, ◌+◌, Bool, true, false, cond, not, List, [], ◌∷◌, ◌++◌, ◌-◌, ◌<◌, ◌||◌, length, eqb, refl, sym, ap, subst, ◌∙◌, add-one, inl, inr, ⊎_elim, arith, lit<, Option, Some, None, MatchOption, Bor, append-nil, length-append, codes, and_from, and_parts, cond-false, cond-true, false≢true, not-true, not_from_false, or_parts, or_right, lacks, eq_true_from_IsTrue, IsAbemptyPath, cons_is_not_nil, equal-to-true-is-IsTrue, IsAbsolute, before_last_slash, has_slash, is_dot_segment, is_empty, is_double_dot, is_single_dot, remove_dot_segments, is_abempty_path, segments_left, with_segment, without_last_segments}
 use Rattle.std.specs.Str.Pattern.{RFindsChar, SplitsAroundMatch}
-use Rattle.uri_pct.proofs.ValidTexts.Delimiters.{rsplit_once_cuts_at_last}
+use Rattle.uri_pct.proofs.Offered.{rsplit_once_cuts_at_last}
 use Rattle.uri_ops.proofs.Paths.Segments.{closing, closing-of-append, dotless_of, dotless_of-with-empty-last, end_of, next_output, step_of, appended-segments-pass-test, steps, segments-after-steps-pass-test}
 use Rattle.uri_ops.proofs.Paths.SlashedSegments.{NoSlashes, before_last_slash-of-append, lacks_slash, before_last_slash-of-slashed-is-popped, slashed, remove-dots-by-segments, slashed-of-append, slashed-of-push}
 use Rattle.uri_ops.proofs.Paths.DotLaws.{property-of-absolute-path-by-segments, rooted, segments-with-empty-last-lack-slashes}

@@ -1,7 +1,6 @@
 -- Texts that a set allows, cut at `/`, and their decoded forms as printed.
 use Rattle.uri_ops.proofs.Common.{◌≡◌, ℕ, ◌+◌, ◌*◌, Bool, true, false, eqb, List, [], ◌∷◌, ◌++◌, refl, ap, ◌∙◌, ◌&&◌, ⊎_elim, lit<, arith, digit_value, is_ascii_hexdigit, list_all, chars, IsUtf8, is_utf8, IsUtf8-from_is_utf8, is_utf8-from_IsUtf8, IsUtf8-nil, chars-append, encode_ascii, flat_map-append, list_all-append, cases_Bool, cond-false, and_right, and_parts, and_from, nat_tests, TableSet, LacksPercent, IsSubset, unreserved_set, allows, Token, Char, Octet, tokens, tokens_from_chars, bytes_decoded_from, is_pct_encoded, print, allows_token, is_valid_for, IsValidFor, is_printable, decode_unreserved, decode_run, decode_after_run, decode_tokens, encode_formatting, pieces_from, print_decoded, printed_tokens_parse_to_themselves, printed_tokens_are_utf8, char_but_percent_is_its_own_token, valid_text_has_printable_tokens, printed_decode_unreserved_stays_valid, decode_unreserved_keeps_bytes, char_separates_decoded_tokens, ascii_char_separates_encode_formatting}
-use Rattle.uri_pct.proofs.UnreservedDecoding.DecodedTwice.{decode_unreserved_is_idempotent}
-use Rattle.uri_pct.proofs.UnreservedDecoding.DecodedTokens as DecodedTokens
+use Rattle.uri_pct.proofs.Offered.{decode_unreserved_is_idempotent, decode_unreserved_keeps_tokens_printable}
 
 -- a text in UTF-8 that the set allows
 unfoldable pub is_set_text : TableSet → List ℕ → Bool
@@ -42,7 +41,7 @@ module _ (set : TableSet) (lacks : LacksPercent set) where
 
   pub decoded-set-text-is-printable : (text : List ℕ) → is_set_text set text ≡ true
       → list_all is_printable (decode_unreserved set text) ≡ true
-  decoded-set-text-is-printable text e = DecodedTokens.decode_unreserved_keeps_tokens_printable set
+  decoded-set-text-is-printable text e = decode_unreserved_keeps_tokens_printable set
       text (set-text-has-printable-tokens text e)
 
   tokens-of-decoded-text : (text : List ℕ) → is_set_text set text ≡ true

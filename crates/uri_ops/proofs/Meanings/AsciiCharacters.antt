@@ -1,7 +1,7 @@
 -- Texts without octets and without characters past ASCII, such as schemes, and the same in lower
 -- case.
 use Rattle.uri_ops.proofs.Common.{◌≡◌, ℕ, zero, suc, Bool, true, false, eqb, ltb, List, [], ◌∷◌, refl, sym, ap, ◌∙◌, arith, slice_index, is_ascii_alphabetic, to_ascii_lowercase, list_all, IsUtf8, IsAscii, str_to_ascii_lowercase, IsUtf8-from_ascii, lowercase_ascii, lowercase-lowercase, and_left, and_right, and_from, cond-false, eqb-true, both_ways, false_from_ne_true, and_parts, cond-true, lt-ltb, ltb-true, nat_tests, TableSet, LacksPercent, is_scheme_char, valid_from, validity_by_first_byte, validity_of_tokens_is_validity_of_bytes, ascii_first_byte_is_allowed_iff_in_set, is_scheme}
-pub use Rattle.uri_parts.proofs.TextKinds.AsciiSets.{is_ascii_in, valid_ascii_text}
+pub use Rattle.uri_parts.proofs.Offered.{is_ascii_in, valid_ascii_text}
 use Rattle.uri_ops.proofs.Meanings.AllowedParts.{is_set_text, set-text-from-utf8}
 
 -- meanings of schemes: characters that pass an ASCII test are ASCII

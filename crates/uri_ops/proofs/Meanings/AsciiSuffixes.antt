@@ -1,7 +1,7 @@
 -- What is appended to a text is ASCII: characters, and octets that are decoded or written as they
 -- are.
 use Rattle.uri_ops.proofs.Common.{◌≡◌, ℕ, ◌+◌, ◌*◌, ◌<◌, Bool, true, false, List, [], ◌∷◌, ◌++◌, length, take, drop, refl, sym, ap, subst, ◌∙◌, append_assoc, take_all, arith, ⊎_elim, append-nil, eqb, suc, digit_value, is_ascii_hexdigit, list_any, IsAscii, IsUtf8, cases_Bool, nat_tests, drop_all, take-append-drop, take-append_seam, drop-append_seam, IsAscii-append, IsAscii-drop, IsAscii-take, IsUtf8-append, IsUtf8-from_ascii, encode_ascii, IsAscii-nil, IsAscii-push, lowercase_ascii, decode_octet, is_unreserved, Octet, print, text_of_token, unreserved_is_ascii, lowered_code_if, lowered_if}
-use Rattle.uri_pct.proofs.Decodings.OctetTexts.{octet_entry_is_printed_octet, octet_table_is_ascii}
+use Rattle.uri_pct.proofs.Offered.{octet_entry_is_printed_octet, octet_table_is_ascii}
 use Rattle.uri_ops.proofs.Meanings.UnreservedCodes.{unreserved-octet-prints-its-code}
 
 -- ASCII suffixes: a text begins with the old one, and what is after it is ASCII

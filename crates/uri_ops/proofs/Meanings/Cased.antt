@@ -1,6 +1,6 @@
 -- What is written of a part, as it is or with its letters lowered.
 use Rattle.uri_ops.proofs.Common.{◌≡◌, ℕ, ◌≤◌, Bool, true, false, List, [], ◌∷◌, ◌++◌, map, refl, sym, ap, subst, ◌∙◌, arith, ⊎_elim, slice_index, list_all, flat_map, All, encode_utf8, to_ascii_lowercase, chars, encode_utf8_all, all_scalars, IsUtf8, str_to_ascii_lowercase, cases_Bool, cond-true, cond-false, and_parts, and_from, or_parts, cases_lt, leb-true, nat_tests, append-nil, map-append, All-nil, All-cons, All-head, All-tail, encodes-chars, scalars-chars, chars-encodes, encode_ascii, lowercase_ascii, encode_char, encode_text, encode_piece, ArePastAscii, Piece, WellFormed, IllFormed, IsOfCharacter, utf8_pieces, is_decodable, decode_piece, lower_token, TableSet, allows, allows_past_ascii, is_unreserved, Char, Octet, print, utf8_pieces-are-of-characters, char_has_encoding, char_past_ascii_begins_past_ascii, is_no_ascii_byte, lowered_if, lowered_text_if, lowering_keeps_octets, lowercase_keeps_char_past_ascii}
-use Rattle.uri_pct.proofs.EncodedTexts.Encodings.{pieces_of_text_are_encoded_as_text}
+use Rattle.uri_pct.proofs.Offered.{pieces_of_text_are_encoded_as_text}
 
 -- meanings in lower case: literal tokens are written as the UTF-8 of their characters
 print-of-characters-is-their-utf8 : (cs : List ℕ) → print (map Char cs) ≡ encode_utf8_all cs

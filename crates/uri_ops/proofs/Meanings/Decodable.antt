@@ -1,7 +1,7 @@
 -- Texts in which each `%` begins an octet.
 use Rattle.uri_ops.proofs.Common.{◌≡◌, ℕ, Bool, true, false, not, eqb, List, refl, subst, arith, inl, inr, Option, Some, None, IsDotted, nat_tests, All-weaker, list_all-from_AllPass, IsDigitOrDot, widest_set, TableSet, LacksPercent, set_of, IsValidFor, every_set_is_subset_of_widest, valid_for_superset, starts, ipv4_value, is_host, reg_name_host_is_valid, ipv4_value-sound, ipv4-text-is-digits-and-dots}
 use Rattle.uri_pct.specs.declared.table.Table.{Table}
-use Rattle.uri_pct.proofs.TableSets.Percent.{lacks_percent}
+use Rattle.uri_pct.proofs.Offered.{lacks_percent}
 use Rattle.uri_ops.proofs.Meanings.AllowedParts.{set-text-is-valid}
 use Rattle.uri_ops.proofs.Meanings.AsciiCharacters.{is_ascii_in, ascii-in-test-is-set-text}
 

@@ -1,8 +1,7 @@
 -- Decoding of characters, and of an octet, at the start of a text.
 use Rattle.uri_ops.proofs.Common.{◌≡◌, ℕ, ◌+◌, ◌*◌, ◌<◌, Bool, true, false, cond, eqb, ltb, not, List, [], ◌∷◌, ◌++◌, take, drop, map, refl, sym, ap, ◌∙◌, arith, ◌&&◌, ◌||◌, ⊎_elim, append_assoc, flat_map, encode_utf8, digit_value, is_ascii_hexdigit, IsScalar, digit_glyph, or-false, low_scalar, agree_below_at, cases_Bool, cond-false, and_parts, ltb-true, false_from_ne_true, append-nil, encode_ascii, nat_tests, Decoded, WellFormed, utf8_pieces, LacksPastAscii, is_decodable, decode_octet, decode_piece, decode_run, decode_after_run, decode_tokens, TableSet, is_unreserved, Token, Char, Octet, tokens, text_of_token, print, first_char_is_first_piece, char_of_utf8_is_the_char, allowed_past_ascii_is_scalar, BeginsWithOctet, IsOctetAt, KeepsPrefixWhenDecoded, decoded_parts, lowered_if, cased_append, decoded_text}
-use Rattle.uri_pct.proofs.UnreservedDecoding.Octets.{text_is_decoded_octet_by_octet_in_uri}
+use Rattle.uri_pct.proofs.Offered.{text_is_decoded_octet_by_octet_in_uri, encode_formatting_without_flags_keeps_tokens}
 use Rattle.uri_ops.proofs.Meanings.DecodedParts.{decode_run-of-nil-is-nil, decoded_parts-of-run}
-use Rattle.uri_pct.proofs.UnreservedDecoding.Formatting as Formatting
 
 -- meanings, decoded: characters before other tokens are not changed by decoding
 pub decode_tokens-after-chars : (set : TableSet) (cs : List ℕ) (us : List Token)
@@ -85,7 +84,7 @@ decoded-part-of-ascii-octet lowers set b low =
 tokens-without-past-ascii-decode-alone : (set : TableSet) (text : List ℕ) → LacksPastAscii set
     → decode_tokens set (tokens text) ≡ map decode_octet (tokens text)
 tokens-without-past-ascii-decode-alone set text none = sym
-    (Formatting.encode_formatting_without_flags_keeps_tokens set (decode_tokens set (tokens text))
+    (encode_formatting_without_flags_keeps_tokens set (decode_tokens set (tokens text))
     (ap (λ b. b && set.pct_encoded) none.0)) ∙ text_is_decoded_octet_by_octet_in_uri set text none
 
 -- meanings, decoded: an octet token at the start is decoded alone, if its byte is ASCII or the set

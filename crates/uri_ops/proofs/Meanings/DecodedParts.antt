@@ -1,6 +1,6 @@
 -- Decoding the parts of a text gives the decoding of its tokens.
 use Rattle.uri_ops.proofs.Common.{◌≡◌, ℕ, true, List, [], ◌∷◌, ◌++◌, map, refl, sym, ap, ◌∙◌, append_assoc, arith, list_all, flat_map, encode_utf8, IsScalar, chars, IsUtf8, and_parts, and_from, append-nil, map-append, flat_map-append, IsUtf8-encode, chars-append, chars-encodes, nat_tests, Chunk, Text, Byte, prepend_to_chunks, chunks_of_tokens, widest_set, Decoded, parts_from, parts, Piece, utf8_pieces, pieces_from, is_printable, decode_piece, decode_run, decode_after_run, decode_tokens, TableSet, Token, Char, Octet, tokens, IsValidFor, valid_text_has_printable_tokens, decoded_parts}
-use Rattle.uri_pct.proofs.Unicode.PartPieces.{printable_char_is_scalar}
+use Rattle.uri_pct.proofs.Offered.{printable_char_is_scalar}
 
 module _ (set : TableSet) where
   -- the pieces of a run

@@ -1,7 +1,7 @@
 -- A host that is printed from its meaning is a host, and has that meaning.
 use Rattle.uri_ops.proofs.Common.{◌≡◌, ℕ, ◌<◌, true, false, ltb, List, [], ◌∷◌, ◌++◌, map, refl, sym, ap, subst, ◌∙◌, arith, inl, inr, codes, Option, Some, None, is_ascii_hexdigit, to_ascii_lowercase, list_all, IsUtf8, str_to_ascii_lowercase, IsDotted, ipv6_text, map-append, length-map, All-weaker, list_all-from_AllPass, and_parts, and_from, or_right, cond-false, ltb-true, list_all-append, nat_tests, IsUtf8-append, IsDigitOrDot, TableSet, is_one_of, ipv_future_set, is_userinfo_char, is_unreserved, print, is_valid_for, lower_token, decode_unreserved, excludes, printed_tokens_are_utf8, printed_tokens_are_valid_iff_allowed, lowered_tokens_are_printable, lowered_tokens_are_allowed, lowering_tokens_is_idempotent, decode_unreserved_keeps_tokens_allowed, Lacks, starts, HostKind, Ipv4, Ipv6, IpvFuture, RegName, IsHost, IsIpvFuture, bracketed, host_kind, is_host, ipv4_value, name_kind, utf8_around_ascii_byte, valid_text_lacks_excluded_marks, is_address_char, is_address_text, ipv6-text-is-address-text, joined-texts-lack-marks, ipv6-text-lacks-excluded-marks, ipvfuture-text-lacks-excluded-marks, hexdigit_is_userinfo_char, ipv4-text-is-digits-and-dots, is_host-sound, is_host-complete, lacking_text_does_not_begin_with, address-in-brackets-is-utf8, IsComponentSet, HostMeaning, FutureAddress, Name, host_meaning, host_text}
-use Rattle.uri_pct.proofs.UnreservedDecoding.DecodedTwice.{decoding_keeps_lowered_decoded_text}
-use Rattle.uri_parts.proofs.Parsing.ScanStops.{utf8_after_ascii_byte}
+use Rattle.uri_pct.proofs.Offered.{decoding_keeps_lowered_decoded_text}
+use Rattle.uri_parts.proofs.Offered.{utf8_after_ascii_byte}
 use Rattle.uri_ops.proofs.Meanings.AddressNumbers.{ipv6_text-has-its-segments}
 use Rattle.uri_ops.proofs.Meanings.AllowedParts.{is_set_text, set-text-from-utf8, set-text-is-valid, set-text-has-printable-tokens, decoded-set-text-is-printable}
 use Rattle.uri_ops.proofs.Meanings.AsciiCharacters.{is_ascii_in, valid_ascii_text, ascii-in-test-is-utf8, ascii-bytes-are-utf8, ascii-in-test-is-set-text, ascii-passes-wider-test, lowered-ascii-passes-test, lowering-is-idempotent}

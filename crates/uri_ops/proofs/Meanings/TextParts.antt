@@ -1,8 +1,7 @@
 -- The components of a text of a kind: each is in UTF-8 and meets its rule, and they are cut apart.
 use Rattle.uri_ops.proofs.Common.{◌≡◌, ℕ, Bool, true, false, not, List, drop, refl, arith, ◌&&◌, ◌||◌, ⊎_elim, codes, Option, Some, None, IfSome, is_some, IsUtf8, cases_Bool, nat_tests, AreAscii, AreAscii-by-test, Components, starts, from_any, after_scheme, after_authority, after_query, components, when, Kind, absent_or_passes, is_scheme, has_colon_in_first_segment, is_authority, components_meet_rules, IfSome-combine, utf8_before_marks}
-use Rattle.uri_parts.proofs.Parsing.ScanStops.{utf8_from_marks, utf8_after_mark, utf8_after_slashes}
+use Rattle.uri_parts.proofs.Offered.{utf8_from_marks, utf8_after_mark, utf8_after_slashes, utf8_after_authority, utf8_after_scheme}
 use Rattle.uri_ops.proofs.Meanings.AllowedParts.{is_set_text, set-text-from-utf8, set-text-is-valid}
-use Rattle.uri_parts.proofs.Parsing.WholeTexts.{utf8_after_authority, utf8_after_scheme}
 
 -- meanings of components: each component is UTF-8 and meets its rule of the grammar of a kind
 pub record ArePartsOfKind (kind : Kind) (p : Components) : Type 0 where

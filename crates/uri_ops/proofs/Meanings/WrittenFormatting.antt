@@ -1,6 +1,6 @@
 -- Where a printed text has its formatting characters as octets, the tokens that were printed have.
 use Rattle.uri_ops.proofs.Common.{◌≡◌, ℕ, ◌≤◌, Bool, true, false, eqb, List, [], ◌∷◌, ◌++◌, length, take, drop, refl, sym, ap, ◌∙◌, arith, ◌&&◌, ◌||◌, encode_utf8, list_all, list_any, flat_map, chars, encode_utf8_all, IsUtf8, take-append_seam, drop-append_seam, cond-false, and_parts, or_parts, or_from, false_from_ne_true, both_ways, nat_tests, append-nil, flat_map-append, list_any-append, encodes-chars, widest_set, is_bidi_formatting, is_printable, formatting_as_octets, encode_formatting, decode_tokens, decode_unreserved, encoded_formatting_char, encoded_formatting_text, TableSet, allows, allows_past_ascii, is_ucschar, is_iprivate, Token, Char, Octet, tokens, text_of_token, print, IsValidFor, valid_text_has_printable_tokens, lowered_tokens_are_printable, ascii_char_is_no_formatting_char, never_literal_is_formatting_if_both_flags, encode_formatting_commutes_with_lowering, octet_digits_are_hexadecimal, chars_of_token, chars_of_token_encode_to_its_text, chars_of_printed_tokens, printed_tokens_are_utf8, decode_tokens_keeps_tokens_printable, lowered_if}
-use Rattle.uri_pct.proofs.UnreservedDecoding.Formatting as Formatting
+use Rattle.uri_pct.proofs.Offered.{encode_formatting_without_flags_keeps_tokens}
 
 -- meanings, bidirectional text: a formatting character is from U+200E to U+202E, so it begins with
 -- the byte E2
@@ -143,7 +143,7 @@ pub decoding-without-formatting-is-complete : (lowers : Bool) (set : TableSet) (
     → (set.ucschar && set.pct_encoded) ≡ false → print (lowered_if lowers
     (decode_tokens set (tokens text))) ≡ print (lowered_if lowers (decode_unreserved set text))
 decoding-without-formatting-is-complete lowers set text none = ap (λ ts. print
-    (lowered_if lowers ts)) (sym (Formatting.encode_formatting_without_flags_keeps_tokens set
+    (lowered_if lowers ts)) (sym (encode_formatting_without_flags_keeps_tokens set
     (decode_tokens set (tokens text)) none))
 
 -- general fact on booleans, for meanings of bidirectional text: `ucschar` decides on U+200E

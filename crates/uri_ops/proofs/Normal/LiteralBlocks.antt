@@ -4,7 +4,7 @@ use Rattle.std.specs.Int.Bits.{and_lt}
 use Rattle.std.specs.Simd.Lanes.{chunk, mask_l}
 use Rattle.std.proofs.lemmas.Nat.{or_lt, shr_below}
 use Rattle.std.proofs.lemmas.Nat.Bits.{bit_at-zero, bit_at_above, bit_at-trailing_zeros}
-use Rattle.uri_pct.proofs.TableSets.Masks.{bit_of_bit_and, bit_of_bit_or}
+use Rattle.uri_pct.proofs.Offered.{bit_of_bit_and, bit_of_bit_or}
 
 -- literal blocks: bit k of the mask is set where index i + k fails the test, for w indices
 pub record MarksIndices (test : ℕ → Bool) (i w mask : ℕ) : Type 0 where

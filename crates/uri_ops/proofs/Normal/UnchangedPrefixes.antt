@@ -2,7 +2,7 @@
 use Rattle.uri_ops.proofs.Common.{◌≡◌, ℕ, ◌+◌, ◌<◌, ◌≤◌, ◌||◌, Bool, true, false, eqb, not, List, [], ◌∷◌, ◌++◌, length, get_or, take, refl, sym, ap, ◌∙◌, append_assoc, append-nil, option_map, arith, codes, Option, Some, None, IfSome, unwrap_or, to_ascii_lowercase, list_all, str_to_ascii_lowercase, take-append-add, agree_below_at, and_from, and_parts, both_ways, not-true, nat_tests, get_or-take, length-append, length-take-le, take-take, All-from_get_or, list_all-append, list_all-from_AllPass, lacks, authority_parts, recompose_authority, Components, marked, starts, packed, authority_at, delimited_length, host_end_of, positions_of, IsUnchangedHost, is_literal_byte, is_unchanged_host_byte, normal_scheme}
 use Rattle.uri_pct.specs.Masks.{has_bit}
 use Rattle.uri_pct.specs.Models.ByteRuns.{IsLongestRun}
-use Rattle.uri_pct.proofs.TableSets.Masks.{has_bit-only-ascii}
+use Rattle.uri_pct.proofs.Offered.{has_bit-only-ascii}
 use Rattle.uri_ops.specs.declared.normalize.unchanged.TheConstants.{UNCHANGED_HIGH, UNCHANGED_LOW}
 use Rattle.uri_ops.proofs.Normal.WrittenPlaces.{length-with-delimiter-after}
 

@@ -6,7 +6,7 @@ use Rattle.uri_ops.proofs.Meanings.TextParts.{ArePartsOfKind}
 use Rattle.uri_ops.proofs.Normal.NormalTexts.{text-has-parts-of-kind}
 use Rattle.uri_ops.proofs.Targeting.JoinedMeanings.{with_scheme, target-path-has-meaning-of-joined, joined-normal-components-have-same-meaning, normal-components-are-rejected-alike}
 use Rattle.uri_ops.proofs.Targeting.RefusalOrder.{result_or_target_error, map-of-result_or_error, rejected-results-are-equal}
-use Rattle.uri_parts.proofs.TextKinds.KindSets.{with_scheme as scheme_where_needed}
+use Rattle.uri_parts.proofs.Offered.{with_scheme as scheme_where_needed}
 
 -- resolving: a target has a scheme, before its dot segments are removed,
 -- if the base has one; r: the reference

@@ -1,7 +1,7 @@
 -- The substrings of a text between the positions of its components.
 use Rattle.uri_ops.proofs.Common.{◌≡◌, ℕ, ◌+◌, ◌-◌, ◌≤◌, true, List, [], ◌∷◌, ◌++◌, length, take, drop, refl, sym, ap, subst, ◌∙◌, arith, append_assoc, length-append, option_map, codes, Option, Some, None, IfSome, slice_range, IsUtf8, IsCharBoundary, drop-append_seam, take-append_seam, IsCharBoundary-from_drop, IsUtf8-append, IsUtf8-drop, nat_tests, AuthorityPositions, Positions, components, marked, Kind, is_authority, IsTextOf, ArePositionsOf, authority_at, before_fragment, host_end_of, delimited_length, host_is_at_positions, slice_range-from-start, boundary-at-fragment-mark, fragment_text, boundary_after_mark, before_hash, split-text-is-before-fragment-and-fragment, length-before_hash, slice-between-prefix-and-suffix, components-are-split-of-text, recompose-components, IsAbsolute, EndsIn, IsSlashOrStart, before_path}
 use Rattle.std.proofs.lemmas.Option.{none-some, same_Some}
-use Rattle.uri_parts.proofs.Splitting.ComponentPositions.{path_is_at_positions}
+use Rattle.uri_parts.proofs.Offered.{path_is_at_positions}
 use Rattle.uri_ops.proofs.Normal.NormalTexts.{text-has-parts-of-kind}
 use Rattle.uri_ops.proofs.Normal.WrittenPlaces.{length-with-delimiter-before, length-before_path-is-path_start, length-with-delimiter-after}
 use Rattle.uri_ops.proofs.Paths.LastSlashes.{cut, slash-position-is-prefix-length, prefix-through-slash-ends-in-slash}

@@ -1,6 +1,6 @@
 -- Texts without octets and without characters past ASCII.
 use Rattle.uri_parts.proofs.Common.{◌≡◌, ℕ, Bool, false, ltb, List, [], ◌∷◌, refl, ap, ◌∙◌, ◌&&◌, arith, IsUtf8, list_all, nat_tests, characters_only, allows_past_ascii, is_valid_for}
-use Rattle.uri_pct.proofs.ValidTexts.Validity.{valid_from, validity_by_first_byte, validity_of_tokens_is_validity_of_bytes, ascii_first_byte_is_allowed_iff_in_set, first_byte_past_ascii_is_allowed_by_its_char}
+use Rattle.uri_pct.proofs.Offered.{valid_from, validity_by_first_byte, validity_of_tokens_is_validity_of_bytes, ascii_first_byte_is_allowed_iff_in_set, first_byte_past_ascii_is_allowed_by_its_char}
 
 -- sets of a kind, ASCII alone: the byte is an ASCII character that passes the test
 abbrev pub is_ascii_in : (ℕ → Bool) → ℕ → Bool

@@ -2,7 +2,7 @@ use Rattle.std.proofs.Common.{◌∙◌, subst}
 use Rattle.uri_parts.specs.Grammar.{IsTextOf}
 use Rattle.uri_ops.specs.Normalizers.{scheme_rules_of}
 use Rattle.uri_ops.specs.SchemeRules.{meaning_under}
-use Rattle.uri_ops.proofs.TextKinds.FourKinds.{one-of-four-kinds-has-sets}
+use Rattle.uri_ops.proofs.Offered.{one-of-four-kinds-has-sets}
 use Rattle.fluent_uri.specs.References.{reference_text}
 use Rattle.fluent_uri.proofs.TargetsOfNormalForms.{normal-forms-resolve-to-same-meaning, one-meaning-one-normal-form, pairs-are-refused-alike, targets-of-pairs-map-alike}
 use Rattle.fluent_uri.proofs.normal_targets.normal_forms_have_equivalent_targets.Goals as goal

@@ -1,5 +1,5 @@
 use Rattle.fluent_uri_c.proofs.Common.{◌+◌, ◌<◌, ◌∙◌, sym, ap, length, rules, below_more, is_some, option_and_then, buffers, bytes_of, column_of, call_result_bytes, number_of_bool, result_in, text_in}
-use Rattle.uri_pct.proofs.General.{is_some-option_map}
+use Rattle.uri_pct.proofs.Offered.{is_some-option_map}
 use Rattle.fluent_uri_c.proofs.Batches.{IsColumn-of-one-more-result, end-of-one-more-result, equal-to-Some-is-some}
 use Rattle.fluent_uri_c.proofs.batch.fill.Goals as goal
 

@@ -1,5 +1,5 @@
 use Rattle.fluent_uri_c.proofs.Common.{◌∙◌, ap, refl, sym, absent_or_passes, is_text_for, TableSet, given, is_host_text}
-use Rattle.uri_ops.proofs.TextKinds.FourKinds.{one-of-four-kinds-has-sets}
+use Rattle.uri_ops.proofs.Offered.{one-of-four-kinds-has-sets}
 use Rattle.fluent_uri_c.proofs.BuiltTexts.{given-authority-is-valid}
 use Rattle.fluent_uri_c.proofs.building.given_authority.Goals as goal
 

@@ -1,5 +1,5 @@
 use Rattle.fluent_uri_c.proofs.Common.{◌∙◌, ap, sym, together_rejection}
-use Rattle.uri_ops.proofs.TextKinds.FourKinds.{one-of-four-kinds-has-sets}
+use Rattle.uri_ops.proofs.Offered.{one-of-four-kinds-has-sets}
 use Rattle.fluent_uri_c.proofs.BuiltTexts.{built-text-has-given-components}
 use Rattle.fluent_uri_c.proofs.building.given_texts.Goals as goal
 

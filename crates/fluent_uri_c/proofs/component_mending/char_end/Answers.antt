@@ -1,4 +1,4 @@
-use Rattle.uri_mend.proofs.EncodedRuns.{boundary-after-char}
+use Rattle.uri_mend.proofs.Offered.{boundary-after-char}
 use Rattle.fluent_uri_c.proofs.component_mending.char_end.Goals as goal
 
 pub returns-clause-boundary : goal.returns-clause-boundary

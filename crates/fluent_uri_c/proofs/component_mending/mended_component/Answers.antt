@@ -1,6 +1,6 @@
 use Rattle.fluent_uri_c.proofs.Common.{◌≡◌, ◌++◌, ◌-◌, ◌∙◌, ap, drop, map, string_bytes, take, drop_all, IsCharBoundary-start, set_of, Octet, print, mended}
-use Rattle.uri_pct.proofs.TableSets.Percent.{lacks_percent}
-use Rattle.uri_mend.proofs.ComponentProgress.{all-is-mended-at-end}
+use Rattle.uri_pct.proofs.Offered.{lacks_percent}
+use Rattle.uri_mend.proofs.Offered.{all-is-mended-at-end}
 use Rattle.fluent_uri_c.proofs.ComponentMending.{mended-rest-by-run-and-char, text-grows-by-run-and-octets}
 use Rattle.fluent_uri_c.proofs.component_mending.mended_component.Goals as goal
 

@@ -1,7 +1,7 @@
 use Rattle.fluent_uri_c.proofs.Common.{ℕ, Bool, true, false, List, subst, IsUtf8, IsOfKind, Kind, iri_ref, kind_by_flags}
 use Rattle.uri_parts.specs.CoreTexts.{core_text}
-use Rattle.uri_parts.proofs.TextKinds.KindSets.{iri_is_iri_ref, uri_is_uri_ref}
-use Rattle.uri_ops.proofs.TextKinds.Conversions.{uri_ref_is_iri_ref}
+use Rattle.uri_parts.proofs.Offered.{iri_is_iri_ref, uri_is_uri_ref}
+use Rattle.uri_ops.proofs.Offered.{uri_ref_is_iri_ref}
 use Rattle.fluent_uri_c.proofs.normal_forms.as_iri_ref.Goals as goal
 
 text-of-one-of-four-kinds-is-iri_ref : (past needs : Bool) (text : List ℕ) → IsUtf8 text

@@ -1,4 +1,4 @@
-use Rattle.uri_parts.proofs.Splitting.ComponentPositions.{authority_is_at_positions}
+use Rattle.uri_parts.proofs.Offered.{authority_is_at_positions}
 use Rattle.fluent_uri_c.proofs.Places.{IsSpan-of-positions, authority-start-of-positions}
 use Rattle.fluent_uri_c.proofs.parts.authority.Goals as goal
 

@@ -1,5 +1,5 @@
 use Rattle.uri_basic.proofs.Common.{◌≡◌, ap, false, rules, sym, ◌∙◌, is_empty, components_of}
-use Rattle.uri_ops.proofs.Targeting.JoinedPieces.{zero-length-is-empty}
+use Rattle.uri_ops.proofs.Offered.{zero-length-is-empty}
 use Rattle.uri_basic.proofs.target_text.path_to_merge.Goals as goal
 
 pub returns : goal.returns

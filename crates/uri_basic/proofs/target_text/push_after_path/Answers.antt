@@ -1,5 +1,5 @@
 use Rattle.uri_basic.proofs.Common.{◌≡◌, ap, false, rules, sym, true, ◌∙◌, is_empty, components_of}
-use Rattle.uri_ops.proofs.Targeting.JoinedPieces.{zero-length-is-empty}
+use Rattle.uri_ops.proofs.Offered.{zero-length-is-empty}
 use Rattle.uri_basic.proofs.TargetPlaces.{fragment-of-target, query-of-target-with-path}
 use Rattle.uri_basic.proofs.target_text.push_after_path.Goals as goal
 

@@ -3,7 +3,7 @@ use Rattle.std.specs.Prelude.{string_bytes}
 use Rattle.uri_parts.specs.AuthorityTexts.{authority_text}
 use Rattle.uri_parts.specs.Components.{components, recompose}
 use Rattle.uri_parts.specs.CoreTexts.{core_text}
-use Rattle.uri_ops.proofs.TextKinds.FourKinds.{one-of-four-kinds-has-sets}
+use Rattle.uri_ops.proofs.Offered.{one-of-four-kinds-has-sets}
 use Rattle.fluent_uri.specs.References.{reference_text}
 use Rattle.uri_idna.specs.AsciiReferences.{with_authority, with_host}
 use Rattle.uri_idna.proofs.Replaced.{replaced-text-has-ascii-host, replaced-text-is-defined, replaced-text-is-of-kind}

@@ -1,5 +1,5 @@
 use Rattle.uri_mend.proofs.Common.{◌≡◌, false, sym, ap, ◌∙◌, ⊎_elim, arith, cases_Bool, false≢true, Kind, is_of_kind}
-use Rattle.uri_parts.proofs.TextKinds.KindSets.{empty_is_reference}
+use Rattle.uri_parts.proofs.Offered.{empty_is_reference}
 use Rattle.uri_mend.proofs.mending.positions_of_prefix.Goals as goal
 
 pub empty-requires : goal.empty-requires

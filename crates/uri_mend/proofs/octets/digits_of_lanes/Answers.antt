@@ -1,7 +1,7 @@
 use Rattle.uri_mend.proofs.Common.{◌≡◌, ◌∙◌, ◌/◌, ◌%◌, ◌^◌, ◌<◌, ◌||◌, ap, subst, sym, refl, map, length, List, ℕ, [], bit_and, cond, eqb, get_or, ltb, true, w8, ◌∷◌, replicate, zip2, chunk, agree_below_at, eqb-true, zip2_splat, SwzOk, swz_l, length-chunk, chunk-fits}
 use mir.Val.{zeroes}
 use Rattle.std.specs.Fmt.{digit_glyph}
-use Rattle.uri_pct.proofs.LaneScans.LaneMasks.{lanes_fit_swizzle, swizzle_is_lookup}
+use Rattle.uri_pct.proofs.Offered.{lanes_fit_swizzle, swizzle_is_lookup}
 use Rattle.uri_mend.proofs.octets.digits_of_lanes.Goals as goal
 
 -- octets: the hexadecimal digits

@@ -1,7 +1,7 @@
 use Rattle.std.proofs.Common.{◌≡◌, refl, sym, ap, ◌∙◌}
 use Rattle.std.proofs.lemmas.Slice.Eq.{bytes_eq-Decides}
 use Rattle.uri_parts.specs.CoreTexts.{core_text}
-use Rattle.uri_ops.proofs.TextKinds.FourKinds.{one-of-four-kinds-has-sets}
+use Rattle.uri_ops.proofs.Offered.{one-of-four-kinds-has-sets}
 use Rattle.uri_ops.specs.SchemeRules.{meaning_under}
 use Rattle.uri_order.specs.NormalForms.{normal_form}
 use Rattle.uri_order.proofs.Equivalences.{equal_text_is_of_kind, equivalent_if_forms_are_equal}

@@ -1,7 +1,6 @@
 use Rattle.uri_parts.proofs.Common.{rules}
 use Rattle.uri_pct.specs.Chunks.{widest_set}
-use Rattle.uri_pct.proofs.Decodings.Decoding.{every_set_is_subset_of_widest}
-use Rattle.uri_pct.proofs.ValidTexts.EStrs.{valid_for_superset}
+use Rattle.uri_pct.proofs.Offered.{every_set_is_subset_of_widest, valid_for_superset}
 use Rattle.uri_parts.proofs.connect.decoded_name.Goals as goal
 
 pub of_text-requires : goal.of_text-requires

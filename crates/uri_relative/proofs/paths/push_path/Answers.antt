@@ -1,7 +1,7 @@
 use Rattle.uri_relative.proofs.Common.{◌≡◌, ◌+◌, ◌≤◌, false, length, drop, subst, sym, ap, ◌∙◌, arith, None, OnOk, not-true, not-false, guarded, slashes, relative_path, IsShortestPath}
 use Rattle.uri_pct.specs.Texts.{Pushes}
 use Rattle.uri_relative.proofs.Ways.{path-from-root-leads-to-path, relative-path-leads-to-path, pushed-path-leads-to-path, boundary-after-last-slash, shared-prefix-of-equals, pushed-relative-path-leads-to-path, relative-path-is-no-longer-than-from-root}
-use Rattle.uri_ops.proofs.AsciiForms.EncodedRuns.{slice_from-is-drop}
+use Rattle.uri_ops.proofs.Offered.{slice_from-is-drop}
 use Rattle.uri_relative.proofs.ShortestPaths.{path-from-root-is-shorter, last-shared-slash-of-equals, no-longer-than-both-paths-is-shortest}
 use Rattle.uri_relative.proofs.Rules.{relative-path-by-longest-prefix, relative-path-if-no-longer, path-from-root-for-base-with-dots, path-from-root-if-shorter}
 use Rattle.uri_relative.proofs.paths.push_path.Goals as goal

@@ -1,9 +1,8 @@
 use Rattle.uri_streams.proofs.Common.{◌≡◌, ◌+◌, ◌<◌, ◌≤◌, ℕ, List, map, ◌^◌, ◌||◌, ◌&&◌, ◌∙◌, Bool, true, false, not, arith, bit_or, eqb, get_or, length, refl, replicate, subst, sym, ap, w8, ◌%◌, nat_le, length-map}
 use Rattle.std.proofs.lemmas.Nat.{or_of_16}
-use Rattle.uri_pct.proofs.TableSets.Masks.{bit_of_bit_or}
+use Rattle.uri_pct.proofs.Offered.{bit_of_bit_or, is_set_bit, mask_bit_is_test_of_byte, equality_mask_is_below_2_16, mask_bit_is_equality_of_byte}
 use Rattle.std.specs.Simd.Lanes.{chunk, mask_l}
 use Rattle.std.proofs.lemmas.Simd.{bitmask_splat, length-chunk, mask_l-lt, mask_l-mod, tops_compared, zip2_splat_left}
-use Rattle.uri_pct.proofs.LaneScans.LaneBits.{is_set_bit, mask_bit_is_test_of_byte, equality_mask_is_below_2_16, mask_bit_is_equality_of_byte}
 use Rattle.uri_streams.proofs.source.lanes_outside.Goals as goal
 
 either : (a b : Bool) → (a || b) ≡ not (not a && not b)

@@ -1,9 +1,7 @@
 use Rattle.std.proofs.Common.{◌≡◌, ◌+◌, ◌-◌, ◌≤◌, ◌<◌, not, List, ℕ, length, get_or, arith, ◌^◌}
 use Rattle.std.proofs.lemmas.Nat.Bits.{bit_at-lt}
 use Rattle.uri_streams.proofs.source.run_before.Invariants.{is_inside}
-use Rattle.uri_pct.proofs.General.{bit_is_failing_test}
-use Rattle.uri_pct.proofs.LaneScans.LaneRuns.{MarksFailingLanes, last_load_marks_failing_lanes, run_goes_on_past_unmarked_lanes, run_ends_at_first_marked_lane}
-use Rattle.uri_pct.proofs.LaneScans.LaneBits.{is_set_bit}
+use Rattle.uri_pct.proofs.Offered.{bit_is_failing_test, MarksFailingLanes, last_load_marks_failing_lanes, run_goes_on_past_unmarked_lanes, run_ends_at_first_marked_lane, is_set_bit}
 use Rattle.uri_streams.proofs.source.run_before.Goals as goal
 
 -- what a block's mask says
