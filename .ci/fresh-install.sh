@@ -117,23 +117,19 @@ inside 'a package is not whole' "dpkg --verify $names; dpkg --audit"
 echo 'fresh-install: installed, and upgraded from an earlier version'
 
 # The first commands of README.md.
+parts='scheme=foo
+authority=example.com
+path=/over/there
+query=name=ferret
+fragment=nose'
 of_install=$(sed -n '/^## Install/,/^## Work/s/^    \(uritool .*\|printf .*\)/\1/p' \
     "$root/README.md")
 user 'the commands of "Install" in README.md' "$of_install"
-prints 'the commands of "Install" in README.md' "scheme=foo
-authority=example.com
-path=/over/there
-query=name=ferret
-fragment=nose
+prints 'the commands of "Install" in README.md' "$parts
 http://example.com/~user"
-first=$(sed -n '/^## Try it/,/^## Use it/s/^    \.\/\(uritool .*\)/\1/p' \
-    "$root/README.md")
+first=$(sed -n '/^## Try it/,/^## Use it/s/^    \.\/\(uritool .*\)/\1/p' "$root/README.md")
 user 'the first commands of README.md' "$first"
-prints 'the first commands of README.md' "scheme=foo
-authority=example.com
-path=/over/there
-query=name=ferret
-fragment=nose
+prints 'the first commands of README.md' "$parts
 http://example.com/a/b/~foo
 http://h/a%20b?x=%5B1%5D
 http://a/b/g

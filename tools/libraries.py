@@ -1,6 +1,5 @@
 """The libraries that mutants, archives and modules are made over: as `rt ci` keeps them, or, where
-it lacks one, as `rt check` builds them or has built them in some folder of this machine. What is
-kept holds a digest of all that it was made of, and is taken only where that is the same."""
+it lacks one, as `rt check` builds them. What is kept goes by a digest of all it was made of."""
 import contextlib
 import os
 import pathlib
