@@ -37,7 +37,7 @@ fn char_end(text: &str, at: usize) -> usize
 
 /// Returns the text of a component, mended: what the table lacks is percent-encoded, and all else
 /// is unchanged, as is each `%XX`.
-fn mended_component(table: &Table, alloc: Global, text: &str) -> Result<String, AllocError>
+fn mended_by_table(table: &Table, alloc: Global, text: &str) -> Result<String, AllocError>
     requires { (set_of table.now).pct_encoded ≡ true }
     ensures { IfOk result (λ made. string_bytes made ≡ mended (set_of table.now) text.now) }
 {
@@ -59,7 +59,7 @@ fn mended_as<E: Encoder>(alloc: Global, bytes: &[u8]) -> Result<String, Rejectio
     ensures { IsReturnedAs string_bytes (mended_as_result E.set bytes.now) result }
 {
     let text = utf8_text(bytes)?;
-    Ok(mended_component(&E::table(), alloc, text)?)
+    Ok(mended_by_table(&E::table(), alloc, text)?)
 }
 
 /// Mends bytes that C hands over as the component with this number of the header.

@@ -2,7 +2,7 @@ use Rattle.fluent_uri_c.proofs.Common.{◌≡◌, ◌++◌, ◌-◌, ◌∙◌, 
 use Rattle.uri_pct.proofs.Offered.{lacks_percent}
 use Rattle.uri_mend.proofs.Offered.{all-is-mended-at-end}
 use Rattle.fluent_uri_c.proofs.ComponentMending.{mended-rest-by-run-and-char, text-grows-by-run-and-octets}
-use Rattle.fluent_uri_c.proofs.component_mending.mended_component.Goals as goal
+use Rattle.fluent_uri_c.proofs.component_mending.mended_by_table.Goals as goal
 
 pub loop-done-init : goal.loop-done-init
 loop-done-init c = record {

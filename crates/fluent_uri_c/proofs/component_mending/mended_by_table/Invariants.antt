@@ -1,5 +1,5 @@
 use Rattle.fluent_uri_c.proofs.Common.{◌≡◌, ◌-◌, ◌++◌, drop, length, string_bytes, IsCharBoundary, set_of, mended}
-use Rattle.fluent_uri_c.proofs.component_mending.mended_component.Given as goal
+use Rattle.fluent_uri_c.proofs.component_mending.mended_by_table.Given as goal
 
 abbrev pub invariant-loop-done : goal.invariant-loop-done
 invariant-loop-done l = record {
