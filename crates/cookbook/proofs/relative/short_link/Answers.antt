@@ -1,4 +1,5 @@
-use Rattle.std.proofs.Common.{ap, sym, ◌∙◌}
+use Rattle.std.proofs.Common.{ap, arith, refl, sym, ◌∙◌}
+use Rattle.fluent_uri.proofs.Calling.{resolution_is_target}
 use Rattle.fluent_uri.specs.Target.{resolution_of_texts}
 use Rattle.fluent_uri.specs.Uris.{uri_ref_text, uri_text}
 use Rattle.cookbook.proofs.relative.short_link.Goals as goal
@@ -10,3 +11,11 @@ returns-clause-back c =
     c.in_ok-target.ensures.target
     ∙ sym (ap (resolution_of_texts page) (sym c.in_ok-parse.ensures.text)
     ∙ c.in_ok-target.ensures.target)
+
+pub returns-clause-short : goal.returns-clause-short
+returns-clause-short c =
+    let page = uri_text c.args.page.now in
+    let shorter = c.in_ok-relativize.ensures.short refl in
+    rw (resolution_is_target page c.args.link.now _
+    (ap (resolution_of_texts page) (sym c.in_ok-parse.ensures.text) ∙ c.in_ok-target.ensures.target))
+    (omega (arith, shorter.than_settled, shorter.than_given))
