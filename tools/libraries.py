@@ -23,8 +23,8 @@ class Libraries:
 
     def __init__(self, rt, crates, wanted):
         self.rt, self.lock, kept = rt, threading.Lock(), rt.Kept(crates.values())
-        # (all before the first check: one must not be given again while another is checked over it)
-        are_given = all([self.is_given(crates[it], kept) for it in wanted])
+        # (bottom up, and before the first check: none is given while another is checked over it)
+        are_given = all([self.is_given(it, kept) for name, it in crates.items() if name in wanted])
         self.ready = dict.fromkeys(wanted, True) if are_given else {}
         if not are_given:
             # (what is built in this copy is gone with it)

@@ -31,6 +31,8 @@ define internal <16 x i8> @pshufb(<16 x i8> %bytes, <16 x i8> %indices) alwaysin
 }
 declare <16 x i8> @llvm.wasm.swizzle(<16 x i8>, <16 x i8>)
 """
+# The parser of a kind, which is inlined on x86-64. Inlined here too, the core has 102 kB by gzip.
+PARSER = r'(?m)^(define internal void @"uri_parts::parse::parse::<[^"]*>"\([^\n]*\)) #\d+ \{$'
 
 
 def once(text, old, new):
@@ -48,6 +50,14 @@ def without_pshufb(text):
     if count != 1:
         raise Failed(f"{PSHUFB} is declared {count} times, and not once")
     return text.replace(PSHUFB, "@pshufb") + SHUFFLE
+
+
+def with_one_parser(text):
+    """The text with the parser of each kind as a function that all exports call."""
+    text, count = re.subn(PARSER, r"\1 noinline nounwind {", text)
+    if not count:
+        raise Failed("there is no parser")
+    return text
 
 
 def stop_on_unknown(text):
@@ -70,6 +80,6 @@ def retargeted(text):
     """The module for wasm64."""
     text = once(text, f'target triple = "{TRIPLES[0]}"', f'target triple = "{TRIPLES[1]}"')
     text = once(text, f'target datalayout = "{LAYOUTS[0]}"', f'target datalayout = "{LAYOUTS[1]}"')
-    text = without_pshufb(re.sub(ATTRIBUTES, "", text))
+    text = with_one_parser(without_pshufb(re.sub(ATTRIBUTES, "", text)))
     stop_on_unknown(text)
     return text
