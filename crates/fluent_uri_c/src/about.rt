@@ -1,7 +1,6 @@
 //! The versions of the library and of its normal forms, and the names and messages of its errors.
 ghost use Rattle.std.specs.Prelude.{◌≡◌, Ok, option_copied};
-ghost use Rattle.fluent_uri_c.specs.Names.{error_message, error_name, error_name_result};
-ghost use Rattle.fluent_uri_c.specs.Names.{normal_version, version};
+ghost use Rattle.fluent_uri_c.specs.Names.{error_message, error_name, error_name_result, normal_version, version};
 ghost use Rattle.fluent_uri_c.specs.Outcomes.{LeavesText};
 
 use crate::errors::{Error, Rejection};

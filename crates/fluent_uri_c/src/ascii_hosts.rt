@@ -5,15 +5,9 @@ ghost use Rattle.fluent_uri.specs.Cows.{cow_text};
 ghost use Rattle.fluent_uri.specs.Grammar.{iri, iri_ref};
 ghost use Rattle.fluent_uri.specs.References.{reference_text};
 ghost use Rattle.uri_idna.specs.AsciiReferences.{HasAsciiHost, with_ascii_host};
-ghost use Rattle.fluent_uri_c.specs.AsciiHosts.{ascii_host_of_kind, ascii_host_or_error};
-ghost use Rattle.fluent_uri_c.specs.AsciiHosts.{ascii_host_result, ascii_host_takes_memory};
-ghost use Rattle.fluent_uri_c.specs.AsciiHosts.{ascii_uri_of_kind, ascii_uri_result};
-ghost use Rattle.fluent_uri_c.specs.AsciiHosts.{ascii_uri_takes_memory, host_or_empty};
-ghost use Rattle.fluent_uri_c.specs.AsciiHosts.{takes_memory_for_host};
-ghost use Rattle.fluent_uri_c.specs.AsciiHosts.{takes_memory_for_host_of_kind};
+ghost use Rattle.fluent_uri_c.specs.AsciiHosts.{ascii_host_of_kind, ascii_host_or_error, ascii_host_result, ascii_host_takes_memory, ascii_uri_of_kind, ascii_uri_result, ascii_uri_takes_memory, host_or_empty, takes_memory_for_host, takes_memory_for_host_of_kind};
 ghost use Rattle.fluent_uri_c.specs.Outcomes.{LeavesTextOrDenied};
-ghost use Rattle.fluent_uri_c.specs.Results.{IsReturnedOrDenied, text_error};
-ghost use Rattle.fluent_uri_c.specs.Results.{RejectsTooLong};
+ghost use Rattle.fluent_uri_c.specs.Results.{IsReturnedOrDenied, text_error, RejectsTooLong};
 ghost use Rattle.fluent_uri_c.specs.Values.{LeavesValueOrDenied};
 
 use crate::errors::{Error, Rejection};

@@ -16,8 +16,7 @@ pub enum Base<'a> {
 
 impl<'a> Base<'a> {
     ghost use Rattle.fluent_uri.specs.References.{reference_text};
-    ghost use Rattle.fluent_uri_c.specs.Bases.{IsBaseOf, normal_target_by};
-    ghost use Rattle.fluent_uri_c.specs.Bases.{reference_by, target_by};
+    ghost use Rattle.fluent_uri_c.specs.Bases.{IsBaseOf, normal_target_by, reference_by, target_by};
     ghost use Rattle.fluent_uri_c.specs.Results.{IsReturnedAs, IsTargetReturned};
 
     /// Parses bytes as a base of the kind with this number of the header.

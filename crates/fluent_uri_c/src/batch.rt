@@ -1,9 +1,6 @@
 //! What a batch does with the texts of a column.
-ghost use Rattle.std.specs.Prelude.{◌≡◌, ◌+◌, ◌-◌, ◌*◌, ◌/◌, ◌^◌, ◌<◌, ◌≤◌, ◌++◌, length, drop};
-ghost use Rattle.std.specs.Prelude.{take, IfErr, IfOk, None, OnOk, Some, option_map, slice_set};
-ghost use Rattle.fluent_uri_c.specs.Columns.{HasDoneTexts, LeavesColumn, SaysFullIfFull, buffers};
-ghost use Rattle.fluent_uri_c.specs.Columns.{bytes_of};
-ghost use Rattle.fluent_uri_c.specs.Columns.{column_of, call_result_bytes};
+ghost use Rattle.std.specs.Prelude.{◌≡◌, ◌+◌, ◌-◌, ◌*◌, ◌/◌, ◌^◌, ◌<◌, ◌≤◌, ◌++◌, length, drop, take, IfErr, IfOk, None, OnOk, Some, option_map, slice_set};
+ghost use Rattle.fluent_uri_c.specs.Columns.{HasDoneTexts, LeavesColumn, SaysFullIfFull, buffers, bytes_of, column_of, call_result_bytes};
 ghost use Rattle.fluent_uri_c.specs.Full.{IsFull, ends_buffer, valid_buffer};
 
 use crate::columns::{Offset, is_possible_column, mark, text_at};

@@ -2,12 +2,9 @@
 ghost use Rattle.std.specs.Prelude.{◌≡◌, Bool, false, IfErr, IfOk, IsTrue, option_map};
 ghost use Rattle.std.specs.Result.{result_ok};
 ghost use Rattle.fluent_uri.specs.References.{reference_text};
-ghost use Rattle.fluent_uri_c.specs.Columns.{LeavesColumn, buffers, column32, column64};
-ghost use Rattle.fluent_uri_c.specs.Columns.{call_result_bytes};
-ghost use Rattle.fluent_uri_c.specs.Results.{IsReturnedOrDenied, Returned, is_out_of_memory};
-ghost use Rattle.fluent_uri_c.specs.Results.{RejectsTooLong};
-ghost use Rattle.fluent_uri_c.specs.SingleCalls.{converting, normalizing, resolving};
-ghost use Rattle.fluent_uri_c.specs.SingleCalls.{resolving_normalized};
+ghost use Rattle.fluent_uri_c.specs.Columns.{LeavesColumn, buffers, column32, column64, call_result_bytes};
+ghost use Rattle.fluent_uri_c.specs.Results.{IsReturnedOrDenied, Returned, is_out_of_memory, RejectsTooLong};
+ghost use Rattle.fluent_uri_c.specs.SingleCalls.{converting, normalizing, resolving, resolving_normalized};
 
 use crate::bases::Base;
 use crate::batch::{Call, CallResult, column};

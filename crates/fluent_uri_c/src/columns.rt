@@ -1,7 +1,5 @@
 //! Columns of texts as data and offsets, as data engines hold them.
-ghost use Rattle.std.specs.Prelude.{◌≡◌, ◌≢◌, ◌+◌, ◌/◌, ◌<◌, ◌≤◌, ◌++◌, length, drop, take};
-ghost use Rattle.std.specs.Prelude.{IfSome, IfNone, OnSome};
-ghost use Rattle.std.specs.Prelude.{option_copied, ℕ, ◌&&◌, nat_lt};
+ghost use Rattle.std.specs.Prelude.{◌≡◌, ◌≢◌, ◌/◌, ◌<◌, ◌≤◌, length, IfSome, IfNone, option_copied, ℕ, ◌&&◌, nat_lt};
 ghost use Rattle.fluent_uri_c.specs.Columns.{bit_of, number_of_bool, text_at};
 ghost use Rattle.fluent_uri_c.specs.Results.{is_possible_length};
 

@@ -1,7 +1,6 @@
 //! Why a call rejects its arguments.
 ghost use Rattle.std.specs.Prelude.{◌≡◌, ◌≢◌, ◌≤◌};
-ghost use Rattle.fluent_uri_c.specs.Errors.{in_component, in_reference, number_of, rejected};
-ghost use Rattle.fluent_uri_c.specs.Errors.{rejected_at};
+ghost use Rattle.fluent_uri_c.specs.Errors.{in_component, in_reference, number_of, rejected, rejected_at};
 
 use fluent_uri::resolve::ResolveError;
 use fluent_uri::{ParseError, ParseErrorKind};

@@ -1,5 +1,4 @@
 //! The hash FNV-1a of 64 bits, by Fowler, Noll and Vo.
-ghost use Rattle.std.specs.Prelude.{◌≡◌};
 
 use std::hash::Hasher;
 

@@ -1,11 +1,9 @@
 //! The batch over lines.
-ghost use Rattle.std.specs.Prelude.{◌≡◌, ◌+◌, ◌<◌, ◌≤◌, ◌++◌, [], ◌∷◌, length, drop, take};
-ghost use Rattle.std.specs.Prelude.{IfErr, IfOk, IsOk, OnErr, OnOk, option_map};
+ghost use Rattle.std.specs.Prelude.{◌≡◌, ◌+◌, ◌<◌, ◌≤◌, ◌++◌, [], ◌∷◌, length, drop, take, IfErr, IfOk, IsOk, OnErr, OnOk, option_map};
 ghost use Rattle.std.specs.List.{position, position_or_len};
 ghost use Rattle.std.specs.Result.{result_ok};
 ghost use Rattle.fluent_uri_c.specs.Columns.{call_result_bytes};
-ghost use Rattle.fluent_uri_c.specs.Lines.{LeavesLines, is_newline, line_buffers, newline};
-ghost use Rattle.fluent_uri_c.specs.Lines.{number_returned};
+ghost use Rattle.fluent_uri_c.specs.Lines.{LeavesLines, is_newline, line_buffers, newline, number_returned};
 ghost use Rattle.fluent_uri_c.specs.Full.{as_size};
 ghost use Rattle.fluent_uri_c.specs.Outcomes.{outcome_of_batch};
 ghost use Rattle.fluent_uri_c.specs.Results.{RejectsTooLong, normalize_result};

@@ -10,8 +10,7 @@ ghost use Rattle.fluent_uri_c.specs.Mends.{mend_link_result, mend_link_takes_mem
 ghost use Rattle.fluent_uri_c.specs.NormalForms.{normal_form_text};
 ghost use Rattle.fluent_uri_c.specs.Options.{basic_choice, path_preference, rules_choice};
 ghost use Rattle.fluent_uri_c.specs.Relatives.{relativize_result};
-ghost use Rattle.fluent_uri_c.specs.Results.{IsReturnedAs, IsReturnedOrDenied, normalize_result};
-ghost use Rattle.fluent_uri_c.specs.Results.{to_uri_result};
+ghost use Rattle.fluent_uri_c.specs.Results.{IsReturnedAs, IsReturnedOrDenied, normalize_result, to_uri_result};
 
 use crate::errors::{Error, Rejection};
 use crate::normal_forms::{self, NormalForm};

@@ -1,13 +1,10 @@
 //! The order and the hash of texts by their normal forms, without memory.
-ghost use Rattle.std.specs.Prelude.{◌≡◌, ◌↔◌, ◌≤◌, ◌++◌, ◌∷◌, ℕ, List, [], Ok, is_some, reverse};
-ghost use Rattle.std.specs.Prelude.{IsFalse, IsTrue, true};
+ghost use Rattle.std.specs.Prelude.{◌≡◌, ◌↔◌, ◌≤◌, ◌++◌, ◌∷◌, ℕ, List, [], Ok, is_some, reverse, IsFalse, IsTrue, true};
 ghost use Rattle.std.specs.Option.{unwrap_or};
 ghost use Rattle.std.specs.Result.{result_ok};
 ghost use Rattle.fluent_uri_c.specs.Fnv.{fnv_bytes};
-ghost use Rattle.fluent_uri_c.specs.Orders.{AreOneKey, byte_order, key_hash, key_order, normal_key};
-ghost use Rattle.fluent_uri_c.specs.Orders.{order_number, order_of_keys, seeded};
-ghost use Rattle.fluent_uri_c.specs.Results.{RejectsTooLong, is_possible_length};
-ghost use Rattle.fluent_uri_c.specs.Results.{normal_result, normalize_result};
+ghost use Rattle.fluent_uri_c.specs.Orders.{AreOneKey, byte_order, key_hash, key_order, normal_key, order_number, order_of_keys, seeded};
+ghost use Rattle.fluent_uri_c.specs.Results.{RejectsTooLong, is_possible_length, normal_result, normalize_result};
 
 use crate::errors::Error;
 use crate::fnv::Fnv;

@@ -9,11 +9,7 @@ ghost use Rattle.fluent_uri.specs.References.{reference_text};
 ghost use Rattle.uri_parts.specs.CoreTexts.{core_text};
 ghost use Rattle.uri_parts.specs.Positions.{ArePositionsOf};
 ghost use Rattle.fluent_uri_c.specs.Kinds.{kind_numbered};
-ghost use Rattle.fluent_uri_c.specs.Spans.{ArePartsOf, AreSpansOf, IsSpan, absent};
-ghost use Rattle.fluent_uri_c.specs.Spans.{authority_host_number, host_number, rejected_parts};
-ghost use Rattle.fluent_uri_c.specs.Spans.{authority_start, fragment_start, host_of, host_start};
-ghost use Rattle.fluent_uri_c.specs.Spans.{path_start, port_of, port_start, query_start};
-ghost use Rattle.fluent_uri_c.specs.Spans.{userinfo_of};
+ghost use Rattle.fluent_uri_c.specs.Spans.{ArePartsOf, AreSpansOf, IsSpan, absent, authority_host_number, host_number, rejected_parts, authority_start, fragment_start, host_of, host_start, path_start, port_of, port_start, query_start, userinfo_of};
 ghost use Rattle.fluent_uri_c.specs.Values.{ArePartsOfResult, HasPartsFirst};
 
 use crate::call_kind::CallKind;

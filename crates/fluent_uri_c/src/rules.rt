@@ -1,6 +1,5 @@
 //! The rules of the components of a reference (RFC 3986, section 3): which bytes are one.
-ghost use Rattle.std.specs.Prelude.{◌≡◌, ◌&&◌, ◌||◌, IfOk, IfSome, drop, is_some, length, nat_lt};
-ghost use Rattle.std.specs.Prelude.{slice_index, true};
+ghost use Rattle.std.specs.Prelude.{◌≡◌, ◌&&◌, ◌||◌, IfOk, IfSome, drop, is_some, length, nat_lt, slice_index, true};
 ghost use Rattle.std.specs.Char.{is_ascii_alphabetic};
 ghost use Rattle.std.specs.Result.{result_err};
 ghost use Rattle.uri_ops.specs.BuilderParts.{is_text_for};

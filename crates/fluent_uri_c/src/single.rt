@@ -2,10 +2,7 @@
 ghost use Rattle.std.specs.Prelude.{◌≡◌};
 ghost use Rattle.fluent_uri_c.specs.Kinds.{kind_numbered};
 ghost use Rattle.fluent_uri_c.specs.Outcomes.{LeavesText};
-ghost use Rattle.fluent_uri_c.specs.Results.{RejectsTooLong, if_possible_lengths};
-ghost use Rattle.fluent_uri_c.specs.Results.{decode_result, encode_result, normalize_result};
-ghost use Rattle.fluent_uri_c.specs.Results.{resolve_normalized_result, resolve_result};
-ghost use Rattle.fluent_uri_c.specs.Results.{takes_memory_for_target, to_uri_result};
+ghost use Rattle.fluent_uri_c.specs.Results.{RejectsTooLong, if_possible_lengths, decode_result, encode_result, normalize_result, resolve_normalized_result, resolve_result, takes_memory_for_target, to_uri_result};
 ghost use Rattle.fluent_uri_c.specs.Spans.{ArePartsOf};
 ghost use Rattle.fluent_uri_c.specs.Values.{LeavesValue, LeavesValueOrDenied};
 

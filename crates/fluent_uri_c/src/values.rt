@@ -4,10 +4,7 @@ ghost use Rattle.fluent_uri.specs.Grammar.{IsTextOf};
 ghost use Rattle.fluent_uri.specs.References.{reference_text};
 ghost use Rattle.uri_parts.specs.PackedPositions.{ArePackedPositionsOf};
 ghost use Rattle.fluent_uri_c.specs.Outcomes.{outcome_of_text, written};
-ghost use Rattle.fluent_uri_c.specs.Results.{normal_form_of, normal_result};
-ghost use Rattle.fluent_uri_c.specs.Results.{normal_target_from, rejection_or_result, resolution};
-ghost use Rattle.fluent_uri_c.specs.Results.{resolution_by};
-ghost use Rattle.fluent_uri_c.specs.Results.{takes_memory_for_target, target_from, text_error};
+ghost use Rattle.fluent_uri_c.specs.Results.{normal_form_of, normal_result, normal_target_from, rejection_or_result, resolution, resolution_by, takes_memory_for_target, target_from, text_error};
 ghost use Rattle.fluent_uri_c.specs.Values.{HasPartsFirst, LeavesValue, LeavesValueOrDenied};
 
 use crate::errors::{Error, Rejection};

@@ -1,8 +1,7 @@
 //! Calls of `Uri`, `UriRef`, `Iri` and `IriRef`, each with what a caller may say of the text.
 #![tactic(auto)]
 
-ghost use Rattle.std.specs.Prelude.{◌≡◌, ◌↔◌, ◌∷◌, IfErr, IfOk, IsOk, Ok, Some, []};
-ghost use Rattle.std.specs.Prelude.{option_map, string_bytes};
+ghost use Rattle.std.specs.Prelude.{◌≡◌, ◌↔◌, ◌∷◌, IfErr, IfOk, IsOk, Ok, Some, [], option_map, string_bytes};
 ghost use Rattle.std.specs.Result.{result_err};
 ghost use Rattle.fluent_uri.specs.Components.{components};
 ghost use Rattle.fluent_uri.specs.Grammar.{IsOfKind, iri, iri_ref, uri, uri_ref};

@@ -1,5 +1,5 @@
 -- The rules dec-octet and IPv4address.
-use Rattle.uri_abnf.proofs.Common.{◌≡◌, ℕ, zero, suc, List, [], ◌∷◌, ◌++◌, refl, sym, ap, subst, ◌∙◌, inl, inr, ⊎_elim, arith, ◌≤◌, ◌<◌, ◌+◌, ◌*◌, ◌-◌, ◌/◌, ◌%◌, append_assoc, rules, codes, decimal, IsDotted, cases_lt, Abnf, Has, lit, times, ◌⋅◌, ◌⋯◌, dec-octet, IPv4address, DIGIT}
+use Rattle.uri_abnf.proofs.Common.{◌≡◌, ℕ, zero, suc, List, [], ◌∷◌, ◌++◌, refl, sym, ap, subst, ◌∙◌, inl, inr, ⊎_elim, arith, ◌≤◌, ◌<◌, ◌+◌, ◌*◌, ◌-◌, ◌/◌, ◌%◌, append_assoc, codes, decimal, IsDotted, cases_lt, Abnf, Has, lit, times, ◌⋅◌, ◌⋯◌, dec-octet, IPv4address, DIGIT}
 use Rattle.std.proofs.lemmas.Fmt.{decimal_digit, decimal_step}
 use Rattle.uri_abnf.proofs.Texts.{letterless-has}
 

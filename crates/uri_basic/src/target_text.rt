@@ -1,6 +1,5 @@
 //! The text of a target by the basic algorithm (RFC 3986, sections 5.2.2 and 5.3).
-ghost use Rattle.std.specs.Prelude.{◌≡◌, ◌≤◌, ◌+◌, ◌++◌, ℕ, List, [], IfErr, IfOk, OnOk, Ok};
-ghost use Rattle.std.specs.Prelude.{is_some, length, string_bytes};
+ghost use Rattle.std.specs.Prelude.{◌≡◌, ◌≤◌, ◌+◌, ◌++◌, ℕ, List, [], IfErr, IfOk, OnOk, Ok, is_some, length, string_bytes};
 ghost use Rattle.uri_pct.specs.Texts.{Pushes};
 ghost use Rattle.uri_parts.specs.Components.{components};
 ghost use Rattle.uri_parts.specs.CoreTexts.{core_text};

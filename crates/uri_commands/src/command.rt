@@ -1,10 +1,6 @@
 //! The command that the words of a command line make.
 ghost use Rattle.std.specs.Prelude.{◌≡◌, ◌≢◌, ◌∷◌, [], MatchOption};
-ghost use Rattle.uri_commands.specs.Commands.{AreWordsOfLinks, AreWordsOfResolve};
-ghost use Rattle.uri_commands.specs.Commands.{AreWordsOfRuledLinks, AreWordsOfRuledNormalize};
-ghost use Rattle.uri_commands.specs.Commands.{AreWordsOfTextCommand, IsCommand};
-ghost use Rattle.uri_commands.specs.Commands.{IsNameOfTextCommand, word_of_base};
-ghost use Rattle.uri_commands.specs.Commands.{words_of, texts};
+ghost use Rattle.uri_commands.specs.Commands.{AreWordsOfLinks, AreWordsOfResolve, AreWordsOfRuledLinks, AreWordsOfRuledNormalize, AreWordsOfTextCommand, IsCommand, IsNameOfTextCommand, word_of_base, words_of, texts};
 ghost use Rattle.uri_commands.specs.Asked.{contract_command};
 ghost use Rattle.uri_commands.specs.Kinds.{word_of_kind};
 

@@ -1,7 +1,6 @@
 //! The command `links BASE REF...`: the outcomes of references that are noted one after the other
 //! against a base.
-ghost use Rattle.std.specs.Prelude.{◌≡◌, ◌≢◌, ◌<◌, ◌∷◌, ◌++◌, ◌||◌, ℕ, List, IfOk, IfErr, All};
-ghost use Rattle.std.specs.Prelude.{IsTrue, length, map, not, true, false, codes};
+ghost use Rattle.std.specs.Prelude.{◌≡◌, ◌<◌, ◌∷◌, ◌++◌, ◌||◌, ℕ, List, IfOk, IfErr, IsTrue, length, map, not, true, false, codes};
 ghost use Rattle.std.specs.Io.KnownBytes.{Appends};
 ghost use Rattle.fluent_uri.specs.Grammar.{IsOfKind, uri, uri_ref};
 ghost use Rattle.fluent_uri.specs.Uris.{uri_ref_text};

@@ -2,8 +2,7 @@
 ghost use Rattle.std.specs.Prelude.{◌≡◌, ◌||◌, ◌++◌, IsTrue, codes, not};
 ghost use Rattle.std.specs.Io.KnownBytes.{Appends};
 ghost use Rattle.uri_commands.specs.Prefixes.{AppendsPrefix};
-ghost use Rattle.uri_commands.specs.Messages.{error_kind_text, error_text, index_text};
-ghost use Rattle.uri_commands.specs.Messages.{message_text, resolve_error_text};
+ghost use Rattle.uri_commands.specs.Messages.{error_kind_text, error_text, index_text, message_text, resolve_error_text};
 ghost use Rattle.uri_commands.specs.Refusals.{command_error_text, error_line};
 
 use crate::sink::{Sink, put_both};

@@ -1,14 +1,10 @@
 //! Running a command, over any two writers.
-ghost use Rattle.std.specs.Prelude.{◌≡◌, ◌↔◌, ◌≤◌, ◌++◌, IsOk, IfOk, IfErr, OnOk, None, Some, List};
-ghost use Rattle.std.specs.Prelude.{◌≢◌, ◌||◌, codes, false, not, true, ℕ};
+ghost use Rattle.std.specs.Prelude.{◌≡◌, ◌↔◌, ◌≤◌, ◌++◌, IsOk, IfOk, IfErr, OnOk, None, Some, ◌≢◌, ◌||◌, codes, not, true};
 ghost use Rattle.std.specs.Io.KnownBytes.{Appends, Keeps};
-ghost use Rattle.uri_commands.specs.Commands.{Command as Asked, Parse, Normalize, Mend, Resolve};
-ghost use Rattle.uri_commands.specs.Commands.{Links};
-ghost use Rattle.uri_commands.specs.Commands.{IsCommand, Prints, output_of, texts, words_of};
+ghost use Rattle.uri_commands.specs.Commands.{Command as Asked, Parse, Normalize, Mend, Resolve, Links, IsCommand, Prints, output_of, texts, words_of};
 ghost use Rattle.uri_commands.specs.Kinds.{kind_named};
 ghost use Rattle.uri_commands.specs.Asked.{contract_command};
-ghost use Rattle.uri_commands.specs.Ends.{IsSuccess, IsFailure, WritesLineOrPrefix};
-ghost use Rattle.uri_commands.specs.Ends.{has_output_failed, is_output_failure};
+ghost use Rattle.uri_commands.specs.Ends.{IsSuccess, IsFailure, WritesLineOrPrefix, has_output_failed, is_output_failure};
 ghost use Rattle.uri_commands.specs.Refusals.{IsErrorOf, IsErrorOfCommand, error_line, usage_line};
 ghost use Rattle.uri_commands.specs.Texts.{components_in};
 ghost use Rattle.uri_commands.specs.declared.refusal.CommandError.{CommandError};

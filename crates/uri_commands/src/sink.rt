@@ -1,12 +1,9 @@
 //! A writer that says whether it failed, and keeps its error.
-ghost use Rattle.std.specs.Prelude.{◌≡◌, ◌||◌, ◌++◌, ℕ, List, Option, false, true, not, IsTrue};
-ghost use Rattle.std.specs.Prelude.{◌<◌, IfErr, IfOk, IfSome, None, OnOk, option_map};
+ghost use Rattle.std.specs.Prelude.{◌≡◌, ◌||◌, ◌++◌, ℕ, List, Option, false, true, not, IsTrue, ◌<◌, IfErr, IfOk, IfSome, None, OnOk, option_map};
 ghost use Rattle.std.specs.Io.{WritesAtMost};
 ghost use Rattle.std.specs.Io.KnownBytes.{Appends, Keeps, WriteAppends};
 ghost use Rattle.uri_commands.specs.Prefixes.{AppendsPrefix};
-ghost use Rattle.uri_commands.specs.Sinks.{IsFinal, IsFlushedUnlessPut, KeepsErrorOf};
-ghost use Rattle.uri_commands.specs.Sinks.{Call, Flushed, IsFailedFlush, IsFailedWrite};
-ghost use Rattle.uri_commands.specs.Sinks.{IsInterruptedWrite, KeepsFinalError, Wrote};
+ghost use Rattle.uri_commands.specs.Sinks.{IsFinal, IsFlushedUnlessPut, KeepsErrorOf, Call, Flushed, IsFailedFlush, IsFailedWrite, IsInterruptedWrite, KeepsFinalError, Wrote};
 
 use std::io::{self, ErrorKind, Write};
 

@@ -4,8 +4,7 @@ ghost use Rattle.fluent_uri.specs.Components.{components};
 ghost use Rattle.fluent_uri.specs.Grammar.{IsOfKind};
 ghost use Rattle.fluent_uri.specs.Resolving.{IsErrorWithUnderflowAllowed};
 ghost use Rattle.fluent_uri.specs.References.{reference_text};
-ghost use Rattle.uri_commands.specs.Commands.{Resolve, kind_of_base, kind_of_references};
-ghost use Rattle.uri_commands.specs.Commands.{target_text};
+ghost use Rattle.uri_commands.specs.Commands.{Resolve, kind_of_base, kind_of_references, target_text};
 ghost use Rattle.uri_commands.specs.Ends.{has_output_failed};
 ghost use Rattle.uri_commands.specs.Refusals.{IsErrorOfCommand};
 

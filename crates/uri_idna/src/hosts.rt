@@ -5,9 +5,7 @@ ghost use Rattle.uri_pct.specs.EncodedTexts.{text_of};
 ghost use Rattle.uri_pct.specs.Texts.{is_unencoded};
 ghost use Rattle.uri_parts.specs.Authority.{authority_parts};
 ghost use Rattle.uri_parts.specs.AuthorityTexts.{authority_text};
-ghost use Rattle.uri_idna.specs.AsciiHosts.{IsAsciiHostError, IsAsciiNameError, IsDnsNameError};
-ghost use Rattle.uri_idna.specs.AsciiHosts.{ascii_host, ascii_name, dns_name, is_ascii_text};
-ghost use Rattle.uri_idna.specs.AsciiHosts.{is_unencoded_ascii};
+ghost use Rattle.uri_idna.specs.AsciiHosts.{IsAsciiHostError, IsAsciiNameError, IsDnsNameError, ascii_host, ascii_name, dns_name, is_ascii_text, is_unencoded_ascii};
 
 use crate::error::AsciiHostError;
 use idna::Errors;

@@ -1,7 +1,5 @@
 //! References with their hosts in ASCII (RFC 3987, section 3.1).
-ghost use Rattle.std.specs.Prelude.{◌≡◌, [], IfErr, IfOk, IsSomeAnd, None, OnOk, Some, codes};
-ghost use Rattle.std.specs.Prelude.{option_copied, option_map, string_bytes};
-ghost use Rattle.uri_pct.specs.EncodedTexts.{text_of};
+ghost use Rattle.std.specs.Prelude.{◌≡◌, [], IfErr, IfOk, IsSomeAnd, None, OnOk, Some, codes, option_copied, option_map, string_bytes};
 ghost use Rattle.uri_pct.specs.Texts.{Pushes};
 ghost use Rattle.uri_parts.specs.Authority.{authority_parts};
 ghost use Rattle.uri_parts.specs.AuthorityTexts.{authority_text};
@@ -10,8 +8,7 @@ ghost use Rattle.uri_parts.specs.CoreTexts.{core_text};
 ghost use Rattle.uri_ops.specs.Encoded.{encode_past_ascii};
 ghost use Rattle.fluent_uri.specs.References.{reference_text};
 ghost use Rattle.uri_idna.specs.AsciiHosts.{ascii_host};
-ghost use Rattle.uri_idna.specs.AsciiReferences.{HasAsciiHost, IsAsciiHostErrorOf};
-ghost use Rattle.uri_idna.specs.AsciiReferences.{with_ascii_host, with_authority, with_host};
+ghost use Rattle.uri_idna.specs.AsciiReferences.{HasAsciiHost, IsAsciiHostErrorOf, with_ascii_host, with_authority, with_host};
 
 use crate::error::AsciiHostError;
 use crate::hosts::ascii_host;

@@ -1,19 +1,16 @@
 //! A register of links (RFC 3986, sections 5.2 and 6.2). Two references are one link exactly if
 //! their targets, each against its base, are equivalent under the register's rules.
-ghost use Rattle.std.specs.Prelude.{◌≡◌, ◌≢◌, ◌↔◌, ◌≤◌, ◌∷◌, ◌++◌, ℕ, [], None, true, is_ok};
-ghost use Rattle.std.specs.Prelude.{length, map, option_map, slice_get, take, IfOk, IfErr, OnErr};
-ghost use Rattle.std.specs.Prelude.{OnOk, IsNone, List, All, bytes_eq, position};
+ghost use Rattle.std.specs.Prelude.{◌≡◌, ◌≢◌, ◌↔◌, ◌≤◌, ◌∷◌, ◌++◌, ℕ, [], None, true, is_ok, length, map, option_map, slice_get, take, IfOk, IfErr, OnErr, OnOk, IsNone, All, bytes_eq, position};
 ghost use Rattle.std.specs.List.{IsDistinct-prop};
 ghost use Rattle.fluent_uri.specs.Components.{components};
-ghost use Rattle.fluent_uri.specs.Grammar.{IsTextOf, uri, uri_ref};
+ghost use Rattle.fluent_uri.specs.Grammar.{IsTextOf, uri};
 ghost use Rattle.fluent_uri.specs.Normal.{normal_text};
 ghost use Rattle.fluent_uri.specs.NormalTargets.{IsNormalFormOfTarget};
 ghost use Rattle.fluent_uri.specs.Normalizers.{scheme_rules_of};
 ghost use Rattle.fluent_uri.specs.Resolving.{IsErrorWithUnderflowAllowed};
 ghost use Rattle.fluent_uri.specs.SchemeRules.{meaning_under};
 ghost use Rattle.fluent_uri.specs.Target.{resolution_of};
-ghost use Rattle.fluent_uri.specs.Uris.{uri_ref_text};
-ghost use Rattle.fluent_uri.specs.Uris.{uri_text};
+ghost use Rattle.fluent_uri.specs.Uris.{uri_ref_text, uri_text};
 ghost use Rattle.uri_links.specs.Outcomes.{outcome_of, outcomes_of, outcome_of_lookup};
 ghost use Rattle.uri_links.specs.OutcomesInWords.{IdIsInRange, IsOutcome};
 ghost use Rattle.uri_links.specs.Registered.{AreDistinct, AreNormal, AreUris};

@@ -2,11 +2,9 @@
 //! index, and the bits of a text's hash lead from node to node, so the tree holds no second copy of
 //! a text. Whoever chooses the texts may choose equal hashes. Then the texts' own bits lead on, so
 //! a search takes at most some eight steps a byte, after 64.
-ghost use Rattle.std.specs.Prelude.{◌≡◌, ◌≤◌, List, OnErr, OnOk, bytes_eq, length, map};
+ghost use Rattle.std.specs.Prelude.{◌≡◌, ◌≤◌, OnErr, OnOk, bytes_eq, length, map};
 ghost use Rattle.fluent_uri.specs.Uris.{uri_text};
-ghost use Rattle.uri_links.specs.SearchTrees.{ChildrenFollow, HaveHashes, child, with_node_added};
-ghost use Rattle.uri_links.specs.SearchTrees.{hash_of};
-ghost use Rattle.uri_links.specs.SearchTrees.{descends_right, search};
+ghost use Rattle.uri_links.specs.SearchTrees.{ChildrenFollow, HaveHashes, child, with_node_added, hash_of, descends_right, search};
 
 use fluent_uri::Uri;
 use std::alloc::AllocError;

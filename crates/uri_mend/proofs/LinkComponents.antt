@@ -1,6 +1,6 @@
 -- The components of a text that is no reference, perhaps: its scheme is one, and without a scheme
 -- and an authority its first segment has no `:`.
-use Rattle.uri_mend.proofs.Common.{◌≡◌, ℕ, Bool, true, false, not, eqb, List, [], ◌∷◌, ◌++◌, refl, sym, ap, subst, ◌∙◌, ⊎_elim, ◌&&◌, lit<, arith, codes, IfSome, IfNone, IsUtf8, encode_utf8_all, cases_Bool, cond-true, cond-false, and_parts, both_ways, not-false, eqb-true, IsUtf8-append, encode_ascii, components, starts, before_any, from_any, when, has_scheme, has_authority, after_scheme, after_authority, is_scheme, has_colon_in_first_segment, from_any-at-mark, before_any-at-mark, has_false_scheme, with_dot_segment, link_components}
+use Rattle.uri_mend.proofs.Common.{◌≡◌, ℕ, Bool, true, false, not, eqb, List, [], ◌∷◌, ◌++◌, refl, sym, ap, subst, ◌∙◌, ⊎_elim, ◌&&◌, lit<, codes, IfSome, IfNone, IsUtf8, encode_utf8_all, cases_Bool, cond-true, cond-false, and_parts, both_ways, not-false, eqb-true, IsUtf8-append, encode_ascii, components, starts, before_any, from_any, when, has_scheme, has_authority, after_scheme, after_authority, is_scheme, has_colon_in_first_segment, from_any-at-mark, before_any-at-mark, has_false_scheme, with_dot_segment, link_components}
 use Rattle.uri_parts.proofs.Offered.{colon_in_first_segment-is-at-start}
 
 -- links: a text with a false scheme gets `./`

@@ -1,5 +1,5 @@
 -- A text, cut before its path, and the pieces of the text that it is mended to.
-use Rattle.uri_mend.proofs.Common.{◌≡◌, ℕ, true, false, not, List, [], ◌∷◌, ◌++◌, length, take, drop, refl, sym, ap, subst, ◌∙◌, arith, append_assoc, ◌&&◌, lit<, ◌≤◌, ◌-◌, length-append, IsUtf8, IsCharBoundary, take-append_seam, IsCharBoundary-from_drop, IsCharBoundary-at_seam, has_authority, components, recompose, marked, starts, when, before_any, from_any, after_scheme, after_authority, after_query, codes, cond-true, cond-false, and_parts, both_ways, or_left, allows, Kind, before_any-past-other, from_any-past-other, recompose-components, HasComponentSets, before_path, mended, has_false_scheme, link_components, mended_components, mended_text, mended_query, mended_fragment, mended_tail, IsMendedByPieces, IsPathMendedByPieces, query_of_tail}
+use Rattle.uri_mend.proofs.Common.{◌≡◌, ℕ, true, false, not, List, [], ◌∷◌, ◌++◌, length, take, drop, refl, sym, ap, subst, ◌∙◌, arith, append_assoc, ◌&&◌, lit<, ◌≤◌, ◌-◌, length-append, IsUtf8, IsCharBoundary, take-append_seam, IsCharBoundary-from_drop, IsCharBoundary-at_seam, has_authority, components, recompose, marked, starts, when, before_any, from_any, after_scheme, after_authority, after_query, codes, both_ways, allows, Kind, before_any-past-other, from_any-past-other, recompose-components, HasComponentSets, before_path, mended, has_false_scheme, link_components, mended_components, mended_text, mended_query, mended_fragment, mended_tail, IsMendedByPieces, IsPathMendedByPieces, query_of_tail}
 use Rattle.uri_parts.proofs.Offered.{utf8_after_slashes}
 use Rattle.uri_mend.proofs.MendedMarks.{allowed-ascii-before-text-is-unchanged}
 use Rattle.uri_mend.proofs.LinkComponents.{false-scheme-gets-dot-segment, no-false-scheme-gets-nothing}

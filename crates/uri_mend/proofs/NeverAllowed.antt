@@ -1,6 +1,6 @@
 -- The characters that no path, query or fragment of the four kinds may have, and the marks that end
 -- these.
-use Rattle.uri_mend.proofs.Common.{◌≡◌, ℕ, ◌<◌, ◌≤◌, Bool, true, false, refl, sym, ap, subst, ◌∙◌, ◌&&◌, ⊎_elim, codes, agree_below_at, and_left, cases_lt, has_bit, TableSet, is_path_char, is_query_char, has_bit_past_ascii_is_false, Kind, kind_by_flags, NEVER_HIGH, NEVER_LOW, are_marks}
+use Rattle.uri_mend.proofs.Common.{◌≡◌, ℕ, ◌<◌, ◌≤◌, Bool, true, false, refl, sym, ap, subst, ◌∙◌, ◌&&◌, ⊎_elim, codes, agree_below_at, cases_lt, has_bit, TableSet, is_path_char, is_query_char, has_bit_past_ascii_is_false, Kind, kind_by_flags, NEVER_HIGH, NEVER_LOW, are_marks}
 
 -- sets: the set lacks the characters that no component may have
 abbrev pub LacksNever : TableSet → Type 0

@@ -1,6 +1,5 @@
 //! A text that is no reference, perhaps, cut before its path (RFC 3986, appendix B).
-ghost use Rattle.std.specs.Prelude.{◌≡◌, ◌++◌, ◌-◌, ◌<◌, ◌≤◌, [], IfSome, codes, false, is_some};
-ghost use Rattle.std.specs.Prelude.{length, not, take, true};
+ghost use Rattle.std.specs.Prelude.{◌≡◌, ◌++◌, ◌-◌, ◌<◌, ◌≤◌, [], IfSome, codes, false, is_some, length, not, take, true};
 ghost use Rattle.std.specs.List.{list_any};
 ghost use Rattle.std.specs.Str.{IsCharBoundary};
 ghost use Rattle.uri_pct.specs.Sets.{is_one_of};

@@ -1,6 +1,5 @@
 //! The reference that a text is mended to (RFC 3986, sections 4.2 and 5.3).
-ghost use Rattle.std.specs.Prelude.{◌≡◌, ◌↔◌, ◌≤◌, ◌+◌, IfErr, IfOk, IfSome, IsOk, IsOkAnd, Some};
-ghost use Rattle.std.specs.Prelude.{codes, drop, is_some, length, string_bytes, take, true};
+ghost use Rattle.std.specs.Prelude.{◌≡◌, ◌↔◌, ◌≤◌, ◌+◌, IfErr, IfOk, IfSome, IsOk, IsOkAnd, Some, codes, drop, is_some, length, string_bytes, take, true};
 ghost use Rattle.std.specs.Str.{IsCharBoundary, IsUtf8};
 ghost use Rattle.uri_parts.specs.Components.{from_any};
 ghost use Rattle.uri_parts.specs.CoreTexts.{core_text};

@@ -1,6 +1,5 @@
 //! Bytes written as percent-encoded octets, sixteen at a time (RFC 3986, section 2.1).
-ghost use Rattle.std.specs.Prelude.{◌≡◌, ◌+◌, ◌*◌, ◌/◌, ◌%◌, ◌≤◌, ◌++◌, IfOk, List, drop, length};
-ghost use Rattle.std.specs.Prelude.{map, take, true, ℕ};
+ghost use Rattle.std.specs.Prelude.{◌≡◌, ◌+◌, ◌*◌, ◌/◌, ◌%◌, ◌≤◌, ◌++◌, IfOk, List, drop, length, map, take, true, ℕ};
 ghost use Rattle.std.specs.Fmt.{digit_glyph};
 ghost use Rattle.std.specs.Simd.Lanes.{chunk};
 ghost use Rattle.uri_pct.specs.Tokens.{Octet, print, text_of_token};

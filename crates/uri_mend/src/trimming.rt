@@ -4,8 +4,7 @@ ghost use Rattle.std.specs.List.{list_any};
 ghost use Rattle.uri_pct.specs.Cows.{IsBorrowedText, cow_text};
 ghost use Rattle.uri_pct.specs.Sets.{is_one_of};
 ghost use Rattle.uri_pct.specs.Texts.{Pushes};
-ghost use Rattle.uri_mend.specs.Trimming.{tab_and_newlines, trimmed_link, without_any};
-ghost use Rattle.uri_mend.specs.Trimming.{without_outer_space};
+ghost use Rattle.uri_mend.specs.Trimming.{tab_and_newlines, trimmed_link, without_any, without_outer_space};
 
 use fluent_uri::pct_enc::CowStr;
 use std::alloc::{AllocError, Global};

@@ -6,6 +6,5 @@ pub mod LastOctets
 pub mod LastTokens
 pub mod NormalParts
 pub mod NormalTokens
-pub mod Octets
 pub mod PathBack
 pub mod SegmentsLeft

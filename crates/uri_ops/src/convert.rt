@@ -5,9 +5,7 @@ ghost use Rattle.std.specs.Str.{IsUtf8};
 ghost use Rattle.uri_parts.specs.Components.{components};
 ghost use Rattle.uri_parts.specs.CoreTexts.{core_text};
 ghost use Rattle.uri_parts.specs.Grammar.{IsOfKind, iri, iri_ref, uri, uri_ref};
-ghost use Rattle.uri_ops.specs.Conversions.{first_past_ascii, missing_scheme_error};
-ghost use Rattle.uri_ops.specs.Conversions.{not_ascii_error};
-ghost use Rattle.uri_ops.specs.Conversions.{uri_conversion_error};
+ghost use Rattle.uri_ops.specs.Conversions.{first_past_ascii, missing_scheme_error, not_ascii_error, uri_conversion_error};
 
 #[doc(hidden)]
 pub mod encoded;

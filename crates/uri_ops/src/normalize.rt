@@ -5,9 +5,7 @@ ghost use Rattle.uri_parts.specs.CoreTexts.{core_text};
 ghost use Rattle.uri_parts.specs.Grammar.{IsOfKind};
 ghost use Rattle.uri_parts.specs.PackedPositions.{ArePackedPositionsOf};
 ghost use Rattle.uri_ops.specs.ComponentSets.{HasComponentSets};
-ghost use Rattle.uri_ops.specs.Normalizers.{HasNormalText, IsNormalForm};
-ghost use Rattle.uri_ops.specs.Normalizers.{normalizer_allows_underflow};
-ghost use Rattle.uri_ops.specs.Normalizers.{scheme_rules_of, text_underflows};
+ghost use Rattle.uri_ops.specs.Normalizers.{HasNormalText, IsNormalForm, normalizer_allows_underflow, scheme_rules_of, text_underflows};
 ghost use Rattle.uri_ops.specs.SchemeRules.{default_rules};
 ghost use Rattle.uri_ops.specs.declared.normalize.NormalizeError.TheVariants.{PathUnderflow};
 

@@ -1,9 +1,7 @@
 //! Texts that are read from their end, a byte or a block at a time, without memory.
-ghost use Rattle.std.specs.Prelude.{◌≡◌, ◌↔◌, ◌+◌, ◌≤◌, ◌<◌, ◌++◌, ◌∷◌, ℕ, List, [], None, IfSome, drop};
-ghost use Rattle.std.specs.Prelude.{length, true};
+ghost use Rattle.std.specs.Prelude.{◌≡◌, ◌↔◌, ◌+◌, ◌≤◌, ◌<◌, ◌++◌, ◌∷◌, ℕ, List, [], None, IfSome, drop, length, true};
 ghost use Rattle.uri_ops.specs.FromEnd.Blocks.{IsLastBlock};
 
-pub(crate) mod address_text;
 pub(crate) mod held;
 pub(crate) mod last_tokens;
 pub mod literal_back;

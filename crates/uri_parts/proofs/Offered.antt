@@ -3,7 +3,6 @@ pub use Rattle.uri_parts.proofs.Authorities.Authority.{is_authority_for-sound, n
 pub use Rattle.uri_parts.proofs.Authorities.AuthorityCuts.{length-of-text-before-marks}
 pub use Rattle.uri_parts.proofs.Authorities.AuthorityPlaces.{empty_is_authority, holds, host_is_at_positions, port_follows_host, port_is_after_host, reg_name_host_is_valid, userinfo_is_before_host}
 pub use Rattle.uri_parts.proofs.Authorities.NamesAndPorts.{utf8_before_marks}
-pub use Rattle.uri_parts.proofs.HostForms.AddressTexts.{hex_has_no_leading_zeros, unless_leading}
 pub use Rattle.uri_parts.proofs.HostForms.Addresses.{ipv4_value-sound, ipv6-text-is-address-text, ipv6_value-complete, ipv6_value-sound}
 unfoldable pub use Rattle.uri_parts.proofs.HostForms.Addresses.{is_address_char, is_address_text}
 pub use Rattle.uri_parts.proofs.HostForms.Futures.{hexdigit_is_userinfo_char, ipv4-text-is-digits-and-dots, ipv4-text-lacks-name-marks, ipv6-text-lacks-excluded-marks, ipvfuture-text-lacks-excluded-marks, is_ipv_future-complete, joined-texts-lack-marks, version-letter-is-ascii}

@@ -1,11 +1,9 @@
 //! The numbers of an IP address: RFC 3986, section 3.2.2.
 ghost use Rattle.std.specs.Net.Reader as numbers;
 ghost use Rattle.std.specs.Char.{digit_value};
-ghost use Rattle.std.specs.Prelude.{◌≡◌, ◌≤◌, ◌<◌, IfSome, None, length, option_copied, true};
-ghost use Rattle.std.specs.Prelude.{◌+◌, drop, IsTrue, min, slice_index, take};
+ghost use Rattle.std.specs.Prelude.{◌≡◌, ◌≤◌, ◌<◌, IfSome, None, length, option_copied, true, ◌+◌, drop, IsTrue, min, slice_index, take};
 ghost use Rattle.std.specs.Str.Parse.{digits_value};
-ghost use Rattle.uri_parts.specs.Models.Literals.{AreLeadingHexDigits, BeginsNumber};
-ghost use Rattle.uri_parts.specs.Models.Literals.{segments_of_ipv4, two_segments};
+ghost use Rattle.uri_parts.specs.Models.Literals.{AreLeadingHexDigits, BeginsNumber, segments_of_ipv4, two_segments};
 
 /// Returns what follows this byte of an IPv6 address, if the text begins with it.
 #[inline(always)]

@@ -1,7 +1,6 @@
 //! The segments of an IPv6 address, and where it ends: RFC 4291, section 2.2.
 ghost use Rattle.std.specs.Net.Reader as numbers;
-ghost use Rattle.std.specs.Prelude.{◌≡◌, ◌<◌, ◌≤◌, IfSome, IsTrue, drop, is_some, length};
-ghost use Rattle.std.specs.Prelude.{ℕ, ◌+◌, max, option_map, replicate, slice_index, take, true};
+ghost use Rattle.std.specs.Prelude.{◌≡◌, ◌<◌, ◌≤◌, IfSome, IsTrue, drop, is_some, length, ℕ, ◌+◌, max, option_map, replicate, slice_index, take, true};
 ghost use Rattle.uri_parts.specs.Hosts.{ipv6_value};
 
 use crate::address_parser::{byte_at, leading_digits, parse_ipv4};

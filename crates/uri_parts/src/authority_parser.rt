@@ -2,25 +2,17 @@
 //!
 //! What passes as a name and a port is a prefix of userinfo. So nothing is scanned again to
 //! distinguish the two, nor to find where and why an authority is rejected.
-ghost use Rattle.std.specs.Prelude.{◌≡◌, ◌≤◌, ◌+◌, drop, length, true, IfErr, IfOk, IfSome, OnOk};
-ghost use Rattle.std.specs.Prelude.{Some, Ok, IfNone, IsTrue, ◌<◌, false};
+ghost use Rattle.std.specs.Prelude.{◌≡◌, ◌≤◌, ◌+◌, drop, length, true, IfErr, IfOk, IfSome, OnOk, Some, Ok, IfNone, IsTrue, ◌<◌, false};
 ghost use Rattle.std.specs.Str.{IsCharBoundary};
 ghost use Rattle.uri_pct.specs.Delimiters.{left_bracket};
 ghost use Rattle.uri_pct.specs.Prefixes.{valid_prefix};
-ghost use Rattle.uri_parts.specs.Models.AuthorityParsing.{port_length, name_and_port_length};
-ghost use Rattle.uri_parts.specs.Models.AuthorityParsing.{name_ends_authority};
-ghost use Rattle.uri_parts.specs.Models.AuthorityParsing.{host_end, host_and_port_length};
-ghost use Rattle.uri_parts.specs.Models.AuthorityParsing.{further_userinfo_length};
-ghost use Rattle.uri_parts.specs.Models.AuthorityParsing.{other_authority, found_authority_length};
-ghost use Rattle.uri_parts.specs.Models.AuthorityParsing.{found_authority};
+ghost use Rattle.uri_parts.specs.Models.AuthorityParsing.{port_length, name_and_port_length, name_ends_authority, host_end, host_and_port_length, further_userinfo_length};
 ghost use Rattle.std.specs.Option.{option_or};
 ghost use Rattle.std.specs.Result.{result_err};
 ghost use Rattle.uri_parts.specs.Components.{starts};
 ghost use Rattle.uri_parts.specs.LiteralErrors.{literal};
 ghost use Rattle.uri_parts.specs.Refusals.{error_from_path, last_colon as last_colon_before};
-ghost use Rattle.uri_parts.specs.Models.ParseErrors.{left_over_error, name_error, host_error};
-ghost use Rattle.uri_parts.specs.Models.ParseErrors.{userinfo_error, other_authority_error};
-ghost use Rattle.uri_parts.specs.Models.ParseErrors.{authority_error};
+ghost use Rattle.uri_parts.specs.Models.ParseErrors.{left_over_error, name_error, host_error, userinfo_error};
 ghost use Rattle.uri_parts.specs.Errors.{IsErrorIn, unexpected};
 ghost use Rattle.uri_parts.specs.Models.Literals.{literal_length};
 ghost use Rattle.uri_parts.specs.Models.Cursors.{text_after_cursor, cursor_text, cursor_position};

@@ -46,8 +46,7 @@ impl<'a, U: Encoder, R: Encoder> Copy for Authority<'a, U, R> {}
 
 impl<'a, U: Encoder, R: Encoder> Authority<'a, U, R> {
     ghost use Rattle.uri_pct.specs.EncodedTexts.{text_of};
-    ghost use Rattle.uri_parts.specs.AuthorityTexts.{authority_text};
-    ghost use Rattle.uri_parts.specs.AuthorityTexts.{host_kind_of, HasRegisteredName};
+    ghost use Rattle.uri_parts.specs.AuthorityTexts.{authority_text, host_kind_of, HasRegisteredName};
 
     /// Returns the text as an authority whose host is at these positions, which the caller knows to
     /// be its host's.

@@ -1,6 +1,5 @@
 //! A position in a text.
-ghost use Rattle.std.specs.Prelude.{◌≡◌, ◌<◌, ◌+◌, ◌==◌, ℕ, Ok, drop, codes, OnOk};
-ghost use Rattle.std.specs.Prelude.{IfErr, IfOk, IsTrue, false, if◌then◌else◌};
+ghost use Rattle.std.specs.Prelude.{◌≡◌, ◌<◌, ◌+◌, ◌==◌, ℕ, Ok, drop, codes, OnOk, IfErr, IfOk, IsTrue, false, if◌then◌else◌};
 ghost use Rattle.std.specs.Result.{result_err};
 ghost use Rattle.std.specs.Str.{IsCharBoundary};
 
@@ -36,12 +35,10 @@ impl<'a> Cursor<'a> {
     ghost use Rattle.uri_pct.specs.Prefixes.{valid_prefix, after};
     ghost use Rattle.uri_parts.specs.Models.AuthorityParsing.{is_empty_or_begins_with_any};
     ghost use Rattle.uri_parts.specs.Components.{starts, has_authority, is_end};
-    ghost use Rattle.uri_parts.specs.Errors.{unexpected};
+    ghost use Rattle.uri_parts.specs.Errors.{unexpected, IsErrorIn};
     ghost use Rattle.uri_parts.specs.Grammar.{first_segment_set};
     ghost use Rattle.uri_parts.specs.Scanning.{scan};
-    ghost use Rattle.uri_parts.specs.Errors.{IsErrorIn};
-    ghost use Rattle.uri_parts.specs.Models.Cursors.{text_after_cursor, cursor_text};
-    ghost use Rattle.uri_parts.specs.Models.Cursors.{cursor_position};
+    ghost use Rattle.uri_parts.specs.Models.Cursors.{text_after_cursor, cursor_text, cursor_position};
 
     /// Returns a cursor at the beginning of the text.
     #[inline]

@@ -1,8 +1,7 @@
 //! The default ports of schemes.
 ghost use Rattle.std.specs.Prelude.{◌≡◌, ◌<◌, ◌+◌, map};
 ghost use Rattle.std.specs.Str.{str_to_ascii_lowercase};
-ghost use Rattle.uri_parts.specs.SchemePorts.{default_port, port_ignoring_case};
-ghost use Rattle.uri_parts.specs.SchemePorts.{rows_by_letter, rows_of_letter};
+ghost use Rattle.uri_parts.specs.SchemePorts.{default_port, port_ignoring_case, rows_by_letter, rows_of_letter};
 
 /// The schemes that have a default port, each with it: those that begin with `a`, with `b`, and so
 /// on.

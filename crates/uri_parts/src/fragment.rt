@@ -1,6 +1,5 @@
 //! The same text with another fragment (RFC 3986, section 3.5).
-ghost use Rattle.std.specs.Prelude.{◌≡◌, ◌≤◌, ◌<◌, ◌+◌, ◌++◌, ◌∷◌, IfOk, IsOk, OnErr, OnOk, None};
-ghost use Rattle.std.specs.Prelude.{length, take, option_map, string_bytes};
+ghost use Rattle.std.specs.Prelude.{◌≡◌, ◌≤◌, ◌<◌, ◌+◌, ◌++◌, ◌∷◌, IfOk, IsOk, OnErr, OnOk, None, length, take, option_map, string_bytes};
 ghost use Rattle.std.specs.Str.{IsCharBoundary};
 ghost use Rattle.std.specs.String.{string_capacity};
 ghost use Rattle.uri_pct.specs.Delimiters.{number_sign};

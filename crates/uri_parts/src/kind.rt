@@ -1,6 +1,5 @@
 //! The kinds of references, as types.
 ghost use Rattle.std.specs.Prelude.{◌≡◌};
-ghost use Rattle.uri_pct.specs.Tables.{set_of};
 ghost use Rattle.uri_parts.specs.KindTables.{kind_of, segment_nz_nc_of};
 
 use crate::kind_tables::{KindTables, iri_tables, uri_tables};

@@ -1,5 +1,5 @@
 //! Laws of the definitions that contracts cite, each the contract of a function that does nothing.
-ghost use Rattle.std.specs.Prelude.{◌≡◌, ◌↔◌, ℕ, List, [], ◌∷◌, true};
+ghost use Rattle.std.specs.Prelude.{◌≡◌, ◌↔◌, ℕ, List, [], ◌∷◌, true, map, None};
 ghost use Rattle.std.specs.Cmp.Lexicographic.{slice_cmp};
 ghost use Rattle.std.specs.Ordering.{nat_cmp};
 ghost use Rattle.std.specs.declared.cmp.Ordering.TheVariants.{Less, Greater};
@@ -7,13 +7,9 @@ ghost use Rattle.std.specs.Str.{IsUtf8};
 ghost use Rattle.std.specs.Net.Text.{ipv4_text, ipv6_text};
 ghost use Rattle.uri_pct.specs.Sets.{TableSet, userinfo_set, reg_name_set};
 ghost use Rattle.uri_parts.specs.Addresses.{ipv4_octets, ipv6_segments};
-ghost use Rattle.uri_parts.specs.Authority.{AuthorityParts, IsAuthorityFor};
-ghost use Rattle.uri_parts.specs.Authority.{LackAuthorityDelimiters};
-ghost use Rattle.uri_parts.specs.Authority.{authority_parts, is_authority_for};
+ghost use Rattle.uri_parts.specs.Authority.{AuthorityParts, IsAuthorityFor, LackAuthorityDelimiters, authority_parts, is_authority_for};
 ghost use Rattle.uri_parts.specs.Components.{Components, IsSplitOf, components, recompose};
-ghost use Rattle.uri_parts.specs.Hosts.{HostKind, IsHost, IsIpv4Text, IsIpv6Text, host_kind};
-ghost use Rattle.uri_parts.specs.Hosts.{is_host};
-ghost use Rattle.std.specs.Prelude.{map, None};
+ghost use Rattle.uri_parts.specs.Hosts.{HostKind, IsHost, IsIpv4Text, IsIpv6Text, host_kind, is_host};
 ghost use Rattle.uri_parts.specs.Grammar.{uri, uri_ref, IsOfKind};
 ghost use Rattle.uri_parts.specs.declared.net.Ipv4Addr.{Ipv4Addr};
 ghost use Rattle.uri_parts.specs.declared.net.Ipv6Addr.{Ipv6Addr};

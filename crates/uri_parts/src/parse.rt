@@ -1,26 +1,16 @@
 //! The parser of the four kinds.
-ghost use Rattle.std.specs.Prelude.{◌≡◌, ◌↔◌, ◌<◌, IfErr, IfOk, IsOk, IsTrue, Some, None};
-ghost use Rattle.std.specs.Prelude.{◌+◌, OnOk, drop};
+ghost use Rattle.std.specs.Prelude.{◌≡◌, ◌↔◌, ◌<◌, IfErr, IfOk, IsOk, IsTrue, Some, None, ◌+◌, OnOk, drop};
 ghost use Rattle.std.specs.Str.{IsCharBoundary};
 ghost use Rattle.std.specs.Option.{option_or};
 ghost use Rattle.std.specs.Result.{result_err};
 ghost use Rattle.uri_parts.specs.Models.AuthorityParsing.{host_end, host_and_port_length};
-ghost use Rattle.uri_parts.specs.Models.Parsing.{query_end_at};
-ghost use Rattle.uri_parts.specs.Models.Parsing.{authority_positions, path_positions};
-ghost use Rattle.uri_parts.specs.Models.Parsing.{relative_positions};
-ghost use Rattle.uri_parts.specs.Models.Parsing.{schemeless_positions};
-ghost use Rattle.uri_parts.specs.Models.Parsing.{parsed_positions};
-ghost use Rattle.uri_parts.specs.Refusals.{error_from_fragment, error_from_query, error_from_path};
-ghost use Rattle.uri_parts.specs.Refusals.{error_from_relative_path, refusal};
-ghost use Rattle.uri_parts.specs.Models.ParseErrors.{authority_error};
-ghost use Rattle.uri_parts.specs.Models.ParseErrors.{host_error};
-ghost use Rattle.uri_parts.specs.Models.ParseErrors.{schemeless_error};
-ghost use Rattle.uri_parts.specs.Models.ParseErrors.{parsed_error};
+ghost use Rattle.uri_parts.specs.Models.Parsing.{authority_positions, schemeless_positions, parsed_positions};
+ghost use Rattle.uri_parts.specs.Refusals.{error_from_path, error_from_relative_path, refusal};
+ghost use Rattle.uri_parts.specs.Models.ParseErrors.{authority_error, host_error, schemeless_error, parsed_error};
 ghost use Rattle.uri_parts.specs.Errors.{IsErrorIn, unexpected};
 ghost use Rattle.uri_parts.specs.Grammar.{IsOfKind, first_segment_set};
 ghost use Rattle.uri_parts.specs.PackedPositions.{ArePackedPositionsOf, packed};
-ghost use Rattle.uri_parts.specs.Models.Cursors.{text_after_cursor, cursor_text, cursor_position};
-ghost use Rattle.uri_parts.specs.Models.Cursors.{packed_from, packed_if_parsed_from};
+ghost use Rattle.uri_parts.specs.Models.Cursors.{text_after_cursor, cursor_text, cursor_position, packed_from, packed_if_parsed_from};
 
 use crate::authority_parser::{find_host, is_before_literal, pass_name, pass_userinfo};
 use crate::cursor::Cursor;

@@ -1,6 +1,5 @@
 //! How a text begins that is parsed: its scheme, and the `://` after it.
-ghost use Rattle.std.specs.Prelude.{◌≡◌, ◌+◌, ◌&&◌, IfSome, drop, slice_index, true};
-ghost use Rattle.std.specs.Prelude.{IsTrue, if◌then◌else◌};
+ghost use Rattle.std.specs.Prelude.{◌≡◌, ◌+◌, ◌&&◌, IfSome, drop, slice_index, true, IsTrue, if◌then◌else◌};
 ghost use Rattle.std.specs.Char.{is_ascii_alphabetic};
 ghost use Rattle.std.specs.Str.{IsCharBoundary};
 ghost use Rattle.uri_pct.specs.Delimiters.{colon};

@@ -125,8 +125,7 @@ impl<'a> Clone for Decode<'a> {
 
 impl<'a> Iterator for Decode<'a> {
     ghost use Rattle.std.specs.Iterator.{YieldsFirstBy, item_count};
-    ghost use Rattle.uri_pct.specs.Decodes.{chunk_of};
-    ghost use Rattle.uri_pct.specs.Decodes.{chunks_left};
+    ghost use Rattle.uri_pct.specs.Decodes.{chunk_of, chunks_left};
 
     type Item = DecodedChunk<'a>;
 

@@ -1,6 +1,5 @@
 //! Decoding to text.
-ghost use Rattle.std.specs.Prelude.{◌≡◌, IsTrue, IfOk, IfErr, IsOk, IsOkAnd};
-ghost use Rattle.std.specs.Prelude.{IsUtf8};
+ghost use Rattle.std.specs.Prelude.{◌≡◌, IsTrue, IfOk, IfErr, IsOk, IsOkAnd, IsUtf8};
 ghost use Rattle.uri_pct.specs.Cows.{cow_text, IsBorrowedText, IsDecodeErrorOf};
 ghost use Rattle.uri_pct.specs.Pieces.{lossy_text};
 ghost use Rattle.uri_pct.specs.Texts.{is_unencoded};
@@ -17,8 +16,7 @@ struct LossyText {
 }
 
 impl TakeParts for LossyText {
-    ghost use Rattle.uri_pct.specs.Models.TakenBytes.{TookText, taking_no_parts_keeps_text};
-    ghost use Rattle.uri_pct.specs.Models.TakenBytes.{text_taken_in_turn_is_taken_of_joined_parts};
+    ghost use Rattle.uri_pct.specs.Models.TakenBytes.{TookText, taking_no_parts_keeps_text, text_taken_in_turn_is_taken_of_joined_parts};
 
     ghost took = { TookText };
 

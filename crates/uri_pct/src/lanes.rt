@@ -1,14 +1,11 @@
 //! Sets of ASCII characters by their two masks, sixteen bytes at a time.
-ghost use Rattle.std.specs.Prelude.{◌≡◌, ◌+◌, ◌-◌, ◌≤◌, ◌<◌, ◌/◌, ◌%◌, ℕ, true, not, length, map};
-ghost use Rattle.std.specs.Prelude.{slice_index, nat_lt, nat_le, IsTrue, false, ◌^◌, ◌==◌, ◌&&◌};
-ghost use Rattle.std.specs.Prelude.{List, bit_and};
+ghost use Rattle.std.specs.Prelude.{◌≡◌, ◌+◌, ◌-◌, ◌≤◌, ◌<◌, ◌/◌, ◌%◌, ℕ, true, not, length, map, slice_index, nat_lt, nat_le, IsTrue, false, ◌^◌, ◌==◌, ◌&&◌, List, bit_and};
 ghost use Rattle.std.specs.Simd.Lanes.{mask_l, chunk};
 ghost use Rattle.std.specs.Int.{bit_at};
 ghost use Rattle.uri_pct.specs.Delimiters.{percent_sign};
 ghost use Rattle.uri_pct.specs.Models.ByteRuns.{IsLongestRun, AreCharactersOrOctets, is_char_byte};
 ghost use Rattle.uri_pct.specs.Texts.{has_hex_digits_after};
-ghost use Rattle.uri_pct.specs.Models.LaneMasks.{bytes_of_masks, bit_in_mask_byte};
-ghost use Rattle.uri_pct.specs.Models.LaneMasks.{is_lane_of_octet};
+ghost use Rattle.uri_pct.specs.Models.LaneMasks.{bytes_of_masks, bit_in_mask_byte, is_lane_of_octet};
 ghost use Rattle.uri_pct.specs.Masks.{has_bit, HasHexDigits};
 ghost use Rattle.uri_pct.specs.declared.table.characters.TheConstants.{HEXDIG_LOW, HEXDIG_HIGH};
 

@@ -4,8 +4,7 @@
 #[doc(hidden)]
 pub mod tables;
 
-ghost use Rattle.std.specs.Prelude.{◌≡◌, ◌↔◌, ◌<◌, ◌/◌, ◌%◌, ◌&&◌, ℕ, Bool, true, false, List, ◌∷◌};
-ghost use Rattle.std.specs.Prelude.{◌++◌, ◌≤◌, map, take, All};
+ghost use Rattle.std.specs.Prelude.{◌≡◌, ◌↔◌, ◌<◌, ◌/◌, ◌%◌, ◌&&◌, ℕ, Bool, true, false, List, ◌∷◌, ◌++◌, ◌≤◌, map, take, All};
 ghost use Rattle.std.specs.Char.{IsScalar, encode_utf8};
 ghost use Rattle.std.specs.Fmt.{digit_glyph};
 ghost use Rattle.std.specs.List.{list_all, list_any};
@@ -15,16 +14,10 @@ ghost use Rattle.uri_pct.specs.Delimiters.{percent_sign};
 ghost use Rattle.uri_pct.specs.Encoding.{encode_text, encode_bytes};
 ghost use Rattle.uri_pct.specs.Sets.{TableSet, LacksPercent, IsSubset, unreserved_set};
 ghost use Rattle.uri_pct.specs.Representation.{Represents, RepresentsWithin};
-ghost use Rattle.uri_pct.specs.Tokens.{Token, Char, Octet, tokens, bytes_decoded_from, print};
-ghost use Rattle.uri_pct.specs.Tokens.{allows_token, IsValidFor};
-ghost use Rattle.uri_pct.specs.Pieces.{WellFormed, IsOfCharacter, is_well_formed};
-ghost use Rattle.uri_pct.specs.Pieces.{begins_with_continuation};
-ghost use Rattle.uri_pct.specs.Pieces.{bytes_of_pieces, utf8_pieces, lossy_text};
+ghost use Rattle.uri_pct.specs.Tokens.{Token, Char, Octet, tokens, bytes_decoded_from, print, allows_token, IsValidFor};
+ghost use Rattle.uri_pct.specs.Pieces.{WellFormed, IsOfCharacter, is_well_formed, begins_with_continuation, bytes_of_pieces, utf8_pieces, lossy_text};
 ghost use Rattle.uri_pct.specs.Prefixes.{valid_prefix};
-ghost use Rattle.uri_pct.specs.DecodeUnreserved.{LacksPastAscii, is_literal_formatting};
-ghost use Rattle.uri_pct.specs.DecodeUnreserved.{is_printable};
-ghost use Rattle.uri_pct.specs.DecodeUnreserved.{is_decodable, lower_token};
-ghost use Rattle.uri_pct.specs.DecodeUnreserved.{decode_octet, decode_tokens, decode_unreserved};
+ghost use Rattle.uri_pct.specs.DecodeUnreserved.{LacksPastAscii, is_literal_formatting, is_printable, is_decodable, lower_token, decode_octet, decode_tokens, decode_unreserved};
 
 /// Printable tokens are the tokens of their printed text. If a text is valid for a set, its tokens
 /// are printable (RFC 3986, sections 2.1 and 6.2.2.1).

@@ -1,6 +1,5 @@
 //! Texts that are percent-encoded over an encoder's set (RFC 3986, section 2.1).
-ghost use Rattle.std.specs.Prelude.{◌≡◌, ◌==◌, ◌↔◌, IsSome, IfSome, IsTrue, true, false, length};
-ghost use Rattle.std.specs.Prelude.{not};
+ghost use Rattle.std.specs.Prelude.{◌≡◌, ◌==◌, ◌↔◌, IsSome, IfSome, IsTrue, true, length, not};
 ghost use Rattle.uri_pct.specs.Sets.{IsSubset};
 ghost use Rattle.uri_pct.specs.Tokens.{Octet, text_of_token, is_valid_for, IsValidFor};
 ghost use Rattle.uri_pct.specs.Texts.{is_unencoded, is_absolute};

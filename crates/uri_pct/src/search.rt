@@ -1,6 +1,5 @@
 //! The search for a byte, sixteen bytes at a time.
-ghost use Rattle.std.specs.Prelude.{◌≡◌, ◌+◌, ◌≤◌, ◌<◌, ◌==◌, ◌&&◌, ◌||◌, ℕ, false, length};
-ghost use Rattle.std.specs.Prelude.{not, slice_index};
+ghost use Rattle.std.specs.Prelude.{◌≡◌, ◌+◌, ◌≤◌, ◌<◌, ◌==◌, ◌&&◌, ◌||◌, ℕ, false, length, not, slice_index};
 ghost use Rattle.uri_pct.specs.Delimiters.{full_stop, percent_sign, slash};
 ghost use Rattle.uri_pct.specs.Models.ByteRuns.{IsLongestRun};
 

@@ -1,6 +1,5 @@
 //! Texts cut at delimiters (RFC 3986, section 2.2).
-ghost use Rattle.std.specs.Prelude.{◌≡◌, ◌==◌, IsTrue, IfSome, MatchOption, true, drop, is_some};
-ghost use Rattle.std.specs.Prelude.{length, ◌<◌, ◌^◌};
+ghost use Rattle.std.specs.Prelude.{◌≡◌, ◌==◌, IsTrue, IfSome, MatchOption, true, drop, is_some, length, ◌<◌, ◌^◌};
 ghost use Rattle.std.specs.List.{slice_split, join_with_byte, AllPass};
 ghost use Rattle.uri_pct.specs.Delimiters.{slash};
 ghost use Rattle.uri_pct.specs.Sets.{is_reserved};
@@ -41,8 +40,7 @@ impl<'a, E: Encoder> Clone for Split<'a, E> {
 
 impl<'a, E: Encoder> Iterator for Split<'a, E> {
     ghost use Rattle.std.specs.Iterator.{YieldsFirstBy, item_count};
-    ghost use Rattle.uri_pct.specs.EncodedTexts.{text_of};
-    ghost use Rattle.uri_pct.specs.EncodedTexts.{substrings_left};
+    ghost use Rattle.uri_pct.specs.EncodedTexts.{text_of, substrings_left};
 
     type Item = EStr<'a, E>;
 
@@ -68,8 +66,7 @@ impl<'a, E: Encoder> Iterator for Split<'a, E> {
 
 impl<'a, E: Encoder> DoubleEndedIterator for Split<'a, E> {
     ghost use Rattle.std.specs.Iterator.{YieldsLastBy};
-    ghost use Rattle.uri_pct.specs.EncodedTexts.{text_of};
-    ghost use Rattle.uri_pct.specs.EncodedTexts.{substrings_left};
+    ghost use Rattle.uri_pct.specs.EncodedTexts.{text_of, substrings_left};
 
     ghost next_back_gives = { YieldsLastBy text_of substrings_left };
 
@@ -92,8 +89,7 @@ impl<'a, E: Encoder> DoubleEndedIterator for Split<'a, E> {
 impl<'a, E: Encoder> FusedIterator for Split<'a, E> {}
 
 impl<'a, E: Encoder> EStr<'a, E> {
-    ghost use Rattle.uri_pct.specs.EncodedTexts.{text_of};
-    ghost use Rattle.uri_pct.specs.EncodedTexts.{substrings_left};
+    ghost use Rattle.uri_pct.specs.EncodedTexts.{text_of, substrings_left};
 
     /// Returns what is before the first `delimiter` and what is after it, or `None` exactly if
     /// there is none.
@@ -186,8 +182,7 @@ impl<'a, E: Encoder> EStr<'a, E> {
 }
 
 impl<'a, E: PathEncoder> EStr<'a, E> {
-    ghost use Rattle.uri_pct.specs.EncodedTexts.{text_of};
-    ghost use Rattle.uri_pct.specs.EncodedTexts.{substrings_left};
+    ghost use Rattle.uri_pct.specs.EncodedTexts.{text_of, substrings_left};
 
     /// Returns the segments of the path (RFC 3986, section 3.3), or `None` exactly if the path does
     /// not begin with `/`. The segments are what is after the first `/`, cut at each further `/`.

@@ -1,12 +1,10 @@
 //! Sets of characters (RFC 3986, appendix A; RFC 3987, section 2.2).
-ghost use Rattle.std.specs.Prelude.{◌≡◌, ◌<◌, ◌↔◌, ◌==◌, ◌&&◌, ◌||◌, ℕ, IfSome, IsSome, IsTrue};
-ghost use Rattle.std.specs.Prelude.{true, false};
+ghost use Rattle.std.specs.Prelude.{◌≡◌, ◌<◌, ◌↔◌, ◌==◌, ◌&&◌, ◌||◌, ℕ, IfSome, IsSome, IsTrue, true, false};
 ghost use Rattle.std.specs.Int.{bit_at, is_in_range};
 ghost use Rattle.std.specs.List.{list_all};
 ghost use Rattle.uri_pct.specs.Masks.{has_bit, is_unencoded_ascii};
 ghost use Rattle.uri_pct.specs.DecodeUnreserved.{is_decodable};
-ghost use Rattle.uri_pct.specs.Sets.{allows, allows_past_ascii, is_ucschar, is_iprivate, is_one_of};
-ghost use Rattle.uri_pct.specs.Sets.{characters_only, union, difference, IsSubset};
+ghost use Rattle.uri_pct.specs.Sets.{allows, allows_past_ascii, is_ucschar, is_iprivate, is_one_of, characters_only, union, difference, IsSubset};
 
 #[doc(hidden)]
 pub mod characters;

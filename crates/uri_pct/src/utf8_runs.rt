@@ -1,14 +1,11 @@
 //! Octets that are decoded as UTF-8.
-ghost use Rattle.std.specs.Prelude.{◌≡◌, ◌<◌, IfOk, OnOk, IsTrue, List, [], ◌∷◌, ◌++◌};
-ghost use Rattle.std.specs.Prelude.{length, map};
+ghost use Rattle.std.specs.Prelude.{◌≡◌, ◌<◌, IfOk, OnOk, IsTrue, List, [], ◌∷◌, ◌++◌, length, map};
 ghost use Rattle.std.specs.Str.{IsUtf8};
 ghost use Rattle.uri_pct.specs.Chunks.{Chunk, Byte};
 ghost use Rattle.uri_pct.specs.Decodes.{chunk_of};
 ghost use Rattle.uri_pct.specs.Models.Windows.{window_bytes};
-ghost use Rattle.uri_pct.specs.Parts.{Part, Literal, Decoded, parts, parts_from};
-ghost use Rattle.uri_pct.specs.Parts.{ill_formed_piece_if_any};
-ghost use Rattle.uri_pct.specs.Parts.{ArePastAscii};
-ghost use Rattle.uri_pct.specs.Pieces.{WellFormed, IllFormed, utf8_pieces};
+ghost use Rattle.uri_pct.specs.Parts.{Part, Literal, Decoded, parts, parts_from, ill_formed_piece_if_any, ArePastAscii};
+ghost use Rattle.uri_pct.specs.Pieces.{IllFormed, utf8_pieces};
 
 use crate::decode::{Decode, DecodedChunk};
 use crate::window::{Window, unfinished_len};

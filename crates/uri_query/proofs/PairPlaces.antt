@@ -1,5 +1,5 @@
 -- Where the pairs of a query are, by where its `&` and `=` are.
-use Rattle.std.proofs.Common.{◌≡◌, ℕ, ◌+◌, ◌-◌, ◌<◌, ◌≤◌, true, false, not, eqb, List, [], ◌∷◌, ◌++◌, length, take, drop, get_or, cond, refl, sym, ap, ◌∙◌, arith, ⊎_elim, append-nil, ltb, Some, None, slice_range}
+use Rattle.std.proofs.Common.{◌≡◌, ℕ, ◌+◌, ◌<◌, ◌≤◌, true, false, not, eqb, List, [], ◌∷◌, ◌++◌, length, take, drop, get_or, cond, refl, sym, ap, ◌∙◌, arith, ⊎_elim, append-nil, ltb, Some, None, slice_range}
 use Rattle.std.specs.List.{slice_split}
 use Rattle.std.proofs.lemmas.Bool.{and_parts, and_right, cases_lt, eqb-true, not-true, not-false}
 use Rattle.std.proofs.Math.Seq.{drop-cons}

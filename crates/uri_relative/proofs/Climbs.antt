@@ -1,5 +1,5 @@
 -- Where a path of `../` leads to.
-use Rattle.uri_relative.proofs.Common.{◌≡◌, ℕ, zero, suc, ◌+◌, ◌-◌, Bool, true, false, cond, eqb, List, [], ◌∷◌, ◌++◌, length, take, drop, refl, sym, ap, subst, ◌∙◌, arith, append_assoc, inl, inr, ◌||◌, codes, append-nil, take-append-drop, list_all-append, and_parts, false≢true, nat_tests, IsAbemptyPath, is_empty, IsAbsolute, EndsInSlash, lacks_dot_segments, segments, remove_dot_segments, underflows, directory, pop, pop-undoes-push, pushed-segments-are-not-none, AllPass, is_dotless, step_of, next_output, parent-of-dotless-is-pop, slashed, NoSlashes, lacks_slash, segments-of-slashed-segments, segments-of-text-are-not-none, directory-by-segments, path-after-slash-appends-its-segments, appended-segments-lack-slashes, property-of-path-to-slash-by-segments, property-of-absolute-path-by-segments, segments-of-dotless-path-are-dotless, remove-dots-of-dotless, dotless-path-does-not-underflow, empty-text-is-nil, removing-dots-after-directory, underflow-after-directory, double_dots, slashes, relative_path, relative_from, IsSharedPrefix}
+use Rattle.uri_relative.proofs.Common.{◌≡◌, ℕ, zero, suc, ◌+◌, Bool, true, false, cond, eqb, List, [], ◌∷◌, ◌++◌, length, take, drop, refl, sym, ap, subst, ◌∙◌, arith, append_assoc, inl, inr, ◌||◌, codes, append-nil, take-append-drop, list_all-append, and_parts, false≢true, nat_tests, IsAbemptyPath, is_empty, IsAbsolute, EndsInSlash, lacks_dot_segments, segments, remove_dot_segments, underflows, directory, pop, pop-undoes-push, pushed-segments-are-not-none, AllPass, is_dotless, step_of, next_output, parent-of-dotless-is-pop, slashed, NoSlashes, lacks_slash, segments-of-slashed-segments, segments-of-text-are-not-none, directory-by-segments, path-after-slash-appends-its-segments, appended-segments-lack-slashes, property-of-path-to-slash-by-segments, property-of-absolute-path-by-segments, segments-of-dotless-path-are-dotless, remove-dots-of-dotless, dotless-path-does-not-underflow, empty-text-is-nil, removing-dots-after-directory, underflow-after-directory, double_dots, slashes, relative_path, relative_from, IsSharedPrefix}
 use Rattle.std.proofs.lemmas.List.Splits.{length-slice_split}
 use Rattle.uri_ops.proofs.Offered.{is_none, underflows_at}
 

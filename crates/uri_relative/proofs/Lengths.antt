@@ -1,5 +1,5 @@
 -- How long the two paths are that lead to a path.
-use Rattle.uri_relative.proofs.Common.{◌≡◌, ℕ, zero, suc, ◌+◌, ◌*◌, ◌<◌, ◌≤◌, ◌/◌, Bool, true, false, List, [], ◌∷◌, ◌++◌, length, refl, sym, ap, ◌∙◌, arith, codes, length-append, false≢true, leb-true, nat_tests, is_empty, double_dots, relative_path}
+use Rattle.uri_relative.proofs.Common.{◌≡◌, ℕ, zero, suc, ◌+◌, ◌*◌, ◌<◌, ◌≤◌, ◌/◌, Bool, true, false, List, [], ◌∷◌, ◌++◌, length, refl, arith, length-append, false≢true, leb-true, nat_tests, is_empty, double_dots, relative_path}
 use Rattle.std.proofs.lemmas.Nat.{div-add-mod', mod_below}
 use mir.Val.{bool_byte}
 use lib.Dec.{leb}

@@ -1,6 +1,6 @@
 -- Each path that is joined to a base's and leads to a path: where it leads, and how short one is
 -- that leads there, where the base's path has no dot segment.
-use Rattle.uri_relative.proofs.Common.{◌≡◌, ◌⊎◌, ℕ, suc, ◌+◌, ◌*◌, ◌<◌, ◌≤◌, Bool, true, false, not, cond, eqb, List, [], ◌∷◌, ◌++◌, ◌||◌, length, take, drop, refl, sym, ap, subst, ◌∙◌, arith, append_assoc, inl, inr, ⊎_elim, codes, cond-true, false≢true, not_from_false, or_parts, is_one_of, starts, has_colon_in_first_segment, has_slash, is_empty, remove_dot_segments, segments, path-after-slash-appends-its-segments, not-empty-has-length, AllPass, appended-segments-pass-test, dotless_of-append, is_dotless, steps-of-dotless-append-all, NoSlashes, first-segment-and-rest-lack-slashes, is_one_of-slash-is-equality, lacks_slash, remove-dots-by-segments, segments-of-text-lack-slashes, segments-of-text-are-not-none, slashed, slashed-of-append, slashed-of-push, slashed-of-segments-is-text-after-slash, needs_leading_dot, relative_path}
+use Rattle.uri_relative.proofs.Common.{◌≡◌, ◌⊎◌, ℕ, suc, ◌+◌, ◌*◌, ◌<◌, ◌≤◌, Bool, true, false, not, cond, eqb, List, [], ◌∷◌, ◌++◌, ◌||◌, length, drop, refl, sym, ap, subst, ◌∙◌, arith, append_assoc, inl, inr, codes, cond-true, false≢true, not_from_false, or_parts, is_one_of, starts, has_colon_in_first_segment, has_slash, is_empty, remove_dot_segments, segments, path-after-slash-appends-its-segments, not-empty-has-length, AllPass, appended-segments-pass-test, dotless_of-append, is_dotless, steps-of-dotless-append-all, NoSlashes, first-segment-and-rest-lack-slashes, is_one_of-slash-is-equality, lacks_slash, remove-dots-by-segments, segments-of-text-lack-slashes, segments-of-text-are-not-none, slashed, slashed-of-append, slashed-of-push, slashed-of-segments-is-text-after-slash, needs_leading_dot, relative_path}
 use Rattle.std.specs.List.{list_any, prefix_len}
 use Rattle.uri_ops.proofs.Offered.{is_none}
 use Rattle.uri_relative.proofs.Climbs.{dir}

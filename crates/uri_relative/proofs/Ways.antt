@@ -1,5 +1,5 @@
 -- The two paths that lead to a path.
-use Rattle.uri_relative.proofs.Common.{◌≡◌, ℕ, zero, suc, ◌+◌, ◌-◌, ◌<◌, ◌≤◌, Bool, true, false, not, cond, eqb, List, [], ◌∷◌, ◌++◌, ◌&&◌, length, take, drop, get_or, refl, sym, ap, ◌∙◌, subst, inr, arith, lit<, append_assoc, codes, None, OnOk, Result, Ok, Err, length-drop, take-append-drop, IsCharBoundary-after_ascii, list_all-append, and_parts, cond-false, nat_tests, slash, TableSet, allows, is_one_of, starts, has_authority, has_colon_in_first_segment, is_empty, IsAbsolute, lacks_dot_segments, directory, remove_dot_segments, underflows, guarded, merged, is_set_text, set-text-from-utf8, set-text-is-valid, remove-dots-of-dotless, dotless-path-does-not-underflow, dot-is-set-text, guarded-set-text-is-set-text, slashed, absolute-path-is-slash-and-rest, double_dots, relative_path, relative_from, needs_leading_dot, slashes, IsSharedPrefix, IsPathTo, joined_path}
+use Rattle.uri_relative.proofs.Common.{◌≡◌, ℕ, zero, suc, ◌+◌, ◌<◌, ◌≤◌, Bool, true, false, not, cond, eqb, List, [], ◌∷◌, ◌++◌, ◌&&◌, length, take, drop, get_or, refl, sym, ap, ◌∙◌, subst, inr, arith, lit<, append_assoc, codes, None, OnOk, Result, Ok, Err, length-drop, take-append-drop, IsCharBoundary-after_ascii, list_all-append, and_parts, cond-false, nat_tests, slash, TableSet, allows, is_one_of, starts, has_authority, has_colon_in_first_segment, is_empty, IsAbsolute, lacks_dot_segments, directory, remove_dot_segments, underflows, guarded, merged, is_set_text, set-text-from-utf8, set-text-is-valid, remove-dots-of-dotless, dotless-path-does-not-underflow, dot-is-set-text, guarded-set-text-is-set-text, slashed, absolute-path-is-slash-and-rest, double_dots, relative_path, relative_from, needs_leading_dot, slashes, IsSharedPrefix, IsPathTo, joined_path}
 use Rattle.std.specs.List.{list_all}
 use Rattle.std.specs.Str.{IsUtf8, IsCharBoundary, chars}
 use Rattle.uri_pct.specs.Tokens.{is_valid_for, tokens_from_chars}

@@ -2,8 +2,7 @@
 ghost use Rattle.std.specs.Prelude.{◌≡◌, ℕ, List, Ok, false, is_some, true};
 ghost use Rattle.uri_parts.specs.Components.{components, recompose};
 ghost use Rattle.uri_ops.specs.Target.{is_opaque, resolution_of_texts};
-ghost use Rattle.uri_relative.specs.Leading.{LeadsTo, NeedsSchemeOrAuthority, needs_authority};
-ghost use Rattle.uri_relative.specs.Leading.{settled};
+ghost use Rattle.uri_relative.specs.Leading.{LeadsTo, NeedsSchemeOrAuthority, needs_authority, settled};
 
 /// If a target was resolved against a base, every reference that leads from the base to it resolves
 /// to it again (RFC 3986, section 5.2).

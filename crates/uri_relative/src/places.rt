@@ -1,7 +1,6 @@
 //! The positions of a reference that is a suffix of a target's text, or a path before one (RFC
 //! 3986, section 4.2).
-ghost use Rattle.std.specs.Prelude.{◌≡◌, ◌≤◌, ◌+◌, ◌-◌, ◌^◌, ℕ, List, [], IfSome, None, length};
-ghost use Rattle.std.specs.Prelude.{option_map};
+ghost use Rattle.std.specs.Prelude.{◌≡◌, ◌≤◌, ◌+◌, ◌-◌, ◌^◌, ℕ, List, [], IfSome, None, length, option_map};
 ghost use Rattle.uri_parts.specs.Components.{Components};
 ghost use Rattle.uri_parts.specs.Positions.{authority_at, delimited_length, positions_of};
 ghost use Rattle.uri_ops.specs.Resolving.{components_of};

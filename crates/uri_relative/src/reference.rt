@@ -5,8 +5,7 @@ ghost use Rattle.uri_pct.specs.Texts.{Pushes};
 ghost use Rattle.uri_parts.specs.Components.{Components, recompose, starts};
 ghost use Rattle.uri_parts.specs.Positions.{positions_of};
 ghost use Rattle.uri_ops.specs.Resolving.{components_of, with_final_path};
-ghost use Rattle.uri_relative.specs.Forms.{IsReferenceOfEachKind, IsTextOfReference};
-ghost use Rattle.uri_relative.specs.Forms.{IsUnguarded, NeedsPath, NeedsRelativePath, is_guarded};
+ghost use Rattle.uri_relative.specs.Forms.{IsReferenceOfEachKind, IsTextOfReference, IsUnguarded, NeedsPath, NeedsRelativePath, is_guarded};
 ghost use Rattle.uri_relative.specs.Rule.{reference_components};
 
 use crate::ends::TargetSuffix;

@@ -1,9 +1,7 @@
 //! The law of `urilines check`. A law is a function that does nothing, and its contract states it.
 ghost use Rattle.std.specs.Prelude.{◌≡◌, Bool, List, false, true, ℕ};
 ghost use Rattle.std.specs.List.{AllPass, concat, filter};
-ghost use Rattle.uri_streams.specs.Checks.{AreMergedFrom, checking, is_passed, is_within_maximum};
-ghost use Rattle.uri_streams.specs.Checks.{lines_for, lines_within_maximum, output_for};
-ghost use Rattle.uri_streams.specs.Checks.{passes_over_errors};
+ghost use Rattle.uri_streams.specs.Checks.{AreMergedFrom, checking, is_passed, is_within_maximum, lines_for, lines_within_maximum, output_for, passes_over_errors};
 ghost use Rattle.uri_commands.specs.declared.kinds.KindName.{KindName};
 ghost use Rattle.uri_streams.specs.declared.job.Job.{Job};
 

@@ -1,9 +1,7 @@
 //! What a command gets of a line: its text, or one of its fields.
-ghost use Rattle.std.specs.Prelude.{◌≡◌, ◌+◌, ◌≤◌, MatchOption, None, Some, drop, length};
-ghost use Rattle.std.specs.Prelude.{slice_get, slice_range};
+ghost use Rattle.std.specs.Prelude.{◌≡◌, ◌+◌, ◌≤◌, MatchOption, None, Some, drop, length, slice_get, slice_range};
 ghost use Rattle.uri_streams.specs.Fields as spec;
-ghost use Rattle.uri_streams.specs.Fields.{IsFieldStart, bounded_cut, cut_of, field_cut};
-ghost use Rattle.uri_streams.specs.Fields.{fields_after_delimiters, fields_of};
+ghost use Rattle.uri_streams.specs.Fields.{IsFieldStart, bounded_cut, field_cut, fields_after_delimiters, fields_of};
 ghost use Rattle.uri_streams.specs.Returned.{cut_in, text_in};
 
 use crate::fault::NoText;

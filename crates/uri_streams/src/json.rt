@@ -6,8 +6,7 @@ ghost use Rattle.fluent_uri.specs.Components.{components};
 ghost use Rattle.fluent_uri.specs.Hosts.{host_kind};
 ghost use Rattle.fluent_uri.specs.Iris.{iri_ref_text};
 ghost use Rattle.uri_streams.specs.Json as spec;
-ghost use Rattle.uri_streams.specs.Json.{authority_members, host_members, json_of, member};
-ghost use Rattle.uri_streams.specs.Json.{member_after, member_before, authority_component_members};
+ghost use Rattle.uri_streams.specs.Json.{authority_members, host_members, json_of, member, member_after, member_before, authority_component_members};
 
 use fluent_uri::IriRef;
 use fluent_uri::component::{IAuthority, IHost, Scheme};

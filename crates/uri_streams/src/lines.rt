@@ -2,8 +2,7 @@
 ghost use Rattle.std.specs.Prelude.{◌≡◌, IfOk, IfSome, None, OnErr, OnOk};
 ghost use Rattle.std.specs.Io.Buffered.{reader_remaining};
 ghost use Rattle.std.specs.Io.KnownBytes.{IsAtEnd, Keeps};
-ghost use Rattle.uri_streams.specs.Models.{FailsInWriting, IsFlushedIfDrained, KeepsFailures};
-ghost use Rattle.uri_streams.specs.Models.{ReadsPartOfLine, ReadsFirstLine};
+ghost use Rattle.uri_streams.specs.Models.{FailsInWriting, IsFlushedIfDrained, KeepsFailures, ReadsPartOfLine, ReadsFirstLine};
 
 use crate::failure::Cause;
 use crate::source::Source;

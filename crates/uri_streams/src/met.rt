@@ -1,6 +1,5 @@
 //! The texts that were met.
-ghost use Rattle.std.specs.Prelude.{◌≡◌, false, true, bytes_eq, if◌then◌else◌, ℕ, List};
-ghost use Rattle.std.specs.Prelude.{OnOk, string_bytes};
+ghost use Rattle.std.specs.Prelude.{◌≡◌, false, true, bytes_eq, if◌then◌else◌, ℕ, List, OnOk, string_bytes};
 ghost use Rattle.std.specs.HashSet.{contains_text};
 
 use std::alloc::{AllocError, Global};

@@ -1,13 +1,10 @@
 //! Writing the output of a line.
-ghost use Rattle.std.specs.Prelude.{◌≡◌, ◌||◌, ◌++◌, ◌+◌, IfErr, IfOk, OnOk, string_bytes};
-ghost use Rattle.std.specs.Prelude.{◌&&◌, IsTrue, false, not, true};
+ghost use Rattle.std.specs.Prelude.{◌≡◌, ◌||◌, ◌++◌, ◌+◌, IfErr, IfOk, OnOk, string_bytes, ◌&&◌, IsTrue, false, not, true};
 ghost use Rattle.std.specs.Io.KnownBytes.{Appends};
 ghost use Rattle.uri_commands.specs.Prefixes.{AppendsPrefix};
-ghost use Rattle.uri_streams.specs.Outputs.{error_output, error_report, is_stop, result_output};
-ghost use Rattle.uri_streams.specs.Outputs.{reported_error, result_report};
+ghost use Rattle.uri_streams.specs.Outputs.{error_output, error_report, is_stop, result_output, reported_error, result_report};
 ghost use Rattle.uri_streams.specs.Returned.{result_in, line_error_message};
-ghost use Rattle.uri_streams.specs.Models.{FailsInWriting, IsCutLine, WritesLineOutput};
-ghost use Rattle.uri_streams.specs.Models.{WritesOutputPrefix, WritesResult};
+ghost use Rattle.uri_streams.specs.Models.{FailsInWriting, IsCutLine, WritesLineOutput, WritesOutputPrefix, WritesResult};
 ghost use Rattle.uri_streams.specs.Runs.{Reports, ReportsPrefix, error_output_of};
 ghost use Rattle.uri_commands.specs.Sinks.{KeepsFinalError};
 

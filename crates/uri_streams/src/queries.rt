@@ -3,9 +3,7 @@ ghost use Rattle.std.specs.Prelude.{◌≡◌, ◌++◌, ◌<◌, IfOk, OnOk, ma
 ghost use Rattle.uri_query.specs.Pairs.{pair_texts};
 ghost use Rattle.fluent_uri.specs.EncodedTexts.{text_of};
 ghost use Rattle.uri_streams.specs.Queries as spec;
-ghost use Rattle.uri_streams.specs.Queries.{control_json, escaped_char, escaped_text};
-ghost use Rattle.uri_streams.specs.Queries.{following_pairs_json, pair_json, pairs_json};
-ghost use Rattle.uri_streams.specs.Queries.{pairs_of_query};
+ghost use Rattle.uri_streams.specs.Queries.{control_json, escaped_char, escaped_text, following_pairs_json, pair_json, pairs_json, pairs_of_query};
 
 use fluent_uri::pct_enc::EStr;
 use fluent_uri::pct_enc::encoder::IQuery;

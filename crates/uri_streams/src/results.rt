@@ -3,8 +3,7 @@ ghost use Rattle.std.specs.Prelude.{◌≡◌, IfOk};
 ghost use Rattle.fluent_uri.specs.Grammar as test;
 ghost use Rattle.uri_commands.specs.Kinds.{kind_named};
 ghost use Rattle.uri_streams.specs.Results as results;
-ghost use Rattle.uri_streams.specs.Results.{check_result, normalize_result, parse_result};
-ghost use Rattle.uri_streams.specs.Results.{passes_check, query_result};
+ghost use Rattle.uri_streams.specs.Results.{check_result, normalize_result, parse_result, passes_check, query_result};
 ghost use Rattle.uri_streams.specs.Returned.{IsTextOrError, result_in};
 
 use crate::json::json;

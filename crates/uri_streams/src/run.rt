@@ -1,14 +1,11 @@
 //! Processing each line of an input.
-ghost use Rattle.std.specs.Prelude.{◌≡◌, ◌||◌, ◌+◌, ◌-◌, ◌^◌, min, IfErr, IfOk, true};
-ghost use Rattle.std.specs.Prelude.{if◌then◌else◌, ◌∷◌, [], List, None, IfSome, OnOk, Option};
+ghost use Rattle.std.specs.Prelude.{◌≡◌, ◌||◌, ◌+◌, ◌-◌, ◌^◌, min, IfErr, IfOk, true, if◌then◌else◌, ◌∷◌, [], List, None, IfSome, OnOk, Option};
 ghost use Rattle.std.specs.Io.KnownBytes.{Keeps};
 ghost use Rattle.std.specs.Io.Buffered.{reader_remaining};
-ghost use Rattle.uri_streams.specs.Causes.{HasFinalError, is_input, is_input_cause, is_output};
-ghost use Rattle.uri_streams.specs.Causes.{is_output_cause, reading_failed, writing_failed};
+ghost use Rattle.uri_streams.specs.Causes.{HasFinalError, is_input, is_input_cause, is_output, is_output_cause, reading_failed, writing_failed};
 ghost use Rattle.uri_streams.specs.declared.failure.Cause.{Cause};
 ghost use Rattle.uri_streams.specs.Models.{FailsInWriting, IsStepOf, KeepsFailures};
-ghost use Rattle.uri_streams.specs.Runs.{FailsAfterPrefix, LeavesRest, Sees, StopsAfterPrefix};
-ghost use Rattle.uri_streams.specs.Runs.{WritesOutput, error_output_of};
+ghost use Rattle.uri_streams.specs.Runs.{FailsAfterPrefix, LeavesRest, Sees, StopsAfterPrefix, WritesOutput, error_output_of};
 
 use crate::failure::{Cause, Failure};
 use crate::job::Job;

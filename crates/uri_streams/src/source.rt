@@ -1,7 +1,5 @@
 //! A reader that says whether it failed.
-ghost use Rattle.std.specs.Prelude.{◌≡◌, ◌≢◌, ◌-◌, ◌<◌, ◌≤◌, ◌++◌, ◌||◌, ℕ, List, All, IfErr, IfOk};
-ghost use Rattle.std.specs.Prelude.{IfSome, IsTrue, None, OnErr, OnSome, Some, length, slice_index};
-ghost use Rattle.std.specs.Prelude.{true, false, [], ◌↔◌, ◌&&◌, ◌+◌, ◌^◌, ◌==◌, nat_le, not, take};
+ghost use Rattle.std.specs.Prelude.{◌≡◌, ◌≢◌, ◌-◌, ◌<◌, ◌≤◌, ◌++◌, ◌||◌, ℕ, List, All, IfErr, IfOk, IfSome, IsTrue, None, OnErr, OnSome, Some, length, slice_index, true, false, [], ◌↔◌, ◌&&◌, ◌+◌, ◌^◌, ◌==◌, nat_le, not, take};
 ghost use Rattle.std.specs.Int.{bit_at};
 ghost use Rattle.std.specs.IoError.{error_kind};
 ghost use Rattle.uri_pct.specs.Models.ByteRuns.{IsLongestRun};
@@ -10,8 +8,7 @@ ghost use Rattle.std.specs.Io.BufRead.{DropsConsumable};
 ghost use Rattle.std.specs.Io.Buffered.{reader_buffer, reader_remaining};
 ghost use Rattle.std.specs.Io.KnownBytes.{Consumes, IsAtEnd, Keeps};
 ghost use Rattle.uri_commands.specs.Sinks.{KeepsFinalError};
-ghost use Rattle.uri_streams.specs.Causes.{caused_by_input, caused_by_output, is_input_cause};
-ghost use Rattle.uri_streams.specs.Causes.{is_output_cause};
+ghost use Rattle.uri_streams.specs.Causes.{caused_by_input, caused_by_output, is_input_cause, is_output_cause};
 ghost use Rattle.uri_streams.specs.Lines.{end_byte, has_return, return_after};
 ghost use Rattle.uri_streams.specs.Models.{IsBufferedLine, IsCutLine, IsFlushedIfDrained};
 ghost use Rattle.uri_streams.specs.Outputs as outputs;

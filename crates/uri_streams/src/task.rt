@@ -12,8 +12,7 @@ ghost use Rattle.uri_commands.specs.Kinds.{kind_named};
 ghost use Rattle.uri_streams.specs.Results.{Text};
 ghost use Rattle.uri_streams.specs.Returned.{IsResult, result_in, text_in};
 ghost use Rattle.uri_streams.specs.Tasks as tasks;
-ghost use Rattle.uri_streams.specs.Tasks.{HasMet, Remembers, cut_result, link_result};
-ghost use Rattle.uri_streams.specs.Tasks.{noted_result, unique_result};
+ghost use Rattle.uri_streams.specs.Tasks.{HasMet, Remembers, cut_result, link_result, noted_result, unique_result};
 ghost use Rattle.uri_streams.specs.declared.command.Command.{Command};
 
 use crate::command::{Command, LineCommand};

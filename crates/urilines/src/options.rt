@@ -1,7 +1,6 @@
 //! The command line.
-ghost use Rattle.std.specs.Prelude.{◌≡◌, IfOk, None, Some, codes, false, is_some, option_map};
-ghost use Rattle.std.specs.Prelude.{true};
-ghost use Rattle.clap.specs.Matches.{first_value, found_of, matched_of, one_text};
+ghost use Rattle.std.specs.Prelude.{◌≡◌, IfOk, None, Some, codes, is_some, option_map, true};
+ghost use Rattle.clap.specs.Matches.{first_value, found_of, matched_of};
 ghost use Rattle.urilines.specs.Words.{IsFlag, IsKindNamed, IsModeNamed};
 
 use crate::table::{

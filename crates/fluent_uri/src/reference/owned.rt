@@ -1,6 +1,5 @@
 //! Calls of a reference that owns its text.
-ghost use Rattle.std.specs.Prelude.{◌↔◌, ◌≡◌, IfErr, IfOk, IsOk, MatchResult, None, OnErr};
-ghost use Rattle.std.specs.Prelude.{OnOk, Some, option_map, string_bytes};
+ghost use Rattle.std.specs.Prelude.{◌↔◌, ◌≡◌, IfErr, IfOk, IsOk, MatchResult, None, OnErr, OnOk, Some, option_map, string_bytes};
 ghost use Rattle.std.specs.Result.{result_err};
 ghost use Rattle.uri_pct.specs.EncodedTexts.{text_of};
 ghost use Rattle.uri_parts.specs.AuthorityTexts.{authority_text};

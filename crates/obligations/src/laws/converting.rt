@@ -5,8 +5,7 @@ ghost use Rattle.fluent_uri.specs.Encoded.{encode_past_ascii};
 ghost use Rattle.fluent_uri.specs.Grammar.{iri};
 ghost use Rattle.fluent_uri.specs.Normalizers.{IsNormalForm};
 ghost use Rattle.fluent_uri.specs.SchemeRules.{default_rules};
-ghost use Rattle.fluent_uri.specs.Iris.{iri_ref_text};
-ghost use Rattle.fluent_uri.specs.Iris.{iri_text};
+ghost use Rattle.fluent_uri.specs.Iris.{iri_ref_text, iri_text};
 ghost use Rattle.fluent_uri.specs.Resolving.{IsTarget};
 ghost use Rattle.fluent_uri.specs.Uris.{uri_text};
 

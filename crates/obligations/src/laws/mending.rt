@@ -1,8 +1,7 @@
 //! Texts that are mended (RFC 3986, sections 2.1 and 4.2).
-ghost use Rattle.std.specs.Prelude.{◌≡◌, ℕ, List, IfOk, IsOk, option_map, string_bytes, true};
+ghost use Rattle.std.specs.Prelude.{◌≡◌, ℕ, List, option_map, true};
 ghost use Rattle.std.specs.List.{flat_map};
 ghost use Rattle.fluent_uri.specs.Components.{components};
-ghost use Rattle.fluent_uri.specs.EncodedTexts.{text_of};
 ghost use Rattle.fluent_uri.specs.Encoded.{ascii_kind, encode_past_ascii};
 ghost use Rattle.fluent_uri.specs.Grammar.{IsOfKind, iri_ref, uri_ref};
 ghost use Rattle.fluent_uri.specs.Sets.{path_set};

@@ -1,8 +1,7 @@
 //! Resolving and normalising, in either order (RFC 3986, sections 5.2 and 6.2.2).
 ghost use Rattle.std.specs.Prelude.{◌≡◌, IfOk};
 ghost use Rattle.fluent_uri.specs.Grammar.{iri};
-ghost use Rattle.fluent_uri.specs.Iris.{iri_ref_text};
-ghost use Rattle.fluent_uri.specs.Iris.{iri_text};
+ghost use Rattle.fluent_uri.specs.Iris.{iri_ref_text, iri_text};
 ghost use Rattle.fluent_uri.specs.NormalTargets.{IsNormalFormOfTarget};
 ghost use Rattle.fluent_uri.specs.SchemeRules.{default_rules};
 ghost use Rattle.fluent_uri.specs.Uris.{uri_text};

@@ -1,14 +1,10 @@
 //! The text that a builder writes, with the lengths of its parts (RFC 3986, section 5.3).
-ghost use Rattle.std.specs.Prelude.{◌≡◌, ◌+◌, ◌++◌, ◌≤◌, IfSome, [], false};
-ghost use Rattle.std.specs.Prelude.{is_none, length, unwrap_or, true, string_bytes};
+ghost use Rattle.std.specs.Prelude.{◌≡◌, ◌+◌, ◌++◌, ◌≤◌, IfSome, [], false, is_none, length, unwrap_or, true, string_bytes};
 ghost use Rattle.uri_pct.specs.Sets.{digit_set};
 ghost use Rattle.uri_pct.specs.Texts.{Pushes};
 ghost use Rattle.uri_parts.specs.Grammar.{has_colon_in_first_segment};
 ghost use Rattle.uri_parts.specs.Positions.{positions_of};
-ghost use Rattle.uri_ops.specs.BuilderParts.{AddsUnlessFailed, as_components, is_text_for};
-ghost use Rattle.uri_ops.specs.BuilderParts.{no_parts, with_authority, with_fragment, with_host};
-ghost use Rattle.uri_ops.specs.BuilderParts.{with_path, with_port, with_query, with_scheme};
-ghost use Rattle.uri_ops.specs.BuilderParts.{with_userinfo};
+ghost use Rattle.uri_ops.specs.BuilderParts.{AddsUnlessFailed, as_components, is_text_for, no_parts, with_authority, with_fragment, with_host, with_path, with_port, with_query, with_scheme, with_userinfo};
 ghost use Rattle.uri_ops.specs.Built.{build_error_of_path};
 ghost use Rattle.uri_ops.specs.Drafts.{IsDraft, after_part};
 ghost use Rattle.uri_ops.specs.HostParts.{IsHostText};
@@ -37,9 +33,7 @@ pub struct Draft {
 }
 
 impl Draft {
-    ghost use Rattle.uri_ops.specs.Builders.{any_authority, draft_parts, ends_in_authority};
-    ghost use Rattle.uri_ops.specs.Builders.{lacks_query_and_fragment, lacks_all, lacks_authority};
-    ghost use Rattle.uri_ops.specs.Builders.{lacks_path};
+    ghost use Rattle.uri_ops.specs.Builders.{any_authority, draft_parts, ends_in_authority, lacks_query_and_fragment, lacks_all, lacks_authority, lacks_path};
     ghost use Rattle.uri_ops.specs.Built.{refusal};
     ghost use Rattle.uri_ops.specs.Models.DraftPlaces.{HasRightHostRange};
 

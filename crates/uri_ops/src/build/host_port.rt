@@ -1,5 +1,5 @@
 //! Hosts and ports as a builder takes them (RFC 3986, sections 3.2.2 and 3.2.3).
-ghost use Rattle.std.specs.Prelude.{◌≡◌, OnOk, codes, true};
+ghost use Rattle.std.specs.Prelude.{◌≡◌, OnOk, true};
 ghost use Rattle.uri_pct.specs.Texts.{Pushes};
 
 use std::alloc::AllocError;

@@ -1,13 +1,5 @@
 //! The order of a builder's steps: which state follows which (RFC 3986, section 3).
-ghost use Rattle.uri_ops.specs.BuilderOrder.{before_authority_is_before_path};
-ghost use Rattle.uri_ops.specs.BuilderOrder.{before_fragment_is_at_end};
-ghost use Rattle.uri_ops.specs.BuilderOrder.{fresh_reference_is_before_authority};
-ghost use Rattle.uri_ops.specs.BuilderOrder.{fresh_reference_is_before_path};
-ghost use Rattle.uri_ops.specs.BuilderOrder.{fresh_reference_is_fresh, in_authority_is_before_path};
-ghost use Rattle.uri_ops.specs.BuilderOrder.{before_port_is_in_authority};
-ghost use Rattle.uri_ops.specs.BuilderOrder.{before_port_is_before_path, before_query_is_at_end};
-ghost use Rattle.uri_ops.specs.BuilderOrder.{before_query_is_before_fragment};
-ghost use Rattle.uri_ops.specs.BuilderOrder.{before_userinfo_is_before_host};
+ghost use Rattle.uri_ops.specs.BuilderOrder.{before_authority_is_before_path, before_fragment_is_at_end, fresh_reference_is_before_authority, fresh_reference_is_before_path, fresh_reference_is_fresh, in_authority_is_before_path, before_port_is_in_authority, before_port_is_before_path, before_query_is_at_end, before_query_is_before_fragment, before_userinfo_is_before_host};
 
 use crate::build::state::{
     AdvanceTo, AuthorityEnd, AuthorityStart, BeginsAuthority, End, FragmentEnd, HostEnd,

@@ -1,8 +1,7 @@
 //! Where the parts of a builder are in its text.
 ghost use Rattle.std.specs.Prelude.{◌≡◌, ◌+◌, ◌≤◌, IfSome, length};
 ghost use Rattle.uri_parts.specs.AuthorityTexts.{authority_text};
-ghost use Rattle.uri_ops.specs.Models.DraftPlaces.{IsHostAt, authority_positions_from_length};
-ghost use Rattle.uri_ops.specs.Models.DraftPlaces.{positions_from_lengths, delimited_len};
+ghost use Rattle.uri_ops.specs.Models.DraftPlaces.{IsHostAt, authority_positions_from_length, positions_from_lengths, delimited_len};
 
 use crate::build::lengths::Lengths;
 use uri_parts::component::Authority;

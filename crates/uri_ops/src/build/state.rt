@@ -1,11 +1,7 @@
 //! The states of a builder (RFC 3986, section 3), and what it holds in each.
 ghost use Rattle.std.specs.Prelude.{◌≡◌, true};
 ghost use Rattle.uri_ops.specs.BuilderParts.{MeetsOrFailed};
-ghost use Rattle.uri_ops.specs.Builders.{draft_parts};
-ghost use Rattle.uri_ops.specs.Builders.{is_at_end, is_before_authority, is_before_fragment};
-ghost use Rattle.uri_ops.specs.Builders.{is_before_host, is_before_path, is_before_port};
-ghost use Rattle.uri_ops.specs.Builders.{is_before_query, is_before_userinfo, is_fresh};
-ghost use Rattle.uri_ops.specs.Builders.{is_fresh_reference, is_in_authority};
+ghost use Rattle.uri_ops.specs.Builders.{draft_parts, is_at_end, is_before_authority, is_before_fragment, is_before_host, is_before_path, is_before_port, is_before_query, is_before_userinfo, is_fresh, is_fresh_reference, is_in_authority};
 ghost use Rattle.uri_ops.specs.Models.DraftPlaces.{HasRightHostRange};
 
 use crate::build::draft::Draft;

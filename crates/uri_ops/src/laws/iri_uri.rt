@@ -4,13 +4,12 @@ ghost use Rattle.std.specs.Prelude.{◌≡◌, ℕ, List};
 ghost use Rattle.std.specs.Result.{result_map_both};
 ghost use Rattle.std.specs.Str.{IsUtf8};
 ghost use Rattle.uri_parts.specs.Components.{components};
-ghost use Rattle.uri_parts.specs.Grammar.{Kind, iri, iri_ref, uri, uri_ref};
+ghost use Rattle.uri_parts.specs.Grammar.{Kind, iri, iri_ref, uri, uri_ref, IsTextOf};
 ghost use Rattle.uri_ops.specs.ComponentSets.{HasComponentSets, IsWithin};
 ghost use Rattle.uri_ops.specs.Encoded.{ascii_kind, encode_past_ascii};
 ghost use Rattle.uri_ops.specs.Meaning.{bare_meaning_of};
 ghost use Rattle.uri_ops.specs.SchemeRules.{Rules, meaning_under};
 ghost use Rattle.uri_ops.specs.Target.{resolution_of_texts, target_underflows};
-ghost use Rattle.uri_parts.specs.Grammar.{IsTextOf};
 
 /// A text of a kind is of each kind with wider sets that needs no scheme where the one does not, as
 /// each URI is an IRI and a URI reference.

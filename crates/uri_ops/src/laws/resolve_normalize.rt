@@ -1,12 +1,11 @@
 //! Laws of targets and their meanings, each the contract of a function that does nothing.
 ghost use Rattle.std.specs.Prelude.{◌≡◌, ℕ, List, true};
-ghost use Rattle.uri_parts.specs.Grammar.{Kind};
+ghost use Rattle.uri_parts.specs.Grammar.{Kind, IsTextOf};
 ghost use Rattle.uri_ops.specs.ComponentSets.{HasComponentSets};
 ghost use Rattle.uri_ops.specs.Normal.{normal_text};
 ghost use Rattle.uri_ops.specs.NormalTargets.{reference_kind, resolved_meaning};
 ghost use Rattle.uri_ops.specs.SchemeRules.{Rules, meaning_under};
 ghost use Rattle.uri_ops.specs.Target.{resolution_of_texts};
-ghost use Rattle.uri_parts.specs.Grammar.{IsTextOf};
 
 /// The target of a reference against a base of a kind is a text of that kind (RFC 3986, section
 /// 5.2).

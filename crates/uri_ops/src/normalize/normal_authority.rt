@@ -1,6 +1,5 @@
 //! Authorities in normal form (RFC 3986, sections 6.2.2 and 6.2.3; RFC 3987, section 5.3.2).
-ghost use Rattle.std.specs.Prelude.{◌≡◌, ◌+◌, [], IfOk, IfSome, OnOk, codes, length};
-ghost use Rattle.std.specs.Prelude.{option_map, string_bytes, true};
+ghost use Rattle.std.specs.Prelude.{◌≡◌, ◌+◌, [], IfOk, IfSome, OnOk, codes, length, option_map, string_bytes, true};
 ghost use Rattle.uri_pct.specs.Delimiters.{left_bracket};
 ghost use Rattle.uri_pct.specs.Texts.{Pushes};
 ghost use Rattle.uri_parts.specs.Authority.{authority_parts};
@@ -10,8 +9,7 @@ ghost use Rattle.uri_parts.specs.Grammar.{Kind};
 ghost use Rattle.uri_parts.specs.Hosts.{host_kind};
 ghost use Rattle.uri_parts.specs.Schemes.{scheme_text};
 ghost use Rattle.uri_ops.specs.Meaning.{authority_meaning, host_meaning, port_meaning};
-ghost use Rattle.uri_ops.specs.Normal.{host_text, normal_part, normal_parts};
-ghost use Rattle.uri_ops.specs.Normal.{default_port_of, normal_authority_with_delimiter};
+ghost use Rattle.uri_ops.specs.Normal.{host_text, normal_part, normal_parts, default_port_of, normal_authority_with_delimiter};
 ghost use Rattle.uri_ops.specs.Models.Unchanged.{IsUnchangedPort};
 ghost use Rattle.uri_ops.specs.Models.Written.{authority_parts_at};
 

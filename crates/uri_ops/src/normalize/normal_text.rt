@@ -1,28 +1,17 @@
 //! The normal text of a value (RFC 3986, section 6.2.2; RFC 3987, section 5.3.2).
-ghost use Rattle.std.specs.Prelude.{◌≡◌, ◌+◌, ◌<◌, ◌∷◌, ℕ, List, Option, [], IfOk, OnOk};
-ghost use Rattle.std.specs.Prelude.{codes, is_some, length, option_map, string_bytes, true};
+ghost use Rattle.std.specs.Prelude.{◌≡◌, ◌+◌, ◌<◌, ◌∷◌, ℕ, List, Option, [], IfOk, OnOk, codes, is_some, length, option_map, string_bytes, true};
 ghost use Rattle.uri_pct.specs.Delimiters.{slash};
 ghost use Rattle.uri_pct.specs.EncodedTexts.{text_of};
-ghost use Rattle.uri_pct.specs.DecodeUnreserved.{decode_unreserved};
-ghost use Rattle.uri_pct.specs.Tokens.{print};
 ghost use Rattle.uri_pct.specs.Texts.{Pushes};
-ghost use Rattle.uri_parts.specs.AuthorityTexts.{authority_text};
-ghost use Rattle.uri_parts.specs.Components.{components, marked};
+ghost use Rattle.uri_parts.specs.Components.{marked};
 ghost use Rattle.uri_parts.specs.CoreTexts.{core_text};
 ghost use Rattle.uri_parts.specs.Grammar.{Kind};
 ghost use Rattle.uri_parts.specs.PackedPositions.{ArePackedPositionsOf};
 ghost use Rattle.uri_parts.specs.Schemes.{scheme_text};
 ghost use Rattle.uri_ops.specs.ComponentSets.{HasComponentSets, IsComponentSet};
-ghost use Rattle.uri_ops.specs.Dots.{IsAbsolute, remove_dot_segments, underflows};
-ghost use Rattle.uri_ops.specs.Meaning.{authority_meaning, meaning_of};
-ghost use Rattle.uri_ops.specs.Normal.{normal_authority_with_delimiter, normal_components};
-ghost use Rattle.uri_ops.specs.Normal.{normal_part};
-ghost use Rattle.uri_ops.specs.Normal.{normal_parts, normal_scheme, normal_text};
-ghost use Rattle.uri_ops.specs.Normal.{normal_path_text, path_underflows};
-ghost use Rattle.uri_ops.specs.Normal.{default_port_of};
-ghost use Rattle.uri_ops.specs.Target.{guarded};
+ghost use Rattle.uri_ops.specs.Dots.{underflows};
+ghost use Rattle.uri_ops.specs.Normal.{normal_part, normal_scheme, normal_path_text, path_underflows};
 ghost use Rattle.uri_ops.specs.Normalizers.{HasNormalText, text_underflows};
-ghost use Rattle.uri_ops.specs.Models.Written.{authority_parts_at};
 
 use crate::normalize::decode_unreserved::push_decoded_component;
 use crate::normalize::decoded_paths::push_decoded_path;

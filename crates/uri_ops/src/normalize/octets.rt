@@ -1,7 +1,5 @@
 //! Single octets of ASCII, decoded if unreserved (RFC 3986, sections 6.2.2.1 and 6.2.2.2).
-ghost use Rattle.std.specs.Prelude.{◌≡◌, ◌<◌, ◌&&◌, ◌∷◌, ◌+◌, ◌*◌, ℕ, [], Bool, IsTrue};
-ghost use Rattle.std.specs.Prelude.{MatchOption, OnOk, drop, false, if◌then◌else◌, length, nat_lt};
-ghost use Rattle.std.specs.Prelude.{slice_index, true};
+ghost use Rattle.std.specs.Prelude.{◌≡◌, ◌<◌, ◌&&◌, ◌∷◌, ◌+◌, ◌*◌, ℕ, [], Bool, IsTrue, MatchOption, OnOk, drop, false, if◌then◌else◌, length, nat_lt, slice_index, true};
 ghost use Rattle.std.specs.Char.{digit_value, is_ascii_hexdigit};
 ghost use Rattle.std.specs.Str.{IsCharBoundary};
 ghost use Rattle.uri_pct.specs.Chunks.{widest_set};
@@ -11,8 +9,7 @@ ghost use Rattle.uri_pct.specs.Sets.{is_unreserved};
 ghost use Rattle.uri_pct.specs.Tokens.{IsValidFor, Octet, print};
 ghost use Rattle.uri_pct.specs.Texts.{Pushes};
 ghost use Rattle.uri_ops.specs.Models.Decodings.{IsOctetAt, lowered_if, lowered_code_if};
-ghost use Rattle.uri_ops.specs.declared.normalize.octets.TheConstants.{LOWERED_CODES};
-ghost use Rattle.uri_ops.specs.declared.normalize.octets.TheConstants.{UNRESERVED_CODES};
+ghost use Rattle.uri_ops.specs.declared.normalize.octets.TheConstants.{LOWERED_CODES, UNRESERVED_CODES};
 
 use std::alloc::AllocError;
 use uri_pct::octet::{octet_value, pct_encoded};

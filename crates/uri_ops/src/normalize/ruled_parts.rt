@@ -9,8 +9,7 @@ ghost use Rattle.uri_parts.specs.Grammar.{Kind};
 ghost use Rattle.uri_parts.specs.Schemes.{scheme_text};
 ghost use Rattle.uri_ops.specs.ComponentSets.{HasComponentSets};
 ghost use Rattle.uri_ops.specs.Meaning.{authority_meaning};
-ghost use Rattle.uri_ops.specs.Models.RuledComponents.{has_default_host, has_root_path};
-ghost use Rattle.uri_ops.specs.Models.RuledComponents.{ruled_components};
+ghost use Rattle.uri_ops.specs.Models.RuledComponents.{has_default_host, has_root_path, ruled_components};
 ghost use Rattle.uri_ops.specs.Normal.{default_port_of, normal_scheme};
 ghost use Rattle.uri_ops.specs.SchemeRules.{is_localhost, is_scheme_of};
 

@@ -1,7 +1,5 @@
 //! Decoding of short components, byte by byte (RFC 3986, sections 6.2.2.1 and 6.2.2.2).
-ghost use Rattle.std.specs.Prelude.{◌≡◌, ◌==◌, ◌&&◌, ◌+◌, ◌*◌, ◌≤◌, ◌++◌, ◌∷◌, [], Bool, IsTrue};
-ghost use Rattle.std.specs.Prelude.{MatchOption, drop, false, if◌then◌else◌, length, nat_lt, not};
-ghost use Rattle.std.specs.Prelude.{string_bytes, take, true, vec_capacity, vec_len};
+ghost use Rattle.std.specs.Prelude.{◌≡◌, ◌==◌, ◌&&◌, ◌+◌, ◌*◌, ◌≤◌, ◌++◌, ◌∷◌, [], Bool, IsTrue, MatchOption, drop, false, if◌then◌else◌, length, nat_lt, not, string_bytes, take, true, vec_capacity, vec_len};
 ghost use Rattle.std.specs.Char.{digit_value, is_ascii_hexdigit};
 ghost use Rattle.std.specs.Str.{IsAscii, IsCharBoundary};
 ghost use Rattle.uri_pct.specs.Chunks.{widest_set};
@@ -10,8 +8,7 @@ ghost use Rattle.uri_pct.specs.Delimiters.{percent_sign};
 ghost use Rattle.uri_pct.specs.Sets.{TableSet, is_unreserved};
 ghost use Rattle.uri_pct.specs.Tokens.{IsValidFor, Octet, print};
 ghost use Rattle.uri_ops.specs.Models.Decodings.{decoded_text, lowered_code_if, lowered_if};
-ghost use Rattle.uri_ops.specs.declared.normalize.short_components.TheConstants.{CHARACTERS};
-ghost use Rattle.uri_ops.specs.declared.normalize.short_components.TheConstants.{LOWERED_CHARACTERS};
+ghost use Rattle.uri_ops.specs.declared.normalize.short_components.TheConstants.{CHARACTERS, LOWERED_CHARACTERS};
 
 use crate::normalize::octets::{octet_digits, unreserved_of_octet};
 use crate::normalize::room::{has_room, put_bytes, take_bytes};

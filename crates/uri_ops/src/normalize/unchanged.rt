@@ -1,6 +1,5 @@
 //! Whether a value is its own normal text (RFC 3986, sections 6.2.2 and 6.2.3).
-ghost use Rattle.std.specs.Prelude.{◌≡◌, ◌↔◌, ◌≤◌, ◌<◌, ℕ, codes, false, length};
-ghost use Rattle.std.specs.Prelude.{slice_index, take, true};
+ghost use Rattle.std.specs.Prelude.{◌≡◌, ◌↔◌, ◌≤◌, ◌<◌, ℕ, codes, false, length, slice_index, take, true};
 ghost use Rattle.std.specs.Char.{is_ascii_uppercase};
 ghost use Rattle.std.specs.List.{list_all};
 ghost use Rattle.std.specs.Str.{str_to_ascii_lowercase};
@@ -9,9 +8,7 @@ ghost use Rattle.uri_pct.specs.Sets.{TableSet, is_one_of};
 ghost use Rattle.uri_parts.specs.Hosts.{host_kind, is_host};
 ghost use Rattle.uri_parts.specs.Components.{starts};
 ghost use Rattle.uri_parts.specs.CoreTexts.{core_text};
-ghost use Rattle.uri_ops.specs.Models.Unchanged.{IsUnchangedHost};
-ghost use Rattle.uri_ops.specs.Models.Unchanged.{IsUnchangedPrefix, KindLacksPastAscii};
-ghost use Rattle.uri_ops.specs.Models.Unchanged.{is_literal_byte, is_unchanged_host_byte};
+ghost use Rattle.uri_ops.specs.Models.Unchanged.{IsUnchangedHost, IsUnchangedPrefix, KindLacksPastAscii, is_literal_byte, is_unchanged_host_byte};
 ghost use Rattle.uri_ops.specs.Meaning.{host_meaning, meaning_of};
 ghost use Rattle.uri_ops.specs.Normal.{host_text, normal_text};
 ghost use Rattle.uri_ops.specs.Normalizers.{HasNormalText, text_underflows};

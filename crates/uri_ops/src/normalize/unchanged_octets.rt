@@ -1,11 +1,8 @@
 //! Texts of which normalising leaves each octet, each character and each segment of the path (RFC
 //! 3986, section 6.2.2; RFC 3987, section 4.1).
-ghost use Rattle.std.specs.Prelude.{◌≡◌, ◌+◌, ◌≤◌, ◌<◌, ◌==◌, ◌^◌, ℕ, IfSome, None, length, not};
-ghost use Rattle.std.specs.Prelude.{slice_index, true};
+ghost use Rattle.std.specs.Prelude.{◌≡◌, ◌+◌, ◌≤◌, ◌<◌, ◌==◌, ◌^◌, ℕ, IfSome, None, length, not, true};
 ghost use Rattle.std.specs.Int.{bit_at};
-ghost use Rattle.uri_ops.specs.Models.Unchanged.{IsLiteralRun, is_dot_after_slash};
-ghost use Rattle.uri_ops.specs.Models.Unchanged.{is_dot_unchanged_at, is_literal_at};
-ghost use Rattle.uri_ops.specs.Models.Unchanged.{is_unchanged_at, is_unchanged_octet};
+ghost use Rattle.uri_ops.specs.Models.Unchanged.{IsLiteralRun, is_dot_unchanged_at, is_literal_at, is_unchanged_at, is_unchanged_octet};
 
 use uri_pct::lanes::{LANES, lanes_equal_to};
 use uri_pct::table::characters;

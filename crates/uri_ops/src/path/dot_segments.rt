@@ -1,19 +1,14 @@
 //! The removal of dot segments (RFC 3986, section 5.2.4).
-ghost use Rattle.std.specs.Prelude.{◌≡◌, ◌≤◌, ◌<◌, ◌++◌, ◌+◌, IfOk, OnOk, false, true, length};
-ghost use Rattle.std.specs.Prelude.{ℕ, ◌^◌, drop, not, take, string_bytes};
+ghost use Rattle.std.specs.Prelude.{◌≡◌, ◌≤◌, ◌<◌, ◌++◌, ◌+◌, IfOk, OnOk, false, true, length, ℕ, ◌^◌, drop, not, take, string_bytes};
 ghost use Rattle.std.specs.Int.{bit_at};
 ghost use Rattle.std.specs.Str.{IsCharBoundary};
 ghost use Rattle.uri_pct.specs.Texts.{Pushes};
 ghost use Rattle.uri_parts.specs.Components.{IsAbemptyPath};
-ghost use Rattle.uri_ops.specs.Models.Directories.{BeginsWith, EndsIn, IsDotlessDirectory};
-ghost use Rattle.uri_ops.specs.Models.Directories.{RemovalState};
-ghost use Rattle.uri_ops.specs.Models.Directories.{parent_directory};
+ghost use Rattle.uri_ops.specs.Models.Directories.{BeginsWith, EndsIn, IsDotlessDirectory, RemovalState, parent_directory};
 ghost use Rattle.uri_ops.specs.Models.LeadingSegments.{BeginsWithoutDotSegment};
 ghost use Rattle.uri_ops.specs.Models.SegmentModes.{KeepsSlashesAndDots};
 ghost use Rattle.uri_ops.specs.Models.Places.{IsSlashOrStart};
-ghost use Rattle.uri_ops.specs.Dots.{IsAbsolute, before_last_slash, directory};
-ghost use Rattle.uri_ops.specs.Dots.{has_slash, is_double_dot, is_empty, lacks_dot_segments};
-ghost use Rattle.uri_ops.specs.Dots.{or_slash, remove_dot_segments, underflows};
+ghost use Rattle.uri_ops.specs.Dots.{IsAbsolute, before_last_slash, directory, has_slash, is_double_dot, is_empty, lacks_dot_segments, or_slash, remove_dot_segments, underflows};
 ghost use Rattle.uri_ops.specs.Target.{merged};
 
 use crate::path::leading_segment::{

@@ -1,15 +1,10 @@
 //! The start of a path: dot segments, recognised by their bytes, or other segments (RFC 3986,
 //! section 3.3).
-ghost use Rattle.std.specs.Prelude.{◌≡◌, ◌≤◌, ◌<◌, ◌==◌, ◌||◌, ◌+◌, ◌&&◌, length, drop};
-ghost use Rattle.std.specs.Prelude.{slice_index};
+ghost use Rattle.std.specs.Prelude.{◌≡◌, ◌≤◌, ◌<◌, ◌==◌, ◌||◌, ◌+◌, ◌&&◌, length, drop, slice_index};
 ghost use Rattle.std.specs.Str.{IsCharBoundary};
 ghost use Rattle.uri_pct.specs.Delimiters.{full_stop, slash};
 ghost use Rattle.uri_parts.specs.Components.{IsAbemptyPath};
-ghost use Rattle.uri_ops.specs.Models.LeadingSegments.{IsPrefixToSlashDot, DescribesLeadingDots};
-ghost use Rattle.uri_ops.specs.Models.LeadingSegments.{BeginsWithoutDotSegment};
-ghost use Rattle.uri_ops.specs.Models.LeadingSegments.{HasLengthAtCharBoundary};
-ghost use Rattle.uri_ops.specs.Models.LeadingSegments.{IsDotlessPrefix, begins_with_dot, dot_len};
-ghost use Rattle.uri_ops.specs.Models.LeadingSegments.{ends_segment};
+ghost use Rattle.uri_ops.specs.Models.LeadingSegments.{IsPrefixToSlashDot, DescribesLeadingDots, BeginsWithoutDotSegment, HasLengthAtCharBoundary, IsDotlessPrefix, begins_with_dot, dot_len, ends_segment};
 ghost use Rattle.uri_ops.specs.Dots.{is_double_dot};
 
 use uri_pct::lanes::LANES;

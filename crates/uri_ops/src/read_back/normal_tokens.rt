@@ -2,8 +2,7 @@
 //! 3987, sections 4.1 and 5.3.2.3).
 ghost use Rattle.std.specs.Prelude.{◌≡◌, ◌<◌, ◌++◌, ◌∷◌, [], length};
 ghost use Rattle.uri_pct.specs.Chunks.{widest_set};
-ghost use Rattle.uri_pct.specs.DecodeUnreserved.{decode_octet, formatting_as_octets};
-ghost use Rattle.uri_pct.specs.DecodeUnreserved.{is_never_literal};
+ghost use Rattle.uri_pct.specs.DecodeUnreserved.{decode_octet, formatting_as_octets, is_never_literal};
 ghost use Rattle.uri_pct.specs.Tables.{set_of};
 ghost use Rattle.uri_pct.specs.Tokens.{Char, Octet, print, IsValidFor};
 ghost use Rattle.uri_ops.specs.Models.Decodings.{lowered_code_if, lowered_if};

@@ -1,12 +1,8 @@
 //! The segments that are left of a path when its dot segments are removed, from the last to the
 //! first (RFC 3986, section 5.2.4).
-ghost use Rattle.std.specs.Prelude.{◌≡◌, ◌≤◌, ◌<◌, ◌+◌, ◌^◌, ◌++◌, ℕ, List, [], IfSome};
-ghost use Rattle.std.specs.Prelude.{MatchOption, codes, false, true, if◌then◌else◌};
-ghost use Rattle.uri_ops.specs.Dots.{IsAbsolute, has_slash, is_dot_segment, is_double_dot};
-ghost use Rattle.uri_ops.specs.Dots.{is_single_dot, remove_dot_segments};
-ghost use Rattle.uri_ops.specs.FromEnd.SegmentsLeft.{IsLastSegmentLeft, is_abempty_path};
-ghost use Rattle.uri_ops.specs.FromEnd.SegmentsLeft.{segments_left, with_segment};
-ghost use Rattle.uri_ops.specs.FromEnd.SegmentsLeft.{without_last_segments};
+ghost use Rattle.std.specs.Prelude.{◌≡◌, ◌≤◌, ◌<◌, ◌+◌, ◌^◌, ◌++◌, ℕ, List, [], IfSome, MatchOption, codes, false, true, if◌then◌else◌};
+ghost use Rattle.uri_ops.specs.Dots.{IsAbsolute, has_slash, is_dot_segment, is_double_dot, is_single_dot, remove_dot_segments};
+ghost use Rattle.uri_ops.specs.FromEnd.SegmentsLeft.{IsLastSegmentLeft, is_abempty_path, segments_left, with_segment, without_last_segments};
 
 use crate::path::leading_segment::is_double_dot;
 

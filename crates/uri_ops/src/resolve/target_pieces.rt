@@ -5,11 +5,9 @@ ghost use Rattle.uri_ops.specs.Dots.{is_empty, lacks_dot_segments};
 ghost use Rattle.uri_ops.specs.Models.Directories.{EndsIn};
 ghost use Rattle.uri_ops.specs.Models.LeadingSegments.{BeginsWithoutDotSegment};
 ghost use Rattle.uri_ops.specs.Models.TargetCases.{IsCaseOf};
-ghost use Rattle.uri_ops.specs.Models.TargetPieces.{ArePiecesOfTarget, HasJoinedPath};
-ghost use Rattle.uri_ops.specs.Models.TargetPieces.{IsDirectoryOfBase};
+ghost use Rattle.uri_ops.specs.Models.TargetPieces.{ArePiecesOfTarget, HasJoinedPath, IsDirectoryOfBase};
 ghost use Rattle.uri_ops.specs.Resolving.{components_of};
-ghost use Rattle.uri_ops.specs.declared.resolve.target_case.TargetCase.TheVariants.{AbsolutePath};
-ghost use Rattle.uri_ops.specs.declared.resolve.target_case.TargetCase.TheVariants.{MergedPath};
+ghost use Rattle.uri_ops.specs.declared.resolve.target_case.TargetCase.TheVariants.{AbsolutePath, MergedPath};
 
 use crate::path::dot_segments::{follow_leading_dots, last_slash};
 use crate::path::leading_segment::{begins_with_dot, dotless_prefix_len, is_double_dot};

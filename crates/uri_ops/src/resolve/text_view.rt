@@ -1,14 +1,12 @@
 //! A text with the positions of its components, and the substrings that a target takes from it (RFC
 //! 3986, section 5.3).
-ghost use Rattle.std.specs.Prelude.{◌≡◌, ◌≤◌, ◌+◌, ◌++◌, ℕ, List, [], codes, length, Some, None};
-ghost use Rattle.std.specs.Prelude.{is_some, option_map};
+ghost use Rattle.std.specs.Prelude.{◌≡◌, ◌≤◌, ◌+◌, ◌++◌, ℕ, List, [], codes, length, Some, None, is_some, option_map};
 ghost use Rattle.std.specs.Str.{IsUtf8};
 ghost use Rattle.uri_parts.specs.Components.{components, marked};
 ghost use Rattle.uri_parts.specs.CoreTexts.{core_text};
 ghost use Rattle.uri_parts.specs.Grammar.{IsOfKind};
 ghost use Rattle.uri_parts.specs.PackedPositions.{ArePackedPositionsOf, packed};
-ghost use Rattle.uri_parts.specs.Positions.{ArePositionsOf, authority_at, host_end_of};
-ghost use Rattle.uri_parts.specs.Positions.{positions_of};
+ghost use Rattle.uri_parts.specs.Positions.{ArePositionsOf, authority_at, host_end_of, positions_of};
 
 use crate::traits::RiMaybeRef;
 use uri_parts::core_text::Core;

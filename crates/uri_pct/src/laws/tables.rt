@@ -1,11 +1,6 @@
 //! Laws of the constants: a contract names such a value only where a function returns it.
 ghost use Rattle.std.specs.Prelude.{◌≡◌};
-ghost use Rattle.uri_pct.specs.Sets.{alpha_set, digit_set, hexdig_set, scheme_set, userinfo_set};
-ghost use Rattle.uri_pct.specs.Sets.{ipv_future_set, reg_name_set, path_set, segment_nz_nc_set};
-ghost use Rattle.uri_pct.specs.Sets.{pchar_set, query_set, fragment_set, unreserved_set};
-ghost use Rattle.uri_pct.specs.Sets.{reserved_set, gen_delims_set, sub_delims_set, iuserinfo_set};
-ghost use Rattle.uri_pct.specs.Sets.{ireg_name_set, ipath_set, isegment_nz_nc_set, iquery_set};
-ghost use Rattle.uri_pct.specs.Sets.{ifragment_set};
+ghost use Rattle.uri_pct.specs.Sets.{alpha_set, digit_set, hexdig_set, scheme_set, userinfo_set, ipv_future_set, reg_name_set, path_set, segment_nz_nc_set, pchar_set, query_set, fragment_set, unreserved_set, reserved_set, gen_delims_set, sub_delims_set, iuserinfo_set, ireg_name_set, ipath_set, isegment_nz_nc_set, iquery_set, ifragment_set};
 ghost use Rattle.uri_pct.specs.Tables.{set_of};
 
 use crate::table::{

@@ -1,7 +1,8 @@
-use Rattle.uri_ops.proofs.Common.{◌≡◌, [], ◌∷◌, false, ◌++◌, take, drop, bytes_eq, refl, arith, ap, ◌∙◌, codes, bytes_eq-Decides, ipv4_text, ipv6_text, bracketed}
+use Rattle.uri_parts.proofs.Common.{◌≡◌, [], ◌∷◌, false, ◌++◌, take, drop, bytes_eq, refl, arith, ap, ◌∙◌, codes, bytes_eq-Decides, ipv6_text, bracketed}
+use Rattle.std.specs.Net.Text.{ipv4_text}
 use Rattle.std.specs.Net.Addr.{octets_of}
 use Rattle.uri_parts.specs.Addresses.{ipv6_segments}
-use Rattle.uri_ops.proofs.read_back.address_text.ipv6_host.Goals as goal
+use Rattle.uri_parts.proofs.address_text.ipv6_host.Goals as goal
 
 pub returns-in-Some-clause-text : goal.returns-in-Some-clause-text
 unfolding ipv6_text

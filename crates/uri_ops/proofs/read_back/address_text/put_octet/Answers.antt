@@ -1,8 +1,0 @@
-use Rattle.uri_ops.proofs.Common.{arith, common_steps}
-use Rattle.uri_ops.proofs.FromEnd.Octets.{decimal_has_no_leading_zeros}
-use Rattle.uri_ops.proofs.read_back.address_text.put_octet.Goals as goal
-
-pub returns-clause-text : goal.returns-clause-text
-returns-clause-text c =
-    let digits = decimal_has_no_leading_zeros c.args.octet (omega arith) in
-    grind (arith, common_steps, digits)
