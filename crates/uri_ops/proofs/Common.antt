@@ -7,7 +7,7 @@ pub use Rattle.std.proofs.Math.Utf8.{low_scalar}
 pub use Rattle.std.proofs.NetLemmas.Alphabet.{IsDigitOrDot}
 pub use Rattle.std.proofs.lemmas.Bool.{cases_Bool, cases_lt, cond-true, cond-false, and_parts, and_from, lt-ltb, both_ways, eqb-true, or_right, le-ltb, not-true, not_from_false, ltb-true, false_from_ne_true, and_right, cond_both, and_left, false≢true, agree_below_at, ne_eqb, or_parts, or_from, leb-true, or_left, not-false, or_cases, and_cases, ltb-false, true≢false, lt-leb, agree_below, eqb-false}
 pub use Rattle.std.proofs.lemmas.Bool.Decides.{nat_tests, Decides-eqb, Decides-and, Decides-like}
-pub use Rattle.std.proofs.lemmas.Grind.{take-set_at, common_steps}
+pub use Rattle.std.proofs.lemmas.Grind.{take-set_at}
 pub use Rattle.std.proofs.lemmas.List.{append-nil, map-append, length-drop, take_all, nil_from_length, take-append-drop, get_or_append_left, get_or_at, length-take, drop_all, take-append-le, drop_more, get_or-drop, take_at, drop_at, take_more, get_or_past, length-replicate, drop-drop, length-map, get_or-take, length-take-le, take-take, drop-append-le, get_or-append-add, length-set, take_more_set}
 pub use Rattle.std.proofs.lemmas.List.Concat.{flat_map-append}
 pub use Rattle.std.proofs.lemmas.List.Elements.{All-weaker, All-nil, All-cons, All-append, All-replicate, All-get_or, All-head, All-tail, All-from_get_or}
@@ -25,7 +25,7 @@ pub use Rattle.std.specs.Int.{is_in_range, bit_at, trailing_zeros, leading_zeros
 pub use Rattle.std.specs.List.{list_all, flat_map, list_any, position_or_len, prefix_len, onto_first, position}
 pub use Rattle.std.specs.Net.Grammar.{IsDotted, IsGroup, IsGroupsAfter, IsColonHex, IsGroups, IsElided}
 unfoldable pub use Rattle.std.specs.Net.Reader.{read_ipv6, read_ipv4, read_octet, read_number, read_segment, read_segments}
-pub use Rattle.std.specs.Net.Text.{groups_text, zero_run, longest_zero_run, compressed_text, ipv4_text}
+pub use Rattle.std.specs.Net.Text.{groups_text, zero_run, longest_zero_run, compressed_text}
 unfoldable pub use Rattle.std.specs.Net.Text.{ipv6_text, hex, hex_groups_text}
 pub use Rattle.std.specs.Option.{option_map_or, option_and_then, option_eq, option_or}
 pub use Rattle.std.specs.Prelude.{codes, Option, Some, None, IfSome, IfNone, is_some, slice_index, unwrap_or, Result, Ok, is_none, is_ok, ◌==◌, bytes_eq, ◌↔◌, slice_range, IfErr, IsErrAnd, IfOk, ⊤, OnOk}
