@@ -181,13 +181,6 @@ decoded-empty-text-is-empty true set = ap (λ ts. print (map lower_token ts))
     (decode_run-of-nil-is-nil set)
 decoded-empty-text-is-empty false set = ap print (decode_run-of-nil-is-nil set)
 
--- meanings, decoded: a prefix of n bytes that is copied is one from 0 on
-pub unchanged-prefix-is-unchanged-from-zero : (lowers : Bool)
-    (set : TableSet) (text : List ℕ) (n : ℕ) → KeepsPrefixWhenDecoded lowers set text n
-    → KeepsPrefixWhenDecoded lowers set (drop 0 text) (n - 0)
-unchanged-prefix-is-unchanged-from-zero lowers set text n =
-    subst (KeepsPrefixWhenDecoded lowers set text) (omega arith)
-
 -- meanings, decoded: the last prefix that is copied completes what is appended; done, end: where it
 -- begins and ends
 pub last-prefix-is-pushed :

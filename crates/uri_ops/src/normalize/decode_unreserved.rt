@@ -1,9 +1,7 @@
 //! Decoding of unreserved octets in components (RFC 3986, sections 6.2.2.1 and 6.2.2.2; RFC 3987,
 //! sections 4.1 and 5.3.2.3).
-ghost use Rattle.std.specs.Prelude.{◌≡◌, ◌==◌, ◌&&◌, OnOk};
-ghost use Rattle.std.specs.List.{position_or_len};
+ghost use Rattle.std.specs.Prelude.{◌≡◌, ◌&&◌, OnOk};
 ghost use Rattle.uri_pct.specs.Chunks.{widest_set};
-ghost use Rattle.uri_pct.specs.Delimiters.{percent_sign};
 ghost use Rattle.uri_pct.specs.EncodedTexts.{text_of};
 ghost use Rattle.uri_pct.specs.DecodeUnreserved.{decode_unreserved, decode_tokens};
 ghost use Rattle.uri_pct.specs.Tables.{set_of};
@@ -106,27 +104,21 @@ fn push_decoded_parts(
 
 /// Appends the tokens of the text with decodable octets decoded, and with letters lowered if
 /// `lowers`. It copies runs that are unchanged, and between them decodes octets one by one. At
-/// the first octet past ASCII of an IRI it calls `push_decoded_parts`. `first` is the position of
-/// the first octet.
-///
-/// It is a function of its own, since most texts have no octet.
-#[inline(never)]
+/// the first octet past ASCII of an IRI it calls `push_decoded_parts`.
 fn push_decoded_runs(
     table: &Table,
     lowers: bool,
     text: &str,
-    first: usize,
     out: &mut String,
 ) -> Result<(), AllocError>
-    requires valid { IsValidFor widest_set text.now }
-    requires first { first ≡ position_or_len (λ b. b == percent_sign) text.now }
+    requires { IsValidFor widest_set text.now }
     ensures { OnOk result (Pushes out.old out.new
         (print (lowered_if lowers (decode_tokens (set_of table.now) (tokens text.now))))) }
 {
     let alone = !table.allows_some_past_ascii();
     let bytes = text.as_bytes();
     let mut done = 0;
-    let mut end = first;
+    let mut end = 0;
     while end < bytes.len() {
         if bytes[end] != b'%' {
             end += unencoded_len(&text[end..]);
@@ -156,26 +148,6 @@ fn push_decoded_runs(
     push_literal(lowers, &text[done..], out)
 }
 
-/// Appends the tokens of the text with decodable octets decoded, and with letters lowered if
-/// `lowers`. It pushes a text without octets at once.
-fn push_decoded_tokens(
-    table: &Table,
-    lowers: bool,
-    text: &str,
-    out: &mut String,
-) -> Result<(), AllocError>
-    requires { IsValidFor widest_set text.now }
-    ensures { OnOk result (Pushes out.old out.new
-        (print (lowered_if lowers (decode_tokens (set_of table.now) (tokens text.now))))) }
-{
-    let first = unencoded_len(text);
-    if first == text.len() {
-        push_literal(lowers, text, out)
-    } else {
-        push_decoded_runs(table, lowers, text, first, out)
-    }
-}
-
 /// Appends the text with its decodable octets decoded, and with its letters lowered if `lowers`. It
 /// copies runs, and searches for formatting characters if the table allows them.
 #[inline(never)]
@@ -190,7 +162,7 @@ fn push_decoded_by_runs(
         (print (lowered_if lowers (decode_unreserved (set_of table.now) text.now)))) }
 {
     let start = out.as_str().len();
-    push_decoded_tokens(table, lowers, text, out)?;
+    push_decoded_runs(table, lowers, text, out)?;
     if encodes_formatting(table) {
         encode_formatting(start, out)
     } else {

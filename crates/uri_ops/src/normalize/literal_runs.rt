@@ -4,7 +4,7 @@ ghost use Rattle.std.specs.Prelude.{◌≡◌, OnOk};
 ghost use Rattle.std.specs.Char.{to_ascii_lowercase};
 ghost use Rattle.std.specs.Str.{str_to_ascii_lowercase};
 ghost use Rattle.uri_pct.specs.Texts.{Pushes};
-ghost use Rattle.uri_ops.specs.Models.Decodings.{lowered_text_if};
+ghost use Rattle.uri_ops.specs.Models.Decodings.{lowered_code_if, lowered_text_if};
 
 use crate::normalize::room::{put_bytes, take_bytes};
 use std::alloc::AllocError;
@@ -52,6 +52,14 @@ fn lowered(byte: u8) -> u8
     LOWERED[usize::from(byte)]
 }
 
+/// Returns the byte, an upper-case ASCII letter in lower case if `lowers`.
+#[inline(always)]
+pub(crate) fn lowered_code_if(lowers: bool, byte: u8) -> u8
+    ensures { result ≡ lowered_code_if lowers byte }
+{
+    if lowers { lowered(byte) } else { byte }
+}
+
 /// Appends the text with its ASCII letters in lower case.
 pub(crate) fn push_lower(text: &str, out: &mut String) -> Result<(), AllocError>
     ensures { OnOk result (Pushes out.old out.new (str_to_ascii_lowercase text.now)) }
@@ -65,15 +73,6 @@ pub(crate) fn push_lower(text: &str, out: &mut String) -> Result<(), AllocError>
     Ok(())
 }
 
-/// Appends the text with its ASCII letters in lower case. It is not inlined, so that a loop over
-/// octets keeps its values in registers.
-#[inline(never)]
-fn push_lower_run(text: &str, out: &mut String) -> Result<(), AllocError>
-    ensures { OnOk result (Pushes out.old out.new (str_to_ascii_lowercase text.now)) }
-{
-    push_lower(text, out)
-}
-
 /// Appends a run without octets, with its letters lowered if `lowers`. An empty one costs no call.
 #[inline(always)]
 pub(crate) fn push_literal(lowers: bool, text: &str, out: &mut String) -> Result<(), AllocError>
@@ -83,7 +82,7 @@ pub(crate) fn push_literal(lowers: bool, text: &str, out: &mut String) -> Result
         return Ok(());
     }
     if lowers {
-        push_lower_run(text, out)
+        push_lower(text, out)
     } else {
         push_short_str(text, out)
     }

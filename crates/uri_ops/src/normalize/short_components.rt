@@ -1,81 +1,17 @@
 //! Decoding of short components, byte by byte (RFC 3986, sections 6.2.2.1 and 6.2.2.2).
-ghost use Rattle.std.specs.Prelude.{◌≡◌, ◌==◌, ◌&&◌, ◌+◌, ◌*◌, ◌≤◌, ◌++◌, ◌∷◌, [], Bool, IsTrue, MatchOption, drop, false, if◌then◌else◌, length, nat_lt, not, string_bytes, take, true, vec_capacity, vec_len};
+ghost use Rattle.std.specs.Prelude.{◌≡◌, ◌+◌, ◌*◌, ◌≤◌, ◌++◌, ◌∷◌, [], Bool, IsTrue, drop, false, length, string_bytes, take, true, vec_capacity, vec_len};
 ghost use Rattle.std.specs.Char.{digit_value, is_ascii_hexdigit};
 ghost use Rattle.std.specs.Str.{IsAscii, IsCharBoundary};
 ghost use Rattle.uri_pct.specs.Chunks.{widest_set};
 ghost use Rattle.uri_pct.specs.DecodeUnreserved.{LacksPastAscii, decode_octet};
-ghost use Rattle.uri_pct.specs.Delimiters.{percent_sign};
 ghost use Rattle.uri_pct.specs.Sets.{TableSet, is_unreserved};
 ghost use Rattle.uri_pct.specs.Tokens.{IsValidFor, Octet, print};
-ghost use Rattle.uri_ops.specs.Models.Decodings.{decoded_text, lowered_code_if, lowered_if};
-ghost use Rattle.uri_ops.specs.declared.normalize.short_components.TheConstants.{CHARACTERS, LOWERED_CHARACTERS};
+ghost use Rattle.uri_ops.specs.Models.Decodings.{decoded_text, lowered_if};
 
+use crate::normalize::literal_runs::lowered_code_if;
 use crate::normalize::octets::{octet_digits, unreserved_of_octet};
 use crate::normalize::room::{has_room, put_bytes, take_bytes};
 use uri_pct::octet::{octet_value, pct_encoded};
-
-/// Each ASCII character but `%`, and 128 for `%` and for each byte past ASCII.
-const CHARACTERS: &[u8; 256] = &[
-    0, 1, 2, 3, 4, 5, 6, 7, 8, 9, 10, 11, 12, 13, 14, 15, // 00
-    16, 17, 18, 19, 20, 21, 22, 23, 24, 25, 26, 27, 28, 29, 30, 31, // 10
-    32, 33, 34, 35, 36, 128, 38, 39, 40, 41, 42, 43, 44, 45, 46, 47, // 20
-    48, 49, 50, 51, 52, 53, 54, 55, 56, 57, 58, 59, 60, 61, 62, 63, // 30
-    64, 65, 66, 67, 68, 69, 70, 71, 72, 73, 74, 75, 76, 77, 78, 79, // 40
-    80, 81, 82, 83, 84, 85, 86, 87, 88, 89, 90, 91, 92, 93, 94, 95, // 50
-    96, 97, 98, 99, 100, 101, 102, 103, 104, 105, 106, 107, 108, 109, 110, 111, // 60
-    112, 113, 114, 115, 116, 117, 118, 119, 120, 121, 122, 123, 124, 125, 126, 127, // 70
-    128, 128, 128, 128, 128, 128, 128, 128, 128, 128, 128, 128, 128, 128, 128, 128, // 80
-    128, 128, 128, 128, 128, 128, 128, 128, 128, 128, 128, 128, 128, 128, 128, 128, // 90
-    128, 128, 128, 128, 128, 128, 128, 128, 128, 128, 128, 128, 128, 128, 128, 128, // A0
-    128, 128, 128, 128, 128, 128, 128, 128, 128, 128, 128, 128, 128, 128, 128, 128, // B0
-    128, 128, 128, 128, 128, 128, 128, 128, 128, 128, 128, 128, 128, 128, 128, 128, // C0
-    128, 128, 128, 128, 128, 128, 128, 128, 128, 128, 128, 128, 128, 128, 128, 128, // D0
-    128, 128, 128, 128, 128, 128, 128, 128, 128, 128, 128, 128, 128, 128, 128, 128, // E0
-    128, 128, 128, 128, 128, 128, 128, 128, 128, 128, 128, 128, 128, 128, 128, 128, // F0
-];
-
-/// Each ASCII character but `%` in lower case, and 128 for `%` and for each byte past ASCII.
-const LOWERED_CHARACTERS: &[u8; 256] = &[
-    0, 1, 2, 3, 4, 5, 6, 7, 8, 9, 10, 11, 12, 13, 14, 15, // 00
-    16, 17, 18, 19, 20, 21, 22, 23, 24, 25, 26, 27, 28, 29, 30, 31, // 10
-    32, 33, 34, 35, 36, 128, 38, 39, 40, 41, 42, 43, 44, 45, 46, 47, // 20
-    48, 49, 50, 51, 52, 53, 54, 55, 56, 57, 58, 59, 60, 61, 62, 63, // 30
-    64, 97, 98, 99, 100, 101, 102, 103, 104, 105, 106, 107, 108, 109, 110, 111, // 40
-    112, 113, 114, 115, 116, 117, 118, 119, 120, 121, 122, 91, 92, 93, 94, 95, // 50
-    96, 97, 98, 99, 100, 101, 102, 103, 104, 105, 106, 107, 108, 109, 110, 111, // 60
-    112, 113, 114, 115, 116, 117, 118, 119, 120, 121, 122, 123, 124, 125, 126, 127, // 70
-    128, 128, 128, 128, 128, 128, 128, 128, 128, 128, 128, 128, 128, 128, 128, 128, // 80
-    128, 128, 128, 128, 128, 128, 128, 128, 128, 128, 128, 128, 128, 128, 128, 128, // 90
-    128, 128, 128, 128, 128, 128, 128, 128, 128, 128, 128, 128, 128, 128, 128, 128, // A0
-    128, 128, 128, 128, 128, 128, 128, 128, 128, 128, 128, 128, 128, 128, 128, 128, // B0
-    128, 128, 128, 128, 128, 128, 128, 128, 128, 128, 128, 128, 128, 128, 128, 128, // C0
-    128, 128, 128, 128, 128, 128, 128, 128, 128, 128, 128, 128, 128, 128, 128, 128, // D0
-    128, 128, 128, 128, 128, 128, 128, 128, 128, 128, 128, 128, 128, 128, 128, 128, // E0
-    128, 128, 128, 128, 128, 128, 128, 128, 128, 128, 128, 128, 128, 128, 128, 128, // F0
-];
-
-/// Returns the ASCII characters but `%`, in lower case if `lowers`.
-#[inline(always)]
-fn characters(lowers: bool) -> &'static [u8; 256]
-    ensures { result.now ≡ (if lowers then LOWERED_CHARACTERS.now else CHARACTERS.now) }
-{
-    if lowers {
-        LOWERED_CHARACTERS
-    } else {
-        CHARACTERS
-    }
-}
-
-/// Returns the byte if it is an ASCII character but `%`, in lower case if `lowers`.
-#[inline(always)]
-fn character(lowers: bool, byte: u8) -> Option<u8>
-    ensures { let is_character = nat_lt byte 128 && not (byte == percent_sign) in
-        MatchOption result (is_character ≡ false)
-        (λ ch. (ch ≡ lowered_code_if lowers byte) × (is_character ≡ true)) }
-{
-    let ch = characters(lowers)[usize::from(byte)];
-    if ch.is_ascii() { Some(ch) } else { None }
-}
 
 /// Appends an octet that does not decode to an unreserved character, its digits in upper case.
 #[inline(always)]
@@ -130,13 +66,13 @@ fn push_short_bytes(alone: bool, lowers: bool, text: &str, out: &mut Vec<u8>) ->
     let mut end = 0;
     while end < bytes.len() {
         let byte = bytes[end];
-        if let Some(ch) = character(lowers, byte) {
-            out.push_reserved(ch);
+        if byte != b'%' {
+            if !byte.is_ascii() {
+                return end;
+            }
+            out.push_reserved(lowered_code_if(lowers, byte));
             end += 1;
             continue;
-        }
-        if byte != b'%' {
-            return end;
         }
         let (high, low) = octet_digits(text, end);
         if high >= b'8' && !alone {

@@ -1,5 +1,5 @@
 use Rattle.uri_ops.proofs.Common.{◌≡◌, ◌+◌, ◌*◌, ◌-◌, ◌++◌, ◌∷◌, [], ◌<◌, ◌≤◌, ◌⊎◌, inl, inr, false, true, not, eqb, length, drop, refl, sym, ap, ◌∙◌, subst, arith, string_bytes, digit_value, position_or_len, length-drop, on_ok_weaker, IsUtf8-drop, IsCharBoundary-start, IsCharBoundary-from_rest, decode_octet, set_of, Octet, print, KeepsPrefixWhenDecoded, decoded_text, lowered_if, lowered_text_if}
-use Rattle.uri_ops.proofs.Meanings.DecodedPrefixes.{LiteralPrefix, octet-is-decoded-alone, text-before-percent-is-literal-prefix, empty-prefix-is-unchanged, unchanged-prefix-grows, unchanged-prefix-is-pushed, last-prefix-is-pushed, suffix-of-suffix-is-valid, decoded-octet-is-pushed, unchanged-prefix-is-unchanged-from-zero, unset-flags-lack-past-ascii}
+use Rattle.uri_ops.proofs.Meanings.DecodedPrefixes.{LiteralPrefix, octet-is-decoded-alone, text-before-percent-is-literal-prefix, empty-prefix-is-unchanged, unchanged-prefix-grows, unchanged-prefix-is-pushed, last-prefix-is-pushed, suffix-of-suffix-is-valid, decoded-octet-is-pushed, unset-flags-lack-past-ascii}
 use Rattle.uri_ops.proofs.Meanings.DecodedOctets.{uppercase-reserved-octet-is-unchanged}
 use Rattle.uri_ops.proofs.normalize.decode_unreserved.push_decoded_runs.Goals as goal
 use Rattle.uri_ops.proofs.normalize.decode_unreserved.push_decoded_runs.Goals.{else-high-ge56-via-then-high-ge56+else-not-alone, else-high-ge56-via-else-high-ge56}
@@ -7,16 +7,12 @@ use Rattle.uri_ops.proofs.normalize.decode_unreserved.push_decoded_runs.Goals.{e
 pub loop-end-init : goal.loop-end-init
 loop-end-init c =
     let text = c.args.text.now in
-    let set = set_of c.args.table.now in
-    let p = text-before-percent-is-literal-prefix text c.args.first c.utf8.text c.requires.valid
-    c.requires.first in
     record {
       order = omega arith;
       start = IsCharBoundary-start text c.utf8.text;
-      boundary = p.boundary;
-      valid = p.valid;
-      prefix = unchanged-prefix-is-unchanged-from-zero c.args.lowers set text c.args.first
-          (p.prefix c.args.lowers set);
+      boundary = IsCharBoundary-start text c.utf8.text;
+      valid = c.requires;
+      prefix = empty-prefix-is-unchanged c.args.lowers (set_of c.args.table.now) text;
       total = refl;
     }
 

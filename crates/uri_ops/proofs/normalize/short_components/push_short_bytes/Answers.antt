@@ -1,4 +1,4 @@
-use Rattle.uri_ops.proofs.Common.{◌≡◌, ℕ, List, ◌+◌, ◌*◌, ◌++◌, ◌∷◌, [], ◌<◌, ◌⊎◌, inl, inr, Bool, true, false, get_or, drop, length, refl, sym, ap, subst, ◌∙◌, arith, digit_value, and_parts, ltb-true, not-true, IsCharBoundary-start, IsAscii-nil, IsAscii-push, decode_octet, Octet, print, widest_set, TableSet, decoded_text, lowered_code_if, lowered_if, lowered_text_if}
+use Rattle.uri_ops.proofs.Common.{◌≡◌, ℕ, List, ◌+◌, ◌*◌, ◌++◌, ◌∷◌, [], ◌<◌, ◌⊎◌, inl, inr, Bool, true, false, get_or, drop, length, refl, sym, ap, subst, ◌∙◌, arith, digit_value, ltb-true, ne_eqb, IsCharBoundary-start, IsAscii-nil, IsAscii-push, decode_octet, Octet, print, widest_set, TableSet, decoded_text, lowered_code_if, lowered_if, lowered_text_if}
 use Rattle.uri_ops.proofs.Meanings.AsciiSuffixes.{digits-are-of-byte, longer-suffix-is-ascii, no-suffix-is-ascii, octet-decoded-alone-is-ascii}
 use Rattle.uri_ops.proofs.Meanings.DecodedPrefixes.{character_step, decoded-octet-is-pushed}
 use Rattle.uri_ops.proofs.Meanings.UnreservedCodes.{lowered-code-of-ascii-is-ascii}
@@ -22,8 +22,8 @@ loop-end-init c = record {
   total = λ set none. refl;
 }
 
-pub loop-end-preserved-in-Some : goal.loop-end-preserved-in-Some
-loop-end-preserved-in-Some c =
+pub loop-end-preserved-then-byte-ne37 : goal.loop-end-preserved-then-byte-ne37
+loop-end-preserved-then-byte-ne37 c =
     let bytes = c.as_bytes-bytes.result.now in
     let text = c.args.text.now in
     let lowers = c.args.lowers in
@@ -31,22 +31,21 @@ loop-end-preserved-in-Some c =
     let byte = get_or bytes end 0 in
     let out = c.loop-end.out.items in
     let holds = c.loop-end.invariant in
-    let parts = and_parts _ _ c.in-Some.ensures.1 in
-    let small : byte < 128 = ltb-true byte 128 parts.0 in
-    let ch : c.in-Some.ch ≡ lowered_code_if lowers byte = c.in-Some.ensures.0 in
+    let small : byte < 128 = ltb-true byte 128 (sym c.is_ascii.ensures ∙ c.if-not-is_ascii.false) in
     let pushed : c.push_reserved.new.self.items ≡ out ++ lowered_text_if lowers (byte ∷ []) =
-    c.push_reserved.ensures.items
-    ∙ ap (λ x. out ++ x) (ap (λ x. x ∷ []) ch ∙ character-is-lowered-text lowers byte) in
+    c.push_reserved.ensures.items ∙ ap (λ x. out ++ x)
+    (ap (λ x. x ∷ []) c.lowered_code_if.ensures ∙ character-is-lowered-text lowers byte) in
+    let other = ne_eqb byte 37 c.if-byte-ne37.true in
     let step = λ (set : TableSet) (whole : List ℕ) (total : out
     ++ decoded_text lowers set (drop end text) ≡ whole). character_step lowers set bytes
     text out c.push_reserved.new.self.items whole end c.as_bytes-bytes.ensures.value c.utf8.text
-    holds.boundary holds.valid c.loop-end-test.true small (not-true _ parts.1) pushed total in
+    holds.boundary holds.valid c.loop-end-test.true small other pushed total in
     let first = step widest_set (out ++ decoded_text lowers widest_set (drop end text)) refl in
-    let ascii : c.in-Some.ch < 128 = subst (λ x. x < 128) (sym ch)
+    let ascii : c.lowered_code_if.result < 128 = subst (λ x. x < 128) (sym c.lowered_code_if.ensures)
     (lowered-code-of-ascii-is-ascii lowers byte small) in
     let suffix = longer-suffix-is-ascii c.args.out.now.items out c.push_reserved.new.self.items
-    (c.in-Some.ch ∷ []) (record { unchanged = holds.unchanged; ascii = holds.ascii })
-    c.push_reserved.ensures.items (IsAscii-push [] c.in-Some.ch IsAscii-nil ascii) in
+    (c.lowered_code_if.result ∷ []) (record { unchanged = holds.unchanged; ascii = holds.ascii })
+    c.push_reserved.ensures.items (IsAscii-push [] c.lowered_code_if.result IsAscii-nil ascii) in
     record {
       within = omega (arith, ap length c.as_bytes-bytes.ensures.value);
       boundary = first.boundary;
