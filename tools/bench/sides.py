@@ -42,7 +42,7 @@ def built_lines(given):
 
 def built_port():
     crate = ROOT / "crates" / "uri_bench"
-    run("rt", "lib", "--jobs", "1", cwd=crate, stdout=sys.stderr)
+    run(ROOT / "tools" / "archive", crate.name, stdout=sys.stderr)
     page = subprocess.run(["rt", "doc"], check=True, capture_output=True, text=True).stdout
     kit = pathlib.Path(page.strip()).parent
     return [crate / "out" / "liburi_bench.a", kit / "c" / "liblibc_c.a"]
