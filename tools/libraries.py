@@ -1,6 +1,7 @@
 """The libraries that mutants, archives and modules are made over: as `rt ci` keeps them, or, where
 it lacks one, as `rt check` builds them. What is kept goes by a digest of all it was made of."""
 import contextlib
+import json
 import os
 import pathlib
 import tempfile
@@ -19,12 +20,14 @@ def copy_crates(rt, folder):
 
 
 class Libraries:
-    """The libraries of a copy of the repository."""
+    """The libraries of a copy of the repository, and crates above them, where they are built."""
 
-    def __init__(self, rt, crates, wanted):
+    def __init__(self, rt, crates, wanted, above=()):
         self.rt, self.lock, kept = rt, threading.Lock(), rt.Kept(crates.values())
         # (bottom up, and before the first check: none is given while another is checked over it)
-        are_given = all([self.is_given(it, kept) for name, it in crates.items() if name in wanted])
+        given = {it.name for it in crates.values()
+                 if it.name in {*wanted, *above} and self.is_given(it, kept)}
+        are_given = given.issuperset(wanted)
         self.ready = dict.fromkeys(wanted, True) if are_given else {}
         if not are_given:
             # (what is built in this copy is gone with it)
@@ -47,6 +50,14 @@ class Libraries:
             with open(os.devnull, "w", encoding="utf-8") as library.out:
                 self.ready[library.name] = not library.build_rlib(["--jobs", "2"], anew=False)
         return self.ready[library.name]
+
+
+def functions_of(crate):
+    """The functions with a contract of a library, if it is built: by the routines that it has."""
+    built = pathlib.Path(crate.folder, "out", "rlib", f"{crate.name}.rlib", "toolchain", "mir.json")
+    routines = json.loads(built.read_text(encoding="utf-8")) if built.exists() else []
+    names = [routine[0].removeprefix(f"{crate.name}::") for routine in routines]
+    return {it for it in names if "+" not in it}
 
 
 def kept_of(name):

@@ -2,7 +2,7 @@
 
 A check says of each function by itself whether it is proved, and a caller rests on the contract
 alone. So one check tries mutants of different functions, and takes the others by their statements:
-in the place of each other proof that is on file it has a hole.
+in the place of each other proof it has a hole.
 """
 import collections
 import contextlib
@@ -10,9 +10,10 @@ import os
 import pathlib
 import re
 import shutil
-import signal
 import subprocess
 import tempfile
+
+from libraries import functions_of
 
 from .mutant import ONLY_CLAUSE
 
@@ -75,18 +76,18 @@ class Room:
             yield f"{folder}/kept"
 
     def take_as_stated(self, functions):
-        """Puts a hole in the place of each proof on file, but of these functions."""
+        """Puts a hole in the place of the proof of each other function."""
         proofs = self.sources / "proofs"
-        files = [it for name in ("Answers", "Invariants") for it in proofs.rglob(f"{name}.antt")]
-        for folder in {it.parent for it in files}:
-            function = folder.relative_to(proofs).parts
-            if "::".join(function) in functions:
-                continue
-            for it in files:
-                if it.parent == folder:
-                    it.unlink()
-            module = ".".join([self.crate.name, "proofs", *function])
-            hole = HOLE.format(module=module, function=function[-1])
+        on_file = [it for name in ("Answers", "Invariants") for it in proofs.rglob(f"{name}.antt")]
+        proved = {"::".join(it.parent.relative_to(proofs).parts) for it in on_file}
+        for function in (proved | functions_of(self.crate)) - functions:
+            words = function.split("::")
+            folder = proofs.joinpath(*words)
+            folder.mkdir(parents=True, exist_ok=True)
+            for name in ("Answers", "Invariants"):
+                (folder / f"{name}.antt").unlink(missing_ok=True)
+            module = ".".join([self.crate.name, "proofs", *words])
+            hole = HOLE.format(module=module, function=words[-1])
             (folder / "Proof.antt").write_text(hole, encoding="utf-8")
 
     def check(self, functions, texts):
@@ -96,14 +97,10 @@ class Room:
         words = ["check", *self.crate.words(["--jobs", "1", *only], keeps=False), "--allow-holes",
                  "--incremental"]
         with self.written(texts):
-            status, lines = self.said_by(words)
-            if status == -signal.SIGKILL:
-                # (most likely for memory)
-                status, lines = self.said_by(words)
-        return lines
+            return self.said_by(words)
 
     def said_by(self, words):
-        """What the prover ended with, and the lines that it printed, over what is kept."""
+        """The lines that the prover printed, over what is kept."""
         command = ["nice", *self.rt.rtlib.guarded(), self.rt.rtlib.RATTLE, *words]
         with self.going_on() as kept, tempfile.TemporaryFile("w+", errors="replace") as said:
             how = {"cwd": self.sources, "stdin": subprocess.DEVNULL, "stdout": said}
@@ -114,7 +111,7 @@ class Room:
             lines = said.read().rstrip("\n").split("\n")
         self.checks += 1
         self.seconds += used.ru_utime + used.ru_stime
-        return began.returncode, lines
+        return lines
 
 
 def batches_of(room, mutants):
