@@ -5,7 +5,7 @@ ghost use Rattle.uri_pct.specs.Chunks.{widest_set};
 ghost use Rattle.uri_pct.specs.DecodeUnreserved.{decode_octet, formatting_as_octets, is_never_literal};
 ghost use Rattle.uri_pct.specs.Tables.{set_of};
 ghost use Rattle.uri_pct.specs.Tokens.{Char, Octet, print, IsValidFor};
-ghost use Rattle.uri_ops.specs.Models.Decodings.{lowered_code_if, lowered_if};
+ghost use Rattle.uri_ops.specs.Models.Decodings.{lowered_if};
 ghost use Rattle.uri_ops.specs.FromEnd.Held.{held_text};
 ghost use Rattle.uri_ops.specs.FromEnd.NormalComponents.{normal_component};
 
@@ -23,18 +23,6 @@ fn is_never_literal(table: &Table, ch: char) -> bool
     table.allows('\u{200E}')
         && table.allows_pct_encoded()
         && matches!(ch as u32, 0x200E | 0x200F | 0x202A..=0x202E)
-}
-
-/// Returns the normal text of an ASCII character, with a letter in lower case if `lowers`.
-#[inline(always)]
-pub(crate) fn normal_ascii(lowers: bool, byte: u8) -> u8
-    ensures { result ≡ lowered_code_if lowers byte }
-{
-    if lowers {
-        byte.to_ascii_lowercase()
-    } else {
-        byte
-    }
 }
 
 /// Returns the normal text of a character, with a letter in lower case if `lowers`.

@@ -5,10 +5,11 @@ ghost use Rattle.uri_pct.specs.Chunks.{widest_set};
 ghost use Rattle.uri_pct.specs.Tables.{set_of};
 ghost use Rattle.uri_pct.specs.Tokens.{IsValidFor};
 
+use crate::normalize::literal_runs::lowered_code_if;
 use crate::read_back::held::Held;
 use crate::read_back::last_tokens::{ascii_suffix_start, split_last_ascii};
 use crate::read_back::literal_back::put_back;
-use crate::read_back::normal_tokens::{normal_ascii, split_last_token};
+use crate::read_back::normal_tokens::split_last_token;
 use crate::read_back::{BLOCK, ReadBack};
 use uri_pct::table::Table;
 
@@ -57,7 +58,7 @@ impl<'a> OctetsBack<'a> {
         }
         if let Some((rest, byte)) = split_last_ascii(self.rest) {
             self.rest = rest;
-            return Some(normal_ascii(self.lowers, byte));
+            return Some(lowered_code_if(self.lowers, byte));
         }
         let (rest, held) = split_last_token(&self.table, self.lowers, self.rest);
         self.rest = rest;

@@ -18,5 +18,6 @@ pub returns-in-Some-split_last_ascii-clause-some : goal.returns-in-Some-split_la
 returns-in-Some-split_last_ascii-clause-some c =
     last_ascii_is_written_last (set_of c.args.self.now.table) c.args.self.now.lowers
     c.args.self.now.rest.now c.in-Some-split_last_ascii.rest.now _ _ c.in-Some-split_last_ascii.byte
-    c.normal_ascii.result c.in-Some-split_last_ascii.ensures.1 c.in-Some-split_last_ascii.ensures.0
-    c.normal_ascii.ensures c.in_default.ensures.0 c.in_default.ensures.1
+    c.lowered_code_if.result c.in-Some-split_last_ascii.ensures.1
+    c.in-Some-split_last_ascii.ensures.0 c.lowered_code_if.ensures c.in_default.ensures.0
+    c.in_default.ensures.1
