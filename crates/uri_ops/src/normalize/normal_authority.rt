@@ -153,6 +153,7 @@ fn push_port<U: Encoder, R: Encoder, S: SchemeRules>(
 
 /// Returns whether a normal authority has the port that this one has, if it has one: the port is
 /// neither empty nor the scheme's default.
+#[inline(always)]
 pub(crate) fn is_port_unchanged<U: Encoder, R: Encoder, S: SchemeRules>(
     authority: Option<Authority<'_, U, R>>,
     scheme: Option<Scheme<'_>>,
