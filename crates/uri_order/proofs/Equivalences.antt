@@ -1,8 +1,9 @@
 -- When normal forms are equal.
-use Rattle.std.proofs.Common.{◌≡◌, ◌↔◌, ℕ, true, List, refl, sym, ap, ◌∙◌, Ordering, Less, Equal, Greater, subst}
+use Rattle.std.proofs.Common.{◌≡◌, ◌↔◌, ℕ, List, sym, ap, ◌∙◌, Ordering, Equal, subst}
 use Rattle.std.proofs.lemmas.Map.Text.{is_eq-slice_cmp}
 use Rattle.std.proofs.lemmas.Slice.Eq.{bytes_eq-Decides}
-use Rattle.std.specs.Cmp.Lexicographic.{slice_cmp}
+use Rattle.std.specs.Cmp.{tied_itself}
+use Rattle.std.specs.Cmp.Lexicographic.{nat_list_cmp_total, slice_cmp}
 use Rattle.std.specs.Ordering.{is_eq, nat_cmp}
 use Rattle.std.specs.Str.{IsUtf8}
 use Rattle.uri_parts.specs.Grammar.{Kind, IsOfKind, IsTextOf}
@@ -27,24 +28,17 @@ equivalent_if_forms_are_equal kind rules sets one other v w tested =
     let same = same-normal-text-same-meaning kind rules sets one other v w in
     (λ p. same.0 (tested.0 p), λ m. tested.1 (same.1 m))
 
--- an order of texts that is equal is that of equal ones
-is_equal_if_it_tests_so : (order : Ordering) → is_eq order ≡ true → order ≡ Equal
-is_equal_if_it_tests_so Less e = cc
-is_equal_if_it_tests_so Equal e = refl
-is_equal_if_it_tests_so Greater e = cc
-
 -- equal texts are equal in their order
 pub equal_texts_are_equal_in_order : (one other : List ℕ) → one ≡ other
     → Equal ≡ slice_cmp nat_cmp one other
 equal_texts_are_equal_in_order one other e =
-    sym (is_equal_if_it_tests_so _ (is_eq-slice_cmp one other ∙ (bytes_eq-Decides one other).1 e))
+    sym (tied_itself nat_list_cmp_total one) ∙ ap (slice_cmp nat_cmp one) e
 
 -- two texts are equal in their order exactly if they are equal
 pub equal_in_order_if_equal : (one other : List ℕ) (order : Ordering)
     → order ≡ slice_cmp nat_cmp one other → (order ≡ Equal) ↔ (one ≡ other)
-equal_in_order_if_equal one other order e =
-    let test = is_eq-slice_cmp one other in
-    let decides = bytes_eq-Decides one other in (
-      λ equal. decides.0 (sym test ∙ ap is_eq (sym e ∙ equal)),
-      λ same. is_equal_if_it_tests_so order (ap is_eq e ∙ test ∙ decides.1 same),
-    )
+equal_in_order_if_equal one other order e = (
+  λ equal. (bytes_eq-Decides one other).0
+      (sym (is_eq-slice_cmp one other) ∙ ap is_eq (sym e ∙ equal)),
+  λ same. e ∙ sym (equal_texts_are_equal_in_order one other same),
+)

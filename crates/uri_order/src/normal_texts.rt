@@ -5,6 +5,7 @@ ghost use Rattle.std.specs.Cmp.Lexicographic.{slice_cmp};
 ghost use Rattle.std.specs.List.{fold};
 ghost use Rattle.std.specs.Ordering.{nat_cmp};
 ghost use Rattle.uri_parts.specs.CoreTexts.{core_text};
+ghost use Rattle.uri_parts.specs.Grammar.{IsTextOf};
 ghost use Rattle.uri_order.specs.HashedTexts.{hashed_text};
 ghost use Rattle.uri_order.specs.NormalForms.{AreEquivalent, normal_form};
 
@@ -13,19 +14,28 @@ use std::cmp::Ordering;
 use std::hash::Hasher;
 use uri_ops::normalize::ruled_parts::ruled_authority;
 use uri_ops::normalize::unchanged::is_found_normal;
-use uri_ops::read_back::are_equal;
 use uri_ops::read_back::literal_back::LiteralBack;
 use uri_ops::read_back::normal_authority::ipv6_host_of;
 use uri_ops::read_back::ruled_back::ruled_back;
+use uri_ops::read_back::{ReadBack, are_equal};
 use uri_ops::scheme_rules::SchemeRules;
 use uri_parts::core_text::Core;
 use uri_parts::kind::Kind;
 
+/// Returns whether two values have the same text.
+#[inline(always)]
+fn have_same_text<K: Kind>(one: Core<K, &str>, other: Core<K, &str>) -> bool
+    ensures same { result ≡ true → core_text one.entry ≡ core_text other.entry }
+    ensures one { IsTextOf K.kind (core_text one.entry) }
+    ensures other { IsTextOf K.kind (core_text other.entry) }
+{
+    one.as_str() == other.as_str()
+}
+
 /// Returns the text of a value if it is found to be its own normal form. It misses a few such
 /// values.
 fn unchanged_text<'a, K: Kind, S: SchemeRules>(core: Core<K, &'a str>, rules: &S) -> Option<&'a str>
-    ensures own { IfSome result (λ text. text.now ≡ core_text core.entry) }
-    ensures normal { IfSome result (λ text.
+    ensures { IfSome result (λ text.
         text.now ≡ normal_form K.kind (S.rules_of rules.now) (core_text core.entry)) }
 {
     let text = core.as_str();
@@ -35,37 +45,14 @@ fn unchanged_text<'a, K: Kind, S: SchemeRules>(core: Core<K, &'a str>, rules: &S
     Some(text)
 }
 
-/// Returns whether a text is the normal text of a value.
-fn is_normal_text_of<K: Kind, S: SchemeRules>(text: &str, core: Core<K, &str>, rules: &S) -> bool
-    ensures { let rules = S.rules_of rules.now in
-        (result ≡ true) ↔ (normal_form K.kind rules (core_text core.entry) ≡ text.now) }
+/// Returns whether the normal text of a value, which it reads from its end, is another text.
+fn is_read_as<K: Kind, S: SchemeRules, B: ReadBack>(core: Core<K, &str>, rules: &S, text: B) -> bool
+    ensures { (result ≡ true)
+        ↔ (normal_form K.kind (S.rules_of rules.now) (core_text core.entry) ≡ B.unread text) }
 {
     let authority = ruled_authority(core, rules);
     let (host, end) = ipv6_host_of(authority);
-    are_equal(
-        ruled_back(core, authority, rules, &host[..end]),
-        LiteralBack::copied(text.as_bytes()),
-    )
-}
-
-/// Returns whether the normal texts of two values are equal, which it reads from their ends.
-fn are_read_equal<K: Kind, S: SchemeRules>(
-    one: Core<K, &str>,
-    other: Core<K, &str>,
-    rules: &S,
-) -> bool
-    ensures { let rules = S.rules_of rules.now in
-        (result ≡ true) ↔ (normal_form K.kind rules (core_text one.entry)
-        ≡ normal_form K.kind rules (core_text other.entry)) }
-{
-    let one_authority = ruled_authority(one, rules);
-    let (one_host, one_end) = ipv6_host_of(one_authority);
-    let other_authority = ruled_authority(other, rules);
-    let (other_host, other_end) = ipv6_host_of(other_authority);
-    are_equal(
-        ruled_back(one, one_authority, rules, &one_host[..one_end]),
-        ruled_back(other, other_authority, rules, &other_host[..other_end]),
-    )
+    are_equal(ruled_back(core, authority, rules, &host[..end]), text)
 }
 
 /// Returns whether the normal texts of two values are equal.
@@ -80,9 +67,14 @@ fn have_equal_texts<K: Kind, S: SchemeRules>(
 {
     match (unchanged_text(one, rules), unchanged_text(other, rules)) {
         (Some(first), Some(second)) => first == second,
-        (Some(first), None) => is_normal_text_of(first, other, rules),
-        (None, Some(second)) => is_normal_text_of(second, one, rules),
-        (None, None) => are_read_equal(one, other, rules),
+        (Some(text), None) => is_read_as(other, rules, LiteralBack::copied(text.as_bytes())),
+        (None, Some(text)) => is_read_as(one, rules, LiteralBack::copied(text.as_bytes())),
+        (None, None) => {
+            let authority = ruled_authority(other, rules);
+            let (host, end) = ipv6_host_of(authority);
+            let text = ruled_back(other, authority, rules, &host[..end]);
+            is_read_as(one, rules, text)
+        }
     }
 }
 
@@ -99,59 +91,24 @@ pub(crate) fn are_equivalent<K: Kind, S: SchemeRules>(
         (result ≡ true)
         ↔ AreEquivalent K.kind rules (core_text one.entry) (core_text other.entry) }
 {
-    if one.as_str() == other.as_str() {
+    if have_same_text(one, other) {
         return true;
     }
     have_equal_texts(one, other, rules)
 }
 
-/// Returns the order of the normal text of a value, which it reads from its end, and a text.
-fn cmp_to_text<K: Kind, S: SchemeRules>(core: Core<K, &str>, text: &str, rules: &S) -> Ordering
-    ensures { let rules = S.rules_of rules.now in
-        result ≡ slice_cmp nat_cmp
-        (normal_form K.kind rules (core_text core.entry)) text.now }
-{
-    let authority = ruled_authority(core, rules);
-    let (host, end) = ipv6_host_of(authority);
-    cmp(
-        ruled_back(core, authority, rules, &host[..end]),
-        LiteralBack::copied(text.as_bytes()),
-    )
-}
-
-/// Returns the order of a text and the normal text of a value, which it reads from its end.
-fn cmp_text_to<K: Kind, S: SchemeRules>(text: &str, core: Core<K, &str>, rules: &S) -> Ordering
-    ensures { let rules = S.rules_of rules.now in
-        result ≡ slice_cmp nat_cmp
-        text.now (normal_form K.kind rules (core_text core.entry)) }
-{
-    let authority = ruled_authority(core, rules);
-    let (host, end) = ipv6_host_of(authority);
-    cmp(
-        LiteralBack::copied(text.as_bytes()),
-        ruled_back(core, authority, rules, &host[..end]),
-    )
-}
-
-/// Returns the order of the normal texts of two values, which it reads from their ends.
-fn cmp_read<K: Kind, S: SchemeRules>(
-    one: Core<K, &str>,
-    other: Core<K, &str>,
+/// Returns the order of the normal text of a value, which it reads from its end, and another text.
+fn cmp_read<K: Kind, S: SchemeRules, B: ReadBack>(
+    core: Core<K, &str>,
     rules: &S,
+    text: B,
 ) -> Ordering
-    ensures { let rules = S.rules_of rules.now in
-        result ≡ slice_cmp nat_cmp
-        (normal_form K.kind rules (core_text one.entry))
-        (normal_form K.kind rules (core_text other.entry)) }
+    ensures { result ≡ slice_cmp nat_cmp
+        (normal_form K.kind (S.rules_of rules.now) (core_text core.entry)) (B.unread text) }
 {
-    let one_authority = ruled_authority(one, rules);
-    let (one_host, one_end) = ipv6_host_of(one_authority);
-    let other_authority = ruled_authority(other, rules);
-    let (other_host, other_end) = ipv6_host_of(other_authority);
-    cmp(
-        ruled_back(one, one_authority, rules, &one_host[..one_end]),
-        ruled_back(other, other_authority, rules, &other_host[..other_end]),
-    )
+    let authority = ruled_authority(core, rules);
+    let (host, end) = ipv6_host_of(authority);
+    cmp(ruled_back(core, authority, rules, &host[..end]), text)
 }
 
 /// Returns the order of the normal texts of two values, byte by byte.
@@ -167,9 +124,16 @@ fn cmp_texts<K: Kind, S: SchemeRules>(
 {
     match (unchanged_text(one, rules), unchanged_text(other, rules)) {
         (Some(first), Some(second)) => first.cmp(second),
-        (Some(first), None) => cmp_text_to(first, other, rules),
-        (None, Some(second)) => cmp_to_text(one, second, rules),
-        (None, None) => cmp_read(one, other, rules),
+        (Some(text), None) => {
+            cmp_read(other, rules, LiteralBack::copied(text.as_bytes())).reverse()
+        }
+        (None, Some(text)) => cmp_read(one, rules, LiteralBack::copied(text.as_bytes())),
+        (None, None) => {
+            let authority = ruled_authority(other, rules);
+            let (host, end) = ipv6_host_of(authority);
+            let text = ruled_back(other, authority, rules, &host[..end]);
+            cmp_read(one, rules, text)
+        }
     }
 }
 
@@ -187,21 +151,10 @@ pub(crate) fn cmp_normal<K: Kind, S: SchemeRules>(
         (result ≡ Ordering.Equal)
         ↔ AreEquivalent K.kind rules (core_text one.entry) (core_text other.entry) }
 {
-    if one.as_str() == other.as_str() {
+    if have_same_text(one, other) {
         return Ordering::Equal;
     }
     cmp_texts(one, other, rules)
-}
-
-/// Writes the normal text of a value, which it reads from its end, into a hasher.
-fn hash_read<K: Kind, S: SchemeRules, H: Hasher>(core: Core<K, &str>, rules: &S, state: &mut H)
-    ensures { let rules = S.rules_of rules.now in
-        state.new ≡ fold H.write state.old
-        (hashed_text (normal_form K.kind rules (core_text core.entry))) }
-{
-    let authority = ruled_authority(core, rules);
-    let (host, end) = ipv6_host_of(authority);
-    hash(ruled_back(core, authority, rules, &host[..end]), state);
 }
 
 /// Writes the normal text of a value into a hasher.
@@ -214,8 +167,11 @@ pub(crate) fn hash_normal<K: Kind, S: SchemeRules, H: Hasher>(
         state.new ≡ fold H.write state.old
         (hashed_text (normal_form K.kind rules (core_text core.entry))) }
 {
-    match unchanged_text(core, rules) {
-        Some(text) => hash(LiteralBack::copied(text.as_bytes()), state),
-        None => hash_read(core, rules, state),
+    if let Some(text) = unchanged_text(core, rules) {
+        hash(LiteralBack::copied(text.as_bytes()), state);
+        return;
     }
+    let authority = ruled_authority(core, rules);
+    let (host, end) = ipv6_host_of(authority);
+    hash(ruled_back(core, authority, rules, &host[..end]), state);
 }
