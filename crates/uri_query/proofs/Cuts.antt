@@ -19,21 +19,6 @@ unfolding text_after_equals
 text_after_equals-append [] after e = refl
 text_after_equals-append (b ∷ bs) after e = grind (arith, e, text_after_equals-append bs after)
 
--- pairs of a query: a piece without `=` (61) is all before it
-text_before_equals-without-equals : (text : List ℕ) → lacks 61 text ≡ true → text_before_equals text
-    ≡ text
-unfolding text_before_equals
-text_before_equals-without-equals [] e = refl
-text_before_equals-without-equals (b ∷ bs) e = grind
-    (arith, e, text_before_equals-without-equals bs)
-
--- pairs of a query: a piece without `=` (61) has nothing after it
-text_after_equals-without-equals : (text : List ℕ) → lacks 61 text ≡ true → text_after_equals text
-    ≡ []
-unfolding text_after_equals
-text_after_equals-without-equals [] e = refl
-text_after_equals-without-equals (b ∷ bs) e = grind (arith, e, text_after_equals-without-equals bs)
-
 -- pairs of a query: where a piece is cut at its first `=` (61), `text_before_equals`
 -- gives what is before it, the name
 pub text_before_equals-of-cut : (text before after : List ℕ) → IsCutAtFirst 61 text before after
@@ -51,12 +36,16 @@ text_after_equals-of-cut text before after cut = sym (ap text_after_equals cut.0
 -- pairs of a query: a piece without `=` (61) is its own name
 pub text_before_equals-of-whole : (text : List ℕ) → lacks 61 text ≡ true → text
     ≡ text_before_equals text
-text_before_equals-of-whole text e = sym (text_before_equals-without-equals text e)
+unfolding text_before_equals
+text_before_equals-of-whole [] e = refl
+text_before_equals-of-whole (b ∷ bs) e = grind (arith, e, text_before_equals-of-whole bs)
 
 -- pairs of a query: a piece without `=` (61) has an empty value
 pub text_after_equals-of-whole : (text : List ℕ) → lacks 61 text ≡ true → []
     ≡ text_after_equals text
-text_after_equals-of-whole text e = sym (text_after_equals-without-equals text e)
+unfolding text_after_equals
+text_after_equals-of-whole [] e = refl
+text_after_equals-of-whole (b ∷ bs) e = grind (arith, e, text_after_equals-of-whole bs)
 
 pub ruleset cuts = (
   text_before_equals-of-cut,
