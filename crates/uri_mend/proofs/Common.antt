@@ -19,7 +19,7 @@ unfoldable pub use Rattle.uri_mend.specs.MendedParts.{mended_from_chars, mended}
 pub use Rattle.uri_mend.specs.Mending.{mended_components}
 unfoldable pub use Rattle.uri_mend.specs.Mending.{link_components, mended_text, has_false_scheme, with_dot_segment, can_be_mended}
 pub use Rattle.uri_mend.specs.Progress.{IsEncodedBetween, IsLackedRun, are_marks, is_never, lacks_marks, IsProgress, mended_so_far}
-pub use Rattle.uri_mend.specs.Tails.{mended_query, mended_fragment, IsMendedByPieces, IsPathMendedByPieces, query_of_tail, dot_segment_if, mended_path}
+pub use Rattle.uri_mend.specs.Tails.{mended_marked, mended_query, mended_fragment, IsMendedByPieces, IsPathMendedByPieces, query_of_tail, dot_segment_if, mended_path}
 unfoldable pub use Rattle.uri_mend.specs.Tails.{mended_tail}
 pub use Rattle.uri_mend.specs.Trimming.{tab_and_newlines, without_any, without_outer_space}
 unfoldable pub use Rattle.uri_mend.specs.Trimming.{trimmed_link}

@@ -1,5 +1,5 @@
 -- What follows an authority, mended component by component.
-use Rattle.uri_mend.proofs.Common.{◌≡◌, ℕ, ◌+◌, ◌-◌, ◌<◌, ◌≤◌, true, List, [], ◌∷◌, ◌++◌, length, take, drop, get_or, refl, sym, ap, ◌∙◌, arith, append_assoc, length-append, length-drop, codes, option_map, append-nil, drop_more, length-take-le, TableSet, after_query, before_any, from_any, marked, starts, when, Kind, cut-at-end-of-text-without-marks, mended, IsProgress, mended_so_far, mended_fragment, mended_query, mended_tail}
+use Rattle.uri_mend.proofs.Common.{◌≡◌, ℕ, ◌+◌, ◌-◌, ◌<◌, ◌≤◌, true, List, [], ◌∷◌, ◌++◌, length, take, drop, get_or, refl, sym, ap, ◌∙◌, arith, append_assoc, length-append, length-drop, codes, option_map, append-nil, drop_more, length-take-le, TableSet, after_query, before_any, from_any, marked, starts, when, Kind, cut-at-end-of-text-without-marks, mended, IsProgress, mended_so_far, mended_fragment, mended_marked, mended_query, mended_tail}
 use Rattle.uri_mend.specs.declared.component.Progress.{Progress}
 use Rattle.uri_mend.proofs.ComponentProgress.{run-goes-on}
 
@@ -12,44 +12,36 @@ run-goes-on-by-mark text start end mark le inside same =
     ap (take 1) (drop_more text end 0 inside) ∙ ap (λ c. c ∷ []) same in
     sym (run-goes-on text start end 1 le) ∙ ap (λ t. take (end - start) (drop start text) ++ t) one
 
--- tails: a query is mended after its `?`
-pub query-is-mended : (set : TableSet) (out new end : List ℕ) → starts 63 end ≡ true
-    → new ≡ (out ++ 63 ∷ []) ++ mended set (before_any (codes "#") (drop 1 end))
-    → new ≡ out ++ mended_query set end
-query-is-mended set out new end e written =
-    let query = mended set (before_any (codes "#") (drop 1 end)) in
-    written ∙ append_assoc out (63 ∷ []) query
-    ∙ ap (λ t. out ++ t) (sym (ap (λ t. marked (codes "?") (option_map (mended set)
-    (when t (before_any (codes "#") (drop 1 end)))) []) e ∙ append-nil (63 ∷ query)))
+-- tails: a component is mended after its mark
+pub component-is-mended-after-mark : (mark : ℕ) (marks : List ℕ) (set : TableSet)
+    (out new text : List ℕ) → starts mark text ≡ true
+    → new ≡ (out ++ mark ∷ []) ++ mended set (before_any marks (drop 1 text))
+    → new ≡ out ++ mended_marked mark marks set text
+component-is-mended-after-mark mark marks set out new text e written =
+    let part = mended set (before_any marks (drop 1 text)) in
+    written ∙ append_assoc out (mark ∷ []) part
+    ∙ ap (λ t. out ++ t) (sym (ap (λ t. marked (mark ∷ []) (option_map (mended set)
+    (when t (before_any marks (drop 1 text)))) []) e ∙ append-nil (mark ∷ part)))
 
 -- tails: no character ends a component without marks
 text-without-marks-is-whole : (text : List ℕ) → before_any [] text ≡ text
 text-without-marks-is-whole text = ap (before_any []) (sym (append-nil text))
     ∙ (cut-at-end-of-text-without-marks [] text [] (λ k d l. refl) tt).0
 
--- tails: a fragment is mended after its `#`
-pub fragment-is-mended : (set : TableSet) (out new end : List ℕ) → starts 35 end ≡ true
-    → new ≡ (out ++ 35 ∷ []) ++ mended set (before_any [] (drop 1 end))
-    → new ≡ out ++ mended_fragment set end
-fragment-is-mended set out new end e written =
-    let fragment = mended set (drop 1 end) in
-    written ∙ ap (λ t. (out ++ 35 ∷ []) ++ mended set t) (text-without-marks-is-whole (drop 1 end))
-    ∙ append_assoc out (35 ∷ []) fragment
-    ∙ ap (λ t. out ++ t) (sym (ap (λ t. marked (codes "#") (option_map (mended set)
-    (when t (drop 1 end))) []) e ∙ append-nil (35 ∷ fragment)))
-
 -- tails: path, query and fragment, one after the other, are the mended tail
 pub parts-are-mended-tail : (kind : Kind) (tail end rest a b c d : List ℕ)
     → end ≡ from_any (codes "?#") tail → rest ≡ after_query end
     → b ≡ a ++ mended kind.path (before_any (codes "?#") tail)
-    → c ≡ b ++ mended_query kind.query end → d ≡ c ++ mended_fragment kind.fragment rest
+    → c ≡ b ++ mended_query kind.query end → d ≡ c ++ mended_marked 35 [] kind.fragment rest
     → d ≡ a ++ mended_tail kind tail
 unfolding mended_tail
 parts-are-mended-tail kind tail end rest a b c d e r first second third =
     let path = mended kind.path (before_any (codes "?#") tail) in
     let query = mended_query kind.query end in
     let fragment = mended_fragment kind.fragment rest in
-    third ∙ ap (λ t. t ++ fragment) (second ∙ ap (λ t. t ++ query) first)
+    third ∙ ap (λ t. c ++ marked (codes "#") (option_map (mended kind.fragment)
+    (when (starts 35 rest) t)) []) (text-without-marks-is-whole (drop 1 rest))
+    ∙ ap (λ t. t ++ fragment) (second ∙ ap (λ t. t ++ query) first)
     ∙ append_assoc (a ++ path) query fragment ∙ append_assoc a path (query ++ fragment)
     ∙ ap (λ t. a ++ (path ++ (query ++ mended_fragment kind.fragment t))) r ∙ ap (λ t.
     a ++ (path ++ (mended_query kind.query t ++ mended_fragment kind.fragment (after_query t)))) e

@@ -56,8 +56,8 @@ kind-by-flags-has-mended-sets true needs_scheme = record {
   query_marks = refl;
 }
 
--- sets: a kind that is one of the four has them
-pub one-of-four-kinds-has-mended-sets : (kind : Kind)
-    → kind ≡ kind_by_flags kind.path.ucschar kind.needs_scheme → HasMendedSets kind
-one-of-four-kinds-has-mended-sets kind known = subst HasMendedSets (sym known)
+-- sets: a kind that is equal to one of the four has them
+pub known-kind-has-mended-sets : (kind same : Kind)
+    → kind ≡ kind_by_flags kind.path.ucschar kind.needs_scheme → same ≡ kind → HasMendedSets same
+known-kind-has-mended-sets kind same known e = subst HasMendedSets (sym (e ∙ known))
     (kind-by-flags-has-mended-sets kind.path.ucschar kind.needs_scheme)

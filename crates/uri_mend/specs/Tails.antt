@@ -1,5 +1,5 @@
 -- Steps of mending: what follows an authority. No RFC has this.
-use Rattle.std.specs.Prelude.{◌≡◌, ℕ, Bool, List, [], ◌++◌, codes, drop, option_map, Option, if◌then◌else◌}
+use Rattle.std.specs.Prelude.{◌≡◌, ℕ, Bool, List, [], ◌∷◌, ◌++◌, codes, drop, option_map, Option, if◌then◌else◌}
 use Rattle.uri_pct.specs.Delimiters.{number_sign, question_mark}
 use Rattle.uri_parts.specs.Components.{after_query, before_any, from_any, marked, starts, when}
 use Rattle.uri_parts.specs.Grammar.{Kind}
@@ -18,10 +18,19 @@ query_of_tail tail =
     let end = from_any (codes "?#") tail in
     when (starts question_mark end) (before_any (codes "#") (drop 1 end))
 
+-- the component at the start of a text that begins with this mark, and ends before the first of
+-- these marks, mended for this set, with its mark; or nothing
+abbrev pub mended_marked : ℕ → List ℕ → TableSet → List ℕ → List ℕ
+mended_marked mark marks set text = marked (mark ∷ []) (option_map (mended set)
+    (when (starts mark text) (before_any marks (drop 1 text)))) []
+
+-- what follows this component in the text
+abbrev pub after_marked : ℕ → List ℕ → List ℕ → List ℕ
+after_marked mark marks text = if starts mark text then from_any marks (drop 1 text) else text
+
 -- the query at the start of what follows a path, mended for this set, with its `?`; or nothing
 abbrev pub mended_query : TableSet → List ℕ → List ℕ
-mended_query set end = marked (codes "?") (option_map (mended set)
-    (when (starts question_mark end) (before_any (codes "#") (drop 1 end)))) []
+mended_query = mended_marked question_mark (codes "#")
 
 -- the fragment at the start of what follows a query, mended for this set, with its `#`; or nothing
 abbrev pub mended_fragment : TableSet → List ℕ → List ℕ

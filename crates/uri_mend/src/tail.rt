@@ -3,9 +3,9 @@ ghost use Rattle.std.specs.Prelude.{◌≡◌, ◌+◌, ◌-◌, ◌<◌, ◌≤
 ghost use Rattle.std.specs.Str.{IsCharBoundary};
 ghost use Rattle.uri_pct.specs.Masks.{has_bit};
 ghost use Rattle.uri_pct.specs.Tables.{set_of};
-ghost use Rattle.uri_parts.specs.Components.{after_query, from_any, starts};
+ghost use Rattle.uri_parts.specs.Components.{from_any, starts};
 ghost use Rattle.uri_mend.specs.Progress.{IsProgress, are_marks, mended_so_far};
-ghost use Rattle.uri_mend.specs.Tails.{mended_fragment, mended_path, mended_query, mended_tail};
+ghost use Rattle.uri_mend.specs.Tails.{after_marked, mended_marked, mended_path, mended_query, mended_tail};
 ghost use Rattle.uri_mend.specs.declared.component.TheConstants.{NEVER_HIGH, NEVER_LOW};
 
 use crate::component::{Progress, mend_component};
@@ -49,50 +49,32 @@ fn pass_mark(text: &str, mark: u8, from: Progress) -> Option<Progress>
     }
 }
 
-/// Mends the query with its `?`, if it is next.
+/// Mends the component that begins with this mark, and ends before the first of these marks, with
+/// its mark, if it is next.
 #[inline(always)]
-fn mend_query(
+fn mend_marked(
     table: &Table,
+    mark: u8,
+    marks: &[u8],
     text: &str,
     from: Progress,
     out: &mut Vec<u8>,
 ) -> Result<Progress, AllocError>
+    requires ascii { mark < 128 }
     requires octets { (set_of table.now).pct_encoded ≡ true }
     requires never { (b : ℕ) → has_bit NEVER_LOW NEVER_HIGH b ≡ true
         → (set_of table.now).ascii b ≡ false }
-    requires marks { are_marks (set_of table.now) (codes "#") ≡ true }
+    requires marks { are_marks (set_of table.now) marks.now ≡ true }
     requires progress { IsProgress text.now out.old.items from }
     ensures progress { IfOk result (IsProgress text.now out.new.items) }
     ensures text { IfOk result (λ p. mended_so_far text.now out.new.items p
         ≡ mended_so_far text.now out.old.items from
-        ++ mended_query (set_of table.now) (drop from.end text.now)) }
-    ensures rest { IfOk result (λ p. drop p.end text.now ≡ after_query (drop from.end text.now)) }
+        ++ mended_marked mark marks.now (set_of table.now) (drop from.end text.now)) }
+    ensures rest { IfOk result (λ p. drop p.end text.now
+        ≡ after_marked mark marks.now (drop from.end text.now)) }
 {
-    match pass_mark(text, b'?', from) {
-        Some(p) => mend_component(table, b"#", text, p, out),
-        None => Ok(from),
-    }
-}
-
-/// Mends the fragment with its `#`, if it is next.
-#[inline(always)]
-fn mend_fragment(
-    table: &Table,
-    text: &str,
-    from: Progress,
-    out: &mut Vec<u8>,
-) -> Result<Progress, AllocError>
-    requires octets { (set_of table.now).pct_encoded ≡ true }
-    requires never { (b : ℕ) → has_bit NEVER_LOW NEVER_HIGH b ≡ true
-        → (set_of table.now).ascii b ≡ false }
-    requires progress { IsProgress text.now out.old.items from }
-    ensures progress { IfOk result (IsProgress text.now out.new.items) }
-    ensures text { IfOk result (λ p. mended_so_far text.now out.new.items p
-        ≡ mended_so_far text.now out.old.items from
-        ++ mended_fragment (set_of table.now) (drop from.end text.now)) }
-{
-    match pass_mark(text, b'#', from) {
-        Some(p) => mend_component(table, b"", text, p, out),
+    match pass_mark(text, mark, from) {
+        Some(p) => mend_component(table, marks, text, p, out),
         None => Ok(from),
     }
 }
@@ -127,9 +109,9 @@ pub(crate) fn mend_tail<K: Kind>(
     let tables = K::tables();
     let path = mend_component(&tables.path, b"?#", text, from, out)?;
     let path_end = mended_len(path)?;
-    let query = mend_query(&tables.query, text, path, out)?;
+    let query = mend_marked(&tables.query, b'?', b"#", text, path, out)?;
     let query_end = mended_len(query)?;
-    let progress = mend_fragment(&tables.fragment, text, query, out)?;
+    let progress = mend_marked(&tables.fragment, b'#', b"", text, query, out)?;
     Ok(MendedTail {
         progress,
         path_end,

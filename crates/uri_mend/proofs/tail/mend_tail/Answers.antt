@@ -1,46 +1,41 @@
 use Rattle.uri_mend.proofs.Common.{◌≡◌, ◌+◌, ◌++◌, List, ℕ, drop, length, subst, sym, ap, ◌∙◌, Kind, mended_so_far, mended_path, mended_query, mended_tail}
 use Rattle.uri_parts.specs.KindTables.{kind_of}
-use Rattle.uri_mend.proofs.NeverAllowed.{HasMendedSets, one-of-four-kinds-has-mended-sets}
+use Rattle.uri_mend.proofs.NeverAllowed.{known-kind-has-mended-sets}
 use Rattle.uri_mend.proofs.MendedTails.{length-of-mended-so-far, part-ends-where-mended, parts-are-mended-tail}
 use Rattle.uri_mend.proofs.tail.mend_tail.Goals as goal
 
 pub mend_component-requires-clause-never : goal.mend_component-requires-clause-never
 mend_component-requires-clause-never g c =
-    let sets = one-of-four-kinds-has-mended-sets g.K.Kind.kind g.met.K.Kind.known in
-    (subst HasMendedSets (sym c.tables-tables.ensures.kind) sets).path
+    (known-kind-has-mended-sets _ _ g.met.K.Kind.known c.tables-tables.ensures.kind).path
 
 pub mend_component-requires-clause-marks : goal.mend_component-requires-clause-marks
 mend_component-requires-clause-marks g c =
-    let sets = one-of-four-kinds-has-mended-sets g.K.Kind.kind g.met.K.Kind.known in
-    (subst HasMendedSets (sym c.tables-tables.ensures.kind) sets).path_marks
+    (known-kind-has-mended-sets _ _ g.met.K.Kind.known c.tables-tables.ensures.kind).path_marks
 
-pub mend_query-requires-clause-never : goal.mend_query-requires-clause-never
-mend_query-requires-clause-never g c =
-    let sets = one-of-four-kinds-has-mended-sets g.K.Kind.kind g.met.K.Kind.known in
-    (subst HasMendedSets (sym c.tables-tables.ensures.kind) sets).query
+pub mend_marked-requires-clause-never : goal.mend_marked-requires-clause-never
+mend_marked-requires-clause-never g c =
+    (known-kind-has-mended-sets _ _ g.met.K.Kind.known c.tables-tables.ensures.kind).query
 
-pub mend_query-requires-clause-marks : goal.mend_query-requires-clause-marks
-mend_query-requires-clause-marks g c =
-    let sets = one-of-four-kinds-has-mended-sets g.K.Kind.kind g.met.K.Kind.known in
-    (subst HasMendedSets (sym c.tables-tables.ensures.kind) sets).query_marks
+pub mend_marked-requires-clause-marks : goal.mend_marked-requires-clause-marks
+mend_marked-requires-clause-marks g c =
+    (known-kind-has-mended-sets _ _ g.met.K.Kind.known c.tables-tables.ensures.kind).query_marks
 
-pub mend_fragment-requires-clause-never : goal.mend_fragment-requires-clause-never
-mend_fragment-requires-clause-never g c =
-    let sets = one-of-four-kinds-has-mended-sets g.K.Kind.kind g.met.K.Kind.known in
-    (subst HasMendedSets (sym c.tables-tables.ensures.kind) sets).fragment
+pub mend_marked-requires-2-clause-never : goal.mend_marked-requires-2-clause-never
+mend_marked-requires-2-clause-never g c =
+    (known-kind-has-mended-sets _ _ g.met.K.Kind.known c.tables-tables.ensures.kind).fragment
 
 pub returns-clause-text : goal.returns-clause-text
 returns-clause-text g c =
     let text = c.args.text.now in
     let tail = drop c.args.from.end text in
     let old : List ℕ = mended_so_far text c.args.out.now.items c.args.from in
-    let made : List ℕ = mended_so_far text c.mend_fragment.new.out.items
+    let made : List ℕ = mended_so_far text c.mend_marked-2.new.out.items
     c.in_ok-progress.progress in
     subst (λ k. made ≡ old ++ mended_tail k tail) c.tables-tables.ensures.kind
     (parts-are-mended-tail (kind_of c.tables-tables.result) tail (drop c.in_ok-path.path.end text)
     (drop c.in_ok-query.query.end text) old
     (mended_so_far text c.mend_component.new.out.items c.in_ok-path.path)
-    (mended_so_far text c.mend_query.new.out.items c.in_ok-query.query) made
+    (mended_so_far text c.mend_marked.new.out.items c.in_ok-query.query) made
     c.in_ok-path.ensures.rest c.in_ok-query.ensures.rest c.in_ok-path.ensures.text
     c.in_ok-query.ensures.text c.in_ok-progress.ensures.text)
 
@@ -59,7 +54,7 @@ returns-clause-query_end g c =
     let text = c.args.text.now in
     let tail = drop c.args.from.end text in
     let path : List ℕ = mended_so_far text c.mend_component.new.out.items c.in_ok-path.path in
-    part-ends-where-mended text c.mend_query.new.out.items path _ c.in_ok-query.query
+    part-ends-where-mended text c.mend_marked.new.out.items path _ c.in_ok-query.query
     c.in_ok-query_end.query_end c.in_ok-query.ensures.progress c.in_ok-query_end.ensures
     c.in_ok-query.ensures.text ∙ ap (λ n. n + length
     (mended_query (kind_of c.tables-tables.result).query (drop c.in_ok-path.path.end text)))
