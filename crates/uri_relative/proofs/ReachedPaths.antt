@@ -62,6 +62,12 @@ joined-segments-begin-with-slash : (d : List ℕ) (ds : List (List ℕ)) → sla
 unfolding slashed
 joined-segments-begin-with-slash d ds = refl
 
+-- general fact on lists of segments, for relativized paths: so the text has one byte more than
+-- without that `/`
+length-of-joined-segments : (d : List ℕ) (ds : List (List ℕ))
+    → length (slashed (d ∷ ds)) ≡ 1 + length (d ++ slashed ds)
+length-of-joined-segments d ds = ap length (joined-segments-begin-with-slash d ds) ∙ omega arith
+
 -- general fact on lists of segments, for relativized paths: equal lists have equal rests, as texts
 equal-segments-have-equal-rest : (ds es : List (List ℕ)) → ds ≡ es → drop 1 (slashed ds)
     ≡ drop 1 (slashed es)
@@ -129,10 +135,8 @@ parts-are-reached-by-short-path output left segs prefix [] (d ∷ ds) s spare fr
     e f few down why cost first =
     let x = s ++ slashed segs in
     let rest = d ++ slashed ds in
-    let n : length (slashed (d ∷ ds))
-    ≡ 1 + length rest = ap length (joined-segments-begin-with-slash d ds) ∙ omega arith in
-    let m : length (slashed (s ∷ segs)) ≡ 1 + length x =
-    ap length (joined-segments-begin-with-slash s segs) ∙ omega arith in
+    let n = length-of-joined-segments d ds in
+    let m = length-of-joined-segments s segs in
     record {
       prefix = prefix;
       up = [];
@@ -154,10 +158,8 @@ parts-are-reached-by-short-path output left segs prefix (u ∷ us) (d ∷ ds) s 
     colon e f few down why cost first =
     let x = s ++ slashed segs in
     let rest = d ++ slashed ds in
-    let n : length (slashed (d ∷ ds))
-    ≡ 1 + length rest = ap length (joined-segments-begin-with-slash d ds) ∙ omega arith in
-    let m : length (slashed (s ∷ segs)) ≡ 1 + length x =
-    ap length (joined-segments-begin-with-slash s segs) ∙ omega arith in
+    let n = length-of-joined-segments d ds in
+    let m = length-of-joined-segments s segs in
     record {
       prefix = prefix;
       up = u ∷ us;

@@ -36,13 +36,10 @@ double-dot-segment-has-two-bytes (c ∷ []) e = absurd
     (false≢true (sym (one-byte-is-no-double-dot c) ∙ e))
 double-dot-segment-has-two-bytes (c ∷ d ∷ s) e = omega arith
 
--- relativized paths: what the last segment makes of a directory shares a prefix with it; single,
--- double: whether it is `.`, or `..`
-last-segment-shares-directory-prefix : (single double : Bool) (s : List ℕ) (output : List (List ℕ))
-    → (single ≡ true → 0 < length s) → (double ≡ true → 1 < length s) → SharesDirectoryPrefix output
-    (next_output single double output s ++ end_of (single || double)) (s ∷ [])
-unfolding next_output pop BeginWithSameSegment
-last-segment-shares-directory-prefix true double s output one two = record {
+-- relativized paths: a segment with bytes that stays in a directory shares all of it
+staying-segment-shares-directory-prefix : (s : List ℕ) (output : List (List ℕ)) → 0 < length s
+    → SharesDirectoryPrefix output (output ++ [] ∷ []) (s ∷ [])
+staying-segment-shares-directory-prefix s output some = record {
   prefix = output;
   up = [];
   down = [] ∷ [];
@@ -54,32 +51,24 @@ last-segment-shares-directory-prefix true double s output one two = record {
   why = inl refl;
   cost = omega (
     arith,
-    one refl,
+    some,
     length-of-first-segment-and-rest s [],
     length-of-first-segment-and-rest [] [],
     no-segments-have-length-zero,
   );
   first = inr (inl refl);
 }
-last-segment-shares-directory-prefix false true s [] one two = record {
-  prefix = [];
-  up = [];
-  down = [] ∷ [];
-  output_is = refl;
-  left_is = refl;
-  spare = 0;
-  few = omega arith;
-  some = omega arith;
-  why = inl refl;
-  cost = omega (
-    arith,
-    two refl,
-    length-of-first-segment-and-rest s [],
-    length-of-first-segment-and-rest [] [],
-    no-segments-have-length-zero,
-  );
-  first = inr (inl refl);
-}
+
+-- relativized paths: what the last segment makes of a directory shares a prefix with it; single,
+-- double: whether it is `.`, or `..`
+last-segment-shares-directory-prefix : (single double : Bool) (s : List ℕ) (output : List (List ℕ))
+    → (single ≡ true → 0 < length s) → (double ≡ true → 1 < length s) → SharesDirectoryPrefix output
+    (next_output single double output s ++ end_of (single || double)) (s ∷ [])
+unfolding next_output pop BeginWithSameSegment
+last-segment-shares-directory-prefix true double s output one two =
+    staying-segment-shares-directory-prefix s output (one refl)
+last-segment-shares-directory-prefix false true s [] one two =
+    staying-segment-shares-directory-prefix s [] (omega (arith, two refl))
 last-segment-shares-directory-prefix false true s (o ∷ output) one two =
     let l = segments-are-all-but-last-and-last o output in
     record {
