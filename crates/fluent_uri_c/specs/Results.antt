@@ -1,5 +1,5 @@
 -- The result of each call for its arguments: a text, or why there is none.
-use Rattle.std.specs.Prelude.{◌≡◌, ◌⊎◌, ℕ, ◌^◌, Bool, false, true, ◌==◌, List, length, nat_lt, Option, Some, None, Result, Ok, Err, IsFalse, IsTrue, option_map, if◌then◌else◌}
+use Rattle.std.specs.Prelude.{◌≡◌, ◌⊎◌, ℕ, ◌^◌, Bool, false, true, ◌==◌, List, length, nat_lt, Option, Some, None, Result, Ok, Err, IsTrue, option_map, if◌then◌else◌}
 use Rattle.std.specs.Str.{IsUtf8}
 use Rattle.std.specs.Result.{is_ok, result_map_both}
 use Rattle.std.specs.Str.Lossy.{utf8_valid_len}
@@ -57,11 +57,6 @@ with_valid_number (Some it) result = result it
 -- whether bytes are no more than `PTRDIFF_MAX`, so that an object in memory can have them
 abbrev pub is_possible_length : List ℕ → Bool
 is_possible_length bytes = nat_lt (length bytes) (2 ^ 63)
-
--- a call for C returns `InvalidArgument` if bytes that it is given are more than `PTRDIFF_MAX`
-abbrev pub RejectsTooLong : List ℕ → ℕ → Type 0
-RejectsTooLong bytes returned =
-    IsFalse (is_possible_length bytes) → returned ≡ number_of Of.InvalidArgument
 
 -- why a call for C rejects bytes, if they are more than `PTRDIFF_MAX`
 abbrev pub length_error : List ℕ → Option Rejection

@@ -7,7 +7,7 @@ ghost use Rattle.fluent_uri.specs.References.{reference_text};
 ghost use Rattle.uri_idna.specs.AsciiReferences.{HasAsciiHost, with_ascii_host};
 ghost use Rattle.fluent_uri_c.specs.AsciiHosts.{ascii_host_of_kind, ascii_host_or_error, ascii_host_result, ascii_host_takes_memory, ascii_uri_of_kind, ascii_uri_result, ascii_uri_takes_memory, host_or_empty, takes_memory_for_host, takes_memory_for_host_of_kind};
 ghost use Rattle.fluent_uri_c.specs.Outcomes.{LeavesTextOrDenied};
-ghost use Rattle.fluent_uri_c.specs.Results.{IsReturnedOrDenied, text_error, RejectsTooLong};
+ghost use Rattle.fluent_uri_c.specs.Results.{IsReturnedOrDenied, text_error};
 ghost use Rattle.fluent_uri_c.specs.Values.{LeavesValueOrDenied};
 
 use crate::errors::{Error, Rejection};
@@ -86,8 +86,7 @@ pub extern "C" fn fluent_uri_ascii_host(
     out: &mut [u8],
     outcome: &mut Outcome,
 ) -> u32
-    ensures length { RejectsTooLong text.now result }
-    ensures text { LeavesTextOrDenied (ascii_host_takes_memory kind text.now)
+    ensures { LeavesTextOrDenied (ascii_host_takes_memory kind text.now)
         (ascii_host_result kind text.now) out.old out.new outcome.new result }
 {
     match host_numbered(alloc, kind, text) {
@@ -152,7 +151,6 @@ pub extern "C" fn fluent_uri_to_uri_with_ascii_host(
     parts: &mut [Parts],
     outcome: &mut Outcome,
 ) -> u32
-    ensures length { RejectsTooLong text.now result }
     ensures text { LeavesValueOrDenied (ascii_uri_takes_memory kind text.now)
         (ascii_uri_result kind text.now) out.old out.new parts.old parts.new outcome.new result }
     ensures others { result ≡ 0 → IsSomeAnd (with_ascii_host text.now) (HasAsciiHost text.now) }

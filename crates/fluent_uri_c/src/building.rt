@@ -10,7 +10,7 @@ ghost use Rattle.uri_pct.specs.Texts.{Pushes};
 ghost use Rattle.fluent_uri_c.specs.Building.{HasGivenComponents, HasValidAuthority, HasValidParts, HasValidTail, parts_rejection, authority_rejection, build_rejection, build_result, built_result, error_of_building, given, given_authority, given_components, given_error, is_absent, missing, tail_rejection, together_rejection};
 ghost use Rattle.fluent_uri_c.specs.Given.{authority_of, components_of};
 ghost use Rattle.fluent_uri_c.specs.Kinds.{kind_numbered};
-ghost use Rattle.fluent_uri_c.specs.Results.{IsReturnedAs, RejectsTooLong};
+ghost use Rattle.fluent_uri_c.specs.Results.{IsReturnedAs};
 ghost use Rattle.fluent_uri_c.specs.Values.{LeavesValue};
 
 use crate::errors::{Error, Rejection};
@@ -313,7 +313,6 @@ pub extern "C" fn fluent_uri_build(
     parts: &mut [Parts],
     outcome: &mut Outcome,
 ) -> u32
-    ensures length { RejectsTooLong text.now result }
     ensures text { LeavesValue (build_result kind text.now components.now)
         out.old out.new parts.old parts.new outcome.new result }
     ensures components { result ≡ 0 → IsSomeAnd (kind_numbered kind)

@@ -3,7 +3,7 @@ ghost use Rattle.std.specs.Prelude.{◌≡◌, Bool, false, IfErr, IfOk, IsTrue,
 ghost use Rattle.std.specs.Result.{result_ok};
 ghost use Rattle.fluent_uri.specs.References.{reference_text};
 ghost use Rattle.fluent_uri_c.specs.Columns.{LeavesColumn, buffers, column32, column64, call_result_bytes};
-ghost use Rattle.fluent_uri_c.specs.Results.{IsReturnedOrDenied, Returned, is_out_of_memory, RejectsTooLong};
+ghost use Rattle.fluent_uri_c.specs.Results.{IsReturnedOrDenied, Returned, is_out_of_memory};
 ghost use Rattle.fluent_uri_c.specs.SingleCalls.{converting, normalizing, resolving, resolving_normalized};
 
 use crate::bases::Base;
@@ -159,8 +159,7 @@ pub extern "C" fn fluent_uri_normalize_batch(
     valid: &mut [u8],
     outcome: &mut Outcome,
 ) -> u32
-    ensures length { RejectsTooLong texts.now result }
-    ensures column { LeavesColumn (normalizing kind options) (column32 texts.now offsets.now)
+    ensures { LeavesColumn (normalizing kind options) (column32 texts.now offsets.now)
         (buffers out.old out_offsets.old valid.old) (buffers out.new out_offsets.new valid.new)
         outcome.new result }
 {
@@ -184,8 +183,7 @@ pub extern "C" fn fluent_uri_to_uri_batch(
     valid: &mut [u8],
     outcome: &mut Outcome,
 ) -> u32
-    ensures length { RejectsTooLong texts.now result }
-    ensures column { LeavesColumn (converting kind) (column32 texts.now offsets.now)
+    ensures { LeavesColumn (converting kind) (column32 texts.now offsets.now)
         (buffers out.old out_offsets.old valid.old) (buffers out.new out_offsets.new valid.new)
         outcome.new result }
 {
@@ -207,8 +205,7 @@ pub extern "C" fn fluent_uri_resolve_batch(
     valid: &mut [u8],
     outcome: &mut Outcome,
 ) -> u32
-    ensures length { RejectsTooLong base.now result × RejectsTooLong texts.now result }
-    ensures column { LeavesColumn (resolving kind options base.now) (column32 texts.now offsets.now)
+    ensures { LeavesColumn (resolving kind options base.now) (column32 texts.now offsets.now)
         (buffers out.old out_offsets.old valid.old) (buffers out.new out_offsets.new valid.new)
         outcome.new result }
 {
@@ -236,8 +233,7 @@ pub extern "C" fn fluent_uri_resolve_normalized_batch(
     valid: &mut [u8],
     outcome: &mut Outcome,
 ) -> u32
-    ensures length { RejectsTooLong base.now result × RejectsTooLong texts.now result }
-    ensures column { LeavesColumn (resolving_normalized kind options base.now)
+    ensures { LeavesColumn (resolving_normalized kind options base.now)
         (column32 texts.now offsets.now) (buffers out.old out_offsets.old valid.old)
         (buffers out.new out_offsets.new valid.new) outcome.new result }
 {
@@ -264,8 +260,7 @@ pub extern "C" fn fluent_uri_normalize_batch64(
     valid: &mut [u8],
     outcome: &mut Outcome,
 ) -> u32
-    ensures length { RejectsTooLong texts.now result }
-    ensures column { LeavesColumn (normalizing kind options) (column64 texts.now offsets.now)
+    ensures { LeavesColumn (normalizing kind options) (column64 texts.now offsets.now)
         (buffers out.old out_offsets.old valid.old) (buffers out.new out_offsets.new valid.new)
         outcome.new result }
 {
@@ -289,8 +284,7 @@ pub extern "C" fn fluent_uri_to_uri_batch64(
     valid: &mut [u8],
     outcome: &mut Outcome,
 ) -> u32
-    ensures length { RejectsTooLong texts.now result }
-    ensures column { LeavesColumn (converting kind) (column64 texts.now offsets.now)
+    ensures { LeavesColumn (converting kind) (column64 texts.now offsets.now)
         (buffers out.old out_offsets.old valid.old) (buffers out.new out_offsets.new valid.new)
         outcome.new result }
 {
@@ -312,8 +306,7 @@ pub extern "C" fn fluent_uri_resolve_batch64(
     valid: &mut [u8],
     outcome: &mut Outcome,
 ) -> u32
-    ensures length { RejectsTooLong base.now result × RejectsTooLong texts.now result }
-    ensures column { LeavesColumn (resolving kind options base.now) (column64 texts.now offsets.now)
+    ensures { LeavesColumn (resolving kind options base.now) (column64 texts.now offsets.now)
         (buffers out.old out_offsets.old valid.old) (buffers out.new out_offsets.new valid.new)
         outcome.new result }
 {
@@ -342,8 +335,7 @@ pub extern "C" fn fluent_uri_resolve_normalized_batch64(
     valid: &mut [u8],
     outcome: &mut Outcome,
 ) -> u32
-    ensures length { RejectsTooLong base.now result × RejectsTooLong texts.now result }
-    ensures column { LeavesColumn (resolving_normalized kind options base.now)
+    ensures { LeavesColumn (resolving_normalized kind options base.now)
         (column64 texts.now offsets.now) (buffers out.old out_offsets.old valid.old)
         (buffers out.new out_offsets.new valid.new) outcome.new result }
 {

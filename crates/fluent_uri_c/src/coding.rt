@@ -3,7 +3,7 @@ ghost use Rattle.std.specs.Prelude.{◌≡◌, false, IfErr, IfOk, IsOk, option_
 ghost use Rattle.std.specs.Result.{result_ok};
 ghost use Rattle.fluent_uri.specs.Cows.{cow_items};
 ghost use Rattle.fluent_uri_c.specs.Columns.{LeavesColumn, buffers, call_result_bytes, column32, column64};
-ghost use Rattle.fluent_uri_c.specs.Results.{IsReturnedAs, Returned, is_out_of_memory, RejectsTooLong};
+ghost use Rattle.fluent_uri_c.specs.Results.{IsReturnedAs, Returned, is_out_of_memory};
 ghost use Rattle.fluent_uri_c.specs.SingleCalls.{decoding, encoding};
 
 use crate::batch::{Call, CallResult, column};
@@ -107,8 +107,7 @@ pub extern "C" fn fluent_uri_decode_batch(
     valid: &mut [u8],
     outcome: &mut Outcome,
 ) -> u32
-    ensures length { RejectsTooLong texts.now result }
-    ensures column { LeavesColumn (decoding component) (column32 texts.now offsets.now)
+    ensures { LeavesColumn (decoding component) (column32 texts.now offsets.now)
         (buffers out.old out_offsets.old valid.old) (buffers out.new out_offsets.new valid.new)
         outcome.new result }
 {
@@ -128,8 +127,7 @@ pub extern "C" fn fluent_uri_decode_batch64(
     valid: &mut [u8],
     outcome: &mut Outcome,
 ) -> u32
-    ensures length { RejectsTooLong texts.now result }
-    ensures column { LeavesColumn (decoding component) (column64 texts.now offsets.now)
+    ensures { LeavesColumn (decoding component) (column64 texts.now offsets.now)
         (buffers out.old out_offsets.old valid.old) (buffers out.new out_offsets.new valid.new)
         outcome.new result }
 {
@@ -149,8 +147,7 @@ pub extern "C" fn fluent_uri_encode_batch(
     valid: &mut [u8],
     outcome: &mut Outcome,
 ) -> u32
-    ensures length { RejectsTooLong texts.now result }
-    ensures column { LeavesColumn (encoding component) (column32 texts.now offsets.now)
+    ensures { LeavesColumn (encoding component) (column32 texts.now offsets.now)
         (buffers out.old out_offsets.old valid.old) (buffers out.new out_offsets.new valid.new)
         outcome.new result }
 {
@@ -171,8 +168,7 @@ pub extern "C" fn fluent_uri_encode_batch64(
     valid: &mut [u8],
     outcome: &mut Outcome,
 ) -> u32
-    ensures length { RejectsTooLong texts.now result }
-    ensures column { LeavesColumn (encoding component) (column64 texts.now offsets.now)
+    ensures { LeavesColumn (encoding component) (column64 texts.now offsets.now)
         (buffers out.old out_offsets.old valid.old) (buffers out.new out_offsets.new valid.new)
         outcome.new result }
 {

@@ -5,7 +5,7 @@ ghost use Rattle.uri_pct.specs.Tables.{set_of};
 ghost use Rattle.uri_mend.specs.MendedParts.{mended};
 ghost use Rattle.fluent_uri_c.specs.Outcomes.{LeavesText};
 ghost use Rattle.fluent_uri_c.specs.MendedComponents.{mend_component_result, mended_as_result};
-ghost use Rattle.fluent_uri_c.specs.Results.{IsReturnedAs, RejectsTooLong};
+ghost use Rattle.fluent_uri_c.specs.Results.{IsReturnedAs};
 
 use crate::errors::{Error, Rejection};
 use crate::outcome::{Outcome, put_or_report};
@@ -85,8 +85,7 @@ pub extern "C" fn fluent_uri_mend_component(
     out: &mut [u8],
     outcome: &mut Outcome,
 ) -> u32
-    ensures length { RejectsTooLong text.now result }
-    ensures text { LeavesText (mend_component_result component text.now) out.old out.new outcome.new
+    ensures { LeavesText (mend_component_result component text.now) out.old out.new outcome.new
         result }
 {
     put_or_report(mended_component(alloc, component, text), out, outcome)

@@ -5,7 +5,6 @@ ghost use Rattle.fluent_uri.specs.References.{reference_text};
 ghost use Rattle.fluent_uri_c.specs.Columns.{LeavesColumn, buffers, column32, column64};
 ghost use Rattle.fluent_uri_c.specs.Components.{authority_component, component_numbered, component_result};
 ghost use Rattle.fluent_uri_c.specs.Kinds.{kind_numbered};
-ghost use Rattle.fluent_uri_c.specs.Results.{RejectsTooLong};
 ghost use Rattle.fluent_uri_c.specs.SingleCalls.{taking_component};
 
 use crate::batch::{Call, CallResult, column};
@@ -130,8 +129,7 @@ pub extern "C" fn fluent_uri_component_batch(
     valid: &mut [u8],
     outcome: &mut Outcome,
 ) -> u32
-    ensures length { RejectsTooLong texts.now result }
-    ensures column { LeavesColumn (taking_component kind component) (column32 texts.now offsets.now)
+    ensures { LeavesColumn (taking_component kind component) (column32 texts.now offsets.now)
         (buffers out.old out_offsets.old valid.old) (buffers out.new out_offsets.new valid.new)
         outcome.new result }
 {
@@ -151,8 +149,7 @@ pub extern "C" fn fluent_uri_component_batch64(
     valid: &mut [u8],
     outcome: &mut Outcome,
 ) -> u32
-    ensures length { RejectsTooLong texts.now result }
-    ensures column { LeavesColumn (taking_component kind component) (column64 texts.now offsets.now)
+    ensures { LeavesColumn (taking_component kind component) (column64 texts.now offsets.now)
         (buffers out.old out_offsets.old valid.old) (buffers out.new out_offsets.new valid.new)
         outcome.new result }
 {

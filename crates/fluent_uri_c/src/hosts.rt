@@ -7,7 +7,7 @@ ghost use Rattle.fluent_uri_c.specs.Addresses.{address_octets, host_address_of, 
 ghost use Rattle.fluent_uri_c.specs.Kinds.{kind_numbered};
 ghost use Rattle.fluent_uri_c.specs.Outcomes.{LeavesTextOrDenied, outcome_of_text, written};
 ghost use Rattle.fluent_uri_c.specs.PortNumbers.{LeavesPortNumber, default_port_code, port_code};
-ghost use Rattle.fluent_uri_c.specs.Results.{RejectsTooLong, is_possible_length};
+ghost use Rattle.fluent_uri_c.specs.Results.{is_possible_length};
 ghost use Rattle.fluent_uri_c.specs.Spans.{port_of};
 
 use crate::errors::{Error, Rejection};
@@ -63,8 +63,7 @@ pub extern "C" fn fluent_uri_host_address(
     out: &mut [u8],
     outcome: &mut Outcome,
 ) -> u32
-    ensures length { RejectsTooLong text.now result }
-    ensures text { LeavesTextOrDenied false (host_address_result kind text.now) out.old out.new
+    ensures { LeavesTextOrDenied false (host_address_result kind text.now) out.old out.new
         outcome.new result }
 {
     match kind {
@@ -119,8 +118,7 @@ fn put_port_of<K: Kind>(text: &[u8], port: &mut u32) -> u32
 /// Writes the port of a text of the kind, as a number. Takes no memory.
 #[unsafe(no_mangle)]
 pub extern "C" fn fluent_uri_port_number(kind: u32, text: &[u8], port: &mut u32) -> u32
-    ensures length { RejectsTooLong text.now result }
-    ensures port { LeavesPortNumber (kind_numbered kind) text.now port.old port.new result }
+    ensures { LeavesPortNumber (kind_numbered kind) text.now port.old port.new result }
 {
     match kind {
         0 => put_port_of::<UriKind>(text, port),
@@ -135,8 +133,7 @@ pub extern "C" fn fluent_uri_port_number(kind: u32, text: &[u8], port: &mut u32)
 #[tactic(auto, using(crate::proofs::SchemeTexts::in_utf8, crate::proofs::SchemeTexts::not_in_utf8))]
 #[unsafe(no_mangle)]
 pub extern "C" fn fluent_uri_default_port(scheme: &[u8]) -> u32
-    ensures length { RejectsTooLong scheme.now result }
-    ensures port { IsTrue (is_possible_length scheme.now) → result ≡ default_port_code scheme.now }
+    ensures { IsTrue (is_possible_length scheme.now) → result ≡ default_port_code scheme.now }
 {
     if !is_possible_length(scheme) {
         return Error::InvalidArgument.number();

@@ -6,7 +6,7 @@ ghost use Rattle.fluent_uri_c.specs.Columns.{call_result_bytes};
 ghost use Rattle.fluent_uri_c.specs.Lines.{LeavesLines, is_newline, line_buffers, newline, number_returned};
 ghost use Rattle.fluent_uri_c.specs.Full.{as_size};
 ghost use Rattle.fluent_uri_c.specs.Outcomes.{outcome_of_batch};
-ghost use Rattle.fluent_uri_c.specs.Results.{RejectsTooLong, normalize_result};
+ghost use Rattle.fluent_uri_c.specs.Results.{normalize_result};
 
 use crate::batch::{CallResult, bytes_of};
 use crate::errors::Error;
@@ -136,8 +136,7 @@ pub extern "C" fn fluent_uri_normalize_lines(
     errors: &mut [u8],
     outcome: &mut Outcome,
 ) -> u32
-    ensures length { RejectsTooLong lines.now result }
-    ensures lines { LeavesLines kind options lines.now (line_buffers out.old errors.old)
+    ensures { LeavesLines kind options lines.now (line_buffers out.old errors.old)
         (line_buffers out.new errors.new) outcome.new result }
 {
     if kind > 3 || !(options == 0 || options == 2) || !is_possible_length(lines) {

@@ -6,7 +6,6 @@ ghost use Rattle.uri_mend.specs.Trimming.{trimmed_link};
 ghost use Rattle.fluent_uri_c.specs.Columns.{LeavesColumn, buffers, column32, column64};
 ghost use Rattle.fluent_uri_c.specs.Kinds.{kind_numbered};
 ghost use Rattle.fluent_uri_c.specs.Mends.{mend_link_result, mend_link_takes_memory, mend_result};
-ghost use Rattle.fluent_uri_c.specs.Results.{RejectsTooLong};
 ghost use Rattle.fluent_uri_c.specs.SingleCalls.{mending, mending_links};
 ghost use Rattle.fluent_uri_c.specs.Values.{LeavesValue, LeavesValueOrDenied};
 
@@ -27,7 +26,6 @@ pub extern "C" fn fluent_uri_mend(
     parts: &mut [Parts],
     outcome: &mut Outcome,
 ) -> u32
-    ensures length { RejectsTooLong text.now result }
     ensures text { LeavesValue (mend_result kind text.now) out.old out.new parts.old parts.new
         outcome.new result }
     ensures mended { result ≡ 0 → IsSomeAnd (kind_numbered kind) (λ kind.
@@ -53,7 +51,6 @@ pub extern "C" fn fluent_uri_mend_link(
     parts: &mut [Parts],
     outcome: &mut Outcome,
 ) -> u32
-    ensures length { RejectsTooLong text.now result }
     ensures text { LeavesValueOrDenied (mend_link_takes_memory kind text.now)
         (mend_link_result kind text.now) out.old out.new parts.old parts.new outcome.new result }
     ensures mended { result ≡ 0 → IsSomeAnd (kind_numbered kind) (λ kind.
@@ -122,8 +119,7 @@ pub extern "C" fn fluent_uri_mend_batch(
     valid: &mut [u8],
     outcome: &mut Outcome,
 ) -> u32
-    ensures length { RejectsTooLong texts.now result }
-    ensures column { LeavesColumn (mending kind) (column32 texts.now offsets.now)
+    ensures { LeavesColumn (mending kind) (column32 texts.now offsets.now)
         (buffers out.old out_offsets.old valid.old) (buffers out.new out_offsets.new valid.new)
         outcome.new result }
 {
@@ -143,8 +139,7 @@ pub extern "C" fn fluent_uri_mend_link_batch(
     valid: &mut [u8],
     outcome: &mut Outcome,
 ) -> u32
-    ensures length { RejectsTooLong texts.now result }
-    ensures column { LeavesColumn (mending_links kind) (column32 texts.now offsets.now)
+    ensures { LeavesColumn (mending_links kind) (column32 texts.now offsets.now)
         (buffers out.old out_offsets.old valid.old) (buffers out.new out_offsets.new valid.new)
         outcome.new result }
 {
@@ -165,8 +160,7 @@ pub extern "C" fn fluent_uri_mend_batch64(
     valid: &mut [u8],
     outcome: &mut Outcome,
 ) -> u32
-    ensures length { RejectsTooLong texts.now result }
-    ensures column { LeavesColumn (mending kind) (column64 texts.now offsets.now)
+    ensures { LeavesColumn (mending kind) (column64 texts.now offsets.now)
         (buffers out.old out_offsets.old valid.old) (buffers out.new out_offsets.new valid.new)
         outcome.new result }
 {
@@ -187,8 +181,7 @@ pub extern "C" fn fluent_uri_mend_link_batch64(
     valid: &mut [u8],
     outcome: &mut Outcome,
 ) -> u32
-    ensures length { RejectsTooLong texts.now result }
-    ensures column { LeavesColumn (mending_links kind) (column64 texts.now offsets.now)
+    ensures { LeavesColumn (mending_links kind) (column64 texts.now offsets.now)
         (buffers out.old out_offsets.old valid.old) (buffers out.new out_offsets.new valid.new)
         outcome.new result }
 {

@@ -7,7 +7,7 @@ ghost use Rattle.uri_parts.specs.Schemes.{scheme_text};
 ghost use Rattle.uri_pct.specs.Texts.{Pushes};
 ghost use Rattle.fluent_uri_c.specs.Origins.{origin_of, origin_of_kind, origin_result};
 ghost use Rattle.fluent_uri_c.specs.Outcomes.{LeavesText};
-ghost use Rattle.fluent_uri_c.specs.Results.{IsReturnedAs, RejectsTooLong};
+ghost use Rattle.fluent_uri_c.specs.Results.{IsReturnedAs};
 
 use crate::errors::{Error, Rejection};
 use crate::normal_forms::normal_form;
@@ -116,8 +116,7 @@ pub extern "C" fn fluent_uri_origin(
     out: &mut [u8],
     outcome: &mut Outcome,
 ) -> u32
-    ensures length { RejectsTooLong text.now result }
-    ensures text { LeavesText (origin_result kind text.now) out.old out.new outcome.new result }
+    ensures { LeavesText (origin_result kind text.now) out.old out.new outcome.new result }
 {
     put_or_report(origin(alloc, kind, text), out, outcome)
 }

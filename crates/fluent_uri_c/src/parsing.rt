@@ -2,7 +2,6 @@
 ghost use Rattle.fluent_uri_c.specs.Columns.{column32, column64, column_of};
 ghost use Rattle.fluent_uri_c.specs.Kinds.{kind_numbered};
 ghost use Rattle.fluent_uri_c.specs.PartColumns.{LeavesParts};
-ghost use Rattle.fluent_uri_c.specs.Results.{RejectsTooLong};
 
 use crate::columns::{Offset, is_possible_column, text_at};
 use crate::outcome::{Full, Outcome, report_full, report_progress};
@@ -50,8 +49,7 @@ pub extern "C" fn fluent_uri_parse_batch(
     parts: &mut [Parts],
     outcome: &mut Outcome,
 ) -> u32
-    ensures length { RejectsTooLong texts.now result }
-    ensures parts { LeavesParts (kind_numbered kind) (column32 texts.now offsets.now)
+    ensures { LeavesParts (kind_numbered kind) (column32 texts.now offsets.now)
         parts.old parts.new outcome.new result }
 {
     parse_column(kind, texts, offsets, parts, outcome)
@@ -67,8 +65,7 @@ pub extern "C" fn fluent_uri_parse_batch64(
     parts: &mut [Parts],
     outcome: &mut Outcome,
 ) -> u32
-    ensures length { RejectsTooLong texts.now result }
-    ensures parts { LeavesParts (kind_numbered kind) (column64 texts.now offsets.now)
+    ensures { LeavesParts (kind_numbered kind) (column64 texts.now offsets.now)
         parts.old parts.new outcome.new result }
 {
     parse_column(kind, texts, offsets, parts, outcome)

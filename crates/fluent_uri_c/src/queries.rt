@@ -1,7 +1,6 @@
 //! The pairs of a query.
 ghost use Rattle.std.specs.Prelude.{◌≡◌};
 ghost use Rattle.fluent_uri_c.specs.Pairs.{LeavesPair, value_span};
-ghost use Rattle.fluent_uri_c.specs.Results.{RejectsTooLong};
 
 use crate::errors::Error;
 use crate::parts::{Span, absent};
@@ -34,8 +33,7 @@ fn value_span(place: PairPlace) -> Span
 /// pair. Returns 1, or 0 if no pair is left. Takes no memory.
 #[unsafe(no_mangle)]
 pub extern "C" fn fluent_uri_next_pair(query: &[u8], position: &mut usize, pair: &mut Pair) -> u32
-    ensures length { RejectsTooLong query.now result }
-    ensures pair { LeavesPair query.now position.old position.new pair.old pair.new result }
+    ensures { LeavesPair query.now position.old position.new pair.old pair.new result }
 {
     if !is_possible_length(query) {
         return Error::InvalidArgument.number();

@@ -6,7 +6,7 @@ ghost use Rattle.fluent_uri_c.specs.Columns.{LeavesColumn, buffers, column32, co
 ghost use Rattle.fluent_uri_c.specs.Kinds.{base_numbered};
 ghost use Rattle.fluent_uri_c.specs.Options.{path_preference};
 ghost use Rattle.fluent_uri_c.specs.Relatives.{relativize_result};
-ghost use Rattle.fluent_uri_c.specs.Results.{RejectsTooLong, if_possible_lengths};
+ghost use Rattle.fluent_uri_c.specs.Results.{if_possible_lengths};
 ghost use Rattle.fluent_uri_c.specs.SingleCalls.{relativizing};
 ghost use Rattle.fluent_uri_c.specs.Values.{LeavesValue};
 
@@ -59,7 +59,6 @@ pub extern "C" fn fluent_uri_relativize(
     parts: &mut [Parts],
     outcome: &mut Outcome,
 ) -> u32
-    ensures length { RejectsTooLong base.now result × RejectsTooLong target.now result }
     ensures text { LeavesValue (if_possible_lengths base.now target.now
         (relativize_result kind options base.now target.now))
         out.old out.new parts.old parts.new outcome.new result }
@@ -116,8 +115,7 @@ pub extern "C" fn fluent_uri_relativize_batch(
     valid: &mut [u8],
     outcome: &mut Outcome,
 ) -> u32
-    ensures length { RejectsTooLong base.now result × RejectsTooLong texts.now result }
-    ensures column { LeavesColumn (relativizing kind options base.now)
+    ensures { LeavesColumn (relativizing kind options base.now)
         (column32 texts.now offsets.now) (buffers out.old out_offsets.old valid.old)
         (buffers out.new out_offsets.new valid.new) outcome.new result }
 {
@@ -145,8 +143,7 @@ pub extern "C" fn fluent_uri_relativize_batch64(
     valid: &mut [u8],
     outcome: &mut Outcome,
 ) -> u32
-    ensures length { RejectsTooLong base.now result × RejectsTooLong texts.now result }
-    ensures column { LeavesColumn (relativizing kind options base.now)
+    ensures { LeavesColumn (relativizing kind options base.now)
         (column64 texts.now offsets.now) (buffers out.old out_offsets.old valid.old)
         (buffers out.new out_offsets.new valid.new) outcome.new result }
 {

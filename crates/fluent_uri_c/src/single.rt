@@ -2,7 +2,7 @@
 ghost use Rattle.std.specs.Prelude.{◌≡◌};
 ghost use Rattle.fluent_uri_c.specs.Kinds.{kind_numbered};
 ghost use Rattle.fluent_uri_c.specs.Outcomes.{LeavesText};
-ghost use Rattle.fluent_uri_c.specs.Results.{RejectsTooLong, if_possible_lengths, decode_result, encode_result, normalize_result, resolve_normalized_result, resolve_result, takes_memory_for_target, to_uri_result};
+ghost use Rattle.fluent_uri_c.specs.Results.{if_possible_lengths, decode_result, encode_result, normalize_result, resolve_normalized_result, resolve_result, takes_memory_for_target, to_uri_result};
 ghost use Rattle.fluent_uri_c.specs.Spans.{ArePartsOf};
 ghost use Rattle.fluent_uri_c.specs.Values.{LeavesValue, LeavesValueOrDenied};
 
@@ -19,7 +19,6 @@ use uri_parts::kind::{IriKind, IriRefKind, UriKind, UriRefKind};
 /// Parses a text as the kind, and reports where its components are. Takes no memory.
 #[unsafe(no_mangle)]
 pub extern "C" fn fluent_uri_parse(kind: u32, text: &[u8], parts: &mut Parts) -> u32
-    ensures length { RejectsTooLong text.now result }
     ensures error { parts.new.error ≡ result }
     ensures parts { ArePartsOf (kind_numbered kind) text.now parts.new }
 {
@@ -38,8 +37,7 @@ pub extern "C" fn fluent_uri_normalize(
     parts: &mut [Parts],
     outcome: &mut Outcome,
 ) -> u32
-    ensures length { RejectsTooLong text.now result }
-    ensures text { LeavesValue (normalize_result kind options text.now)
+    ensures { LeavesValue (normalize_result kind options text.now)
         out.old out.new parts.old parts.new outcome.new result }
 {
     let Some(rules) = rule_set(options) else {
@@ -93,8 +91,7 @@ pub extern "C" fn fluent_uri_resolve(
     parts: &mut [Parts],
     outcome: &mut Outcome,
 ) -> u32
-    ensures length { RejectsTooLong base.now result × RejectsTooLong reference.now result }
-    ensures text { let returned = if_possible_lengths base.now reference.now
+    ensures { let returned = if_possible_lengths base.now reference.now
         (resolve_result kind options base.now reference.now) in
         LeavesValueOrDenied (takes_memory_for_target returned) returned
         out.old out.new parts.old parts.new outcome.new result }
@@ -148,8 +145,7 @@ pub extern "C" fn fluent_uri_resolve_normalized(
     parts: &mut [Parts],
     outcome: &mut Outcome,
 ) -> u32
-    ensures length { RejectsTooLong base.now result × RejectsTooLong reference.now result }
-    ensures text { LeavesValue (if_possible_lengths base.now reference.now
+    ensures { LeavesValue (if_possible_lengths base.now reference.now
         (resolve_normalized_result kind options base.now reference.now))
         out.old out.new parts.old parts.new outcome.new result }
 {
@@ -169,8 +165,7 @@ pub extern "C" fn fluent_uri_to_uri(
     parts: &mut [Parts],
     outcome: &mut Outcome,
 ) -> u32
-    ensures length { RejectsTooLong text.now result }
-    ensures text { LeavesValue (to_uri_result kind text.now) out.old out.new parts.old parts.new
+    ensures { LeavesValue (to_uri_result kind text.now) out.old out.new parts.old parts.new
         outcome.new result }
 {
     put_value_or_report(numbered::as_uri(alloc, kind, text), out, parts, outcome)
@@ -185,8 +180,7 @@ pub extern "C" fn fluent_uri_decode(
     out: &mut [u8],
     outcome: &mut Outcome,
 ) -> u32
-    ensures length { RejectsTooLong text.now result }
-    ensures text { LeavesText (decode_result component text.now) out.old out.new outcome.new
+    ensures { LeavesText (decode_result component text.now) out.old out.new outcome.new
         result }
 {
     match codes::decoded(alloc, component, text) {
@@ -207,8 +201,7 @@ pub extern "C" fn fluent_uri_encode(
     out: &mut [u8],
     outcome: &mut Outcome,
 ) -> u32
-    ensures length { RejectsTooLong bytes.now result }
-    ensures text { LeavesText (encode_result component bytes.now) out.old out.new outcome.new
+    ensures { LeavesText (encode_result component bytes.now) out.old out.new outcome.new
         result }
 {
     put_or_report(codes::encoded(alloc, component, bytes), out, outcome)

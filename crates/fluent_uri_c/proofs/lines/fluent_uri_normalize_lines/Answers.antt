@@ -5,8 +5,8 @@ use Rattle.fluent_uri_c.proofs.LinesOf.{IsLine-from-position}
 use Rattle.fluent_uri_c.proofs.WrittenLines.{leaves_lines, error_number_at-of-line, consumed-after-last-line, consumed-before-line, written_at-of-line}
 use Rattle.fluent_uri_c.proofs.lines.fluent_uri_normalize_lines.Goals as goal
 
-pub returns-in_default-clause-lines : goal.returns-in_default-clause-lines
-returns-in_default-clause-lines c =
+pub returns-in_default : goal.returns-in_default
+returns-in_default c =
     let before = c.loop-index.invariant in
     let line = IsLine-from-position c.args.lines.now c.loop-index.index c.loop-index.start
     c.line_end-end.result before.0 before.1 c.line_end-end.ensures.end in
@@ -18,8 +18,8 @@ returns-in_default-clause-lines c =
     (inr (inl (refl, line.more, ap is_some line.here, rw line.here c.in_default.ensures.memory)))
     (consumed-before-line _ _ _ line.more before.0 before.1)
 
-pub returns-in-Err-clause-lines : goal.returns-in-Err-clause-lines
-returns-in-Err-clause-lines c =
+pub returns-in-Err : goal.returns-in-Err
+returns-in-Err c =
     let n = c.loop-index.index in
     let at = written_at c.args.kind c.args.options c.args.lines.now in
     let before = c.loop-index.invariant in
@@ -46,8 +46,8 @@ returns-in-Err-clause-lines c =
       inl (refl, full, c.in-Err.ensures.needed ∙ ap as_size (sym long)),
     )))) (consumed-before-line _ _ _ line.more before.0 before.1)
 
-pub returns-then-end-lines-clause-lines : goal.returns-then-end-lines-clause-lines
-returns-then-end-lines-clause-lines c =
+pub returns-then-end-lines : goal.returns-then-end-lines
+returns-then-end-lines c =
     let n = c.loop-index.index in
     let at = written_at c.args.kind c.args.options c.args.lines.now in
     let before = c.loop-index.invariant in
@@ -99,8 +99,8 @@ loop-index-preserved c =
       later-items-unchanged c.args.errors.now c.loop-index.errors n c.in-Ok.line.number before.6,
     )
 
-pub returns-clause-lines : goal.returns-clause-lines
-returns-clause-lines c =
+pub returns : goal.returns
+returns c =
     let before = c.loop-index.invariant in
     let line = IsLine-from-position c.args.lines.now c.loop-index.index c.loop-index.start _
     before.0 before.1 refl in

@@ -3,8 +3,8 @@ use Rattle.fluent_uri_c.specs.Pairs.{LeavesPair}
 use Rattle.fluent_uri_c.proofs.QueryPairs.{next-pair-is-reported}
 use Rattle.fluent_uri_c.proofs.queries.fluent_uri_next_pair.Goals as goal
 
-pub returns-clause-pair : goal.returns-clause-pair
-returns-clause-pair c =
+pub returns : goal.returns
+returns c =
     let query = c.args.query.now in
     let from = c.args.position.now in
     let place = c.in-Some.place in
