@@ -13,6 +13,8 @@ def load_rt():
     loader = importlib.machinery.SourceFileLoader("rt", path)
     made = importlib.util.module_from_spec(importlib.util.spec_from_loader("rt", loader))
     loader.exec_module(made)
+    # (of these crates; it reckons with 1 MB a line, for which most processors would stay idle)
+    made.need = lambda _: 4_400_000_000
     if kept := os.environ.get("RT_KEPT"):
         made.STORE, made.WORK = kept, f"{kept}/work"
         os.makedirs(made.WORK, exist_ok=True)
