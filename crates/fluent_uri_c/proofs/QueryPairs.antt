@@ -31,7 +31,7 @@ module _ (query : List ℕ) (from : ℕ) (place : PairPlace) (next : IsNextPair 
     value = value_span place;
   }) 1
   next-pair-is-reported old = record {
-    number = λ _. omega arith;
+    number = omega arith;
     pair = λ _. record {
       start = next.start;
       some = next.some;

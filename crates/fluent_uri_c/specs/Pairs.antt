@@ -1,11 +1,10 @@
 -- The pairs of a query, as the caller learns them: RFC 3986, section 3.4.
-use Rattle.std.specs.Prelude.{◌≡◌, ◌≢◌, ℕ, ◌+◌, ◌<◌, ◌≤◌, List, [], ◌∷◌, Some, drop, length, IsTrue, nat_lt, slice_range, if◌then◌else◌}
+use Rattle.std.specs.Prelude.{◌≡◌, ◌≢◌, ℕ, ◌+◌, ◌<◌, ◌≤◌, List, [], ◌∷◌, Some, drop, length, nat_lt, slice_range, if◌then◌else◌}
 use Rattle.uri_query.specs.Pairs.{nonempty_substrings, text_before_equals}
 use Rattle.uri_query.specs.Places.{value_of_pair}
 use Rattle.uri_query.specs.declared.places.PairPlace.{PairPlace}
 use Rattle.fluent_uri_c.specs.declared.parts.Span.{Span}
 use Rattle.fluent_uri_c.specs.declared.queries.Pair.{Pair}
-use Rattle.fluent_uri_c.specs.Results.{is_possible_length}
 use Rattle.fluent_uri_c.specs.Spans.{IsSpan, absent}
 
 -- the span, for C, of the value of a pair at this place: what is after its `=`, if it has one
@@ -32,7 +31,7 @@ pub record HasNextPair (query : List ℕ) (from to : ℕ) (pair : Pair) : Type 0
 -- on, or 0 if there is none.
 -- If it returns another number than 1, nothing has changed.
 pub record LeavesPair (query : List ℕ) (from to : ℕ) (old new : Pair) (returned : ℕ) : Type 0 where
-  pub number : IsTrue (is_possible_length query) → returned ≤ 1
+  pub number : returned ≤ 1
   pub pair : returned ≡ 1 → HasNextPair query from to new
   pub none : returned ≡ 0 → nonempty_substrings (drop from query) ≡ []
   pub position : returned ≢ 1 → to ≡ from

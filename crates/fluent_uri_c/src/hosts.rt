@@ -1,5 +1,5 @@
 //! The host of a text as an address, and ports as numbers (RFC 3986, sections 3.2.2 and 3.2.3).
-ghost use Rattle.std.specs.Prelude.{◌≡◌, IsTrue, Some, false, option_map};
+ghost use Rattle.std.specs.Prelude.{◌≡◌, Some, false, option_map};
 ghost use Rattle.fluent_uri.specs.AuthorityTexts.{authority_text};
 ghost use Rattle.fluent_uri.specs.Components.{components};
 ghost use Rattle.fluent_uri.specs.References.{reference_text};
@@ -7,7 +7,6 @@ ghost use Rattle.fluent_uri_c.specs.Addresses.{address_octets, host_address_of, 
 ghost use Rattle.fluent_uri_c.specs.Kinds.{kind_numbered};
 ghost use Rattle.fluent_uri_c.specs.Outcomes.{LeavesTextOrDenied, outcome_of_text, written};
 ghost use Rattle.fluent_uri_c.specs.PortNumbers.{LeavesPortNumber, default_port_code, port_code};
-ghost use Rattle.fluent_uri_c.specs.Results.{is_possible_length};
 ghost use Rattle.fluent_uri_c.specs.Spans.{port_of};
 
 use crate::errors::{Error, Rejection};
@@ -133,7 +132,7 @@ pub extern "C" fn fluent_uri_port_number(kind: u32, text: &[u8], port: &mut u32)
 #[tactic(auto, using(crate::proofs::SchemeTexts::in_utf8, crate::proofs::SchemeTexts::not_in_utf8))]
 #[unsafe(no_mangle)]
 pub extern "C" fn fluent_uri_default_port(scheme: &[u8]) -> u32
-    ensures { IsTrue (is_possible_length scheme.now) → result ≡ default_port_code scheme.now }
+    ensures { result ≡ default_port_code scheme.now }
 {
     if !is_possible_length(scheme) {
         return Error::InvalidArgument.number();

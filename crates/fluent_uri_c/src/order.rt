@@ -1,10 +1,10 @@
 //! The order and the hash of texts by their normal forms, without memory.
-ghost use Rattle.std.specs.Prelude.{◌≡◌, ◌↔◌, ◌≤◌, ◌++◌, ◌∷◌, ℕ, List, [], Ok, is_some, reverse, IsTrue, true};
+ghost use Rattle.std.specs.Prelude.{◌≡◌, ◌↔◌, ◌≤◌, ◌++◌, ◌∷◌, ℕ, List, [], Ok, is_some, reverse, true};
 ghost use Rattle.std.specs.Option.{unwrap_or};
 ghost use Rattle.std.specs.Result.{result_ok};
 ghost use Rattle.fluent_uri_c.specs.Fnv.{fnv_bytes};
 ghost use Rattle.fluent_uri_c.specs.Orders.{AreOneKey, byte_order, key_hash, key_order, normal_key, order_number, order_of_keys, seeded};
-ghost use Rattle.fluent_uri_c.specs.Results.{is_possible_length, normal_result, normalize_result};
+ghost use Rattle.fluent_uri_c.specs.Results.{normal_result, normalize_result};
 
 use crate::errors::Error;
 use crate::fnv::Fnv;
@@ -57,10 +57,8 @@ fn order_by_numbers(kind: u32, options: u32, one: &[u8], other: &[u8]) -> Orderi
 /// memory.
 #[unsafe(no_mangle)]
 pub extern "C" fn fluent_uri_compare(kind: u32, options: u32, one: &[u8], other: &[u8]) -> u32
-    ensures order { IsTrue (is_possible_length one.now) → IsTrue (is_possible_length other.now)
-        → result ≡ order_number (key_order kind options one.now other.now) }
-    ensures same { IsTrue (is_possible_length one.now) → IsTrue (is_possible_length other.now)
-        → (result ≡ 1) ↔ AreOneKey kind options one.now other.now }
+    ensures order { result ≡ order_number (key_order kind options one.now other.now) }
+    ensures same { (result ≡ 1) ↔ AreOneKey kind options one.now other.now }
 {
     if !is_possible_length(one) || !is_possible_length(other) {
         return Error::InvalidArgument.number();
@@ -104,7 +102,7 @@ fn is_own_normal_form_by_numbers(kind: u32, options: u32, text: &[u8]) -> bool
 /// Returns 1 exactly if a text is of the kind and its own normal form, and else 0. Takes no memory.
 #[unsafe(no_mangle)]
 pub extern "C" fn fluent_uri_is_normal(kind: u32, options: u32, text: &[u8]) -> u32
-    ensures number { IsTrue (is_possible_length text.now) → result ≤ 1 }
+    ensures number { result ≤ 1 }
     ensures normal { (result ≡ 1) ↔ (normalize_result kind options text.now ≡ Ok text.now) }
 {
     if !is_possible_length(text) {
@@ -196,12 +194,11 @@ pub extern "C" fn fluent_uri_hash(
     text: &[u8],
     hash: &mut u64,
 ) -> u32
-    ensures hash { IsTrue (is_possible_length text.now)
-        → hash.new ≡ key_hash kind options seed text.now }
+    ensures hash { hash.new ≡ key_hash kind options seed text.now }
     ensures text { (result ≡ 1) ↔ (is_some (normal_key kind options text.now) ≡ true) }
-    ensures number { IsTrue (is_possible_length text.now) → result ≤ 1 }
-    ensures same { (other : List ℕ) → IsTrue (is_possible_length text.now)
-        → AreOneKey kind options text.now other → hash.new ≡ key_hash kind options seed other }
+    ensures number { result ≤ 1 }
+    ensures same { (other : List ℕ) → AreOneKey kind options text.now other
+        → hash.new ≡ key_hash kind options seed other }
 {
     if !is_possible_length(text) {
         return Error::InvalidArgument.number();

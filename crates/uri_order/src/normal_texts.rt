@@ -25,7 +25,7 @@ use uri_parts::kind::Kind;
 /// Returns whether two values have the same text.
 #[inline(always)]
 fn have_same_text<K: Kind>(one: Core<K, &str>, other: Core<K, &str>) -> bool
-    ensures same { result ≡ true → core_text one.entry ≡ core_text other.entry }
+    ensures same { (result ≡ true) ↔ (core_text one.entry ≡ core_text other.entry) }
     ensures one { IsTextOf K.kind (core_text one.entry) }
     ensures other { IsTextOf K.kind (core_text other.entry) }
 {
@@ -46,7 +46,11 @@ fn unchanged_text<'a, K: Kind, S: SchemeRules>(core: Core<K, &'a str>, rules: &S
 }
 
 /// Returns whether the normal text of a value, which it reads from its end, is another text.
-fn is_read_as<K: Kind, S: SchemeRules, B: ReadBack>(core: Core<K, &str>, rules: &S, text: B) -> bool
+fn has_normal_text<K: Kind, S: SchemeRules, B: ReadBack>(
+    core: Core<K, &str>,
+    rules: &S,
+    text: B,
+) -> bool
     ensures { (result ≡ true)
         ↔ (normal_form K.kind (S.rules_of rules.now) (core_text core.entry) ≡ B.unread text) }
 {
@@ -67,13 +71,13 @@ fn have_equal_texts<K: Kind, S: SchemeRules>(
 {
     match (unchanged_text(one, rules), unchanged_text(other, rules)) {
         (Some(first), Some(second)) => first == second,
-        (Some(text), None) => is_read_as(other, rules, LiteralBack::copied(text.as_bytes())),
-        (None, Some(text)) => is_read_as(one, rules, LiteralBack::copied(text.as_bytes())),
+        (Some(text), None) => has_normal_text(other, rules, LiteralBack::copied(text.as_bytes())),
+        (None, Some(text)) => has_normal_text(one, rules, LiteralBack::copied(text.as_bytes())),
         (None, None) => {
             let authority = ruled_authority(other, rules);
             let (host, end) = ipv6_host_of(authority);
             let text = ruled_back(other, authority, rules, &host[..end]);
-            is_read_as(one, rules, text)
+            has_normal_text(one, rules, text)
         }
     }
 }
@@ -98,7 +102,7 @@ pub(crate) fn are_equivalent<K: Kind, S: SchemeRules>(
 }
 
 /// Returns the order of the normal text of a value, which it reads from its end, and another text.
-fn cmp_read<K: Kind, S: SchemeRules, B: ReadBack>(
+fn cmp_normal_text<K: Kind, S: SchemeRules, B: ReadBack>(
     core: Core<K, &str>,
     rules: &S,
     text: B,
@@ -125,14 +129,14 @@ fn cmp_texts<K: Kind, S: SchemeRules>(
     match (unchanged_text(one, rules), unchanged_text(other, rules)) {
         (Some(first), Some(second)) => first.cmp(second),
         (Some(text), None) => {
-            cmp_read(other, rules, LiteralBack::copied(text.as_bytes())).reverse()
+            cmp_normal_text(other, rules, LiteralBack::copied(text.as_bytes())).reverse()
         }
-        (None, Some(text)) => cmp_read(one, rules, LiteralBack::copied(text.as_bytes())),
+        (None, Some(text)) => cmp_normal_text(one, rules, LiteralBack::copied(text.as_bytes())),
         (None, None) => {
             let authority = ruled_authority(other, rules);
             let (host, end) = ipv6_host_of(authority);
             let text = ruled_back(other, authority, rules, &host[..end]);
-            cmp_read(one, rules, text)
+            cmp_normal_text(one, rules, text)
         }
     }
 }

@@ -14,9 +14,9 @@ returns-clause-meaning g c =
 pub returns-then-have_same_text-clause-text : goal.returns-then-have_same_text-clause-text
 returns-then-have_same_text-clause-text g c =
     let form = normal_form g.K.Kind.kind (g.S.SchemeRules.rules_of c.args.rules.now) in
-    (λ r. ap form (c.have_same_text.ensures.same c.if-have_same_text.true), λ e. refl)
+    (λ r. ap form (c.have_same_text.ensures.same.0 c.if-have_same_text.true), λ e. refl)
 
 pub returns-then-have_same_text-clause-meaning : goal.returns-then-have_same_text-clause-meaning
 returns-then-have_same_text-clause-meaning g c =
     let meaning = meaning_under g.K.Kind.kind (g.S.SchemeRules.rules_of c.args.rules.now) in
-    (λ r. ap meaning (c.have_same_text.ensures.same c.if-have_same_text.true), λ e. refl)
+    (λ r. ap meaning (c.have_same_text.ensures.same.0 c.if-have_same_text.true), λ e. refl)

@@ -16,9 +16,9 @@ pub returns-then-have_same_text-clause-order : goal.returns-then-have_same_text-
 returns-then-have_same_text-clause-order g c =
     let form = normal_form g.K.Kind.kind (g.S.SchemeRules.rules_of c.args.rules.now) in
     equal_texts_are_equal_in_order _ _
-    (ap form (c.have_same_text.ensures.same c.if-have_same_text.true))
+    (ap form (c.have_same_text.ensures.same.0 c.if-have_same_text.true))
 
 pub returns-then-have_same_text-clause-equal : goal.returns-then-have_same_text-clause-equal
 returns-then-have_same_text-clause-equal g c =
     let meaning = meaning_under g.K.Kind.kind (g.S.SchemeRules.rules_of c.args.rules.now) in
-    (λ r. ap meaning (c.have_same_text.ensures.same c.if-have_same_text.true), λ e. refl)
+    (λ r. ap meaning (c.have_same_text.ensures.same.0 c.if-have_same_text.true), λ e. refl)
