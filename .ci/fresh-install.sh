@@ -7,7 +7,7 @@
 # FOLDER is what tools/release made. EARLIER has the packages of the version before; with none,
 # those of FOLDER stand for it, with the version 0.0.9 and a file that the new ones lack. SUITE is
 # the release of Debian (bookworm), and MIRROR where it is from. What qemu-x86_64-static,
-# qemu-aarch64-static and autopkgtest run is skipped where they are not there.
+# qemu-aarch64-static, autopkgtest and chromedriver run is skipped where they are not there.
 set -eu
 [ $# -ge 1 ] && [ -f "$1/SHA256SUMS" ] || { sed -n 's/^# usage: /usage: /p' "$0" >&2; exit 2; }
 root=$(cd "$(dirname "$0")/.." && pwd)
@@ -221,6 +221,41 @@ for it in '*.whl' '*.tar.gz'; do
 sys.exit(not fluent_uri.is_compiled or \"/venv/\" not in fluent_uri.__file__)'"
 done
 echo 'fresh-install: the programs of C.md, the wheel and the source distribution'
+
+# The packages for Rust and npm in empty projects, offline, by the lines of README.md; the page.
+# lines PAGE: what README.md has from this page
+lines() {
+    sed -n "\\|^From .$1|,/^[F#]/s/^    //p" "$root/README.md"
+}
+{
+    echo 'use fluent_uri::{ParseError, Uri, UriRef}; fn main() -> Result<(), ParseError> {'
+    lines docs/RUST.md
+    echo 'println!("{target}"); Ok(()) }'
+} > "$machine/home/user/main.rs"
+{
+    echo "import { Uri } from 'fluent-uri';"
+    lines js/README.md
+} > "$machine/home/user/main.mjs"
+cp "$folder"/*.crate "$folder/fluent-uri-$version.tgz" "$machine/home/user/"
+# (what stands for a registry, with what the crate takes from one)
+cp -R "$root/rust/standins" "$machine/home/user/registry"
+chown -R 1000:1000 "$machine/home/user"
+inside 'cargo, node and npm' 'apt-get install -y cargo-web nodejs npm'
+user 'the package for Rust' 'tar -C registry -xf *.crate; cargo init -q project
+    for it in registry/*; do echo "{\"files\":{}}" > $it/.cargo-checksum.json; done
+    mv main.rs project/src/; cd project; mkdir .cargo
+    echo "fluent-uri = { package = \"fluent-uri-rattle\", version = \"0.4.1\" }" >> Cargo.toml
+    printf "[source.crates-io]\nreplace-with=\"near\"\n[source.near]\ndirectory=\"../registry\"\n" \
+        > .cargo/config.toml
+    cargo run -q --offline'
+prints 'the package for Rust' 'http://example.com/d'
+user 'the package for npm' 'mkdir other; mv main.mjs other/; cd other
+    npm install --offline --no-audit --no-fund ../fluent-uri-*.tgz >&2; node main.mjs'
+prints 'the package for npm' 'http://example.com/d'
+echo 'fresh-install: the packages for Rust and npm in empty projects, offline'
+/usr/bin/python3 "$root/js/test/page.py" "$folder/fluent-uri-$version.html" > "$work/out" \
+    2> "$work/log" || [ $? = 77 ] || fail 'the page in a browser'
+echo "fresh-install: $(tail -n 1 "$work/out")"
 if command -v autopkgtest > /dev/null; then
     tar -C "$work" -xf "$folder/fluent-uri-$version-source.tar.gz"
     # (it looks for TMPDIR inside)

@@ -72,7 +72,8 @@ refuses "$untold" "$version"
 tagged './check passed' '' "Checked-tree: $(git rev-parse HEAD)" "Checked-by: $IDENTITY"
 refuses "$untold" "$version"
 tagged './check passed' '' "$passed" 'Checked-by: rattle-kit-1 logic 0'
-refuses "./check passed by rattle-kit-1 logic 0, and the kit here is $IDENTITY" "$version"
+refuses "the message of v$version says that ./check passed by rattle-kit-1 logic 0: the kit here \
+is $IDENTITY" "$version"
 of_release=$(cd tools && python3 -Bc 'from passed import crates, handed_on
 print(*[it.name for it in handed_on(crates())])')
 tagged './check passed' '' "$passed" "Checked-by: $IDENTITY"
@@ -82,8 +83,7 @@ refuses "the message of v$version lacks libfluent_uri_c.a uritool urilines $of_r
 # What `rt ci` leaves and says, and what is kept of it.
 ends_so='logic=proved functions=3 statements=trusted'
 for it in $of_release; do
-    mkdir -p "crates/$it/out/rlib/$it.rlib"
-    echo "$it" > "crates/$it/out/rlib/$it.rlib/format"
+    mkdir -p "crates/$it/out"
     printf '== %s: its tests\nlogic=proved tests=9\n== %s\nfn %s: proved\n%s\n%s\nrt: %s proved\n' \
         "$it" "$it" "$it" "$AXIOMS" "$ends_so" "$it"
 done > "$work/ci"
@@ -161,6 +161,7 @@ fluent-uri-$version-api.html
 fluent-uri-$version-arm64.proved.txt
 fluent-uri-$version-arm64.spdx.json
 fluent-uri-$version-source.tar.gz
+fluent-uri-$version.html
 fluent-uri-$version.proved.txt
 fluent-uri-$version.spdx.json
 fluent-uri-$version.tgz
@@ -284,9 +285,10 @@ $later tools/release --verify "$tree/out/release" > "$work/out" 2> "$work/err"
 must 'the status of a second build' 0 $?
 must 'what is proved from nothing' "$(echo "$of_release" | tr ' ' '\n')" "$(cat "$work/proved")"
 kept=$work/another/out/release.work/kept
-must 'where the checks of a release keep their work' "$kept $kept/work" "$(sort -u "$work/stores")"
+must 'where the checks of a release keep their work' "$kept/rt $kept/rt/work" \
+    "$(sort -u "$work/stores")"
 must 'the line of a second build' \
-    "release: $tree/out/release is $version, byte for byte: 19 files" "$(tail -n 1 "$work/out")"
+    "release: $tree/out/release is $version, byte for byte: 20 files" "$(tail -n 1 "$work/out")"
 cp "$tree/LICENSE" "$tree/out/release/fluent-uri-$version.spdx.json"
 tools/release --verify "$tree/out/release" > "$work/out" 2> "$work/err"
 must 'the status of a release with another file' 1 $?

@@ -13,7 +13,7 @@ def load_rt():
     loader = importlib.machinery.SourceFileLoader("rt", path)
     made = importlib.util.module_from_spec(importlib.util.spec_from_loader("rt", loader))
     loader.exec_module(made)
-    # (of these crates; it reckons with 1 MB a line, for which most processors would stay idle)
+    # (it reckons with 1 MB a line, and then has few checks at once; none of these takes more)
     made.need = lambda _: 4_400_000_000
     if kept := os.environ.get("RT_KEPT"):
         made.STORE, made.WORK = kept, f"{kept}/work"

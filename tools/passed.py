@@ -39,16 +39,6 @@ def key(crate, named, identity):
     return found.hexdigest()
 
 
-def rlib(crate, root=ROOT):
-    return root / "crates" / crate.name / "out" / "rlib" / f"{crate.name}.rlib"
-
-
-def sum_of_rlib(crate, root=ROOT):
-    """A digest of a crate's built library. Its file `format` has the digests of the others."""
-    found = rlib(crate, root) / "format"
-    return digest(found) if found.exists() else "none"
-
-
 def said(log):
     """How the check of each crate that is proved ended, by what `rt ci` printed."""
     found, name, lines = {}, None, []
@@ -71,9 +61,8 @@ def keep(log):
         kept = KEPT / f"{crate.name}.verdict"
         was = kept.read_text(encoding="utf-8").splitlines() if kept.exists() else []
         # (of a crate that an earlier run proved `rt ci` says no more than that)
-        lines = told.get(crate.name) or (was[2:] if was[:1] == [head] else [])
-        kept.write_text("\n".join([head, f"rlib {sum_of_rlib(crate)}", *lines]) + "\n",
-                        encoding="utf-8")
+        lines = told.get(crate.name) or (was[1:] if was[:1] == [head] else [])
+        kept.write_text("\n".join([head, *lines]) + "\n", encoding="utf-8")
         made = crate.folder / "out" / crate.product
         (KEPT / crate.product).unlink(missing_ok=True)
         if crate.name in PRODUCTS and made.exists():
@@ -81,14 +70,13 @@ def keep(log):
 
 
 def kept_verdicts():
-    """What is kept of these sources, a crate: its lines, and the digest of its library."""
+    """How the check of each crate ended, as it is kept of these sources."""
     named, identity, found = crates(), kit(), {}
     for crate in handed_on(named):
         kept = KEPT / f"{crate.name}.verdict"
-        head, built, *lines = kept.read_text(encoding="utf-8").splitlines() if kept.exists() \
-            else ("", "")
+        head, *lines = kept.read_text(encoding="utf-8").splitlines() if kept.exists() else [""]
         if head == f"of {key(crate, named, identity)}":
-            found[crate.name] = lines, built.removeprefix("rlib ")
+            found[crate.name] = lines
     return found
 
 
@@ -98,7 +86,7 @@ def message(tree):
     for crate in map(crates().get, PRODUCTS):
         if (KEPT / crate.product).exists():
             lines.append(f"Checked-file: {digest(KEPT / crate.product)}  {crate.product}")
-    for name, (verdict, _) in kept_verdicts().items():
+    for name, verdict in kept_verdicts().items():
         if verdict:
             lines += [f"Checked-crate: {name}", *(f"    {it}" for it in verdict)]
     return "\n".join(lines) + "\n"
