@@ -240,10 +240,10 @@ cp "$folder"/*.crate "$folder/fluent-uri-$version.tgz" "$machine/home/user/"
 # (what stands for a registry, with what the crate takes from one)
 cp -R "$root/rust/standins" "$machine/home/user/registry"
 chown -R 1000:1000 "$machine/home/user"
-inside 'cargo, node and npm' 'apt-get install -y cargo-web nodejs npm'
+inside 'cargo, node and npm' 'apt-get install -y cargo-web librust-serde-dev nodejs npm'
 user 'the package for Rust' 'tar -C registry -xf *.crate; cargo init -q project
     for it in registry/*; do echo "{\"files\":{}}" > $it/.cargo-checksum.json; done
-    mv main.rs project/src/; cd project; mkdir .cargo
+    cp -R /usr/share/cargo/registry/. registry; mv main.rs project/src/; cd project; mkdir .cargo
     echo "fluent-uri = { package = \"fluent-uri-rattle\", version = \"0.4.1\" }" >> Cargo.toml
     printf "[source.crates-io]\nreplace-with=\"near\"\n[source.near]\ndirectory=\"../registry\"\n" \
         > .cargo/config.toml
