@@ -2,7 +2,7 @@
 
 A check says of each function by itself whether it is proved, and a caller rests on the contract
 alone. So one check tries mutants of different functions, and takes the others by their statements:
-in the place of each other proof it has a hole.
+each has a hole for its proof, and no body, so that the check reads nothing of what that calls.
 """
 import collections
 import contextlib
@@ -23,7 +23,7 @@ NAME = r"`([^`]+)`"
 # What is said of an answer that names what the mutant took away: it tells nothing of the goal.
 TAKEN_AWAY = re.compile(r"has no field|is not in scope|has no `|was not admitted|was rejected")
 THROUGH_ANOTHER = re.compile(r"(it calls|it passes|a call of)\b.*not proved")
-
+FUNCTION = re.compile(r' *(?:pub(?:\([^)]*\))? )?(const )?(?:unsafe )?(?:extern "C" )?fn (\w+)')
 
 # A proof that is not looked at.
 HOLE = """use Rattle.{module}.Statement.{{statement}}
@@ -90,13 +90,19 @@ class Room:
             hole = HOLE.format(module=module, function=words[-1])
             (folder / "Proof.antt").write_text(hole, encoding="utf-8")
 
+    def without_bodies(self, functions, texts):
+        """The texts of all sources, in which no other function with a contract has its body."""
+        names = {it.rpartition("::")[2] for it in functions}
+        files = (str(it.relative_to(self.sources)) for it in self.sources.glob("src/**/*.rt"))
+        return texts | {it: stated(texts.get(it) or (self.sources / it).read_text(), names) for it in files}
+
     def check(self, functions, texts):
         """The lines that a check of these functions prints; the last begins `only=` if it read them all."""
         self.take_as_stated(functions)
         only = [word for it in sorted(functions) for word in ("--only", it)]
         words = ["check", *self.crate.words(["--jobs", "1", *only], keeps=False), "--allow-holes",
                  "--incremental"]
-        with self.written(texts):
+        with self.written(self.without_bodies(functions, texts)):
             return self.said_by(words)
 
     def said_by(self, words):
@@ -112,6 +118,23 @@ class Room:
         self.checks += 1
         self.seconds += used.ru_utime + used.ru_stime
         return lines
+
+
+def stated(text, functions):
+    """A source in which no function with a contract, but for these, has its body: `rt fmt` writes it
+    between lines `{` and `}` of their own. Constants need those of a `const fn`."""
+    found, name, has_contract, lines = [], None, False, iter(text.split("\n"))
+    for line in lines:
+        found.append(line)
+        if head := FUNCTION.match(line):
+            name, has_contract = head[2] if not head[1] else None, False
+        elif line.endswith(";"):
+            name = None
+        elif line.lstrip().startswith("ensures"):
+            has_contract = True
+        elif name and has_contract and line.strip() == "{" and name not in functions:
+            found += [f"{line[:-1]}    unreachable!()", next(it for it in lines if it == f"{line[:-1]}}}")]
+    return "\n".join(found)
 
 
 def batches_of(room, mutants):
