@@ -211,7 +211,8 @@ uint32_t fluent_uri_compare(uint32_t kind, uint32_t options, const uint8_t *one,
  * What fluent_uri_compare finds to be one key by the same options has one hash. It is FNV-1a of 64
  * bits, which begins with 14695981039346656037 xor SEED: each byte is put in by xor, and the result
  * is multiplied by 1099511628211. The bytes are those of the normal form, or of a text that is not
- * of the kind, from the last to the first, and then 255. Takes no memory. */
+ * of the kind, and then 255. While 1,024 bytes or more are left, the last 1,024 of them come first.
+ * Takes no memory. */
 uint32_t fluent_uri_hash(uint32_t kind, uint32_t options, uint64_t seed, const uint8_t *text,
                          size_t text_len, uint64_t *hash);
 

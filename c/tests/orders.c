@@ -41,9 +41,9 @@ static void orders_texts(void) {
 
 static void hashes_texts(void) {
     /* The published hash of `foobar`, and one step more, for 255. */
-    CHECK(hash(4, 0, "raboof") == (0x85944171f73967e8 ^ 255) * 1099511628211);
+    CHECK(hash(4, 0, "foobar") == (0x85944171f73967e8 ^ 255) * 1099511628211);
     CHECK(hash(4, 0, "") == (0xcbf29ce484222325 ^ 255) * 1099511628211);
-    CHECK(hash(FLUENT_URI_URI, 0, "raboof") == hash(4, 0, "raboof"));
+    CHECK(hash(FLUENT_URI_URI, 0, "foobar") == hash(4, 0, "foobar"));
     CHECK(hash(FLUENT_URI_URI, 5, "HTTP://a:80/%7E") == hash(4, 5, "http://a/~"));
     CHECK(hash(FLUENT_URI_URI, 5, "http://a") != hash(FLUENT_URI_URI, 6, "http://a"));
     uint64_t found;

@@ -18,7 +18,7 @@ pub use Rattle.fluent_uri_c.specs.Building.{HasGivenComponents, HasValidAuthorit
 unfoldable pub use Rattle.fluent_uri_c.specs.Building.{is_host_text}
 pub use Rattle.fluent_uri_c.specs.Columns.{Buffers, IsColumn, bit_of, buffers, bytes_of, joined_results, number_of_bool, column_of, text_in, call_result_bytes, result_in}
 pub use Rattle.fluent_uri_c.specs.Errors.{in_component, rejected, parse_rejection, mend_rejection, error_of_kind, in_reference, number_of, rejected_at, basic_resolve_rejection, resolve_rejection}
-pub use Rattle.fluent_uri_c.specs.Fnv.{fnv_bytes, fnv_write, fnv_step}
+pub use Rattle.fluent_uri_c.specs.Fnv.{fnv_bytes, fnv_write}
 pub use Rattle.fluent_uri_c.specs.Kinds.{base_numbered, iri_numbered, kind_numbered}
 pub use Rattle.fluent_uri_c.specs.Lines.{is_newline, lines_of, HasConsumed, IsFullAt, LeavesLines, LineBuffers, TakesMemoryAt, newline, error_number_at, number_returned, written_at, line_buffers}
 pub use Rattle.fluent_uri_c.specs.Mends.{is_link_copied, mended_link_result, mended_result, takes_memory_for_link, mend_link_result, mend_result, unmendable_error}

@@ -1,14 +1,11 @@
 -- Exports for C: the order of keys of tables, which are normal forms.
-use Rattle.fluent_uri_c.proofs.Common.{◌≡◌, ◌↔◌, ◌⊎◌, inl, inr, ℕ, Bool, true, List, [], ◌∷◌, ◌++◌, refl, sym, ap, ◌∙◌, Option, Some, None, Ok, Ordering, Equal, reverse, flat_map, fold, result_ok, Kind, rules_of_set, RuleSet, fnv_bytes, fnv_write, normal_form_of, normal_result, rejection_or_result, text_error}
+use Rattle.fluent_uri_c.proofs.Common.{◌≡◌, ◌↔◌, ◌⊎◌, inl, inr, ℕ, Bool, true, List, refl, sym, ap, ◌∙◌, Option, Some, None, Ok, Ordering, Equal, result_ok, Kind, rules_of_set, RuleSet, normal_form_of, normal_result, rejection_or_result, text_error}
 use Rattle.std.proofs.lemmas.Map.Text.{is_eq-slice_cmp}
 use Rattle.std.proofs.lemmas.Slice.Eq.{bytes_eq-Decides}
 use Rattle.std.specs.Cmp.{Equal-is}
-use Rattle.std.specs.Hash as fed
 use Rattle.std.specs.Option.{unwrap_or}
-use Rattle.uri_order.specs.HashedTexts.{hashed_text}
 use Rattle.uri_order.specs.NormalForms.{normal_form}
-use Rattle.fluent_uri_c.specs.declared.fnv.Fnv.{Fnv}
-use Rattle.fluent_uri_c.specs.Orders.{AreOneKey, byte_order, key_order, normal_key, order_of_keys}
+use Rattle.fluent_uri_c.specs.Orders.{AreOneKey, byte_order, hash_of_bytes, key_order, normal_key, order_of_keys}
 
 -- exports for C: a normal form by the rules of an order is one by the set that these are
 pub form-by-set : (given set : RuleSet) → given ≡ set → (kind : Kind) (text : List ℕ)
@@ -99,25 +96,11 @@ own-normal-result set kind bytes text is_normal none same h =
       λ e. h.1 (let own : normal_form_of set kind text ≡ bytes = cc in own ∙ sym same),
     )
 
--- exports for C: a hasher that is given the bytes one by one, and then 255, has their hash
-hasher-of-bytes : (hasher : Fnv) (bytes : List ℕ)
-    → (fold fnv_write hasher (flat_map fed.u8 bytes ++ fed.u8 255)).state
-    ≡ fnv_bytes hasher.state (bytes ++ 255 ∷ [])
-hasher-of-bytes hasher [] = refl
-hasher-of-bytes hasher (b ∷ bytes) = hasher-of-bytes (fnv_write hasher (b ∷ [])) bytes
-
--- exports for C: so a hasher that is given a normal form has its hash
-pub hash-of-form : (form same : List ℕ) (old new : Fnv) → form ≡ same
-    → new ≡ fold fnv_write old (hashed_text form)
-    → new.state ≡ fnv_bytes old.state (reverse same ++ 255 ∷ [])
-hash-of-form form same old new e h = ap (λ hasher. hasher.state) h
-    ∙ hasher-of-bytes old (reverse form) ∙ ap (λ t. fnv_bytes old.state (reverse t ++ 255 ∷ [])) e
-
 -- exports for C: the hash of a text of the kind is that of its normal form
-pub hash-of-text : (set : RuleSet) (kind : Kind) (bytes text : List ℕ) (state : ℕ)
+pub hash-of-text : (set : RuleSet) (kind : Kind) (bytes text : List ℕ) (seed : ℕ)
     → None ≡ text_error kind bytes → text ≡ bytes
-    → fnv_bytes state (reverse (normal_form_of set kind text) ++ 255 ∷ []) ≡ fnv_bytes state
-    (reverse (unwrap_or (result_ok (normal_result set kind bytes)) bytes) ++ 255 ∷ [])
-hash-of-text set kind bytes text state none same =
-    ap (λ r. fnv_bytes state (reverse (unwrap_or (result_ok r) bytes) ++ 255 ∷ []))
+    → hash_of_bytes seed (normal_form_of set kind text)
+    ≡ hash_of_bytes seed (unwrap_or (result_ok (normal_result set kind bytes)) bytes)
+hash-of-text set kind bytes text seed none same =
+    ap (λ r. hash_of_bytes seed (unwrap_or (result_ok r) bytes))
     (sym (normal_result-of-text set kind bytes text none same))

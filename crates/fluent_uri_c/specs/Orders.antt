@@ -1,12 +1,15 @@
 -- The order of texts by their normal forms, and the hash of these: for tables and indexes.
-use Rattle.std.specs.Prelude.{◌≡◌, ◌⊎◌, ℕ, List, [], ◌∷◌, ◌++◌, Option, Some, None, bit_xor, reverse}
+use Rattle.std.specs.Prelude.{◌≡◌, ◌⊎◌, ℕ, List, Option, Some, None, bit_xor}
 use Rattle.std.specs.Cmp.Lexicographic.{slice_cmp}
+use Rattle.std.specs.List.{fold}
 use Rattle.std.specs.Option.{unwrap_or}
 use Rattle.std.specs.Ordering.{nat_cmp}
 use Rattle.std.specs.Result.{result_ok}
 use Rattle.std.specs.declared.cmp.Ordering.{Ordering}
 use Rattle.std.specs.declared.cmp.Ordering.TheVariants.{Less, Equal, Greater}
-use Rattle.fluent_uri_c.specs.Fnv.{fnv_bytes}
+use Rattle.uri_order.specs.HashedTexts.{hashed_text}
+use Rattle.fluent_uri_c.specs.Fnv.{fnv_write}
+use Rattle.fluent_uri_c.specs.declared.fnv.Fnv.{Fnv}
 use Rattle.fluent_uri_c.specs.Results.{normalize_result}
 
 -- the normal form of bytes that are a text of the kind; other bytes have none. The numbers are
@@ -50,12 +53,15 @@ AreOneKey kind options one other =
 
 -- the state of FNV-1a from which the hash with a seed begins: the offset basis of 64 bits, and the
 -- seed
-abbrev pub seeded : ℕ → ℕ
-seeded seed = bit_xor 14695981039346656037 seed
+abbrev pub seeded : ℕ → Fnv
+seeded seed = record { state = bit_xor 14695981039346656037 seed }
 
--- the hash of bytes for tables: FNV-1a of the normal form, from its last byte to its first, and
--- then of 255. Bytes that are no text of the kind are hashed as they are.
+-- the hash of bytes with a seed: FNV-1a of their blocks, and of 255
+abbrev pub hash_of_bytes : ℕ → List ℕ → ℕ
+hash_of_bytes seed bytes = (fold fnv_write (seeded seed) (hashed_text bytes)).state
+
+-- the hash of bytes for tables: that of the normal form. Bytes that are no text of the kind are
+-- hashed as they are.
 abbrev pub key_hash : ℕ → ℕ → ℕ → List ℕ → ℕ
 key_hash kind options seed bytes =
-    fnv_bytes (seeded seed)
-    (reverse (unwrap_or (normal_key kind options bytes) bytes) ++ 255 ∷ [])
+    hash_of_bytes seed (unwrap_or (normal_key kind options bytes) bytes)

@@ -1,9 +1,8 @@
 //! The order and the hash of texts by their normal forms, without memory.
-ghost use Rattle.std.specs.Prelude.{◌≡◌, ◌↔◌, ◌≤◌, ◌++◌, ◌∷◌, ℕ, List, [], Ok, is_some, reverse, true};
+ghost use Rattle.std.specs.Prelude.{◌≡◌, ◌↔◌, ◌≤◌, ℕ, List, Ok, is_some, true};
 ghost use Rattle.std.specs.Option.{unwrap_or};
 ghost use Rattle.std.specs.Result.{result_ok};
-ghost use Rattle.fluent_uri_c.specs.Fnv.{fnv_bytes};
-ghost use Rattle.fluent_uri_c.specs.Orders.{AreOneKey, byte_order, key_hash, key_order, normal_key, order_number, order_of_keys, seeded};
+ghost use Rattle.fluent_uri_c.specs.Orders.{AreOneKey, byte_order, hash_of_bytes, key_hash, key_order, normal_key, order_number, order_of_keys, seeded};
 ghost use Rattle.fluent_uri_c.specs.Results.{normal_result, normalize_result};
 
 use crate::errors::Error;
@@ -14,6 +13,7 @@ use std::cmp::Ordering;
 use std::hash::Hasher;
 use uri_ops::scheme_rules::RuleSet;
 use uri_order::NormalOrder;
+use uri_order::hashing::hash_bytes;
 use uri_parts::kind::{IriKind, IriRefKind, Kind, UriKind, UriRefKind};
 
 /// Returns the order of bytes for tables, by the normal forms of texts of the kind.
@@ -117,40 +117,26 @@ pub extern "C" fn fluent_uri_is_normal(kind: u32, options: u32, text: &[u8]) -> 
 
 /// Returns a hasher that begins with this seed.
 fn seeded(seed: u64) -> Fnv
-    ensures { result.state ≡ seeded seed }
+    ensures { result ≡ seeded seed }
 {
     Fnv {
         state: 14695981039346656037 ^ seed,
     }
 }
 
-/// Hashes bytes from the last to the first, and then 255.
-fn hash_from_end(bytes: &[u8], hasher: &mut Fnv)
-    ensures { hasher.new.state
-        ≡ fnv_bytes hasher.old.state (reverse bytes.now ++ 255 ∷ []) }
-{
-    let mut left = bytes.len();
-    while left > 0 {
-        left -= 1;
-        hasher.write_u8(bytes[left]);
-    }
-    hasher.write_u8(0xFF);
-}
-
 /// Returns the hash of bytes for tables as they are.
 fn hash_of_bytes(seed: u64, bytes: &[u8]) -> u64
-    ensures { result ≡ fnv_bytes (seeded seed) (reverse bytes.now ++ 255 ∷ []) }
+    ensures { result ≡ hash_of_bytes seed bytes.now }
 {
     let mut hasher = seeded(seed);
-    hash_from_end(bytes, &mut hasher);
+    hash_bytes(bytes, &mut hasher);
     hasher.finish()
 }
 
 /// Returns the hash of bytes for tables, and whether they are a text of the kind.
 fn hash<K: Kind>(rules: RuleSet, seed: u64, text: &[u8]) -> (u64, bool)
-    ensures hash { result.0 ≡ fnv_bytes (seeded seed)
-        (reverse (unwrap_or (result_ok (normal_result rules K.kind text.now)) text.now)
-        ++ 255 ∷ []) }
+    ensures hash { result.0 ≡ hash_of_bytes seed
+        (unwrap_or (result_ok (normal_result rules K.kind text.now)) text.now) }
     ensures text { result.1 ≡ is_some (result_ok (normal_result rules K.kind text.now)) }
 {
     match parsed::<K>(text) {
@@ -184,8 +170,8 @@ fn hash_by_numbers(kind: u32, options: u32, seed: u64, text: &[u8]) -> (u64, boo
 }
 
 /// Writes the hash of a text for tables, FNV-1a of 64 bits: of its normal form if it is of the
-/// kind, and else of itself, from the last byte to the first, and then of 255. Returns 1 if it is
-/// of the kind, and else 0. Takes no memory.
+/// kind, and else of itself, in blocks of 1,024 bytes from its end, and then of 255. Returns 1 if
+/// it is of the kind, and else 0. Takes no memory.
 #[unsafe(no_mangle)]
 pub extern "C" fn fluent_uri_hash(
     kind: u32,

@@ -87,23 +87,20 @@ pub fn take_last_block<A: ReadBack>(text: &mut A, block: &mut [u8; BLOCK]) -> us
     text.read_back(block, BLOCK)
 }
 
-/// Returns whether two texts are equal.
-pub fn are_equal<A: ReadBack, B: ReadBack>(one: A, other: B) -> bool
-    ensures { (result ≡ true) ↔ (A.unread one ≡ B.unread other) }
+/// Returns whether a text, which it reads from its end, is another one.
+pub fn is_read_as<A: ReadBack>(text: &mut A, other: &[u8]) -> bool
+    ensures { (result ≡ true) ↔ (A.unread text.old ≡ other.now) }
 {
-    let mut one = one;
-    let mut other = other;
+    let mut left = other;
     let mut block = [0; BLOCK];
-    let mut other_block = [0; BLOCK];
     loop {
-        let start = take_last_block(&mut one, &mut block);
-        let other_start = take_last_block(&mut other, &mut other_block);
-        let is_same = block[start..] == other_block[other_start..];
-        if !is_same {
+        let start = take_last_block(text, &mut block);
+        let Some(rest) = left.strip_suffix(&block[start..]) else {
             return false;
-        }
+        };
         if start > 0 {
-            return true;
+            return rest.is_empty();
         }
+        left = rest;
     }
 }

@@ -1,5 +1,5 @@
 -- When normal forms are equal.
-use Rattle.std.proofs.Common.{◌≡◌, ◌↔◌, ℕ, List, sym, ap, ◌∙◌, Ordering, Equal, subst}
+use Rattle.std.proofs.Common.{◌≡◌, ◌↔◌, ℕ, Bool, true, List, sym, ap, ◌∙◌, Ordering, Equal, subst}
 use Rattle.std.proofs.lemmas.Map.Text.{is_eq-slice_cmp}
 use Rattle.std.proofs.lemmas.Slice.Eq.{bytes_eq-Decides}
 use Rattle.std.specs.Cmp.{tied_itself}
@@ -42,3 +42,12 @@ equal_in_order_if_equal one other order e = (
       (sym (is_eq-slice_cmp one other) ∙ ap is_eq (sym e ∙ equal)),
   λ same. e ∙ sym (equal_texts_are_equal_in_order one other same),
 )
+
+-- two texts are equal exactly if a test says that they are equal in their order
+pub equal_if_order_is_equal : (one other : List ℕ) (order : Ordering) (tested : Bool)
+    → order ≡ slice_cmp nat_cmp one other → tested ≡ is_eq order
+    → (tested ≡ true) ↔ (one ≡ other)
+equal_if_order_is_equal one other order tested e test =
+    let same = test ∙ ap is_eq e ∙ is_eq-slice_cmp one other in
+    let decides = bytes_eq-Decides one other in
+    (λ r. decides.0 (sym same ∙ r), λ equal. same ∙ decides.1 equal)

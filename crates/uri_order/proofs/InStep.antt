@@ -64,19 +64,10 @@ order_of_longer_text (x ∷ xs) (y ∷ ys) h =
     ap (ordering_then (nat_cmp x y)) (order_of_longer_text xs ys (omega arith))
     ∙ then_assoc (nat_cmp x y) (slice_cmp nat_cmp (take (length ys) xs) ys) Greater
 
--- a text that ends with its last block is that block
-pub last_block_is_all : (size : ℕ) (text left block : List ℕ) → IsLastBlock size text left block
-    → length block < size → text ≡ block
-last_block_is_all size text left block a short = a.whole ∙ ap (λ t. t ++ block) (a.last short)
-
--- the order of two blocks is that of the bytes that they have from a position on
-pub order_of_blocks : (start found : ℕ) (block other : List ℕ) (order : Ordering)
-    → length (drop start block) + start ≡ 1024 → length (drop found other) + found ≡ 1024
-    → order ≡ slice_cmp nat_cmp (take (1024 - start) (drop start block))
-    (take (1024 - found) (drop found other))
-    → order ≡ slice_cmp nat_cmp (drop start block) (drop found other)
-order_of_blocks start found block other order m n e =
-    e ∙ ap (λ t. slice_cmp nat_cmp t (take (1024 - found) (drop found other)))
-    (take_all (1024 - start) (drop start block) (omega (arith, m)))
-    ∙ ap (λ t. slice_cmp nat_cmp (drop start block) t)
-    (take_all (1024 - found) (drop found other) (omega (arith, n)))
+-- a text whose last block is not full is that block
+pub short_block_is_whole_text : (start : ℕ) (text left block : List ℕ)
+    → IsLastBlock 1024 text left (drop start block) → length (drop start block) + start ≡ 1024
+    → 0 < start → take (1024 - start) (drop start block) ≡ text
+short_block_is_whole_text start text left block last size some =
+    take_all (1024 - start) (drop start block) (omega (arith, size))
+    ∙ sym (last.whole ∙ ap (λ t. t ++ drop start block) (last.last (omega (arith, size))))

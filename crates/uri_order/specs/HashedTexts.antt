@@ -1,13 +1,14 @@
 -- What the hash of a normal form is of.
-use Rattle.std.specs.Prelude.{ℕ, List, ◌++◌, reverse}
-use Rattle.std.specs.List.{flat_map}
+use Rattle.std.specs.Prelude.{ℕ, zero, suc, ◌-◌, ◌/◌, List, ◌∷◌, length, take, drop}
 use Rattle.std.specs.Hash as fed
 
--- bytes as a hasher is given them: each by itself, the last one first
-abbrev pub writes_from_end : List ℕ → fed.HashWrites
-writes_from_end bytes = flat_map fed.u8 (reverse bytes)
+-- what a hasher is given for a text: this many times its last 1,024 bytes, and then what is left, as
+-- a `str`
+unfoldable pub hashed_blocks : ℕ → List ℕ → fed.HashWrites
+hashed_blocks zero text = fed.str text
+hashed_blocks (suc blocks) text =
+    drop (length text - 1024) text ∷ hashed_blocks blocks (take (length text - 1024) text)
 
--- what a hasher is given for a text: its bytes, the last one first, and then 255, which no UTF-8
--- has
+-- what a hasher is given for a text, so that of fewer than 1,024 bytes what `str` is
 abbrev pub hashed_text : List ℕ → fed.HashWrites
-hashed_text text = writes_from_end text ++ fed.u8 255
+hashed_text text = hashed_blocks (length text / 1024) text

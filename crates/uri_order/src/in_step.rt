@@ -1,13 +1,10 @@
-//! Two texts read from their ends in step, and one read into a hasher.
-ghost use Rattle.std.specs.Prelude.{◌≡◌, ◌+◌, ◌-◌, ◌<◌, length, take};
+//! Two texts read from their ends in step.
+ghost use Rattle.std.specs.Prelude.{◌≡◌, ◌+◌, ◌-◌, ◌<◌, IfSome, length, take};
 ghost use Rattle.std.specs.Cmp.Lexicographic.{slice_cmp};
-ghost use Rattle.std.specs.List.{fold};
 ghost use Rattle.std.specs.Ordering.{nat_cmp};
-ghost use Rattle.uri_order.specs.HashedTexts.{hashed_text, writes_from_end};
 ghost use Rattle.uri_order.specs.Ends.{AreEnds};
 
 use std::cmp::Ordering;
-use std::hash::Hasher;
 use uri_ops::read_back::{BLOCK, ReadBack, take_last_block};
 
 /// Which of two texts ends first, where both are read from their ends in step.
@@ -68,7 +65,7 @@ fn cmp_shorter<A: ReadBack, B: ReadBack>(one: A, rest: A, other: B) -> Ordering
 }
 
 /// Returns the order of two texts, byte by byte, of which one has as many bytes as a block or more.
-fn cmp_long<A: ReadBack, B: ReadBack>(one: A, other: B) -> Ordering
+pub(crate) fn cmp_long<A: ReadBack, B: ReadBack>(one: A, other: B) -> Ordering
     ensures { result ≡ slice_cmp nat_cmp (A.unread one) (B.unread other) }
 {
     match read_in_step(one, other) {
@@ -76,6 +73,19 @@ fn cmp_long<A: ReadBack, B: ReadBack>(one: A, other: B) -> Ordering
         Ends::Second(rest) => cmp_shorter(one, rest, other),
         Ends::First(rest) => cmp_shorter(other, rest, one).reverse(),
     }
+}
+
+/// Returns the order of a text, which it reads from its end, and another one, byte by byte, if the
+/// text is shorter than a block.
+pub(crate) fn cmp_short<A: ReadBack>(text: &mut A, other: &[u8]) -> Option<Ordering>
+    ensures { IfSome result (λ order. order ≡ slice_cmp nat_cmp (A.unread text.old) other.now) }
+{
+    let mut block = [0; BLOCK];
+    let start = take_last_block(text, &mut block);
+    if start == 0 {
+        return None;
+    }
+    Some(block[start..].cmp(other))
 }
 
 /// Returns the order of two texts, byte by byte. Those that are shorter than a block are compared
@@ -86,38 +96,11 @@ pub(crate) fn cmp<A: ReadBack, B: ReadBack>(one: A, other: B) -> Ordering
     let mut left = one;
     let mut other_left = other;
     let mut block = [0; BLOCK];
-    let mut other_block = [0; BLOCK];
     let start = take_last_block(&mut left, &mut block);
-    let other_start = take_last_block(&mut other_left, &mut other_block);
-    if start > 0 && other_start > 0 {
-        return block[start..].cmp(&other_block[other_start..]);
-    }
-    cmp_long(one, other)
-}
-
-/// Writes bytes into a hasher, the last one first.
-fn hash_bytes<H: Hasher>(bytes: &[u8], state: &mut H)
-    ensures { state.new ≡ fold H.write state.old (writes_from_end bytes.now) }
-{
-    let mut left = bytes.len();
-    while left > 0 {
-        left -= 1;
-        state.write_u8(bytes[left]);
-    }
-}
-
-/// Writes the bytes of a text into a hasher, the last one first, and then a byte that no text has.
-pub(crate) fn hash<A: ReadBack, H: Hasher>(text: A, state: &mut H)
-    ensures { state.new ≡ fold H.write state.old (hashed_text (A.unread text)) }
-{
-    let mut text = text;
-    let mut block = [0; BLOCK];
-    loop {
-        let start = take_last_block(&mut text, &mut block);
-        hash_bytes(&block[start..], state);
-        if start > 0 {
-            state.write_u8(0xFF);
-            return;
+    if start > 0 {
+        if let Some(order) = cmp_short(&mut other_left, &block[start..]) {
+            return order.reverse();
         }
     }
+    cmp_long(one, other)
 }

@@ -125,8 +125,9 @@ impl<S: SchemeRules> NormalOrder<S> {
         cmp_normal(one.core(), other.core(), &self.rules)
     }
 
-    /// Hashes the normal form of a value, so that equivalent values have equal hashes. Its bytes
-    /// are hashed from the last to the first, and then 255.
+    /// Hashes the normal form of a value, so that equivalent values have equal hashes. A normal
+    /// form of fewer than 1,024 bytes is hashed as `str` is: as one run of bytes, and then 255.
+    /// While 1,024 bytes or more are left of a longer one, the last 1,024 are hashed first.
     ///
     /// The hashes of `http://a/~` and `HTTP://a:80/%7E` are equal. Under `StandardRules`, those of
     /// `http://a` and `HTTP://a:80/` are equal.

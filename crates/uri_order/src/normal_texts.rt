@@ -9,15 +9,15 @@ ghost use Rattle.uri_parts.specs.Grammar.{IsTextOf};
 ghost use Rattle.uri_order.specs.HashedTexts.{hashed_text};
 ghost use Rattle.uri_order.specs.NormalForms.{AreEquivalent, normal_form};
 
-use crate::in_step::{cmp, hash};
+use crate::hashing::{hash_back, hash_bytes};
+use crate::in_step::{cmp, cmp_long, cmp_short};
 use std::cmp::Ordering;
 use std::hash::Hasher;
 use uri_ops::normalize::ruled_parts::ruled_authority;
 use uri_ops::normalize::unchanged::is_found_normal;
 use uri_ops::read_back::literal_back::LiteralBack;
 use uri_ops::read_back::normal_authority::ipv6_host_of;
-use uri_ops::read_back::ruled_back::ruled_back;
-use uri_ops::read_back::{ReadBack, are_equal};
+use uri_ops::read_back::ruled_back::{has_normal_text, ruled_back};
 use uri_ops::scheme_rules::SchemeRules;
 use uri_parts::core_text::Core;
 use uri_parts::kind::Kind;
@@ -45,18 +45,40 @@ fn unchanged_text<'a, K: Kind, S: SchemeRules>(core: Core<K, &'a str>, rules: &S
     Some(text)
 }
 
-/// Returns whether the normal text of a value, which it reads from its end, is another text.
-fn has_normal_text<K: Kind, S: SchemeRules, B: ReadBack>(
-    core: Core<K, &str>,
-    rules: &S,
-    text: B,
-) -> bool
-    ensures { (result ≡ true)
-        ↔ (normal_form K.kind (S.rules_of rules.now) (core_text core.entry) ≡ B.unread text) }
+/// Returns the order of the normal text of a value, which it reads from its end, and another text.
+fn cmp_normal_text<K: Kind, S: SchemeRules>(core: Core<K, &str>, rules: &S, text: &[u8]) -> Ordering
+    ensures { result ≡ slice_cmp nat_cmp
+        (normal_form K.kind (S.rules_of rules.now) (core_text core.entry)) text.now }
 {
     let authority = ruled_authority(core, rules);
     let (host, end) = ipv6_host_of(authority);
-    are_equal(ruled_back(core, authority, rules, &host[..end]), text)
+    let mut back = ruled_back(core, authority, rules, &host[..end]);
+    match cmp_short(&mut back, text) {
+        Some(order) => order,
+        None => {
+            let back = ruled_back(core, authority, rules, &host[..end]);
+            cmp_long(back, LiteralBack::copied(text))
+        }
+    }
+}
+
+/// Returns the order of the normal texts of two values, which it reads from their ends.
+fn cmp_back<K: Kind, S: SchemeRules>(
+    one: Core<K, &str>,
+    other: Core<K, &str>,
+    rules: &S,
+) -> Ordering
+    ensures { let rules = S.rules_of rules.now in
+        result ≡ slice_cmp nat_cmp
+        (normal_form K.kind rules (core_text one.entry))
+        (normal_form K.kind rules (core_text other.entry)) }
+{
+    let authority = ruled_authority(one, rules);
+    let (host, end) = ipv6_host_of(authority);
+    let text = ruled_back(one, authority, rules, &host[..end]);
+    let authority = ruled_authority(other, rules);
+    let (host, end) = ipv6_host_of(authority);
+    cmp(text, ruled_back(other, authority, rules, &host[..end]))
 }
 
 /// Returns whether the normal texts of two values are equal.
@@ -71,14 +93,9 @@ fn have_equal_texts<K: Kind, S: SchemeRules>(
 {
     match (unchanged_text(one, rules), unchanged_text(other, rules)) {
         (Some(first), Some(second)) => first == second,
-        (Some(text), None) => has_normal_text(other, rules, LiteralBack::copied(text.as_bytes())),
-        (None, Some(text)) => has_normal_text(one, rules, LiteralBack::copied(text.as_bytes())),
-        (None, None) => {
-            let authority = ruled_authority(other, rules);
-            let (host, end) = ipv6_host_of(authority);
-            let text = ruled_back(other, authority, rules, &host[..end]);
-            has_normal_text(one, rules, text)
-        }
+        (Some(text), None) => has_normal_text(other, rules, text.as_bytes()),
+        (None, Some(text)) => has_normal_text(one, rules, text.as_bytes()),
+        (None, None) => cmp_back(one, other, rules).is_eq(),
     }
 }
 
@@ -101,20 +118,6 @@ pub(crate) fn are_equivalent<K: Kind, S: SchemeRules>(
     have_equal_texts(one, other, rules)
 }
 
-/// Returns the order of the normal text of a value, which it reads from its end, and another text.
-fn cmp_normal_text<K: Kind, S: SchemeRules, B: ReadBack>(
-    core: Core<K, &str>,
-    rules: &S,
-    text: B,
-) -> Ordering
-    ensures { result ≡ slice_cmp nat_cmp
-        (normal_form K.kind (S.rules_of rules.now) (core_text core.entry)) (B.unread text) }
-{
-    let authority = ruled_authority(core, rules);
-    let (host, end) = ipv6_host_of(authority);
-    cmp(ruled_back(core, authority, rules, &host[..end]), text)
-}
-
 /// Returns the order of the normal texts of two values, byte by byte.
 fn cmp_texts<K: Kind, S: SchemeRules>(
     one: Core<K, &str>,
@@ -128,16 +131,9 @@ fn cmp_texts<K: Kind, S: SchemeRules>(
 {
     match (unchanged_text(one, rules), unchanged_text(other, rules)) {
         (Some(first), Some(second)) => first.cmp(second),
-        (Some(text), None) => {
-            cmp_normal_text(other, rules, LiteralBack::copied(text.as_bytes())).reverse()
-        }
-        (None, Some(text)) => cmp_normal_text(one, rules, LiteralBack::copied(text.as_bytes())),
-        (None, None) => {
-            let authority = ruled_authority(other, rules);
-            let (host, end) = ipv6_host_of(authority);
-            let text = ruled_back(other, authority, rules, &host[..end]);
-            cmp_normal_text(one, rules, text)
-        }
+        (Some(text), None) => cmp_normal_text(other, rules, text.as_bytes()).reverse(),
+        (None, Some(text)) => cmp_normal_text(one, rules, text.as_bytes()),
+        (None, None) => cmp_back(one, other, rules),
     }
 }
 
@@ -172,10 +168,11 @@ pub(crate) fn hash_normal<K: Kind, S: SchemeRules, H: Hasher>(
         (hashed_text (normal_form K.kind rules (core_text core.entry))) }
 {
     if let Some(text) = unchanged_text(core, rules) {
-        hash(LiteralBack::copied(text.as_bytes()), state);
+        hash_bytes(text.as_bytes(), state);
         return;
     }
     let authority = ruled_authority(core, rules);
     let (host, end) = ipv6_host_of(authority);
-    hash(ruled_back(core, authority, rules, &host[..end]), state);
+    let mut back = ruled_back(core, authority, rules, &host[..end]);
+    hash_back(&mut back, state);
 }

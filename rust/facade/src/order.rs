@@ -115,7 +115,8 @@ impl NormalOrder {
         self.inner().cmp(&one, &reference::<R::Kind>(other, other_at))
     }
 
-    /// Hashes the normal form of a value, so that equivalent values have equal hashes.
+    /// Hashes the normal form of a value, so that equivalent values have equal hashes. A normal
+    /// form of fewer than 1,024 bytes is hashed as its text is.
     ///
     /// # Examples
     ///

@@ -1,5 +1,6 @@
 -- Texts that are read from their ends in blocks.
-use Rattle.uri_ops.proofs.Common.{◌≡◌, ℕ, ◌<◌, ◌≤◌, ◌+◌, ◌-◌, Bool, true, false, List, [], ◌∷◌, ◌++◌, length, take, drop, refl, sym, ap, ◌∙◌, arith, append_assoc, ⊎_elim, drop-append_seam, take-append_seam, cases_lt, append-nil, length-append, length-drop, map-append, nil_from_length, take-append-drop, take_all, to_ascii_lowercase, cased}
+use Rattle.uri_ops.proofs.Common.{◌≡◌, ◌↔◌, ℕ, ◌<◌, ◌≤◌, ◌+◌, ◌-◌, Bool, true, false, List, [], ◌∷◌, ◌++◌, length, take, drop, refl, sym, ap, ◌∙◌, arith, append_assoc, ⊎_elim, cases_lt, append-nil, length-append, length-drop, map-append, nil_from_length, take-append-drop, take_all, to_ascii_lowercase, cased}
+use Rattle.std.proofs.lemmas.List.{append_cancel_right}
 use Rattle.uri_ops.specs.FromEnd.Blocks.{IsLastBlock}
 
 -- texts in lower case or not: two texts, one after the other
@@ -44,55 +45,13 @@ bytes_at_end_are_last_block size start text left before after m n within e last 
   last = λ h. last (omega (arith, length-drop start after));
 }
 
--- blocks: equal texts have last blocks of one length
-last_blocks_have_one_length : (size : ℕ) (text left block other rest found : List ℕ)
-    → IsLastBlock size text left block → IsLastBlock size other rest found → text ≡ other
-    → length block ≡ length found
-last_blocks_have_one_length size text left block other rest found a b same =
-    let first : length text ≡ length left + length block =
-    ap length a.whole ∙ length-append left block in
-    let second : length text ≡ length rest + length found =
-    ap length same ∙ ap length b.whole ∙ length-append rest found in
-    let small = a.within in
-    let low = b.within in
-    ⊎_elim (λ h.
-    let none = ap length (a.last h) in
-    ⊎_elim (λ g.
-    let nil = ap length (b.last g) in
-    omega (arith, none, nil))
-    (λ g. omega (arith, none)) (cases_lt (length found) size)) (λ h. ⊎_elim (λ g.
-    let nil = ap length (b.last g) in
-    omega
-    (arith, nil)) (λ g. omega arith) (cases_lt (length found) size)) (cases_lt (length block) size)
-
--- blocks: equal texts have equal last blocks
-pub equal_texts_have_equal_last_blocks : (size : ℕ) (text left block other rest found : List ℕ)
-    → IsLastBlock size text left block → IsLastBlock size other rest found → text ≡ other
-    → (block ≡ found) × (left ≡ rest)
-equal_texts_have_equal_last_blocks size text left block other rest found a b same =
-    let whole : left ++ block ≡ rest ++ found = sym a.whole ∙ same ∙ b.whole in
-    let blocks = last_blocks_have_one_length size text left block other rest found a b same in
-    let lefts : length left ≡ length rest =
-    omega (arith, blocks, ap length whole, length-append left block, length-append rest found) in (
-      sym (drop-append_seam left block) ∙ ap (λ t. drop (length left) t) whole
-          ∙ ap (λ n. drop n (rest ++ found)) lefts ∙ drop-append_seam rest found,
-      sym (take-append_seam left block) ∙ ap (λ t. take (length left) t) whole
-          ∙ ap (λ n. take n (rest ++ found)) lefts ∙ take-append_seam rest found,
-    )
-
--- blocks: texts are equal if their last blocks are, and what is left of them
-pub texts_of_equal_last_blocks_are_equal : (size : ℕ) (text left block other rest found : List ℕ)
-    → IsLastBlock size text left block → IsLastBlock size other rest found → block ≡ found
-    → left ≡ rest → text ≡ other
-texts_of_equal_last_blocks_are_equal size text left block other rest found a b e f =
-    a.whole ∙ ap (λ t. left ++ t) e ∙ ap (λ t. t ++ found) f ∙ sym b.whole
-
--- blocks: nothing is left of either text if their last blocks are equal, and not full
-pub nothing_is_left_of_either : (size : ℕ) (text left block other rest found : List ℕ)
-    → IsLastBlock size text left block → IsLastBlock size other rest found → block ≡ found
-    → length block < size → left ≡ rest
-nothing_is_left_of_either size text left block other rest found a b same short =
-    a.last short ∙ sym (b.last (omega (arith, ap length same)))
+-- blocks: a text is another one that its last block ends exactly if what is left of both is equal
+pub last_block_is_taken_off_both : (size : ℕ) (text left block other rest : List ℕ)
+    → IsLastBlock size text left block → other ≡ rest ++ block → (text ≡ other) ↔ (left ≡ rest)
+last_block_is_taken_off_both size text left block other rest a e = (
+  λ same. append_cancel_right left rest block (sym a.whole ∙ same ∙ e),
+  λ same. a.whole ∙ ap (λ t. t ++ block) same ∙ sym e,
+)
 
 -- blocks: what ends a text is read as far as there is room
 pub end_is_read : (text end left before after : List ℕ) → end ++ before ≡ left ++ after

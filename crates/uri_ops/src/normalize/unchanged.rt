@@ -15,12 +15,9 @@ ghost use Rattle.uri_ops.specs.Normalizers.{HasNormalText, text_underflows};
 ghost use Rattle.uri_ops.specs.SchemeRules.{meaning_under};
 
 use crate::normalize::normal_authority::{is_bracketed, is_port_unchanged};
-use crate::normalize::ruled_parts::{has_default_host, has_root_path, ruled_authority};
+use crate::normalize::ruled_parts::{has_default_host, has_root_path};
 use crate::normalize::unchanged_octets::is_unchanged_from;
-use crate::read_back::are_equal;
-use crate::read_back::literal_back::LiteralBack;
-use crate::read_back::normal_authority::ipv6_host_of;
-use crate::read_back::ruled_back::ruled_back;
+use crate::read_back::ruled_back::has_normal_text;
 use crate::scheme_rules::SchemeRules;
 use uri_parts::core_text::Core;
 use uri_parts::kind::Kind;
@@ -194,24 +191,11 @@ pub fn is_found_normal<K: Kind, S: SchemeRules>(core: Core<K, &str>, rules: &S) 
     !has_root_path(core, rules) && !has_default_host(core, rules)
 }
 
-/// Returns whether the normal text of a value, which it reads from its end, is its own.
-fn is_read_normal<K: Kind, S: SchemeRules>(core: Core<K, &str>, rules: &S) -> bool
-    ensures { (result ≡ true) ↔ (normal_text (meaning_under K.kind (S.rules_of rules.now)
-        (core_text core.entry)) ≡ core_text core.entry) }
-{
-    let authority = ruled_authority(core, rules);
-    let (host, end) = ipv6_host_of(authority);
-    are_equal(
-        ruled_back(core, authority, rules, &host[..end]),
-        LiteralBack::copied(core.as_str().as_bytes()),
-    )
-}
-
 /// Returns whether the normal text of a value is its own. Takes no memory.
 #[doc(hidden)]
 pub fn is_normal<K: Kind, S: SchemeRules>(core: Core<K, &str>, rules: &S) -> bool
     ensures { (result ≡ true) ↔ (normal_text (meaning_under K.kind (S.rules_of rules.now)
         (core_text core.entry)) ≡ core_text core.entry) }
 {
-    is_found_normal(core, rules) || is_read_normal(core, rules)
+    is_found_normal(core, rules) || has_normal_text(core, rules, core.as_str().as_bytes())
 }

@@ -87,6 +87,9 @@ impl<'a> PathBack<'a> {
         if self.follows_slash {
             return true;
         }
+        if self.rest.is_empty() {
+            return false;
+        }
         match split_last_segment(self.rest) {
             Some((prefix, segment)) => {
                 *self = PathBack {

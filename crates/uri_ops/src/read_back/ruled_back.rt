@@ -1,6 +1,6 @@
 //! The normal text of a value under the rules of its scheme, read from its end (RFC 3986, section
 //! 6.2.3).
-ghost use Rattle.std.specs.Prelude.{◌≡◌, option_map};
+ghost use Rattle.std.specs.Prelude.{◌≡◌, ◌↔◌, option_map, true};
 ghost use Rattle.uri_parts.specs.AuthorityTexts.{authority_text};
 ghost use Rattle.uri_parts.specs.Components.{components};
 ghost use Rattle.uri_parts.specs.CoreTexts.{core_text};
@@ -9,9 +9,10 @@ ghost use Rattle.uri_ops.specs.Models.RuledComponents.{ruled_components};
 ghost use Rattle.uri_ops.specs.Normal.{normal_text};
 ghost use Rattle.uri_ops.specs.SchemeRules.{meaning_under};
 
-use crate::normalize::ruled_parts::ruled_path;
-use crate::read_back::ReadBack;
+use crate::normalize::ruled_parts::{ruled_authority, ruled_path};
+use crate::read_back::normal_authority::ipv6_host_of;
 use crate::read_back::normal_back::{NormalBack, normal_back};
+use crate::read_back::{ReadBack, is_read_as};
 use crate::scheme_rules::SchemeRules;
 use uri_parts::component::Authority;
 use uri_parts::core_text::Core;
@@ -35,4 +36,15 @@ pub fn ruled_back<'a, K: Kind, S: SchemeRules>(
     // What `as_str` promises of the text is used by the proof.
     let _text = core.as_str();
     normal_back(core, authority, ruled_path(core, rules), rules, address)
+}
+
+/// Returns whether the normal text of a value, which it reads from its end, is this one.
+pub fn has_normal_text<K: Kind, S: SchemeRules>(core: Core<K, &str>, rules: &S, text: &[u8]) -> bool
+    ensures { (result ≡ true) ↔ (normal_text (meaning_under K.kind (S.rules_of rules.now)
+        (core_text core.entry)) ≡ text.now) }
+{
+    let authority = ruled_authority(core, rules);
+    let (host, end) = ipv6_host_of(authority);
+    let mut back = ruled_back(core, authority, rules, &host[..end]);
+    is_read_as(&mut back, text)
 }
