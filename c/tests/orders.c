@@ -39,6 +39,12 @@ static void orders_texts(void) {
     CHECK(order(4, "http://a", "HTTP://a") > 0 && order(4, "a", "a") == 0);
 }
 
+static uint64_t fnv(uint64_t state, const uint8_t *bytes, size_t len) {
+    for (size_t i = 0; i < len; i++)
+        state = (state ^ bytes[i]) * 1099511628211u;
+    return state;
+}
+
 static void hashes_texts(void) {
     /* The published hash of `foobar`, and one step more, for 255. */
     CHECK(hash(4, 0, "foobar") == (0x85944171f73967e8 ^ 255) * 1099511628211);
@@ -50,6 +56,15 @@ static void hashes_texts(void) {
     CHECK(fluent_uri_hash(FLUENT_URI_URI, 0, 0, TEXT("http://a"), &found) == 1);
     CHECK(fluent_uri_hash(FLUENT_URI_URI, 0, 0, TEXT("//a"), &found) == 0);
     CHECK(fluent_uri_hash(FLUENT_URI_URI, 1, 0, TEXT("http://a"), &found) == 0);
+    /* Of 2,500 bytes the last 1,024 come first, then those before them, and then what is left. */
+    uint8_t text[2500];
+    for (size_t i = 0; i < sizeof text; i++)
+        text[i] = "abcdefg"[i % 7];
+    uint64_t blocks = fnv(fnv(0xcbf29ce484222325, text + 1476, 1024), text + 452, 1024);
+    uint64_t all = (fnv(blocks, text, 452) ^ 255) * 1099511628211u;
+    CHECK(fluent_uri_hash(FLUENT_URI_URI_REF, 0, 0, text, sizeof text, &found) == 1);
+    CHECK(found == all);
+    CHECK(fluent_uri_hash(FLUENT_URI_URI, 0, 0, text, sizeof text, &found) == 0 && found == all);
 }
 
 /* By the rules of schemes an empty path after an authority is `/`, and `localhost` is left out. */
