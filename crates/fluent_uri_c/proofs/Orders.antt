@@ -1,11 +1,13 @@
 -- Exports for C: the order of keys of tables, which are normal forms.
-use Rattle.fluent_uri_c.proofs.Common.{◌≡◌, ◌↔◌, ◌⊎◌, inl, inr, ℕ, Bool, true, List, refl, sym, ap, ◌∙◌, Option, Some, None, Ok, Ordering, Equal, result_ok, Kind, rules_of_set, RuleSet, normal_form_of, normal_result, rejection_or_result, text_error}
+use Rattle.fluent_uri_c.proofs.Common.{◌≡◌, ◌↔◌, ◌⊎◌, inl, inr, ℕ, Bool, true, List, refl, sym, ap, ◌∙◌, Option, Some, None, Ok, Ordering, Equal, fold, result_ok, Kind, rules_of_set, RuleSet, fnv_write, normal_form_of, normal_result, rejection_or_result, text_error}
 use Rattle.std.proofs.lemmas.Map.Text.{is_eq-slice_cmp}
 use Rattle.std.proofs.lemmas.Slice.Eq.{bytes_eq-Decides}
 use Rattle.std.specs.Cmp.{Equal-is}
 use Rattle.std.specs.Option.{unwrap_or}
+use Rattle.uri_order.specs.HashedTexts.{hashed_text}
 use Rattle.uri_order.specs.NormalForms.{normal_form}
-use Rattle.fluent_uri_c.specs.Orders.{AreOneKey, byte_order, hash_of_bytes, key_order, normal_key, order_of_keys}
+use Rattle.fluent_uri_c.specs.declared.fnv.Fnv.{Fnv}
+use Rattle.fluent_uri_c.specs.Orders.{AreOneKey, byte_order, hash_of_bytes, key_order, normal_key, order_of_keys, seeded}
 
 -- exports for C: a normal form by the rules of an order is one by the set that these are
 pub form-by-set : (given set : RuleSet) → given ≡ set → (kind : Kind) (text : List ℕ)
@@ -95,6 +97,14 @@ own-normal-result set kind bytes text is_normal none same h =
       λ e. made ∙ ap Ok (h.0 e ∙ same),
       λ e. h.1 (let own : normal_form_of set kind text ≡ bytes = cc in own ∙ sym same),
     )
+
+-- exports for C: a hasher that begins with the seed and is given a normal form has its hash
+pub hash-of-form : (seed : ℕ) (form same : List ℕ) (old new : Fnv) → old ≡ seeded seed
+    → form ≡ same → new ≡ fold fnv_write old (hashed_text form)
+    → new.state ≡ hash_of_bytes seed same
+hash-of-form seed form same old new begun e h =
+    ap (λ hasher. hasher.state) (h ∙ ap (λ hasher. fold fnv_write hasher (hashed_text form)) begun
+    ∙ ap (λ t. fold fnv_write (seeded seed) (hashed_text t)) e)
 
 -- exports for C: the hash of a text of the kind is that of its normal form
 pub hash-of-text : (set : RuleSet) (kind : Kind) (bytes text : List ℕ) (seed : ℕ)
