@@ -1,12 +1,12 @@
 -- What proofs import from std, from lower crates and from `specs/`: the modules that three
 -- files or more use.
-pub use Rattle.std.proofs.Common.{◌≡◌, ℕ, zero, suc, ◌+◌, ◌-◌, ◌^◌, ◌%◌, ◌<◌, ◌≤◌, Bool, true, false, cond, eqb, leb, List, [], ◌∷◌, map, length, get_or, replicate, sym, refl, ap, ◌∙◌, arith, leb-false, eqb-true, inl, inr, subst, ◌≢◌, ◌++◌, set, take, drop, append_assoc, ⊎_elim, length-append, ◌/◌, ◌&&◌, ◌||◌, not, zero-add, length-drop, ◌==◌, le-leb, lit≤, add-zero, ◌⊎◌, ◌↔◌, Ordering, Equal, reverse, rules, w8, string_bytes, below_more}
+pub use Rattle.std.proofs.Common.{◌≡◌, ℕ, zero, suc, ◌+◌, ◌-◌, ◌^◌, ◌%◌, ◌<◌, ◌≤◌, Bool, true, false, cond, eqb, leb, List, [], ◌∷◌, map, length, get_or, replicate, sym, refl, ap, ◌∙◌, arith, leb-false, eqb-true, inl, inr, subst, ◌≢◌, ◌++◌, set, take, drop, append_assoc, ⊎_elim, length-append, ◌/◌, ◌&&◌, ◌||◌, not, zero-add, length-drop, ◌==◌, le-leb, lit≤, add-zero, ◌⊎◌, ◌↔◌, Ordering, Equal, rules, w8, string_bytes, below_more}
 pub use Rattle.std.proofs.Math.Seq.{drop-append_seam, take-append_seam, take-length}
 pub use Rattle.std.proofs.lemmas.Bool.{cond-false, cond-true, false_from_ne_true, cases_eq, and_from, and_parts, or_right, and_right, eq-eqb, ne_eqb, cases_lt, both_ways, not-true, false≢true, or_left, le-ltb, lt-ltb, ltb-false}
 pub use Rattle.std.proofs.lemmas.List.{length-map, length-replicate, drop-drop, drop-set-lt, get_or-set_same, get_or-set_other, drop_all, take_at, get_or-drop, append_cancel_left, take-append-drop, take-take, take_rest, length-take-le}
 pub use Rattle.std.proofs.lemmas.Option.{none-some, slice_get_read, same_Some}
 pub use Rattle.std.proofs.lemmas.Str.{IsUtf8-from_is_utf8, is_utf8-from_IsUtf8, IsUtf8-append, IsUtf8-drop, utf8_valid_len-IsUtf8, IsCharBoundary-start, IsUtf8-from_ascii}
-pub use Rattle.std.specs.List.{position_or_len, prefix_len, flat_map, fold, position}
+pub use Rattle.std.specs.List.{position_or_len, prefix_len, fold, position}
 pub use Rattle.std.specs.Prelude.{IsSomeAnd, Option, Some, None, Ok, Err, is_none, ok_or, option_map, IsSome, slice_get, is_some, IfSome, codes, slice_index, unwrap_or, IsTrue, encode_utf8, slice_range, bytes_eq, nat_lt, Result, if◌then◌else◌, IsOk, option_and_then}
 pub use Rattle.std.specs.Result.{is_ok, result_ok, result_map_both}
 pub use Rattle.std.specs.Str.{is_utf8, IsUtf8, IsCharBoundary}
