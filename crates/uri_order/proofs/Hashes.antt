@@ -9,7 +9,8 @@ use Rattle.uri_order.specs.HashedTexts.{hashed_blocks, hashed_text}
 use Rattle.uri_order.proofs.InStep.{short_block_is_whole_text}
 
 -- hashes: a text that is shorter than a block is hashed as a whole
-pub short_text_is_hashed_whole : (text : List ℕ) → length text < 1024 → hashed_text text ≡ fed.str text
+pub short_text_is_hashed_whole : (text : List ℕ) → length text < 1024
+    → hashed_text text ≡ fed.str text
 unfolding hashed_blocks
 short_text_is_hashed_whole text short =
     let none : length text / 1024 ≡ 0 = omega (arith, short) in
@@ -34,7 +35,8 @@ module _ {S : Type 0} (write : S → List ℕ → S) (state next : S) (start : �
     (size : length (drop start block) + start ≡ 1024)
     (written : next ≡ write state (take (1024 - start) (drop start block))) where
   -- hashes: after a full block was hashed, what is left of the text gives the rest
-  pub hash_goes_on : start ≤ 0 → fold write state (hashed_text text) ≡ fold write next (hashed_text left)
+  pub hash_goes_on : start ≤ 0
+      → fold write state (hashed_text text) ≡ fold write next (hashed_text left)
   hash_goes_on none =
       ap (fold write state) (full_block_is_hashed_first text left (drop start block) last.whole
       (omega (arith, size)))
@@ -46,12 +48,7 @@ module _ {S : Type 0} (write : S → List ℕ → S) (state next : S) (start : �
   pub hash_ends : 0 < start → fold write next (fed.u8 255) ≡ fold write state (hashed_text text)
   hash_ends some =
       let whole = short_block_is_whole_text start text left block last size some in
+      let all = take_all (1024 - start) (drop start block) (omega (arith, size)) in
+      let short : length text < 1024 = omega (arith, size, ap length whole, ap length all) in
       ap (λ s. fold write s (fed.u8 255)) (written ∙ ap (write state) whole)
-      ∙ ap (fold write state) (sym (short_text_is_hashed_whole text
-      (omega (
-        arith,
-        size,
-        ap length whole,
-        ap length
-            (take_all (1024 - start) (drop start block) (omega (arith, size))),
-      ))))
+      ∙ ap (fold write state) (sym (short_text_is_hashed_whole text short))
