@@ -3,7 +3,7 @@ use Rattle.std.proofs.Common.{◌≡◌, ℕ, Bool, true, false, ◌||◌, eqb, 
 use Rattle.std.specs.Prelude.{Some, codes, unwrap_or}
 use Rattle.std.specs.Char.{is_ascii_digit, is_ascii_lowercase}
 use Rattle.std.specs.List.{list_any}
-use Rattle.std.proofs.lemmas.Bool.{cases_Bool, cond-false, cond-true, or_parts}
+use Rattle.std.proofs.lemmas.Bool.{cases_Bool, cond-false, cond-true}
 use Rattle.std.proofs.lemmas.Bool.Decides.{nat_tests}
 use Rattle.std.proofs.lemmas.List.Elements.{All-weaker}
 use Rattle.std.proofs.lemmas.List.Sums.{list_all-from_AllPass}
@@ -19,7 +19,7 @@ use Rattle.uri_parts.specs.Grammar.{Kind}
 use Rattle.uri_parts.specs.Hosts.{HostKind, Ipv4, Ipv6, IpvFuture, RegName, host_kind}
 use Rattle.uri_ops.specs.ComponentSets.{HasComponentSets}
 use Rattle.uri_ops.specs.HostParts.{IsHostText}
-use Rattle.uri_ops.proofs.Offered.{valid-name-is-host, is_set_text, set-text-is-utf8, set-text-is-valid, ascii-in-test-is-set-text, is_ascii_in, ends-are-excluded-from-set}
+use Rattle.uri_ops.proofs.Offered.{valid-name-is-host, is_set_text, set-text-is-utf8, set-text-is-valid, ascii-in-test-is-set-text, is_ascii_in}
 use Rattle.uri_idna.specs.AsciiHosts.{ascii_host, ascii_host_of, ascii_name, dns_name, is_ascii_text}
 
 -- hosts in ASCII: what ToASCII writes for DNS: lower-case letters, digits, hyphens and full stops
@@ -55,12 +55,7 @@ dns-name-is-set-text set within percent name made e =
 -- hosts in ASCII: a set of registered names excludes the `[` that begins an address
 bracket-is-excluded : (set : TableSet) → list_any set.ascii (codes "/?#[]@:") ≡ false
     → excludes set (codes "[") ≡ true
-bracket-is-excluded set ends =
-    let a = or_parts (set.ascii 47) _ ends in
-    let b = or_parts (set.ascii 63) _ a.1 in
-    let c = or_parts (set.ascii 35) _ b.1 in
-    let d = or_parts (set.ascii 91) _ c.1 in
-    ends-are-excluded-from-set (codes "[") set refl (ap (λ x. x || false) d.0)
+bracket-is-excluded set ends = grind arith
 
 -- hosts in ASCII: so it is a host of each kind
 dns-name-is-host : (kind : Kind) → HasComponentSets kind → (name made : List ℕ)

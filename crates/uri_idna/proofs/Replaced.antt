@@ -1,17 +1,17 @@
 -- A text whose host is replaced by its form in ASCII has its other components unchanged.
-use Rattle.std.proofs.Common.{◌≡◌, ℕ, true, false, ◌&&◌, ◌||◌, not, List, [], ◌++◌, refl, ap, sym, subst, ◌∙◌}
-use Rattle.std.specs.Prelude.{Option, Some, None, IfNone, IfSome, IsSomeAnd, codes, is_some, option_map}
+use Rattle.std.proofs.Common.{arith, ◌≡◌, ℕ, true, false, List, [], ◌++◌, refl, ap, sym, subst, ◌∙◌}
+use Rattle.std.specs.Prelude.{Option, Some, None, IfNone, IfSome, IsSomeAnd, codes}
 use Rattle.std.specs.Str.{IsUtf8}
 use Rattle.std.proofs.lemmas.Str.{IsUtf8-append}
 use Rattle.uri_parts.specs.Authority.{AuthorityParts, IsAuthorityFor, authority_parts, recompose_authority}
 use Rattle.uri_parts.specs.Components.{Components, IsAbemptyPath, IsSplitOf, Lacks, components, has_scheme, marked, recompose}
-use Rattle.uri_parts.specs.Grammar.{IsOfKind, IsTextOf, Kind, components_meet_rules, has_colon_in_first_segment, is_authority}
+use Rattle.uri_parts.specs.Grammar.{IsOfKind, IsTextOf, Kind, components_meet_rules, is_authority}
 use Rattle.uri_parts.proofs.Offered.{authority_parts-are-unique, components-are-split-of-text, is_authority_for-complete, is_authority_for-sound, only-split-is-components, recompose-components}
 use Rattle.uri_ops.specs.BuilderParts.{is_authority_text}
 use Rattle.uri_ops.specs.ComponentSets.{HasComponentSets}
 use Rattle.uri_ops.proofs.Offered.{authority-lacks-its-ends, authority-text-from-rule, authority-text-is-utf8, authority-text-meets-rule, ascii-bytes-are-utf8, authority-parts-are-utf8, kind-sets-lack-authority-delimiters, ArePartsOfKind, components-of-kind-meet-grammar, text-has-parts-of-kind}
 use Rattle.uri_idna.specs.AsciiHosts.{ascii_host}
-use Rattle.uri_idna.specs.AsciiReferences.{HasAsciiHost, IsAuthorityWithAsciiHost, IsWithAsciiHost, ascii_components, with_ascii_host, with_authority, with_host}
+use Rattle.uri_idna.specs.AsciiReferences.{HasAsciiHost, IsAuthorityWithAsciiHost, IsWithAsciiHost, with_ascii_host, with_authority, with_host}
 use Rattle.uri_idna.proofs.AsciiNames.{ascii-host-is-host}
 
 -- replacing a host: a host and the port after it are UTF-8
@@ -77,15 +77,7 @@ slashes-are-no-scheme (Some s) authority rest = tt
 replaced-components-are-of-kind : (kind : Kind) (p : Components) (old new : List ℕ)
     → p.authority ≡ Some old → IsUtf8 new → is_authority kind new ≡ true → ArePartsOfKind kind p
     → ArePartsOfKind kind (with_authority p new)
-replaced-components-are-of-kind kind p old new had utf8 rule w = record {
-  scheme = w.scheme;
-  authority = (utf8, rule);
-  path = w.path;
-  query = w.query;
-  fragment = w.fragment;
-  needs = subst (λ (o : Option (List ℕ)). (is_some p.scheme || (not kind.needs_scheme
-      && (is_some o || not (has_colon_in_first_segment p.path)))) ≡ true) had w.needs;
-}
+replaced-components-are-of-kind kind p old new had utf8 rule w = grind arith
 
 -- replacing a host: components with another authority of the kind are those of their text
 replaced-components-are-split : (kind : Kind) → HasComponentSets kind → (text : List ℕ)
@@ -173,19 +165,7 @@ module _ (kind : Kind) (sets : HasComponentSets kind) (text old host : List ℕ)
         fragment = ap (λ (c : Components). c.fragment) same;
       }
 
-  -- it is the text that the definition has
-  pub replaced-text-is-defined : (made : List ℕ)
-      → made ≡ recompose (with_authority (components text) (with_host old host))
-      → with_ascii_host text ≡ Some made
-  replaced-text-is-defined made is =
-      ap (λ a. option_map recompose (ascii_components (components text) a)) had
-      ∙ ap (λ h. option_map recompose (option_map (λ x. with_authority (components text)
-      (with_host old x)) h)) e
-      ∙ ap Some (sym is)
-
 -- a text without an authority stays
 pub text-without-authority-stays : (text : List ℕ) → (components text).authority ≡ None
     → with_ascii_host text ≡ Some text
-text-without-authority-stays text none =
-    ap (λ a. option_map recompose (ascii_components (components text) a)) none
-    ∙ ap Some (recompose-components text)
+text-without-authority-stays text none = grind (arith, components, recompose-components)

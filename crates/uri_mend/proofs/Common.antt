@@ -1,16 +1,17 @@
 -- What proofs import from std, from lower crates and from `specs/`: the modules that three
 -- files or more use.
-pub use Rattle.std.proofs.Common.{◌≡◌, ℕ, ◌<◌, ◌≤◌, true, false, eqb, ltb, List, [], ◌∷◌, ◌++◌, map, refl, sym, ap, ◌∙◌, arith, ⊎_elim, zero, suc, ◌+◌, ◌*◌, length, take, drop, append_assoc, ◌-◌, not, ◌&&◌, get_or, subst, length-drop, ◌||◌, length-append, inl, inr, Bool, lit<, cond, string_bytes, ◌/◌, ◌%◌, ◌^◌, bit_and, w8, replicate, rules}
+pub use Rattle.std.proofs.Common.{◌≡◌, ℕ, ◌<◌, ◌≤◌, true, false, eqb, ltb, List, [], ◌∷◌, ◌++◌, map, refl, sym, ap, ◌∙◌, arith, ⊎_elim, zero, suc, ◌+◌, ◌*◌, length, take, drop, append_assoc, ◌-◌, not, ◌&&◌, get_or, subst, length-drop, ◌||◌, length-append, inl, Bool, lit<, cond, string_bytes, ◌/◌, ◌%◌, ◌^◌, bit_and, w8, replicate, rules}
 pub use Rattle.std.proofs.Math.Seq.{take-add, take-append-add, take-nil, take-append_seam, drop-append_seam, drop-append-add}
-pub use Rattle.std.proofs.lemmas.Bool.{cases_Bool, cases_lt, cond-true, cond-false, and_parts, and_from, agree_below_at, ltb-true, lt-ltb, le-ltb, eqb-true, leb-true, not-true, not_from_false, and_left, and_right, both_ways, ne_eqb, or_cases, or_left, or_right, not-false, not_from_true, or_parts, false≢true, eqb-false}
+pub use Rattle.std.proofs.lemmas.Bool.{cases_Bool, cases_lt, cond-true, cond-false, and_parts, and_from, agree_below_at, ltb-true, le-ltb, eqb-true, leb-true, not-true, not_from_false, and_left, and_right, both_ways, ne_eqb, or_cases, not-false, or_parts, false≢true}
 pub use Rattle.std.proofs.lemmas.Bool.Decides.{nat_tests}
-pub use Rattle.std.proofs.lemmas.List.{length-take-le, map-append, take-append-le, take-take, append-nil, drop-drop, drop-append-le, get_or-drop, get_or-take, drop_at, drop_more, take-append-drop, take_all, drop_all}
+pub use Rattle.std.proofs.lemmas.Grind.{common_steps}
+pub use Rattle.std.proofs.lemmas.List.{length-take-le, map-append, take-append-le, take-take, append-nil, drop-drop, drop-append-le, get_or-drop, drop_at, drop_more, take-append-drop, take_all, drop_all}
 pub use Rattle.std.proofs.lemmas.List.Folds.{list_all-append}
-pub use Rattle.std.proofs.lemmas.Simd.{put_chunk_is, zip2_splat, SwzOk, swz_l, length-chunk, chunk-fits}
-pub use Rattle.std.proofs.lemmas.Str.{encode_ascii, scalars-chars, IsUtf8-drop, chars-nil, IsUtf8-take, IsCharBoundary-after_ascii, IsCharBoundary-before_ascii, IsCharBoundary-past_char, IsUtf8-between, encodes-chars, len_utf8_ascii, length-encode, IsUtf8-append, IsCharBoundary-from_drop, IsCharBoundary-at_seam, len_utf8_bounds, chars_past_char, chars-encodes, IsUtf8-nil, IsUtf8-string_bytes, IsCharBoundary-start}
+pub use Rattle.std.proofs.lemmas.Simd.{put_chunk_is, zip2_splat, length-chunk}
+pub use Rattle.std.proofs.lemmas.Str.{encode_ascii, scalars-chars, IsUtf8-drop, chars-nil, IsUtf8-take, IsCharBoundary-after_ascii, IsCharBoundary-past_char, IsUtf8-between, encodes-chars, len_utf8_ascii, length-encode, IsUtf8-append, IsCharBoundary-from_drop, IsCharBoundary-at_seam, len_utf8_bounds, chars_past_char, chars-encodes, IsUtf8-nil, IsUtf8-string_bytes, IsCharBoundary-start}
 pub use Rattle.std.specs.Char.{IsScalar, encode_utf8, is_ascii_hexdigit, len_utf8, digit_value, is_ascii_whitespace}
 pub use Rattle.std.specs.List.{list_all, flat_map, list_any, prefix_len}
-pub use Rattle.std.specs.Prelude.{Option, Some, None, IfSome, nat_le, option_map, codes, IfNone, is_some, unwrap_or, slice_range, IsSome}
+pub use Rattle.std.specs.Prelude.{Option, Some, None, IfSome, nat_le, option_map, codes, IfNone, is_some, unwrap_or, slice_range}
 pub use Rattle.std.specs.Simd.Lanes.{put_chunk, zip2, chunk}
 pub use Rattle.std.specs.Str.{chars, all_scalars, IsUtf8, IsCharBoundary, encode_utf8_all, IsTrimAscii}
 pub use Rattle.uri_mend.specs.Links.{IsLink, with_ends_at}
@@ -19,7 +20,7 @@ unfoldable pub use Rattle.uri_mend.specs.MendedParts.{mended_from_chars, mended}
 pub use Rattle.uri_mend.specs.Mending.{mended_components}
 unfoldable pub use Rattle.uri_mend.specs.Mending.{link_components, mended_text, has_false_scheme, with_dot_segment, can_be_mended}
 pub use Rattle.uri_mend.specs.Progress.{IsEncodedBetween, IsLackedRun, are_marks, is_never, lacks_marks, IsProgress, mended_so_far}
-pub use Rattle.uri_mend.specs.Tails.{mended_marked, mended_query, mended_fragment, IsMendedByPieces, IsPathMendedByPieces, query_of_tail, dot_segment_if, mended_path}
+pub use Rattle.uri_mend.specs.Tails.{mended_marked, mended_query, IsMendedByPieces, IsPathMendedByPieces, query_of_tail, dot_segment_if, mended_path}
 unfoldable pub use Rattle.uri_mend.specs.Tails.{mended_tail}
 pub use Rattle.uri_mend.specs.Trimming.{tab_and_newlines, without_any, without_outer_space}
 unfoldable pub use Rattle.uri_mend.specs.Trimming.{trimmed_link}
@@ -28,7 +29,7 @@ pub use Rattle.uri_mend.specs.declared.link.Link.{Link}
 pub use Rattle.uri_ops.proofs.Offered.{components-of-utf8-are-utf8, grammar-gives-components-of-kind, AreUtf8, one-of-four-kinds-has-sets}
 pub use Rattle.uri_ops.specs.ComponentSets.{HasComponentSets}
 pub use Rattle.uri_ops.specs.Models.Places.{before_path}
-pub use Rattle.uri_parts.proofs.Offered.{before_any-past-other, from_any-past-other, cut-at-end-of-text-without-marks, text-is-cut-at-first-mark, from_any-at-mark, before_any-at-mark, IsEmptyOrMarked, recompose-components, components-are-split-of-text, equal-to-true-is-IsTrue, equal-parts-make-equal-components, only-split-is-components}
+pub use Rattle.uri_parts.proofs.Offered.{before_any-past-other, from_any-past-other, cut-at-end-of-text-without-marks, text-is-cut-at-first-mark, from_any-at-mark, before_any-at-mark, IsEmptyOrMarked, recompose-components, components-are-split-of-text, equal-parts-make-equal-components, only-split-is-components}
 pub use Rattle.uri_parts.specs.Components.{recompose, before_any, from_any, components, starts, when, has_scheme, has_authority, after_scheme, after_authority, marked, after_query, Components, Lacks, IsSplitOf, IsAbemptyPath}
 pub use Rattle.uri_parts.specs.Grammar.{Kind, is_scheme, IsTextOf, has_colon_in_first_segment, IsOfKind, absent_or_passes, is_authority, components_meet_rules, kind_by_flags, is_of_kind}
 pub use Rattle.uri_parts.specs.PackedPositions.{ArePackedPositionsOf, packed}

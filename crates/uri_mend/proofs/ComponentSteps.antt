@@ -1,7 +1,7 @@
 -- A component within a text, mended from left to right: what a scan passes is unchanged, and the
 -- character
 -- where it stops becomes octets, up to the first of the marks that end the component.
-use Rattle.uri_mend.proofs.Common.{◌≡◌, ℕ, ◌+◌, ◌<◌, ◌≤◌, true, false, not, eqb, List, [], ◌∷◌, ◌++◌, ◌&&◌, length, take, drop, map, get_or, refl, sym, ap, subst, ◌∙◌, arith, ⊎_elim, ltb, length-drop, encode_utf8, is_ascii_hexdigit, list_all, IsUtf8, IsCharBoundary, and_from, and_parts, cases_Bool, cases_lt, leb-true, ltb-true, not-true, not_from_false, drop-append-le, get_or-drop, get_or-take, length-take-le, take-append-le, take-take, IsUtf8-take, valid_prefix, TableSet, LacksPercent, is_one_of, IsValidFor, Octet, print, HasEncoding, char_has_encoding, is_no_ascii_byte, excludes, valid_prefix-ends-by-mark, AreAscii, first_mark_is_at_boundary, length_before_marks, test_holds_of_each, before_any, from_any, before_any-past-other, from_any-past-other, cut-at-end-of-text-without-marks, text-is-cut-at-first-mark, mended}
+use Rattle.uri_mend.proofs.Common.{common_steps, ◌≡◌, ℕ, ◌+◌, ◌<◌, ◌≤◌, true, false, not, List, [], ◌∷◌, ◌++◌, length, take, drop, map, get_or, refl, sym, ap, subst, ◌∙◌, arith, ⊎_elim, length-drop, encode_utf8, list_all, IsUtf8, IsCharBoundary, and_from, and_parts, cases_Bool, leb-true, not-true, not_from_false, drop-append-le, get_or-drop, length-take-le, take-append-le, take-take, IsUtf8-take, valid_prefix, TableSet, LacksPercent, is_one_of, IsValidFor, Octet, print, HasEncoding, char_has_encoding, is_no_ascii_byte, excludes, valid_prefix-ends-by-mark, AreAscii, first_mark_is_at_boundary, length_before_marks, test_holds_of_each, before_any, from_any, before_any-past-other, from_any-past-other, cut-at-end-of-text-without-marks, text-is-cut-at-first-mark, mended}
 use Rattle.std.proofs.lemmas.List.Sums.{prefix_len-le-length}
 use Rattle.uri_pct.proofs.Offered.{valid_prefix_ends_at_boundary, valid_prefix_is_longest, valid_prefix_is_valid}
 use Rattle.uri_mend.proofs.MendedSteps.{scanned-prefix-is-unchanged, unscanned-char-is-encoded}
@@ -9,28 +9,12 @@ use Rattle.uri_mend.proofs.MendedSteps.{scanned-prefix-is-unchanged, unscanned-c
 -- general fact on texts, for components: a boundary of a text is one of its prefix
 boundary-within-prefix : (m n : ℕ) (text : List ℕ) → m ≤ length text → n ≤ m
     → IsCharBoundary text n → IsCharBoundary (take m text) n
-boundary-within-prefix m n text inside before at =
-    let size : length (take m text) ≡ m = length-take-le m text inside in (
-      omega (arith, size),
-      λ l past.
-          let same : get_or (take m text) n 0 ≡ get_or text n 0 =
-          get_or-take m text n 0 (omega (arith, size, l)) in
-          subst (λ b. 192 ≤ b) (sym same)
-          (at.1 (omega (arith, size, l)) (subst (λ b. 128 ≤ b) same past)),
-    )
+boundary-within-prefix m n text inside before at = grind (arith, common_steps)
 
 -- general fact on texts, for components: a boundary of a prefix that ends at one is one of the text
 boundary-of-prefix : (m n : ℕ) (text : List ℕ) → IsCharBoundary text m → n ≤ m
     → IsCharBoundary (take m text) n → IsCharBoundary text n
-boundary-of-prefix m n text end before at = ⊎_elim
-    (λ (l : n < m).
-    let size : length (take m text) ≡ m = length-take-le m text end.0 in
-    let same : get_or (take m text) n 0 ≡ get_or text n 0 = get_or-take m text n 0 l in (
-      omega (arith, end.0),
-      λ inside past. subst (λ b. 192 ≤ b) same
-          (at.1 (omega (arith, size)) (subst (λ b. 128 ≤ b) (sym same) past)),
-    ))
-    (λ (l : m ≤ n). let e : m ≡ n = omega arith in subst (IsCharBoundary text) e end) (cases_lt n m)
+boundary-of-prefix m n text end before at = grind (arith, common_steps)
 
 module _ (marks : List ℕ) where
   -- bytes that are no marks are before the first mark of what follows them
@@ -71,9 +55,7 @@ module _ (marks : List ℕ) where
 module _ (marks : List ℕ) (set : TableSet) (lacks : LacksPercent set)
     (octets : set.pct_encoded ≡ true) (outside : excludes set marks ≡ true) where
   marks-are-ascii : AreAscii marks
-  marks-are-ascii b m = ltb-true b 128
-      (and_parts _ _ (test_holds_of_each (λ mark. ltb mark 128 && (not (set.ascii mark)
-      && (not (is_ascii_hexdigit mark) && not (eqb mark 37)))) marks outside b m)).0
+  marks-are-ascii b m = grind (arith, test_holds_of_each)
 
   -- what is before the first mark is UTF-8
   component-is-utf8 : (rest : List ℕ) → IsUtf8 rest → IsUtf8 (before_any marks rest)

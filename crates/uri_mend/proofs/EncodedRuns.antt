@@ -1,5 +1,5 @@
 -- The character where a scan stops, and those after it that a set lacks, become octets.
-use Rattle.uri_mend.proofs.Common.{◌≡◌, ℕ, suc, ◌+◌, ◌-◌, ◌<◌, ◌≤◌, true, false, not, eqb, ltb, List, [], ◌∷◌, ◌++◌, ◌&&◌, ◌||◌, length, take, drop, map, get_or, refl, sym, ap, subst, ◌∙◌, arith, ⊎_elim, append_assoc, length-append, length-drop, encode_utf8, is_ascii_hexdigit, len_utf8, nat_le, IsUtf8, IsCharBoundary, chars, encode_utf8_all, take-append-add, agree_below_at, and_left, and_parts, and_right, both_ways, cases_Bool, cases_lt, cond-false, eqb-true, leb-true, ne_eqb, not-true, or_cases, or_left, or_right, nat_tests, drop-drop, drop_at, drop_more, get_or-drop, length-take-le, map-append, take-append-drop, IsCharBoundary-after_ascii, IsCharBoundary-before_ascii, IsCharBoundary-past_char, IsUtf8-between, IsUtf8-drop, encode_ascii, encodes-chars, len_utf8_ascii, length-encode, has_bit, valid_prefix, TableSet, LacksPercent, is_one_of, Octet, print, print-append, char_has_encoding, test_holds_of_each, before_any, from_any, NEVER_HIGH, NEVER_LOW, mended, IsEncodedBetween, IsLackedRun, are_marks, is_never, lacks_marks}
+use Rattle.uri_mend.proofs.Common.{common_steps, ◌≡◌, ℕ, suc, ◌+◌, ◌-◌, ◌<◌, ◌≤◌, true, false, not, ltb, List, [], ◌∷◌, ◌++◌, ◌&&◌, ◌||◌, length, take, drop, map, get_or, refl, sym, ap, subst, ◌∙◌, arith, ⊎_elim, append_assoc, length-append, length-drop, encode_utf8, is_ascii_hexdigit, len_utf8, nat_le, IsUtf8, IsCharBoundary, chars, encode_utf8_all, take-append-add, agree_below_at, and_left, and_parts, and_right, cases_lt, cond-false, leb-true, ne_eqb, or_cases, drop-drop, drop_at, drop_more, get_or-drop, length-take-le, map-append, take-append-drop, IsCharBoundary-after_ascii, IsCharBoundary-past_char, IsUtf8-between, IsUtf8-drop, encode_ascii, encodes-chars, len_utf8_ascii, length-encode, has_bit, valid_prefix, TableSet, LacksPercent, is_one_of, Octet, print, print-append, char_has_encoding, test_holds_of_each, before_any, from_any, NEVER_HIGH, NEVER_LOW, mended, IsEncodedBetween, IsLackedRun, are_marks, is_never, lacks_marks}
 use Rattle.uri_pct.specs.Models.ByteRuns.{is_char_byte}
 use Rattle.uri_pct.specs.Models.Scans.{may_begin_octet_or_past_ascii}
 use Rattle.uri_pct.specs.Texts.{has_hex_digits_after}
@@ -9,15 +9,7 @@ use Rattle.uri_mend.proofs.ComponentSteps.{component-char-is-encoded}
 -- runs: a byte of a run that is found by lanes is past ASCII, or one that no component may have
 pub byte-of-run-is-never : (b : ℕ) → is_char_byte (has_bit NEVER_LOW NEVER_HIGH) b ≡ true
     → is_never b ≡ true
-byte-of-run-is-never b e = ⊎_elim
-    (λ h. or_right (nat_le 128 b) (has_bit NEVER_LOW NEVER_HIGH b) h)
-    (λ h.
-    let high = and_parts (nat_le b 237 && not (nat_le b 127)) (not (eqb b 194)) h in
-    let other : nat_le b 127 ≡ false = not-true _ (and_parts (nat_le b 237) _ high.0).1 in
-    let past : nat_le 128 b ≡ true = grind (arith, nat_tests) in
-    or_left (nat_le 128 b) (has_bit NEVER_LOW NEVER_HIGH b) past)
-    (or_cases (has_bit NEVER_LOW NEVER_HIGH b)
-    (nat_le b 237 && not (nat_le b 127) && not (eqb b 194)) e)
+byte-of-run-is-never b e = grind arith
 
 -- runs: after the character at a boundary a text may be cut
 pub boundary-after-char : (text : List ℕ) (start c len : ℕ) → IsUtf8 text
@@ -71,60 +63,31 @@ module _ (set : TableSet) (lacks : LacksPercent set)
   scan-stops-at-each-of-run : (k : ℕ) → start ≤ k → k < end
       → (get_or text k 0 ≡ 37 → k + 1 < end) → valid_prefix set (drop k text) ≡ 0
   scan-stops-at-each-of-run k from l inner =
-      let b = get_or text k 0 in
-      let inside : k < length text = omega arith in ⊎_elim
-      (λ (h : b < 128). ⊎_elim
-      (λ p.
-      let percent = eqb-true b 37 p in
-      let next = inner percent in
-      valid_prefix_stops_at_stray_percent set lacks text k inside percent
-      (and_right set.pct_encoded (has_hex_digits_after text k)
-      (no-digits-before-other text k
-      (never-is-no-hexdigit _ (each (k + 1) (omega arith) next)))))
-      (λ other.
-      valid_prefix_stops_at_ascii_outside_set set text k inside h other (never b (⊎_elim
-      (λ d. absurd (let g = leb-true 128 b d in omega arith))
-      (λ d. d)
-      (or_cases (nat_le 128 b) (has_bit NEVER_LOW NEVER_HIGH b) (each k from l)))))
-      (cases_Bool (eqb b 37)))
-      (λ (h : 128 ≤ b).
-      valid_prefix_stops_where_none_may_begin set lacks text k inside (only b h)
-      (nothing-begins-past-ascii set b h (past k from l h)))
-      (cases_lt b 128)
+      grind (
+        arith,
+        common_steps,
+        valid_prefix_stops_at_stray_percent,
+        no-digits-before-other,
+        never-is-no-hexdigit,
+        valid_prefix_stops_at_ascii_outside_set,
+        valid_prefix_stops_where_none_may_begin,
+        nothing-begins-past-ascii,
+      )
 
   -- the set lacks the run, if no `%` is at its end
   pub run-is-lacked : start ≤ end → IsCharBoundary text end → (get_or text (end - 1) 0 ≡ 37 → ⊥)
       → IsLackedRun set text start end
-  run-is-lacked le at other = record {
-    from = le;
-    boundary = at;
-    never = each;
-    stops = λ k from l. scan-stops-at-each-of-run k from l (λ p. ⊎_elim
-        (λ (d : k + 1 < end). d)
-        (λ (d : end ≤ k + 1).
-        let last : k ≡ end - 1 = omega arith in
-        absurd (other (sym (ap (λ n. get_or text n 0) last) ∙ p))) (cases_lt (k + 1) end));
-  }
+  run-is-lacked le at other = grind (arith, scan-stops-at-each-of-run)
 
   -- the set lacks the run without the `%` at its end
   pub run-before-percent-is-lacked : start < end → get_or text (end - 1) 0 ≡ 37
       → IsLackedRun set text start (end - 1)
-  run-before-percent-is-lacked some percent = record {
-    from = omega arith;
-    boundary = IsCharBoundary-before_ascii text (end - 1) (omega arith) (omega (arith, percent));
-    never = λ k from l. each k from (omega arith);
-    stops = λ k from l. scan-stops-at-each-of-run k from (omega arith) (λ p. omega arith);
-  }
+  run-before-percent-is-lacked some percent = grind (arith, scan-stops-at-each-of-run)
 
 -- runs: a set lacks an empty run
 pub empty-run-is-lacked : (set : TableSet) (text : List ℕ) (start : ℕ) → IsCharBoundary text start
     → IsLackedRun set text start start
-empty-run-is-lacked set text start at = record {
-  from = omega arith;
-  boundary = at;
-  never = λ k l m. absurd (omega (arith, l, m));
-  stops = λ k l m. absurd (omega (arith, l, m));
-}
+empty-run-is-lacked set text start at = grind arith
 
 -- runs: a run of ASCII ends at a boundary
 pub ascii-run-ends-at-boundary : (text : List ℕ) (start end : ℕ) → IsUtf8 text
@@ -143,10 +106,7 @@ module _ (marks : List ℕ) (set : TableSet) (lacks : LacksPercent set)
     (octets : set.pct_encoded ≡ true) (are : are_marks set marks ≡ true) where
   -- a byte that no component may have is no mark
   never-is-no-mark : (b : ℕ) → is_never b ≡ true → is_one_of marks b ≡ false
-  never-is-no-mark b e = ⊎_elim
-      (λ m. absurd (both_ways _ (not-true _ (test_holds_of_each (λ mark. not (is_never mark)) marks
-      (and_parts (lacks_marks set marks) _ are).1 b m)) e))
-      (λ m. m) (cases_Bool (is_one_of marks b))
+  never-is-no-mark b e = grind (arith, test_holds_of_each)
 
   module _ (text : List ℕ) (u : IsUtf8 text) (end : ℕ) where
     -- characters at which a scan stops are mended to their octets
@@ -158,10 +118,7 @@ module _ (marks : List ℕ) (set : TableSet) (lacks : LacksPercent set)
         → (mended set (before_any marks (drop start text))
         ≡ print (map Octet (encode_utf8_all cs)) ++ mended set (before_any marks (drop end text)))
         × (from_any marks (drop start text) ≡ from_any marks (drop end text))
-    stopped-chars-are-encoded [] start size split at never stops = (
-      ap (λ t. mended set (before_any marks t)) split,
-      ap (from_any marks) split,
-    )
+    stopped-chars-are-encoded [] start size split at never stops = grind arith
     stopped-chars-are-encoded (c ∷ cs) start size split at never stops =
         let rest : List ℕ = encode_utf8_all cs in
         let len = len_utf8 c in

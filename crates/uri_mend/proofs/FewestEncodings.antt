@@ -1,7 +1,7 @@
 -- Mending percent-encodes no more than it must: each other reference that percent-encodes
 -- characters of the text percent-encodes those that mending does. And mended components decode to
 -- what they did.
-use Rattle.uri_mend.proofs.Common.{◌≡◌, ℕ, true, false, List, [], ◌∷◌, ◌++◌, map, refl, sym, ap, subst, ◌∙◌, ⊎_elim, inl, inr, Option, Some, None, IfSome, option_map, encode_utf8, list_all, flat_map, IsUtf8, cases_Bool, cond-true, cond-false, and_parts, both_ways, list_all-append, TableSet, LacksPercent, allows, Token, Char, Octet, allows_token, tokens, is_valid_for, components, Kind, IsTextOf, HasComponentSets, components-of-utf8-are-utf8, grammar-gives-components-of-kind, mend_token, mended, link_components, mended_components}
+use Rattle.uri_mend.proofs.Common.{arith, ◌≡◌, ℕ, true, List, [], ◌∷◌, ◌++◌, map, refl, sym, ap, subst, ◌∙◌, Option, Some, None, IfSome, option_map, list_all, flat_map, IsUtf8, and_parts, list_all-append, TableSet, LacksPercent, Token, Char, Octet, allows_token, tokens, is_valid_for, components, Kind, IsTextOf, HasComponentSets, components-of-utf8-are-utf8, grammar-gives-components-of-kind, mend_token, mended, link_components, mended_components}
 use Rattle.uri_ops.proofs.Offered.{is_set_text, set-text-is-valid}
 use Rattle.uri_mend.specs.Encodings.{decoded, DecodeAlike, IsTokenOrItsOctets, AreEncodedAs, IsPartEncodedAs, AreComponentsEncodedAs}
 use Rattle.uri_mend.proofs.MendedTokens.{tokens-of-mended-text, mended-text-decodes-alike}
@@ -10,9 +10,7 @@ use Rattle.uri_mend.proofs.MendedReferences.{link-components-are-mendable}
 -- fewest encodings: what a token becomes is itself or its octets
 mended-token-is-token-or-its-octets : (set : TableSet) (t : Token)
     → IsTokenOrItsOctets t (mend_token set t)
-mended-token-is-token-or-its-octets set (Char c) = ⊎_elim
-    (λ e. inl (cond-true _ _ _ e))
-    (λ e. inr (cond-false _ _ _ e)) (cases_Bool (allows set c))
+mended-token-is-token-or-its-octets set (Char c) = grind arith
 mended-token-is-token-or-its-octets set (Octet value) = refl
 
 -- fewest encodings: tokens become tokens with some characters percent-encoded
@@ -50,31 +48,14 @@ allowed-char-before-encoded-tokens : (c : ℕ) (ts us first : List Token)
 unfolding AreEncodedAs
 allowed-char-before-encoded-tokens c ts us first e h = (first, (us, (refl, e, h)))
 
--- fewest encodings: a character that the set lacks is encoded if the tokens are allowed
-lacked-char-is-encoded : (set : TableSet) (c : ℕ) (first : List Token)
-    → IsTokenOrItsOctets (Char c) first → list_all (allows_token set) first ≡ true
-    → allows set c ≡ false → first ≡ map Octet (encode_utf8 c)
-lacked-char-is-encoded set c first h e lacked = ⊎_elim
-    (λ same. absurd (both_ways _ lacked
-    (and_parts (allows set c) true (sym (ap (list_all (allows_token set)) same) ∙ e)).0))
-    (λ same. same) h
-
 -- fewest encodings: one more token, of which the encoding is allowed
 one-more-token-is-encoded : (set : TableSet) (t : Token) (first ts us : List Token)
     → IsTokenOrItsOctets t first → list_all (allows_token set) first ≡ true → AreEncodedAs ts us
     → AreEncodedAs (mend_token set t ++ ts) (first ++ us)
 one-more-token-is-encoded set (Octet value) first ts us h e rest =
     octet-before-encoded-tokens value ts us first h rest
-one-more-token-is-encoded set (Char c) first ts us h e rest = ⊎_elim
-    (λ a.
-    subst (λ m. AreEncodedAs (m ++ ts) (first ++ us)) (sym (cond-true _ _ _ a))
-    (allowed-char-before-encoded-tokens c ts us first h rest))
-    (λ a.
-    subst (λ m. AreEncodedAs (m ++ ts) (first ++ us)) (sym (cond-false _ _ _ a))
-    (subst (λ f. AreEncodedAs (map Octet (encode_utf8 c) ++ ts) (f ++ us))
-    (sym (lacked-char-is-encoded set c first h e a))
-    (octets-before-encoded-tokens (encode_utf8 c) ts us rest)))
-    (cases_Bool (allows set c))
+one-more-token-is-encoded set (Char c) first ts us h e rest =
+    grind (arith, allowed-char-before-encoded-tokens, octets-before-encoded-tokens)
 
 -- fewest encodings: allowed tokens that are an encoding of some are one of what these become
 allowed-encoding-encodes-mended-tokens : (set : TableSet) (ts us : List Token) → AreEncodedAs ts us

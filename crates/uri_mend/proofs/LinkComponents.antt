@@ -1,6 +1,6 @@
 -- The components of a text that is no reference, perhaps: its scheme is one, and without a scheme
 -- and an authority its first segment has no `:`.
-use Rattle.uri_mend.proofs.Common.{◌≡◌, ℕ, Bool, true, false, not, eqb, List, [], ◌∷◌, ◌++◌, refl, sym, ap, subst, ◌∙◌, ⊎_elim, ◌&&◌, lit<, codes, IfSome, IfNone, IsUtf8, encode_utf8_all, cases_Bool, cond-true, cond-false, and_parts, both_ways, not-false, eqb-true, IsUtf8-append, encode_ascii, components, starts, before_any, from_any, when, has_scheme, has_authority, after_scheme, after_authority, is_scheme, has_colon_in_first_segment, from_any-at-mark, before_any-at-mark, has_false_scheme, with_dot_segment, link_components}
+use Rattle.uri_mend.proofs.Common.{arith, ◌≡◌, ℕ, Bool, true, false, List, [], ◌∷◌, ◌++◌, refl, sym, ap, subst, ◌∙◌, ⊎_elim, lit<, codes, IfSome, IfNone, IsUtf8, encode_utf8_all, cases_Bool, cond-true, cond-false, IsUtf8-append, encode_ascii, components, starts, before_any, when, has_scheme, is_scheme, has_colon_in_first_segment, from_any-at-mark, before_any-at-mark, has_false_scheme, with_dot_segment, link_components}
 use Rattle.uri_parts.proofs.Offered.{colon_in_first_segment-is-at-start}
 
 -- links: a text with a false scheme gets `./`
@@ -34,47 +34,30 @@ with_dot_segment-is-utf8 text u = ⊎_elim
 scheme-is-one-if-not-false : (text : List ℕ) → has_false_scheme text ≡ false
     → has_scheme text ≡ true → is_scheme (before_any (codes ":/?#") text) ≡ true
 unfolding has_false_scheme
-scheme-is-one-if-not-false text e h =
-    let colon = (and_parts (starts 58 (from_any (codes ":/?#") text)) _ h).0 in
-    not-false _ (sym (ap (λ b. b && not (is_scheme (before_any (codes ":/?#") text))) colon) ∙ e)
+scheme-is-one-if-not-false text e h = grind (arith, starts)
 
 -- links: a text that begins with `:` has a false scheme
 leading-colon-ends-false-scheme : (text : List ℕ) → has_false_scheme (58 ∷ text) ≡ true
 unfolding has_false_scheme
-leading-colon-ends-false-scheme text =
-    ap (λ t. starts 58 t && not (is_scheme (before_any (codes ":/?#") (58 ∷ text))))
-    (from_any-at-mark (codes ":/?#") 58 text refl)
-    ∙ ap (λ t. not (is_scheme t)) (before_any-at-mark (codes ":/?#") 58 text refl)
+leading-colon-ends-false-scheme text = grind (arith, starts, from_any-at-mark, before_any-at-mark)
 
 -- links: a text without a false scheme does not begin with `:`
 no-false-scheme-means-no-leading-colon : (text : List ℕ) → has_false_scheme text ≡ false
     → starts 58 text ≡ false
 no-false-scheme-means-no-leading-colon [] e = refl
-no-false-scheme-means-no-leading-colon (c ∷ text) e = ⊎_elim
-    (λ h. absurd (both_ways _ e (ap (λ n. has_false_scheme (n ∷ text)) (eqb-true c 58 h)
-    ∙ leading-colon-ends-false-scheme text)))
-    (λ h. h) (cases_Bool (eqb c 58))
-
--- links: what may be absent, if the test is true, has the property
-present-text-has-property : (test : Bool) (text : List ℕ) (P : List ℕ → Type 0)
-    → (test ≡ true → P text) → IfSome (when test text) P
-present-text-has-property true text P h = h refl
-present-text-has-property false text P h = tt
+no-false-scheme-means-no-leading-colon (c ∷ text) e = grind (arith, leading-colon-ends-false-scheme)
 
 -- links: the scheme that is found is one
 pub scheme-of-link-is-scheme : (text : List ℕ)
     → IfSome (link_components text).scheme (λ s. is_scheme s ≡ true)
 unfolding link_components
-scheme-of-link-is-scheme text = ⊎_elim
-    (λ e.
-    let P : List ℕ → Type 0 = λ t. IfSome (components t).scheme (λ s. is_scheme s ≡ true) in
-    subst P (sym (false-scheme-gets-dot-segment text e)) tt)
-    (λ e.
-    let P : List ℕ → Type 0 = λ t. IfSome (components t).scheme (λ s. is_scheme s ≡ true) in
-    subst P (sym (no-false-scheme-gets-nothing text e))
-    (present-text-has-property (has_scheme text) (before_any (codes ":/?#") text)
-    (λ s. is_scheme s ≡ true) (scheme-is-one-if-not-false text e)))
-    (cases_Bool (has_false_scheme text))
+scheme-of-link-is-scheme text =
+    grind (
+      arith,
+      false-scheme-gets-dot-segment,
+      no-false-scheme-gets-nothing,
+      scheme-is-one-if-not-false,
+    )
 
 -- links: if something is absent only if the test is false, the property holds where it is
 absent-text-has-property : (test : Bool) (text : List ℕ) (P : Type 0)
@@ -87,15 +70,7 @@ no-colon-in-schemeless-path : (text : List ℕ) → starts 58 text ≡ false
     → IfNone (components text).scheme (IfNone (components text).authority
     (has_colon_in_first_segment (components text).path ≡ false))
 no-colon-in-schemeless-path text first =
-    absent-text-has-property (has_scheme text) (before_any (codes ":/?#") text) _
-    (λ none.
-    let rest : after_scheme text ≡ text = cond-false _ _ _ none in
-    absent-text-has-property (has_authority (after_scheme text))
-    (before_any (codes "/?#") (Rattle.std.proofs.Common.drop 2 (after_scheme text))) _
-    (λ bare.
-    let tail : after_authority (after_scheme text) ≡ text = cond-false _ _ _ bare ∙ rest in
-    ap (λ t. has_colon_in_first_segment (before_any (codes "?#") t)) tail
-    ∙ colon_in_first_segment-is-at-start text none ∙ first))
+    grind (arith, absent-text-has-property, colon_in_first_segment-is-at-start)
 
 -- links: without a scheme and an authority the first segment has no `:`
 pub no-colon-in-schemeless-link : (text : List ℕ)

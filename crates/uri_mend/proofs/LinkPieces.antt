@@ -1,5 +1,5 @@
 -- A text, cut before its path, and the pieces of the text that it is mended to.
-use Rattle.uri_mend.proofs.Common.{◌≡◌, ℕ, true, false, not, List, [], ◌∷◌, ◌++◌, length, take, drop, refl, sym, ap, subst, ◌∙◌, arith, append_assoc, ◌&&◌, lit<, ◌≤◌, ◌-◌, length-append, IsUtf8, IsCharBoundary, take-append_seam, IsCharBoundary-from_drop, IsCharBoundary-at_seam, has_authority, components, recompose, marked, starts, when, before_any, from_any, after_scheme, after_authority, after_query, codes, both_ways, allows, Kind, before_any-past-other, from_any-past-other, recompose-components, HasComponentSets, before_path, mended, has_false_scheme, link_components, mended_components, mended_text, mended_query, mended_fragment, mended_tail, IsMendedByPieces, IsPathMendedByPieces, query_of_tail}
+use Rattle.uri_mend.proofs.Common.{common_steps, ◌≡◌, ℕ, true, false, not, List, [], ◌∷◌, ◌++◌, length, take, drop, refl, sym, ap, subst, ◌∙◌, arith, append_assoc, ◌&&◌, ◌≤◌, ◌-◌, length-append, IsUtf8, IsCharBoundary, IsCharBoundary-from_drop, IsCharBoundary-at_seam, has_authority, components, marked, starts, when, before_any, from_any, after_scheme, after_authority, after_query, codes, both_ways, Kind, before_any-past-other, from_any-past-other, recompose-components, HasComponentSets, before_path, mended, has_false_scheme, link_components, mended_text, mended_tail, IsMendedByPieces, IsPathMendedByPieces, query_of_tail}
 use Rattle.uri_parts.proofs.Offered.{utf8_after_slashes}
 use Rattle.uri_mend.proofs.MendedMarks.{allowed-ascii-before-text-is-unchanged}
 use Rattle.uri_mend.proofs.LinkComponents.{false-scheme-gets-dot-segment, no-false-scheme-gets-nothing}
@@ -51,12 +51,7 @@ pub text-without-false-scheme-is-mended : (text : List ℕ) → has_false_scheme
     (after_authority (after_scheme text))
 unfolding link_components mended_text mended_tail
 text-without-false-scheme-is-mended text e kind sets =
-    let P : List ℕ → Type 0 = λ t. recompose (mended_components kind (components t))
-    ≡ before_path (components t) ++ mended_tail kind (after_authority (after_scheme text)) in
-    let p = components text in
-    subst P (sym (no-false-scheme-gets-nothing text e))
-    (sym (append_assoc (marked [] p.scheme (codes ":")) (marked (codes "//") p.authority [])
-    (mended_tail kind (after_authority (after_scheme text)))))
+    grind (arith, common_steps, components, no-false-scheme-gets-nothing)
 
 -- links: without a false scheme, what is before the path is that of the text itself
 pub prefix-without-false-scheme : (text : List ℕ) → has_false_scheme text ≡ false
@@ -75,26 +70,14 @@ prefix-with-false-scheme text e =
 -- links: a `./` before what is mended is unchanged
 dot-segment-is-unchanged : (kind : Kind) → HasComponentSets kind → (path : List ℕ)
     → mended kind.path (46 ∷ 47 ∷ path) ≡ 46 ∷ 47 ∷ mended kind.path path
-dot-segment-is-unchanged kind sets path =
-    let dot : allows kind.path 46 ≡ true = sets.path.unreserved.ascii 46 refl in
-    allowed-ascii-before-text-is-unchanged kind.path 46 (47 ∷ path) (lit< tt) refl dot
-    ∙ ap (λ t. 46 ∷ t) (allowed-ascii-before-text-is-unchanged kind.path 47 path
-    (lit< tt) refl sets.slash)
+dot-segment-is-unchanged kind sets path = grind (arith, allowed-ascii-before-text-is-unchanged)
 
 -- links: a text with a false scheme is mended after `./`
 pub text-with-false-scheme-is-mended : (text : List ℕ) → has_false_scheme text ≡ true
     → IsMendedByPieces text [] true text
 unfolding link_components mended_text mended_tail
 text-with-false-scheme-is-mended text e kind sets =
-    let end : List ℕ → List ℕ = λ t. mended_query kind.query t
-    ++ mended_fragment kind.fragment (after_query t) in
-    ap (λ t. recompose (mended_components kind (components t)))
-    (false-scheme-gets-dot-segment text e) ∙ ap
-    (λ t. mended kind.path t ++ end (from_any (codes "?#") (46 ∷ 47 ∷ text)))
-    (path-after-dot-segment text) ∙ ap (λ t. t ++ end (from_any (codes "?#") (46 ∷ 47 ∷ text)))
-    (dot-segment-is-unchanged kind sets (before_any (codes "?#") text)) ∙ ap
-    (λ t. (46 ∷ 47 ∷ mended kind.path (before_any (codes "?#") text)) ++ end t)
-    (end-after-dot-segment text)
+    grind (arith, false-scheme-gets-dot-segment, path-after-dot-segment, dot-segment-is-unchanged)
 
 -- links: the text before a `:` that is first is no scheme
 pub has_false_scheme-by-mark : (text : List ℕ) → starts 58 (from_any (codes ":/?#") text) ≡ false
@@ -134,10 +117,7 @@ boundary-before-piece text before after e u =
 -- links: what is before the piece after the cut
 pub piece-before-cut : (text before after : List ℕ) → text ≡ before ++ after
     → take (length text - length after) text ≡ before
-piece-before-cut text before after e =
-    let size : length text - length after ≡ length before =
-    omega (arith, ap length e, length-append before after) in
-    ap (λ n. take n text) size ∙ ap (take (length before)) e ∙ take-append_seam before after
+piece-before-cut text before after e = grind (arith, common_steps)
 
 -- links: a piece after a cut is no longer than the text
 pub piece-after-cut-is-no-longer : (text before after : List ℕ) → text ≡ before ++ after
@@ -157,9 +137,7 @@ pub path-with-false-scheme : (text : List ℕ) → has_false_scheme text ≡ tru
     → IsPathMendedByPieces (link_components text).path true text
 unfolding link_components
 path-with-false-scheme text e kind sets =
-    ap (λ t. mended kind.path (components t).path) (false-scheme-gets-dot-segment text e)
-    ∙ ap (mended kind.path) (path-after-dot-segment text)
-    ∙ dot-segment-is-unchanged kind sets (before_any (codes "?#") text)
+    grind (arith, false-scheme-gets-dot-segment, path-after-dot-segment, dot-segment-is-unchanged)
 
 -- links: the query of a text without a false scheme is that of its tail
 pub query-without-false-scheme : (text : List ℕ) → has_false_scheme text ≡ false
@@ -173,5 +151,4 @@ pub query-with-false-scheme : (text : List ℕ) → has_false_scheme text ≡ tr
     → (link_components text).query ≡ query_of_tail text
 unfolding link_components
 query-with-false-scheme text e =
-    ap (λ t. (components t).query) (false-scheme-gets-dot-segment text e) ∙ ap
-    (λ end. when (starts 63 end) (before_any (codes "#") (drop 1 end))) (end-after-dot-segment text)
+    grind (arith, components, false-scheme-gets-dot-segment, starts, end-after-dot-segment)

@@ -1,8 +1,7 @@
 -- A text whose prefix shows where its path begins: the prefix has its scheme and its authority.
-use Rattle.uri_mend.proofs.Common.{◌≡◌, ℕ, ◌+◌, ◌-◌, ◌<◌, ◌≤◌, Bool, true, false, not, List, [], ◌∷◌, ◌++◌, ◌||◌, ◌&&◌, length, take, drop, refl, sym, ap, subst, ◌∙◌, arith, ⊎_elim, length-append, list_any, codes, IfSome, None, Option, Some, is_some, option_map, unwrap_or, IsCharBoundary, IsUtf8, drop-append_seam, take-append_seam, and_parts, both_ways, cases_Bool, cond-true, cond-false, eqb-true, drop-append-le, length-take-le, IsCharBoundary-at_seam, is_one_of, Components, components, after_authority, after_scheme, before_any, from_any, has_authority, has_scheme, marked, recompose, starts, when, Kind, IsOfKind, is_scheme, ArePackedPositionsOf, packed, before_any-at-mark, before_any-past-other, from_any-at-mark, from_any-past-other, only-split-is-components, before_path, IsLink, with_ends_at, can_be_mended, has_false_scheme, link_components, IsMendedByPieces, IsPathMendedByPieces, dot_segment_if, mended_path, mended_tail, query_of_tail, Link}
-use Rattle.uri_parts.specs.Positions.{authority_at, delimited_length, positions_of}
+use Rattle.uri_mend.proofs.Common.{◌≡◌, ℕ, ◌+◌, ◌-◌, ◌<◌, ◌≤◌, Bool, true, false, not, List, [], ◌∷◌, ◌++◌, ◌||◌, ◌&&◌, length, take, drop, refl, sym, ap, subst, ◌∙◌, arith, ⊎_elim, length-append, list_any, codes, IfSome, None, Option, Some, is_some, option_map, unwrap_or, IsCharBoundary, IsUtf8, drop-append_seam, take-append_seam, and_parts, both_ways, cases_Bool, cond-true, cond-false, drop-append-le, length-take-le, IsCharBoundary-at_seam, is_one_of, Components, components, after_authority, after_scheme, before_any, from_any, has_authority, has_scheme, marked, recompose, starts, when, Kind, IsOfKind, is_scheme, ArePackedPositionsOf, packed, before_any-at-mark, before_any-past-other, from_any-at-mark, from_any-past-other, only-split-is-components, before_path, IsLink, with_ends_at, can_be_mended, has_false_scheme, link_components, IsMendedByPieces, IsPathMendedByPieces, dot_segment_if, mended_path, mended_tail, query_of_tail, Link}
+use Rattle.uri_parts.specs.Positions.{positions_of}
 use Rattle.uri_parts.specs.declared.packed_positions.PackedPositions.{PackedPositions}
-use Rattle.uri_parts.specs.declared.positions.AuthorityPositions.{AuthorityPositions}
 use Rattle.uri_parts.proofs.Offered.{utf8_after_scheme, utf8_after_authority}
 use Rattle.uri_mend.proofs.LinkComponents.{link-components-without-false-scheme}
 use Rattle.uri_mend.proofs.LinkPieces.{path-without-false-scheme, prefix-without-false-scheme, query-without-false-scheme, text-is-cut-before-path, text-without-false-scheme-is-mended}
@@ -155,9 +154,7 @@ text-with-length-is-some (c ∷ t) l = refl
 authority-begins-with-mark : (p : List ℕ) → has_authority p ≡ true
     → is_some_text (from_any (codes ":/?#") p) ≡ true
 authority-begins-with-mark [] e = absurd (both_ways _ refl e)
-authority-begins-with-mark (a ∷ p) e =
-    let slash = eqb-true a 47 (and_parts _ _ e).0 in
-    ap is_some_text (from_any-at-mark (codes ":/?#") a p (ap (is_one_of (codes ":/?#")) slash))
+authority-begins-with-mark (a ∷ p) e = grind (arith, from_any-at-mark)
 
 -- prefixes: where the path of a text begins
 path-starts-after-prefix : (p : List ℕ) (before : PackedPositions) → ArePackedPositionsOf p before
@@ -182,10 +179,7 @@ no-scheme-is-at-zero p before e none = ap (λ (x : PackedPositions). x.scheme_en
 -- prefixes: a text without an authority has no position of a host
 no-host-is-at-zero : (p : List ℕ) (before : PackedPositions) → ArePackedPositionsOf p before
     → has_authority (after_scheme p) ≡ false → before.host_start ≡ 0
-no-host-is-at-zero p before e none = ap (λ (x : PackedPositions). x.host_start) e
-    ∙ ap (λ t. unwrap_or (option_map (λ (x : AuthorityPositions). x.host_start)
-    (option_map (authority_at (delimited_length 1 (components p).scheme + 2))
-    (when t (before_any (codes "/?#") (drop 2 (after_scheme p)))))) 0) none
+no-host-is-at-zero p before e none = grind (arith, components)
 
 -- prefixes: when a text of these positions shows where its path begins
 positions-show-path : (p : List ℕ) (before : PackedPositions) → ArePackedPositionsOf p before
@@ -218,13 +212,7 @@ positions-show-path p before e some two mark =
 
 -- prefixes: positions of a scheme and an authority, with these ends of a path and a query
 positions_before : Option (List ℕ) → Option (List ℕ) → ℕ → ℕ → PackedPositions
-positions_before scheme authority path_end query_end = with_ends_at (packed (positions_of (record {
-  scheme = scheme;
-  authority = authority;
-  path = [];
-  query = None;
-  fragment = None;
-}))) path_end query_end
+positions_before scheme authority path_end query_end = grind arith
 
 -- prefixes: with the same ends, positions depend on the scheme and the authority alone
 positions-by-scheme-and-authority : (p q : Components) (path_end query_end : ℕ)
@@ -233,8 +221,7 @@ positions-by-scheme-and-authority : (p q : Components) (path_end query_end : ℕ
     ≡ with_ends_at (packed (positions_of q)) path_end query_end
 unfolding positions_before
 positions-by-scheme-and-authority p q path_end query_end scheme authority =
-    ap (λ s. positions_before s p.authority path_end query_end) scheme
-    ∙ ap (λ a. positions_before q.scheme a path_end query_end) authority
+    grind (arith, positions_before)
 
 -- prefixes: the link of a text whose prefix shows where its path begins
 pub link-of-prefix : (text p s : List ℕ) (before : PackedPositions) → IsUtf8 text → text ≡ p ++ s

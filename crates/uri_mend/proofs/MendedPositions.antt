@@ -1,6 +1,6 @@
 -- The positions in a mended text: those of what is before the path, and two ends.
-use Rattle.uri_mend.proofs.Common.{◌≡◌, ℕ, ◌+◌, List, [], ◌++◌, drop, length, refl, sym, ap, ◌∙◌, arith, length-append, codes, Option, Some, None, option_map, unwrap_or, IsUtf8, append-nil, length-take-le, Components, components, from_any, marked, Kind, ArePackedPositionsOf, packed, HasComponentSets, before_path, IsLink, with_ends_at, mended, link_components, mended_components, mended_text, dot_segment_if, mended_path, mended_query, Link}
-use Rattle.uri_parts.specs.Positions.{before_fragment, delimited_length, positions_of}
+use Rattle.uri_mend.proofs.Common.{common_steps, ◌≡◌, ℕ, ◌+◌, List, [], ◌++◌, drop, length, refl, sym, ap, ◌∙◌, arith, length-append, codes, Option, Some, None, option_map, unwrap_or, IsUtf8, append-nil, length-take-le, Components, components, from_any, marked, Kind, ArePackedPositionsOf, packed, HasComponentSets, before_path, IsLink, with_ends_at, mended, link_components, mended_components, mended_text, dot_segment_if, mended_path, mended_query, Link}
+use Rattle.uri_parts.specs.Positions.{delimited_length, positions_of}
 use Rattle.uri_mend.proofs.MendedReferences.{components-of-mended-text}
 
 -- positions: the length of a component with the delimiters beside it
@@ -13,11 +13,7 @@ length-of-delimited before after (Some x) = length-append (before ++ x) after
 -- positions: what is before the path is as long as the path's position says
 pub length-before-path : (p : Components)
     → length (before_path p) ≡ delimited_length 1 p.scheme + delimited_length 2 p.authority
-length-before-path p =
-    length-append (marked [] p.scheme (codes ":")) (marked (codes "//") p.authority [])
-    ∙ ap (λ n. n + length (marked (codes "//") p.authority []))
-    (length-of-delimited [] (codes ":") p.scheme)
-    ∙ ap (λ n. delimited_length 1 p.scheme + n) (length-of-delimited (codes "//") [] p.authority)
+length-before-path p = grind (arith, common_steps, length-of-delimited)
 
 -- positions: where a query ends that begins after the place n
 query-end-after : (n : ℕ) (o : Option (List ℕ))
@@ -32,11 +28,7 @@ ends-complete-positions : (kind : Kind) (p : Components) (path_end query_end : �
     → query_end ≡ path_end + length (marked (codes "?") (option_map (mended kind.query) p.query) [])
     → with_ends_at (packed (positions_of p)) path_end query_end
     ≡ packed (positions_of (mended_components kind p))
-ends-complete-positions kind p path_end query_end e f =
-    let q = mended_components kind p in
-    let last : query_end ≡ before_fragment (positions_of q) = f ∙ query-end-after path_end q.query
-    ∙ ap (λ n. unwrap_or (option_map (λ x. n + 1 + length x) q.query) n) e in
-    λ i. record (packed (positions_of q)) { path_end = e i; query_end = last i }
+ends-complete-positions kind p path_end query_end e f = grind (arith, query-end-after)
 
 -- positions: those of a mended text are those of what is before its path, and where path and query
 -- end

@@ -31,9 +31,7 @@ nothing-before-start text start e = ap (λ n. take n text) e
 pub pieces-are-mended-text : (kind : Kind) → HasComponentSets kind → (text : List ℕ) (link : Link)
     → IsLink text link → (dot_segment_if link.has_false_scheme ++ take link.path_start text)
     ++ mended_tail kind (drop link.path_start text) ≡ mended_text kind text
-pieces-are-mended-text kind sets text link h = pieces-in-order link.has_false_scheme
-    (take link.path_start text) (mended_tail kind (drop link.path_start text))
-    (λ e. nothing-before-start text link.path_start (h.alone e)) ∙ sym (h.pieces kind sets)
+pieces-are-mended-text kind sets text link h = grind (arith, pieces-in-order, nothing-before-start)
 
 -- mending: what is written before a text is mended from a position on
 pub start-of-mended-text : (text out : List ℕ) (at n : ℕ) (dot : Bool)
@@ -65,10 +63,7 @@ module _ (kind : Kind) (sets : HasComponentSets kind) (text : List ℕ) (u : IsU
       → ((components (mended_text kind text)).scheme ≡ None)
       × ((components (mended_text kind text)).authority ≡ None)
   unfolding link_components
-  made-prefix-is-empty e =
-      let made = made-components
-      ∙ ap (λ t. mended_components kind (components t)) (false-scheme-gets-dot-segment text e) in
-      (ap (λ (p : Components). p.scheme) made, ap (λ (p : Components). p.authority) made)
+  made-prefix-is-empty e = grind (arith, made-components, components, false-scheme-gets-dot-segment)
 
   -- mending: the mended text of a text that can be mended is what it is mended to
   mended-text-is-mended : can_be_mended kind text ≡ true

@@ -1,6 +1,6 @@
 -- A mended component, from left to right: what a scan passes is unchanged, and the character where
 -- it stops becomes octets.
-use Rattle.uri_mend.proofs.Common.{◌≡◌, ℕ, ◌+◌, true, false, cond, eqb, List, [], ◌∷◌, ◌++◌, length, take, drop, map, refl, sym, ap, subst, ◌∙◌, arith, ⊎_elim, append_assoc, ◌&&◌, encode_utf8, len_utf8, is_ascii_hexdigit, chars, encode_utf8_all, all_scalars, IsUtf8, take-append-add, drop-append-add, cases_Bool, cond-true, cond-false, and_parts, and_from, eqb-true, and_right, append-nil, take_all, drop_all, length-encode, chars_past_char, chars-encodes, encode_ascii, len_utf8_bounds, chars-nil, encodes-chars, scalars-chars, TableSet, LacksPercent, allows, valid_prefix, valid_prefix_from, begins_with_hex_digits, Octet, print, is_pct_encoded, is_valid_for, encode_char, allowed_char_is_printed_literally, disallowed_char_is_encoded_as_octets, hexdigit_is_ascii, encoded_chars_begin_with_same_hex_digits, is_valid_for_is_scanned_to_end, valid_prefix_by_first_byte, mended_from_chars, mended}
+use Rattle.uri_mend.proofs.Common.{common_steps, ◌≡◌, ℕ, ◌+◌, true, false, cond, eqb, List, [], ◌∷◌, ◌++◌, length, take, drop, map, refl, sym, ap, subst, ◌∙◌, arith, ⊎_elim, append_assoc, ◌&&◌, encode_utf8, len_utf8, chars, encode_utf8_all, all_scalars, IsUtf8, take-append-add, drop-append-add, cases_Bool, cond-true, cond-false, and_parts, and_from, eqb-true, and_right, append-nil, take_all, drop_all, length-encode, chars_past_char, chars-encodes, encode_ascii, len_utf8_bounds, chars-nil, encodes-chars, scalars-chars, TableSet, LacksPercent, allows, valid_prefix, valid_prefix_from, begins_with_hex_digits, Octet, print, is_pct_encoded, is_valid_for, encode_char, allowed_char_is_printed_literally, disallowed_char_is_encoded_as_octets, hexdigit_is_ascii, encoded_chars_begin_with_same_hex_digits, is_valid_for_is_scanned_to_end, valid_prefix_by_first_byte, mended_from_chars, mended}
 use Rattle.uri_pct.specs.Texts.{has_hex_digits_after}
 use Rattle.uri_pct.proofs.Offered.{valid_prefix_by_first_char, valid_prefix_passes_octet}
 
@@ -30,15 +30,7 @@ mended-text-of-chars set cs s = ap (mended_from_chars set) (chars-encodes cs s)
 pub octet-text-of-chars : (c high low : ℕ) (cs : List ℕ) → is_pct_encoded c high low ≡ true
     → encode_utf8_all (c ∷ high ∷ low ∷ cs) ≡ c ∷ high ∷ low ∷ encode_utf8_all cs
 unfolding is_pct_encoded
-octet-text-of-chars c high low cs e =
-    let p = and_parts (eqb c 37) _ e in
-    let digits = and_parts (is_ascii_hexdigit high) (is_ascii_hexdigit low) p.1 in
-    let is : c ≡ 37 = eqb-true c 37 p.0 in
-    rw (
-      encode_ascii c (omega arith),
-      encode_ascii high (hexdigit_is_ascii high digits.0),
-      encode_ascii low (hexdigit_is_ascii low digits.1),
-    ) refl
+octet-text-of-chars c high low cs e = grind (arith, common_steps, hexdigit_is_ascii)
 
 -- mended components: the first n bytes of the text are unchanged
 abbrev HasUnchangedPrefix : TableSet → List ℕ → ℕ → Type 0
@@ -130,15 +122,7 @@ module _ (set : TableSet) (lacks : LacksPercent set) (octets : set.pct_encoded �
       → HasUnchangedPrefix set (encode_utf8_all (c ∷ cs))
       (valid_prefix set (encode_utf8_all (c ∷ cs)))
   first-of-chars-unchanged-or-unscanned c cs s e same =
-      let text = encode_utf8_all (c ∷ cs) in
-      let first = scan-by-first-of-chars c cs s e in
-      ⊎_elim
-      (λ a. subst (HasUnchangedPrefix set text) (sym (first ∙ cond-true _ _ _ a))
-      (prefix-after-allowed-char-is-unchanged c cs
-      (valid_prefix set (encode_utf8_all cs)) s e a same))
-      (λ a. subst (HasUnchangedPrefix set text) (sym (first ∙ cond-false _ _ _ a))
-      (empty-text-prefix-is-unchanged set text))
-      (cases_Bool (allows set c))
+      grind (arith, scan-by-first-of-chars, prefix-after-allowed-char-is-unchanged)
 
   -- what is scanned of characters is unchanged
   scanned-prefix-of-chars-is-unchanged : (cs : List ℕ) → all_scalars cs ≡ true
@@ -168,9 +152,7 @@ module _ (set : TableSet) (lacks : LacksPercent set) (octets : set.pct_encoded �
   -- what is scanned of a text is unchanged
   pub scanned-prefix-is-unchanged : (text : List ℕ) → IsUtf8 text → mended set text
       ≡ take (valid_prefix set text) text ++ mended set (drop (valid_prefix set text) text)
-  scanned-prefix-is-unchanged text u =
-      let P : List ℕ → Type 0 = λ t. HasUnchangedPrefix set t (valid_prefix set t) in
-      subst P u.1.1 (scanned-prefix-of-chars-is-unchanged u.0 u.1.0)
+  scanned-prefix-is-unchanged text u = grind (arith, scanned-prefix-of-chars-is-unchanged)
 
   -- a text that is valid for the set is mended as itself
   pub valid-text-is-its-own-mended-text : (text : List ℕ) → IsUtf8 text

@@ -1,5 +1,5 @@
 -- What follows an authority, mended component by component.
-use Rattle.uri_mend.proofs.Common.{◌≡◌, ℕ, ◌+◌, ◌-◌, ◌<◌, ◌≤◌, true, List, [], ◌∷◌, ◌++◌, length, take, drop, get_or, refl, sym, ap, ◌∙◌, arith, append_assoc, length-append, length-drop, codes, option_map, append-nil, drop_more, length-take-le, TableSet, after_query, before_any, from_any, marked, starts, when, Kind, cut-at-end-of-text-without-marks, mended, IsProgress, mended_so_far, mended_fragment, mended_marked, mended_query, mended_tail}
+use Rattle.uri_mend.proofs.Common.{common_steps, ◌≡◌, ℕ, ◌+◌, ◌-◌, ◌<◌, ◌≤◌, true, List, [], ◌∷◌, ◌++◌, length, take, drop, get_or, refl, sym, ap, ◌∙◌, arith, length-append, codes, append-nil, drop_more, TableSet, after_query, before_any, from_any, starts, Kind, cut-at-end-of-text-without-marks, mended, IsProgress, mended_so_far, mended_marked, mended_query, mended_tail}
 use Rattle.uri_mend.specs.declared.component.Progress.{Progress}
 use Rattle.uri_mend.proofs.ComponentProgress.{run-goes-on}
 
@@ -17,11 +17,7 @@ pub component-is-mended-after-mark : (mark : ℕ) (marks : List ℕ) (set : Tabl
     (out new text : List ℕ) → starts mark text ≡ true
     → new ≡ (out ++ mark ∷ []) ++ mended set (before_any marks (drop 1 text))
     → new ≡ out ++ mended_marked mark marks set text
-component-is-mended-after-mark mark marks set out new text e written =
-    let part = mended set (before_any marks (drop 1 text)) in
-    written ∙ append_assoc out (mark ∷ []) part
-    ∙ ap (λ t. out ++ t) (sym (ap (λ t. marked (mark ∷ []) (option_map (mended set)
-    (when t (before_any marks (drop 1 text)))) []) e ∙ append-nil (mark ∷ part)))
+component-is-mended-after-mark mark marks set out new text e written = grind (arith, common_steps)
 
 -- tails: no character ends a component without marks
 text-without-marks-is-whole : (text : List ℕ) → before_any [] text ≡ text
@@ -36,27 +32,12 @@ pub parts-are-mended-tail : (kind : Kind) (tail end rest a b c d : List ℕ)
     → d ≡ a ++ mended_tail kind tail
 unfolding mended_tail
 parts-are-mended-tail kind tail end rest a b c d e r first second third =
-    let path = mended kind.path (before_any (codes "?#") tail) in
-    let query = mended_query kind.query end in
-    let fragment = mended_fragment kind.fragment rest in
-    third ∙ ap (λ t. c ++ marked (codes "#") (option_map (mended kind.fragment)
-    (when (starts 35 rest) t)) []) (text-without-marks-is-whole (drop 1 rest))
-    ∙ ap (λ t. t ++ fragment) (second ∙ ap (λ t. t ++ query) first)
-    ∙ append_assoc (a ++ path) query fragment ∙ append_assoc a path (query ++ fragment)
-    ∙ ap (λ t. a ++ (path ++ (query ++ mended_fragment kind.fragment t))) r ∙ ap (λ t.
-    a ++ (path ++ (mended_query kind.query t ++ mended_fragment kind.fragment (after_query t)))) e
+    grind (arith, common_steps, starts, text-without-marks-is-whole)
 
 -- tails: how long is what a text is mended to so far
 pub length-of-mended-so-far : (text out : List ℕ) (p : Progress) → IsProgress text out p
     → length (mended_so_far text out p) ≡ p.at + (p.end - p.run_start)
-length-of-mended-so-far text out p h =
-    let written : length (take p.at out) ≡ p.at = length-take-le p.at out h.inside in
-    let room : p.end - p.run_start ≤ length (drop p.run_start text) =
-    omega (arith, length-drop p.run_start text, h.boundary.0) in
-    let run : length (take (p.end - p.run_start) (drop p.run_start text)) ≡ p.end - p.run_start =
-    length-take-le (p.end - p.run_start) (drop p.run_start text) room in
-    length-append (take p.at out) (take (p.end - p.run_start) (drop p.run_start text))
-    ∙ omega (arith, written, run)
+length-of-mended-so-far text out p h = grind (arith, common_steps)
 
 -- tails: a part of what a text is mended to ends where what is mended so far does
 pub part-ends-where-mended : (text out old part : List ℕ) (p : Progress) (end : ℕ)

@@ -1,6 +1,6 @@
 -- The characters that no path, query or fragment of the four kinds may have, and the marks that end
 -- these.
-use Rattle.uri_mend.proofs.Common.{◌≡◌, ℕ, ◌<◌, ◌≤◌, Bool, true, false, refl, sym, ap, subst, ◌∙◌, ◌&&◌, ⊎_elim, codes, agree_below_at, cases_lt, has_bit, TableSet, is_path_char, is_query_char, has_bit_past_ascii_is_false, Kind, kind_by_flags, NEVER_HIGH, NEVER_LOW, are_marks}
+use Rattle.uri_mend.proofs.Common.{arith, ◌≡◌, ℕ, ◌<◌, Bool, true, false, refl, sym, subst, ◌∙◌, ◌&&◌, codes, agree_below_at, has_bit, TableSet, is_path_char, is_query_char, has_bit_past_ascii_is_false, Kind, kind_by_flags, NEVER_HIGH, NEVER_LOW, are_marks}
 
 -- sets: the set lacks the characters that no component may have
 abbrev pub LacksNever : TableSet → Type 0
@@ -10,10 +10,7 @@ LacksNever set = (b : ℕ) → has_bit NEVER_LOW NEVER_HIGH b ≡ true → set.a
 fails-for-never : (test : ℕ → Bool) → ((b : ℕ) → b < 128
     → (has_bit NEVER_LOW NEVER_HIGH b && test b) ≡ false)
     → (b : ℕ) → has_bit NEVER_LOW NEVER_HIGH b ≡ true → test b ≡ false
-fails-for-never test below b bit = ⊎_elim
-    (λ (h : b < 128). sym (ap (λ t. t && test b) bit) ∙ below b h)
-    (λ (h : 128 ≤ b). absurd (Rattle.std.proofs.lemmas.Bool.both_ways _
-    (has_bit_past_ascii_is_false NEVER_LOW NEVER_HIGH b h) bit)) (cases_lt b 128)
+fails-for-never test below b bit = grind (arith, has_bit_past_ascii_is_false)
 
 -- sets: no such character may be in a path
 never-is-no-path-char : (b : ℕ) → has_bit NEVER_LOW NEVER_HIGH b ≡ true → is_path_char b ≡ false

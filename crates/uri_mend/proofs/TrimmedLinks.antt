@@ -1,5 +1,5 @@
 -- Links of pages without their white space.
-use Rattle.uri_mend.proofs.Common.{◌≡◌, ℕ, true, false, List, [], ◌∷◌, ◌++◌, drop, refl, sym, ap, ◌∙◌, ⊎_elim, append_assoc, arith, length, subst, ◌<◌, is_ascii_whitespace, list_any, prefix_len, IsCharBoundary, IsTrimAscii, IsUtf8, cases_Bool, cond-true, cond-false, not_from_true, not_from_false, or_parts, IsCharBoundary-after_ascii, is_one_of, AreAscii-by-test, before_any, from_any, before_any-at-mark, before_any-past-other, from_any-at-mark, from_any-past-other, IsEmptyOrMarked, text-is-cut-at-first-mark, tab_and_newlines, without_any, without_outer_space}
+use Rattle.uri_mend.proofs.Common.{common_steps, ◌≡◌, ℕ, true, false, List, [], ◌∷◌, ◌++◌, drop, refl, sym, ap, ◌∙◌, arith, length, subst, ◌<◌, is_ascii_whitespace, list_any, prefix_len, IsCharBoundary, IsTrimAscii, IsUtf8, cond-true, not_from_false, or_parts, IsCharBoundary-after_ascii, is_one_of, AreAscii-by-test, before_any, from_any, before_any-past-other, from_any-past-other, IsEmptyOrMarked, text-is-cut-at-first-mark, tab_and_newlines, without_any, without_outer_space}
 use Rattle.std.proofs.lemmas.Str.Ascii.{trim_ascii_is}
 use Rattle.uri_parts.proofs.Offered.{utf8_from_marks}
 
@@ -8,17 +8,8 @@ use Rattle.uri_parts.proofs.Offered.{utf8_from_marks}
 text-without-marks-by-cut : (marks text : List ℕ) → without_any marks text
     ≡ before_any marks text ++ without_any marks (drop 1 (from_any marks text))
 text-without-marks-by-cut marks [] = refl
-text-without-marks-by-cut marks (c ∷ rest) = ⊎_elim
-    (λ is. cond-false _ _ _ (not_from_true _ is)
-    ∙ ap (λ t. without_any marks (drop 1 t)) (sym (from_any-at-mark marks c rest is))
-    ∙ ap (λ b. b ++ without_any marks (drop 1 (from_any marks (c ∷ rest))))
-    (sym (before_any-at-mark marks c rest is)))
-    (λ is. cond-true _ _ _ (not_from_false _ is)
-    ∙ ap (λ t. c ∷ t) (text-without-marks-by-cut marks rest) ∙ ap
-    (λ f. (c ∷ before_any marks rest) ++ without_any marks (drop 1 f))
-    (sym (from_any-past-other marks c rest is)) ∙ ap
-    (λ b. b ++ without_any marks (drop 1 (from_any marks (c ∷ rest))))
-    (sym (before_any-past-other marks c rest is))) (cases_Bool (is_one_of marks c))
+text-without-marks-by-cut marks (c ∷ rest) =
+    grind (arith, from_any-past-other, before_any-past-other, text-without-marks-by-cut marks rest)
 
 -- trimming: a text that has none of these characters is unchanged without them
 pub text-without-marks-is-unchanged : (marks text : List ℕ)
@@ -34,10 +25,7 @@ pub text-without-marks-after-run : (marks out mid rest from all : List ℕ)
     → mid ≡ out ++ before_any marks rest → from ≡ from_any marks rest
     → out ++ without_any marks rest ≡ all → mid ++ without_any marks (drop 1 from) ≡ all
 text-without-marks-after-run marks out mid rest from all copied left whole =
-    ap (λ x. x ++ without_any marks (drop 1 from)) copied
-    ∙ append_assoc out (before_any marks rest) (without_any marks (drop 1 from))
-    ∙ ap (λ f. out ++ (before_any marks rest ++ without_any marks (drop 1 f))) left
-    ∙ ap (λ x. out ++ x) (sym (text-without-marks-by-cut marks rest)) ∙ whole
+    grind (arith, common_steps, text-without-marks-by-cut)
 
 -- trimming: std's trimmed text is the text without outer space
 pub trimmed-text-is-without-outer-space : (text trimmed : List ℕ) → IsTrimAscii text trimmed

@@ -1,8 +1,7 @@
 -- What mending leaves as it is: a text of the kind; and what it refuses: a scheme and an authority
 -- that begin no text of the kind.
-use Rattle.uri_mend.proofs.Common.{◌≡◌, ℕ, Bool, true, false, not, List, [], ◌∷◌, ◌++◌, refl, sym, ap, ◌∙◌, ⊎_elim, ◌&&◌, ◌||◌, arith, inl, eqb, drop, codes, Option, Some, None, IfSome, IfNone, is_some, option_map, IsUtf8, cases_Bool, cond-false, and_parts, and_from, both_ways, and_left, and_right, eqb-true, append-nil, TableSet, LacksPercent, is_valid_for, Components, components, recompose, marked, starts, Lacks, IsSplitOf, IsAbemptyPath, has_scheme, has_authority, from_any, before_any, after_scheme, after_authority, when, Kind, IsOfKind, is_of_kind, absent_or_passes, is_scheme, is_authority, has_colon_in_first_segment, components_meet_rules, recompose-components, only-split-is-components, HasComponentSets, before_path, components-of-utf8-are-utf8, grammar-gives-components-of-kind, mended, has_false_scheme, link_components, mended_components, mended_text, can_be_mended}
+use Rattle.uri_mend.proofs.Common.{◌≡◌, ℕ, Bool, true, false, not, List, [], ◌++◌, refl, sym, ap, ◌∙◌, ◌&&◌, ◌||◌, arith, inl, codes, Option, Some, None, IfSome, IfNone, is_some, option_map, IsUtf8, and_parts, and_from, append-nil, TableSet, LacksPercent, Components, components, recompose, marked, starts, IsSplitOf, IsAbemptyPath, has_scheme, before_any, Kind, IsOfKind, is_of_kind, absent_or_passes, is_scheme, is_authority, components_meet_rules, recompose-components, only-split-is-components, HasComponentSets, before_path, components-of-utf8-are-utf8, grammar-gives-components-of-kind, mended, has_false_scheme, link_components, mended_components, mended_text, can_be_mended}
 use Rattle.uri_pct.proofs.Offered.{empty_text_is_valid}
-use Rattle.uri_parts.proofs.Offered.{colon_in_first_segment-is-at-start}
 use Rattle.uri_ops.proofs.Offered.{is_set_text, set-text-is-valid, set-text-is-utf8}
 use Rattle.uri_mend.proofs.MendedSteps.{valid-text-is-its-own-mended-text}
 use Rattle.uri_mend.proofs.LinkComponents.{no-false-scheme-gets-nothing}
@@ -40,17 +39,8 @@ holds-without-part (Some a) P h = tt
 pub prefix-components-are-split : (p : Components) → AreMendable p
     → IsSplitOf (recompose (prefix_components p)) (prefix_components p)
 unfolding prefix_components
-prefix-components-are-split p m = record {
-  whole = refl;
-  scheme = m.split.scheme;
-  authority = empty-path-follows-authority p.authority (λ a. Lacks (codes "/?#") a) p.path
-      m.split.authority;
-  path = λ k d l. absurd (omega arith);
-  query = tt;
-  no_scheme = no-scheme-is-found p.scheme p.authority [] None None
-      (holds-without-part p.scheme _ (holds-without-part p.authority _ refl));
-  no_authority = holds-without-part p.authority _ refl;
-}
+prefix-components-are-split p m =
+    grind (arith, empty-path-follows-authority, no-scheme-is-found, holds-without-part)
 
 -- general fact on booleans, for mending: the rules of the grammar where the path is empty; a, s, n,
 -- there: the authority passes, a scheme is there, it is needed, an authority is there
@@ -71,13 +61,7 @@ prefix-rules : (kind : Kind) (p : Components) → AreMendable p
     && (is_some p.scheme || not kind.needs_scheme))
 unfolding prefix_components
 prefix-rules kind p m =
-    let a = absent_or_passes p.authority (is_authority kind) in
-    let rest : Bool = is_some p.scheme
-    || (not kind.needs_scheme && (is_some p.authority || true)) in
-    ap (λ s. ((((s && a) && is_valid_for kind.path []) && true) && true) && rest)
-    (part-with-property-passes p.scheme is_scheme m.scheme)
-    ∙ ap (λ v. ((((true && a) && v) && true) && true) && rest) (empty_text_is_valid kind.path)
-    ∙ rules-of-prefix a (is_some p.scheme) kind.needs_scheme (is_some p.authority)
+    grind (arith, part-with-property-passes, empty_text_is_valid, rules-of-prefix)
 
 -- mending: a text can be mended exactly if its scheme and authority are of the kind
 pub prefix-is-of-kind-iff-mendable : (kind : Kind) (text : List ℕ) → IsUtf8 text
@@ -90,63 +74,27 @@ prefix-is-of-kind-iff-mendable kind text u =
     (components_meet_rules kind) (only-split-is-components (recompose (prefix_components p))
     (prefix_components p) (prefix-components-are-split p m)) ∙ prefix-rules kind p m
 
--- general fact on booleans, for mending: without a scheme and an authority, the rule is on the `:`
-rule-on-colons : (s n a c : Bool) → (s || (not n && (a || not c))) ≡ true → s ≡ false → a ≡ false
-    → c ≡ false
-rule-on-colons s n a false h e f = refl
-rule-on-colons true n a true h e f = absurd (both_ways _ e refl)
-rule-on-colons false true a true h e f = absurd (both_ways _ refl h)
-rule-on-colons false false true true h e f = absurd (both_ways _ f refl)
-rule-on-colons false false false true h e f = absurd (both_ways _ refl h)
-
 -- general fact on booleans, for mending: what the rule says of a scheme that is needed
 rule-on-schemes : (s n r : Bool) → (s || (not n && r)) ≡ true → (s || not n) ≡ true
 rule-on-schemes true n r h = refl
 rule-on-schemes false n r h = (and_parts (not n) r h).0
 
--- mending: a text that begins with `:` has no authority
-colon-first-is-no-authority : (text : List ℕ) → starts 58 text ≡ true → has_authority text ≡ false
-colon-first-is-no-authority [] e = refl
-colon-first-is-no-authority (c ∷ text) e = and_left _ _ (ap (λ n. eqb n 47) (eqb-true c 58 e))
-
 -- mending: no text of a kind begins with `:`
 text-of-kind-has-no-leading-colon : (kind : Kind) (text : List ℕ) → IsOfKind kind text
     → starts 58 text ≡ false
-text-of-kind-has-no-leading-colon kind text h = ⊎_elim
-    (λ first.
-    let none : has_scheme text ≡ false = and_right _ _ (ap not first) in
-    let rest : after_scheme text ≡ text = cond-false _ _ _ none in
-    let bare : has_authority (after_scheme text) ≡ false =
-    ap has_authority rest ∙ colon-first-is-no-authority text first in
-    let tail : after_authority (after_scheme text) ≡ text = cond-false _ _ _ bare ∙ rest in
-    let p = components text in
-    let s : is_some p.scheme ≡ false =
-    ap (λ t. is_some (when t (before_any (codes ":/?#") text))) none in
-    let a : is_some p.authority ≡ false =
-    ap (λ t. is_some (when t (before_any (codes "/?#") (drop 2 (after_scheme text))))) bare in
-    let colon : has_colon_in_first_segment p.path ≡ true =
-    ap (λ t. has_colon_in_first_segment (before_any (codes "?#") t)) tail
-    ∙ colon_in_first_segment-is-at-start text none ∙ first in
-    absurd (both_ways _ (rule-on-colons (is_some p.scheme) kind.needs_scheme (is_some p.authority)
-    (has_colon_in_first_segment p.path) (and_parts _ _ h).1 s a) colon))
-    (λ first. first) (cases_Bool (starts 58 text))
+text-of-kind-has-no-leading-colon kind text h = grind arith
 
 -- mending: the scheme of a text of a kind is one
 scheme-of-text-of-kind-is-one : (kind : Kind) (text : List ℕ) → IsOfKind kind text
     → has_scheme text ≡ true → is_scheme (before_any (codes ":/?#") text) ≡ true
-scheme-of-text-of-kind-is-one kind text h e =
-    let scheme = (and_parts _ _ (and_parts _ _ (and_parts _ _ (and_parts _ _
-    (and_parts _ _ h).0).0).0).0).0 in
-    sym (ap (λ t. absent_or_passes (when t (before_any (codes ":/?#") text)) is_scheme) e) ∙ scheme
+scheme-of-text-of-kind-is-one kind text h e = grind arith
 
 -- mending: a text of a kind has no false scheme
 pub text-of-kind-has-no-false-scheme : (kind : Kind) (text : List ℕ) → IsOfKind kind text
     → has_false_scheme text ≡ false
 unfolding has_false_scheme
-text-of-kind-has-no-false-scheme kind text h = ⊎_elim
-    (λ e. and_right _ _ (ap not (scheme-of-text-of-kind-is-one kind text h
-    (and_from _ _ e (ap not (text-of-kind-has-no-leading-colon kind text h))))))
-    (λ e. and_left _ _ e) (cases_Bool (starts 58 (from_any (codes ":/?#") text)))
+text-of-kind-has-no-false-scheme kind text h =
+    grind (arith, scheme-of-text-of-kind-is-one, text-of-kind-has-no-leading-colon, starts)
 
 -- mending: the components of a text of a kind are found
 link-components-of-text-of-kind : (kind : Kind) (text : List ℕ) → IsOfKind kind text
@@ -161,8 +109,7 @@ valid-part-is-unchanged : (set : TableSet) (o : Option (List ℕ)) → LacksPerc
     → option_map (mended set) o ≡ o
 valid-part-is-unchanged set None lacks octets h = refl
 valid-part-is-unchanged set (Some x) lacks octets h =
-    ap Some (valid-text-is-its-own-mended-text set lacks
-    octets x (set-text-is-utf8 set x h) (set-text-is-valid set x h))
+    grind (arith, valid-text-is-its-own-mended-text, set-text-is-utf8, set-text-is-valid)
 
 -- general fact on records, for mending: components are equal if path, query and fragment are
 equal-ends-make-equal-components : (p : Components) {path : List ℕ}
@@ -175,13 +122,7 @@ equal-ends-make-equal-components : (p : Components) {path : List ℕ}
       query = query;
       fragment = fragment;
     } in x) ≡ p
-equal-ends-make-equal-components p a q f = λ i. record {
-  scheme = p.scheme;
-  authority = p.authority;
-  path = a i;
-  query = q i;
-  fragment = f i;
-}
+equal-ends-make-equal-components p a q f = grind arith
 
 module _ (kind : Kind) (sets : HasComponentSets kind) where
   -- the components of a text of the kind are unchanged
@@ -221,11 +162,7 @@ module _ (kind : Kind) (sets : HasComponentSets kind) where
 rules-of-text-of-kind : (kind : Kind) (text : List ℕ) → IsOfKind kind text
     → (absent_or_passes (components text).authority (is_authority kind)
     && (is_some (components text).scheme || not kind.needs_scheme)) ≡ true
-rules-of-text-of-kind kind text h =
-    let rules = and_parts _ _ h in
-    let authority = (and_parts _ _ (and_parts _ _ (and_parts _ _ (and_parts _ _
-    rules.0).0).0).0).1 in
-    and_from _ _ authority (rule-on-schemes _ kind.needs_scheme _ rules.1)
+rules-of-text-of-kind kind text h = grind (arith, rule-on-schemes)
 
 -- mending: no text of the kind has the scheme and the authority of a text that cannot be mended
 pub no_text_of_kind_has_rejected_scheme_and_authority : (kind : Kind) (text other : List ℕ)
@@ -234,7 +171,4 @@ pub no_text_of_kind_has_rejected_scheme_and_authority : (kind : Kind) (text othe
     → (components other).authority ≡ (link_components text).authority → ⊥
 unfolding can_be_mended
 no_text_of_kind_has_rejected_scheme_and_authority kind text other e h scheme authority =
-    both_ways _ e (sym (ap (λ a. absent_or_passes a (is_authority kind)
-    && (is_some (components other).scheme || not kind.needs_scheme)) authority
-    ∙ ap (λ s. absent_or_passes (link_components text).authority (is_authority kind)
-    && (is_some s || not kind.needs_scheme)) scheme) ∙ rules-of-text-of-kind kind other h)
+    grind (arith, components, rules-of-text-of-kind)

@@ -1,4 +1,5 @@
 -- Texts that are hashed from their ends, block by block.
+use Rattle.std.proofs.lemmas.Grind.{common_steps}
 use Rattle.std.proofs.Common.{◌≡◌, ℕ, suc, ◌+◌, ◌-◌, ◌/◌, ◌<◌, ◌≤◌, List, ◌∷◌, ◌++◌, length, take, drop, sym, ap, ap₂, ◌∙◌, arith}
 use Rattle.std.proofs.Math.Seq.{drop-append_seam, take-append_seam}
 use Rattle.std.proofs.lemmas.List.{length-append, take_all}
@@ -12,9 +13,7 @@ use Rattle.uri_order.proofs.InStep.{short_block_is_whole_text}
 pub short_text_is_hashed_whole : (text : List ℕ) → length text < 1024
     → hashed_text text ≡ fed.str text
 unfolding hashed_blocks
-short_text_is_hashed_whole text short =
-    let none : length text / 1024 ≡ 0 = omega (arith, short) in
-    ap (λ n. hashed_blocks n text) none
+short_text_is_hashed_whole text short = grind arith
 
 -- hashes: the last block of a text is hashed first, if it is full
 pub full_block_is_hashed_first : (text left block : List ℕ) → text ≡ left ++ block
@@ -38,11 +37,7 @@ module _ {S : Type 0} (write : S → List ℕ → S) (state next : S) (start : �
   pub hash_goes_on : start ≤ 0
       → fold write state (hashed_text text) ≡ fold write next (hashed_text left)
   hash_goes_on none =
-      ap (fold write state) (full_block_is_hashed_first text left (drop start block) last.whole
-      (omega (arith, size)))
-      ∙ ap (λ b. fold write (write state b) (hashed_text left))
-      (sym (take_all (1024 - start) (drop start block) (omega (arith, size))))
-      ∙ ap (λ s. fold write s (hashed_text left)) (sym written)
+      grind (arith, common_steps, full_block_is_hashed_first, left, start, block, size, written)
 
   -- hashes: after a block that is not full, 255 is hashed
   pub hash_ends : 0 < start → fold write next (fed.u8 255) ≡ fold write state (hashed_text text)

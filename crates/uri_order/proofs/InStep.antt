@@ -1,6 +1,7 @@
 -- Two texts that are read from their ends in step, and their order.
+use Rattle.std.proofs.lemmas.Grind.{common_steps}
 use Rattle.std.proofs.Common.{◌≡◌, ℕ, suc, ◌+◌, ◌-◌, ◌<◌, List, [], ◌∷◌, ◌++◌, length, take, drop, Ordering, Less, Equal, Greater, refl, sym, ap, ◌∙◌, arith, append_assoc}
-use Rattle.std.proofs.lemmas.List.{append-nil, take_all}
+use Rattle.std.proofs.lemmas.List.{append-nil}
 use Rattle.std.specs.Cmp.Lexicographic.{slice_cmp}
 use Rattle.std.specs.Ordering.{ordering_then, nat_cmp}
 use Rattle.uri_ops.specs.FromEnd.Blocks.{IsLastBlock}
@@ -61,13 +62,10 @@ pub order_of_longer_text : (xs ys : List ℕ) → length ys < length xs
 order_of_longer_text [] ys h = absurd (omega arith)
 order_of_longer_text (x ∷ xs) [] h = refl
 order_of_longer_text (x ∷ xs) (y ∷ ys) h =
-    ap (ordering_then (nat_cmp x y)) (order_of_longer_text xs ys (omega arith))
-    ∙ then_assoc (nat_cmp x y) (slice_cmp nat_cmp (take (length ys) xs) ys) Greater
+    grind (arith, then_assoc, order_of_longer_text xs ys (omega arith))
 
 -- a text whose last block is not full is that block
 pub short_block_is_whole_text : (start : ℕ) (text left block : List ℕ)
     → IsLastBlock 1024 text left (drop start block) → length (drop start block) + start ≡ 1024
     → 0 < start → take (1024 - start) (drop start block) ≡ text
-short_block_is_whole_text start text left block last size some =
-    take_all (1024 - start) (drop start block) (omega (arith, size))
-    ∙ sym (last.whole ∙ ap (λ t. t ++ drop start block) (last.last (omega (arith, size))))
+short_block_is_whole_text start text left block last size some = grind (arith, common_steps)

@@ -1,4 +1,4 @@
-use Rattle.uri_mend.proofs.Common.{◌<◌, get_or, rules, subst, arith, IsCharBoundary-after_ascii, set_of, lacks_percent}
+use Rattle.uri_mend.proofs.Common.{common_steps, ◌<◌, get_or, rules, subst, arith, IsCharBoundary-after_ascii, lacks_percent}
 use Rattle.uri_mend.proofs.EncodedRuns.{ascii-after-scan-is-encoded}
 use Rattle.uri_mend.proofs.component.encode_next.Goals as goal
 
@@ -14,9 +14,4 @@ returns-clause-progress c =
     }
 
 pub returns-clause-encoded : goal.returns-clause-encoded
-returns-clause-encoded c =
-    let small : get_or c.args.text.now c.args.from.end 0
-    < 128 = subst (λ t. get_or t c.args.from.end 0 < 128) c.as_bytes.ensures.value (omega arith) in
-    ascii-after-scan-is-encoded (set_of c.args.table.now) (lacks_percent c.args.table.now)
-    c.requires.octets c.args.text.now c.utf8.text c.args.from.end
-    c.requires.progress.boundary c.requires.inside small c.requires.stop
+returns-clause-encoded c = grind (arith, common_steps, ascii-after-scan-is-encoded, lacks_percent)

@@ -1,4 +1,4 @@
-use Rattle.uri_mend.proofs.Common.{◌-◌, get_or, ap, sym, ◌∙◌, arith, nat_le, or_right, has_bit, has_bit-only-ascii, is_never, NEVER_HIGH, NEVER_LOW}
+use Rattle.uri_mend.proofs.Common.{◌-◌, get_or, ap, sym, ◌∙◌, arith, has_bit, has_bit-only-ascii, is_never, NEVER_HIGH, NEVER_LOW}
 use Rattle.uri_mend.proofs.EncodedRuns.{ascii-run-ends-at-boundary, byte-of-run-is-never}
 use Rattle.uri_mend.proofs.component.never_end.Goals as goal
 
@@ -19,15 +19,7 @@ returns-clause-boundary c =
     ∙ run.pass (end - 1) (omega (arith, some)) (omega (arith, some))))
 
 pub returns-clause-never : goal.returns-clause-never
-returns-clause-never c k from l =
-    let b = get_or c.args.text.now k 0 in
-    or_right (nat_le 128 b) (has_bit NEVER_LOW NEVER_HIGH b)
-    (ap (λ t. has_bit NEVER_LOW NEVER_HIGH (get_or t k 0)) (sym c.as_bytes-bytes.ensures.value)
-    ∙ c.run_end.ensures.pass k from l)
+returns-clause-never c k from l = grind arith
 
 pub returns-clause-past : goal.returns-clause-past
-returns-clause-past c k from l past =
-    let low = has_bit-only-ascii NEVER_LOW NEVER_HIGH (get_or c.args.text.now k 0)
-    (ap (λ t. has_bit NEVER_LOW NEVER_HIGH (get_or t k 0)) (sym c.as_bytes-bytes.ensures.value)
-    ∙ c.run_end.ensures.pass k from l) in
-    absurd (omega (arith, low, past))
+returns-clause-past c k from l past = grind (arith, has_bit-only-ascii)

@@ -1,4 +1,4 @@
-use Rattle.uri_mend.proofs.Common.{◌≡◌, ◌++◌, ◌-◌, sym, ap, ◌∙◌, length, take, arith, slice_range, not-true, not-false, IsCharBoundary-at_seam, IsCharBoundary-start, after_authority, after_scheme, components, before_path, link_components, mended_tail, mended_path, query_of_tail}
+use Rattle.uri_mend.proofs.Common.{◌≡◌, ◌++◌, ◌-◌, sym, ap, ◌∙◌, length, take, arith, slice_range, not-true, not-false, IsCharBoundary-at_seam, IsCharBoundary-start, after_authority, components, before_path, link_components}
 use Rattle.uri_mend.proofs.LinkPieces.{prefix-with-false-scheme, prefix-without-false-scheme, text-with-false-scheme-is-mended, text-is-cut-before-path, text-without-false-scheme-is-mended, boundary-before-piece, piece-before-cut, piece-after-cut-is-no-longer, path-with-false-scheme, path-without-false-scheme, query-with-false-scheme, query-without-false-scheme}
 use Rattle.uri_mend.proofs.link.cut_link.Goals as goal
 
@@ -12,9 +12,7 @@ returns-in_default-clause-pieces c =
 
 tail-of-text : (c : goal.After-after_authority-tail) → c.args.text.now
     ≡ before_path (components c.args.text.now) ++ c.after_authority-tail.result.now
-tail-of-text c = text-is-cut-before-path c.args.text.now ∙ ap
-    (λ t. before_path (components c.args.text.now) ++ t)
-    (sym (c.after_authority-tail.ensures ∙ ap after_authority c.in-Some.ensures.rest))
+tail-of-text c = grind (arith, text-is-cut-before-path, components)
 
 pub overflow_sub-text : goal.overflow_sub-text
 overflow_sub-text c = piece-after-cut-is-no-longer c.args.text.now
@@ -42,12 +40,7 @@ pub returns-clause-prefix : goal.returns-clause-prefix
 returns-clause-prefix c = prefix-of-text c
 
 pub returns-clause-pieces : goal.returns-clause-pieces
-returns-clause-pieces c = λ kind sets.
-    let text = c.args.text.now in
-    text-without-false-scheme-is-mended text (not-true _ (sym c.in-Some.ensures.some)) kind sets
-    ∙ ap (λ t. t ++ mended_tail kind (after_authority (after_scheme text))) (sym (prefix-of-text c))
-    ∙ ap (λ t. c.range.result.now ++ mended_tail kind t)
-    (sym (c.after_authority-tail.ensures ∙ ap after_authority c.in-Some.ensures.rest))
+returns-clause-pieces c = grind (arith, text-without-false-scheme-is-mended, prefix-of-text)
 
 pub returns-in_default-clause-path : goal.returns-in_default-clause-path
 returns-in_default-clause-path c =
@@ -58,15 +51,10 @@ returns-in_default-clause-query c =
     query-with-false-scheme c.args.text.now (not-false _ (sym c.in_default.ensures.some))
 
 pub returns-clause-path : goal.returns-clause-path
-returns-clause-path c = λ kind sets.
-    path-without-false-scheme c.args.text.now (not-true _ (sym c.in-Some.ensures.some)) kind sets
-    ∙ ap (mended_path kind)
-    (sym (c.after_authority-tail.ensures ∙ ap after_authority c.in-Some.ensures.rest))
+returns-clause-path c = grind (arith, path-without-false-scheme)
 
 pub returns-clause-query : goal.returns-clause-query
-returns-clause-query c =
-    query-without-false-scheme c.args.text.now (not-true _ (sym c.in-Some.ensures.some)) ∙ ap
-    query_of_tail (sym (c.after_authority-tail.ensures ∙ ap after_authority c.in-Some.ensures.rest))
+returns-clause-query c = grind (arith, query-without-false-scheme)
 
 pub returns-clause-whole : goal.returns-clause-whole
 returns-clause-whole c =

@@ -1,4 +1,4 @@
-use Rattle.uri_mend.proofs.Common.{ap, ◌∙◌, is_of_kind}
+use Rattle.uri_mend.proofs.Common.{arith}
 use Rattle.uri_mend.proofs.LinkPrefixes.{link-of-cut}
 use Rattle.uri_mend.proofs.Unchanged.{prefix-is-of-kind-iff-mendable}
 use Rattle.uri_mend.proofs.mending.link_of_cut.Goals as goal
@@ -11,13 +11,7 @@ returns-in-Some-clause-link g c =
     cut.boundary cut.alone cut.prefix cut.pieces cut.path cut.query c.in-Some.ensures.positions
 
 pub returns-in-Some-clause-mendable : goal.returns-in-Some-clause-mendable
-returns-in-Some-clause-mendable g c =
-    let kind = g.K.Kind.kind in
-    c.in-Some.ensures.some ∙ ap (is_of_kind kind) c.cut_link-cut.ensures.prefix
-    ∙ prefix-is-of-kind-iff-mendable kind c.args.text.now c.utf8.text
+returns-in-Some-clause-mendable g c = grind (arith, prefix-is-of-kind-iff-mendable)
 
 pub returns-in-None-clause-mendable : goal.returns-in-None-clause-mendable
-returns-in-None-clause-mendable g c =
-    let kind = g.K.Kind.kind in
-    c.in-None.ensures.some ∙ ap (is_of_kind kind) c.cut_link-cut.ensures.prefix
-    ∙ prefix-is-of-kind-iff-mendable kind c.args.text.now c.utf8.text
+returns-in-None-clause-mendable g c = grind (arith, prefix-is-of-kind-iff-mendable)

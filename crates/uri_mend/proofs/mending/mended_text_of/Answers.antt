@@ -1,4 +1,4 @@
-use Rattle.uri_mend.proofs.Common.{◌++◌, ◌+◌, drop, length, sym, ap, ◌∙◌, subst, IsUtf8, one-of-four-kinds-has-sets, mended_path, mended_tail}
+use Rattle.uri_mend.proofs.Common.{arith, ◌++◌, drop, sym, ap, ◌∙◌, subst, IsUtf8, one-of-four-kinds-has-sets, mended_tail}
 use Rattle.uri_mend.proofs.MendedResults.{length-of-start, mended-text-of-link-is-utf8, pieces-are-mended-text, start-of-mended-text}
 use Rattle.uri_mend.proofs.mending.mended_text_of.Goals as goal
 
@@ -26,11 +26,4 @@ returns-clause-text g c =
     c.in_ok-out.ensures.text) ∙ pieces-are-mended-text kind sets text link c.requires.link
 
 pub returns-clause-path_end : goal.returns-clause-path_end
-returns-clause-path_end g c =
-    let text = c.args.text.now in
-    let link = c.args.link in
-    c.in_ok-tail.ensures.path_end
-    ∙ ap (λ n. n + length (mended_path g.K.Kind.kind (drop link.path_start text)))
-    (ap length (start-of-mended-text text c.in_ok-out.out.items c.in_ok-out.at link.path_start
-    link.has_false_scheme c.in_ok-out.ensures.text)
-    ∙ length-of-start text link.path_start link.has_false_scheme c.requires.link.boundary.0)
+returns-clause-path_end g c = grind (arith, start-of-mended-text, length-of-start)

@@ -1,12 +1,9 @@
-use Rattle.uri_mend.proofs.Common.{◌≡◌, false, sym, ap, ◌∙◌, ⊎_elim, arith, cases_Bool, false≢true, Kind, is_of_kind}
+use Rattle.uri_mend.proofs.Common.{◌≡◌, false, sym, ⊎_elim, arith, cases_Bool, false≢true, is_of_kind}
 use Rattle.uri_parts.proofs.Offered.{empty_is_reference}
 use Rattle.uri_mend.proofs.mending.positions_of_prefix.Goals as goal
 
 pub empty-requires : goal.empty-requires
-empty-requires g c =
-    let flag : c.tables.result.needs_scheme ≡ false = grind arith in
-    empty_is_reference g.K.Kind.kind
-    (sym (ap (λ (k : Kind). k.needs_scheme) c.tables.ensures.kind) ∙ flag)
+empty-requires g c = grind (arith, empty_is_reference)
 
 pub returns-in-Err-clause-some : goal.returns-in-Err-clause-some
 returns-in-Err-clause-some g c =

@@ -1,4 +1,4 @@
-use Rattle.uri_mend.proofs.Common.{◌≡◌, ◌∙◌, ◌/◌, ◌%◌, ◌^◌, ◌<◌, ◌||◌, ap, subst, sym, refl, map, length, List, ℕ, [], bit_and, cond, eqb, get_or, ltb, true, w8, ◌∷◌, replicate, zip2, chunk, agree_below_at, eqb-true, zip2_splat, SwzOk, swz_l, length-chunk, chunk-fits}
+use Rattle.uri_mend.proofs.Common.{common_steps, arith, ◌≡◌, ◌/◌, ◌%◌, ◌^◌, ◌<◌, ◌||◌, refl, map, length, List, ℕ, [], bit_and, cond, get_or, ltb, true, w8, ◌∷◌, replicate, zip2, chunk, agree_below_at, zip2_splat}
 use mir.Val.{zeroes}
 use Rattle.std.specs.Fmt.{digit_glyph}
 use Rattle.uri_pct.proofs.Offered.{lanes_fit_swizzle, swizzle_is_lookup}
@@ -30,50 +30,26 @@ second-fits b h = agree_below_at (λ c. zeroes 16 w8 (bit_and c 15) || ltb (bit_
 first-is-digit : (b : ℕ) → b < 256
     → cond (zeroes 16 w8 (b / 2 ^ 4)) 0 (get_or digits (b / 2 ^ 4) 0) ≡ digit_glyph true (b / 16)
 unfolding digits
-first-is-digit b h = eqb-true _ _ (agree_below_at
-    (λ c. eqb (cond (zeroes 16 w8 (c / 2 ^ 4)) 0 (get_or digits (c / 2 ^ 4) 0))
-    (digit_glyph true (c / 16))) (λ c. true) 256 b refl h)
+first-is-digit b h = grind (arith, digits)
 
 second-is-digit : (b : ℕ) → b < 256
     → cond (zeroes 16 w8 (bit_and b 15)) 0 (get_or digits (bit_and b 15) 0)
     ≡ digit_glyph true (b % 16)
 unfolding digits
-second-is-digit b h = eqb-true _ _ (agree_below_at
-    (λ c. eqb (cond (zeroes 16 w8 (bit_and c 15)) 0 (get_or digits (bit_and c 15) 0))
-    (digit_glyph true (c % 16))) (λ c. true) 256 b refl h)
+second-is-digit b h = grind (arith, common_steps, digits)
 
 pub swizzle : goal.swizzle
 unfolding digits
-swizzle c =
-    let long = length-chunk c.args.at 16 c.args.bytes.now c.requires in
-    subst (SwzOk w8 16 16 0) (sym (shifted c.args.bytes.now c.args.at long))
-    (lanes_fit_swizzle digits (chunk c.args.at 16 c.args.bytes.now) (λ b. b / 2 ^ 4)
-    (λ b. digit_glyph true (b / 16)) long
-    (chunk-fits w8 c.args.at 16 c.args.bytes.now c.type_inv.bytes) first-fits)
+swizzle c = grind (arith, shifted, lanes_fit_swizzle, digits, first-fits)
 
 pub swizzle-2 : goal.swizzle-2
 unfolding digits
-swizzle-2 c =
-    let long = length-chunk c.args.at 16 c.args.bytes.now c.requires in
-    subst (SwzOk w8 16 16 0) (sym (masked c.args.bytes.now c.args.at long))
-    (lanes_fit_swizzle digits (chunk c.args.at 16 c.args.bytes.now) (λ b. bit_and b 15)
-    (λ b. digit_glyph true (b % 16)) long
-    (chunk-fits w8 c.args.at 16 c.args.bytes.now c.type_inv.bytes) second-fits)
+swizzle-2 c = grind (arith, masked, lanes_fit_swizzle, digits, second-fits)
 
 pub returns-clause-first : goal.returns-clause-first
 unfolding digits
-returns-clause-first c =
-    let long = length-chunk c.args.at 16 c.args.bytes.now c.requires in
-    ap (swz_l w8 16 digits 0) (shifted c.args.bytes.now c.args.at long)
-    ∙ swizzle_is_lookup digits (chunk c.args.at 16 c.args.bytes.now) (λ b. b / 2 ^ 4)
-    (λ b. digit_glyph true (b / 16)) long
-    (chunk-fits w8 c.args.at 16 c.args.bytes.now c.type_inv.bytes) first-is-digit
+returns-clause-first c = grind (arith, digits, shifted, swizzle_is_lookup, first-is-digit)
 
 pub returns-clause-second : goal.returns-clause-second
 unfolding digits
-returns-clause-second c =
-    let long = length-chunk c.args.at 16 c.args.bytes.now c.requires in
-    ap (swz_l w8 16 digits 0) (masked c.args.bytes.now c.args.at long)
-    ∙ swizzle_is_lookup digits (chunk c.args.at 16 c.args.bytes.now) (λ b. bit_and b 15)
-    (λ b. digit_glyph true (b % 16)) long
-    (chunk-fits w8 c.args.at 16 c.args.bytes.now c.type_inv.bytes) second-is-digit
+returns-clause-second c = grind (arith, digits, masked, swizzle_is_lookup, second-is-digit)

@@ -1,4 +1,4 @@
-use Rattle.uri_mend.proofs.Common.{◌≡◌, ◌+◌, ◌++◌, List, ℕ, drop, length, subst, sym, ap, ◌∙◌, Kind, mended_so_far, mended_path, mended_query, mended_tail}
+use Rattle.uri_mend.proofs.Common.{arith, ◌+◌, List, ℕ, drop, length, sym, ap, ◌∙◌, Kind, mended_so_far, mended_path, mended_query}
 use Rattle.uri_parts.specs.KindTables.{kind_of}
 use Rattle.uri_mend.proofs.NeverAllowed.{known-kind-has-mended-sets}
 use Rattle.uri_mend.proofs.MendedTails.{length-of-mended-so-far, part-ends-where-mended, parts-are-mended-tail}
@@ -25,19 +25,7 @@ mend_marked-requires-2-clause-never g c =
     (known-kind-has-mended-sets _ _ g.met.K.Kind.known c.tables-tables.ensures.kind).fragment
 
 pub returns-clause-text : goal.returns-clause-text
-returns-clause-text g c =
-    let text = c.args.text.now in
-    let tail = drop c.args.from.end text in
-    let old : List ℕ = mended_so_far text c.args.out.now.items c.args.from in
-    let made : List ℕ = mended_so_far text c.mend_marked-2.new.out.items
-    c.in_ok-progress.progress in
-    subst (λ k. made ≡ old ++ mended_tail k tail) c.tables-tables.ensures.kind
-    (parts-are-mended-tail (kind_of c.tables-tables.result) tail (drop c.in_ok-path.path.end text)
-    (drop c.in_ok-query.query.end text) old
-    (mended_so_far text c.mend_component.new.out.items c.in_ok-path.path)
-    (mended_so_far text c.mend_marked.new.out.items c.in_ok-query.query) made
-    c.in_ok-path.ensures.rest c.in_ok-query.ensures.rest c.in_ok-path.ensures.text
-    c.in_ok-query.ensures.text c.in_ok-progress.ensures.text)
+returns-clause-text g c = grind (arith, parts-are-mended-tail)
 
 pub returns-clause-path_end : goal.returns-clause-path_end
 returns-clause-path_end g c =

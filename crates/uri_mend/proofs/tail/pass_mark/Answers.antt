@@ -1,4 +1,4 @@
-use Rattle.uri_mend.proofs.Common.{◌≡◌, ◌++◌, get_or, take, ap, sym, ◌∙◌, append_assoc, arith, ◌-◌, drop, [], ◌∷◌, IsCharBoundary-after_ascii}
+use Rattle.uri_mend.proofs.Common.{common_steps, ◌≡◌, get_or, ap, sym, ◌∙◌, arith, IsCharBoundary-after_ascii}
 use Rattle.uri_mend.proofs.MendedTails.{run-goes-on-by-mark}
 use Rattle.uri_mend.proofs.tail.pass_mark.Goals as goal
 
@@ -17,12 +17,4 @@ returns-then-bytes-from-clause-progress c out at =
     }
 
 pub returns-then-bytes-from-clause-text : goal.returns-then-bytes-from-clause-text
-returns-then-bytes-from-clause-text c out =
-    let text = c.args.text.now in
-    let p = c.args.from in
-    let same : get_or text p.end 0 ≡ c.args.mark =
-    ap (λ t. get_or t p.end 0) (sym c.as_bytes-bytes.ensures.value) ∙ c.if-bytes-from.true in
-    ap (λ t. take p.at out ++ t) (run-goes-on-by-mark text p.run_start p.end c.args.mark
-    c.requires.ordered (omega (arith, c.if-from-bytes.true, c.as_bytes-bytes.ensures.len)) same)
-    ∙ sym (append_assoc (take p.at out) (take (p.end - p.run_start) (drop p.run_start text))
-    (c.args.mark ∷ []))
+returns-then-bytes-from-clause-text c out = grind (arith, common_steps, run-goes-on-by-mark)

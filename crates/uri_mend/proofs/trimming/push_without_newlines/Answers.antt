@@ -1,4 +1,4 @@
-use Rattle.uri_mend.proofs.Common.{◌≡◌, ◌++◌, ◌∙◌, [], ap, arith, drop, string_bytes, sym, append-nil, drop_all, eqb-true, eqb-false, tab_and_newlines, without_any}
+use Rattle.uri_mend.proofs.Common.{◌≡◌, ◌++◌, ◌∙◌, [], ap, arith, drop, string_bytes, sym, append-nil, drop_all, eqb-true, tab_and_newlines, without_any}
 use Rattle.uri_mend.proofs.TrimmedLinks.{boundary-after-tab-or-newline, text-without-marks-after-run}
 use Rattle.uri_mend.proofs.trimming.push_without_newlines.Goals as goal
 
@@ -17,9 +17,7 @@ returns-then-is_empty c =
     c.cut_before.ensures.from c.loop-rest.invariant.1
 
 pub range_from-rest-requires : goal.range_from-rest-requires
-range_from-rest-requires c = λ _. boundary-after-tab-or-newline c.loop-rest.rest.now
-    c.cut_before.result.1.now c.loop-rest.invariant.0 c.cut_before.ensures.from
-    (omega (arith, eqb-false _ 0 (sym c.is_empty-in-loop-rest.ensures ∙ c.if-is_empty.false)))
+range_from-rest-requires c = grind (arith, boundary-after-tab-or-newline)
 
 pub loop-rest-preserved : goal.loop-rest-preserved
 loop-rest-preserved c =

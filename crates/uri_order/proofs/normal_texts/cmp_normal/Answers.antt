@@ -1,7 +1,5 @@
-use Rattle.std.proofs.Common.{refl, ap}
+use Rattle.std.proofs.Common.{arith}
 use Rattle.uri_ops.proofs.Offered.{one-of-four-kinds-has-sets}
-use Rattle.uri_ops.specs.SchemeRules.{meaning_under}
-use Rattle.uri_order.specs.NormalForms.{normal_form}
 use Rattle.uri_order.proofs.Equivalences.{equal_in_order_if_equal, equal_texts_are_equal_in_order, equivalent_if_forms_are_equal}
 use Rattle.uri_order.proofs.normal_texts.cmp_normal.Goals as goal
 
@@ -13,12 +11,7 @@ returns-clause-equal g c =
     (equal_in_order_if_equal _ _ c.cmp_texts.result c.cmp_texts.ensures)
 
 pub returns-then-have_same_text-clause-order : goal.returns-then-have_same_text-clause-order
-returns-then-have_same_text-clause-order g c =
-    let form = normal_form g.K.Kind.kind (g.S.SchemeRules.rules_of c.args.rules.now) in
-    equal_texts_are_equal_in_order _ _
-    (ap form (c.have_same_text.ensures.same.0 c.if-have_same_text.true))
+returns-then-have_same_text-clause-order g c = grind (arith, equal_texts_are_equal_in_order)
 
 pub returns-then-have_same_text-clause-equal : goal.returns-then-have_same_text-clause-equal
-returns-then-have_same_text-clause-equal g c =
-    let meaning = meaning_under g.K.Kind.kind (g.S.SchemeRules.rules_of c.args.rules.now) in
-    (λ r. ap meaning (c.have_same_text.ensures.same.0 c.if-have_same_text.true), λ e. refl)
+returns-then-have_same_text-clause-equal g c = grind arith
