@@ -7,12 +7,12 @@ pub use Rattle.std.proofs.Math.Utf8.{low_scalar}
 pub use Rattle.std.proofs.NetLemmas.Alphabet.{IsDigitOrDot}
 pub use Rattle.std.proofs.lemmas.Bool.{cases_Bool, cases_lt, cond-true, cond-false, and_parts, and_from, lt-ltb, both_ways, eqb-true, or_right, le-ltb, not-true, not_from_false, ltb-true, false_from_ne_true, and_right, cond_both, and_left, false≢true, agree_below_at, ne_eqb, or_parts, or_from, leb-true, or_left, not-false, or_cases, and_cases, ltb-false, true≢false, lt-leb, agree_below, eqb-false}
 pub use Rattle.std.proofs.lemmas.Bool.Decides.{nat_tests, Decides-eqb, Decides-and, Decides-like}
-pub use Rattle.std.proofs.lemmas.Grind.{take-set_at}
+pub use Rattle.std.proofs.lemmas.Grind.{common_steps}
 pub use Rattle.std.proofs.lemmas.List.{append-nil, map-append, length-drop, take_all, nil_from_length, take-append-drop, get_or_append_left, get_or_at, length-take, drop_all, take-append-le, drop_more, get_or-drop, take_at, drop_at, take_more, get_or_past, length-replicate, drop-drop, length-map, get_or-take, length-take-le, take-take, drop-append-le, get_or-append-add, length-set, take_more_set}
 pub use Rattle.std.proofs.lemmas.List.Concat.{flat_map-append}
 pub use Rattle.std.proofs.lemmas.List.Elements.{All-weaker, All-nil, All-cons, All-append, All-replicate, All-get_or, All-head, All-tail, All-from_get_or}
 pub use Rattle.std.proofs.lemmas.List.Folds.{list_all-append, list_any-append}
-pub use Rattle.std.proofs.lemmas.List.Sums.{list_all-from_AllPass, AllPass-from_list_all}
+pub use Rattle.std.proofs.lemmas.List.Sums.{list_all-from_AllPass}
 pub use Rattle.std.proofs.lemmas.Result.{IfErr-weaker, IfOk-weaker, on_ok_weaker}
 pub use Rattle.std.proofs.lemmas.Slice.Eq.{bytes_eq-Decides, slice_eq-Decides}
 pub use Rattle.std.proofs.lemmas.Str.{IsUtf8-from_is_utf8, is_utf8-from_IsUtf8, IsUtf8-append, IsUtf8-nil, chars-encodes, chars-IsAscii, encode_ascii, encode_same, length-encode, len_utf8_bounds, chars-append, chars-nil, IsUtf8-take, IsUtf8-drop, IsCharBoundary-before_ascii, cons_from_encodes, IsCharBoundary-from_take, IsUtf8-from_ascii, IsAscii-append, IsAscii-drop, IsAscii-take, encodes-chars, scalars-chars, IsUtf8-encode, IsCharBoundary-from_rest, IsCharBoundary-after_ascii, IsCharBoundary-from_drop, IsCharBoundary-at_seam, IsCharBoundary-start, IsUtf8-past_char, chars_past_char, IsUtf8-string_bytes, IsUtf8-had}
@@ -28,19 +28,19 @@ unfoldable pub use Rattle.std.specs.Net.Reader.{read_ipv6, read_ipv4, read_octet
 pub use Rattle.std.specs.Net.Text.{groups_text, zero_run, longest_zero_run, compressed_text}
 unfoldable pub use Rattle.std.specs.Net.Text.{ipv6_text, hex, hex_groups_text}
 pub use Rattle.std.specs.Option.{option_map_or, option_and_then, option_eq, option_or}
-pub use Rattle.std.specs.Prelude.{codes, Option, Some, None, IfSome, IfNone, is_some, slice_index, unwrap_or, Result, Ok, is_none, is_ok, ◌==◌, bytes_eq, ◌↔◌, slice_range, IfErr, IsErrAnd, IfOk, ⊤, OnOk}
+pub use Rattle.std.specs.Prelude.{codes, Option, Some, None, IfSome, IfNone, is_some, slice_index, unwrap_or, Result, Ok, is_none, is_ok, ◌==◌, bytes_eq, ◌↔◌, slice_range, IfErr, IsErrAnd, IfOk, ⊤}
 pub use Rattle.std.specs.Result.{result_map_both}
 pub use Rattle.std.specs.Str.{IsUtf8, is_utf8, encode_utf8_all, all_scalars, str_to_ascii_lowercase, IsAscii, IsCharBoundary, continuation_len}
 unfoldable pub use Rattle.std.specs.Str.{chars}
 pub use Rattle.std.specs.Str.Iter.{chars_rest}
-pub use Rattle.uri_ops.specs.BuilderParts.{lacks_host_and_port, lacks_port, AddsOrFails, AddsUnlessFailed, BuilderParts, with_authority, with_fragment, with_path, with_query, with_scheme, with_more_authority, MeetsOrFailed, as_components, meet_rules, parts_text, with_host, with_port, with_userinfo, no_parts}
+pub use Rattle.uri_ops.specs.BuilderParts.{lacks_host_and_port, lacks_port, AddsOrFails, AddsUnlessFailed, BuilderParts, with_authority, with_fragment, with_path, with_query, with_scheme, with_more_authority, MeetsOrFailed, as_components, meet_rules, parts_text, with_host, with_port, with_userinfo}
 unfoldable pub use Rattle.uri_ops.specs.BuilderParts.{is_authority_text, is_scheme_text, is_text_for}
-pub use Rattle.uri_ops.specs.Builders.{draft_parts, lacks_query_and_fragment, lacks_all, lacks_authority, lacks_path, any_authority, ends_in_authority, is_at_end, has_path, has_path_before_fragment, has_path_last, has_needed_scheme, is_fresh_reference}
+pub use Rattle.uri_ops.specs.Builders.{draft_parts, lacks_query_and_fragment, lacks_all, lacks_authority, lacks_path, any_authority, ends_in_authority, is_at_end, has_path, has_path_before_fragment, has_path_last, has_needed_scheme}
 unfoldable pub use Rattle.uri_ops.specs.Builders.{is_in_order, is_fresh}
 pub use Rattle.uri_ops.specs.Built.{IsTextOfParts, refusal}
 unfoldable pub use Rattle.uri_ops.specs.Built.{build_error_of_path}
 pub use Rattle.uri_ops.specs.ComponentSets.{IsComponentSet, HasComponentSets, IsWithin}
-pub use Rattle.uri_ops.specs.Dots.{is_empty, has_slash, IsAbsolute, before_last_slash, is_dot_segment, is_double_dot, is_single_dot, lacks_dot_segments, dots, segments, EndsInSlash, Buffers, or_slash, step, buffers_after_removal, last_segment, up_to_last_slash}
+pub use Rattle.uri_ops.specs.Dots.{is_empty, has_slash, IsAbsolute, before_last_slash, is_dot_segment, is_double_dot, is_single_dot, lacks_dot_segments, dots, segments, EndsInSlash, Buffers, or_slash, step, buffers_after_removal, last_segment}
 unfoldable pub use Rattle.uri_ops.specs.Dots.{remove_dot_segments, underflows, directory, run}
 pub use Rattle.uri_ops.specs.Drafts.{after_part, parts_in, part_in, IsDraft, lengths_of}
 pub use Rattle.uri_ops.specs.Encoded.{ascii_set, ascii_kind, encode_byte_past_ascii}
@@ -57,10 +57,10 @@ pub use Rattle.uri_ops.specs.Meaning.{Name, host_meaning, authority_meaning, dot
 pub use Rattle.uri_ops.specs.Models.Decodings.{lowered_code_if, lowered_if, cased_append, lowered_text_if, IsOctetAt, KeepsPrefixWhenDecoded, decoded_parts, decoded_text, AppendsDecodedParts}
 pub use Rattle.uri_ops.specs.Models.Directories.{BeginsWith, EndsIn, IsDotlessDirectory, RemovalState, parent_directory, IsCutAtSegment}
 pub use Rattle.uri_ops.specs.Models.DraftPlaces.{IsHostAtIfSome, IsHostAt, HasRightHostRange, authority_positions_from_length, positions_from_lengths, delimited_len}
-pub use Rattle.uri_ops.specs.Models.LeadingSegments.{begins_with_dot, BeginsWithoutDotSegment, dot_len, ends_segment, IsPrefixToSlashDot, IsDotlessPrefix, has_slash_dot_at, IsFirstSegment, DescribesLeadingDots}
+pub use Rattle.uri_ops.specs.Models.LeadingSegments.{begins_with_dot, BeginsWithoutDotSegment, dot_len, ends_segment, IsPrefixToSlashDot, IsDotlessPrefix, has_slash_dot_at, IsFirstSegment}
 pub use Rattle.uri_ops.specs.Models.Places.{before_path, IsSlashOrStart}
 pub use Rattle.uri_ops.specs.Models.RuledComponents.{changed_components, has_default_host, has_root_path, is_text, ruled_text, ruled_components, ruled_path, ruled_authority}
-pub use Rattle.uri_ops.specs.Models.TargetCases.{IsCaseOf, target_in_case, IsDottedTarget}
+pub use Rattle.uri_ops.specs.Models.TargetCases.{IsCaseOf, target_in_case}
 pub use Rattle.uri_ops.specs.Models.TargetPieces.{HasJoinedPath, IsDirectoryOfBase}
 pub use Rattle.uri_ops.specs.Models.Unchanged.{is_literal_at, HasUnchangedOctets, has_unchanged_octets, is_octet_unchanged_at, is_unchanged_octet, keeps_digits, is_dot_unchanged_at, is_literal_byte, is_unchanged_at, IsUnchangedPath, IsUnchangedHost, is_unchanged_host_byte, AreUnchanged, IsUnchangedPort, KindLacksPastAscii, IsUnchangedPrefix, IsLiteralRun}
 pub use Rattle.uri_ops.specs.Models.Written.{authority_parts_at, positions_by_authority_parts}
@@ -101,13 +101,13 @@ pub use Rattle.uri_pct.specs.EncodedTexts.{text_of}
 pub use Rattle.uri_pct.specs.Encoding.{encode_char, encode_text, encode_piece}
 pub use Rattle.uri_pct.specs.Parts.{ArePastAscii, Decoded, parts, Part, Literal}
 unfoldable pub use Rattle.uri_pct.specs.Parts.{parts_from}
-pub use Rattle.uri_pct.specs.Pieces.{utf8_pieces, Piece, WellFormed, IllFormed, ByteRange, piece_bytes, char_of, is_in_byte_range, len_in_ranges, first_piece_tail_len, first_piece, following_ranges, IsOfCharacter}
+pub use Rattle.uri_pct.specs.Pieces.{utf8_pieces, Piece, WellFormed, IllFormed, ByteRange, piece_bytes, char_of, len_in_ranges, first_piece_tail_len, first_piece, following_ranges, IsOfCharacter}
 unfoldable pub use Rattle.uri_pct.specs.Pieces.{pieces_from}
 pub use Rattle.uri_pct.specs.Prefixes.{first_char}
 unfoldable pub use Rattle.uri_pct.specs.Prefixes.{allows_first, begins_with_hex_digits}
 pub use Rattle.uri_pct.specs.Sets.{TableSet, LacksPercent, digit_set, is_userinfo_char, allows, is_scheme_char, scheme_set, is_one_of, reg_name_set, is_unreserved, unreserved_set, IsSubset, ipv_future_set, is_reg_name_char, is_pchar, is_path_char, is_query_char, ireg_name_set}
 unfoldable pub use Rattle.uri_pct.specs.Sets.{allows_past_ascii, is_ucschar, is_iprivate}
 pub use Rattle.uri_pct.specs.Tables.{set_of}
-pub use Rattle.uri_pct.specs.Texts.{lacks, is_absolute, Pushes}
+pub use Rattle.uri_pct.specs.Texts.{lacks, is_absolute}
 pub use Rattle.uri_pct.specs.Tokens.{IsValidFor, Token, Char, Octet, tokens, allows_token, bytes_decoded_from, bytes_of_one_token, text_of_token, print}
 unfoldable pub use Rattle.uri_pct.specs.Tokens.{is_valid_for, tokens_from_chars, is_pct_encoded}

@@ -1,5 +1,5 @@
 -- An authority without characters past ASCII is one, and has the meaning of the authority.
-use Rattle.uri_ops.proofs.Common.{◌≡◌, ℕ, Bool, true, ltb, List, [], ◌∷◌, ◌++◌, map, refl, sym, ap, subst, ◌∙◌, inl, inr, option_map, arith, codes, Option, Some, None, IfSome, is_ascii_digit, list_all, IsUtf8, IsDotted, list_all-append, list_all-from_AllPass, All-weaker, and_parts, and_from, nat_tests, IsDigitOrDot, TableSet, digit_set, is_userinfo_char, IsValidFor, decode_unreserved, lower_token, excludes, marked, HostKind, Ipv4, Ipv6, IpvFuture, RegName, IsHost, bracketed, host_kind, ipv4_value, AuthorityParts, IsAuthorityFor, LackAuthorityDelimiters, authority_parts, recompose_authority, Kind, is_authority, is_authority_for-sound, is_authority_for-complete, authority_parts-are-unique, names_exclude_delimiters, is_address_char, is_address_text, ipv6-text-is-address-text, is_host-sound, lacking_text_does_not_begin_with, address-in-brackets-is-utf8, valid_text_lacks_excluded_marks, ipv4-text-is-digits-and-dots, IsComponentSet, HasComponentSets, encode_past_ascii, ascii_set, ascii_kind, Name, host_meaning, authority_meaning, IfSome-combine}
+use Rattle.uri_ops.proofs.Common.{◌≡◌, ℕ, Bool, true, ltb, List, [], ◌∷◌, map, refl, sym, ap, subst, ◌∙◌, inl, inr, option_map, arith, codes, Option, Some, None, IfSome, is_ascii_digit, list_all, IsUtf8, IsDotted, list_all-append, list_all-from_AllPass, All-weaker, and_parts, and_from, nat_tests, IsDigitOrDot, TableSet, digit_set, is_userinfo_char, IsValidFor, decode_unreserved, lower_token, excludes, HostKind, Ipv4, Ipv6, IpvFuture, RegName, IsHost, bracketed, host_kind, ipv4_value, AuthorityParts, IsAuthorityFor, LackAuthorityDelimiters, authority_parts, recompose_authority, Kind, is_authority, is_authority_for-sound, is_authority_for-complete, authority_parts-are-unique, names_exclude_delimiters, is_address_char, is_address_text, ipv6-text-is-address-text, is_host-sound, lacking_text_does_not_begin_with, address-in-brackets-is-utf8, valid_text_lacks_excluded_marks, ipv4-text-is-digits-and-dots, IsComponentSet, HasComponentSets, encode_past_ascii, ascii_set, ascii_kind, Name, host_meaning, authority_meaning, IfSome-combine}
 use Rattle.uri_ops.proofs.Meanings.AllowedParts.{is_set_text, set-text-from-utf8, set-text-is-utf8, set-text-is-valid}
 use Rattle.uri_ops.proofs.Meanings.AsciiCharacters.{is_ascii_in, valid_ascii_text}
 use Rattle.uri_ops.proofs.Meanings.HostMeanings.{address-characters-are-ascii, ipvfuture-has-ascii-parts, ipvfuture-is-userinfo-characters, meaning-of-name-is-lowered-decoded, unbracketed-valid-text-is-name}
@@ -129,12 +129,7 @@ encoded_authority_parts p = record {
 pub encoding-and-recomposing-authority-swap : (p : AuthorityParts)
     → encode_past_ascii (recompose_authority p) ≡ recompose_authority (encoded_authority_parts p)
 encoding-and-recomposing-authority-swap p =
-    let port = marked (codes ":") p.port [] in
-    encoding-of-append-is-append _ _
-    ∙ ap (λ x. x ++ encode_past_ascii (p.host ++ port)) (encoding-keeps-delimiters [] _ _ refl refl)
-    ∙ ap (λ x. marked [] (option_map encode_past_ascii p.userinfo) (codes "@") ++ x)
-    (encoding-of-append-is-append _ _ ∙ ap (λ x. encode_past_ascii p.host ++ x)
-    (encoding-keeps-delimiters (codes ":") [] p.port refl refl))
+    grind (arith, encoding-of-append-is-append, encoding-keeps-delimiters)
 
 -- IRIs as URIs: encoding characters past ASCII leaves the digits of a port
 port-digits-are-unchanged-when-encoded : (text : List ℕ)

@@ -1,6 +1,6 @@
 -- A text without characters past ASCII is of the kind of URIs that goes with its kind. It is
 -- equivalent to the text that it was made from.
-use Rattle.uri_ops.proofs.Common.{◌≡◌, ℕ, true, false, eqb, ltb, not, List, refl, sym, ap, subst, ◌∙◌, ◌&&◌, ◌||◌, option_map, arith, codes, Option, Some, None, IfSome, is_some, slice_index, is_ascii_alphabetic, list_all, list_any, IsUtf8, and_parts, and_from, not-true, not_from_false, nat_tests, TableSet, is_scheme_char, scheme_set, is_valid_for, decode_unreserved, AreAscii-by-test, Components, before_any, Kind, is_scheme, is_authority, has_colon_in_first_segment, components_meet_rules, IsTextOf, utf8_before_marks, dotless_if_absolute, HasComponentSets, PortFunction, authority_meaning, dotless_path, components_meaning, meaning_of, Rules, meaning_under, under_rules, encode_past_ascii, ascii_set, ascii_kind}
+use Rattle.uri_ops.proofs.Common.{◌≡◌, ℕ, true, false, eqb, ltb, not, List, refl, ap, ◌∙◌, ◌&&◌, ◌||◌, option_map, arith, codes, Option, Some, None, IfSome, is_some, list_all, list_any, IsUtf8, nat_tests, TableSet, decode_unreserved, AreAscii-by-test, Components, before_any, Kind, is_scheme, is_authority, has_colon_in_first_segment, components_meet_rules, IsTextOf, utf8_before_marks, HasComponentSets, PortFunction, authority_meaning, dotless_path, components_meaning, meaning_of, Rules, meaning_under, under_rules, encode_past_ascii, ascii_set, ascii_kind}
 use Rattle.uri_ops.proofs.Paths.PathCharacters.{lacked-delimiters-fail-test, test-of-delimiters-gives-lacks}
 use Rattle.uri_ops.proofs.Meanings.Lacking.{lacks_any-gives-lacks, lacks-gives-lacks_any}
 use Rattle.uri_ops.proofs.Meanings.AllowedParts.{is_set_text, set-text-is-utf8}
@@ -18,9 +18,12 @@ use Rattle.uri_ops.proofs.AsciiForms.EncodedAuthorities.{text-passing-ascii-test
 pub schemes-are-ascii : (s : List ℕ) → IsUtf8 s → is_scheme s ≡ true → list_all (λ c. ltb c 128) s
     ≡ true
 schemes-are-ascii s u e =
-    let p = and_parts (is_ascii_alphabetic (slice_index s 0)) (is_valid_for scheme_set s) e in
-    text-passing-ascii-test-is-ascii is_scheme_char s
-    (sym (valid_ascii_text is_scheme_char percent-is-no-scheme-character s u) ∙ p.1)
+    grind (
+      arith,
+      text-passing-ascii-test-is-ascii,
+      valid_ascii_text,
+      percent-is-no-scheme-character,
+    )
 
 -- IRIs as URIs: encoding characters past ASCII leaves a scheme
 scheme-is-unchanged-when-encoded : (s : List ℕ) → IsUtf8 s → is_scheme s ≡ true
@@ -72,21 +75,19 @@ module _ (kind : Kind) (sets : HasComponentSets kind) where
   encoding-keeps-scheme-or-colon-rule (Some s) authority path part h = refl
   encoding-keeps-scheme-or-colon-rule None (Some a) path part h = h
   encoding-keeps-scheme-or-colon-rule None None path part h =
-      let q = and_parts (not kind.needs_scheme) (not (has_colon_in_first_segment path)) h in
-      and_from _ _ q.0 (not_from_false _
-      (encoding-adds-no-colon-first path (set-text-is-utf8 kind.path path part) (not-true _ q.1)))
+      grind (arith, encoding-adds-no-colon-first, set-text-is-utf8)
 
   encoded-components-are-of-ascii_kind : (p : Components) → ArePartsOfKind kind p
       → ArePartsOfKind (ascii_kind kind) (encoded_components p)
-  encoded-components-are-of-ascii_kind p parts = record {
-    scheme = subst (λ o. IfSome o (λ s. IsUtf8 s × (is_scheme s ≡ true)))
-        (sym (schemes-are-unchanged-when-encoded _ parts.scheme)) parts.scheme;
-    authority = encoded-authority-if-some-is-of-ascii_kind _ parts.authority;
-    path = encoded-part-is-valid-for-ascii_set _ sets.path.octets _ parts.path;
-    query = encoded-component-is-for-ascii_set _ sets.query.octets _ parts.query;
-    fragment = encoded-component-is-for-ascii_set _ sets.fragment.octets _ parts.fragment;
-    needs = encoding-keeps-scheme-or-colon-rule _ _ _ parts.path parts.needs;
-  }
+  encoded-components-are-of-ascii_kind p parts =
+      grind (
+        arith,
+        schemes-are-unchanged-when-encoded,
+        encoded-authority-if-some-is-of-ascii_kind,
+        encoded-part-is-valid-for-ascii_set,
+        encoded-component-is-for-ascii_set,
+        encoding-keeps-scheme-or-colon-rule,
+      )
 
   pub encoded-text-is-of-ascii_kind : (text : List ℕ) → IsTextOf kind text
       → IsTextOf (ascii_kind kind) (encode_past_ascii text)
@@ -110,10 +111,14 @@ module _ (kind : Kind) (sets : HasComponentSets kind) where
       → is_set_text kind.path path ≡ true → decode_unreserved kind.path (dotless_path scheme
       (encode_past_ascii path)) ≡ decode_unreserved kind.path (dotless_path scheme path)
   encoding-keeps-path-meaning None path part = decode_unreserved-of-encoded-text kind.path path part
-  encoding-keeps-path-meaning (Some s) path part = ap (decode_unreserved kind.path)
-      (dotless_if_absolute-and-encoding-swap path (set-text-is-utf8 kind.path path part))
-      ∙ decode_unreserved-of-encoded-text kind.path (dotless_if_absolute path)
-      (path-without-dots-is-set-text kind.path sets.path sets.slash path part)
+  encoding-keeps-path-meaning (Some s) path part =
+      grind (
+        arith,
+        dotless_if_absolute-and-encoding-swap,
+        set-text-is-utf8,
+        decode_unreserved-of-encoded-text,
+        path-without-dots-is-set-text,
+      )
 
   encoding-keeps-components_meaning : (ports : PortFunction) (p : Components)
       → ArePartsOfKind kind p

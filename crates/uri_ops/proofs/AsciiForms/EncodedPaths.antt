@@ -257,11 +257,13 @@ directory-and-encoding-swap = rooted _ (λ u. ap directory encoding-of-nil-is-ni
 pub dotless_if_absolute-and-encoding-swap : (path : List ℕ) → IsUtf8 path
     → dotless_if_absolute (encode_past_ascii path) ≡ encode_past_ascii (dotless_if_absolute path)
 dotless_if_absolute-and-encoding-swap path u =
-    let first = encoding-keeps-leading-delimiter 47 refl path in
-    ⊎_elim (λ e. cond-true _ _ _ (first ∙ e)
-    ∙ removing-dots-and-encoding-swap path (equal-to-true-is-IsTrue _ e) u
-    ∙ ap encode_past_ascii (sym (cond-true _ _ _ e))) (λ e. cond-false _ _ _ (first ∙ e)
-    ∙ ap encode_past_ascii (sym (cond-false _ _ _ e))) (cases_Bool (starts 47 path))
+    grind (
+      arith,
+      encoding-keeps-leading-delimiter,
+      removing-dots-and-encoding-swap,
+      equal-to-true-is-IsTrue,
+      starts,
+    )
 
 -- IRIs as URIs: putting the guard `/.` before a path and encoding it may swap
 pub guarding-and-encoding-swap : (authority other : Option (List ℕ)) (path : List ℕ)

@@ -1,5 +1,5 @@
 -- Where the components of a text are once its characters past ASCII are octets.
-use Rattle.uri_ops.proofs.Common.{◌≡◌, ℕ, ◌+◌, ◌-◌, ◌<◌, ◌≤◌, true, List, [], ◌∷◌, ◌++◌, length, take, drop, refl, sym, ap, subst, ◌∙◌, arith, append_assoc, append-nil, length-append, option_map, lit<, codes, Option, Some, None, IfSome, unwrap_or, IsUtf8, take-add, take-append_seam, nat_tests, AuthorityPositions, Positions, AuthorityParts, authority_parts, recompose_authority, Components, components, marked, Kind, is_authority, IsTextOf, ArePositionsOf, authority_at, host_end_of, host_start_of, delimited_length, positions_of, is_authority_for-sound, recompose-components, HasComponentSets, encode_past_ascii, authority_parts_at, positions_by_authority_parts}
+use Rattle.uri_ops.proofs.Common.{common_steps, ◌≡◌, ℕ, ◌+◌, ◌-◌, ◌<◌, ◌≤◌, true, List, [], ◌∷◌, ◌++◌, length, take, drop, refl, sym, ap, subst, ◌∙◌, arith, append_assoc, append-nil, length-append, option_map, lit<, codes, Option, Some, None, IfSome, unwrap_or, IsUtf8, take-add, take-append_seam, nat_tests, AuthorityPositions, Positions, AuthorityParts, authority_parts, recompose_authority, Components, components, marked, Kind, is_authority, IsTextOf, ArePositionsOf, authority_at, host_end_of, host_start_of, delimited_length, positions_of, is_authority_for-sound, recompose-components, HasComponentSets, encode_past_ascii, authority_parts_at, positions_by_authority_parts}
 use Rattle.uri_ops.specs.Models.EncodedPlaces.{ArePositionsOrdered, AreAuthorityPositionsOrdered, authority_positions_in_encoded, position_in_encoded, positions_in_encoded}
 use Rattle.uri_ops.proofs.AsciiForms.EncodedAuthorities.{parts-of-encoded-authority-are-encoded, encoded_authority_parts, encoding-and-recomposing-authority-swap}
 use Rattle.uri_ops.proofs.AsciiForms.EncodedComponents.{components-of-encoded-text-are-encoded, encoded_components, encoding-keeps-delimiters}
@@ -205,11 +205,14 @@ module _ (kind : Kind) (sets : HasComponentSets kind) (text : List ℕ) (w : IsT
   pub encoded-positions-are-right : (positions : Positions) → ArePositionsOf text positions
       → ArePositionsOf (encode_past_ascii text) (positions_in_encoded text positions)
   encoded-positions-are-right positions at =
-      let t = encoded_components c in
-      ap (positions_in_encoded text) at ∙ encoded-positions-are-by-encoded-components
-      ∙ positions-with-parts-are-of-components t _ (parts-of-encoded-authority-have-positions _ sets
-      _ _ (text-has-parts-of-kind _ _ w).authority)
-      ∙ ap positions_of (sym (components-of-encoded-text-are-encoded _ w.utf8))
+      grind (
+        arith,
+        encoded-positions-are-by-encoded-components,
+        positions-with-parts-are-of-components,
+        parts-of-encoded-authority-have-positions,
+        text-has-parts-of-kind,
+        components-of-encoded-text-are-encoded,
+      )
 
   -- the positions are in order
   authority-positions-are-in-order : (before : ℕ) (o : Option (List ℕ))
@@ -218,19 +221,7 @@ module _ (kind : Kind) (sets : HasComponentSets kind) (text : List ℕ) (w : IsT
       (AreAuthorityPositionsOrdered (before + delimited_length 2 o))
   authority-positions-are-in-order before None h = tt
   authority-positions-are-in-order before (Some a) h =
-      let q = authority_parts a in
-      let U : List ℕ = marked [] q.userinfo (codes "@") in
-      let P : List ℕ = marked (codes ":") q.port [] in
-      let whole : recompose_authority q ≡ a = (is_authority_for-sound _ _ a h.1).whole in
-      let n : length a ≡ length U + (length q.host + length P) =
-      omega (arith, ap length whole, length-append U (q.host ++ P), length-append q.host P) in
-      let u = length-with-delimiter-after q.userinfo 64 in
-      record {
-        userinfo = omega arith;
-        host = omega arith;
-        port = omega (arith, n, u);
-        end = omega arith;
-      }
+      grind (arith, common_steps, is_authority_for-sound, length-with-delimiter-after)
 
   query-end-is-in-order : (place : ℕ) (o : Option (List ℕ)) (end : ℕ) (before suffix : List ℕ)
       → place ≡ length before → end ≡ length (before ++ (marked (codes "?") o [] ++ suffix))
@@ -239,17 +230,7 @@ module _ (kind : Kind) (sets : HasComponentSets kind) (text : List ℕ) (w : IsT
   query-end-is-in-order place None end before suffix k e =
       (omega arith, omega (arith, k, e, length-append before suffix))
   query-end-is-in-order place (Some q) end before suffix k e =
-      let marks : List ℕ = marked (codes "?") (Some q) [] in (
-        omega arith,
-        omega (
-          arith,
-          k,
-          e,
-          length-append before (marks ++ suffix),
-          length-append marks suffix,
-          length-with-delimiter-before (codes "?") (Some q),
-        ),
-      )
+      grind (arith, common_steps, length-with-delimiter-before)
 
   pub positions-are-ordered : (positions : Positions) → ArePositionsOf text positions
       → ArePositionsOrdered (length text) positions

@@ -1,5 +1,5 @@
 -- The bytes of a text are encoded in runs.
-use Rattle.uri_ops.proofs.Common.{◌≡◌, ℕ, zero, suc, ◌+◌, ◌-◌, ◌<◌, ◌≤◌, List, [], ◌∷◌, ◌++◌, length, get_or, take, drop, sym, ap, subst, ◌∙◌, arith, append_assoc, take-add, append-nil, length-append, length-drop, take_all, nat_tests, encode_past_ascii}
+use Rattle.uri_ops.proofs.Common.{common_steps, ◌≡◌, ℕ, zero, suc, ◌+◌, ◌-◌, ◌<◌, ◌≤◌, List, [], ◌++◌, length, get_or, take, drop, sym, ap, subst, ◌∙◌, arith, append_assoc, take-add, append-nil, length-append, length-drop, take_all, nat_tests, encode_past_ascii}
 use Rattle.uri_ops.proofs.AsciiForms.EncodedTokens.{octet_text}
 use Rattle.uri_ops.proofs.AsciiForms.EncodedPaths.{encoding-of-append-is-append, encoding-of-nil-is-nil, encoding-starts-with-ascii-byte, encoding-starts-with-octet}
 use Rattle.uri_ops.proofs.Paths.DotStarts.{take-one-more-byte}
@@ -10,11 +10,13 @@ pub ascii-prefix-grows-by-byte : (bytes : List ℕ) (i : ℕ)
     → i < length bytes → get_or bytes i 0 < 128 → encode_past_ascii (take i bytes) ≡ take i bytes
     → encode_past_ascii (take (i + 1) bytes) ≡ take (i + 1) bytes
 ascii-prefix-grows-by-byte bytes i h low e =
-    let m = take-one-more-byte bytes i h in
-    ap encode_past_ascii m ∙ encoding-of-append-is-append (take i bytes) (get_or bytes i 0 ∷ [])
-    ∙ ap (λ t. t ++ encode_past_ascii (get_or bytes i 0 ∷ [])) e ∙ ap (λ t. take i bytes ++ t)
-    (encoding-starts-with-ascii-byte (get_or bytes i 0) [] low
-    ∙ ap (λ t. get_or bytes i 0 ∷ t) encoding-of-nil-is-nil) ∙ sym m
+    grind (
+      arith,
+      take-one-more-byte,
+      encoding-of-append-is-append,
+      encoding-starts-with-ascii-byte,
+      encoding-of-nil-is-nil,
+    )
 
 -- IRIs as URIs: the encoding of a prefix, and an ASCII run after it, is the encoding of both
 pub encoding-grows-by-ascii-run : (bytes : List ℕ) (i n : ℕ)
@@ -27,11 +29,14 @@ encoding-grows-by-ascii-run bytes i n e =
 pub encoding-grows-by-octet : (bytes : List ℕ) (i : ℕ) → i < length bytes → 128 ≤ get_or bytes i 0
     → encode_past_ascii (take (i + 1) bytes)
     ≡ encode_past_ascii (take i bytes) ++ octet_text (get_or bytes i 0)
-encoding-grows-by-octet bytes i h high = ap encode_past_ascii (take-one-more-byte _ i h)
-    ∙ encoding-of-append-is-append _ _ ∙ ap (λ t. encode_past_ascii (take i bytes) ++ t)
-    (encoding-starts-with-octet _ [] high
-    ∙ ap (λ t. octet_text (get_or bytes i 0) ++ t) encoding-of-nil-is-nil
-    ∙ append-nil (octet_text (get_or bytes i 0)))
+encoding-grows-by-octet bytes i h high =
+    grind (
+      arith,
+      take-one-more-byte,
+      encoding-of-append-is-append,
+      encoding-starts-with-octet,
+      encoding-of-nil-is-nil,
+    )
 
 -- IRIs as URIs: a prefix of bytes below 128 is its own encoding
 pub ascii-run-is-unchanged-when-encoded : (bytes : List ℕ) (n : ℕ) → n ≤ length bytes
@@ -48,10 +53,14 @@ pub ascii-byte-adds-one : (bytes : List ℕ) (i : ℕ) → i < length bytes → 
     → length (encode_past_ascii (take (i + 1) bytes))
     ≡ length (encode_past_ascii (take i bytes)) + 1
 ascii-byte-adds-one bytes i h low =
-    let more = encode_past_ascii (take i bytes) in
-    ap length (ap encode_past_ascii (take-one-more-byte _ i h) ∙ encoding-of-append-is-append _ _
-    ∙ ap (λ t. more ++ t) (encoding-starts-with-ascii-byte _ [] low
-    ∙ ap (λ t. get_or bytes i 0 ∷ t) encoding-of-nil-is-nil)) ∙ length-append more _
+    grind (
+      arith,
+      common_steps,
+      take-one-more-byte,
+      encoding-of-append-is-append,
+      encoding-starts-with-ascii-byte,
+      encoding-of-nil-is-nil,
+    )
 
 -- IRIs as URIs: a byte past ASCII makes the encoded text three bytes longer
 pub byte-past-ascii-adds-three : (bytes : List ℕ) (i : ℕ)

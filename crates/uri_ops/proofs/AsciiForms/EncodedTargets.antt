@@ -1,5 +1,5 @@
 -- Without characters past ASCII a base and a reference come to the same target without them.
-use Rattle.uri_ops.proofs.Common.{◌≡◌, ℕ, Bool, true, false, cond, List, [], ◌∷◌, ◌++◌, refl, sym, ap, subst, ◌∙◌, ◌&&◌, ⊎_elim, option_map, arith, Option, Some, None, Result, Ok, Err, is_some, is_none, is_ok, result_map_both, list_all, IsUtf8, is_utf8, IsUtf8-append, IsUtf8-nil, IsUtf8-from_is_utf8, is_utf8-from_IsUtf8, cases_Bool, cond_both, and_parts, and_from, and_left, false≢true, nat_tests, Components, starts, IsAbemptyPath, components, recompose, components-are-split-of-text, equal-to-true-is-IsTrue, components_of_parts, is_empty, underflows, directory, TargetError, is_opaque_rejection, merged, dotted_target, dotless_if_absolute, guarded, target_of, target_underflows, resolution_of, encode_past_ascii, IsTargetOfEncoded, IsErrorForEncoded, IsTarget, IsErrorFor, ResolveError, is_none-option_map, is_some-option_map, not_some_is_none}
+use Rattle.uri_ops.proofs.Common.{◌≡◌, ℕ, Bool, true, false, cond, List, [], ◌∷◌, ◌++◌, refl, sym, ap, subst, ◌∙◌, ◌&&◌, option_map, arith, Option, Some, None, Result, Ok, Err, is_some, is_none, is_ok, result_map_both, list_all, IsUtf8, is_utf8, IsUtf8-append, IsUtf8-nil, IsUtf8-from_is_utf8, is_utf8-from_IsUtf8, cond_both, and_parts, and_from, false≢true, nat_tests, Components, starts, IsAbemptyPath, components, recompose, components-are-split-of-text, equal-to-true-is-IsTrue, components_of_parts, is_empty, underflows, directory, TargetError, is_opaque_rejection, merged, dotted_target, dotless_if_absolute, guarded, target_of, target_underflows, resolution_of, encode_past_ascii, IsTargetOfEncoded, IsErrorForEncoded, IsTarget, IsErrorFor, ResolveError, is_none-option_map, is_some-option_map, not_some_is_none}
 use Rattle.uri_ops.proofs.Paths.Segments.{AllPass, appended-segments-pass-test}
 use Rattle.uri_ops.proofs.Paths.SlashedSegments.{slashed, directory-by-segments, parent-segments-pass-test}
 use Rattle.uri_ops.proofs.Paths.DotLaws.{property-of-absolute-path-by-segments, rooted}
@@ -106,10 +106,12 @@ guarding-dotless-path-and-encoding-swap : (t : Components) → IsUtf8 t.path
     ≡ encoded_components (with_guarded_dotless_path t)
 unfolding with_guarded_dotless_path
 guarding-dotless-path-and-encoding-swap t u =
-    let path = ap (guarded (option_map encode_past_ascii t.authority))
-    (dotless_if_absolute-and-encoding-swap _ u)
-    ∙ guarding-and-encoding-swap _ _ _ (is_none-option_map _ _) in
-    λ i. record (encoded_components t) { path = path i }
+    grind (
+      arith,
+      dotless_if_absolute-and-encoding-swap,
+      guarding-and-encoding-swap,
+      is_none-option_map,
+    )
 
 -- IRIs as URIs: encoded components resolve to the encoded target; r: the reference
 target_of-encoded-components : (base r : Components) → AreUtf8 base → AreUtf8 r
@@ -170,10 +172,14 @@ resolving-and-encoding-swap b t u v =
 encoding-keeps-absolute-path-underflow : (path : List ℕ) → IsUtf8 path
     → (starts 47 (encode_past_ascii path) && underflows (encode_past_ascii path))
     ≡ (starts 47 path && underflows path)
-encoding-keeps-absolute-path-underflow path u = ap (λ x. x && underflows (encode_past_ascii path))
-    (encoding-keeps-leading-delimiter 47 refl path) ∙ ⊎_elim (λ e. ap
-    (λ x. starts 47 path && x) (encoding-keeps-underflow path (equal-to-true-is-IsTrue _ e) u))
-    (λ e. and_left _ _ e ∙ sym (and_left _ _ e)) (cases_Bool (starts 47 path))
+encoding-keeps-absolute-path-underflow path u =
+    grind (
+      arith,
+      encoding-keeps-leading-delimiter,
+      starts,
+      encoding-keeps-underflow,
+      equal-to-true-is-IsTrue,
+    )
 
 -- IRIs as URIs: a target underflows exactly if the encoded target does; b, t: base and reference
 pub encoding-keeps-target-underflow : (b t target : List ℕ) → IsUtf8 b → IsUtf8 t

@@ -1,5 +1,5 @@
 -- The tokens of a text without characters past ASCII: the octets of each are in its place.
-use Rattle.uri_ops.proofs.Common.{◌≡◌, ℕ, ◌+◌, ◌*◌, ◌/◌, ◌%◌, ◌<◌, ◌≤◌, Bool, true, false, cond, eqb, ltb, List, [], ◌∷◌, ◌++◌, get_or, map, refl, sym, ap, subst, ◌∙◌, arith, ◌&&◌, ⊎_elim, append_assoc, IsScalar, encode_utf8, digit_value, is_ascii_hexdigit, digit_glyph, list_all, flat_map, chars, IsUtf8, encode_utf8_all, all_scalars, chars-encodes, chars-IsAscii, encode_ascii, append-nil, flat_map-append, list_all-append, cases_Bool, cases_lt, agree_below_at, cond-true, cond-false, and_left, and_right, and_from, and_parts, eqb-true, ltb-true, lt-ltb, le-ltb, nat_tests, Token, Char, Octet, tokens, tokens_from_chars, bytes_decoded_from, bytes_of_one_token, is_pct_encoded, text_of_token, begins_with_hex_digits, char_has_encoding, is_no_ascii_byte, char_past_ascii_begins_past_ascii, hexdigit_is_ascii, encode_byte_past_ascii, encode_past_ascii, chars_not_pct_encoded_begin_no_octet}
+use Rattle.uri_ops.proofs.Common.{common_steps, ◌≡◌, ℕ, ◌+◌, ◌*◌, ◌/◌, ◌%◌, ◌<◌, ◌≤◌, Bool, true, false, cond, eqb, ltb, List, [], ◌∷◌, ◌++◌, get_or, map, refl, sym, ap, subst, ◌∙◌, arith, ◌&&◌, ⊎_elim, append_assoc, IsScalar, encode_utf8, digit_value, is_ascii_hexdigit, digit_glyph, list_all, flat_map, chars, IsUtf8, encode_utf8_all, all_scalars, chars-encodes, chars-IsAscii, append-nil, list_all-append, cases_Bool, cases_lt, agree_below_at, cond-true, cond-false, and_left, and_right, and_from, and_parts, eqb-true, ltb-true, lt-ltb, le-ltb, nat_tests, Token, Char, Octet, tokens, tokens_from_chars, bytes_decoded_from, bytes_of_one_token, is_pct_encoded, text_of_token, begins_with_hex_digits, char_has_encoding, is_no_ascii_byte, char_past_ascii_begins_past_ascii, hexdigit_is_ascii, encode_byte_past_ascii, encode_past_ascii, chars_not_pct_encoded_begin_no_octet}
 use Rattle.uri_ops.proofs.Meanings.AsciiCharacters.{ascii-bytes-are-ascii-text, ascii-bytes-are-utf8}
 use Rattle.uri_pct.proofs.Offered.{past_ascii_is_no_hexdigit, octets_decode_to_their_bytes}
 
@@ -77,11 +77,13 @@ bytes-past-ascii-encode-to-octets (b ∷ bs) e =
 -- IRIs as URIs: the bytes of a character are encoded as the character is
 encoding-of-character-bytes : (c : ℕ) → flat_map encode_byte_past_ascii (encode_utf8 c)
     ≡ encoded_char c
-encoding-of-character-bytes c = ⊎_elim (λ h. ap (flat_map encode_byte_past_ascii) (encode_ascii c h)
-    ∙ append-nil (encode_byte_past_ascii c)
-    ∙ cond-true _ _ _ (lt-ltb c 128 h) ∙ sym (cond-true _ _ _ (lt-ltb c 128 h)))
-    (λ h. bytes-past-ascii-encode-to-octets _ (character-past-ascii-has-no-ascii-byte c h)
-    ∙ sym (cond-false _ _ _ (le-ltb c 128 h))) (cases_lt c 128)
+encoding-of-character-bytes c =
+    grind (
+      arith,
+      common_steps,
+      bytes-past-ascii-encode-to-octets,
+      character-past-ascii-has-no-ascii-byte,
+    )
 
 -- IRIs as URIs: a text is encoded character by character
 encoding-is-character-by-character : (cs : List ℕ) → encode_past_ascii (encode_utf8_all cs)
@@ -89,9 +91,7 @@ encoding-is-character-by-character : (cs : List ℕ) → encode_past_ascii (enco
 unfolding encode_past_ascii encoded_chars
 encoding-is-character-by-character [] = refl
 encoding-is-character-by-character (c ∷ cs) =
-    flat_map-append encode_byte_past_ascii (encode_utf8 c) (encode_utf8_all cs) ∙ ap
-    (λ t. t ++ flat_map encode_byte_past_ascii (encode_utf8_all cs)) (encoding-of-character-bytes c)
-    ∙ ap (λ t. encoded_char c ++ t) (encoding-is-character-by-character cs)
+    grind (arith, common_steps, encoding-of-character-bytes, encoding-is-character-by-character cs)
 
 -- IRIs as URIs: the digits that an octet is written with are ASCII
 hex-digit-glyphs-are-ascii : (v : ℕ) → v < 256
@@ -297,9 +297,7 @@ encoded-tokens-have-same-bytes : (ts : List Token) → bytes_decoded_from (flat_
     ≡ bytes_decoded_from ts
 encoded-tokens-have-same-bytes [] = refl
 encoded-tokens-have-same-bytes (t ∷ ts) =
-    flat_map-append bytes_of_one_token (encoded_token t) (flat_map encoded_token ts)
-    ∙ ap (λ x. x ++ bytes_decoded_from (flat_map encoded_token ts)) (encoded-token-has-same-bytes t)
-    ∙ ap (λ x. bytes_of_one_token t ++ x) (encoded-tokens-have-same-bytes ts)
+    grind (arith, common_steps, encoded-token-has-same-bytes, encoded-tokens-have-same-bytes ts)
 
 -- IRIs as URIs: an encoded text decodes to the same bytes as the text
 pub encoding-keeps-decoded-bytes : (text : List ℕ) → IsUtf8 text

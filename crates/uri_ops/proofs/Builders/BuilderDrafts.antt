@@ -1,5 +1,5 @@
 -- What each step of a builder makes of its draft: the text of the parts so changed.
-use Rattle.uri_ops.proofs.Common.{◌≡◌, ℕ, Bool, true, false, List, ◌++◌, length, sym, ap, ◌∙◌, append_assoc, refl, string_bytes, arith, codes, Some, is_none, IsUtf8, is_utf8-from_IsUtf8, and_parts, and_from, false≢true, nat_tests, TableSet, is_valid_for, is_scheme, Draft, Lengths, AddsOrFails, AddsUnlessFailed, BuilderParts, is_scheme_text, is_text_for, with_authority, with_fragment, with_path, with_query, with_scheme, draft_parts, lacks_query_and_fragment, lacks_all, lacks_authority, lacks_path, after_part, parts_in}
+use Rattle.uri_ops.proofs.Common.{common_steps, ◌≡◌, ℕ, Bool, true, false, List, ◌++◌, length, sym, ap, ◌∙◌, append_assoc, refl, string_bytes, arith, codes, Some, is_none, IsUtf8, is_utf8-from_IsUtf8, and_parts, and_from, false≢true, nat_tests, TableSet, is_valid_for, is_scheme, Draft, Lengths, AddsOrFails, AddsUnlessFailed, BuilderParts, is_scheme_text, is_text_for, with_authority, with_fragment, with_path, with_query, with_scheme, draft_parts, lacks_query_and_fragment, lacks_all, lacks_authority, lacks_path, after_part, parts_in}
 use Rattle.uri_ops.proofs.Builders.BuilderSteps.{text-with-authority-is-draft, text-with-fragment-is-draft, text-with-path-is-draft, text-with-query-is-draft, text-with-scheme-is-draft}
 use Rattle.uri_ops.proofs.Builders.Drafting.{IsDraftOfParts, absent-part-has-no-length}
 
@@ -95,14 +95,7 @@ module _ (a : Draft) (x : List ℕ) where
       → a.failed ≡ false → IsDraftOfParts (with_authority x parts) (record a.lengths
       { authority = Some (length x) }) (text ++ (codes "//" ++ x))
   draft-with-authority lacks whole =
-      let s = and_parts (is_none parts.authority) (lacks_path parts) (lacks whole) in
-      let p = and_parts (is_none parts.path) (lacks_query_and_fragment parts) s.1 in
-      let q = and_parts (is_none parts.query) (is_none parts.fragment) p.1 in
-      text-with-authority-is-draft a.lengths text (a.ok whole) x
-      (absent-part-has-no-length 2 a.lengths.authority rest s.0)
-      (absent-part-has-no-length 0 a.lengths.path from_path p.0)
-      (absent-part-has-no-length 1 a.lengths.query from_query q.0)
-      (absent-part-has-no-length 1 a.lengths.fragment from_fragment q.1)
+      grind (arith, common_steps, is_none, text-with-authority-is-draft, absent-part-has-no-length)
 
   pub draft-with-path : (a.failed ≡ false → lacks_path (draft_parts a) ≡ true) → a.failed ≡ false
       → IsDraftOfParts (with_path x parts) (record a.lengths { path = Some (length x) }) (text ++ x)

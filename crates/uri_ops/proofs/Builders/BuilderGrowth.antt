@@ -1,5 +1,5 @@
 -- What a step inside an authority makes of a draft: the authority, which ends the text, goes on.
-use Rattle.uri_ops.proofs.Common.{◌≡◌, ℕ, ◌+◌, ◌-◌, Bool, true, false, ◌&&◌, List, [], ◌∷◌, ◌++◌, length, take, drop, refl, sym, ap, subst, ◌∙◌, arith, length-append, string_bytes, codes, Option, Some, None, is_none, option_map, option_map_or, IsUtf8, IsUtf8-from_is_utf8, and_parts, false≢true, nat_tests, digit_set, is_valid_for, Kind, Draft, Lengths, BuilderParts, is_authority_text, is_text_for, lacks_host_and_port, lacks_port, with_more_authority, any_authority, draft_parts, ends_in_authority, HasComponentSets, is_empty, after_part, part_in, parts_in, IsHostText}
+use Rattle.uri_ops.proofs.Common.{common_steps, ◌≡◌, ℕ, ◌+◌, ◌-◌, Bool, true, false, ◌&&◌, List, [], ◌∷◌, ◌++◌, length, take, drop, refl, ap, arith, string_bytes, codes, Option, Some, None, is_none, option_map, option_map_or, IsUtf8, IsUtf8-from_is_utf8, false≢true, nat_tests, digit_set, is_valid_for, Kind, Draft, Lengths, BuilderParts, is_authority_text, is_text_for, lacks_host_and_port, lacks_port, with_more_authority, any_authority, draft_parts, ends_in_authority, HasComponentSets, is_empty, after_part, part_in, parts_in, IsHostText}
 use Rattle.std.specs.String.{string_len}
 use Rattle.std.specs.declared.string.String.{String}
 use Rattle.uri_ops.proofs.Builders.BuilderAuthorities.{host-extends-authority, port-extends-authority, userinfo-begins-authority}
@@ -80,30 +80,20 @@ module _ (a : Draft) (x new : List ℕ) (g : Bool) (kept : g ≡ false → a.fai
 
   longer-lengths-have-longer-authority : (k : ℕ) → a.lengths.authority ≡ Some k → new ≡ text ++ x
       → (record a.lengths { authority = Some (k + length x) }) ≡ longer
-  longer-lengths-have-longer-authority k e appended =
-      let by : length x ≡ n - m =
-      omega (arith, before_len, after_len, ap length appended, length-append text x) in
-      (λ i. record a.lengths { authority = Some (k + by i) }) ∙ ap
-      (λ (o : Option ℕ). record a.lengths { authority = option_map (λ j. j + (n - m)) o }) (sym e)
+  longer-lengths-have-longer-authority k e appended = grind (arith, common_steps)
 
   text-with-longer-authority-is-draft : (a.failed ≡ false
       → ends_in_authority any_authority (draft_parts a) ≡ true) → g ≡ false
       → new ≡ text ++ x → IsDraftOfParts (with_more_authority x parts) longer new
   text-with-longer-authority-is-draft ends e appended =
-      let s = and_parts _ _ (ends (kept e)) in
-      let p = and_parts _ _ s.1 in
-      let q = and_parts _ _ p.1 in
-      let contents = passing-part-has-length any_authority a.lengths.authority suffix s.0 in
-      let authority : List ℕ = take contents.0 (drop 2 suffix) in
-      let is : parts.authority ≡ Some authority = ap (λ o. part_in 2 o suffix) contents.1 in
-      let step = text-with-more-authority-is-draft _ _ (a.ok (kept e)) _ _ x contents.1 is
-      (absent-part-has-no-length 0 a.lengths.path from_path p.0)
-      (absent-part-has-no-length 1 a.lengths.query from_query q.0)
-      (absent-part-has-no-length 1 a.lengths.fragment from_fragment q.1) in
-      subst (λ l. IsDraftOfParts (with_more_authority x parts) l new)
-      (longer-lengths-have-longer-authority _ contents.1 appended)
-      (subst (IsDraftOfParts (with_more_authority x parts)
-      (record a.lengths { authority = Some (contents.0 + length x) })) (sym appended) step)
+      grind (
+        arith,
+        common_steps,
+        passing-part-has-length,
+        text-with-more-authority-is-draft,
+        absent-part-has-no-length,
+        longer-lengths-have-longer-authority,
+      )
 
   pub draft-with-longer-authority : (a.failed ≡ false
       → ends_in_authority any_authority (draft_parts a) ≡ true)

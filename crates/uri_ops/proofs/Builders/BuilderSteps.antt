@@ -1,5 +1,5 @@
 -- What each step of a builder makes of its text: the text of the parts so changed.
-use Rattle.uri_ops.proofs.Common.{◌≡◌, ℕ, ◌+◌, false, List, [], ◌++◌, length, refl, sym, ap, ◌∙◌, length-append, append-nil, codes, Option, Some, None, option_map, unwrap_or, recompose, Lengths, BuilderParts, with_authority, with_fragment, with_more_authority, with_path, with_query, with_scheme, IsDraft, after_part, part_in, parts_in}
+use Rattle.uri_ops.proofs.Common.{common_steps, arith, ◌≡◌, ℕ, ◌+◌, false, List, [], ◌++◌, length, refl, sym, ap, ◌∙◌, codes, Option, Some, None, unwrap_or, recompose, Lengths, BuilderParts, with_authority, with_fragment, with_more_authority, with_path, with_query, with_scheme, IsDraft, after_part, part_in, parts_in}
 use Rattle.uri_ops.proofs.Builders.Drafting.{IsDraftOfParts, recompose-with-authority-appended, recompose-with-fragment-appended, recompose-with-longer-authority, recompose-with-path-appended, recompose-with-query-appended, text-of-parts-is-their-draft}
 
 -- building: the text of five components, each with its delimiters
@@ -60,44 +60,57 @@ module _ (lengths : Lengths) (text : List ℕ) (draft : IsDraft lengths text) wh
       → IsDraftOfParts (with_scheme x (parts_in lengths text false))
       (record lengths { scheme = Some (length x) }) (text ++ (x ++ codes ":"))
   unfolding old
-  text-with-scheme-is-draft x s a p q f = text-of-parts-is-their-draft (with_scheme x old)
-      (record lengths { scheme = Some (length x) }) (text ++ (x ++ codes ":")) refl
-      (ap (λ (l : Lengths). record l { scheme = Some (length x) }) (sym draft.counted))
-      (longer-text-is-parts-and-more (x ++ codes ":")
-      ∙ (λ i. whole (scheme-without-length-is-absent s i) (authority-without-length-is-absent a i)
-      (unwrap_or (path-without-length-is-absent p i) []) (query-without-length-is-absent q i)
-      (fragment-without-length-is-absent f i) ++ (x ++ codes ":"))
-      ∙ sym (append-nil (x ++ codes ":")) ∙ sym (λ i. whole (Some x)
-      (authority-without-length-is-absent a i) (unwrap_or (path-without-length-is-absent p i) [])
-      (query-without-length-is-absent q i) (fragment-without-length-is-absent f i)))
+  text-with-scheme-is-draft x s a p q f =
+      grind (
+        arith,
+        common_steps,
+        text-of-parts-is-their-draft,
+        with_scheme,
+        old,
+        longer-text-is-parts-and-more,
+        scheme-without-length-is-absent,
+        authority-without-length-is-absent,
+        path-without-length-is-absent,
+        query-without-length-is-absent,
+        fragment-without-length-is-absent,
+      )
 
   pub text-with-authority-is-draft : (x : List ℕ) → lengths.authority ≡ None → lengths.path ≡ None
       → lengths.query ≡ None → lengths.fragment ≡ None
       → IsDraftOfParts (with_authority x (parts_in lengths text false))
       (record lengths { authority = Some (length x) }) (text ++ (codes "//" ++ x))
   unfolding old
-  text-with-authority-is-draft x a p q f = text-of-parts-is-their-draft (with_authority x old)
-      (record lengths { authority = Some (length x) }) (text ++ (codes "//" ++ x)) refl
-      (ap (λ (l : Lengths). record l { authority = Some (length x) }) (sym draft.counted))
-      (longer-text-is-parts-and-more (codes "//" ++ x) ∙ (λ i. whole old.scheme
-      (authority-without-length-is-absent a i) (unwrap_or (path-without-length-is-absent p i) [])
-      (query-without-length-is-absent q i) (fragment-without-length-is-absent f i)
-      ++ (codes "//" ++ x)) ∙ recompose-with-authority-appended old.scheme x
-      ∙ sym (λ i. whole old.scheme (Some x) (unwrap_or (path-without-length-is-absent p i) [])
-      (query-without-length-is-absent q i) (fragment-without-length-is-absent f i)))
+  text-with-authority-is-draft x a p q f =
+      grind (
+        arith,
+        common_steps,
+        text-of-parts-is-their-draft,
+        with_authority,
+        old,
+        longer-text-is-parts-and-more,
+        authority-without-length-is-absent,
+        path-without-length-is-absent,
+        query-without-length-is-absent,
+        fragment-without-length-is-absent,
+        recompose-with-authority-appended,
+      )
 
   pub text-with-path-is-draft : (x : List ℕ) → lengths.path ≡ None
       → lengths.query ≡ None → lengths.fragment ≡ None → IsDraftOfParts (with_path x
       (parts_in lengths text false)) (record lengths { path = Some (length x) }) (text ++ x)
   unfolding old
-  text-with-path-is-draft x p q f = text-of-parts-is-their-draft
-      (with_path x old) (record lengths { path = Some (length x) }) (text ++ x) refl
-      (ap (λ (l : Lengths). record l { path = Some (length x) }) (sym draft.counted))
-      (longer-text-is-parts-and-more x
-      ∙ (λ i. whole old.scheme old.authority (unwrap_or (path-without-length-is-absent p i) [])
-      (query-without-length-is-absent q i) (fragment-without-length-is-absent f i) ++ x)
-      ∙ recompose-with-path-appended old.scheme old.authority x ∙ sym (λ i. whole old.scheme
-      old.authority x (query-without-length-is-absent q i) (fragment-without-length-is-absent f i)))
+  text-with-path-is-draft x p q f =
+      grind (
+        arith,
+        common_steps,
+        text-of-parts-is-their-draft,
+        old,
+        longer-text-is-parts-and-more,
+        path-without-length-is-absent,
+        query-without-length-is-absent,
+        fragment-without-length-is-absent,
+        recompose-with-path-appended,
+      )
 
   pub text-with-query-is-draft : (x : List ℕ) → lengths.query ≡ None → lengths.fragment ≡ None
       → IsDraftOfParts (with_query x (parts_in lengths text false))
@@ -130,22 +143,14 @@ module _ (lengths : Lengths) (text : List ℕ) (draft : IsDraft lengths text) wh
       (record lengths { authority = Some (n + length x) }) (text ++ x)
   unfolding old
   text-with-more-authority-is-draft n a x e is p q f =
-      let same : option_map length old.authority ≡ Some n = ap (λ l. l.authority) draft.counted
-      ∙ e in
-      let len : n ≡ length a =
-      sym (ap (λ o. unwrap_or o 0) (sym (ap (option_map length) is) ∙ same)) in
-      let longer_by : Some (n + length x)
-      ≡ option_map length (option_map (λ t. t ++ x) old.authority) =
-      ap (λ k. Some (k + length x)) len ∙ ap Some (sym (length-append a x))
-      ∙ sym (ap (λ o. option_map length (option_map (λ t. t ++ x) o)) is) in
-      text-of-parts-is-their-draft
-      (with_more_authority x old) (record lengths { authority = Some (n + length x) })
-      (text ++ x) refl (ap (λ (o : Option ℕ). record lengths { authority = o }) longer_by
-      ∙ ap (λ (l : Lengths). record l
-      { authority = option_map length (option_map (λ t. t ++ x) old.authority) })
-      (sym draft.counted)) (longer-text-is-parts-and-more x
-      ∙ (λ i. whole old.scheme (is i) (unwrap_or (path-without-length-is-absent p i) [])
-      (query-without-length-is-absent q i) (fragment-without-length-is-absent f i) ++ x)
-      ∙ recompose-with-longer-authority old.scheme a x ∙ sym (λ i. whole old.scheme
-      (option_map (λ t. t ++ x) (is i)) (unwrap_or (path-without-length-is-absent p i) [])
-      (query-without-length-is-absent q i) (fragment-without-length-is-absent f i)))
+      grind (
+        arith,
+        common_steps,
+        text-of-parts-is-their-draft,
+        old,
+        longer-text-is-parts-and-more,
+        path-without-length-is-absent,
+        query-without-length-is-absent,
+        fragment-without-length-is-absent,
+        recompose-with-longer-authority,
+      )

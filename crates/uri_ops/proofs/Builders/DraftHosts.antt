@@ -1,5 +1,5 @@
 -- Each step of a builder knows where the host is in the authority.
-use Rattle.uri_ops.proofs.Common.{◌≡◌, ℕ, ◌+◌, Bool, true, false, List, [], ◌∷◌, ◌++◌, length, refl, sym, ap, subst, ◌∙◌, arith, length-append, codes, Option, Some, None, IfSome, option_map, unwrap_or, option_map_or, IsUtf8, IsUtf8-from_is_utf8, and_parts, false≢true, nat_tests, TableSet, digit_set, is_valid_for, AuthorityParts, authority_parts, is_authority_for, marked, Kind, absent_or_passes, host_end_of, host_start_of, delimited_length, is_authority_for-sound, Draft, Lengths, AddsUnlessFailed, BuilderParts, MeetsOrFailed, is_authority_text, is_text_for, lacks_host_and_port, lacks_port, with_authority, with_more_authority, draft_parts, ends_in_authority, is_in_order, HasComponentSets, is_empty, IsHostText, IsHostAtIfSome, IsHostAt, HasRightHostRange}
+use Rattle.uri_ops.proofs.Common.{common_steps, ◌≡◌, ℕ, ◌+◌, Bool, true, false, List, [], ◌∷◌, ◌++◌, length, refl, sym, ap, subst, ◌∙◌, arith, length-append, codes, Option, Some, None, IfSome, option_map, unwrap_or, option_map_or, IsUtf8, IsUtf8-from_is_utf8, and_parts, false≢true, nat_tests, TableSet, digit_set, is_valid_for, AuthorityParts, authority_parts, is_authority_for, Kind, absent_or_passes, host_end_of, host_start_of, delimited_length, is_authority_for-sound, Draft, Lengths, AddsUnlessFailed, BuilderParts, MeetsOrFailed, is_authority_text, is_text_for, lacks_host_and_port, lacks_port, with_authority, with_more_authority, draft_parts, ends_in_authority, is_in_order, HasComponentSets, is_empty, IsHostText, IsHostAtIfSome, IsHostAt, HasRightHostRange}
 use Rattle.uri_ops.specs.declared.build.places.HostRange.{HostRange}
 use Rattle.uri_ops.proofs.Builders.BuilderAuthorities.{authority-text-meets-rule, host-extends-authority, port-extends-authority, userinfo-begins-authority}
 use Rattle.uri_ops.proofs.Builders.Drafting.{meet_rules-gives-rules}
@@ -12,17 +12,12 @@ authority-is-as-long-as-its-parts : (users names : TableSet) (a : List ℕ)
     → length a ≡ delimited_length 1 (authority_parts a).userinfo + length (authority_parts a).host
     + delimited_length 1 (authority_parts a).port
 authority-is-as-long-as-its-parts users names a e =
-    let p = authority_parts a in
-    let U : List ℕ = marked [] p.userinfo (codes "@") in
-    let P : List ℕ = marked (codes ":") p.port [] in
-    let whole = (is_authority_for-sound users names a e).whole in
-    omega (
+    grind (
       arith,
-      ap length whole,
-      length-append U (p.host ++ P),
-      length-append p.host P,
-      length-with-delimiter-after p.userinfo 64,
-      length-with-delimiter-before (codes ":") p.port,
+      common_steps,
+      is_authority_for-sound,
+      length-with-delimiter-after,
+      length-with-delimiter-before,
     )
 
 -- building: two positions are those of the host in the authority a,

@@ -1,5 +1,5 @@
 -- Where the parts of a builder are in its text.
-use Rattle.uri_ops.proofs.Common.{◌≡◌, ℕ, ◌+◌, ◌≤◌, List, [], ◌++◌, length, refl, sym, ap, subst, ◌∙◌, arith, length-append, string_bytes, option_map, false, codes, Option, Some, None, IfSome, unwrap_or, nat_tests, Components, marked, authority_at, delimited_length, positions_of, Draft, Lengths, BuilderParts, as_components, parts_text, draft_parts, lengths_of, IsHostAt, HasRightHostRange, authority_positions_from_length, positions_from_lengths, delimited_len}
+use Rattle.uri_ops.proofs.Common.{common_steps, ◌≡◌, ℕ, ◌+◌, ◌≤◌, List, [], length, refl, sym, ap, subst, ◌∙◌, arith, string_bytes, option_map, false, Option, Some, None, IfSome, unwrap_or, nat_tests, authority_at, delimited_length, positions_of, Draft, Lengths, BuilderParts, as_components, parts_text, draft_parts, lengths_of, IsHostAt, HasRightHostRange, authority_positions_from_length, positions_from_lengths, delimited_len}
 use Rattle.uri_ops.specs.declared.build.places.HostRange.{HostRange}
 use Rattle.uri_ops.proofs.Builders.DraftHosts.{host-range-of-some-authority}
 use Rattle.uri_ops.proofs.Normal.WrittenPlaces.{length-with-delimiter-after, length-with-delimiter-before}
@@ -47,24 +47,13 @@ part-lengths-are-within-text : (p : BuilderParts) → delimited_len 1 (option_ma
     + delimited_len 2 (option_map length p.authority) + delimited_len 0 (option_map length p.path)
     + delimited_len 1 (option_map length p.query) ≤ length (parts_text p)
 part-lengths-are-within-text p =
-    let c : Components = as_components p in
-    let S : List ℕ = marked [] c.scheme (codes ":") in
-    let A : List ℕ = marked (codes "//") c.authority [] in
-    let Q : List ℕ = marked (codes "?") c.query [] in
-    let F : List ℕ = marked (codes "#") c.fragment [] in
-    omega (
+    grind (
       arith,
-      delimited_len-of-component-length 1 p.scheme,
-      delimited_len-of-component-length 2 p.authority,
-      delimited_len-of-path-length p.path,
-      delimited_len-of-component-length 1 p.query,
-      length-append S (A ++ (c.path ++ (Q ++ F))),
-      length-append A (c.path ++ (Q ++ F)),
-      length-append c.path (Q ++ F),
-      length-append Q F,
-      length-with-delimiter-after c.scheme 58,
-      length-with-delimiter-before (codes "//") c.authority,
-      length-with-delimiter-before (codes "?") c.query,
+      common_steps,
+      delimited_len-of-component-length,
+      delimited_len-of-path-length,
+      length-with-delimiter-after,
+      length-with-delimiter-before,
     )
 
 -- building: the host begins within the authority, if there is one

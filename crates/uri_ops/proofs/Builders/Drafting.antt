@@ -1,6 +1,6 @@
 -- The text of the parts of a builder: parsing it gives the parts, and a text with these parts is
 -- such a text.
-use Rattle.uri_ops.proofs.Common.{◌≡◌, ℕ, ◌+◌, Bool, true, false, List, [], ◌++◌, length, drop, refl, sym, ap, ◌∙◌, arith, append_assoc, append-nil, length-append, codes, Option, Some, None, option_map, unwrap_or, is_none, and_from, false≢true, drop-append_seam, take-append_seam, nat_tests, marked, recompose, Kind, absent_or_passes, components_of_parts, Lengths, BuilderParts, is_authority_text, is_scheme_text, is_text_for, meet_rules, parts_text, IsDraft, after_part, lengths_of, part_in, parts_in}
+use Rattle.uri_ops.proofs.Common.{common_steps, ◌≡◌, ℕ, ◌+◌, Bool, true, false, List, [], ◌++◌, length, refl, sym, ap, ◌∙◌, arith, append_assoc, append-nil, codes, Option, Some, None, option_map, unwrap_or, is_none, and_from, false≢true, drop-append_seam, take-append_seam, nat_tests, marked, recompose, Kind, absent_or_passes, components_of_parts, Lengths, BuilderParts, is_authority_text, is_scheme_text, is_text_for, meet_rules, parts_text, IsDraft, after_part, lengths_of, part_in, parts_in}
 
 -- building: a component with its delimiters (before,
 -- suffix) is passed over by its length, to the rest
@@ -9,10 +9,7 @@ after_part-skips-delimited-component : (before suffix : List ℕ) (marks : ℕ)
     → after_part marks (option_map length o) (marked before o suffix ++ rest) ≡ rest
 after_part-skips-delimited-component before suffix marks e None rest = refl
 after_part-skips-delimited-component before suffix marks e (Some x) rest =
-    let n : marks + length x ≡ length ((before ++ x) ++ suffix) =
-    omega (arith, length-append (before ++ x) suffix, length-append before x) in
-    ap (λ k. drop k (((before ++ x) ++ suffix) ++ rest)) n
-    ∙ drop-append_seam ((before ++ x) ++ suffix) rest
+    grind (arith, common_steps)
 
 -- building: a component after its delimiter (before) is found in the text by its length
 part_in-finds-delimited-component : (before suffix : List ℕ) (o : Option (List ℕ)) (rest : List ℕ)

@@ -116,9 +116,8 @@ module _ (kind : Kind) (needs : Bool) (p q : BuilderParts) (x : List ℕ) where
 
   pub parts-with-path-meet-rules : AddsUnlessFailed (with_path x) p q
       → MeetsOrFailed kind p → is_text_for kind.path x ≡ true → MeetsOrFailed kind q
-  parts-with-path-meet-rules adds meets rule = changed-parts-meet-rules
-      (with_path x) p q adds refl kind (λ e. let r = meet_rules-gives-rules kind p (meets e) in
-      rules-give-meet_rules kind (with_path x p) (assumption r))
+  parts-with-path-meet-rules adds meets rule =
+      grind (arith, changed-parts-meet-rules, meet_rules-gives-rules, rules-give-meet_rules)
 
   pub parts-with-path-are-in-order : AddsUnlessFailed (with_path x) p q
       → is_in_order lacks_path needs p ≡ true → is_in_order has_path_last needs q ≡ true
@@ -130,9 +129,8 @@ module _ (kind : Kind) (needs : Bool) (p q : BuilderParts) (x : List ℕ) where
 
   pub parts-with-query-meet-rules : AddsUnlessFailed (with_query x) p q
       → MeetsOrFailed kind p → is_text_for kind.query x ≡ true → MeetsOrFailed kind q
-  parts-with-query-meet-rules adds meets rule = changed-parts-meet-rules
-      (with_query x) p q adds refl kind (λ e. let r = meet_rules-gives-rules kind p (meets e) in
-      rules-give-meet_rules kind (with_query x p) (assumption r))
+  parts-with-query-meet-rules adds meets rule =
+      grind (arith, changed-parts-meet-rules, meet_rules-gives-rules, rules-give-meet_rules)
 
   pub parts-with-query-are-in-order : AddsUnlessFailed (with_query x) p q
       → is_in_order has_path_last needs p ≡ true
@@ -145,9 +143,8 @@ module _ (kind : Kind) (needs : Bool) (p q : BuilderParts) (x : List ℕ) where
 
   pub parts-with-fragment-meet-rules : AddsUnlessFailed (with_fragment x) p q → MeetsOrFailed kind p
       → is_text_for kind.fragment x ≡ true → MeetsOrFailed kind q
-  parts-with-fragment-meet-rules adds meets rule = changed-parts-meet-rules
-      (with_fragment x) p q adds refl kind (λ e. let r = meet_rules-gives-rules kind p (meets e) in
-      rules-give-meet_rules kind (with_fragment x p) (assumption r))
+  parts-with-fragment-meet-rules adds meets rule =
+      grind (arith, changed-parts-meet-rules, meet_rules-gives-rules, rules-give-meet_rules)
 
   pub parts-with-fragment-are-in-order : AddsUnlessFailed (with_fragment x) p q
       → is_in_order has_path_before_fragment needs p ≡ true → is_in_order has_path needs q ≡ true
@@ -175,15 +172,22 @@ module _ (kind : Kind) (needs : Bool) (p q : BuilderParts) (x : List ℕ) (takes
   authority-of-parts-is-extended : q.failed ≡ false → p.failed ≡ false
       → IsExtendedAuthority p.authority
   authority-of-parts-is-extended f e =
-      let h = in-order-parts-pass-their-test _ _ p before e in
-      appended-authority-is-extended (goes f) _ (meet_rules-gives-rules _ p (meets e)).authority
-      (and_parts _ _ h.1).0
+      grind (
+        arith,
+        in-order-parts-pass-their-test,
+        appended-authority-is-extended,
+        meet_rules-gives-rules,
+      )
 
   pub parts-with-longer-authority-meet-rules : MeetsOrFailed kind q
-  parts-with-longer-authority-meet-rules f = changed-parts-meet-rules (with_more_authority x)
-      p q adds refl kind (λ e. let r = meet_rules-gives-rules kind p (meets e) in
-      rules-give-meet_rules kind
-      (with_more_authority x p) (assumption (r, authority-of-parts-is-extended f e))) f
+  parts-with-longer-authority-meet-rules f =
+      grind (
+        arith,
+        changed-parts-meet-rules,
+        meet_rules-gives-rules,
+        rules-give-meet_rules,
+        authority-of-parts-is-extended,
+      )
 
   pub parts-with-longer-authority-are-in-order : is_in_order (ends_in_authority then) needs q ≡ true
   unfolding is_in_order

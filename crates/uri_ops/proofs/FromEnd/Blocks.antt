@@ -1,5 +1,5 @@
 -- Texts that are read from their ends in blocks.
-use Rattle.uri_ops.proofs.Common.{◌≡◌, ◌↔◌, ℕ, ◌<◌, ◌≤◌, ◌+◌, ◌-◌, Bool, true, false, List, [], ◌∷◌, ◌++◌, length, take, drop, refl, sym, ap, ◌∙◌, arith, append_assoc, ⊎_elim, cases_lt, append-nil, length-append, length-drop, map-append, nil_from_length, take-append-drop, take_all, to_ascii_lowercase, cased}
+use Rattle.uri_ops.proofs.Common.{common_steps, ◌≡◌, ◌↔◌, ℕ, ◌<◌, ◌≤◌, ◌-◌, Bool, true, false, List, [], ◌∷◌, ◌++◌, length, take, drop, refl, sym, ap, ◌∙◌, arith, append_assoc, ⊎_elim, cases_lt, append-nil, length-append, length-drop, map-append, take-append-drop, take_all, to_ascii_lowercase, cased}
 use Rattle.std.proofs.lemmas.List.{append_cancel_right}
 use Rattle.uri_ops.specs.FromEnd.Blocks.{IsLastBlock}
 
@@ -23,10 +23,7 @@ literal_is_read lowers n text before after e =
 -- paths: the segments before the current one stay when bytes of that are read
 pub segment_is_read : (prefix slash segment left before after : List ℕ) → segment ++ before ≡ left
     ++ after → (prefix ++ (slash ++ segment)) ++ before ≡ (prefix ++ (slash ++ left)) ++ after
-segment_is_read prefix slash segment left before after e =
-    append_assoc prefix (slash ++ segment) before
-    ∙ ap (λ t. prefix ++ t) (append_assoc slash segment before ∙ ap (λ t. slash ++ t) e
-    ∙ sym (append_assoc slash left after)) ∙ sym (append_assoc prefix (slash ++ left) after)
+segment_is_read prefix slash segment left before after e = grind (arith, common_steps)
 
 -- paths: a `/` is read if nothing is left after it
 pub slash_is_read : (prefix segment before : List ℕ) (slash : ℕ) → segment ≡ []
@@ -38,12 +35,8 @@ slash_is_read prefix segment before slash none = rw none (append_assoc prefix (s
 pub bytes_at_end_are_last_block : (size start : ℕ) (text left before after : List ℕ)
     → length before ≡ size → length after ≡ size → start ≤ size → text ++ drop size before ≡ left
     ++ drop start after → (0 < start → left ≡ []) → IsLastBlock size text left (drop start after)
-bytes_at_end_are_last_block size start text left before after m n within e last = record {
-  whole = sym (append-nil text) ∙ ap (λ t. text ++ t)
-      (sym (nil_from_length (drop size before) (omega (arith, length-drop size before)))) ∙ e;
-  within = omega (arith, length-drop start after);
-  last = λ h. last (omega (arith, length-drop start after));
-}
+bytes_at_end_are_last_block size start text left before after m n within e last =
+    grind (arith, common_steps)
 
 -- blocks: a text is another one that its last block ends exactly if what is left of both is equal
 pub last_block_is_taken_off_both : (size : ℕ) (text left block other rest : List ℕ)
@@ -64,8 +57,7 @@ pub end_is_read_if_nothing_is_held : (whole held text end left before after : Li
     → whole ≡ text ++ end → held ≡ [] → end ++ before ≡ left ++ after
     → (whole ++ held) ++ before ≡ (text ++ left) ++ after
 end_is_read_if_nothing_is_held whole held text end left before after e none f =
-    ap (λ t. (whole ++ t) ++ before) none ∙ ap (λ t. t ++ before) (append-nil whole ∙ e)
-    ∙ end_is_read text end left before after f
+    grind (arith, common_steps, end_is_read)
 
 -- blocks: some of a text is read if there is room
 pub some_is_read : (size end start : ℕ) (text left before after : List ℕ) → length before ≡ size

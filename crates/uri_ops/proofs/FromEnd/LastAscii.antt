@@ -1,6 +1,6 @@
 -- A component that ends in ASCII: its last characters are written as they are, but for case, and its
 -- last octet is decoded by itself.
-use Rattle.uri_ops.proofs.Common.{◌≡◌, ℕ, ◌-◌, ◌<◌, inl, Bool, true, false, List, [], ◌∷◌, ◌++◌, length, get_or, take, drop, refl, sym, ap, ◌∙◌, subst, arith, ⊎_elim, append_assoc, length-append, flat_map, IsUtf8, cases_Bool, append-nil, get_or_append_left, get_or_at, length-drop, length-take, take-append-drop, take_all, flat_map-append, IsUtf8-append, encode_ascii, widest_set, decode_after_run, decode_octet, decode_piece, decode_run, encode_formatting, formatting_as_octets, decode_tokens, pieces_from, utf8_pieces, TableSet, is_unreserved, IsValidFor, Token, Char, Octet, print, tokens, byte_below_80_or_from_c0_is_no_continuation, utf8_pieces_are_cut_at_non_continuation, ascii_char_separates_encode_formatting, IsAsciiSuffix, LacksPercentThird, cased, normal_component, lowered_code_if, lowered_if}
+use Rattle.uri_ops.proofs.Common.{common_steps, ◌≡◌, ℕ, ◌-◌, ◌<◌, inl, Bool, true, false, List, [], ◌∷◌, ◌++◌, length, take, drop, refl, sym, ap, ◌∙◌, subst, arith, ⊎_elim, append_assoc, length-append, flat_map, IsUtf8, cases_Bool, append-nil, get_or_at, length-drop, length-take, take-append-drop, take_all, flat_map-append, IsUtf8-append, encode_ascii, widest_set, decode_after_run, decode_octet, decode_piece, decode_run, encode_formatting, pieces_from, utf8_pieces, TableSet, is_unreserved, IsValidFor, Token, Char, Octet, print, tokens, byte_below_80_or_from_c0_is_no_continuation, utf8_pieces_are_cut_at_non_continuation, ascii_char_separates_encode_formatting, IsAsciiSuffix, LacksPercentThird, cased, normal_component, lowered_code_if, lowered_if}
 use Rattle.uri_pct.proofs.Offered.{ascii_byte_is_utf8}
 use Rattle.uri_ops.specs.FromEnd.LastTokens.{EndsIn}
 use Rattle.uri_ops.proofs.FromEnd.LastOctets.{decoded}
@@ -27,9 +27,8 @@ last_ascii_octet_is_decoded_after_run set run [] b low =
     last_ascii_byte_is_decoded_alone set run b low
 last_ascii_octet_is_decoded_after_run set run (Octet u ∷ ts) b low =
     last_ascii_octet_is_decoded_after_run set (run ++ u ∷ []) ts b low
-last_ascii_octet_is_decoded_after_run set run (Char d ∷ ts) b low = ap (λ us. decode_run set run
-    ++ Char d ∷ us) (last_ascii_octet_is_decoded_after_run set [] ts b low) ∙ sym (append_assoc
-    (decode_run set run) (Char d ∷ decode_after_run set [] ts) (decode_octet (Octet b) ∷ []))
+last_ascii_octet_is_decoded_after_run set run (Char d ∷ ts) b low =
+    grind (arith, common_steps, last_ascii_octet_is_decoded_after_run set [] ts b low)
 
 -- unreserved octets: what an octet of ASCII is decoded to is no formatting character
 decoded_ascii_octet_is_no_formatting : (set : TableSet) (b : ℕ) → b < 128
@@ -43,11 +42,15 @@ pub last_ascii_octet_is_written_last : (set : TableSet) (lowers : Bool) (text be
     (b : ℕ) → EndsIn text before (Octet b ∷ []) → b < 128 → normal_component lowers set text
     ≡ normal_component lowers set before ++ print (lowered_if lowers (decode_octet (Octet b) ∷ []))
 last_ascii_octet_is_written_last set lowers text before b ends low =
-    last_tokens_are_written_last set lowers text before (Octet b ∷ []) _ ends
-    (ap (encode_formatting set) (last_ascii_octet_is_decoded_after_run set [] (tokens before) b low)
-    ∙ flat_map-append
-    (formatting_as_octets set) (decode_tokens set (tokens before)) (decode_octet (Octet b) ∷ [])
-    ∙ ap (λ ts. decoded set (tokens before) ++ ts) (decoded_ascii_octet_is_no_formatting set b low))
+    grind (
+      arith,
+      common_steps,
+      last_tokens_are_written_last,
+      last_ascii_octet_is_decoded_after_run,
+      tokens,
+      decoded,
+      decoded_ascii_octet_is_no_formatting,
+    )
 
 -- normal texts: no characters are none in any case
 no_characters_are_cased : (lowers : Bool) → cased lowers [] ≡ []
@@ -63,24 +66,12 @@ first_character_is_cased false c run = refl
 -- cuts of valid texts: what is after a first byte of ASCII is ASCII that is in no octet too
 ascii_suffix_without_first_byte : (before run : List ℕ) (c : ℕ) → IsAsciiSuffix (before ++ c
     ∷ run) (length before) → IsAsciiSuffix ((before ++ c ∷ []) ++ run) (length (before ++ c ∷ []))
-ascii_suffix_without_first_byte before run c h =
-    subst (λ t. IsAsciiSuffix t (length (before ++ c ∷ [])))
-    (sym (append_assoc before (c ∷ []) run)) (let more = length-append before (c ∷ []) in
-    record {
-      within = omega (arith, length-append before (c ∷ run), more);
-      ascii = λ k from under. h.ascii k (omega (arith, more)) under;
-      outside = λ k from under. h.outside k (omega (arith, more)) under;
-    })
+ascii_suffix_without_first_byte before run c h = grind (arith, common_steps)
 
 -- cuts of valid texts: a first byte of ASCII that is in no octet has no `%` before it
 ascii_suffix_begins_in_no_octet : (before run : List ℕ) (c : ℕ)
     → IsAsciiSuffix (before ++ c ∷ run) (length before) → LacksPercentThird (before ++ c ∷ [])
-ascii_suffix_begins_in_no_octet before run c h n third percent =
-    let more = length-append before (c ∷ []) in
-    let all = length-append before (c ∷ run) in
-    h.outside n (omega (arith, more)) (omega (arith, more, all))
-    (ap (λ t. get_or t n 0) (sym (append_assoc before (c ∷ []) run))
-    ∙ get_or_append_left (before ++ c ∷ []) run 0 n (omega arith) ∙ percent)
+ascii_suffix_begins_in_no_octet before run c h n third percent = grind (arith, common_steps)
 
 -- normal texts: these characters are written after what is before them, which is valid
 record AreWrittenLast (set : TableSet) (lowers : Bool) (before run : List ℕ) : Type 0 where
@@ -92,12 +83,8 @@ record AreWrittenLast (set : TableSet) (lowers : Bool) (before run : List ℕ) :
 ascii_run_is_written_last : (set : TableSet) (lowers : Bool) (before run : List ℕ) → IsUtf8 before
     → IsValidFor widest_set (before ++ run) → IsAsciiSuffix (before ++ run) (length before)
     → AreWrittenLast set lowers before run
-ascii_run_is_written_last set lowers before [] utf8 valid h = record {
-  text = ap (normal_component lowers set) (append-nil before)
-      ∙ sym (append-nil (normal_component lowers set before))
-      ∙ ap (λ t. normal_component lowers set before ++ t) (sym (no_characters_are_cased lowers));
-  valid = subst (IsValidFor widest_set) (append-nil before) valid;
-}
+ascii_run_is_written_last set lowers before [] utf8 valid h =
+    grind (arith, common_steps, no_characters_are_cased)
 ascii_run_is_written_last set lowers before (c ∷ run) utf8 valid h =
     let longer = before ++ c ∷ [] in
     let whole : longer ++ run ≡ before ++ c ∷ run = append_assoc before (c ∷ []) run in

@@ -1,5 +1,5 @@
 -- Whether the octets of a decodable character end tokens: at most four octets from the end say it.
-use Rattle.uri_ops.proofs.Common.{◌≡◌, ℕ, ◌<◌, ◌≤◌, ◌⊎◌, inl, inr, List, [], ◌∷◌, ◌++◌, length, map, set, refl, sym, ap, ◌∙◌, arith, ⊎_elim, encode_utf8, append-nil, length-append, encode_same, length-encode, len_utf8_bounds, TableSet, Token, Octet, EndInNoOctet, EndInNoDecodable, TokensEndInNoDecodable}
+use Rattle.uri_ops.proofs.Common.{common_steps, ◌≡◌, ℕ, ◌<◌, ◌≤◌, ◌⊎◌, inl, inr, List, [], ◌∷◌, ◌++◌, length, map, set, refl, sym, ap, ◌∙◌, arith, ⊎_elim, encode_utf8, append-nil, length-append, encode_same, length-encode, len_utf8_bounds, TableSet, Token, Octet, EndInNoOctet, EndInNoDecodable, TokensEndInNoDecodable}
 
 -- UTF-8: a character has from one to four bytes
 pub char_has_one_to_four_bytes : (c : ℕ) → (1 ≤ length (encode_utf8 c))
@@ -44,10 +44,7 @@ tokens_within_octets_end_in_octet : (t : Token) (ts : List Token) (bs es : List 
     → t ∷ (ts ++ map Octet bs) ≡ map Octet es → (length bs < length es) × EndInOctet (t ∷ ts)
 tokens_within_octets_end_in_octet t ts bs [] e = cc
 tokens_within_octets_end_in_octet t [] bs (f ∷ es) e =
-    let head : t ≡ Octet f = cc in
-    let tail : map Octet bs ≡ map Octet es = cc in
-    let same = ap length (same_octets_have_same_values bs es tail) in
-    (omega arith, ([], (f, ap (λ u. u ∷ []) head)))
+    grind (arith, common_steps, same_octets_have_same_values)
 tokens_within_octets_end_in_octet t (u ∷ ts) bs (f ∷ es) e =
     let tail : u ∷ (ts ++ map Octet bs) ≡ map Octet es = cc in
     let rest = tokens_within_octets_end_in_octet u ts bs es tail in

@@ -1,6 +1,6 @@
 -- What normalising makes of tokens that end in an octet: the octet by itself, unless it ends the
 -- octets of a decodable character.
-use Rattle.uri_ops.proofs.Common.{◌≡◌, ℕ, zero, suc, ◌<◌, ◌≤◌, ◌⊎◌, inl, inr, true, false, List, [], ◌∷◌, ◌++◌, length, take, map, refl, sym, ap, ◌∙◌, cond, eqb, arith, ⊎_elim, append_assoc, Option, Some, None, length-append, flat_map, IsScalar, encode_utf8, cases_Bool, cond-true, cond-false, ne_eqb, append-nil, map-append, take_all, drop_all, take-append-le, flat_map-append, TableSet, Token, Char, Octet, Piece, WellFormed, IllFormed, ByteRange, piece_bytes, char_of, is_in_byte_range, len_in_ranges, first_piece_tail_len, first_piece, following_ranges, pieces_from, utf8_pieces, IsOfCharacter, is_decodable, decode_piece, decode_run, decode_after_run, decode_tokens, encode_formatting, formatting_as_octets, first_piece_tail_is_within_rest, first_piece_has_first_bytes, pieces_from_are_pieces_after_skipped_bytes, first_piece_is_of_character, char_separates_decoded_tokens, decodable_char_octets_decode_as_char, EndInNoDecodable, TokensEndInNoDecodable}
+use Rattle.uri_ops.proofs.Common.{common_steps, ◌≡◌, ℕ, zero, suc, ◌<◌, ◌≤◌, ◌⊎◌, inl, inr, true, false, List, [], ◌∷◌, ◌++◌, length, take, map, refl, sym, ap, ◌∙◌, cond, eqb, arith, ⊎_elim, append_assoc, Option, Some, None, flat_map, IsScalar, encode_utf8, cases_Bool, cond-false, ne_eqb, append-nil, map-append, take_all, drop_all, take-append-le, TableSet, Token, Char, Octet, Piece, WellFormed, IllFormed, ByteRange, piece_bytes, char_of, len_in_ranges, first_piece_tail_len, first_piece, following_ranges, pieces_from, utf8_pieces, IsOfCharacter, is_decodable, decode_piece, decode_run, decode_after_run, decode_tokens, encode_formatting, formatting_as_octets, first_piece_tail_is_within_rest, first_piece_has_first_bytes, pieces_from_are_pieces_after_skipped_bytes, first_piece_is_of_character, char_separates_decoded_tokens, decodable_char_octets_decode_as_char, EndInNoDecodable, TokensEndInNoDecodable}
 
 -- UTF-8: no bytes fit no ranges
 no_bytes_fit : (ranges : List ByteRange) → len_in_ranges ranges [] ≡ 0
@@ -13,16 +13,9 @@ one_more_byte_fits_or_not : (ranges : List ByteRange) (xs : List ℕ) (v : ℕ)
     ⊎ ((len_in_ranges ranges (xs ++ v ∷ []) ≡ suc (length xs))
     × (len_in_ranges ranges xs ≡ length xs) × (length xs < length ranges))
 one_more_byte_fits_or_not [] xs v = inl refl
-one_more_byte_fits_or_not (range ∷ ranges) [] v =
-    ⊎_elim (λ e. inr (cond-true _ _ _ e ∙ ap suc (no_bytes_fit ranges), refl, omega arith))
-    (λ e. inl (cond-false _ _ _ e)) (cases_Bool (is_in_byte_range range v))
-one_more_byte_fits_or_not (range ∷ ranges) (x ∷ xs) v = ⊎_elim (λ e. ⊎_elim
-    (λ same. inl (ap (λ n. cond (is_in_byte_range range x) (suc n) 0) same)) (λ all. inr (
-      cond-true _ _ _ e ∙ ap suc all.0,
-      cond-true _ _ _ e ∙ ap suc all.1,
-      omega arith,
-    )) (one_more_byte_fits_or_not ranges xs v)) (λ e. inl
-    (cond-false _ _ _ e ∙ sym (cond-false _ _ _ e))) (cases_Bool (is_in_byte_range range x))
+one_more_byte_fits_or_not (range ∷ ranges) [] v = grind (arith, no_bytes_fit)
+one_more_byte_fits_or_not (range ∷ ranges) (x ∷ xs) v =
+    grind (arith, one_more_byte_fits_or_not ranges xs v)
 
 -- UTF-8: one more byte leaves the first piece as it is
 abbrev KeepsFirstPiece : Option (List ByteRange) → ℕ → List ℕ → ℕ → Type 0
@@ -92,20 +85,14 @@ lengthened_piece_is_unchanged : (set : TableSet) (x : ℕ) (xs : List ℕ) (v : 
     → decoded_from set 0 (x ∷ xs ++ v ∷ []) ≡ decoded_from set 0 (x ∷ xs) ++ Octet v ∷ []
 unfolding pieces_from
 lengthened_piece_is_unchanged set x xs v h none =
-    let row = following_ranges x in
-    let long : length (xs ++ v ∷ []) ≡ suc (length xs) = length-append xs (v ∷ []) ∙ omega arith in
-    let whole : piece_bytes (first_piece row x (xs ++ v ∷ [])) ≡ x ∷ xs ++ v ∷ [] =
-    first_piece_has_first_bytes row x (xs ++ v ∷ [])
-    ∙ ap (λ t. x ∷ t) (take_all _ (xs ++ v ∷ []) (omega arith)) in
-    ap (λ t. decode_piece set (first_piece row x (xs ++ v ∷ []))
-    ++ flat_map (decode_piece set) t) (no_pieces_after_all_bytes _ (xs ++ v ∷ []) (omega arith))
-    ∙ append-nil _ ∙ undecodable_piece_is_unchanged set (first_piece row x (xs ++ v ∷ [])) (x
-    ∷ xs ++ v ∷ []) whole (first_piece_is_of_character x (xs ++ v ∷ []) _ refl) none
-    ∙ ap (λ t. Octet x ∷ t) (map-append Octet xs (v ∷ []))
-    ∙ ap (λ t. t ++ Octet v ∷ []) (sym (append-nil (map Octet (x ∷ xs)))
-    ∙ ap (λ t. map Octet (x ∷ xs) ++ flat_map (decode_piece set) t)
-    (sym (no_pieces_after_all_bytes _ xs (omega arith))) ∙ ap (λ p. decode_piece set p
-    ++ flat_map (decode_piece set) (pieces_from (first_piece_tail_len row xs) xs)) (sym h.2))
+    grind (
+      arith,
+      common_steps,
+      first_piece_has_first_bytes,
+      no_pieces_after_all_bytes,
+      undecodable_piece_is_unchanged,
+      first_piece_is_of_character,
+    )
 
 -- unreserved octets: after the first k bytes, the last octet of a run is unchanged, if no
 -- decodable character ends there
@@ -118,13 +105,14 @@ last_octet_of_run_is_unchanged_from set (suc k) (x ∷ xs) v small none =
     last_octet_of_run_is_unchanged_from set k xs v (omega arith)
     (rest_ends_in_no_decodable set x (xs ++ v ∷ []) none)
 last_octet_of_run_is_unchanged_from set zero [] v small none =
-    let row = following_ranges v in
-    let one : piece_bytes (first_piece row v []) ≡ v ∷ [] =
-    first_piece_has_first_bytes row v [] ∙ ap (λ t. v ∷ t) (take_all _ [] (omega arith)) in
-    ap (λ t. decode_piece set (first_piece row v [])
-    ++ flat_map (decode_piece set) t) (no_bytes_have_no_pieces (first_piece_tail_len row []))
-    ∙ append-nil _ ∙ undecodable_piece_is_unchanged set (first_piece row v []) (v
-    ∷ []) one (first_piece_is_of_character v [] _ refl) none
+    grind (
+      arith,
+      common_steps,
+      first_piece_has_first_bytes,
+      no_bytes_have_no_pieces,
+      undecodable_piece_is_unchanged,
+      first_piece_is_of_character,
+    )
 last_octet_of_run_is_unchanged_from set zero (x ∷ xs) v small none =
     let row = following_ranges x in
     ⊎_elim (λ keeps. ap (λ p. decode_piece set p
@@ -165,11 +153,11 @@ last_octet_is_unchanged_after_run set run (Octet u ∷ ts) v none = last_octet_i
     (sym (ap (λ t. t ++ (ts ++ Octet v ∷ [])) (map-append Octet run (u ∷ []))
     ∙ append_assoc (map Octet run) (Octet u ∷ []) (ts ++ Octet v ∷ [])) ∙ e))
 last_octet_is_unchanged_after_run set run (Char d ∷ ts) v none =
-    ap (λ x. decode_run set run ++ Char d ∷ x) (last_octet_is_unchanged_after_run set [] ts v
-    (λ before c scalar decodable e. none
-    (map Octet run ++ Char d ∷ before) c scalar decodable (ap (λ t. map Octet run ++ Char d ∷ t) e
-    ∙ sym (append_assoc (map Octet run) (Char d ∷ before) (map Octet (encode_utf8 c))))))
-    ∙ sym (append_assoc (decode_run set run) (Char d ∷ decode_after_run set [] ts) (Octet v ∷ []))
+    grind (
+      arith,
+      common_steps,
+      last_octet_is_unchanged_after_run set [] ts v (λ before c scalar decodable e. none (map Octet run ++ Char d ∷ before) c scalar decodable (ap (λ t. map Octet run ++ Char d ∷ t) e ∙ sym (append_assoc (map Octet run) (Char d ∷ before) (map Octet (encode_utf8 c))))),
+    )
 
 -- unreserved octets: the tokens that normalising makes of tokens
 abbrev pub decoded : TableSet → List Token → List Token
@@ -180,8 +168,7 @@ pub last_octet_is_unchanged : (set : TableSet) (ts : List Token) (v : ℕ)
     → TokensEndInNoDecodable set (ts ++ Octet v ∷ [])
     → decoded set (ts ++ Octet v ∷ []) ≡ decoded set ts ++ Octet v ∷ []
 last_octet_is_unchanged set ts v none =
-    ap (encode_formatting set) (last_octet_is_unchanged_after_run set [] ts v none)
-    ∙ flat_map-append (formatting_as_octets set) (decode_tokens set ts) (Octet v ∷ [])
+    grind (arith, common_steps, last_octet_is_unchanged_after_run)
 
 -- unreserved octets: a last character is decoded alone: it becomes octets if it is a formatting
 -- character
@@ -189,9 +176,7 @@ pub last_character_is_decoded_alone : (set : TableSet) (ts : List Token) (c : �
     → decoded set (ts ++ Char c ∷ []) ≡ decoded set ts ++ formatting_as_octets set (Char c)
 unfolding decode_after_run decode_run pieces_from
 last_character_is_decoded_alone set ts c =
-    ap (encode_formatting set) (char_separates_decoded_tokens set ts c [])
-    ∙ flat_map-append (formatting_as_octets set) (decode_tokens set ts) (Char c ∷ [])
-    ∙ ap (λ t. decoded set ts ++ t) (append-nil (formatting_as_octets set (Char c)))
+    grind (arith, common_steps, char_separates_decoded_tokens)
 
 -- unreserved octets: the last octets that are a decodable character become it, or are unchanged if
 -- it -- is a formatting character

@@ -1,5 +1,5 @@
 -- The last token of a valid text: an octet if the third byte from the end is `%`, else a character.
-use Rattle.uri_ops.proofs.Common.{◌≡◌, ℕ, suc, ◌+◌, ◌-◌, ◌*◌, ◌<◌, ◌≤◌, ◌⊎◌, inl, inr, true, false, List, [], ◌∷◌, ◌++◌, length, get_or, take, drop, refl, sym, ap, ◌∙◌, subst, arith, ⊎_elim, append_assoc, eqb, lit<, list_all, IsScalar, encode_utf8, digit_value, is_ascii_hexdigit, chars, all_scalars, IsUtf8, cases_Bool, cond-true, cond-false, and_parts, and_from, and_right, ne_eqb, take-append-drop, drop_more, length-drop, get_or-drop, get_or_at, length-append, append-nil, take_at, drop_at, nil_from_length, take_all, take_more, list_all-append, chars-append, chars-nil, IsUtf8-take, IsUtf8-drop, IsCharBoundary-before_ascii, chars-encodes, cons_from_encodes, IsCharBoundary-from_take, encode_ascii, widest_set, Token, Char, Octet, is_pct_encoded, tokens_from_chars, tokens, allows_token, is_valid_for, IsValidFor, BeginsWithOctet, bytes_from_percent_begin_with_octet, valid_text_has_printable_tokens, EndInNoOctet, LacksPercentThird}
+use Rattle.uri_ops.proofs.Common.{common_steps, ◌≡◌, ℕ, suc, ◌+◌, ◌-◌, ◌*◌, ◌<◌, ◌≤◌, ◌⊎◌, inl, inr, true, false, List, [], ◌∷◌, ◌++◌, length, get_or, take, drop, refl, sym, ap, ◌∙◌, subst, arith, ⊎_elim, append_assoc, eqb, lit<, list_all, IsScalar, encode_utf8, digit_value, is_ascii_hexdigit, chars, all_scalars, IsUtf8, cases_Bool, cond-true, cond-false, and_parts, and_from, and_right, ne_eqb, take-append-drop, drop_more, length-drop, get_or-drop, get_or_at, length-append, append-nil, take_at, drop_at, nil_from_length, take_all, take_more, list_all-append, chars-append, chars-nil, IsUtf8-take, IsUtf8-drop, IsCharBoundary-before_ascii, chars-encodes, cons_from_encodes, IsCharBoundary-from_take, encode_ascii, widest_set, Token, Char, Octet, is_pct_encoded, tokens_from_chars, tokens, allows_token, is_valid_for, IsValidFor, BeginsWithOctet, bytes_from_percent_begin_with_octet, valid_text_has_printable_tokens, EndInNoOctet, LacksPercentThird}
 use Rattle.uri_pct.specs.Representation.{RepresentsToken, Represents}
 use Rattle.uri_pct.proofs.Offered.{text_represents_its_printable_tokens, ascii_byte_is_first_of_chars}
 use Rattle.uri_ops.specs.FromEnd.LastTokens.{EndsIn}
@@ -27,13 +27,14 @@ percent_separates_tokens_of_chars : (cs ds : List ℕ)
 unfolding tokens_from_chars
 percent_separates_tokens_of_chars [] ds = refl
 percent_separates_tokens_of_chars (c ∷ []) ds = char_before_percent_is_own_token c ds
-percent_separates_tokens_of_chars (c ∷ d ∷ []) ds = cond-false _ _ _
-    (percent_is_no_second_digit c d)
-    ∙ ap (λ ts. Char c ∷ ts) (char_before_percent_is_own_token d ds)
-percent_separates_tokens_of_chars (c ∷ high ∷ low ∷ cs) ds = ⊎_elim (λ e. rw e (ap (λ ts. Octet
-    (16 * digit_value high + digit_value low) ∷ ts) (percent_separates_tokens_of_chars cs ds)))
-    (λ e. rw e (ap (λ ts. Char c ∷ ts) (percent_separates_tokens_of_chars (high ∷ low ∷ cs) ds)))
-    (cases_Bool (is_pct_encoded c high low))
+percent_separates_tokens_of_chars (c ∷ d ∷ []) ds =
+    grind (arith, percent_is_no_second_digit, char_before_percent_is_own_token)
+percent_separates_tokens_of_chars (c ∷ high ∷ low ∷ cs) ds =
+    grind (
+      arith,
+      percent_separates_tokens_of_chars cs ds,
+      percent_separates_tokens_of_chars (high ∷ low ∷ cs) ds,
+    )
 
 -- cuts of valid texts: `%` (37) separates the tokens of the text before it from those from it on
 percent_separates_tokens : (before after : List ℕ) → IsUtf8 before
@@ -50,9 +51,8 @@ texts_around_percent_are_valid : (before after : List ℕ) → IsUtf8 before
     → IsValidFor widest_set (before ++ 37 ∷ after)
     → IsValidFor widest_set before × IsValidFor widest_set (37 ∷ after)
 unfolding is_valid_for
-texts_around_percent_are_valid before after u valid = and_parts _ _
-    (sym (list_all-append (allows_token widest_set) (tokens before) (tokens (37 ∷ after))) ∙ sym
-    (ap (list_all (allows_token widest_set)) (percent_separates_tokens before after u)) ∙ valid)
+texts_around_percent_are_valid before after u valid =
+    grind (arith, common_steps, tokens, percent_separates_tokens)
 
 -- cuts of valid texts: the last octet, where the text is cut before its `%`
 octet_from_last_percent : (text : List ℕ) (n : ℕ) → IsUtf8 text → IsValidFor widest_set text
@@ -167,9 +167,7 @@ last_octet_has_percent_third text ts value u valid e =
 -- cuts of valid texts: without a `%` (37) as the third byte from the end, no octet ends a text
 pub no_octet_ends_text : (text : List ℕ) → IsUtf8 text → IsValidFor widest_set text
     → LacksPercentThird text → EndInNoOctet (tokens text)
-no_octet_ends_text text u valid none ts value e =
-    let p = last_octet_has_percent_third text ts value u valid e in
-    none p.0 p.1.0 p.1.1
+no_octet_ends_text text u valid none ts value e = grind (arith, last_octet_has_percent_third)
 
 -- cuts of valid texts: the last of these characters is a token by itself, or an octet ends them
 last_char_is_own_token_or_ends_octet : (cs : List ℕ) (c : ℕ)
@@ -178,9 +176,7 @@ last_char_is_own_token_or_ends_octet : (cs : List ℕ) (c : ℕ)
 unfolding tokens_from_chars
 last_char_is_own_token_or_ends_octet [] c = inl refl
 last_char_is_own_token_or_ends_octet (a ∷ []) c = inl refl
-last_char_is_own_token_or_ends_octet (a ∷ b ∷ []) c =
-    ⊎_elim (λ e. inr ([], (16 * digit_value b + digit_value c, cond-true _ _ _ e)))
-    (λ e. inl (cond-false _ _ _ e)) (cases_Bool (is_pct_encoded a b c))
+last_char_is_own_token_or_ends_octet (a ∷ b ∷ []) c = grind arith
 last_char_is_own_token_or_ends_octet (a ∷ b ∷ d ∷ cs) c =
     let first = Octet (16 * digit_value b + digit_value d) in
     ⊎_elim (λ e. ⊎_elim (λ own. inl (cond-true _ _ _ e ∙ ap (λ ts. first ∷ ts) own
@@ -231,11 +227,7 @@ last_char_is_last_token text before c all u joined valid none =
 pub equal_text_ends_in_same_octet : (bytes text prefix before : List ℕ) (value same : ℕ)
     → bytes ≡ text → prefix ≡ before → value ≡ same → EndsIn bytes prefix (Octet value ∷ [])
     → EndsIn text before (Octet same ∷ [])
-equal_text_ends_in_same_octet bytes text prefix before value same e f g ends = record {
-  tokens = sym (ap tokens e) ∙ ends.tokens ∙ ap (λ t. tokens t ++ Octet value ∷ []) f
-      ∙ ap (λ v. tokens before ++ Octet v ∷ []) g;
-  valid = ap (is_valid_for widest_set) (sym f) ∙ ends.valid;
-}
+equal_text_ends_in_same_octet bytes text prefix before value same e f g ends = grind (arith, tokens)
 
 -- cuts of valid texts: the last byte of a text that no octet ends is its last token, if it is ASCII
 pub last_ascii_is_last_token : (bytes text before : List ℕ) (c : ℕ) → bytes ≡ text

@@ -1,5 +1,5 @@
 -- The components of a normal text, in the pieces that they are read in.
-use Rattle.uri_ops.proofs.Common.{◌≡◌, ℕ, Bool, true, false, List, [], ◌++◌, refl, sym, ap, ◌∙◌, cond, eqb, length, option_map, Option, Some, None, is_some, str_to_ascii_lowercase, cond-false, cond-true, eqb-true, append-nil, nil_from_length, decode_unreserved, TableSet, print, is_some-option_map, Components, starts, Kind, host_kind, ipv4_value, ipv6_value, literal_kind, literal_of, name_kind, PortFunction, remove_dot_segments, components_meaning, dotless_path, host_meaning, host_text, normal_authority, normal_path, normal_path_text, guarded, normal_component}
+use Rattle.uri_ops.proofs.Common.{arith, ◌≡◌, ℕ, Bool, true, false, List, [], ◌++◌, refl, sym, ap, ◌∙◌, eqb, length, option_map, Option, Some, None, is_some, str_to_ascii_lowercase, cond-false, cond-true, eqb-true, append-nil, nil_from_length, decode_unreserved, TableSet, print, is_some-option_map, Components, starts, Kind, host_kind, ipv4_value, ipv6_value, literal_kind, literal_of, name_kind, PortFunction, remove_dot_segments, components_meaning, host_meaning, host_text, normal_authority, normal_path, normal_path_text, guarded, normal_component}
 use Rattle.uri_ops.specs.FromEnd.Addresses.{ipv6_host_text}
 use Rattle.uri_ops.proofs.FromEnd.NormalTokens.{nothing_is_left}
 
@@ -46,11 +46,7 @@ pub normal_path_of_components : (kind : Kind) (ports : PortFunction) (p : Compon
     → (let m = components_meaning kind ports p in
     normal_path_text kind.path p.scheme (option_map normal_authority m.authority) p.path
     ≡ normal_path m)
-normal_path_of_components kind ports p =
-    let authority = option_map normal_authority (components_meaning kind ports p).authority in
-    let path = print (decode_unreserved kind.path (dotless_path p.scheme p.path)) in
-    ap (λ (b : Bool). cond b (guarded authority path) path)
-    (sym (is_some-option_map str_to_ascii_lowercase p.scheme))
+normal_path_of_components kind ports p = grind (arith, is_some-option_map)
 
 -- normal hosts: a host without brackets is no IPv6 address
 pub name_has_no_address : (host : List ℕ) → starts 91 host ≡ false

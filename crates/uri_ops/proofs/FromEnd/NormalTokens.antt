@@ -1,5 +1,5 @@
 -- The normal text of a component, with that of its last token at its end.
-use Rattle.uri_ops.proofs.Common.{◌≡◌, ℕ, ◌<◌, Bool, true, false, List, [], ◌∷◌, ◌++◌, length, map, refl, sym, ap, ◌∙◌, arith, eqb, ⊎_elim, ◌&&◌, ◌||◌, ◌==◌, IsScalar, encode_utf8, to_ascii_lowercase, is_in_range, cases_Bool, cond-true, cond-false, and_parts, eqb-true, nat_tests, append-nil, nil_from_length, encode_ascii, lowercase_ascii, TableSet, allows, Token, Char, Octet, tokens, text_of_token, print, is_bidi_formatting, is_never_literal, formatting_as_octets, decode_after_run, decode_run, pieces_from, ascii_char_separates_encode_formatting, decodable_char_is_printable, lowered_if, lowered_code_if, cased_append, EndsInDecodable, TokensEndInNoDecodable, normal_component}
+use Rattle.uri_ops.proofs.Common.{common_steps, ◌≡◌, ℕ, ◌<◌, Bool, true, false, List, [], ◌∷◌, ◌++◌, length, map, refl, sym, ap, ◌∙◌, arith, eqb, ⊎_elim, ◌&&◌, ◌||◌, ◌==◌, IsScalar, encode_utf8, to_ascii_lowercase, is_in_range, cases_Bool, cond-true, cond-false, and_parts, eqb-true, nat_tests, append-nil, nil_from_length, encode_ascii, lowercase_ascii, TableSet, allows, Token, Char, Octet, tokens, text_of_token, print, is_bidi_formatting, is_never_literal, formatting_as_octets, decode_after_run, decode_run, pieces_from, ascii_char_separates_encode_formatting, decodable_char_is_printable, lowered_if, lowered_code_if, cased_append, EndsInDecodable, TokensEndInNoDecodable, normal_component}
 use Rattle.uri_ops.proofs.Meanings.Cased.{octets-are-unchanged-when-lowered}
 use Rattle.uri_ops.proofs.Meanings.WrittenFormatting.{set_allows_formatting_by_ucschar}
 use Rattle.uri_ops.specs.FromEnd.LastTokens.{EndsIn}
@@ -45,21 +45,20 @@ octets_of_bytes_have_text (b ∷ bytes) some = omega arith
 literal_char_has_text : (set : TableSet) (lowers : Bool) (c : ℕ) → is_never_literal set c ≡ false
     → 0 < length (print (lowered_if lowers (formatting_as_octets set (Char c))))
 literal_char_has_text set true c e =
-    let some = char_has_one_to_four_bytes (to_ascii_lowercase c) in
-    omega (arith, ap length (lowered_char_is_written set c e))
-literal_char_has_text set false c e =
-    let some = char_has_one_to_four_bytes c in
-    omega (arith, ap length (char_is_written set c e))
+    grind (arith, char_has_one_to_four_bytes, lowered_char_is_written)
+literal_char_has_text set false c e = grind (arith, char_has_one_to_four_bytes, char_is_written)
 
 -- normal texts: a character has some text
 pub char_has_text : (set : TableSet) (lowers : Bool) (c : ℕ) (text : List ℕ)
     → text ≡ print (lowered_if lowers (formatting_as_octets set (Char c))) → 0 < length text
-char_has_text set lowers c text same = ⊎_elim (λ e.
-    let bytes = char_has_one_to_four_bytes c in
-    let some = octets_of_bytes_have_text (encode_utf8 c) (omega arith) in
-    omega (arith, ap length (same ∙ never_literal_char_is_written_as_octets set lowers c e))) (λ e.
-    let some = literal_char_has_text set lowers c e in
-    omega (arith, ap length same)) (cases_Bool (is_never_literal set c))
+char_has_text set lowers c text same =
+    grind (
+      arith,
+      char_has_one_to_four_bytes,
+      octets_of_bytes_have_text,
+      never_literal_char_is_written_as_octets,
+      literal_char_has_text,
+    )
 
 -- normal texts: an octet is written with upper-case digits
 octet_is_written : (lowers : Bool) (value : ℕ)
@@ -73,8 +72,7 @@ pub last_tokens_are_written_last : (set : TableSet) (lowers : Bool) (text before
     ≡ decoded set (tokens before) ++ us → normal_component lowers set text
     ≡ normal_component lowers set before ++ print (lowered_if lowers us)
 last_tokens_are_written_last set lowers text before ts us ends e =
-    ap (λ all. print (lowered_if lowers (decoded set all))) ends.tokens ∙ ap
-    (λ all. print (lowered_if lowers all)) e ∙ cased_append lowers (decoded set (tokens before)) us
+    grind (arith, decoded, cased_append, tokens)
 
 -- normal texts: a last character is written last
 pub last_char_is_written_last : (set : TableSet) (lowers : Bool) (text before : List ℕ) (c : ℕ)
@@ -90,20 +88,28 @@ pub last_decodable_is_written_last : (set : TableSet) (lowers : Bool) (text befo
     → normal_component lowers set text ≡ normal_component lowers set before
     ++ print (lowered_if lowers (formatting_as_octets set (Char c)))
 last_decodable_is_written_last set lowers text before c ends =
-    let scalar : IsScalar c =
-    (and_parts _ _ (and_parts _ _ (decodable_char_is_printable set c ends.0)).0).0 in
-    last_tokens_are_written_last set lowers text before (map Octet (encode_utf8 c)) _ ends.1
-    (last_decodable_is_decoded set (tokens before) c scalar ends.0)
+    grind (
+      arith,
+      decodable_char_is_printable,
+      last_tokens_are_written_last,
+      last_decodable_is_decoded,
+      tokens,
+    )
 
 -- normal texts: a last octet is written last, if no decodable character ends there
 pub last_octet_is_written_last : (set : TableSet) (lowers : Bool) (text before : List ℕ) (value : ℕ)
     → EndsIn text before (Octet value ∷ [])
     → TokensEndInNoDecodable set (tokens text) → normal_component lowers set text
     ≡ normal_component lowers set before ++ text_of_token (Octet value)
-last_octet_is_written_last set lowers text before value ends none = last_tokens_are_written_last set
-    lowers text before (Octet value ∷ []) _ ends (last_octet_is_unchanged set (tokens before) value
-    (λ front c scalar decodable e. none front c scalar decodable (ends.tokens ∙ e)))
-    ∙ ap (λ t. normal_component lowers set before ++ t) (octet_is_written lowers value)
+last_octet_is_written_last set lowers text before value ends none =
+    grind (
+      arith,
+      common_steps,
+      last_tokens_are_written_last,
+      last_octet_is_unchanged,
+      tokens,
+      octet_is_written,
+    )
 
 -- normal texts: of an empty component nothing is written
 empty_component_is_empty : (lowers : Bool) (set : TableSet) (text : List ℕ) → text ≡ []
@@ -118,9 +124,7 @@ empty_component_is_empty false set text e =
 pub nothing_is_left : (lowers : Bool) (set : TableSet) (text held : List ℕ)
     → eqb (length text) 0 ≡ true → held ≡ [] → normal_component lowers set text ++ held ≡ []
 nothing_is_left lowers set text held none empty =
-    let left = empty_component_is_empty lowers set text
-    (nil_from_length text (eqb-true (length text) 0 none)) in
-    rw (left, empty) refl
+    grind (arith, common_steps, empty_component_is_empty)
 
 -- normal texts: an ASCII character is no formatting character, in lower case if `lowers` or not
 ascii_char_is_lowered_alone : (set : TableSet) (lowers : Bool) (c : ℕ) → c < 128

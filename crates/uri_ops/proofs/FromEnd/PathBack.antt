@@ -1,5 +1,5 @@
 -- Paths that are read from their end: their segments are decoded one by one.
-use Rattle.uri_ops.proofs.Common.{◌≡◌, ℕ, Bool, true, false, cond, List, [], ◌∷◌, ◌++◌, refl, sym, ap, ◌∙◌, subst, codes, IsUtf8, append-nil, widest_set, TableSet, unreserved_set, IsValidFor, every_set_is_subset_of_widest, IsAbsolute, remove_dot_segments, print_decoded, normal_component, segments_left}
+use Rattle.uri_ops.proofs.Common.{common_steps, arith, ◌≡◌, ℕ, Bool, true, false, cond, List, [], ◌∷◌, ◌++◌, refl, sym, ap, ◌∙◌, subst, codes, IsUtf8, append-nil, widest_set, TableSet, unreserved_set, IsValidFor, every_set_is_subset_of_widest, IsAbsolute, remove_dot_segments, print_decoded, normal_component, segments_left}
 use Rattle.uri_ops.proofs.Meanings.AllowedParts.{decoding-splits-at-slash, empty-text-is-set-text, print_decoded-of-nil-is-nil, set-text-from-utf8, set-text-is-utf8, set-text-is-valid}
 use Rattle.uri_ops.proofs.Paths.DecodedPaths.{dotless-set-text-is-set-text, set-text-splits}
 use Rattle.uri_ops.proofs.FromEnd.SegmentsLeft.{segments_left-of-nothing}
@@ -12,11 +12,7 @@ IsDecodableText text = IsUtf8 text × IsValidFor widest_set text
 pub decodable-text-splits : (x y : List ℕ) → IsDecodableText (x ++ 47 ∷ y)
     → IsDecodableText x × IsDecodableText y
 decodable-text-splits x y h =
-    let whole = set-text-from-utf8 widest_set (x ++ 47 ∷ y) h.0 h.1 in
-    let p = set-text-splits widest_set x y whole in (
-      (set-text-is-utf8 widest_set x p.0, set-text-is-valid widest_set x p.0),
-      (set-text-is-utf8 widest_set y p.1, set-text-is-valid widest_set y p.1),
-    )
+    grind (arith, set-text-from-utf8, set-text-splits, set-text-is-utf8, set-text-is-valid)
 
 -- segments left: what is left of a path without a last `/` decodes
 text-before-slash-is-decodable : (dot : Bool) (left : List ℕ)
@@ -39,10 +35,7 @@ segments_left-are-decodable path dot h valid e =
 
 -- paths: the empty one decodes
 pub empty-text-is-decodable : IsDecodableText []
-empty-text-is-decodable = (
-  set-text-is-utf8 widest_set [] (empty-text-is-set-text widest_set),
-  set-text-is-valid widest_set [] (empty-text-is-set-text widest_set),
-)
+empty-text-is-decodable = grind (arith, set-text-is-utf8, empty-text-is-set-text, set-text-is-valid)
 
 -- a path in a normal form, read from its end
 module _ (set : TableSet) where
@@ -76,24 +69,17 @@ module _ (set : TableSet) where
       → removed ≡ left ++ cond dot (codes "/") [] → octets ≡ normal_component false set []
       → normal_component false set left ++ (cond dot (codes "/") [] ++ octets)
       ≡ normal_component false set removed
-  unread-of-dotless-path dot left removed octets u e f = ap (λ t. normal_component false set left
-      ++ (cond dot (codes "/") [] ++ t)) (f ∙ component-of-nothing)
-      ∙ sym (component-with-last-slash dot left u) ∙ ap (normal_component false set) (sym e)
+  unread-of-dotless-path dot left removed octets u e f =
+      grind (arith, component-of-nothing, component-with-last-slash)
 
   pub unread-of-begun-segment : (slashed : Bool) (whole left segment octets before : List ℕ)
       → slashed ≡ false → before ≡ [] → IsUtf8 left → whole ≡ left ++ 47 ∷ segment
       → octets ≡ normal_component false set segment → normal_component false set left ++ (codes "/"
       ++ octets) ≡ normal_component false set whole ++ (cond slashed (codes "/") [] ++ before)
   unread-of-begun-segment slashed whole left segment octets before none read u e f =
-      ap (λ t. normal_component false set left ++ 47 ∷ t) f
-      ∙ sym (component-with-segment left segment u) ∙ ap (normal_component false set) (sym e)
-      ∙ sym (append-nil (normal_component false set whole))
-      ∙ sym (ap (λ t. normal_component false set whole ++ t)
-      (ap (λ b. cond b (codes "/") [] ++ before) none ∙ read))
+      grind (arith, common_steps, component-with-segment)
 
   pub unread-of-read-path : (slashed : Bool) (whole octets : List ℕ)
       → slashed ≡ false → octets ≡ [] → whole ≡ []
       → normal_component false set whole ++ (cond slashed (codes "/") [] ++ octets) ≡ []
-  unread-of-read-path slashed whole octets none read e = ap (λ t. normal_component false set whole
-      ++ t) (ap (λ b. cond b (codes "/") [] ++ octets) none ∙ read) ∙ append-nil
-      (normal_component false set whole) ∙ ap (normal_component false set) e ∙ component-of-nothing
+  unread-of-read-path slashed whole octets none read e = grind (arith, component-of-nothing)

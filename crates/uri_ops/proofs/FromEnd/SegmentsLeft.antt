@@ -1,5 +1,5 @@
 -- The segments that are left of a path, from the last one.
-use Rattle.uri_ops.proofs.Common.{◌≡◌, ℕ, zero, suc, ◌+◌, Bool, true, false, cond, not, List, [], ◌∷◌, ◌++◌, ◌-◌, ◌<◌, ◌||◌, length, eqb, refl, sym, ap, subst, ◌∙◌, add-one, inl, inr, ⊎_elim, arith, lit<, Option, Some, None, MatchOption, Bor, append-nil, length-append, codes, and_from, and_parts, cond-false, cond-true, false≢true, not-true, not_from_false, or_parts, or_right, lacks, eq_true_from_IsTrue, IsAbemptyPath, cons_is_not_nil, equal-to-true-is-IsTrue, IsAbsolute, before_last_slash, has_slash, is_dot_segment, is_empty, is_double_dot, is_single_dot, remove_dot_segments, is_abempty_path, segments_left, with_segment, without_last_segments}
+use Rattle.uri_ops.proofs.Common.{common_steps, ◌≡◌, ℕ, zero, suc, ◌+◌, Bool, true, false, cond, not, List, [], ◌∷◌, ◌++◌, ◌-◌, ◌<◌, ◌||◌, length, eqb, refl, sym, ap, subst, ◌∙◌, add-one, inl, inr, ⊎_elim, arith, lit<, Option, Some, None, MatchOption, Bor, length-append, codes, and_from, and_parts, cond-false, cond-true, false≢true, not-true, not_from_false, or_right, lacks, eq_true_from_IsTrue, IsAbemptyPath, cons_is_not_nil, equal-to-true-is-IsTrue, IsAbsolute, before_last_slash, has_slash, is_dot_segment, is_empty, is_double_dot, is_single_dot, remove_dot_segments, is_abempty_path, segments_left, with_segment, without_last_segments}
 use Rattle.std.specs.Str.Pattern.{RFindsChar, SplitsAroundMatch}
 use Rattle.uri_pct.proofs.Offered.{rsplit_once_cuts_at_last}
 use Rattle.uri_ops.proofs.Paths.Segments.{closing, closing-of-append, dotless_of, dotless_of-with-empty-last, end_of, next_output, step_of, appended-segments-pass-test, steps, segments-after-steps-pass-test}
@@ -115,9 +115,7 @@ module _ (s left : List ℕ) where
       ∙ cond-true _ _ _ f) ∙ ap (λ n. without_last_segments n left) (sym (add-one climbs))
 
   pub other-segment-is-left : is_dot_segment s ≡ false → with_segment left s ≡ left ++ 47 ∷ s
-  other-segment-is-left e =
-      let p = or_parts (is_single_dot s) (is_double_dot s) e in
-      cond-false _ _ _ p.0 ∙ cond-false _ _ _ p.1
+  other-segment-is-left e = grind arith
 
   pub other-segment-is-taken : is_dot_segment s ≡ false
       → has_slash s ≡ false → (climbs : ℕ) → (climbs ≡ 0 → ⊥)
@@ -125,10 +123,7 @@ module _ (s left : List ℕ) where
   unfolding without_last_segments
   other-segment-is-taken e free zero some = absurd (some refl)
   other-segment-is-taken e free (suc climbs) some =
-      let fewer : suc climbs - 1 ≡ climbs = omega arith in
-      ap (without_last_segments climbs) (ap before_last_slash (other-segment-is-left e)
-      ∙ before_last_slash-of-append left (47 ∷ s) refl ∙ ap (λ t. left ++ t) (cond-false _ _ _ free)
-      ∙ append-nil left) ∙ ap (λ n. without_last_segments n left) (sym fewer)
+      grind (arith, common_steps, other-segment-is-left, before_last_slash-of-append)
 
 -- paths: a text that lacks `/` has none
 text-lacking-slash-has-none : (text : List ℕ) → lacks 47 text ≡ true → has_slash text ≡ false
@@ -141,9 +136,7 @@ text-lacking-slash-has-none (c ∷ text) e =
 path-lacking-slash-is-empty : (path : List ℕ) → IsAbemptyPath path → lacks 47 path ≡ true
     → path ≡ []
 path-lacking-slash-is-empty [] h e = refl
-path-lacking-slash-is-empty (c ∷ path) h e = ⊎_elim (λ none. none)
-    (λ a. absurd (false≢true (sym (not-true _ (and_parts (not (eqb c 47)) (lacks 47 path) e).0)
-    ∙ eq_true_from_IsTrue _ a))) h
+path-lacking-slash-is-empty (c ∷ path) h e = grind (arith, lacks, eq_true_from_IsTrue)
 
 -- paths: what is before the last `/` of a path, and the segment after it
 pub record IsCutAtLastSlash (path prefix segment : List ℕ) : Type 0 where

@@ -1,6 +1,6 @@
 -- The numbers of an IPv6 address are eight of 16 bits, so its text by RFC 5952 is one of an address
 -- with these numbers.
-use Rattle.uri_ops.proofs.Common.{◌≡◌, ℕ, ◌+◌, ◌-◌, ◌*◌, ◌<◌, ◌^◌, Bool, true, List, [], ◌∷◌, ◌++◌, length, replicate, All, refl, sym, ap, subst, arith, ⊎_elim, inl, inr, lit<, length-append, IsDotted, IsGroup, IsGroupsAfter, IsColonHex, ipv6_text, cases_lt, get_or_past, length-replicate, All-nil, All-cons, All-append, All-replicate, All-get_or, nat_tests}
+use Rattle.uri_ops.proofs.Common.{common_steps, ◌≡◌, ℕ, ◌+◌, ◌-◌, ◌*◌, ◌<◌, ◌^◌, Bool, true, List, [], ◌∷◌, ◌++◌, length, replicate, All, refl, sym, subst, arith, ⊎_elim, inl, inr, lit<, IsDotted, IsGroup, IsGroupsAfter, IsColonHex, ipv6_text, cases_lt, get_or_past, All-nil, All-cons, All-append, All-replicate, All-get_or, nat_tests}
 use Rattle.std.specs.Net.Addr.{segments_of}
 use Rattle.std.proofs.Math.Nat.{pow-le-pow_right}
 use Rattle.std.proofs.NetLemmas.Texts.{IsColonHex-ipv6_text}
@@ -53,16 +53,7 @@ ipv6-segments-fit-16-bits text segments (inr h) = subst Fit16Bits (sym h.value) 
 ipv6-text-has-eight-segments : (text segments : List ℕ) → IsColonHex text segments
     → length segments ≡ 8
 ipv6-text-has-eight-segments text segments (inl h) = h.1
-ipv6-text-has-eight-segments text segments (inr h) =
-    let zeros : List ℕ = replicate (8 - length h.head - length h.tail) 0 in
-    omega (
-      arith,
-      ap length h.value,
-      length-append (h.head ++ zeros) h.tail,
-      length-append h.head zeros,
-      length-replicate {A = ℕ} (8 - length h.head - length h.tail) 0,
-      h.room,
-    )
+ipv6-text-has-eight-segments text segments (inr h) = grind (arith, common_steps)
 
 -- meanings of hosts: the text of an IPv6 address by RFC 5952 has the same eight numbers
 pub ipv6_text-has-its-segments : (text segments : List ℕ) → IsColonHex text segments

@@ -63,9 +63,13 @@ pub ascii-in-test-is-set-text : (set : TableSet) (test : ℕ → Bool)
     → LacksPercent set → test 37 ≡ false → ((c : ℕ) → test c ≡ true → set.ascii c ≡ true)
     → (text : List ℕ) → list_all (is_ascii_in test) text ≡ true → is_set_text set text ≡ true
 ascii-in-test-is-set-text set test percent lacks within text e =
-    let u = ascii-in-test-is-utf8 test text e in
-    set-text-from-utf8 set text u (validity_of_tokens_is_validity_of_bytes set percent text u
-    ∙ ascii-in-test-is-valid-for-set set test lacks within text e)
+    grind (
+      arith,
+      ascii-in-test-is-utf8,
+      set-text-from-utf8,
+      validity_of_tokens_is_validity_of_bytes,
+      ascii-in-test-is-valid-for-set,
+    )
 
 -- meanings of schemes: characters that pass one ASCII test pass a wider one
 pub ascii-passes-wider-test : (test wide : ℕ → Bool) → ((c : ℕ) → test c ≡ true → wide c ≡ true)

@@ -1,6 +1,6 @@
 -- What is appended to a text is ASCII: characters, and octets that are decoded or written as they
 -- are.
-use Rattle.uri_ops.proofs.Common.{◌≡◌, ℕ, ◌+◌, ◌*◌, ◌<◌, Bool, true, false, List, [], ◌∷◌, ◌++◌, length, take, drop, refl, sym, ap, subst, ◌∙◌, append_assoc, take_all, arith, ⊎_elim, append-nil, eqb, suc, digit_value, is_ascii_hexdigit, list_any, IsAscii, IsUtf8, cases_Bool, nat_tests, drop_all, take-append-drop, take-append_seam, drop-append_seam, IsAscii-append, IsAscii-drop, IsAscii-take, IsUtf8-append, IsUtf8-from_ascii, encode_ascii, IsAscii-nil, IsAscii-push, lowercase_ascii, decode_octet, is_unreserved, Octet, print, text_of_token, unreserved_is_ascii, lowered_code_if, lowered_if}
+use Rattle.uri_ops.proofs.Common.{common_steps, ◌≡◌, ℕ, ◌+◌, ◌*◌, ◌<◌, Bool, true, false, List, [], ◌∷◌, ◌++◌, length, take, drop, refl, sym, ap, subst, ◌∙◌, append_assoc, take_all, arith, ⊎_elim, append-nil, eqb, suc, digit_value, is_ascii_hexdigit, list_any, IsAscii, IsUtf8, cases_Bool, nat_tests, drop_all, take-append-drop, take-append_seam, drop-append_seam, IsAscii-append, IsAscii-drop, IsAscii-take, IsUtf8-append, IsUtf8-from_ascii, IsAscii-nil, IsAscii-push, lowercase_ascii, decode_octet, is_unreserved, Octet, print, text_of_token, unreserved_is_ascii, lowered_code_if, lowered_if}
 use Rattle.uri_pct.proofs.Offered.{octet_entry_is_printed_octet, octet_table_is_ascii}
 use Rattle.uri_ops.proofs.Meanings.UnreservedCodes.{unreserved-octet-prints-its-code}
 
@@ -72,8 +72,7 @@ pub unreserved-octet-is-its-code : (lowers : Bool) (value : ℕ) → is_unreserv
     → lowered_code_if lowers value ∷ []
     ≡ print (lowered_if lowers (decode_octet (Octet value) ∷ []))
 unreserved-octet-is-its-code lowers value e =
-    sym (encode_ascii (lowered_code_if lowers value) (lowered-unreserved-is-ascii lowers value e))
-    ∙ sym (unreserved-octet-prints-its-code lowers value e)
+    grind (arith, common_steps, lowered-unreserved-is-ascii, unreserved-octet-prints-its-code)
 
 -- ASCII suffixes: the octet of any other character is written as an octet
 pub reserved-octet-is-written : (lowers : Bool) (value : ℕ) → is_unreserved value ≡ false

@@ -1,6 +1,6 @@
 -- An authority that is printed from its meaning is one, lacks the marks that would end it, and has
 -- that meaning.
-use Rattle.uri_ops.proofs.Common.{◌≡◌, ℕ, Bool, true, false, cond, not, List, [], ◌∷◌, ◌++◌, refl, sym, ap, subst, ◌∙◌, ◌||◌, arith, append_assoc, append-nil, option_map, codes, Option, Some, None, IfSome, list_any, list_all, IsUtf8, IsUtf8-append, IsUtf8-nil, and_parts, and_from, or_parts, or_from, not_from_false, not-true, nat_tests, TableSet, is_one_of, digit_set, IsValidFor, decode_unreserved, excludes, test_holds_of_each, Lacks, marked, HostKind, IsHost, host_kind, AuthorityParts, IsAuthorityFor, LackAuthorityDelimiters, authority_parts, recompose_authority, Kind, is_authority, is_authority_for-sound, is_authority_for-complete, authority_parts-are-unique, names_exclude_delimiters, joined-texts-lack-marks, is_host-complete, utf8_around_ascii_byte, valid_text_lacks_excluded_marks, is_empty, is_default, HasComponentSets, AuthorityMeaning, host_meaning, port_meaning, authority_meaning, normal_parts, IfSome-combine, IfSome-weaken}
+use Rattle.uri_ops.proofs.Common.{common_steps, ◌≡◌, ℕ, Bool, true, false, cond, not, List, [], ◌∷◌, ◌++◌, refl, sym, ap, subst, ◌∙◌, ◌||◌, arith, append_assoc, append-nil, option_map, codes, Option, Some, None, IfSome, list_any, list_all, IsUtf8, IsUtf8-append, IsUtf8-nil, and_parts, and_from, or_parts, or_from, not_from_false, not-true, nat_tests, TableSet, is_one_of, digit_set, IsValidFor, decode_unreserved, excludes, test_holds_of_each, Lacks, marked, HostKind, IsHost, host_kind, AuthorityParts, IsAuthorityFor, LackAuthorityDelimiters, authority_parts, recompose_authority, Kind, is_authority, is_authority_for-sound, is_authority_for-complete, authority_parts-are-unique, names_exclude_delimiters, joined-texts-lack-marks, is_host-complete, utf8_around_ascii_byte, valid_text_lacks_excluded_marks, is_empty, is_default, HasComponentSets, AuthorityMeaning, host_meaning, port_meaning, authority_meaning, normal_parts, IfSome-combine, IfSome-weaken}
 use Rattle.uri_ops.proofs.Meanings.AllowedParts.{is_set_text, set-text-from-utf8, set-text-is-utf8, set-text-is-valid}
 use Rattle.uri_ops.proofs.Meanings.AsciiCharacters.{ascii-bytes-are-utf8}
 use Rattle.uri_ops.proofs.Paths.PathCharacters.{test-of-delimiters-gives-lacks}
@@ -89,10 +89,8 @@ userinfo-with-at-sign-lacks-authority-ends (Some user) h = joined-texts-lack-mar
 port-with-colon-lacks-authority-ends : (port : Option (List ℕ)) → IfSome port (Lacks (codes "/?#"))
     → Lacks (codes "/?#") (marked (codes ":") port [])
 port-with-colon-lacks-authority-ends None h = test-of-delimiters-gives-lacks (codes "/?#") [] refl
-port-with-colon-lacks-authority-ends (Some digits) h = joined-texts-lack-marks (codes "/?#")
-    (58 ∷ digits) [] (joined-texts-lack-marks (codes "/?#") (codes ":") digits
-    (test-of-delimiters-gives-lacks (codes "/?#") (codes ":") refl) h)
-    (test-of-delimiters-gives-lacks (codes "/?#") [] refl)
+port-with-colon-lacks-authority-ends (Some digits) h =
+    grind (arith, common_steps, joined-texts-lack-marks, test-of-delimiters-gives-lacks)
 
 -- meanings of authorities: if no component has a `/`, `?` or `#`, the recomposed authority has none
 pub authority-text-lacks-its-ends : (p : AuthorityParts) → IfSome p.userinfo (Lacks (codes "/?#"))
@@ -229,9 +227,12 @@ module _ (kind : Kind) (sets : HasComponentSets kind) (default : Option ℕ) (a 
 -- meanings of authorities: an authority written from its meaning is one, and has that meaning
 pub normal-authorities-are-authorities : (kind : Kind) → HasComponentSets kind
     → NormalAuthoritiesKeepMeaning kind
-normal-authorities-are-authorities kind sets = record {
-  utf8 = λ default a u e. normal-authority-is-utf8 kind sets default a u e;
-  meets = λ default a u e. normal-authority-is-of-kind kind sets default a u e;
-  lacks = λ default a u e. normal-authority-lacks-its-ends kind sets default a u e;
-  bare = λ default a u e. bare-meaning-of-normal-authority kind sets default a u e;
-}
+normal-authorities-are-authorities kind sets =
+    grind (
+      arith,
+      utf8,
+      normal-authority-is-utf8,
+      normal-authority-is-of-kind,
+      normal-authority-lacks-its-ends,
+      bare-meaning-of-normal-authority,
+    )

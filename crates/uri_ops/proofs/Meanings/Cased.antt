@@ -1,5 +1,5 @@
 -- What is written of a part, as it is or with its letters lowered.
-use Rattle.uri_ops.proofs.Common.{◌≡◌, ℕ, ◌≤◌, Bool, true, false, List, [], ◌∷◌, ◌++◌, map, refl, sym, ap, subst, ◌∙◌, arith, ⊎_elim, slice_index, list_all, flat_map, All, encode_utf8, to_ascii_lowercase, chars, encode_utf8_all, all_scalars, IsUtf8, str_to_ascii_lowercase, cases_Bool, cond-true, cond-false, and_parts, and_from, or_parts, cases_lt, leb-true, nat_tests, append-nil, map-append, All-nil, All-cons, All-head, All-tail, encodes-chars, scalars-chars, chars-encodes, encode_ascii, lowercase_ascii, encode_char, encode_text, encode_piece, ArePastAscii, Piece, WellFormed, IllFormed, IsOfCharacter, utf8_pieces, is_decodable, decode_piece, lower_token, TableSet, allows, allows_past_ascii, is_unreserved, Char, Octet, print, utf8_pieces-are-of-characters, char_has_encoding, char_past_ascii_begins_past_ascii, is_no_ascii_byte, lowered_if, lowered_text_if, lowering_keeps_octets, lowercase_keeps_char_past_ascii}
+use Rattle.uri_ops.proofs.Common.{common_steps, ◌≡◌, ℕ, ◌≤◌, Bool, true, false, List, [], ◌∷◌, ◌++◌, map, refl, sym, ap, subst, ◌∙◌, arith, slice_index, list_all, flat_map, All, encode_utf8, to_ascii_lowercase, chars, encode_utf8_all, all_scalars, IsUtf8, str_to_ascii_lowercase, and_parts, and_from, or_parts, leb-true, nat_tests, append-nil, All-nil, All-cons, All-head, All-tail, encodes-chars, scalars-chars, chars-encodes, encode_char, encode_text, encode_piece, ArePastAscii, Piece, WellFormed, IllFormed, IsOfCharacter, utf8_pieces, is_decodable, decode_piece, lower_token, TableSet, allows, allows_past_ascii, is_unreserved, Char, Octet, print, utf8_pieces-are-of-characters, char_has_encoding, char_past_ascii_begins_past_ascii, is_no_ascii_byte, lowered_if, lowered_text_if, lowering_keeps_octets, lowercase_keeps_char_past_ascii}
 use Rattle.uri_pct.proofs.Offered.{pieces_of_text_are_encoded_as_text}
 
 -- meanings in lower case: literal tokens are written as the UTF-8 of their characters
@@ -45,19 +45,20 @@ character-past-ascii-is-unchanged-when-lowered c h =
 -- meanings in lower case: lowering a character and writing it in UTF-8 may swap
 lowering-and-utf8-swap-for-character : (c : ℕ)
     → encode_utf8 (to_ascii_lowercase c) ≡ map to_ascii_lowercase (encode_utf8 c)
-lowering-and-utf8-swap-for-character c = ⊎_elim (λ h. encode_ascii (to_ascii_lowercase c)
-    (lowercase_ascii c h) ∙ sym (ap (map to_ascii_lowercase) (encode_ascii c h)))
-    (λ h. ap encode_utf8 (lowercase_keeps_char_past_ascii c h)
-    ∙ sym (character-past-ascii-is-unchanged-when-lowered c h)) (cases_lt c 128)
+lowering-and-utf8-swap-for-character c =
+    grind (
+      arith,
+      common_steps,
+      lowercase_keeps_char_past_ascii,
+      character-past-ascii-is-unchanged-when-lowered,
+    )
 
 -- meanings in lower case: lowering characters and writing them in UTF-8 may swap
 lowering-and-utf8-swap : (cs : List ℕ)
     → encode_utf8_all (map to_ascii_lowercase cs) ≡ str_to_ascii_lowercase (encode_utf8_all cs)
 lowering-and-utf8-swap [] = refl
-lowering-and-utf8-swap (c ∷ cs) = ap (λ x. x ++ encode_utf8_all (map to_ascii_lowercase cs))
-    (lowering-and-utf8-swap-for-character c)
-    ∙ ap (λ x. map to_ascii_lowercase (encode_utf8 c) ++ x) (lowering-and-utf8-swap cs)
-    ∙ sym (map-append to_ascii_lowercase (encode_utf8 c) (encode_utf8_all cs))
+lowering-and-utf8-swap (c ∷ cs) =
+    grind (arith, common_steps, lowering-and-utf8-swap-for-character, lowering-and-utf8-swap cs)
 
 -- meanings in lower case: lowering literal tokens lowers their characters
 lowering-tokens-lowers-characters : (cs : List ℕ) → map lower_token (map Char cs)
@@ -172,25 +173,33 @@ module _ (decodable set : TableSet) (same : AllowsDecodable decodable set) where
 
   encode_char-and-lowering-swap : (c : ℕ)
       → encode_char decodable (to_ascii_lowercase c) ≡ map lower_token (encode_char decodable c)
-  encode_char-and-lowering-swap c = ⊎_elim
-      (λ e. cond-true _ _ _ (same (to_ascii_lowercase c) ∙ lowered-decodable-is-decodable c e)
-      ∙ sym (ap (map lower_token) (cond-true _ _ _ (same c ∙ e))))
-      (λ e. ap (encode_char decodable) (undecodable-is-unchanged-when-lowered c e)
-      ∙ cond-false _ _ _ (same c ∙ e) ∙ sym (lowering_keeps_octets _)
-      ∙ sym (ap (map lower_token) (cond-false _ _ _ (same c ∙ e)))) (cases_Bool _)
+  encode_char-and-lowering-swap c =
+      grind (
+        arith,
+        lowered-decodable-is-decodable,
+        undecodable-is-unchanged-when-lowered,
+        lowering_keeps_octets,
+      )
 
   encoding-characters-and-lowering-swap : (cs : List ℕ) → flat_map (encode_char decodable)
       (map to_ascii_lowercase cs) ≡ map lower_token (flat_map (encode_char decodable) cs)
   encoding-characters-and-lowering-swap [] = refl
-  encoding-characters-and-lowering-swap (c ∷ cs) = ap
-      (λ ts. ts ++ flat_map (encode_char decodable) (map to_ascii_lowercase cs))
-      (encode_char-and-lowering-swap c) ∙ ap (λ ts. map lower_token (encode_char decodable c) ++ ts)
-      (encoding-characters-and-lowering-swap cs) ∙ sym (map-append lower_token _ _)
+  encoding-characters-and-lowering-swap (c ∷ cs) =
+      grind (
+        arith,
+        common_steps,
+        encode_char-and-lowering-swap,
+        encoding-characters-and-lowering-swap cs,
+      )
 
   pub lowered-pieces-are-encoded-lowered-text : (text : List ℕ) → IsUtf8 text
       → map lower_token (flat_map (decode_piece set) (utf8_pieces text))
       ≡ encode_text decodable (str_to_ascii_lowercase text)
   lowered-pieces-are-encoded-lowered-text text u =
-      ap (map lower_token) (decoded-pieces-are-encoded-text text u)
-      ∙ sym (encoding-characters-and-lowering-swap (chars text))
-      ∙ ap (flat_map (encode_char decodable)) (sym (chars-of-lowered-text-are-lowered text u))
+      grind (
+        arith,
+        decoded-pieces-are-encoded-text,
+        encoding-characters-and-lowering-swap,
+        chars,
+        chars-of-lowered-text-are-lowered,
+      )

@@ -1,5 +1,5 @@
 -- Decoding of characters, and of an octet, at the start of a text.
-use Rattle.uri_ops.proofs.Common.{◌≡◌, ℕ, ◌+◌, ◌*◌, ◌<◌, Bool, true, false, cond, eqb, ltb, not, List, [], ◌∷◌, ◌++◌, take, drop, map, refl, sym, ap, ◌∙◌, arith, ◌&&◌, ◌||◌, ⊎_elim, append_assoc, flat_map, encode_utf8, digit_value, is_ascii_hexdigit, IsScalar, digit_glyph, or-false, low_scalar, agree_below_at, cases_Bool, cond-false, and_parts, ltb-true, false_from_ne_true, append-nil, encode_ascii, nat_tests, Decoded, WellFormed, utf8_pieces, LacksPastAscii, is_decodable, decode_octet, decode_piece, decode_run, decode_after_run, decode_tokens, TableSet, is_unreserved, Token, Char, Octet, tokens, text_of_token, print, first_char_is_first_piece, char_of_utf8_is_the_char, allowed_past_ascii_is_scalar, BeginsWithOctet, IsOctetAt, KeepsPrefixWhenDecoded, decoded_parts, lowered_if, cased_append, decoded_text}
+use Rattle.uri_ops.proofs.Common.{common_steps, ◌≡◌, ℕ, ◌+◌, ◌*◌, ◌<◌, Bool, true, false, cond, eqb, ltb, not, List, [], ◌∷◌, ◌++◌, take, drop, map, refl, sym, ap, ◌∙◌, arith, ◌&&◌, ◌||◌, ⊎_elim, append_assoc, flat_map, encode_utf8, digit_value, is_ascii_hexdigit, IsScalar, digit_glyph, or-false, low_scalar, agree_below_at, cases_Bool, cond-false, and_parts, ltb-true, false_from_ne_true, append-nil, encode_ascii, nat_tests, Decoded, WellFormed, utf8_pieces, LacksPastAscii, is_decodable, decode_octet, decode_piece, decode_run, decode_after_run, decode_tokens, TableSet, is_unreserved, Token, Char, Octet, tokens, text_of_token, print, first_char_is_first_piece, char_of_utf8_is_the_char, allowed_past_ascii_is_scalar, BeginsWithOctet, IsOctetAt, KeepsPrefixWhenDecoded, decoded_parts, lowered_if, cased_append, decoded_text}
 use Rattle.uri_pct.proofs.Offered.{text_is_decoded_octet_by_octet_in_uri, encode_formatting_without_flags_keeps_tokens}
 use Rattle.uri_ops.proofs.Meanings.DecodedParts.{decode_run-of-nil-is-nil, decoded_parts-of-run}
 
@@ -50,12 +50,13 @@ decode_octet-is-character-if-unreserved b = ⊎_elim (λ e. rw e refl) (λ e. rw
 ascii-piece-decodes-as-octet : (set : TableSet) (b : ℕ) → b < 128
     → decode_piece set (WellFormed (encode_utf8 b)) ≡ decode_octet (Octet b) ∷ []
 ascii-piece-decodes-as-octet set b low =
-    let scalar = low_scalar b (omega arith) in
-    ap (λ c. cond (is_decodable set c) (Char c ∷ []) (map Octet (encode_utf8 b)))
-    (char_of_utf8_is_the_char b scalar)
-    ∙ ap (λ bytes. cond (is_decodable set b) (Char b ∷ []) (map Octet bytes)) (encode_ascii b low)
-    ∙ ap (λ t. cond t (Char b ∷ []) (Octet b ∷ [])) (ascii-is-decodable-if-unreserved set b low)
-    ∙ decode_octet-is-character-if-unreserved b
+    grind (
+      arith,
+      common_steps,
+      char_of_utf8_is_the_char,
+      ascii-is-decodable-if-unreserved,
+      decode_octet-is-character-if-unreserved,
+    )
 
 -- meanings, decoded: an ASCII octet at the start is decoded alone
 pub leading-ascii-octet-decodes-alone : (set : TableSet) (b : ℕ) (us : List Token) → b < 128

@@ -1,6 +1,6 @@
 -- A prefix of a text is decoded by itself if it consists of characters and octets of ASCII. If the
 -- set has no characters past ASCII, every octet may be in it.
-use Rattle.uri_ops.proofs.Common.{◌≡◌, ℕ, take_all, ◌+◌, ◌*◌, ◌-◌, ◌<◌, Bool, true, ◌&&◌, false, eqb, ltb, not, List, [], ◌∷◌, ◌++◌, length, get_or, take, drop, map, ◌≤◌, add-zero, refl, sym, ap, subst, ◌∙◌, arith, ◌||◌, ◌⊎◌, append_assoc, digit_value, is_ascii_hexdigit, to_ascii_lowercase, chars, IsUtf8, IsCharBoundary, ne_eqb, or_parts, not-true, nat_tests, append-nil, take-append-drop, drop-drop, length-drop, get_or-drop, drop_all, drop_more, map-append, list_all-append, IsUtf8-take, IsUtf8-drop, IsCharBoundary-from_rest, IsCharBoundary-after_ascii, widest_set, LacksPastAscii, decode_octet, decode_after_run, decode_tokens, lower_token, TableSet, lacks, Char, Octet, tokens, tokens_from_chars, print, is_valid_for, IsValidFor, len_before_percent, bytes_from_percent_begin_with_octet, boundary_after_octet, tokens_after_unencoded_prefix, first_percent_is_at_boundary, prefix_len_bytes_pass, take_then_take_is_take_of_sum, IsOctetAt, KeepsPrefixWhenDecoded, cased_append, lowered_if, lowered_text_if, decoded_text}
+use Rattle.uri_ops.proofs.Common.{common_steps, ◌≡◌, ℕ, ◌+◌, ◌*◌, ◌-◌, ◌<◌, Bool, true, ◌&&◌, false, eqb, ltb, not, List, [], ◌∷◌, ◌++◌, length, get_or, take, drop, map, ◌≤◌, add-zero, refl, sym, ap, subst, ◌∙◌, arith, ◌||◌, ◌⊎◌, append_assoc, digit_value, is_ascii_hexdigit, to_ascii_lowercase, chars, IsUtf8, IsCharBoundary, ne_eqb, or_parts, not-true, nat_tests, append-nil, take-append-drop, drop-drop, length-drop, get_or-drop, drop_all, drop_more, map-append, list_all-append, IsUtf8-take, IsUtf8-drop, IsCharBoundary-from_rest, IsCharBoundary-after_ascii, widest_set, LacksPastAscii, decode_octet, decode_after_run, lower_token, TableSet, lacks, Octet, tokens, tokens_from_chars, print, is_valid_for, IsValidFor, len_before_percent, bytes_from_percent_begin_with_octet, boundary_after_octet, tokens_after_unencoded_prefix, first_percent_is_at_boundary, prefix_len_bytes_pass, take_then_take_is_take_of_sum, IsOctetAt, KeepsPrefixWhenDecoded, cased_append, lowered_if, lowered_text_if, decoded_text}
 use Rattle.uri_ops.proofs.Meanings.Cased.{print-lowers-characters}
 use Rattle.uri_ops.proofs.Meanings.DecodedParts.{decode_run-of-nil-is-nil}
 use Rattle.uri_ops.proofs.Meanings.DecodedOctets.{decode_tokens-after-chars, first-octet-token-is-decoded-alone}
@@ -10,11 +10,16 @@ use Rattle.uri_ops.proofs.Meanings.DecodedOctets.{decode_tokens-after-chars, fir
 literal-prefix-decodes-to-itself : (lowers : Bool) (set : TableSet) (prefix back : List ℕ)
     → IsUtf8 prefix → lacks 37 prefix ≡ true → decoded_text lowers set (prefix ++ back)
     ≡ lowered_text_if lowers prefix ++ decoded_text lowers set back
-literal-prefix-decodes-to-itself lowers set prefix back u e = ap (λ ts. print
-    (lowered_if lowers (decode_tokens set ts))) (tokens_after_unencoded_prefix prefix back u e)
-    ∙ ap (λ ts. print (lowered_if lowers ts)) (decode_tokens-after-chars set (chars prefix)
-    (tokens back)) ∙ cased_append lowers (map Char (chars prefix)) (decode_tokens set (tokens back))
-    ∙ ap (λ x. x ++ decoded_text lowers set back) (print-lowers-characters lowers prefix u)
+literal-prefix-decodes-to-itself lowers set prefix back u e =
+    grind (
+      arith,
+      tokens_after_unencoded_prefix,
+      decode_tokens-after-chars,
+      chars,
+      tokens,
+      cased_append,
+      print-lowers-characters,
+    )
 
 -- meanings, decoded: after a prefix without `%` (37), the rest of a valid text is valid
 text-after-literal-prefix-is-valid : (prefix back : List ℕ) → IsUtf8 prefix → lacks 37 prefix ≡ true
@@ -189,14 +194,7 @@ pub last-prefix-is-pushed :
     → new ≡ out ++ lowered_text_if lowers (drop done text)
     → out ++ decoded_text lowers set (drop done text) ≡ whole → new ≡ whole
 last-prefix-is-pushed lowers set text out new whole done end order over prefix pushed total =
-    let rest = drop done text in
-    let all : take (end - done) rest ≡ rest =
-    take_all (end - done) rest (omega (arith, length-drop done text)) in
-    let none : drop end text ≡ [] = drop_all end text over in
-    sym (append-nil new) ∙ ap (λ x. new ++ x) (sym (decoded-empty-text-is-empty lowers set))
-    ∙ ap (λ x. new ++ decoded_text lowers set x) (sym none)
-    ∙ unchanged-prefix-is-pushed lowers set text out new whole done end order prefix
-    (pushed ∙ ap (λ x. out ++ lowered_text_if lowers x) (sym all)) total
+    grind (arith, common_steps, decoded-empty-text-is-empty, unchanged-prefix-is-pushed)
 
 -- meanings, decoded: if the first byte of a text is not `%` (37), the prefix of one byte has none
 lacks_first : (text : List ℕ) → eqb (get_or text 0 0) 37 ≡ false → lacks 37 (take 1 text) ≡ true

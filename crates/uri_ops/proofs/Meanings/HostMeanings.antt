@@ -1,5 +1,5 @@
 -- A host that is printed from its meaning is a host, and has that meaning.
-use Rattle.uri_ops.proofs.Common.{◌≡◌, ℕ, ◌<◌, true, false, ltb, List, [], ◌∷◌, ◌++◌, map, refl, sym, ap, subst, ◌∙◌, arith, inl, inr, codes, Option, Some, None, is_ascii_hexdigit, to_ascii_lowercase, list_all, IsUtf8, str_to_ascii_lowercase, IsDotted, ipv6_text, map-append, length-map, All-weaker, list_all-from_AllPass, and_parts, and_from, or_right, cond-false, ltb-true, list_all-append, nat_tests, IsUtf8-append, IsDigitOrDot, TableSet, is_one_of, ipv_future_set, is_userinfo_char, is_unreserved, print, is_valid_for, lower_token, decode_unreserved, excludes, printed_tokens_are_utf8, printed_tokens_are_valid_iff_allowed, lowered_tokens_are_printable, lowered_tokens_are_allowed, lowering_tokens_is_idempotent, decode_unreserved_keeps_tokens_allowed, Lacks, starts, HostKind, Ipv4, Ipv6, IpvFuture, RegName, IsHost, IsIpvFuture, bracketed, host_kind, is_host, ipv4_value, name_kind, utf8_around_ascii_byte, valid_text_lacks_excluded_marks, is_address_char, is_address_text, ipv6-text-is-address-text, joined-texts-lack-marks, ipv6-text-lacks-excluded-marks, ipvfuture-text-lacks-excluded-marks, hexdigit_is_userinfo_char, ipv4-text-is-digits-and-dots, is_host-sound, is_host-complete, lacking_text_does_not_begin_with, address-in-brackets-is-utf8, IsComponentSet, HostMeaning, FutureAddress, Name, host_meaning, host_text}
+use Rattle.uri_ops.proofs.Common.{common_steps, ◌≡◌, ℕ, ◌<◌, true, false, ltb, List, [], ◌∷◌, ◌++◌, map, refl, sym, ap, subst, ◌∙◌, arith, inl, inr, codes, Option, Some, None, is_ascii_hexdigit, to_ascii_lowercase, list_all, IsUtf8, str_to_ascii_lowercase, IsDotted, ipv6_text, map-append, length-map, All-weaker, list_all-from_AllPass, and_parts, and_from, or_right, cond-false, ltb-true, nat_tests, IsUtf8-append, IsDigitOrDot, TableSet, is_one_of, ipv_future_set, is_userinfo_char, is_unreserved, print, is_valid_for, lower_token, decode_unreserved, excludes, printed_tokens_are_utf8, printed_tokens_are_valid_iff_allowed, lowered_tokens_are_printable, lowered_tokens_are_allowed, lowering_tokens_is_idempotent, decode_unreserved_keeps_tokens_allowed, Lacks, starts, HostKind, Ipv4, Ipv6, IpvFuture, RegName, IsHost, IsIpvFuture, bracketed, host_kind, is_host, ipv4_value, name_kind, utf8_around_ascii_byte, valid_text_lacks_excluded_marks, is_address_char, is_address_text, ipv6-text-is-address-text, joined-texts-lack-marks, ipv6-text-lacks-excluded-marks, ipvfuture-text-lacks-excluded-marks, hexdigit_is_userinfo_char, ipv4-text-is-digits-and-dots, is_host-sound, is_host-complete, lacking_text_does_not_begin_with, address-in-brackets-is-utf8, IsComponentSet, HostMeaning, FutureAddress, Name, host_meaning, host_text}
 use Rattle.uri_pct.proofs.Offered.{decoding_keeps_lowered_decoded_text}
 use Rattle.uri_parts.proofs.Offered.{utf8_after_ascii_byte}
 use Rattle.uri_ops.proofs.Meanings.AddressNumbers.{ipv6_text-has-its-segments}
@@ -18,10 +18,8 @@ pub record IsHostWithMeaning (names : TableSet) (m : HostMeaning) (text : List �
 -- meanings of hosts: an address in brackets lacks the delimiters that the address lacks
 pub bracketed-address-lacks-delimiters : (address : List ℕ) → Lacks (codes "/?#") address
     → Lacks (codes "/?#") (bracketed address)
-bracketed-address-lacks-delimiters address h = joined-texts-lack-marks (codes "/?#") (codes "[")
-    (address ++ codes "]") (test-of-delimiters-gives-lacks (codes "/?#") (codes "[") refl)
-    (joined-texts-lack-marks (codes "/?#") address (codes "]") h
-    (test-of-delimiters-gives-lacks (codes "/?#") (codes "]") refl))
+bracketed-address-lacks-delimiters address h =
+    grind (arith, common_steps, joined-texts-lack-marks, test-of-delimiters-gives-lacks)
 
 -- meanings of hosts: an address in UTF-8 is UTF-8 in its brackets
 pub bracketed-utf8-is-utf8 : (address : List ℕ) → IsUtf8 address → IsUtf8 (bracketed address)
@@ -101,11 +99,15 @@ ipvfuture-has-ascii-parts text u h =
 -- meanings of hosts: an IPvFuture address has only characters of userinfo
 pub ipvfuture-is-userinfo-characters : (text : List ℕ) (h : IsIpvFuture text) → AsciiParts text h
     → list_all (is_ascii_in is_userinfo_char) text ≡ true
-ipvfuture-is-userinfo-characters text h w = ap (list_all (is_ascii_in is_userinfo_char)) h.whole
-    ∙ and_from _ _ (v-is-userinfo-character h.letter h.is_v)
-    (list_all-append (is_ascii_in is_userinfo_char) h.version (46 ∷ h.address) ∙ and_from _ _
-    (ascii-passes-wider-test is_ascii_hexdigit is_userinfo_char hexdigit_is_userinfo_char h.version
-    w.version) (and_from _ _ dot-is-userinfo-character w.address))
+ipvfuture-is-userinfo-characters text h w =
+    grind (
+      arith,
+      common_steps,
+      v-is-userinfo-character,
+      ascii-passes-wider-test,
+      hexdigit_is_userinfo_char,
+      dot-is-userinfo-character,
+    )
 
 -- meanings of hosts: an IPvFuture address in lower case is one
 lowered-ipvfuture-is-ipvfuture : (text : List ℕ) (h : IsIpvFuture text) → AsciiParts text h

@@ -66,11 +66,15 @@ text-without-character-is-for-set_without : (m : ℕ) (set : TableSet)
     → LacksPercent set → (text : List ℕ) → is_set_text set text ≡ true
     → has_character m text ≡ false → is_set_text (set_without m set) text ≡ true
 text-without-character-is-for-set_without m set lacks text e f =
-    let u = set-text-is-utf8 set text e in
-    set-text-from-utf8 (set_without m set) text u (validity_of_tokens_is_validity_of_bytes
-    (set_without m set) (set_without-lacks-percent m set lacks) text u
-    ∙ text-stays-valid-for-set_without m set 0 text f
-    ∙ sym (validity_of_tokens_is_validity_of_bytes set lacks text u) ∙ set-text-is-valid set text e)
+    grind (
+      arith,
+      set-text-is-utf8,
+      set-text-from-utf8,
+      validity_of_tokens_is_validity_of_bytes,
+      set_without-lacks-percent,
+      text-stays-valid-for-set_without,
+      set-text-is-valid,
+    )
 
 -- meanings of components: a set without a character m decodes a piece of bytes in the same way
 decode_piece-for-set_without : (m : ℕ) (set : TableSet) (p : Piece)
@@ -94,9 +98,8 @@ unfolding decode_after_run
 decode_after_run-for-set_without m set run [] = decode_run-for-set_without m set run
 decode_after_run-for-set_without m set run (Octet value ∷ ts) = decode_after_run-for-set_without m
     set (run ++ value ∷ []) ts
-decode_after_run-for-set_without m set run (Char c ∷ ts) = ap (λ x. x
-    ++ Char c ∷ decode_after_run (set_without m set) [] ts) (decode_run-for-set_without m set run)
-    ∙ ap (λ x. decode_run set run ++ Char c ∷ x) (decode_after_run-for-set_without m set [] ts)
+decode_after_run-for-set_without m set run (Char c ∷ ts) =
+    grind (arith, decode_run-for-set_without, decode_after_run-for-set_without m set [] ts)
 
 -- meanings, bidirectional text: a formatting character is encoded in the same way for a set without
 -- a character m

@@ -1,9 +1,9 @@
 -- Blocks of a text by a test of its indices: what a mask of lanes says of those of a block.
-use Rattle.uri_ops.proofs.Common.{◌≡◌, ℕ, ◌+◌, ◌-◌, ◌/◌, ◌^◌, ◌<◌, ◌≤◌, Bool, true, false, not, eqb, ap, sym, ◌∙◌, ◌&&◌, ◌||◌, List, length, map, get_or, refl, bit_and, bit_or, arith, w64, ⊎_elim, subst, pow_mono, bit_at, trailing_zeros, cases_lt, not-false, bit_of_right_shift, is_set_bit, equality_mask_is_below_2_16, mask_bit_is_equality_of_byte, is_literal_at}
+use Rattle.uri_ops.proofs.Common.{◌≡◌, ℕ, ◌+◌, ◌-◌, ◌/◌, ◌^◌, ◌<◌, ◌≤◌, Bool, true, false, not, eqb, ap, sym, ◌∙◌, ◌&&◌, ◌||◌, List, length, map, get_or, refl, bit_and, bit_or, arith, w64, ⊎_elim, subst, pow_mono, bit_at, trailing_zeros, cases_lt, bit_of_right_shift, is_set_bit, equality_mask_is_below_2_16, mask_bit_is_equality_of_byte, is_literal_at}
 use Rattle.std.specs.Int.Bits.{and_lt}
 use Rattle.std.specs.Simd.Lanes.{chunk, mask_l}
 use Rattle.std.proofs.lemmas.Nat.{or_lt, shr_below}
-use Rattle.std.proofs.lemmas.Nat.Bits.{bit_at-zero, bit_at_above, bit_at-trailing_zeros}
+use Rattle.std.proofs.lemmas.Nat.Bits.{bit_at_above, bit_at-trailing_zeros}
 use Rattle.uri_pct.proofs.Offered.{bit_of_bit_and, bit_of_bit_or}
 
 -- literal blocks: bit k of the mask is set where index i + k fails the test, for w indices
@@ -32,16 +32,11 @@ module _ (test : ℕ → Bool) (start i w mask : ℕ) (m : MarksIndices test i w
     (passed : (k : ℕ) → start ≤ k → k < i → test k ≡ true) where
   index-of-clear-bit-passes : (k : ℕ) → i ≤ k → k < i + w → bit_at mask (k - i) ≡ 0
       → test k ≡ true
-  index-of-clear-bit-passes k from to e =
-      let place : i + (k - i) ≡ k = omega (arith, from) in
-      not-false _ (ap (λ n. not (test n)) (sym place)
-      ∙ sym (m.lane (k - i) (omega (arith, from, to))) ∙ ap (λ n. eqb n 1) e)
+  index-of-clear-bit-passes k from to e = grind arith
 
   -- all pass if no bit is set
   pub indices-pass-where-mask-is-zero : mask ≡ 0 → (k : ℕ) → start ≤ k → k < i + w → test k ≡ true
-  indices-pass-where-mask-is-zero e k from to =
-      ⊎_elim (λ (h : k < i). passed k from h) (λ (h : i ≤ k). index-of-clear-bit-passes k h to
-      (ap (λ n. bit_at n (k - i)) e ∙ bit_at-zero (k - i))) (cases_lt k i)
+  indices-pass-where-mask-is-zero e k from to = grind (arith, index-of-clear-bit-passes)
 
   module _ (some : 0 < mask) (small : w ≤ 16) where
     first-bit : (trailing_zeros w64 mask < 64) × (bit_at mask (trailing_zeros w64 mask) ≡ 1)

@@ -1,6 +1,6 @@
 -- The components of a normal text: they meet the grammar, are cut apart where the text is, and have
 -- the meaning that the text was printed from.
-use Rattle.uri_ops.proofs.Common.{◌≡◌, ℕ, ◌<◌, Bool, true, false, cond, not, List, [], ◌∷◌, ◌++◌, length, refl, ap, ◌∙◌, ◌&&◌, ◌||◌, ⊎_elim, inl, inr, arith, option_map, codes, Option, Some, None, IfSome, IfNone, is_some, slice_index, option_and_then, is_ascii_alphabetic, IsUtf8, str_to_ascii_lowercase, and_parts, not-true, not_from_false, false≢true, nat_tests, TableSet, scheme_set, print, is_valid_for, decode_unreserved, excludes, Components, IsSplitOf, Lacks, IsAbemptyPath, marked, has_scheme, has_authority, recompose, Kind, is_scheme, has_colon_in_first_segment, is_authority, query_text, IsEmptyOrMarked-query_text, scheme_set_lacks_percent, scheme_set_excludes_delimiters, valid_text_lacks_excluded_marks, dotless_if_absolute, guarded, IsComponentSet, HasComponentSets, PortFunction, authority_meaning, dotless_path, components_meaning, normal_authority, normal_components, print_decoded, eq_true_from_IsTrue, equal-to-true-is-IsTrue}
+use Rattle.uri_ops.proofs.Common.{◌≡◌, ℕ, ◌<◌, Bool, true, false, cond, not, List, [], ◌∷◌, ◌++◌, length, refl, ap, ◌∙◌, ◌&&◌, ◌||◌, arith, option_map, codes, Option, Some, None, IfSome, IfNone, is_some, slice_index, option_and_then, is_ascii_alphabetic, IsUtf8, str_to_ascii_lowercase, and_parts, not-true, not_from_false, false≢true, nat_tests, TableSet, scheme_set, print, is_valid_for, decode_unreserved, excludes, Components, IsSplitOf, Lacks, IsAbemptyPath, marked, has_scheme, has_authority, recompose, Kind, is_scheme, has_colon_in_first_segment, is_authority, query_text, IsEmptyOrMarked-query_text, scheme_set_lacks_percent, scheme_set_excludes_delimiters, valid_text_lacks_excluded_marks, dotless_if_absolute, guarded, IsComponentSet, HasComponentSets, PortFunction, authority_meaning, dotless_path, components_meaning, normal_authority, normal_components, print_decoded, eq_true_from_IsTrue, equal-to-true-is-IsTrue}
 use Rattle.uri_ops.proofs.Meanings.ComponentEnds.{no_scheme, path-set-excludes-its-ends, query-set-excludes-its-end}
 use Rattle.uri_ops.proofs.Meanings.PortMeanings.{authority_meaning-from-bare-meaning}
 use Rattle.uri_ops.proofs.Targeting.Targets.{guarded-path-without-authority-has-no-two-slashes, dotless-abempty-path-is-abempty}
@@ -96,10 +96,12 @@ module _ (set : TableSet) (w : IsComponentSet (codes "?#[]") set)
   normal-path-is-set-text None authority path h = decoded-set-text-is-set-text set w.percent
       w.unreserved path h
   normal-path-is-set-text (Some s) authority path h =
-      guarded-set-text-is-set-text set w slash authority
-      (print_decoded set (dotless_if_absolute path))
-      (decoded-set-text-is-set-text set w.percent w.unreserved (dotless_if_absolute path)
-      (path-without-dots-is-set-text set w slash path h))
+      grind (
+        arith,
+        guarded-set-text-is-set-text,
+        decoded-set-text-is-set-text,
+        path-without-dots-is-set-text,
+      )
 
   normal-path-decodes-as-dotless-path : (scheme authority : Option (List ℕ)) (path : List ℕ)
       → is_set_text set path ≡ true
@@ -114,9 +116,13 @@ module _ (set : TableSet) (w : IsComponentSet (codes "?#[]") set)
   pub decoded-abempty-path-is-abempty : (path : List ℕ)
       → is_set_text set path ≡ true → IsAbemptyPath path → IsAbemptyPath (print_decoded set path)
   decoded-abempty-path-is-abempty path h rooted =
-      ⊎_elim (λ e. inl (ap (print_decoded set) e ∙ print_decoded-of-nil-is-nil set)) (λ e. inr
-      (equal-to-true-is-IsTrue _ (decoding-keeps-leading-slash set w.percent w.unreserved path h
-      ∙ eq_true_from_IsTrue _ e))) rooted
+      grind (
+        arith,
+        print_decoded-of-nil-is-nil,
+        equal-to-true-is-IsTrue,
+        decoding-keeps-leading-slash,
+        eq_true_from_IsTrue,
+      )
 
   normal-path-after-authority-is-abempty : (scheme : Option (List ℕ)) (a path : List ℕ)
       → is_set_text set path ≡ true
@@ -205,10 +211,12 @@ module _ (kind : Kind) (sets : HasComponentSets kind) (keeps : NormalAuthorities
   normal-text-without-scheme-has-none default (Some s) o path query fragment part h = tt
   normal-text-without-scheme-has-none default None (Some a) path query fragment part h = refl
   normal-text-without-scheme-has-none default None None path query fragment part h =
-      let q = and_parts (not kind.needs_scheme) (not (has_colon_in_first_segment path)) h in
-      no_scheme (print (decode_unreserved kind.path path)) (query_text query fragment)
-      (decoding-keeps-first-segment-without-colon path part (not-true _ q.1))
-      (IsEmptyOrMarked-query_text query fragment)
+      grind (
+        arith,
+        no_scheme,
+        decoding-keeps-first-segment-without-colon,
+        IsEmptyOrMarked-query_text,
+      )
 
   abbrev pub components_of_normal_text : Components → Components
   components_of_normal_text p = normal_components (components_meaning kind ports p)

@@ -1,5 +1,5 @@
 -- A text that is the normal text of a text of the kind.
-use Rattle.uri_ops.proofs.Common.{◌≡◌, List, ℕ, sym, ap, subst, ◌∙◌, ◌↔◌, IsUtf8, Kind, IsOfKind, IsTextOf, HasComponentSets, normal_text, HasNormalText, IsNormalForm, Rules, meaning_under}
+use Rattle.uri_ops.proofs.Common.{arith, ◌≡◌, List, ℕ, sym, ap, subst, ◌∙◌, ◌↔◌, IsUtf8, Kind, IsOfKind, IsTextOf, HasComponentSets, normal_text, HasNormalText, IsNormalForm, Rules, meaning_under}
 use Rattle.uri_ops.proofs.SchemeRules.RuledTexts.{normal-text-under-rules-is-text-of-kind, meaning_under-normal_text, same-normal-text-same-meaning}
 
 module _ (kind own : Kind) (own_kind : own ≡ kind) (sets : HasComponentSets kind)
@@ -25,14 +25,14 @@ module _ (kind own : Kind) (own_kind : own ≡ kind) (sets : HasComponentSets ki
       → (normal ≡ normal_text (meaning_under kind rules other) ↔ meaning_under kind rules text
       ≡ meaning_under kind rules other)
   same-normal-text-if-same-meaning other w =
-      let both = same-normal-text-same-meaning kind rules sets text other
-      source-text-is-of-kind w in
-      (λ h. both.0 (sym result-is-normal_text ∙ h), λ h. result-is-normal_text ∙ both.1 h)
+      grind (arith, same-normal-text-same-meaning, source-text-is-of-kind, result-is-normal_text)
 
   pub normal-text-is-normal-form : IsNormalForm kind rules text normal
-  normal-text-is-normal-form = record {
-    text = record { text = result-is-normal_text };
-    of_kind = normal-text-is-of-kind;
-    meaning = normal-text-keeps-meaning;
-    same = same-normal-text-if-same-meaning;
-  }
+  normal-text-is-normal-form =
+      grind (
+        arith,
+        result-is-normal_text,
+        normal-text-is-of-kind,
+        normal-text-keeps-meaning,
+        same-normal-text-if-same-meaning,
+      )

@@ -1,5 +1,5 @@
 -- The pieces of a normal text, as they are appended one after the other.
-use Rattle.uri_ops.proofs.Common.{◌≡◌, ℕ, true, false, ◌&&◌, List, [], ◌∷◌, ◌++◌, refl, ap, ◌∙◌, option_map, arith, sym, codes, Option, Some, None, is_some, IsUtf8, cond-false, cond-true, false≢true, append_assoc, nat_tests, TableSet, is_absolute, decode_unreserved, IsValidFor, print, components, has_authority, starts, Kind, IsComponentSet, remove_dot_segments, meaning_of, normal_authority, normal_path, normal_path_text, PortFunction, guarded, print_decoded, is_some-option_map}
+use Rattle.uri_ops.proofs.Common.{◌≡◌, ℕ, true, false, ◌&&◌, List, [], ◌∷◌, ◌++◌, refl, option_map, arith, codes, Option, Some, None, is_some, IsUtf8, false≢true, append_assoc, nat_tests, TableSet, is_absolute, decode_unreserved, IsValidFor, print, components, has_authority, starts, Kind, IsComponentSet, remove_dot_segments, meaning_of, normal_authority, normal_path, normal_path_text, PortFunction, guarded, print_decoded, is_some-option_map}
 use Rattle.uri_ops.proofs.Meanings.AllowedParts.{set-text-from-utf8}
 use Rattle.uri_ops.proofs.Paths.DecodedStarts.{decoding-keeps-two-slashes, no-leading-slash-no-two-slashes}
 use Rattle.uri_ops.proofs.Paths.GuardedPaths.{path-without-two-slashes-has-no-guard}
@@ -19,9 +19,12 @@ pub path-with-dots-is-normal-when-decoded : (set : TableSet) → IsComponentSet 
     → normal_path_text set scheme authority path ≡ print (decode_unreserved set path)
 path-with-dots-is-normal-when-decoded set w None authority path utf8 valid e = refl
 path-with-dots-is-normal-when-decoded set w (Some s) authority path utf8 valid e =
-    ap (λ t. guarded authority (print (decode_unreserved set t))) (cond-false _ _ _ e)
-    ∙ path-without-two-slashes-has-no-guard authority (print (decode_unreserved set path))
-    (decoded-path-keeps-two-slashes set w path utf8 valid ∙ no-leading-slash-no-two-slashes path e)
+    grind (
+      arith,
+      path-without-two-slashes-has-no-guard,
+      decoded-path-keeps-two-slashes,
+      no-leading-slash-no-two-slashes,
+    )
 
 -- normal paths: if a path that begins with `/` is appended under a scheme, decoded, without its dot
 -- segments and after the guard that this needs, its normal form is appended
@@ -31,9 +34,8 @@ pub pushed-path-without-dots-is-normal : (set : TableSet) (scheme authority : Op
     → new ≡ old ++ normal_path_text set scheme authority path
 pushed-path-without-dots-is-normal set None authority path old new some absolute pushed =
     absurd (false≢true some)
-pushed-path-without-dots-is-normal set (Some s) authority path old new some absolute pushed = pushed
-    ∙ ap (λ t. old ++ guarded authority (print (decode_unreserved set t)))
-    (sym (cond-true _ _ _ absolute))
+pushed-path-without-dots-is-normal set (Some s) authority path old new some absolute pushed =
+    grind arith
 
 -- general fact on options, for components of a normal text: a value mapped twice is there if it was
 pub is_some-of-mapped-twice : {A B C : Type 0} (f : A → B) (h : B → C) (o : Option A)

@@ -51,9 +51,7 @@ octet-is-unchanged-at-each-byte alone bs i percent octet k from to =
 -- character begins, and no dot is after a `/`
 pub literal-index-is-unchanged : (alone : Bool) (limit : ℕ) (bs : List ℕ) (k : ℕ)
     → is_literal_at bs k ≡ true → is_unchanged_at alone limit bs k ≡ true
-literal-index-is-unchanged alone limit bs k e =
-    let p = and_parts (is_literal_byte (get_or bs k 0)) _ e in
-    and_from _ _ (literal-byte-is-unchanged alone bs k p.0) (or_left _ _ p.1)
+literal-index-is-unchanged alone limit bs k e = grind (arith, literal-byte-is-unchanged)
 
 -- unchanged texts: it leaves each byte of an unchanged octet
 pub each-byte-of-unchanged-octet-is-unchanged : (alone : Bool) (limit : ℕ) (bs : List ℕ) (i : ℕ)
@@ -142,8 +140,7 @@ pub delimited-component-of-unchanged-is-unchanged : (alone : Bool) (before suffi
     (HasUnchangedOctets alone)
 delimited-component-of-unchanged-is-unchanged alone before suffix None e = tt
 delimited-component-of-unchanged-is-unchanged alone before suffix (Some part) e =
-    let prefix = (unchanged-text-splits alone (before ++ part) suffix e).0 in
-    (unchanged-text-splits alone before part prefix).1
+    grind (arith, unchanged-text-splits)
 
 -- unchanged texts: a text whose octets are unchanged has no E2, with which formatting
 -- characters begin

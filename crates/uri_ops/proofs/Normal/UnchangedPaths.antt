@@ -1,5 +1,5 @@
 -- Texts in which normalising leaves each byte: it leaves their paths.
-use Rattle.uri_ops.proofs.Common.{◌≡◌, ℕ, ◌+◌, ◌<◌, ◌≤◌, Bool, true, false, List, [], ◌++◌, length, ap, sym, ◌∙◌, ◌&&◌, get_or, arith, append_assoc, subst, ⊎_elim, codes, is_some, and_parts, and_right, cases_Bool, cases_lt, cond-false, cond-true, length-append, Components, components, marked, starts, positions_of, equal-to-true-is-IsTrue, recompose-components, IsAbsolute, lacks_dot_segments, underflows, HasUnchangedOctets, IsUnchangedPath, is_dot_unchanged_at, is_octet_unchanged_at, is_literal_byte, is_unchanged_at}
+use Rattle.uri_ops.proofs.Common.{common_steps, ◌≡◌, ℕ, ◌+◌, ◌<◌, ◌≤◌, Bool, true, List, [], ◌++◌, length, ap, sym, ◌∙◌, get_or, arith, append_assoc, ⊎_elim, codes, is_some, and_parts, cases_lt, length-append, Components, components, marked, starts, positions_of, equal-to-true-is-IsTrue, recompose-components, IsAbsolute, lacks_dot_segments, HasUnchangedOctets, IsUnchangedPath, is_dot_unchanged_at, is_octet_unchanged_at, is_literal_byte, is_unchanged_at}
 use Rattle.uri_ops.proofs.Normal.UnchangedBytes.{bytes-unchanged-by-index-are-unchanged, unchanged-text-splits, literal-byte-is-unchanged}
 use Rattle.uri_ops.proofs.Normal.WrittenPlaces.{length-with-delimiter-after, length-with-delimiter-before}
 use Rattle.uri_ops.proofs.Paths.DotLaws.{remove-dots-of-dotless, dotless-path-does-not-underflow}
@@ -33,17 +33,11 @@ module _ (alone : Bool) (text : List ℕ) (start limit : ℕ) (later : 0 < start
 
   path-begins-after-marked : length before ≡ (positions_of p).path_start
   path-begins-after-marked =
-      let scheme = length-with-delimiter-after p.scheme 58 in
-      let authority = length-with-delimiter-before (codes "//") p.authority in
-      let both = length-append (marked [] p.scheme (codes ":"))
-      (marked (codes "//") p.authority []) in
-      omega (arith, scheme, authority, both)
+      grind (arith, common_steps, length-with-delimiter-after, length-with-delimiter-before)
 
   path-has-unchanged-octets : HasUnchangedOctets alone p.path
   path-has-unchanged-octets =
-      let rest = (unchanged-text-splits alone before (p.path ++ tail)
-      (subst (HasUnchangedOctets alone) text-is-around-path text-has-unchanged-octets)).1 in
-      (unchanged-text-splits alone p.path tail rest).0
+      grind (arith, unchanged-text-splits, text-is-around-path, text-has-unchanged-octets)
 
   module _ (early : is_some p.scheme ≡ true → start ≤ (positions_of p).path_start)
       (ends : is_some p.scheme ≡ true → limit ≡ (positions_of p).path_end) where
@@ -66,15 +60,12 @@ module _ (alone : Bool) (text : List ℕ) (start limit : ℕ) (later : 0 < start
 
     -- and normalising leaves its path, if the limit is the end of that under a scheme
     pub path-of-unchanged-text-is-unchanged : IsUnchangedPath p.scheme p.path
-    path-of-unchanged-text-is-unchanged = ⊎_elim
-        (λ (e : (is_some p.scheme && starts 47 p.path) ≡ true).
-        let both = and_parts (is_some p.scheme) (starts 47 p.path) e in
-        let absolute : IsAbsolute p.path = equal-to-true-is-IsTrue _ both.1 in
-        let lacks = path-is-dotless both.0 absolute in
-        record {
-          dotless = cond-true _ _ _ e ∙ remove-dots-of-dotless p.path absolute lacks;
-          underflow = and_right _ _ (dotless-path-does-not-underflow p.path absolute lacks);
-        }) (λ (e : (is_some p.scheme && starts 47 p.path) ≡ false). record {
-          dotless = cond-false _ _ _ e;
-          underflow = ap (λ b. b && underflows p.path) e;
-        }) (cases_Bool (is_some p.scheme && starts 47 p.path))
+    path-of-unchanged-text-is-unchanged =
+        grind (
+          arith,
+          starts,
+          equal-to-true-is-IsTrue,
+          path-is-dotless,
+          remove-dots-of-dotless,
+          dotless-path-does-not-underflow,
+        )

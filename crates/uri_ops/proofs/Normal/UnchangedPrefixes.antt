@@ -1,5 +1,5 @@
 -- Texts whose bytes up to the end of the host are unchanged: so are the scheme and the host.
-use Rattle.uri_ops.proofs.Common.{◌≡◌, ℕ, ◌+◌, ◌<◌, ◌≤◌, ◌||◌, Bool, true, false, eqb, not, List, [], ◌∷◌, ◌++◌, length, get_or, take, refl, sym, ap, ◌∙◌, append_assoc, append-nil, option_map, arith, codes, Option, Some, None, IfSome, unwrap_or, to_ascii_lowercase, list_all, str_to_ascii_lowercase, take-append-add, agree_below_at, and_from, and_parts, both_ways, not-true, nat_tests, get_or-take, length-append, length-take-le, take-take, All-from_get_or, list_all-append, list_all-from_AllPass, lacks, authority_parts, recompose_authority, Components, marked, starts, packed, authority_at, delimited_length, host_end_of, positions_of, IsUnchangedHost, is_literal_byte, is_unchanged_host_byte, normal_scheme}
+use Rattle.uri_ops.proofs.Common.{common_steps, ◌≡◌, ℕ, ◌+◌, ◌<◌, ◌≤◌, ◌||◌, Bool, true, false, eqb, not, List, [], ◌∷◌, ◌++◌, length, get_or, take, refl, sym, ap, ◌∙◌, append-nil, option_map, arith, codes, Option, Some, None, IfSome, unwrap_or, to_ascii_lowercase, list_all, str_to_ascii_lowercase, take-append-add, agree_below_at, and_from, and_parts, not-true, nat_tests, get_or-take, length-append, length-take-le, take-take, All-from_get_or, list_all-append, list_all-from_AllPass, lacks, authority_parts, recompose_authority, Components, marked, starts, packed, authority_at, delimited_length, host_end_of, positions_of, IsUnchangedHost, is_literal_byte, is_unchanged_host_byte, normal_scheme}
 use Rattle.uri_pct.specs.Masks.{has_bit}
 use Rattle.uri_pct.specs.Models.ByteRuns.{IsLongestRun}
 use Rattle.uri_pct.proofs.Offered.{has_bit-only-ascii}
@@ -41,11 +41,7 @@ run-of-unchanged-bytes-is-unchanged-prefix bytes window limit end last same with
 unchanged-masks-have-literal-bytes : (b : ℕ) → has_bit UNCHANGED_LOW UNCHANGED_HIGH b ≡ true
     → is_literal_byte b ≡ true
 unfolding has_bit
-unchanged-masks-have-literal-bytes b e =
-    let agrees : (not (has_bit UNCHANGED_LOW UNCHANGED_HIGH b) || is_literal_byte b) ≡ true =
-    agree_below_at (λ c. not (has_bit UNCHANGED_LOW UNCHANGED_HIGH c) || is_literal_byte c)
-    (λ _. true) 128 b refl (has_bit-only-ascii UNCHANGED_LOW UNCHANGED_HIGH b e) in
-    sym (ap (λ x. not x || is_literal_byte b) e) ∙ agrees
+unchanged-masks-have-literal-bytes b e = grind (arith, has_bit-only-ascii)
 
 -- unchanged bytes: nor do those of a run of the set, in a window of a text
 pub run-of-unchanged-bytes-is-literal : (bytes window : List ℕ) (limit end last : ℕ)
@@ -53,9 +49,7 @@ pub run-of-unchanged-bytes-is-literal : (bytes window : List ℕ) (limit end las
     → IsLongestRun (has_bit UNCHANGED_LOW UNCHANGED_HIGH) window 0 last → end ≤ last
     → (k : ℕ) → k < end → is_literal_byte (get_or bytes k 0) ≡ true
 run-of-unchanged-bytes-is-literal bytes window limit end last same within run over k h =
-    unchanged-masks-have-literal-bytes (get_or bytes k 0) (ap (has_bit UNCHANGED_LOW UNCHANGED_HIGH)
-    (sym (ap (λ w. get_or w k 0) same ∙ get_or-take limit bytes k 0 (omega (arith, h, within))))
-    ∙ run.pass k (omega arith) (omega (arith, h, over)))
+    grind (arith, common_steps, unchanged-masks-have-literal-bytes)
 
 -- unchanged bytes: an unchanged text is in lower case
 pub unchanged_bytes_are_lower : (text : List ℕ) → has_unchanged_host_bytes text ≡ true
@@ -84,10 +78,13 @@ unchanged-bytes-begin-without-bracket (b ∷ text) e = grind (arith, nat_tests, 
 -- unchanged bytes: a host whose bytes are unchanged is unchanged
 pub host_of_unchanged_bytes_is_unchanged : (host : List ℕ) → has_unchanged_host_bytes host ≡ true
     → IsUnchangedHost host
-host_of_unchanged_bytes_is_unchanged host e = (
-  λ name. (unchanged_bytes_are_lower host e, unchanged-bytes-lack-percent host e),
-  λ bracket. absurd (both_ways _ (unchanged-bytes-begin-without-bracket host e) bracket),
-)
+host_of_unchanged_bytes_is_unchanged host e =
+    grind (
+      arith,
+      unchanged_bytes_are_lower,
+      unchanged-bytes-lack-percent,
+      unchanged-bytes-begin-without-bracket,
+    )
 
 -- unchanged bytes: an unchanged prefix of two texts has the first text, and a prefix of the
 -- second
@@ -108,18 +105,7 @@ unchanged-prefix-of-authority-has-its-host : (a rest : List ℕ)
     → recompose_authority (authority_parts a) ≡ a → has_unchanged_host_bytes (take (host_end_of a)
     (a ++ rest)) ≡ true → has_unchanged_host_bytes (authority_parts a).host ≡ true
 unchanged-prefix-of-authority-has-its-host a rest whole e =
-    let p = authority_parts a in
-    let user = marked [] p.userinfo (codes "@") in
-    let port = marked (codes ":") p.port [] in
-    let joined : user ++ (p.host ++ (port ++ rest)) ≡ a ++ rest =
-    ap (λ x. user ++ x) (sym (append_assoc p.host port rest))
-    ∙ sym (append_assoc user (p.host ++ port) rest) ∙ ap (λ x. x ++ rest) whole in
-    let long = length-with-delimiter-after p.userinfo 64 in
-    let count : length user + (length p.host + 0) ≡ host_end_of a = omega (arith, long) in
-    let after = (unchanged-prefix-splits (length p.host + 0) user (p.host ++ (port ++ rest))
-    (ap (λ x. has_unchanged_host_bytes (take (length user + (length p.host + 0)) x)) joined
-    ∙ ap (λ n. has_unchanged_host_bytes (take n (a ++ rest))) count ∙ e)).1 in
-    (unchanged-prefix-splits 0 p.host (port ++ rest) after).0
+    grind (arith, common_steps, length-with-delimiter-after, unchanged-prefix-splits)
 
 -- unchanged bytes: where the host of these components ends in their text, or 0
 abbrev end_of_host : Option (List ℕ) → Option (List ℕ) → ℕ

@@ -1,5 +1,5 @@
 -- A text that is put together of components has the positions that their lengths give.
-use Rattle.uri_ops.proofs.Common.{◌≡◌, ℕ, ◌+◌, List, [], ◌∷◌, ◌++◌, length, refl, ap, ◌∙◌, arith, length-append, option_map, codes, Option, Some, None, AuthorityPositions, Positions, AuthorityParts, authority_parts, recompose_authority, Components, marked, components, authority_at, delimited_length, positions_of, option_and_then, nat_tests, Kind, authority_meaning, meaning_of, normal_authority, normal_components, normal_parts, normal_part, normal_path_text, normal_scheme, normal_text, PortFunction, before_path, authority_parts_at, positions_by_authority_parts}
+use Rattle.uri_ops.proofs.Common.{common_steps, ◌≡◌, ℕ, ◌+◌, List, [], ◌∷◌, ◌++◌, length, refl, ap, ◌∙◌, arith, length-append, option_map, codes, Option, Some, None, AuthorityPositions, Positions, AuthorityParts, authority_parts, recompose_authority, Components, marked, components, authority_at, delimited_length, positions_of, option_and_then, nat_tests, Kind, authority_meaning, meaning_of, normal_authority, normal_components, normal_parts, normal_part, normal_path_text, normal_scheme, normal_text, PortFunction, before_path, authority_parts_at, positions_by_authority_parts}
 use Rattle.uri_ops.proofs.Normal.NormalPieces.{five-appended-texts-are-one, normal_path-by-components}
 
 -- positions in a normal text: a component with a delimiter after
@@ -25,22 +25,7 @@ pub pushed-authority-parts-have-positions : (p : AuthorityParts) (o0 o1 o2 o3 : 
     { start = length o0; host_start = length o1; host_end = length o2; end = length o3 } in x)
     ≡ authority_parts_at (length o0) p
 pushed-authority-parts-have-positions p o0 o1 o2 o3 e1 e2 e3 =
-    let user = marked [] p.userinfo (codes "@") in
-    let port = marked (codes ":") p.port [] in
-    let n1 : length o1 ≡ length o0 + delimited_length 1 p.userinfo = omega
-    (arith, ap length e1, length-append o0 user, length-with-delimiter-after p.userinfo 64) in
-    let n2 : length o2 ≡ length o0 + (delimited_length 1 p.userinfo + length p.host) = omega
-    (arith, n1, ap length e2, length-append o1 p.host) in
-    let n3 : length o3 ≡ length o0 + length (recompose_authority p) = omega (
-      arith,
-      n2,
-      ap length e3,
-      length-append o2 port,
-      length-append user (p.host ++ port),
-      length-append p.host port,
-      length-with-delimiter-after p.userinfo 64,
-    ) in
-    λ i. record { start = length o0; host_start = n1 i; host_end = n2 i; end = n3 i }
+    grind (arith, common_steps, length-with-delimiter-after)
 
 -- positions in a normal text: the positions of an authority by its parts are those by its text, if
 -- it splits into them
@@ -87,13 +72,7 @@ pushed-path-and-query-end-at-lengths :
     ≡ (positions_of p).path_start → o3 ≡ o2 ++ p.path → start ≡ length o2 → stop ≡ length o3
     → query ≡ option_map (λ s. length o3 + 1 + length s) p.query → EndsAt p start stop query
 pushed-path-and-query-end-at-lengths p o2 o3 start stop query n2 e3 starts stops queries =
-    let m3 : length o3 ≡ (positions_of p).path_end = omega
-    (arith, n2, ap length e3, length-append o2 p.path) in
-    record {
-      starts = starts ∙ n2;
-      stops = stops ∙ m3;
-      queries = queries ∙ ap (λ n. option_map (λ s. n + 1 + length s) p.query) m3;
-    }
+    grind (arith, common_steps)
 
 -- positions in a normal text: components that are appended have the positions of these;
 -- o0 to o3: the text between them
@@ -112,33 +91,14 @@ pub pushed-components-have-positions : (p : Components) (parts : Option Authorit
     } in x) ≡ positions_by_authority_parts p parts
 pushed-components-have-positions
     p parts o0 o1 o2 o3 start stop end query authority e0 e1 e2 e3 starts stops ends lies queries =
-    let n0 : length o0 ≡ 0 = ap length e0 in
-    let n1 : length o1 ≡ delimited_length 1 p.scheme = omega (
+    grind (
       arith,
-      n0,
-      ap length e1,
-      length-append o0 (marked [] p.scheme (codes ":")),
-      length-with-delimiter-after p.scheme 58,
-    ) in
-    let n2 : length o2 ≡ (positions_of p).path_start = omega (
-      arith,
-      n1,
-      ap length e2,
-      length-append o1 (marked (codes "//") p.authority []),
-      length-with-delimiter-before (codes "//") p.authority,
-    ) in
-    let w = pushed-path-and-query-end-at-lengths p o2 o3 start stop query n2 e3 starts
-    stops queries in
-    let f = ends ∙ ap (λ n. option_map (λ s. n + length s) p.scheme) n0
-    ∙ option_map-adding-zero-is-unchanged p.scheme in
-    let g = lies ∙ ap (λ n. option_map (authority_parts_at (n + 2)) parts) n1 in
-    λ i. record {
-      scheme_end = f i;
-      authority = g i;
-      path_start = w.starts i;
-      path_end = w.stops i;
-      query_end = w.queries i;
-    }
+      common_steps,
+      length-with-delimiter-after,
+      length-with-delimiter-before,
+      pushed-path-and-query-end-at-lengths,
+      option_map-adding-zero-is-unchanged,
+    )
 
 -- positions in a normal text or target: a prefix, a path and a query that are appended have the
 -- positions of these; o0, o2, o3: the text between them

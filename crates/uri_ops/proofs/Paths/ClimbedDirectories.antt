@@ -1,5 +1,5 @@
 -- A reference's path after a directory without dot segments.
-use Rattle.uri_ops.proofs.Common.{◌≡◌, ◌<◌, ◌-◌, ◌+◌, ℕ, Bool, eqb, List, [], ◌∷◌, ◌++◌, length, take, append_assoc, drop, get_or, inr, refl, sym, ap, subst, ◌∙◌, arith, true, drop-append_seam, take-append_seam, before_last_slash, is_empty, IsAbsolute, BeginsWith, EndsIn, IsDotlessDirectory, RemovalState, parent_directory, begins_with_dot, get_or-drop, length-append, take-append-drop, IsSlashOrStart, false≢true}
+use Rattle.uri_ops.proofs.Common.{common_steps, ◌≡◌, ◌<◌, ◌-◌, ◌+◌, ℕ, Bool, eqb, List, [], ◌∷◌, ◌++◌, length, take, append_assoc, drop, sym, ap, subst, ◌∙◌, arith, true, before_last_slash, is_empty, IsAbsolute, BeginsWith, EndsIn, IsDotlessDirectory, RemovalState, parent_directory, begins_with_dot, take-append-drop, IsSlashOrStart, false≢true}
 use Rattle.uri_ops.proofs.Targeting.Targets.{appended-absolute-path-is-absolute}
 use Rattle.uri_ops.proofs.Paths.LastSlashes.{before_last_slash-of-directory, text-is-empty-if-positions-are-equal, length-of-directory}
 
@@ -34,21 +34,7 @@ pub directory-at-start-ends-at-slash : (path kept : List ℕ)
     → IsDotlessDirectory kept → BeginsWith path kept → (0 < length kept)
     × IsSlashOrStart path 0 (length kept - 1) × (take (length kept - 1 + 1) path ≡ kept)
 directory-at-start-ends-at-slash path kept d (rest, e) =
-    let prefix = d.closed.0 in
-    let n : length kept ≡ length prefix + 1 = length-of-directory kept d.closed in
-    let whole : path ≡ prefix ++ (47 ∷ rest) = e ∙ ap (λ t. t ++ rest) d.closed.1
-    ∙ append_assoc prefix (47 ∷ []) rest in
-    let slash : length kept - 1 ≡ length prefix + 0 = omega (arith, n) in
-    let within : length kept - 1 < length path = omega
-    (arith, n, ap length e, length-append kept rest) in
-    let byte : get_or path (length kept - 1) 0 ≡ 47 = ap (λ k. get_or path k 0) slash
-    ∙ sym (get_or-drop (length prefix) path 0 0) ∙ ap
-    (λ t. get_or t 0 0) (ap (drop (length prefix)) whole ∙ drop-append_seam prefix (47 ∷ rest)) in
-    let all : length kept - 1 + 1 ≡ length kept = omega (arith, n) in (
-      omega (arith, n),
-      (omega arith, inr (within, byte)),
-      ap (λ k. take k path) all ∙ ap (take (length kept)) e ∙ take-append_seam kept rest,
-    )
+    grind (arith, common_steps, length-of-directory)
 
 -- general fact on texts, for what is left of a path: a suffix of a suffix is one of the text
 pub rest-of-suffix-is-suffix : (text suffix rest : List ℕ) (n : ℕ) → rest ≡ drop n suffix
@@ -63,11 +49,7 @@ rest-of-suffix-is-suffix text suffix rest n e (before, f) = (
 pub parent-of-directory-is-directory : (path kept rest : List ℕ) (underflowed : Bool)
     → RemovalState path (parent_directory kept) rest underflowed
     → IsDotlessDirectory (parent_directory kept)
-parent-of-directory-is-directory path kept rest underflowed h = record {
-  absolute = h.absolute;
-  closed = (before_last_slash (before_last_slash kept), refl);
-  dotless = h.dotless;
-}
+parent-of-directory-is-directory path kept rest underflowed h = grind arith
 
 -- dot segments: a path that begins with a dot or an octet is not empty
 pub path-beginning-with-dot-is-not-empty : (path : List ℕ) → begins_with_dot path ≡ true

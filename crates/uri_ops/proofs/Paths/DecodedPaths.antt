@@ -31,11 +31,15 @@ set-text-splits set x y e =
 pub set-texts-join-at-slash : (set : TableSet) → set.ascii 47 ≡ true → (x y : List ℕ)
     → is_set_text set x ≡ true → is_set_text set y ≡ true → is_set_text set (x ++ 47 ∷ y) ≡ true
 set-texts-join-at-slash set slash x y e f =
-    let u = set-text-is-utf8 set x e in
-    set-text-from-utf8 set
-    (x ++ 47 ∷ y) (utf8-joined-at-slash-is-utf8 x y u (set-text-is-utf8 set y f))
-    (validity-splits-at-slash set x y u ∙ and_from _ _ (set-text-is-valid set x e) (and_from _ _
-    (ascii_char_is_allowed_iff_in_set set 47 (lit< tt) ∙ slash) (set-text-is-valid set y f)))
+    grind (
+      arith,
+      set-text-is-utf8,
+      set-text-from-utf8,
+      utf8-joined-at-slash-is-utf8,
+      validity-splits-at-slash,
+      set-text-is-valid,
+      ascii_char_is_allowed_iff_in_set,
+    )
 
 -- paths: the segments of a valid text are valid
 pub joined-segments-of-set-text-are-set-texts : (set : TableSet) (s : List ℕ) (rest : List (List ℕ))
@@ -105,14 +109,14 @@ module _ (set : TableSet) (lacks : LacksPercent set) (wide : IsSubset unreserved
   pub decoding-keeps-dot-segments : (s : List ℕ) → is_set_text set s ≡ true
       → KeepsDots (print_decoded set) s
   decoding-keeps-dot-segments s e =
-      let u = decoded-text-is-utf8 set lacks s e in
-      let same = decoding-keeps-decoded-bytes set lacks s e in
-      record {
-        single = single-dot-by-decoded-bytes (print_decoded set s) s u
-            (set-text-is-utf8 set s e) same;
-        double =
-            double-dot-by-decoded-bytes (print_decoded set s) s u (set-text-is-utf8 set s e) same;
-      }
+      grind (
+        arith,
+        decoded-text-is-utf8,
+        decoding-keeps-decoded-bytes,
+        single-dot-by-decoded-bytes,
+        set-text-is-utf8,
+        double-dot-by-decoded-bytes,
+      )
 
   pub decoding-adds-no-slash : (s : List ℕ) → is_set_text set s ≡ true → has_slash s ≡ false
       → has_slash (print_decoded set s) ≡ false
@@ -173,9 +177,8 @@ module _ (set : TableSet) (lacks : LacksPercent set) (wide : IsSubset unreserved
   parent-of-set-texts-are-set-texts : (s : List ℕ) (rest : List (List ℕ))
       → AllPass (is_set_text set) (s ∷ rest)
       → AllPass (is_set_text set) (parent (s ∷ rest) ++ [] ∷ [])
-  parent-of-set-texts-are-set-texts s rest e = appended-segments-pass-test (is_set_text set)
-      (parent (s ∷ rest)) ([] ∷ []) (parent-segments-pass-test (is_set_text set) (s ∷ rest) e)
-      (and_from _ _ (empty-text-is-set-text set) refl)
+  parent-of-set-texts-are-set-texts s rest e =
+      grind (arith, appended-segments-pass-test, parent-segments-pass-test, empty-text-is-set-text)
 
   -- nor does it matter to a directory
   pub directory-of-set-text-is-set-text : set.ascii 47 ≡ true → (path : List ℕ) → IsAbemptyPath path

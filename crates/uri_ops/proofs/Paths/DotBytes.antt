@@ -1,5 +1,5 @@
 -- A dot segment is one that decodes to the bytes of one dot or of two.
-use Rattle.uri_ops.proofs.Common.{◌≡◌, ℕ, ◌+◌, ◌*◌, ◌<◌, Bool, true, false, eqb, List, [], ◌∷◌, ◌++◌, length, refl, sym, ap, subst, ◌∙◌, arith, ◌&&◌, ⊎_elim, inl, inr, ◌⊎◌, codes, bytes_eq, encode_utf8, digit_value, is_ascii_hexdigit, list_any, chars, IsUtf8, encode_utf8_all, append-nil, length-append, encodes-chars, length-encode, len_utf8_bounds, encode_ascii, encode_same, cases_Bool, cond-true, cond-false, and_parts, or_cases, false≢true, false_from_ne_true, eqb-true, nat_tests, tokens, tokens_from_chars, bytes_decoded_from, is_pct_encoded, dots, is_single_dot, is_double_dot, hexdigit_value_is_below_16}
+use Rattle.uri_ops.proofs.Common.{common_steps, ◌≡◌, ℕ, ◌+◌, ◌*◌, ◌<◌, Bool, true, false, eqb, List, [], ◌∷◌, ◌++◌, length, refl, sym, ap, subst, ◌∙◌, arith, ◌&&◌, ⊎_elim, inl, inr, ◌⊎◌, codes, bytes_eq, encode_utf8, digit_value, is_ascii_hexdigit, list_any, chars, IsUtf8, encode_utf8_all, append-nil, length-append, encodes-chars, length-encode, len_utf8_bounds, encode_ascii, encode_same, cases_Bool, and_parts, or_cases, false≢true, false_from_ne_true, eqb-true, nat_tests, tokens, tokens_from_chars, bytes_decoded_from, is_pct_encoded, dots, is_single_dot, is_double_dot, hexdigit_value_is_below_16}
 use Rattle.uri_ops.proofs.Paths.Segments.{equal-bytes-are-equal}
 
 -- dot segments: the text is one of the forms of a dot, `.`, `%2E` and `%2e`
@@ -31,21 +31,13 @@ dot-decodes-to-byte-46 = property-of-each-dot (λ first. bytes_decoded_from (tok
 two-dots-decode-to-bytes-46 : (first second : List ℕ) → IsDot first → IsDot second
     → bytes_decoded_from (tokens (first ++ second)) ≡ 46 ∷ 46 ∷ []
 unfolding chars tokens_from_chars is_pct_encoded encode_utf8
-two-dots-decode-to-bytes-46 first second d e =
-    let P : List ℕ → List ℕ → Type 0 = λ first second. bytes_decoded_from (tokens (first ++ second))
-    ≡ 46 ∷ 46 ∷ [] in
-    property-of-each-dot
-    (λ first. P first second) (property-of-each-dot (P (codes ".")) refl refl refl second e)
-    (property-of-each-dot (P (codes "%2E")) refl refl refl second e)
-    (property-of-each-dot (P (codes "%2e")) refl refl refl second e) first d
+two-dots-decode-to-bytes-46 first second d e = grind (arith, tokens, property-of-each-dot)
 
 -- dot segments: the segment `.` (or `%2E`) decodes to one byte 46
 single-dot-segment-decodes-to-dot : (s : List ℕ) → is_single_dot s ≡ true
     → bytes_decoded_from (tokens s) ≡ 46 ∷ []
 single-dot-segment-decodes-to-dot s e =
-    let w = test-of-some-dot (bytes_eq s) e in
-    ap (λ t. bytes_decoded_from (tokens t)) (equal-bytes-are-equal s w.0 w.1.1)
-    ∙ dot-decodes-to-byte-46 w.0 w.1.0
+    grind (arith, test-of-some-dot, tokens, equal-bytes-are-equal, dot-decodes-to-byte-46)
 
 -- dot segments: the segment `..` (also with `%2E`) decodes to two bytes 46
 double-dot-segment-decodes-to-two-dots : (s : List ℕ)
@@ -151,10 +143,7 @@ text-decoding-to-first-46-begins-with-dot (c ∷ []) bytes e = character-decodin
 text-decoding-to-first-46-begins-with-dot (c ∷ d ∷ []) bytes e = character-decoding-to-46-is-dot c
     (d ∷ []) bytes e
 text-decoding-to-first-46-begins-with-dot (c ∷ h ∷ l ∷ rest) bytes e =
-    ⊎_elim (λ o. octet-decoding-to-46-is-dot c h l rest bytes o
-    (sym (ap bytes_decoded_from (cond-true _ _ _ o)) ∙ e))
-    (λ o. character-decoding-to-46-is-dot c (h ∷ l ∷ rest) bytes
-    (sym (ap bytes_decoded_from (cond-false _ _ _ o)) ∙ e)) (cases_Bool (is_pct_encoded c h l))
+    grind (arith, common_steps, octet-decoding-to-46-is-dot, character-decoding-to-46-is-dot)
 
 -- dot segments: characters that decode to no bytes are none
 text-decoding-to-no-bytes-has-no-characters : (cs : List ℕ)
@@ -165,10 +154,8 @@ text-decoding-to-no-bytes-has-no-characters (c ∷ []) e = absurd
     (utf8-of-character-is-not-empty c [] e)
 text-decoding-to-no-bytes-has-no-characters (c ∷ d ∷ []) e = absurd
     (utf8-of-character-is-not-empty c _ e)
-text-decoding-to-no-bytes-has-no-characters (c ∷ h ∷ l ∷ rest) e = ⊎_elim
-    (λ o. absurd (nil-is-no-cons _ _ (sym (sym (ap bytes_decoded_from (cond-true _ _ _ o)) ∙ e))))
-    (λ o. absurd (utf8-of-character-is-not-empty c _
-    (sym (ap bytes_decoded_from (cond-false _ _ _ o)) ∙ e))) (cases_Bool (is_pct_encoded c h l))
+text-decoding-to-no-bytes-has-no-characters (c ∷ h ∷ l ∷ rest) e =
+    grind (arith, nil-is-no-cons, utf8-of-character-is-not-empty)
 
 -- dot segments: a dot, `.` or `%2E`, is the segment `.`
 dot-is-single-dot-segment : (cs : List ℕ) → IsDot cs → is_single_dot (encode_utf8_all cs) ≡ true
@@ -180,11 +167,7 @@ dot-is-single-dot-segment = property-of-each-dot (λ cs. is_single_dot (encode_u
 two-dots-are-double-dot-segment : (cs ds : List ℕ) → IsDot cs → IsDot ds
     → is_double_dot (encode_utf8_all (cs ++ ds)) ≡ true
 unfolding encode_utf8
-two-dots-are-double-dot-segment cs ds d e =
-    let P : List ℕ → List ℕ → Type 0 = λ cs ds. is_double_dot (encode_utf8_all (cs ++ ds)) ≡ true in
-    property-of-each-dot (λ cs. P cs ds) (property-of-each-dot (P (codes ".")) refl refl refl ds e)
-    (property-of-each-dot (P (codes "%2E")) refl refl refl ds e)
-    (property-of-each-dot (P (codes "%2e")) refl refl refl ds e) cs d
+two-dots-are-double-dot-segment cs ds d e = grind (arith, property-of-each-dot)
 
 -- dot segments: characters that decode to one byte 46 are the segment `.`
 characters-decoding-to-dot-are-single-dot : (cs : List ℕ)
@@ -230,20 +213,26 @@ tests-that-imply-each-other-are-equal a b f g = ⊎_elim (λ e. e ∙ sym (f e))
 pub single-dot-by-decoded-bytes : (s t : List ℕ) → IsUtf8 s → IsUtf8 t
     → bytes_decoded_from (tokens s) ≡ bytes_decoded_from (tokens t) → is_single_dot s
     ≡ is_single_dot t
-single-dot-by-decoded-bytes s t u v e = tests-that-imply-each-other-are-equal (is_single_dot s)
-    (is_single_dot t)
-    (λ h. text-decoding-to-dot-is-single-dot t v (sym e ∙ single-dot-segment-decodes-to-dot s h))
-    (λ h. text-decoding-to-dot-is-single-dot s u (e ∙ single-dot-segment-decodes-to-dot t h))
+single-dot-by-decoded-bytes s t u v e =
+    grind (
+      arith,
+      tests-that-imply-each-other-are-equal,
+      text-decoding-to-dot-is-single-dot,
+      single-dot-segment-decodes-to-dot,
+    )
 
 -- dot segments: whether a segment is `..` (or has it percent-encoded)
 -- depends only on the bytes it decodes to
 pub double-dot-by-decoded-bytes : (s t : List ℕ) → IsUtf8 s → IsUtf8 t
     → bytes_decoded_from (tokens s) ≡ bytes_decoded_from (tokens t) → is_double_dot s
     ≡ is_double_dot t
-double-dot-by-decoded-bytes s t u v e = tests-that-imply-each-other-are-equal
-    (is_double_dot s) (is_double_dot t) (λ h. text-decoding-to-two-dots-is-double-dot t v (sym e
-    ∙ double-dot-segment-decodes-to-two-dots s h)) (λ h. text-decoding-to-two-dots-is-double-dot s u
-    (e ∙ double-dot-segment-decodes-to-two-dots t h))
+double-dot-by-decoded-bytes s t u v e =
+    grind (
+      arith,
+      tests-that-imply-each-other-are-equal,
+      text-decoding-to-two-dots-is-double-dot,
+      double-dot-segment-decodes-to-two-dots,
+    )
 
 -- dot segments: a text that decodes to no bytes is empty
 pub text-decoding-to-no-bytes-is-empty : (s : List ℕ) → IsUtf8 s → bytes_decoded_from (tokens s)

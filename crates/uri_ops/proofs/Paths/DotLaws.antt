@@ -145,10 +145,16 @@ rooted P none each path h = ⊎_elim (λ e. subst P (sym e) none) (each path) h
 -- paths: the directory of a path that is empty or begins with `/` is absolute
 pub directory-is-absolute : (path : List ℕ) → IsAbemptyPath path → IsAbsolute (directory path)
 unfolding directory
-directory-is-absolute = rooted (λ path. IsAbsolute (directory path))
-    (search rules) (property-of-absolute-path-by-segments (λ path. IsAbsolute (directory path)) (λ s
-    rest e. subst IsAbsolute (sym (directory-by-segments s rest e)) (slashed-segments-are-absolute
-    (parent (s ∷ rest) ++ [] ∷ []) (pushed-segments-are-not-none (parent (s ∷ rest)) []))))
+directory-is-absolute =
+    grind (
+      arith,
+      rooted,
+      directory,
+      property-of-absolute-path-by-segments,
+      directory-by-segments,
+      slashed-segments-are-absolute,
+      pushed-segments-are-not-none,
+    )
 
 -- paths: a directory ends in `/`
 pub directory-ends-in-slash : (path : List ℕ) → IsAbemptyPath path → EndsInSlash (directory path)
@@ -233,10 +239,16 @@ path-underflows-as-prefix-or-remainder prefix q = property-of-path-to-slash-by-s
 pub merged-path-underflows-as-base-or-remainder : (path q : List ℕ) → IsAbemptyPath path
     → underflows (directory path ++ q)
     ≡ (underflows path || underflows (directory (remove_dot_segments path) ++ q))
-merged-path-underflows-as-base-or-remainder path q h = path-underflows-as-prefix-or-remainder
-    (directory path) q (directory-is-absolute path h) (directory-ends-in-slash path h) ∙ ap (λ b. b
-    || underflows (remove_dot_segments (directory path) ++ q)) (directory-underflows-as-path path h)
-    ∙ ap (λ t. underflows path || underflows (t ++ q)) (removing-dots-and-directory-swap path h)
+merged-path-underflows-as-base-or-remainder path q h =
+    grind (
+      arith,
+      path-underflows-as-prefix-or-remainder,
+      directory,
+      directory-is-absolute,
+      directory-ends-in-slash,
+      directory-underflows-as-path,
+      removing-dots-and-directory-swap,
+    )
 
 -- paths: two lists of segments, each segment after a `/`, are as long as both texts
 pub length-of-slashed-append-is-sum : (xs ys : List (List ℕ))

@@ -1,5 +1,5 @@
 -- The number of bytes that a dot takes identifies it.
-use Rattle.uri_ops.proofs.Common.{◌≡◌, ◌⊎◌, ℕ, zero, suc, ◌+◌, ◌-◌, ◌<◌, true, false, eqb, List, [], ◌∷◌, ◌++◌, length, take, drop, get_or, refl, sym, ap, subst, ◌∙◌, arith, inl, inr, ⊎_elim, append_assoc, ◌&&◌, ◌||◌, rules, Bool, take-add, drop_at, take-append-drop, length-append, length-drop, take_all, and_parts, cases_Bool, cond-false, cond-true, eqb-true, false≢true, false_from_ne_true, or_cases, bytes_eq, codes, list_any, slice_range, IsAbemptyPath, dots, has_slash, is_dot_segment, is_double_dot, is_single_dot, BeginsWithoutDotSegment, dot_len, ends_segment}
+use Rattle.uri_ops.proofs.Common.{◌≡◌, ◌⊎◌, ℕ, zero, suc, ◌+◌, ◌-◌, ◌<◌, true, false, eqb, List, [], ◌∷◌, ◌++◌, length, take, drop, get_or, refl, sym, ap, subst, ◌∙◌, arith, inl, inr, ⊎_elim, append_assoc, ◌&&◌, ◌||◌, rules, Bool, take-add, drop_at, take-append-drop, length-append, length-drop, take_all, false≢true, false_from_ne_true, bytes_eq, codes, list_any, slice_range, IsAbemptyPath, dots, has_slash, is_dot_segment, is_double_dot, is_single_dot, BeginsWithoutDotSegment, dot_len, ends_segment}
 use Rattle.uri_ops.proofs.Paths.DotBytes.{IsDot, property-of-each-dot, test-of-some-dot}
 use Rattle.uri_ops.proofs.Paths.Segments.{equal-bytes-are-equal}
 use Rattle.uri_ops.proofs.Paths.TakenSegments.{absolute-path-is-slash-and-rest}
@@ -28,12 +28,7 @@ IsDoubleDotWithoutSlash d e = (has_slash (d ++ e) ≡ false) × (is_double_dot (
 two-dots-are-double-dot-without-slash : (d e : List ℕ) → IsDot d → IsDot e
     → IsDoubleDotWithoutSlash d e
 unfolding IsDoubleDotWithoutSlash
-two-dots-are-double-dot-without-slash d e f g =
-    property-of-each-dot (λ d. IsDoubleDotWithoutSlash d e) (property-of-each-dot
-    (IsDoubleDotWithoutSlash (codes ".")) (refl, refl) (refl, refl) (refl, refl) e g)
-    (property-of-each-dot (IsDoubleDotWithoutSlash (codes "%2E"))
-    (refl, refl) (refl, refl) (refl, refl) e g) (property-of-each-dot
-    (IsDoubleDotWithoutSlash (codes "%2e")) (refl, refl) (refl, refl) (refl, refl) e g) d f
+two-dots-are-double-dot-without-slash d e f g = grind (arith, property-of-each-dot)
 
 -- dot segments: a text that begins with the byte 46 begins with a dot
 text-from-byte-46-begins-with-dot : (text : List ℕ) → get_or text 0 0 ≡ 46 → take 1 text ≡ codes "."
@@ -52,30 +47,12 @@ first-three-bytes-are-octet (p ∷ q ∷ r ∷ text) x a b c some = cc
 first-three-bytes-2E-are-dot : (text : List ℕ) → (eqb (get_or text 0 0) 37
     && (eqb (get_or text 1 0) 50 && (eqb (get_or text 2 0) 69 || eqb (get_or text 2 0) 101))) ≡ true
     → IsDot (take 3 text)
-first-three-bytes-2E-are-dot text e =
-    let f = and_parts (eqb (get_or text 0 0) 37) _ e in
-    let g = and_parts (eqb (get_or text 1 0) 50) _ f.1 in
-    let percent = eqb-true _ 37 f.0 in
-    let two = eqb-true _ 50 g.0 in
-    ⊎_elim (λ h. record {
-      joined = inr
-          (inl (first-three-bytes-are-octet text 69 percent two (eqb-true _ 69 h) (omega arith)));
-    }) (λ h. record {
-      joined = inr
-          (inr (first-three-bytes-are-octet text 101 percent two (eqb-true _ 101 h) (omega arith)));
-    }) (or_cases (eqb (get_or text 2 0) 69) _ g.1)
+first-three-bytes-2E-are-dot text e = grind (arith, first-three-bytes-are-octet)
 
 -- dot segments: the bytes that a dot takes at the start of a text are a dot
 prefix-of-dot_len-is-dot : (text : List ℕ) (n : ℕ) → n ≡ dot_len text → 0 < n → IsDot (take n text)
-prefix-of-dot_len-is-dot text n is some = ⊎_elim (λ e.
-    let one : n ≡ 1 = is ∙ cond-true _ _ _ e in
-    subst (λ m. IsDot (take m text)) (sym one) (record {
-      joined = inl (text-from-byte-46-begins-with-dot text (eqb-true _ 46 e));
-    })) (λ e. ⊎_elim (λ f.
-    let three : n ≡ 3 = is ∙ cond-false _ _ _ e ∙ cond-true _ _ _ f in
-    subst (λ m. IsDot (take m text)) (sym three) (first-three-bytes-2E-are-dot text f)) (λ f.
-    let none : n ≡ 0 = is ∙ cond-false _ _ _ e ∙ cond-false _ _ _ f in
-    absurd (omega (arith, none, some))) (cases_Bool _)) (cases_Bool (eqb (get_or text 0 0) 46))
+prefix-of-dot_len-is-dot text n is some =
+    grind (arith, text-from-byte-46-begins-with-dot, first-three-bytes-2E-are-dot)
 
 -- dot segments: a path that is empty or begins with `/` begins with no dot
 abempty-path-has-no-dot_len : (r : List ℕ) → IsAbemptyPath r → dot_len r ≡ 0
@@ -124,10 +101,12 @@ module _ (path : List ℕ) (first second : ℕ) (at : first ≡ dot_len path)
       → (has_slash (take (first + second) path) ≡ false)
       × (is_single_dot (take (first + second) path) ≡ true)
   one-dot-length-is-single-dot none some =
-      let same : first ≡ first + second = omega (arith, none) in
-      subst (λ n. (has_slash (take n path) ≡ false) × (is_single_dot (take n path) ≡ true)) same
-      (one-dot-is-single-dot-without-slash (take first path)
-      (prefix-of-dot_len-is-dot path first at (some-dot-length-means-first some)))
+      grind (
+        arith,
+        one-dot-is-single-dot-without-slash,
+        prefix-of-dot_len-is-dot,
+        some-dot-length-means-first,
+      )
 
   pub two-dot-lengths-are-double-dot : 0 < second → (has_slash (take (first + second) path) ≡ false)
       × (is_double_dot (take (first + second) path) ≡ true)
@@ -175,9 +154,7 @@ module _ (path : List ℕ) (first second : ℕ) (at : first ≡ dot_len path)
       → is_dot_segment s ≡ true → IsFoundByDotLengths s
   unfolding IsFoundByDotLengths
   dot-segment-is-found-by-lengths s r whole rooted dot =
-      ⊎_elim (single-dot-is-found-by-lengths s r whole rooted) (λ double.
-      let t = double-dot-is-found-by-lengths s r whole double in (t.0, omega (arith, t.1)))
-      (or_cases (is_single_dot s) _ dot)
+      grind (arith, single-dot-is-found-by-lengths, double-dot-is-found-by-lengths)
 
   pub no-dot-lengths-no-dot-segment : (0 < first + second
       → ends_segment (drop (first + second) path) ≡ false) → BeginsWithoutDotSegment path

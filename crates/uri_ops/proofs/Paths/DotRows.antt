@@ -1,5 +1,5 @@
 -- Rows that compute.
-use Rattle.uri_ops.proofs.Common.{◌≡◌, ℕ, true, false, List, [], ◌∷◌, ◌++◌, refl, codes, remove_dot_segments, underflows, directory, lacks_dot_segments, run}
+use Rattle.uri_ops.proofs.Common.{arith, ◌≡◌, ℕ, true, false, List, [], ◌∷◌, ◌++◌, refl, codes, remove_dot_segments, underflows, directory, lacks_dot_segments, run}
 
 -- examples of dot segments: a path is the other without its dot segments, and doesn't underflow
 LosesDotsTo : List ℕ → List ℕ → Type 0
@@ -25,20 +25,7 @@ rfc-normal-examples-lose-dot-segments : LosesDotsTo (codes "/b/c/g") (codes "/b/
     × LosesDotsTo (codes "/b/c/../..") (codes "/") × LosesDotsTo (codes "/b/c/../../") (codes "/")
     × LosesDotsTo (codes "/b/c/../../g") (codes "/g")
 unfolding LosesDotsTo remove_dot_segments underflows run
-rfc-normal-examples-lose-dot-segments = (
-  (refl, refl),
-  (refl, refl),
-  (refl, refl),
-  (refl, refl),
-  (refl, refl),
-  (refl, refl),
-  (refl, refl),
-  (refl, refl),
-  (refl, refl),
-  (refl, refl),
-  (refl, refl),
-  (refl, refl),
-)
+rfc-normal-examples-lose-dot-segments = grind arith
 
 -- examples of dot segments: those of RFC 3986, section 5.4, by computation
 rfc-abnormal-examples-lose-dot-segments : UnderflowsTo (codes "/b/c/../../../g") (codes "/g")
@@ -55,22 +42,7 @@ rfc-abnormal-examples-lose-dot-segments : UnderflowsTo (codes "/b/c/../../../g")
     × LosesDotsTo (codes "/b/c/g;x=1/./y") (codes "/b/c/g;x=1/y")
     × LosesDotsTo (codes "/b/c/g;x=1/../y") (codes "/b/c/y")
 unfolding LosesDotsTo UnderflowsTo remove_dot_segments underflows run
-rfc-abnormal-examples-lose-dot-segments = (
-  (refl, refl),
-  (refl, refl),
-  (refl, refl),
-  (refl, refl),
-  (refl, refl),
-  (refl, refl),
-  (refl, refl),
-  (refl, refl),
-  (refl, refl),
-  (refl, refl),
-  (refl, refl),
-  (refl, refl),
-  (refl, refl),
-  (refl, refl),
-)
+rfc-abnormal-examples-lose-dot-segments = grind arith
 
 -- examples of removing dot segments, by computation: encoded dots, in either case and mixed
 encoded-dot-segments-are-removed : LosesDotsTo (codes "/a/b/%2E%2e/c") (codes "/a/c")
@@ -91,20 +63,7 @@ trailing-dots-leave-slash : LosesDotsTo (codes "/a/b/..") (codes "/a/")
     × LosesDotsTo (codes "/a//../b") (codes "/a/b") × LosesDotsTo (codes "/.//a") (codes "//a")
     × LosesDotsTo (codes "/") (codes "/") × LosesDotsTo [] []
 unfolding LosesDotsTo UnderflowsTo remove_dot_segments underflows run
-trailing-dots-leave-slash = (
-  (refl, refl),
-  (refl, refl),
-  (refl, refl),
-  (refl, refl),
-  (refl, refl),
-  (refl, refl),
-  (refl, refl),
-  (refl, refl),
-  (refl, refl),
-  (refl, refl),
-  (refl, refl),
-  (refl, refl),
-)
+trailing-dots-leave-slash = grind arith
 
 -- examples of directories of paths, by computation (RFC 3986, section 5.2.3)
 directories-of-example-paths : (directory [] ≡ codes "/")

@@ -1,5 +1,5 @@
 -- A path in which neither `.` nor `%` is after a `/` has no dot segment, but for its first.
-use Rattle.uri_ops.proofs.Common.{◌≤◌, ◌-◌, inl, inr, subst, drop, ⊎_elim, ◌≡◌, ℕ, zero, suc, ◌+◌, ◌<◌, append_assoc, rules, Bool, true, false, not, List, [], ◌∷◌, ◌++◌, length, take, get_or, refl, sym, ap, ◌∙◌, ◌&&◌, ◌||◌, arith, codes, ◌==◌, take-suc, append-nil, drop_all, drop_at, take-append-drop, take_at, false≢true, cases_lt, and_from, or_from, or_parts, IsAbemptyPath, IsCharBoundary-after_ascii, IsCharBoundary, IsUtf8, IsCutAtSegment, nat_tests, has_slash, is_dot_segment, segments, IsPrefixToSlashDot, BeginsWithoutDotSegment, IsDotlessPrefix, has_slash_dot_at, begins_with_dot}
+use Rattle.uri_ops.proofs.Common.{common_steps, ◌≤◌, ◌-◌, inl, inr, subst, drop, ⊎_elim, ◌≡◌, ℕ, zero, suc, ◌+◌, ◌<◌, append_assoc, rules, Bool, true, false, not, List, [], ◌∷◌, ◌++◌, length, take, get_or, refl, sym, ap, ◌∙◌, ◌&&◌, ◌||◌, arith, ◌==◌, take-suc, drop_at, take-append-drop, take_at, cases_lt, and_from, or_from, or_parts, IsAbemptyPath, IsCharBoundary-after_ascii, IsCharBoundary, IsUtf8, IsCutAtSegment, nat_tests, has_slash, is_dot_segment, segments, IsPrefixToSlashDot, BeginsWithoutDotSegment, IsDotlessPrefix, has_slash_dot_at, begins_with_dot}
 use Rattle.uri_ops.proofs.Paths.Segments.{AllPass, is_dotless}
 use Rattle.uri_ops.proofs.Paths.SlashedSegments.{NoSlashes, slash-in-suffix-is-in-append, first-segment-and-rest-lack-slashes, segments-of-text-lack-slashes, slashed, slashed-of-segments-is-text-after-slash}
 
@@ -39,8 +39,7 @@ first-segment-without-dot-start-is-dotless : (s rest : List ℕ)
 unfolding has_dot_start_after_slash
 first-segment-without-dot-start-is-dotless [] rest e = refl
 first-segment-without-dot-start-is-dotless (c ∷ s) rest e =
-    ap not (segment-without-dot-start-is-dotless c s
-    (or_parts (is_dot_start c) (has_dot_start_after_slash (c == 47) (s ++ rest)) e).0)
+    grind (arith, segment-without-dot-start-is-dotless)
 
 -- dot segments: if no dot begins after a `/`, no segment is a dot segment;
 -- the Bool is whether a `/` is before the text
@@ -64,8 +63,7 @@ unfolding slashed
 prefix-after-first-segment-is-abempty s (t ∷ rest) prefix back e free closed = inr (search rules)
 prefix-after-first-segment-is-abempty s [] prefix back e free (inl none) = inl none
 prefix-after-first-segment-is-abempty s [] prefix back e free (inr ends) =
-    absurd (false≢true (sym free ∙ ap has_slash (sym (append-nil s) ∙ sym e ∙ ends.1)
-    ∙ slash-in-suffix-is-in-append ends.0 (codes "/") refl))
+    grind (arith, common_steps, slash-in-suffix-is-in-append)
 
 -- dot segments: if a path begins with no dot segment,
 -- neither does a prefix that ends where a segment begins
@@ -132,24 +130,20 @@ module _ (bytes : List ℕ) (i : ℕ) (within : i < length bytes) where
   next-byte-adds-no-dot-start : has_dot_start_after_slash false (take i bytes) ≡ false
       → (is_after_slash false (take i bytes) && is_dot_start (get_or bytes i 0)) ≡ false
       → has_dot_start_after_slash false (take (i + 1) bytes) ≡ false
-  next-byte-adds-no-dot-start e f = ap (has_dot_start_after_slash false)
-      (take-one-more-byte bytes i within)
-      ∙ byte-that-is-no-dot-adds-no-dot-start false (take i bytes) (get_or bytes i 0) e f
+  next-byte-adds-no-dot-start e f =
+      grind (arith, take-one-more-byte, byte-that-is-no-dot-adds-no-dot-start)
 
   next-byte-slash-is_after_slash : (get_or bytes i 0 == 47)
       ≡ is_after_slash false (take (i + 1) bytes)
-  next-byte-slash-is_after_slash = sym
-      (ap (is_after_slash false) (take-one-more-byte bytes i within)
-      ∙ slash-last-is_after_slash false (take i bytes) (get_or bytes i 0))
+  next-byte-slash-is_after_slash = grind (arith, take-one-more-byte, slash-last-is_after_slash)
 
 -- dot segments: if no dot begins after a `/` up to byte i, and the next two bytes make none begin,
 -- none does with one more byte
 byte-without-slash-dot-adds-no-dot-start : (bytes : List ℕ) (i : ℕ) → i + 1 < length bytes
     → has_dot_start_after_slash false (take (i + 1) bytes) ≡ false → has_slash_dot_at bytes i
     ≡ false → has_dot_start_after_slash false (take (i + 1 + 1) bytes) ≡ false
-byte-without-slash-dot-adds-no-dot-start bytes i within dotless e = next-byte-adds-no-dot-start
-    bytes (i + 1) within dotless (ap (λ b. b && is_dot_start (get_or bytes (i + 1) 0))
-    (sym (next-byte-slash-is_after_slash bytes i (omega (arith, within)))) ∙ e)
+byte-without-slash-dot-adds-no-dot-start bytes i within dotless e =
+    grind (arith, next-byte-adds-no-dot-start, next-byte-slash-is_after_slash)
 
 -- dot segments: if no dot begins after a `/` up to byte i,
 -- and none in the n bytes after it, none does in all of them
@@ -160,11 +154,14 @@ bytes-without-slash-dot-add-no-dot-start : (bytes : List ℕ) (i n : ℕ) → i 
 bytes-without-slash-dot-add-no-dot-start bytes i zero within dotless none =
     ap (λ m. has_dot_start_after_slash false (take m bytes)) (omega arith) ∙ dotless
 bytes-without-slash-dot-add-no-dot-start bytes i (suc n) within dotless none =
-    let next : i + suc n + 1 ≡ i + n + 1 + 1 = omega arith in
-    ap (λ m. has_dot_start_after_slash false (take m bytes)) next
-    ∙ byte-without-slash-dot-adds-no-dot-start bytes (i
-    + n) (omega (arith, within)) (bytes-without-slash-dot-add-no-dot-start bytes i n
-    (omega (arith, within)) dotless (λ k h. none k (omega (arith, h)))) (none n (omega arith))
+    grind (
+      arith,
+      byte-without-slash-dot-adds-no-dot-start,
+      bytes-without-slash-dot-add-no-dot-start bytes i n (omega (
+        arith,
+        within,
+      )) dotless (λ k h. none k (omega (arith, h))),
+    )
 
 -- dot segments: the first byte of a path begins no dot after a `/`
 first-byte-is-no-dot-start : (bytes : List ℕ) → has_dot_start_after_slash false (take 1 bytes)
@@ -197,14 +194,7 @@ module _ (bytes : List ℕ) (n : ℕ) (h : IsPrefixToSlashDot bytes n) where
       (λ k to. ap (has_slash_dot_at bytes) (omega arith) ∙ h.none k (omega (arith, to)))
 
   prefix-to-slash-dot-is-cut-at-segment : IsCutAtSegment (take n bytes) (drop n bytes)
-  prefix-to-slash-dot-is-cut-at-segment = ⊎_elim (λ (more : n < length bytes).
-      let some = h.some in
-      let end : n - 1 + 1 ≡ n = omega (arith, some) in
-      inr (
-        take (n - 1) bytes,
-        ap (λ m. take m bytes) (sym end) ∙ take-one-more-byte bytes (n - 1) (omega (arith, more))
-            ∙ ap (λ c. take (n - 1) bytes ++ c ∷ []) (h.ends more),
-      )) (λ (all : length bytes ≤ n). inl (drop_all n bytes all)) (cases_lt n (length bytes))
+  prefix-to-slash-dot-is-cut-at-segment = grind (arith, common_steps, take-one-more-byte)
 
   pub prefix-to-slash-dot-is-dotless : BeginsWithoutDotSegment bytes → IsDotlessPrefix bytes n
   unfolding slashed

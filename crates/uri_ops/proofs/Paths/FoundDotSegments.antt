@@ -1,5 +1,5 @@
 -- A dot segment that a path's segments are found to have.
-use Rattle.uri_ops.proofs.Common.{◌≡◌, ◌<◌, ℕ, Bool, true, false, not, List, ◌++◌, ◌&&◌, ◌||◌, length, take, drop, subst, sym, ap, ◌∙◌, list_all, and_right, or_right, take-append-drop, list_all-append, IsAbemptyPath, has_slash, is_dot_segment, is_double_dot, is_single_dot, lacks_dot_segments, segments, IsDotlessDirectory, RemovalState, IsFirstSegment}
+use Rattle.uri_ops.proofs.Common.{arith, ◌≡◌, ◌<◌, ℕ, Bool, true, false, List, ◌++◌, ◌||◌, length, take, drop, subst, sym, ap, ◌∙◌, list_all, and_right, or_right, take-append-drop, list_all-append, IsAbemptyPath, has_slash, is_dot_segment, is_double_dot, is_single_dot, lacks_dot_segments, segments, IsDotlessDirectory, RemovalState, IsFirstSegment}
 use Rattle.uri_ops.proofs.Paths.DotLaws.{appended-segments-lack-slashes, rooted, path-after-slash-appends-its-segments}
 use Rattle.uri_ops.proofs.Paths.LeftPaths.{property-of-dotless-directory-by-segments, removal-state-has-directory}
 use Rattle.uri_ops.proofs.Paths.Segments.{is_dotless}
@@ -10,13 +10,14 @@ use Rattle.uri_ops.proofs.Paths.TakenSegments.{absolute-path-is-slash-and-rest, 
 first-dot-segment-is-in-path : (segment rest : List ℕ) → has_slash segment ≡ false
     → is_dot_segment segment ≡ true → IsAbemptyPath rest
     → lacks_dot_segments (segment ++ rest) ≡ false
-first-dot-segment-is-in-path segment rest lacks dot = rooted (λ rest. lacks_dot_segments (segment
-    ++ rest) ≡ false) (ap (list_all is_dotless) (segments-of-slashless-text-is-one segment lacks)
-    ∙ ap (λ d. not d && true) dot) (λ path absolute.
-    let rest = drop 1 path in
-    ap (λ t. lacks_dot_segments (segment ++ t)) (absolute-path-is-slash-and-rest path absolute)
-    ∙ ap (list_all is_dotless) (segments-split-at-first-slash segment rest lacks)
-    ∙ ap (λ d. not d && list_all is_dotless (segments rest)) dot) rest
+first-dot-segment-is-in-path segment rest lacks dot =
+    grind (
+      arith,
+      rooted,
+      segments-of-slashless-text-is-one,
+      absolute-path-is-slash-and-rest,
+      segments-split-at-first-slash,
+    )
 
 -- dot segments: a path that has one has it also after a directory without any
 dot-segment-after-directory-is-in-path : (kept path : List ℕ) → IsDotlessDirectory kept

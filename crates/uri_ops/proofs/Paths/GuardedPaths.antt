@@ -1,5 +1,5 @@
 -- Paths with `/.` before them, if they would otherwise be parsed as an authority.
-use Rattle.uri_ops.proofs.Common.{◌≡◌, ℕ, true, false, List, ◌++◌, length, take, drop, refl, sym, ap, ◌∙◌, arith, length-append, subst, Option, Some, None, is_some, IsCharBoundary, IsUtf8, IsCharBoundary-from_take, cond-false, false≢true, drop_at, take_at, has_authority, guarded}
+use Rattle.uri_ops.proofs.Common.{common_steps, ◌≡◌, ℕ, true, false, List, ◌++◌, length, take, drop, refl, sym, ap, ◌∙◌, arith, length-append, subst, Option, Some, None, is_some, IsCharBoundary, IsUtf8, IsCharBoundary-from_take, cond-false, false≢true, take_at, has_authority, guarded}
 
 -- guarded paths: a path that is appended to a text begins where a character does
 pub pushed-path-begins-at-boundary : (old path new : List ℕ) (start : ℕ)
@@ -25,7 +25,4 @@ pub guard-inserted-before-path : (authority : Option (List ℕ)) (old mid new pa
     (start : ℕ) → is_some authority ≡ false → start ≡ length old → mid ≡ old ++ path
     → new ≡ take start mid ++ guarded None (drop start mid) → new ≡ old ++ guarded authority path
 guard-inserted-before-path (Some a) old mid new path start e at is put = absurd (false≢true (sym e))
-guard-inserted-before-path None old mid new path start e at is put =
-    put ∙ ap (λ t. take start t ++ guarded None (drop start t)) is
-    ∙ ap (λ t. t ++ guarded None (drop start (old ++ path))) (take_at old path start (sym at))
-    ∙ ap (λ t. old ++ guarded None t) (drop_at old path start (sym at))
+guard-inserted-before-path None old mid new path start e at is put = grind (arith, common_steps)

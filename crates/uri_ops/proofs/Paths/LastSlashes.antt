@@ -1,5 +1,5 @@
 -- The cut at the last `/` of what is in a text from a place on.
-use Rattle.uri_ops.proofs.Common.{◌≡◌, ℕ, suc, ◌+◌, ◌-◌, ◌<◌, ◌≤◌, true, false, eqb, List, [], ◌∷◌, ◌++◌, length, take, drop, get_or, refl, sym, ap, subst, ◌∙◌, arith, append_assoc, add-zero, drop-cons, cond, inl, inr, ⊎_elim, rules, tests, take-add, append-nil, take-append-drop, drop-drop, take_at, drop_at, take-append-le, length-append, length-drop, length-take, length-take-le, get_or-drop, get_or-take, cond-false, cond-true, or_parts, eqb-true, ne_eqb, false≢true, nat_tests, IsCharBoundary-after_ascii, codes, ◌==◌, IsUtf8, IsCharBoundary, IsAbemptyPath, is_empty, has_slash, is_double_dot, before_last_slash, last_segment, remove_dot_segments, directory, IsAbsolute, EndsInSlash, IsDotlessDirectory, parent_directory, IsSlashOrStart, eq_true_from_IsTrue}
+use Rattle.uri_ops.proofs.Common.{common_steps, ◌≡◌, ℕ, suc, ◌+◌, ◌-◌, ◌<◌, ◌≤◌, true, false, eqb, List, [], ◌∷◌, ◌++◌, length, take, drop, get_or, refl, sym, ap, ◌∙◌, arith, append_assoc, drop-cons, cond, inl, inr, rules, tests, take-add, append-nil, take-append-drop, drop-drop, take_at, drop_at, take-append-le, length-append, length-take-le, cond-false, cond-true, or_parts, eqb-true, ne_eqb, false≢true, nat_tests, IsCharBoundary-after_ascii, codes, ◌==◌, IsUtf8, IsCharBoundary, IsAbemptyPath, is_empty, has_slash, is_double_dot, before_last_slash, last_segment, remove_dot_segments, directory, IsAbsolute, EndsInSlash, IsDotlessDirectory, parent_directory, IsSlashOrStart, eq_true_from_IsTrue}
 use Rattle.uri_ops.proofs.Paths.DotStarts.{take-one-more-byte}
 use Rattle.uri_ops.proofs.Paths.TakenSegments.{trailing-double-dot-leaves-slash}
 use Rattle.uri_ops.proofs.Paths.SlashedSegments.{slash-in-suffix-is-in-append, before_last_slash-of-append, last_segment-of-append}
@@ -52,9 +52,8 @@ prefix-to-last-slash bytes start end from within slash none =
 -- paths: if there is no `/` from start on, what is before the last one from there is nothing
 pub prefix-without-slash-after-start : (bytes : List ℕ) (start : ℕ) → has_slash (drop start bytes)
     ≡ false → take start bytes ≡ take start bytes ++ before_last_slash (drop start bytes)
-prefix-without-slash-after-start bytes start none = sym (ap (λ t. take start bytes
-    ++ t) (before_last_slash-of-slashless-is-empty (drop start bytes) none)
-    ∙ append-nil (take start bytes))
+prefix-without-slash-after-start bytes start none =
+    grind (arith, common_steps, before_last_slash-of-slashless-is-empty)
 
 -- paths: if there is no `/` from start on, there is none from the next byte on
 pub slashless-suffix-stays-slashless : (bytes : List ℕ) (start : ℕ)
@@ -74,19 +73,15 @@ last_segment-after-slash x y e = last_segment-of-append x (47 ∷ y) refl ∙ co
 directory-by-last-slash : (x y : List ℕ) → has_slash y ≡ false
     → directory (x ++ 47 ∷ y) ≡ cond (is_double_dot y) ((x ++ 47 ∷ y) ++ codes "/") (x ++ codes "/")
 unfolding directory
-directory-by-last-slash [] y e = ap (λ s. cond (is_double_dot s) ((47 ∷ y) ++ codes "/")
-    (before_last_slash (47 ∷ y) ++ codes "/")) (last_segment-after-slash [] y e)
-    ∙ ap (λ t. cond (is_double_dot y) ((47 ∷ y) ++ codes "/") (t ++ codes "/"))
-    (before_last_slash-of-slashless-tail [] y e)
+directory-by-last-slash [] y e =
+    grind (arith, last_segment-after-slash, before_last_slash-of-slashless-tail)
 directory-by-last-slash (c ∷ x) y e =
-    ap (λ s. cond (is_double_dot s) (((c ∷ x) ++ 47 ∷ y) ++ codes "/")
-    (cond (has_slash ((c ∷ x) ++ 47 ∷ y)) (before_last_slash ((c ∷ x) ++ 47 ∷ y) ++ codes "/")
-    [])) (last_segment-after-slash (c ∷ x) y e)
-    ∙ ap (λ b. cond (is_double_dot y) (((c ∷ x) ++ 47 ∷ y) ++ codes "/")
-    (cond b (before_last_slash ((c ∷ x) ++ 47 ∷ y) ++ codes "/") []))
-    (slash-in-suffix-is-in-append (c ∷ x) (47 ∷ y) refl)
-    ∙ ap (λ t. cond (is_double_dot y) (((c ∷ x) ++ 47 ∷ y) ++ codes "/") (t ++ codes "/"))
-    (before_last_slash-of-slashless-tail (c ∷ x) y e)
+    grind (
+      arith,
+      last_segment-after-slash,
+      slash-in-suffix-is-in-append,
+      before_last_slash-of-slashless-tail,
+    )
 
 -- paths: in an absolute path, the position of a last slash is that of a `/` (47)
 pub slash-position-is-of-slash : (path : List ℕ) (slash : ℕ) → IsAbsolute path
@@ -104,9 +99,7 @@ module _ (path : List ℕ) (slash : ℕ) (absolute : IsAbsolute path)
       IsCharBoundary-after_ascii path slash u at.0 (omega (arith, at.1))
 
   pub cut : path ≡ take slash path ++ 47 ∷ drop (slash + 1) path
-  cut = let at = slash-position-is-of-slash path slash absolute place in sym
-      (take-append-drop slash path)
-      ∙ ap (λ t. take slash path ++ t) (suffix-at-slash-begins-with-slash path slash at.0 at.1)
+  cut = grind (arith, common_steps, slash-position-is-of-slash, suffix-at-slash-begins-with-slash)
 
   pub prefix-through-slash-ends-in-slash : take (slash + 1) path ≡ take slash path ++ codes "/"
   prefix-through-slash-ends-in-slash = let at = slash-position-is-of-slash path slash absolute
@@ -118,9 +111,7 @@ module _ (path : List ℕ) (slash : ℕ) (absolute : IsAbsolute path)
 
   directory-by-slash-position : has_slash (drop (slash + 1) path) ≡ false → directory path ≡ cond
       (is_double_dot (drop (slash + 1) path)) (path ++ codes "/") (take slash path ++ codes "/")
-  directory-by-slash-position last = ap directory cut ∙ directory-by-last-slash (take slash path)
-      (drop (slash + 1) path) last ∙ ap (λ t. cond (is_double_dot (drop (slash + 1) path))
-      (t ++ codes "/") (take slash path ++ codes "/")) (sym cut)
+  directory-by-slash-position last = grind (arith, directory, cut, directory-by-last-slash)
 
   directory-is-prefix-to-slash : has_slash (drop (slash + 1) path) ≡ false
       → is_double_dot (drop (slash + 1) path) ≡ false
@@ -145,22 +136,23 @@ module _ (path : List ℕ) (slash : ℕ) (absolute : IsAbsolute path)
     (last : has_slash (drop (slash + 1) path) ≡ false) where
   pub prefix-with-last-slash-is-directory : is_double_dot (drop (slash + 1) path) ≡ false
       → take (slash + 1) path ≡ directory path
-  prefix-with-last-slash-is-directory e = prefix-through-slash-ends-in-slash path slash
-      absolute place
-      ∙ sym (directory-is-prefix-to-slash path slash absolute place last e)
+  prefix-with-last-slash-is-directory e =
+      grind (arith, prefix-through-slash-ends-in-slash, directory-is-prefix-to-slash)
 
   path-with-double-dot-and-slash-is-directory : is_double_dot (drop (slash + 1) path) ≡ true
       → (take slash path ++ 47 ∷ drop (slash + 1) path) ++ 47 ∷ [] ≡ directory path
   path-with-double-dot-and-slash-is-directory e =
-      ap (λ t. t ++ 47 ∷ []) (sym (cut path slash absolute place))
-      ∙ sym (directory-of-double-dot-adds-slash path slash absolute place last e)
+      grind (arith, cut, directory-of-double-dot-adds-slash)
 
   pub trailing-double-dot-path-is-its-directory : is_double_dot (drop (slash + 1) path) ≡ true
       → remove_dot_segments path ≡ remove_dot_segments (directory path)
-  trailing-double-dot-path-is-its-directory e = ap remove_dot_segments
-      (cut path slash absolute place) ∙ trailing-double-dot-leaves-slash (take slash path)
-      (drop (slash + 1) path) (subst IsAbsolute (cut path slash absolute place) absolute) last e
-      ∙ ap remove_dot_segments (path-with-double-dot-and-slash-is-directory e)
+  trailing-double-dot-path-is-its-directory e =
+      grind (
+        arith,
+        cut,
+        trailing-double-dot-leaves-slash,
+        path-with-double-dot-and-slash-is-directory,
+      )
 
 -- paths: what is before the last `/` of a directory is the directory without it
 pub before_last_slash-of-directory : (path : List ℕ) → (d : EndsInSlash path)
@@ -190,11 +182,7 @@ module _ (text : List ℕ) (start : ℕ) (d : IsDotlessDirectory (drop start tex
   parts : (length text ≡ start + length prefix + 1)
       × (text ≡ (take start text ++ prefix) ++ codes "/")
   unfolding prefix
-  parts = (
-    omega (arith, length-drop start text, length-of-directory (drop start text) d.closed),
-    sym (take-append-drop start text) ∙ ap (λ t. take start text ++ t) d.closed.1
-        ∙ sym (append_assoc (take start text) d.closed.0 (codes "/")),
-  )
+  parts = grind (arith, common_steps, length-of-directory)
 
   prefix-before-start-has-its-length : length (take start text) ≡ start
   prefix-before-start-has-its-length = length-take-le start text (omega (arith, parts.0))
@@ -214,21 +202,7 @@ module _ (text : List ℕ) (start : ℕ) (d : IsDotlessDirectory (drop start tex
   module _ (all : List ℕ) (all_is : all ≡ take (length text - 1) text) (slash : ℕ)
       (place : IsSlashOrStart all start slash) where
     pub slash-before-popped-segment : (slash < length text) × (get_or text slash 0 ≡ 47)
-    slash-before-popped-segment = ⊎_elim
-        (λ e. (
-          omega (arith, e, parts.0),
-          ap (λ n. get_or text n 0) (e ∙ sym (add-zero start))
-              ∙ sym (get_or-drop start text 0 0)
-              ∙ absolute-path-has-slash-first (drop start text) d.absolute,
-        ))
-        (λ e.
-        let within : slash < length text - 1 =
-        omega (arith, e.0, ap length all_is, length-take (length text - 1) text) in (
-          omega (arith, within),
-          sym (get_or-take (length text - 1) text slash 0 within)
-              ∙ ap (λ t. get_or t slash 0) (sym all_is) ∙ e.1,
-        ))
-        place.1
+    slash-before-popped-segment = grind (arith, common_steps, absolute-path-has-slash-first)
 
     pub popped-directory-is-parent : take slash all ≡ take start all ++ before_last_slash
         (drop start all)
@@ -267,9 +241,7 @@ module _ (text : List ℕ) (start : ℕ) (d : IsDotlessDirectory (drop start tex
 pub byte-after-segment-is-slash : (path : List ℕ) (end : ℕ)
     → IsAbemptyPath (drop end path) → end < length path → get_or path end 0 ≡ 47
 byte-after-segment-is-slash path end h within =
-    ⊎_elim (λ e. absurd (omega (arith, within, ap length e, length-drop end path)))
-    (λ e. ap (λ n. get_or path n 0) (sym (add-zero end))
-    ∙ sym (get_or-drop end path 0 0) ∙ absolute-path-has-slash-first (drop end path) e) h
+    grind (arith, common_steps, absolute-path-has-slash-first)
 
 -- paths: the directory of `/` is `/`
 pub directory-of-root : directory (codes "/") ≡ codes "/"

@@ -1,6 +1,6 @@
 -- What is left of a path while its segments are taken one after the other: what is after a
 -- directory without dot segments, which is all that was kept so far.
-use Rattle.uri_ops.proofs.Common.{◌≡◌, ℕ, ◌-◌, ◌<◌, ◌≤◌, Bool, true, false, List, [], ◌∷◌, ◌++◌, length, take, drop, refl, sym, ap, subst, ◌∙◌, ◌||◌, append_assoc, arith, inl, inr, ⊎_elim, codes, ◌==◌, list_all, slice_range, or-false, or_assoc, append-nil, take-append-drop, drop_at, take_at, drop-append-le, take-append-le, length-drop, length-take-le, list_all-append, and_parts, and_from, cases_Bool, false≢true, or_right, IsAbemptyPath, is_single_dot, is_double_dot, is_empty, before_last_slash, has_slash, lacks_dot_segments, segments, remove_dot_segments, underflows, IsAbsolute, IsDotlessDirectory, IsCutAtSegment, RemovalState, parent_directory, eq_true_from_IsTrue}
+use Rattle.uri_ops.proofs.Common.{common_steps, ◌≡◌, ℕ, ◌-◌, ◌<◌, ◌≤◌, Bool, true, false, List, [], ◌∷◌, ◌++◌, length, take, drop, refl, sym, ap, subst, ◌∙◌, ◌||◌, append_assoc, arith, inl, inr, ⊎_elim, codes, ◌==◌, list_all, slice_range, or-false, or_assoc, take-append-drop, drop_at, take_at, drop-append-le, take-append-le, length-drop, length-take-le, list_all-append, and_parts, and_from, cases_Bool, false≢true, or_right, IsAbemptyPath, is_single_dot, is_double_dot, is_empty, before_last_slash, has_slash, lacks_dot_segments, segments, remove_dot_segments, underflows, IsAbsolute, IsDotlessDirectory, IsCutAtSegment, RemovalState, parent_directory, eq_true_from_IsTrue}
 use Rattle.uri_ops.proofs.Paths.Segments.{pop, is_none, next_output, step_of, AllPass, is_dotless, pop-undoes-push, popped-segments-pass-test, appended-segments-pass-test, pushed-segments-are-not-none, single-dot-is-not-double}
 use Rattle.uri_ops.proofs.Paths.Underflows.{underflows_at}
 use Rattle.uri_ops.proofs.Paths.SlashedSegments.{slashed, lacks_slash, NoSlashes, slashed-of-push, before_last_slash-of-slashed-is-popped, slashed-is-empty-if-no-segments, segments-of-slashed-segments}
@@ -26,13 +26,7 @@ pub removal-state-without-rest-is-done : (path kept : List ℕ) (underflowed : B
     → RemovalState path kept [] underflowed
     → (kept ≡ remove_dot_segments path) × (underflowed ≡ underflows path)
 removal-state-without-rest-is-done path kept underflowed h =
-    let none = append-nil kept in (
-      sym (remove-dots-of-dotless kept h.absolute h.dotless) ∙ ap remove_dot_segments (sym none)
-          ∙ h.removed,
-      sym (ap (λ t. underflowed || underflows t) none ∙ ap (λ b. underflowed || b)
-          (dotless-path-does-not-underflow kept h.absolute h.dotless) ∙ or-false underflowed)
-          ∙ h.underflow,
-    )
+    grind (arith, common_steps, remove-dots-of-dotless, dotless-path-does-not-underflow)
 
 -- general fact on lists, for what is left of a path: one of a length above 0 is not empty
 rest-with-bytes-is-not-nil : (rest : List ℕ) → 0 < length rest → rest ≡ [] → ⊥
@@ -42,11 +36,8 @@ rest-with-bytes-is-not-nil rest some e = omega (arith, some, ap length e)
 -- Bool is whether there was an underflow
 pub removal-state-has-directory : (path kept rest : List ℕ) (underflowed : Bool)
     → RemovalState path kept rest underflowed → 0 < length rest → IsDotlessDirectory kept
-removal-state-has-directory path kept rest underflowed h some = record {
-  absolute = h.absolute;
-  closed = ⊎_elim (λ e. absurd (rest-with-bytes-is-not-nil rest some e)) (λ e. e) h.closed;
-  dotless = h.dotless;
-}
+removal-state-has-directory path kept rest underflowed h some =
+    grind (arith, rest-with-bytes-is-not-nil)
 
 -- general fact on texts, for what is left of a path: one whose length is not 0 has bytes
 pub rest-of-nonzero-length-has-bytes : (rest : List ℕ) → (length rest == 0) ≡ false
@@ -58,9 +49,7 @@ rest-of-nonzero-length-has-bytes (c ∷ rest) e = omega arith
 -- u, u': whether there was an underflow
 pub removal-state-of-equals : (path kept kept' rest rest' : List ℕ) (u u' : Bool) → kept' ≡ kept
     → rest' ≡ rest → u' ≡ u → RemovalState path kept rest u → RemovalState path kept' rest' u'
-removal-state-of-equals path kept kept' rest rest' u u' e f g h =
-    subst (RemovalState path kept' rest') (sym g) (subst (λ r. RemovalState path kept' r u)
-    (sym f) (subst (λ k. RemovalState path k rest u) (sym e) h))
+removal-state-of-equals path kept kept' rest rest' u u' e f g h = grind arith
 
 -- paths: if a path has no dot segment, its first segments have none
 prefix-of-dotless-segments-is-dotless : (xs ys : List (List ℕ)) → NoSlashes (xs ++ ys)

@@ -1,5 +1,5 @@
 -- The characters of what is left of a path are the path's.
-use Rattle.uri_ops.proofs.Common.{◌≡◌, ℕ, Bool, true, false, not, List, [], ◌∷◌, ◌++◌, refl, sym, ap, ◌∙◌, ◌&&◌, list_all, list_all-append, All-weaker, AllPass-from_list_all, list_all-from_AllPass, and_parts, and_from, cond_both, not-true, not_from_false, is_one_of, Lacks, is_double_dot, is_empty, has_slash, before_last_slash, up_to_last_slash, last_segment, remove_dot_segments, directory, IsAbsolute}
+use Rattle.uri_ops.proofs.Common.{common_steps, arith, ◌≡◌, ℕ, Bool, true, false, not, List, [], ◌∷◌, ◌++◌, refl, sym, ap, ◌∙◌, list_all, list_all-append, All-weaker, list_all-from_AllPass, and_parts, and_from, cond_both, not_from_false, is_one_of, Lacks, has_slash, before_last_slash, remove_dot_segments, directory, IsAbsolute}
 use Rattle.uri_ops.proofs.Paths.Segments.{dotless_of, dotless_of-pass-test}
 use Rattle.uri_ops.proofs.Paths.SlashedSegments.{slashed, remove-dots-by-segments}
 use Rattle.uri_ops.proofs.Paths.DotLaws.{property-of-absolute-path-by-segments}
@@ -10,8 +10,7 @@ slashed-passes-if-segments-pass : (p : ℕ → Bool) → p 47 ≡ true → (segs
 unfolding slashed
 slashed-passes-if-segments-pass p slash [] = refl
 slashed-passes-if-segments-pass p slash (s ∷ rest) =
-    ap (λ b. b && list_all p (s ++ slashed rest)) slash ∙ list_all-append p s (slashed rest)
-    ∙ ap (λ b. list_all p s && b) (slashed-passes-if-segments-pass p slash rest)
+    grind (arith, common_steps, slashed-passes-if-segments-pass p slash rest)
 
 -- removing dot segments: the bytes left pass a test that `/` (47) and all of the path pass
 path-without-dots-passes-test : (p : ℕ → Bool) → p 47 ≡ true → (path : List ℕ) → IsAbsolute path
@@ -42,13 +41,8 @@ text-with-last-slash-passes-test p slash text e = list_all-append p text (47 ∷
 directory-passes-test : (p : ℕ → Bool) → p 47 ≡ true → (path : List ℕ) → list_all p path ≡ true
     → list_all p (directory path) ≡ true
 unfolding directory
-directory-passes-test p slash path e = cond_both (is_empty path)
-    (47 ∷ []) _ (λ t. list_all p t ≡ true) (λ h. text-with-last-slash-passes-test p slash [] refl)
-    (λ h. cond_both (is_double_dot (last_segment path)) (path ++ 47 ∷ []) (up_to_last_slash path)
-    (λ t. list_all p t ≡ true) (λ d. text-with-last-slash-passes-test p slash path e)
-    (λ d. cond_both (has_slash path) (before_last_slash path ++ 47 ∷ []) []
-    (λ t. list_all p t ≡ true) (λ g. text-with-last-slash-passes-test p slash
-    (before_last_slash path) (before_last_slash-passes-test p path e)) (λ g. refl)))
+directory-passes-test p slash path e =
+    grind (arith, text-with-last-slash-passes-test, before_last_slash-passes-test)
 
 -- paths: a text that lacks delimiters passes the test for it, byte by byte
 pub lacked-delimiters-fail-test : (marks text : List ℕ) → Lacks marks text
@@ -60,9 +54,7 @@ lacked-delimiters-fail-test marks text h = list_all-from_AllPass (λ c. not (is_
 -- paths: if no character is one of the delimiters, the text lacks them
 pub test-of-delimiters-gives-lacks : (marks text : List ℕ)
     → list_all (λ c. not (is_one_of marks c)) text ≡ true → Lacks marks text
-test-of-delimiters-gives-lacks marks text h = All-weaker (λ c. not (is_one_of marks c) ≡ true)
-    (λ c. is_one_of marks c ≡ false) (λ c e. not-true _ e) text
-    (AllPass-from_list_all (λ c. not (is_one_of marks c)) text h)
+test-of-delimiters-gives-lacks marks text h = grind (arith, common_steps)
 
 -- removing dot segments: a path gets no delimiter that it lacked, such as `?`
 pub removing-dots-adds-no-character : (marks : List ℕ) → is_one_of marks 47 ≡ false

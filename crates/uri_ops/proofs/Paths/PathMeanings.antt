@@ -1,6 +1,5 @@
 -- The path of a meaning: removing its dot segments, guarding and decoding it again change nothing.
-use Rattle.uri_ops.proofs.Common.{◌≡◌, ℕ, true, eqb, List, [], ◌∷◌, ◌++◌, refl, sym, ap, subst, ◌∙◌, ◌&&◌, ⊎_elim, arith, lit<, codes, Option, IsUtf8, chars, low_scalar, IsUtf8-encode, encode_ascii, cases_Bool, cond-true, cond-false, cond_both, and_from, and_parts, eqb-true, TableSet, tokens_from_chars, is_valid_for, decode_unreserved, ascii_char_is_allowed_iff_in_set, starts, has_authority, remove_dot_segments, IsAbsolute, dotless_if_absolute, guarded, IsComponentSet, print_decoded, eq_true_from_IsTrue, equal-to-true-is-IsTrue}
-use Rattle.std.specs.Prelude.{is_none as is_absent}
+use Rattle.uri_ops.proofs.Common.{◌≡◌, ℕ, true, eqb, List, [], ◌∷◌, ◌++◌, refl, sym, ap, subst, ◌∙◌, arith, lit<, codes, Option, IsUtf8, chars, low_scalar, IsUtf8-encode, encode_ascii, cond_both, and_from, and_parts, eqb-true, TableSet, tokens_from_chars, is_valid_for, decode_unreserved, ascii_char_is_allowed_iff_in_set, starts, has_authority, remove_dot_segments, IsAbsolute, dotless_if_absolute, guarded, IsComponentSet, print_decoded, eq_true_from_IsTrue, equal-to-true-is-IsTrue}
 use Rattle.uri_ops.proofs.Paths.Segments.{is_none, next_output, step_of, steps, dotless_of, dotless_of-prefix-first}
 use Rattle.uri_ops.proofs.Paths.SlashedSegments.{slashed, remove-dots-by-segments}
 use Rattle.uri_ops.proofs.Paths.DotLaws.{property-of-absolute-path-by-segments, removing-dots-keeps-absolute, removing_dots_is_idempotent}
@@ -19,11 +18,14 @@ removing-dots-keeps-leading-slash path = cond_both (starts 47 path)
 -- unchanged
 pub dotless_if_absolute-is-idempotent : (path : List ℕ)
     → dotless_if_absolute (dotless_if_absolute path) ≡ dotless_if_absolute path
-dotless_if_absolute-is-idempotent path = ⊎_elim (λ e. cond-true _ _ _
-    (removing-dots-keeps-leading-slash path ∙ e) ∙ ap remove_dot_segments (cond-true _ _ _ e)
-    ∙ removing_dots_is_idempotent path (equal-to-true-is-IsTrue _ e) ∙ sym (cond-true _ _ _ e))
-    (λ e. cond-false _ _ _ (removing-dots-keeps-leading-slash path ∙ e))
-    (cases_Bool (starts 47 path))
+dotless_if_absolute-is-idempotent path =
+    grind (
+      arith,
+      removing-dots-keeps-leading-slash,
+      removing_dots_is_idempotent,
+      equal-to-true-is-IsTrue,
+      starts,
+    )
 
 -- dot segments: a guard `/.` before a path makes no difference to what is left of it
 dotless_of-leading-dot-drops-it : (s : List ℕ) (rest : List (List ℕ))
@@ -50,12 +52,12 @@ two-slashes-begin-with-slash (c ∷ path) e = (and_parts (eqb c 47) _ e).0
 pub guard-is-removed-as-dot-segment : (authority : Option (List ℕ)) (path : List ℕ)
     → dotless_if_absolute (guarded authority path) ≡ dotless_if_absolute path
 guard-is-removed-as-dot-segment authority path =
-    cond_both (is_absent authority && has_authority path)
-    (codes "/." ++ path) path (λ t. dotless_if_absolute t ≡ dotless_if_absolute path) (λ e.
-    let first = two-slashes-begin-with-slash path
-    (and_parts (is_absent authority) (has_authority path) e).1 in
-    removing-dots-removes-guard path (equal-to-true-is-IsTrue _ first)
-    ∙ sym (cond-true _ _ _ first)) (λ e. refl)
+    grind (
+      arith,
+      two-slashes-begin-with-slash,
+      removing-dots-removes-guard,
+      equal-to-true-is-IsTrue,
+    )
 
 module _ (set : TableSet) (w : IsComponentSet (codes "?#[]") set)
     (slash : set.ascii 47 ≡ true) where
@@ -81,26 +83,24 @@ module _ (set : TableSet) (w : IsComponentSet (codes "?#[]") set)
 
   pub guarded-set-text-is-set-text : (authority : Option (List ℕ)) (path : List ℕ)
       → is_set_text set path ≡ true → is_set_text set (guarded authority path) ≡ true
-  guarded-set-text-is-set-text authority path f = cond_both
-      (is_absent authority && has_authority path) (codes "/." ++ path) path (λ t. is_set_text set t
-      ≡ true) (λ e. path-with-guard-is-set-text path (two-slashes-begin-with-slash path
-      (and_parts (is_absent authority) (has_authority path) e).1) f) (λ e. f)
+  guarded-set-text-is-set-text authority path f =
+      grind (arith, path-with-guard-is-set-text, two-slashes-begin-with-slash)
 
   pub path-without-dots-is-set-text : (path : List ℕ) → is_set_text set path ≡ true
       → is_set_text set (dotless_if_absolute path) ≡ true
-  path-without-dots-is-set-text path f = cond_both (starts 47 path) (remove_dot_segments path) path
-      (λ t. is_set_text set t ≡ true) (λ e. dotless-set-text-is-set-text
-      set w.percent w.unreserved slash path (equal-to-true-is-IsTrue _ e) f) (λ e. f)
+  path-without-dots-is-set-text path f =
+      grind (arith, starts, dotless-set-text-is-set-text, equal-to-true-is-IsTrue)
 
   pub dotless_if_absolute-and-decoding-swap : (path : List ℕ) → is_set_text set path ≡ true
       → dotless_if_absolute (print_decoded set path) ≡ print_decoded set (dotless_if_absolute path)
   dotless_if_absolute-and-decoding-swap path f =
-      let first = decoding-keeps-leading-slash set w.percent w.unreserved path f in
-      ⊎_elim (λ e. cond-true _ _ _ (first ∙ e)
-      ∙ removing-dots-and-decoding-swap set w.percent w.unreserved path
-      (equal-to-true-is-IsTrue _ e) f ∙ ap (print_decoded set) (sym (cond-true _ _ _ e)))
-      (λ e. cond-false _ _ _ (first ∙ e) ∙ ap (print_decoded set) (sym (cond-false _ _ _ e)))
-      (cases_Bool (starts 47 path))
+      grind (
+        arith,
+        decoding-keeps-leading-slash,
+        removing-dots-and-decoding-swap,
+        equal-to-true-is-IsTrue,
+        starts,
+      )
 
   -- the path of a normal text decodes as the path
   pub normal-path-decodes-as-path : (authority : Option (List ℕ)) (path : List ℕ)
@@ -108,9 +108,11 @@ module _ (set : TableSet) (w : IsComponentSet (codes "?#[]") set)
       (print_decoded set (dotless_if_absolute path))))
       ≡ decode_unreserved set (dotless_if_absolute path)
   normal-path-decodes-as-path authority path f =
-      let clean = path-without-dots-is-set-text path f in
-      ap (decode_unreserved set) (
-      guard-is-removed-as-dot-segment authority (print_decoded set (dotless_if_absolute path))
-      ∙ dotless_if_absolute-and-decoding-swap (dotless_if_absolute path) clean
-      ∙ ap (print_decoded set) (dotless_if_absolute-is-idempotent path))
-      ∙ decode_unreserved-is-idempotent set w.percent (dotless_if_absolute path) clean
+      grind (
+        arith,
+        path-without-dots-is-set-text,
+        guard-is-removed-as-dot-segment,
+        dotless_if_absolute-and-decoding-swap,
+        dotless_if_absolute-is-idempotent,
+        decode_unreserved-is-idempotent,
+      )

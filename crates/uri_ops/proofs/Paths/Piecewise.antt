@@ -11,18 +11,7 @@ use Rattle.uri_ops.proofs.Paths.DotRuns.{not-empty-has-length}
 
 -- paths: copying a path keeps its slashes and dot segments, as decoding does
 pub identity-keeps-slashes-and-dots : KeepsSlashesAndDots (λ text. text) (λ text. true)
-identity-keeps-slashes-and-dots = record {
-  nothing = refl;
-  none = refl;
-  empty = λ text e. refl;
-  cut = λ x y e. (refl, refl);
-  join = λ x y e f. refl;
-  pieces = λ x y e. refl;
-  free = λ s e f. f;
-  single = λ s e. refl;
-  double = λ s e. refl;
-  dotless = λ text e f. f;
-}
+identity-keeps-slashes-and-dots = grind arith
 
 module _ (set : TableSet) (w : IsComponentSet (codes "?#[]") set) (slash : set.ascii 47 ≡ true)
   where

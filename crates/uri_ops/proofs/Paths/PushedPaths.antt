@@ -1,6 +1,6 @@
 -- What is appended of a path without its dot segments, and of a reference's path after the
 -- directory of a base's path.
-use Rattle.uri_ops.proofs.Common.{◌≡◌, ◌<◌, ◌≤◌, ℕ, zero, suc, Bool, true, false, List, [], ◌∷◌, ◌++◌, length, take, drop, sym, ap, subst, ◌∙◌, ◌||◌, inr, arith, ⊎_elim, take-length, eqb-true, false≢true, eq_true_from_IsTrue, ◌==◌, IsUtf8, IsCharBoundary, IsCharBoundary-after_ascii, length-drop, take-append-drop, take_at, drop_at, lacks_dot_segments, remove_dot_segments, underflows, directory, IsAbsolute, EndsInSlash, IsCutAtSegment, IsDotlessDirectory, RemovalState, begins_with_dot, merged}
+use Rattle.uri_ops.proofs.Common.{common_steps, ◌≡◌, ◌<◌, ◌≤◌, ℕ, zero, suc, Bool, true, false, List, [], ◌∷◌, ◌++◌, length, take, drop, sym, ap, subst, ◌∙◌, ◌||◌, inr, arith, eqb-true, false≢true, eq_true_from_IsTrue, ◌==◌, IsUtf8, IsCharBoundary, IsCharBoundary-after_ascii, take-append-drop, take_at, drop_at, lacks_dot_segments, remove_dot_segments, underflows, directory, IsAbsolute, EndsInSlash, IsCutAtSegment, IsDotlessDirectory, RemovalState, begins_with_dot, merged}
 use Rattle.uri_ops.proofs.Paths.DotLaws.{directory-is-absolute, directory-ends-in-slash, removing-dots-keeps-absolute, removing-dots-and-directory-swap, prefix-dots-may-be-removed-first, removing-dots-leaves-no-dot-segment, remove-dots-of-dotless, path-underflows-as-prefix-or-remainder, dotless-path-does-not-underflow}
 
 -- paths: a prefix of an absolute path, one byte at least, is absolute
@@ -23,14 +23,7 @@ pub removal-begins-after-dotless-prefix : (path : List ℕ) (n : ℕ) → IsAbso
     → lacks_dot_segments (take n path) ≡ true → IsCutAtSegment (take n path) (drop n path)
     → RemovalState path (take n path) (drop n path) false
 removal-begins-after-dotless-prefix path n h some dotless closed =
-    let whole : take n path ++ drop n path ≡ path = take-append-drop n path in
-    record {
-      removed = ap remove_dot_segments whole;
-      underflow = ap underflows whole;
-      absolute = prefix-of-absolute-path-is-absolute path n h some;
-      dotless = dotless;
-      closed = closed;
-    }
+    grind (arith, common_steps, prefix-of-absolute-path-is-absolute)
 
 -- paths: a character begins after the first `/` of an absolute path
 pub position-after-root-is-boundary : (path : List ℕ) → IsUtf8 path → IsAbsolute path
@@ -45,11 +38,7 @@ pub dotless-path-is-its-own-removal : (path prefix : List ℕ) (n : ℕ)
     → IsAbsolute path → n ≡ length path → lacks_dot_segments (take n path) ≡ true
     → prefix ≡ take n path → (prefix ≡ remove_dot_segments path) × (false ≡ underflows path)
 dotless-path-is-its-own-removal path prefix n absolute end dotless is =
-    let all : take n path ≡ path = ap (λ m. take m path) end ∙ take-length path in
-    let free = sym (ap lacks_dot_segments all) ∙ dotless in (
-      is ∙ all ∙ sym (remove-dots-of-dotless path absolute free),
-      sym (dotless-path-does-not-underflow path absolute free),
-    )
+    grind (arith, common_steps, remove-dots-of-dotless, dotless-path-does-not-underflow)
 
 -- after the old text
 module _ (old : List ℕ) (start : ℕ) (at : start ≡ length old) (mid : List ℕ) where
@@ -71,12 +60,7 @@ module _ (old : List ℕ) (start : ℕ) (at : start ≡ length old) (mid : List 
         → lacks_dot_segments (take n path) ≡ true → IsCutAtSegment (take n path) (drop n path)
         → IsDotlessDirectory (drop start mid)
     pushed-dotless-path-prefix-is-directory some within more dotless closed =
-        subst IsDotlessDirectory (sym pushed-text-is-path-prefix) (record {
-          absolute = prefix-of-absolute-path-is-absolute path n absolute some;
-          closed = ⊎_elim (λ none. absurd
-              (more (omega (arith, within, length-drop n path, ap length none)))) (λ d. d) closed;
-          dotless = dotless;
-        })
+        grind (arith, common_steps, pushed-text-is-path-prefix, prefix-of-absolute-path-is-absolute)
 
     module _ (rest : List ℕ) (left : rest ≡ drop n path) where
       pushed-prefix-and-rest-are-path : drop start mid ++ rest ≡ path
@@ -122,23 +106,31 @@ module _ (old : List ℕ) (start : ℕ) (at : start ≡ length old) (mid : List 
       pub pushed-merged-path-loses-its-dots : (new : List ℕ) → take start new ≡ take start mid
           → drop start new ≡ remove_dot_segments (drop start mid ++ reference)
           → new ≡ old ++ remove_dot_segments (merged base reference)
-      pushed-merged-path-loses-its-dots new before kept = whole (remove_dot_segments prefix) new
-          (remove_dot_segments (merged base reference)) e before (kept
-          ∙ ap (λ t. remove_dot_segments (t ++ reference)) pushed-text-is-dotless-directory-of-base
-          ∙ sym (prefix-dots-may-be-removed-first (directory path) reference
-          (directory-is-absolute path (inr absolute)) (directory-ends-in-slash path (inr absolute)))
-          ∙ ap (λ t. remove_dot_segments (t ++ reference)) same)
+      pushed-merged-path-loses-its-dots new before kept =
+          grind (
+            arith,
+            whole,
+            merged,
+            pushed-text-is-dotless-directory-of-base,
+            prefix-dots-may-be-removed-first,
+            directory,
+            directory-is-absolute,
+            directory-ends-in-slash,
+          )
 
       pub base-or-rest-underflows-as-merged-path : (of_base of_reference : Bool)
           → of_base ≡ underflows prefix → underflows prefix ≡ underflows (directory path)
           → of_reference ≡ underflows (drop start mid ++ reference)
           → (of_base || of_reference) ≡ underflows (merged base reference)
       base-or-rest-underflows-as-merged-path of_base of_reference f g h =
-          ap (λ b. b || of_reference) (f ∙ g) ∙ ap (λ b. underflows (directory path) || b) (h
-          ∙ ap (λ t. underflows (t ++ reference)) pushed-text-is-dotless-directory-of-base)
-          ∙ sym (path-underflows-as-prefix-or-remainder (directory path) reference
-          (directory-is-absolute path (inr absolute)) (directory-ends-in-slash path (inr absolute)))
-          ∙ ap (λ t. underflows (t ++ reference)) same
+          grind (
+            arith,
+            directory,
+            pushed-text-is-dotless-directory-of-base,
+            path-underflows-as-prefix-or-remainder,
+            directory-is-absolute,
+            directory-ends-in-slash,
+          )
 
 -- the decoded form of a base's path
 module _ (path prefix : List ℕ) (n : ℕ) (is : prefix ≡ take n path) where

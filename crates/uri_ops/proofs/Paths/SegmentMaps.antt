@@ -1,6 +1,6 @@
 -- A change of segments that keeps which of them are dots may come before or after the removal of
 -- dot segments.
-use Rattle.uri_ops.proofs.Common.{◌≡◌, ℕ, Bool, true, false, cond, List, [], ◌∷◌, ◌++◌, map, refl, sym, ap, ◌∙◌, ◌||◌, list_all, map-append, and_parts, is_single_dot, is_double_dot, is_dot_segment}
+use Rattle.uri_ops.proofs.Common.{arith, ◌≡◌, ℕ, Bool, true, false, cond, List, [], ◌∷◌, ◌++◌, map, refl, sym, ap, ◌∙◌, ◌||◌, list_all, map-append, and_parts, is_single_dot, is_double_dot}
 use Rattle.uri_ops.proofs.Paths.Segments.{pop, is_none, next_output, step_of, steps, end_of, closing, dotless_of, parent, AllPass}
 use Rattle.uri_ops.proofs.Paths.Underflows.{underflows_at, underflows_over}
 
@@ -42,11 +42,7 @@ module _ (f : List ℕ → List ℕ) (among : List ℕ → Bool)
   step_of-and-map-swap : (output : List (List ℕ)) (s : List ℕ) → among s ≡ true
       → step_of (map f output) (f s) ≡ map f (step_of output s)
   unfolding step_of
-  step_of-and-map-swap output s e =
-      let k = keeps s e in
-      ap (λ b. next_output b (is_double_dot (f s)) (map f output) (f s)) k.single
-      ∙ ap (λ b. next_output (is_single_dot s) b (map f output) (f s)) k.double
-      ∙ next_output-and-map-swap f (is_single_dot s) (is_double_dot s) output s
+  step_of-and-map-swap output s e = grind (arith, next_output-and-map-swap)
 
   steps-and-map-swap : (output segs : List (List ℕ)) → AllPass among segs
       → steps (map f output) (map f segs) ≡ map f (steps output segs)
@@ -65,10 +61,7 @@ module _ (f : List ℕ → List ℕ) (among : List ℕ → Bool)
       → closing (map f segs) ≡ map f (closing segs)
   unfolding closing
   closing-and-map-swap nil [] e = refl
-  closing-and-map-swap nil (s ∷ []) e =
-      let k = keeps s (and_parts (among s) true e).0 in
-      ap (λ b. end_of (b || is_double_dot (f s))) k.single ∙ ap
-      (λ b. end_of (is_single_dot s || b)) k.double ∙ end_of-and-map-swap nil (is_dot_segment s)
+  closing-and-map-swap nil (s ∷ []) e = grind (arith, end_of, end_of-and-map-swap)
   closing-and-map-swap nil (s ∷ t ∷ rest) e =
       closing-and-map-swap nil (t ∷ rest) (and_parts (among s) (list_all among (t ∷ rest)) e).1
 

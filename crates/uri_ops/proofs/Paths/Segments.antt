@@ -1,5 +1,5 @@
 -- Dot segments over a list of segments, as a machine that goes over them once.
-use Rattle.uri_ops.proofs.Common.{◌≡◌, ℕ, Bool, true, false, cond, not, List, [], ◌∷◌, ◌++◌, refl, sym, ap, ◌∙◌, ◌||◌, ⊎_elim, append_assoc, codes, bytes_eq, list_all, append-nil, list_all-append, cond-false, and_parts, and_from, or_cases, or_parts, false≢true, not-true, not_from_false, bytes_eq-Decides, is_single_dot, is_double_dot, is_dot_segment}
+use Rattle.uri_ops.proofs.Common.{common_steps, arith, ◌≡◌, ℕ, Bool, true, false, cond, not, List, [], ◌∷◌, ◌++◌, refl, sym, ap, ◌∙◌, ◌||◌, append_assoc, bytes_eq, list_all, append-nil, list_all-append, cond-false, and_parts, and_from, or_parts, false≢true, not-true, not_from_false, bytes_eq-Decides, is_single_dot, is_double_dot, is_dot_segment}
 
 -- all but the last
 unfoldable pub pop : List (List ℕ) → List (List ℕ)
@@ -57,11 +57,7 @@ equal-bytes-are-equal a b e = (bytes_eq-Decides a b).0 e
 
 -- dot segments: `.` is not `..`
 pub single-dot-is-not-double : (s : List ℕ) → is_single_dot s ≡ true → is_double_dot s ≡ false
-single-dot-is-not-double s e =
-    ⊎_elim (λ h. ap is_double_dot (equal-bytes-are-equal s (codes ".") h))
-    (λ f. ⊎_elim (λ h. ap is_double_dot (equal-bytes-are-equal s (codes "%2E") h)) (λ f. ⊎_elim
-    (λ h. ap is_double_dot (equal-bytes-are-equal s (codes "%2e") h)) (λ f. absurd (false≢true f))
-    (or_cases _ _ f)) (or_cases _ _ f)) (or_cases (bytes_eq s (codes ".")) _ e)
+single-dot-is-not-double s e = grind (arith, common_steps, equal-bytes-are-equal)
 
 -- dot segments: the steps over two lists of segments are those over the first, then over the second
 steps-of-append : (output xs ys : List (List ℕ))
@@ -163,10 +159,7 @@ dotless_of-pass-test p q kept e segs f =
 step_of-dotless-appends-it : (output : List (List ℕ)) (s : List ℕ) → is_dotless s ≡ true
     → step_of output s ≡ output ++ s ∷ []
 unfolding step_of next_output
-step_of-dotless-appends-it output s e =
-    let f = or_parts (is_single_dot s) (is_double_dot s) (not-true _ e) in
-    ap (λ b. next_output b (is_double_dot s) output s) f.0
-    ∙ ap (λ b. next_output false b output s) f.1
+step_of-dotless-appends-it output s e = grind arith
 
 -- dot segments: segments of which none is one are all kept after the output
 pub steps-of-dotless-append-all : (output xs : List (List ℕ))
@@ -218,9 +211,8 @@ pub dotless_of-prefix-first : (xs ys : List (List ℕ)) → is_none ys ≡ false
     → dotless_of (xs ++ ys) ≡ dotless_of (steps [] xs ++ ys)
 unfolding is_none
 dotless_of-prefix-first xs [] e = absurd (false≢true (sym e))
-dotless_of-prefix-first xs (y ∷ ys) e = dotless_of-append xs y ys
-    ∙ sym (dotless_of-append (steps [] xs) y ys ∙ ap (λ o. steps o (y ∷ ys)
-    ++ closing (y ∷ ys)) (steps-of-dotless-append-all [] (steps [] xs) (steps_are_dotless xs)))
+dotless_of-prefix-first xs (y ∷ ys) e =
+    grind (arith, dotless_of-append, steps-of-dotless-append-all, steps_are_dotless)
 
 -- removing dot segments: the steps over a last segment if it is `..` are a step, and else nothing
 steps-of-segment-if-double-dot : (b : Bool) (output : List (List ℕ)) (s : List ℕ)

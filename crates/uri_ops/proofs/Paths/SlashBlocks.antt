@@ -3,15 +3,13 @@ use Rattle.uri_ops.proofs.Common.{◌≡◌, ℕ, zero, suc, ◌+◌, ◌<◌, �
 use Rattle.std.specs.Simd.Lanes.{mask_l, chunk}
 use Rattle.std.proofs.Math.Nat.{pow-suc}
 use Rattle.std.proofs.lemmas.Nat.{leading_top}
-use Rattle.std.proofs.lemmas.Nat.Bits.{bit_at-suc, bit_at-zero, bit_at_above, bit_at_lowest}
+use Rattle.std.proofs.lemmas.Nat.Bits.{bit_at-suc, bit_at_above, bit_at_lowest}
 
 -- paths: if n bytes from at on have no `/`, and none is after them, none is from at on
 run-without-slash-extends-slashless-suffix : (n : ℕ) (bs : List ℕ) (at : ℕ) → at + n ≤ length bs
     → ((k : ℕ) → k < n → eqb (get_or bs (at + k) 0) 47 ≡ false)
     → has_slash (drop (at + n) bs) ≡ false → has_slash (drop at bs) ≡ false
-run-without-slash-extends-slashless-suffix zero bs at room each suffix =
-    let same : at ≡ at + 0 = omega arith in
-    ap (λ m. has_slash (drop m bs)) same ∙ suffix
+run-without-slash-extends-slashless-suffix zero bs at room each suffix = grind arith
 run-without-slash-extends-slashless-suffix (suc n) bs at room each suffix =
     let here : at ≡ at + 0 = omega arith in
     let next : suc at + n ≡ at + suc n = omega arith in
@@ -29,9 +27,7 @@ pub zero-mask-block-extends-slashless-suffix : (bs : List ℕ) (at mask : ℕ) �
     → mask ≡ mask_l (map (λ b. eqb b 47) (chunk at 16 bs)) → mask ≡ 0
     → has_slash (drop (at + 16) bs) ≡ false → has_slash (drop at bs) ≡ false
 zero-mask-block-extends-slashless-suffix bs at mask room places none suffix =
-    run-without-slash-extends-slashless-suffix 16 bs at room
-    (λ k h. sym (mask_bit_is_equality_of_byte 47 bs at k room h)
-    ∙ ap (λ m. is_set_bit m k) (sym places ∙ none) ∙ ap (λ m. eqb m 1) (bit_at-zero k)) suffix
+    grind (arith, run-without-slash-extends-slashless-suffix, mask_bit_is_equality_of_byte)
 
 -- general fact on numbers, for masks of lanes: one from 2 ^ j on and below 2 ^ (j + 1) has bit j
 highest-bit-is-set : (j n : ℕ) → 2 ^ j ≤ n → n < 2 ^ suc j → bit_at n j ≡ 1

@@ -1,5 +1,5 @@
 -- A path that begins with `/` as its segments: what is done to the text is done to them.
-use Rattle.uri_ops.proofs.Common.{◌≡◌, ℕ, zero, suc, ◌+◌, ◌≤◌, Bool, true, false, cond, eqb, not, List, [], ◌∷◌, ◌++◌, length, take, drop, refl, sym, ap, ◌∙◌, arith, ◌||◌, ⊎_elim, append_assoc, codes, list_all, prefix_len, onto_first, append-nil, length-append, list_any-append, cases_Bool, cond-true, cond-false, and_parts, and_from, eqb-true, or_parts, or_right, not_from_false, not-true, nat_tests, is_one_of, before_any, from_any, is_single_dot, is_double_dot, is_dot_segment, segments, is_empty, has_slash, before_last_slash, last_segment, Buffers, or_slash, step, run, remove_dot_segments, underflows, directory}
+use Rattle.uri_ops.proofs.Common.{common_steps, ◌≡◌, ℕ, zero, suc, ◌+◌, ◌≤◌, Bool, true, false, cond, eqb, not, List, [], ◌∷◌, ◌++◌, length, take, drop, refl, sym, ap, ◌∙◌, arith, ◌||◌, append_assoc, codes, list_all, prefix_len, onto_first, append-nil, length-append, list_any-append, cond-true, cond-false, and_parts, and_from, or_parts, or_right, not_from_false, nat_tests, is_one_of, before_any, from_any, is_single_dot, is_double_dot, is_dot_segment, segments, is_empty, has_slash, before_last_slash, last_segment, Buffers, or_slash, step, run, remove_dot_segments, underflows, directory}
 use Rattle.uri_ops.proofs.Paths.Segments.{pop, is_none, next_output, step_of, steps, end_of, closing, dotless_of, parent, AllPass, next_output-passes-test}
 use Rattle.uri_ops.proofs.Paths.Underflows.{underflows_at, underflows_over}
 
@@ -16,9 +16,7 @@ NoSlashes segs = AllPass lacks_slash segs
 
 pub first-segment-and-rest-lack-slashes : (s : List ℕ) (rest : List (List ℕ)) → NoSlashes (s ∷ rest)
     → (has_slash s ≡ false) × NoSlashes rest
-first-segment-and-rest-lack-slashes s rest e = let f = and_parts (lacks_slash s)
-    (list_all lacks_slash rest) e in
-    (not-true _ f.0, f.1)
+first-segment-and-rest-lack-slashes s rest e = grind arith
 
 pub slashed-of-append : (xs ys : List (List ℕ)) → slashed (xs ++ ys) ≡ slashed xs ++ slashed ys
 unfolding slashed
@@ -68,10 +66,14 @@ unfolding slashed pop
 before_last_slash-of-slashed-is-popped [] e = refl
 before_last_slash-of-slashed-is-popped (s ∷ []) e = ap before_last_slash (ap (λ t. 47 ∷ t)
     (append-nil s)) ∙ cond-false _ _ _ (first-segment-and-rest-lack-slashes s [] e).0
-before_last_slash-of-slashed-is-popped (s ∷ t ∷ rest) e = before_last_slash-of-append (47 ∷ s)
-    (slashed (t ∷ rest)) refl
-    ∙ ap (λ r. 47 ∷ s ++ r) (before_last_slash-of-slashed-is-popped (t ∷ rest)
-    (first-segment-and-rest-lack-slashes s (t ∷ rest) e).1)
+before_last_slash-of-slashed-is-popped (s ∷ t ∷ rest) e =
+    grind (
+      arith,
+      common_steps,
+      before_last_slash-of-append,
+      first-segment-and-rest-lack-slashes,
+      before_last_slash-of-slashed-is-popped (t ∷ rest) (first-segment-and-rest-lack-slashes s (t ∷ rest) e).1,
+    )
 
 pub slashed-is-empty-if-no-segments : (xs : List (List ℕ)) → is_empty (slashed xs) ≡ is_none xs
 unfolding slashed is_none
@@ -112,21 +114,18 @@ unfolding next_output underflows_at
 buffers-after-one-segment true double s rest output before e =
     ap (λ i. buffers i (slashed output) before) (or_slash-of-slashed-segments rest)
 buffers-after-one-segment false true s rest output before e =
-    ap (λ i. buffers i (before_last_slash (slashed output)) (before || is_empty (slashed output)))
-    (or_slash-of-slashed-segments rest) ∙ ap (λ o. buffers (slashed (or_empty_segment true rest)) o
-    (before || is_empty (slashed output))) (before_last_slash-of-slashed-is-popped output e)
-    ∙ ap (λ b. buffers (slashed (or_empty_segment true rest)) (slashed (pop output)) (before || b))
-    (slashed-is-empty-if-no-segments output)
-buffers-after-one-segment false false s rest output before e = ap (λ i. buffers
-    (slashed i) (slashed output ++ 47 ∷ s) before) (no-dot-leaves-segments-as-they-are rest) ∙ ap
-    (λ o. buffers (slashed (or_empty_segment false rest)) o before) (sym (slashed-of-push output s))
+    grind (
+      arith,
+      or_slash-of-slashed-segments,
+      before_last_slash-of-slashed-is-popped,
+      slashed-is-empty-if-no-segments,
+    )
+buffers-after-one-segment false false s rest output before e =
+    grind (arith, no-dot-leaves-segments-as-they-are, slashed-of-push)
 
 -- removing dot segments: the buffers after the step of section 5.2.4 for a segment
 buffers_after_cut : List ℕ → List ℕ → List (List ℕ) → Bool → Buffers
-buffers_after_cut segment rest output before =
-    cond (is_single_dot segment) (buffers (or_slash rest) (slashed output) before)
-    (cond (is_double_dot segment) (buffers (or_slash rest) (before_last_slash (slashed output))
-    (before || is_empty (slashed output))) (buffers rest (slashed output ++ 47 ∷ segment) before))
+buffers_after_cut segment rest output before = grind arith
 
 -- removing dot segments: a step of RFC 3986, section 5.2.4, takes one segment from the input
 step-takes-one-segment : (s : List ℕ) (rest output : List (List ℕ)) (before : Bool) → has_slash s
@@ -135,10 +134,7 @@ step-takes-one-segment : (s : List ℕ) (rest output : List (List ℕ)) (before 
     (slashed (step_of output s)) (underflows_at (is_single_dot s) (is_double_dot s) before output)
 unfolding slashed step_of buffers_after_cut
 step-takes-one-segment s rest output before e f =
-    let p = text-splits-before-next-slash s rest e in
-    ap (λ segment. buffers_after_cut segment (from_any (codes "/") (s ++ slashed rest))
-    output before) p.0 ∙ ap (λ tail. buffers_after_cut s tail output before) p.1
-    ∙ buffers-after-one-segment (is_single_dot s) (is_double_dot s) s rest output before f
+    grind (arith, text-splits-before-next-slash, buffers_after_cut, buffers-after-one-segment)
 
 -- removing dot segments: with an empty input, n more steps change nothing
 run-of-empty-input-is-done : (n : ℕ) (output : List ℕ) (before : Bool)
@@ -155,9 +151,8 @@ unfolding run slashed
 run-of-closing-slash-appends-it n false output before h = run-of-empty-input-is-done n
     (slashed output) before ∙ ap (λ o. buffers [] (slashed o) before) (sym (append-nil output))
 run-of-closing-slash-appends-it zero true output before h = absurd (omega arith)
-run-of-closing-slash-appends-it (suc n) true output before h = run-of-empty-input-is-done n
-    (slashed output ++ 47 ∷ []) before
-    ∙ ap (λ o. buffers [] o before) (sym (slashed-of-push output []))
+run-of-closing-slash-appends-it (suc n) true output before h =
+    grind (arith, run-of-empty-input-is-done, slashed-of-push)
 
 -- removing dot segments: enough steps of section 5.2.4 take all segments from the input
 run-takes-all-segments : (n : ℕ) (segs output : List (List ℕ)) (before : Bool) → NoSlashes segs
@@ -249,10 +244,12 @@ directory-text-of-slashed-segments : (s : List ℕ) (rest : List (List ℕ))
     ∷ rest)) (slashed (pop (s ∷ rest))) ≡ slashed (parent (s ∷ rest)) ++ 47 ∷ []
 unfolding slashed parent pop directory_text_of
 directory-text-of-slashed-segments s [] e =
-    let last : last_segment (47 ∷ s ++ []) ≡ s = ap (λ t. last_segment (47 ∷ t)) (append-nil s)
-    ∙ cond-false _ _ _ (first-segment-and-rest-lack-slashes s [] e).0 in
-    ap (λ segment. directory_text_of segment (47 ∷ s ++ []) []) last
-    ∙ slashed-of-segment-if-double-dot (is_double_dot s) s
+    grind (
+      arith,
+      common_steps,
+      first-segment-and-rest-lack-slashes,
+      slashed-of-segment-if-double-dot,
+    )
 directory-text-of-slashed-segments s (t ∷ rest) e =
     let T = slashed (t ∷ rest) in
     let U = slashed (pop (t ∷ rest)) in
@@ -302,26 +299,23 @@ slashed-of-onto_first c (s ∷ parts) text e = ap (λ t. 47 ∷ c ∷ t)
 pub slashed-of-segments-is-text-after-slash : (text : List ℕ) → slashed (segments text) ≡ 47 ∷ text
 unfolding slashed
 slashed-of-segments-is-text-after-slash [] = refl
-slashed-of-segments-is-text-after-slash (c ∷ text) = ⊎_elim (λ e. ap slashed (cond-true _ _ _ e)
-    ∙ ap (λ t. 47 ∷ t) (slashed-of-segments-is-text-after-slash text)
-    ∙ ap (λ b. 47 ∷ b ∷ text) (sym (eqb-true c 47 e))) (λ e. ap slashed (cond-false _ _ _ e)
-    ∙ slashed-of-onto_first c (segments text) text (slashed-of-segments-is-text-after-slash text))
-    (cases_Bool (eqb c 47))
+slashed-of-segments-is-text-after-slash (c ∷ text) =
+    grind (
+      arith,
+      slashed-of-onto_first,
+      slashed-of-segments-is-text-after-slash text,
+      slashed-of-segments-is-text-after-slash text,
+    )
 
 onto_first-adds-no-slash : (c : ℕ) (parts : List (List ℕ)) → eqb c 47 ≡ false → NoSlashes parts
     → NoSlashes (onto_first c parts)
 onto_first-adds-no-slash c [] e f = and_from _ _ (not_from_false _ (ap (λ t. t || false) e)) refl
-onto_first-adds-no-slash c (s ∷ parts) e f = let g = first-segment-and-rest-lack-slashes
-    s parts f in
-    and_from _ _ (not_from_false _ (ap (λ t. t || has_slash s) e ∙ g.0)) g.1
+onto_first-adds-no-slash c (s ∷ parts) e f = grind (arith, first-segment-and-rest-lack-slashes)
 
 pub segments-of-text-lack-slashes : (text : List ℕ) → NoSlashes (segments text)
 segments-of-text-lack-slashes [] = refl
-segments-of-text-lack-slashes (c ∷ text) = ⊎_elim
-    (λ e. ap (list_all lacks_slash) (cond-true _ _ _ e) ∙ segments-of-text-lack-slashes text)
-    (λ e. ap (list_all lacks_slash) (cond-false _ _ _ e)
-    ∙ onto_first-adds-no-slash c (segments text) e (segments-of-text-lack-slashes text))
-    (cases_Bool (eqb c 47))
+segments-of-text-lack-slashes (c ∷ text) =
+    grind (arith, onto_first-adds-no-slash, segments-of-text-lack-slashes text)
 
 onto_first-is-not-none : (c : ℕ) (parts : List (List ℕ)) → is_none (onto_first c parts) ≡ false
 unfolding is_none
@@ -331,9 +325,7 @@ onto_first-is-not-none c (s ∷ parts) = refl
 pub segments-of-text-are-not-none : (text : List ℕ) → is_none (segments text) ≡ false
 unfolding is_none
 segments-of-text-are-not-none [] = refl
-segments-of-text-are-not-none (c ∷ text) = ⊎_elim (λ e. ap is_none (cond-true _ _ _ e))
-    (λ e. ap is_none (cond-false _ _ _ e) ∙ onto_first-is-not-none c (segments text))
-    (cases_Bool (eqb c 47))
+segments-of-text-are-not-none (c ∷ text) = grind (arith, is_none, onto_first-is-not-none)
 
 -- paths: a first segment, and others each after a `/`, has these segments
 pub segments-of-joined-segments : (s : List ℕ) (rest : List (List ℕ)) → NoSlashes (s ∷ rest)

@@ -1,5 +1,5 @@
 -- The segments of a path, taken one after the other after a directory that has no dot segment.
-use Rattle.uri_ops.proofs.Common.{◌≡◌, ℕ, Bool, true, false, List, [], ◌∷◌, ◌++◌, drop, refl, sym, ap, ◌∙◌, ◌||◌, append-nil, and_from, eqb-true, false≢true, not_from_false, or_right, IsAbemptyPath, is_single_dot, is_double_dot, is_dot_segment, has_slash, segments, remove_dot_segments, underflows, IsAbsolute, eq_true_from_IsTrue}
+use Rattle.uri_ops.proofs.Common.{arith, ◌≡◌, ℕ, Bool, true, false, List, [], ◌∷◌, ◌++◌, drop, refl, sym, ap, ◌∙◌, ◌||◌, append-nil, and_from, eqb-true, false≢true, not_from_false, or_right, IsAbemptyPath, is_single_dot, is_double_dot, is_dot_segment, has_slash, segments, remove_dot_segments, underflows, IsAbsolute, eq_true_from_IsTrue}
 use Rattle.uri_ops.proofs.Paths.Segments.{is_none, step_of, steps, end_of, closing, dotless_of, AllPass, is_dotless, steps-of-dotless-append-all, dotless_of-append, dotless_of-with-empty-last, closing-of-append, next_output-passes-test, appended-segments-pass-test}
 use Rattle.uri_ops.proofs.Paths.Underflows.{underflows_at, underflows_over, underflows_over_is_or, dotless-segments-do-not-underflow, underflows_over-of-append, trailing-slash-changes-no-underflow}
 use Rattle.uri_ops.proofs.Paths.SlashedSegments.{slashed, lacks_slash, NoSlashes, slashed-of-push, remove-dots-by-segments, underflows-by-segments, slashed-of-segments-is-text-after-slash, segments-of-text-lack-slashes, segments-of-text-are-not-none, segments-of-joined-segments}
@@ -18,19 +18,28 @@ module _ (xs : List (List ℕ)) (dotless : AllPass is_dotless xs) (s : List ℕ)
       → dotless_of (xs ++ s ∷ ys) ≡ dotless_of (step_of xs s ++ ys)
   unfolding is_none steps closing
   dotless_of-after-step-is-same [] e = absurd (false≢true (sym e))
-  dotless_of-after-step-is-same (y ∷ ys) e = dotless_of-append xs s (y ∷ ys) ∙ ap
-      (λ o. steps o (s ∷ y ∷ ys) ++ closing (y ∷ ys)) (steps-of-dotless-append-all [] xs dotless)
-      ∙ sym (dotless_of-append (step_of xs s) y ys ∙ ap (λ o. steps o (y ∷ ys) ++ closing (y ∷ ys))
-      (steps-of-dotless-append-all [] (step_of xs s) segments-after-step-are-dotless))
+  dotless_of-after-step-is-same (y ∷ ys) e =
+      grind (
+        arith,
+        dotless_of-append,
+        steps,
+        steps-of-dotless-append-all,
+        segments-after-step-are-dotless,
+      )
 
   dotless_of-last-dot-leaves-empty-segment : is_dot_segment s ≡ true
       → dotless_of (xs ++ s ∷ []) ≡ dotless_of (step_of xs s ++ [] ∷ [])
   unfolding steps closing
-  dotless_of-last-dot-leaves-empty-segment dot = dotless_of-append xs s []
-      ∙ ap (λ o. steps o (s ∷ []) ++ end_of (is_dot_segment s))
-      (steps-of-dotless-append-all [] xs dotless) ∙ ap (λ b. step_of xs s ++ end_of b) dot
-      ∙ sym (dotless_of-with-empty-last (step_of xs s) ∙ ap (λ o. o
-      ++ [] ∷ []) (steps-of-dotless-append-all [] (step_of xs s) segments-after-step-are-dotless))
+  dotless_of-last-dot-leaves-empty-segment dot =
+      grind (
+        arith,
+        dotless_of-append,
+        steps,
+        end_of,
+        steps-of-dotless-append-all,
+        dotless_of-with-empty-last,
+        segments-after-step-are-dotless,
+      )
 
   segment-underflows : Bool
   segment-underflows = underflows_at (is_single_dot s) (is_double_dot s) false xs
@@ -38,17 +47,16 @@ module _ (xs : List (List ℕ)) (dotless : AllPass is_dotless xs) (s : List ℕ)
   underflow-at-segment-or-after-step : (ys : List (List ℕ)) → underflows_over false [] (xs
       ++ s ∷ ys) ≡ (segment-underflows || underflows_over false [] (step_of xs s ++ ys))
   unfolding underflows_over segment-underflows
-  underflow-at-segment-or-after-step ys = underflows_over-of-append false [] xs (s ∷ ys)
-      ∙ ap (λ b. underflows_over b (steps [] xs) (s ∷ ys))
-      (dotless-segments-do-not-underflow false [] xs dotless)
-      ∙ ap (λ o. underflows_over false o (s ∷ ys)) (steps-of-dotless-append-all [] xs dotless)
-      ∙ underflows_over_is_or segment-underflows (step_of xs s) ys
-      ∙ ap (λ b. segment-underflows || b) (sym (
-      underflows_over-of-append false [] (step_of xs s) ys
-      ∙ ap (λ b. underflows_over b (steps [] (step_of xs s)) ys)
-      (dotless-segments-do-not-underflow false [] (step_of xs s) segments-after-step-are-dotless)
-      ∙ ap (λ o. underflows_over false o ys)
-      (steps-of-dotless-append-all [] (step_of xs s) segments-after-step-are-dotless)))
+  underflow-at-segment-or-after-step ys =
+      grind (
+        arith,
+        underflows_over-of-append,
+        steps,
+        dotless-segments-do-not-underflow,
+        steps-of-dotless-append-all,
+        underflows_over_is_or,
+        segments-after-step-are-dotless,
+      )
 
   underflow-at-last-segment-or-after-step : underflows_over false [] (xs ++ s ∷ [])
       ≡ (segment-underflows || underflows_over false [] (step_of xs s ++ [] ∷ []))
@@ -102,34 +110,44 @@ module _ (xs : List (List ℕ)) (dotless : AllPass is_dotless xs) (lack : NoSlas
     (free : has_slash s ≡ false) (dot : is_dot_segment s ≡ true) where
   segments-after-step-lack-slashes : NoSlashes (step_of xs s)
   unfolding step_of
-  segments-after-step-lack-slashes = next_output-passes-test lacks_slash (is_single_dot s)
-      (is_double_dot s) xs s lack
-      (λ e. not_from_false _ free)
+  segments-after-step-lack-slashes = grind (arith, next_output-passes-test, lacks_slash, lack)
 
   removing-dots-after-last-dot-segment : remove_dot_segments (slashed (xs ++ [] ∷ []) ++ (s ++ []))
       ≡ remove_dot_segments (slashed (step_of xs s ++ [] ∷ []) ++ [])
-  removing-dots-after-last-dot-segment = removing-dots-after-segments-and-slash xs (s ++ []) lack
-      ∙ ap (λ segs. slashed (dotless_of (xs ++ segs))) (segments-of-slashless-text-is-one s free)
-      ∙ ap slashed (dotless_of-last-dot-leaves-empty-segment xs dotless s dot) ∙ sym
-      (removing-dots-after-segments-and-slash (step_of xs s) [] segments-after-step-lack-slashes)
+  removing-dots-after-last-dot-segment =
+      grind (
+        arith,
+        removing-dots-after-segments-and-slash,
+        lack,
+        segments-of-slashless-text-is-one,
+        dotless_of-last-dot-leaves-empty-segment,
+        segments-after-step-lack-slashes,
+      )
 
   removing-dots-after-inner-dot-segment : (r : List ℕ) → remove_dot_segments (slashed (xs
       ++ [] ∷ []) ++ (s ++ 47 ∷ r)) ≡ remove_dot_segments (slashed (step_of xs s ++ [] ∷ []) ++ r)
   removing-dots-after-inner-dot-segment r =
-      removing-dots-after-segments-and-slash xs (s ++ 47 ∷ r) lack
-      ∙ ap (λ segs. slashed (dotless_of (xs ++ segs))) (segments-split-at-first-slash s r free)
-      ∙ ap slashed (dotless_of-after-step-is-same xs dotless s
-      (segments r) (segments-of-text-are-not-none r)) ∙ sym
-      (removing-dots-after-segments-and-slash (step_of xs s) r segments-after-step-lack-slashes)
+      grind (
+        arith,
+        removing-dots-after-segments-and-slash,
+        lack,
+        segments-split-at-first-slash,
+        dotless_of-after-step-is-same,
+        segments-of-text-are-not-none,
+        segments-after-step-lack-slashes,
+      )
 
   pub removing-dots-after-directory : (rest : List ℕ) → IsAbemptyPath rest
       → remove_dot_segments (slashed (xs ++ [] ∷ []) ++ (s ++ rest))
       ≡ remove_dot_segments (slashed (step_of xs s ++ [] ∷ []) ++ drop 1 rest)
-  removing-dots-after-directory = rooted (λ rest. remove_dot_segments (slashed (xs ++ [] ∷ [])
-      ++ (s ++ rest)) ≡ remove_dot_segments (slashed (step_of xs s ++ [] ∷ []) ++ drop 1 rest))
-      removing-dots-after-last-dot-segment (λ rest h. ap (λ t. remove_dot_segments
-      (slashed (xs ++ [] ∷ []) ++ (s ++ t))) (absolute-path-is-slash-and-rest rest h)
-      ∙ removing-dots-after-inner-dot-segment (drop 1 rest))
+  removing-dots-after-directory =
+      grind (
+        arith,
+        rooted,
+        removing-dots-after-last-dot-segment,
+        absolute-path-is-slash-and-rest,
+        removing-dots-after-inner-dot-segment,
+      )
 
   dot-segment-underflows : Bool
   dot-segment-underflows = segment-underflows xs dotless s
@@ -137,29 +155,41 @@ module _ (xs : List (List ℕ)) (dotless : AllPass is_dotless xs) (lack : NoSlas
   underflow-at-last-dot-segment : underflows (slashed (xs ++ [] ∷ []) ++ (s ++ []))
       ≡ (dot-segment-underflows || underflows (slashed (step_of xs s ++ [] ∷ []) ++ []))
   unfolding dot-segment-underflows
-  underflow-at-last-dot-segment = underflow-after-segments-and-slash xs (s ++ []) lack ∙ ap
-      (λ segs. underflows_over false [] (xs ++ segs)) (segments-of-slashless-text-is-one s free)
-      ∙ underflow-at-last-segment-or-after-step xs dotless s ∙ ap (λ b. dot-segment-underflows || b)
-      (sym (underflow-after-segments-and-slash (step_of xs s) [] segments-after-step-lack-slashes))
+  underflow-at-last-dot-segment =
+      grind (
+        arith,
+        underflow-after-segments-and-slash,
+        lack,
+        segments-of-slashless-text-is-one,
+        underflow-at-last-segment-or-after-step,
+        segments-after-step-lack-slashes,
+      )
 
   underflow-at-inner-dot-segment : (r : List ℕ) → underflows (slashed (xs ++ [] ∷ []) ++ (s
       ++ 47 ∷ r)) ≡ (dot-segment-underflows || underflows (slashed (step_of xs s ++ [] ∷ []) ++ r))
   unfolding dot-segment-underflows
-  underflow-at-inner-dot-segment r = underflow-after-segments-and-slash xs (s ++ 47 ∷ r) lack
-      ∙ ap (λ segs. underflows_over false [] (xs ++ segs)) (segments-split-at-first-slash s r free)
-      ∙ underflow-at-segment-or-after-step xs dotless s (segments r)
-      ∙ ap (λ b. dot-segment-underflows || b)
-      (sym (underflow-after-segments-and-slash (step_of xs s) r segments-after-step-lack-slashes))
+  underflow-at-inner-dot-segment r =
+      grind (
+        arith,
+        underflow-after-segments-and-slash,
+        lack,
+        segments-split-at-first-slash,
+        underflow-at-segment-or-after-step,
+        segments-after-step-lack-slashes,
+      )
 
   pub underflow-after-directory : (rest : List ℕ) → IsAbemptyPath rest → underflows (slashed (xs
       ++ [] ∷ []) ++ (s ++ rest)) ≡ (underflows_at (is_single_dot s) (is_double_dot s) false xs
       || underflows (slashed (step_of xs s ++ [] ∷ []) ++ drop 1 rest))
   unfolding dot-segment-underflows segment-underflows
-  underflow-after-directory = rooted (λ rest. underflows (slashed (xs ++ [] ∷ []) ++ (s ++ rest))
-      ≡ (dot-segment-underflows || underflows (slashed (step_of xs s ++ [] ∷ []) ++ drop 1 rest)))
-      underflow-at-last-dot-segment
-      (λ rest h. ap (λ t. underflows (slashed (xs ++ [] ∷ []) ++ (s ++ t)))
-      (absolute-path-is-slash-and-rest rest h) ∙ underflow-at-inner-dot-segment (drop 1 rest))
+  underflow-after-directory =
+      grind (
+        arith,
+        rooted,
+        underflow-at-last-dot-segment,
+        absolute-path-is-slash-and-rest,
+        underflow-at-inner-dot-segment,
+      )
 
 -- removing dot segments: one at the end leaves the `/` that may be after it
 last-dot-segment-leaves-closing-slash : (xs : List (List ℕ)) (y : List ℕ) → is_dot_segment y ≡ true

@@ -1,6 +1,6 @@
 -- Paths whose octets are unchanged, and in which no dot after a `/` begins a dot segment: they have
 -- none.
-use Rattle.uri_ops.proofs.Common.{◌≡◌, ℕ, zero, suc, ◌+◌, ◌-◌, ◌<◌, ◌≤◌, Bool, true, false, not, ◌&&◌, ◌||◌, List, [], ◌∷◌, ◌++◌, length, get_or, eqb, ltb, leb, ap, arith, refl, sym, ◌∙◌, ⊎_elim, codes, and_from, and_parts, cases_Bool, eqb-true, false≢true, leb-true, ltb-true, not-true, not_from_false, or_cases, or_from, or_left, or_right, nat_tests, get_or-append-add, get_or_append_left, is_one_of, IsAbsolute, is_dot_segment, lacks_dot_segments, segments, HasUnchangedOctets, is_dot_unchanged_at, has_unchanged_octets, is_unchanged_octet, keeps_digits}
+use Rattle.uri_ops.proofs.Common.{common_steps, ◌≡◌, ℕ, zero, suc, ◌+◌, ◌-◌, ◌<◌, ◌≤◌, Bool, true, false, not, ◌&&◌, ◌||◌, List, [], ◌∷◌, ◌++◌, length, get_or, eqb, ltb, leb, ap, arith, refl, sym, ◌∙◌, ⊎_elim, codes, and_from, and_parts, cases_Bool, eqb-true, false≢true, leb-true, ltb-true, not-true, not_from_false, or_cases, or_from, or_left, or_right, nat_tests, get_or-append-add, get_or_append_left, is_one_of, IsAbsolute, is_dot_segment, lacks_dot_segments, segments, HasUnchangedOctets, is_dot_unchanged_at, has_unchanged_octets, is_unchanged_octet, keeps_digits}
 use Rattle.uri_ops.proofs.Normal.UnchangedBytes.{unchanged-text-splits}
 use Rattle.uri_ops.proofs.Paths.DotStarts.{segment-without-dot-start-is-dotless}
 use Rattle.uri_ops.proofs.Paths.Segments.{AllPass, is_dotless}
@@ -42,18 +42,7 @@ first-dot-goes-on slash c rest each = ⊎_elim (λ (e : (eqb c 46 && slash) ≡ 
 
 later-dot-goes-on : (slash : Bool) (c : ℕ) (rest : List ℕ) (k : ℕ)
     → DotGoesOn slash (c ∷ rest) (suc k) → DotGoesOn (eqb c 47) rest k
-later-dot-goes-on slash c rest k each dot after =
-    let h = each dot (before k after) in
-    let long = h.0 in
-    let place : suc k + 1 ≡ suc (k + 1) = omega arith in (
-      omega (arith, long),
-      ap (λ n. is_one_of (codes "./%") (get_or (c ∷ rest) n 0)) (sym place) ∙ h.1,
-    )
-  where
-    before : (k : ℕ) → is_after_slash_at (eqb c 47) rest k ≡ true
-        → is_after_slash_at slash (c ∷ rest) (suc k) ≡ true
-    before zero e = e
-    before (suc k) e = e
+later-dot-goes-on slash c rest k each dot after = grind arith
 
 -- unchanged dots: dots that go on at each index do so in the text
 dots-go-on-by-index : (slash : Bool) (text : List ℕ)
@@ -72,16 +61,8 @@ octet-of-dot-is-not-unchanged alone e =
 -- unchanged dots: the digits of an unchanged octet do not encode a dot
 digits-of-dot-are-not-unchanged : (alone : Bool) (high low : ℕ) → is_unchanged_octet alone high low
     ≡ true → (eqb high 50 && (eqb low 69 || eqb low 101)) ≡ false
-digits-of-dot-are-not-unchanged alone high low same = ⊎_elim
-    (λ (e : (eqb high 50 && (eqb low 69 || eqb low 101)) ≡ true).
-    let p = and_parts (eqb high 50) (eqb low 69 || eqb low 101) e in
-    let two : is_unchanged_octet alone 50 low ≡ true =
-    ap (λ n. is_unchanged_octet alone n low) (sym (eqb-true high 50 p.0)) ∙ same in
-    absurd (⊎_elim (λ (l : eqb low 69 ≡ true). octet-of-dot-is-not-unchanged alone
-    (ap (is_unchanged_octet alone 50) (sym (eqb-true low 69 l)) ∙ two))
-    (λ (l : eqb low 69 ≡ false). false≢true (ap (is_unchanged_octet alone 50)
-    (sym (eqb-true low 101 (sym (ap (λ b. b || eqb low 101) l) ∙ p.1))) ∙ two))
-    (cases_Bool (eqb low 69)))) (λ e. e) (cases_Bool (eqb high 50 && (eqb low 69 || eqb low 101)))
+digits-of-dot-are-not-unchanged alone high low same =
+    grind (arith, common_steps, octet-of-dot-is-not-unchanged)
 
 -- unchanged dots: a segment that begins with another octet than that of a dot is no dot segment
 segment-with-unchanged-octet-is-none : (alone : Bool) (s : List ℕ) → keeps_digits alone s ≡ true
@@ -89,8 +70,7 @@ segment-with-unchanged-octet-is-none : (alone : Bool) (s : List ℕ) → keeps_d
 segment-with-unchanged-octet-is-none alone [] same = refl
 segment-with-unchanged-octet-is-none alone (high ∷ []) same = grind (arith, nat_tests)
 segment-with-unchanged-octet-is-none alone (high ∷ low ∷ s) same =
-    let other = digits-of-dot-are-not-unchanged alone high low same in
-    grind (arith, nat_tests, other)
+    grind (arith, digits-of-dot-are-not-unchanged)
 
 -- unchanged dots: nor is one that goes on after a dot
 segment-that-goes-on-is-none : (d : ℕ) (s : List ℕ) → is_one_of (codes "./%") d ≡ false
@@ -165,10 +145,7 @@ module _ (before path tail : List ℕ) (start : ℕ) (later : 0 < start)
       ∙ get_or_append_left path tail 0 k h
 
   dot-of-path-goes-on : IsAbsolute path → (k : ℕ) → k < length path → DotGoesOn true path k
-  dot-of-path-goes-on absolute zero h dot after =
-      let slash : get_or path 0 0 ≡ 47 =
-      ap (λ t. get_or t 0 0) (absolute-path-is-slash-and-rest path absolute) in
-      absurd (omega (arith, slash, dot))
+  dot-of-path-goes-on absolute zero h dot after = grind (arith, absolute-path-is-slash-and-rest)
   dot-of-path-goes-on absolute (suc i) h dot after =
       let n : ℕ = length before in
       let limit : ℕ = n + length path in

@@ -1,5 +1,5 @@
 -- Which segments go above the root: a double dot where no segment is left.
-use Rattle.uri_ops.proofs.Common.{◌≡◌, ℕ, Bool, true, false, cond, List, [], ◌∷◌, ◌++◌, refl, sym, ap, ◌∙◌, ◌||◌, list_all, and_parts, or_parts, not-true, is_single_dot, is_double_dot}
+use Rattle.uri_ops.proofs.Common.{arith, ◌≡◌, ℕ, Bool, true, false, cond, List, [], ◌∷◌, ◌++◌, refl, ap, ◌∙◌, ◌||◌, list_all, and_parts, is_single_dot, is_double_dot}
 use Rattle.uri_ops.proofs.Paths.Segments.{is_none, step_of, steps, parent, AllPass, is_dotless, steps-of-dotless-append-all, steps_are_dotless}
 
 -- a double dot meets an empty output, at this segment or before it
@@ -58,10 +58,7 @@ underflows_over_is_or false output segs = refl
 dotless-segment-does-not-underflow : (before : Bool) (output : List (List ℕ)) (s : List ℕ)
     → is_dotless s ≡ true → underflows_at (is_single_dot s) (is_double_dot s) before output ≡ before
 unfolding underflows_at
-dotless-segment-does-not-underflow before output s e =
-    let f = or_parts (is_single_dot s) (is_double_dot s) (not-true _ e) in
-    ap (λ b. underflows_at b (is_double_dot s) before output) f.0
-    ∙ ap (λ b. underflows_at false b before output) f.1
+dotless-segment-does-not-underflow before output s e = grind arith
 
 -- dot segments: segments of which none is one make no underflow;
 -- before: whether there was one before
@@ -78,22 +75,23 @@ dotless-segments-do-not-underflow before output (s ∷ rest) e =
 -- or what is left of the prefix does with the rest after it
 pub segments-underflow-as-prefix-or-remainder : (xs ys : List (List ℕ)) → underflows_over false []
     (xs ++ ys) ≡ (underflows_over false [] xs || underflows_over false [] (steps [] xs ++ ys))
-segments-underflow-as-prefix-or-remainder xs ys = underflows_over-of-append false [] xs ys
-    ∙ underflows_over_is_or (underflows_over false [] xs) (steps [] xs) ys
-    ∙ ap (λ b. underflows_over false [] xs || b) (sym (
-    underflows_over-of-append false [] (steps [] xs) ys
-    ∙ ap (λ b. underflows_over b (steps [] (steps [] xs)) ys)
-    (dotless-segments-do-not-underflow false [] (steps [] xs) (steps_are_dotless xs))
-    ∙ ap (λ o. underflows_over false o ys)
-    (steps-of-dotless-append-all [] (steps [] xs) (steps_are_dotless xs))))
+segments-underflow-as-prefix-or-remainder xs ys =
+    grind (
+      arith,
+      underflows_over-of-append,
+      underflows_over_is_or,
+      steps,
+      dotless-segments-do-not-underflow,
+      steps_are_dotless,
+      steps-of-dotless-append-all,
+    )
 
 -- dot segments: an empty segment at the end makes no underflow;
 -- before: whether there was one before
 pub trailing-slash-changes-no-underflow : (before : Bool) (output xs : List (List ℕ))
     → underflows_over before output (xs ++ [] ∷ []) ≡ underflows_over before output xs
-trailing-slash-changes-no-underflow before output xs = underflows_over-of-append before output
-    xs ([] ∷ [])
-    ∙ empty-segment-does-not-underflow (underflows_over before output xs) (steps output xs)
+trailing-slash-changes-no-underflow before output xs =
+    grind (arith, underflows_over-of-append, empty-segment-does-not-underflow, steps)
 
 -- removing dot segments: only `..` underflows; single, double: whether a segment is `.`, or `..`
 only-double-dot-underflows : (single double before : Bool) (output : List (List ℕ)) → cond double
@@ -118,8 +116,7 @@ pub parent-underflows-as-segments : (before : Bool) (output segs : List (List �
     → underflows_over before output (parent segs) ≡ underflows_over before output segs
 unfolding underflows_over parent
 parent-underflows-as-segments before output [] = refl
-parent-underflows-as-segments before output (s ∷ []) = underflows_over-segment-if-double-dot
-    (is_double_dot s) before output s
-    ∙ only-double-dot-underflows (is_single_dot s) (is_double_dot s) before output
+parent-underflows-as-segments before output (s ∷ []) =
+    grind (arith, underflows_over-segment-if-double-dot, only-double-dot-underflows)
 parent-underflows-as-segments before output (s ∷ t ∷ rest) = parent-underflows-as-segments
     (underflows_at (is_single_dot s) (is_double_dot s) before output) (step_of output s) (t ∷ rest)

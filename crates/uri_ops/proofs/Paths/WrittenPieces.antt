@@ -48,9 +48,8 @@ module _ (set : TableSet) (w : IsComponentSet (codes "?#[]") set) (slash : set.a
   pub root-and-decoded-rest-lose-dots-as-path : remove_dot_segments (codes "/" ++ print
       (decode_unreserved set rest)) ≡ print (decode_unreserved set (remove_dot_segments path))
   unfolding print_decoded
-  root-and-decoded-rest-lose-dots-as-path = ap remove_dot_segments
-      root-and-decoded-rest-are-decoded-path
-      ∙ removing-dots-and-decoding-swap set w.percent w.unreserved path absolute e
+  root-and-decoded-rest-lose-dots-as-path =
+      grind (arith, root-and-decoded-rest-are-decoded-path, removing-dots-and-decoding-swap)
 
   pub root-and-decoded-rest-underflow-as-path : underflows (codes "/"
       ++ print (decode_unreserved set rest)) ≡ underflows path

@@ -1,5 +1,5 @@
 -- A text that is normal but for what the rules of its scheme change, copied with that changed.
-use Rattle.uri_ops.proofs.Common.{◌≡◌, ℕ, ◌+◌, ◌-◌, Bool, true, false, cond, List, [], ◌∷◌, ◌++◌, length, take, refl, sym, ap, subst, ◌∙◌, ◌&&◌, arith, append_assoc, length-append, Option, Some, None, option_map, codes, is_some, unwrap_or, IsCharBoundary, IsUtf8, take-append_seam, Token, print, Components, components, marked, recompose, Kind, IsTextOf, packed, authority_at, before_fragment, delimited_length, positions_of, boundary_after_mark, length-before_hash, HasComponentSets, is_empty, AuthorityMeaning, Meaning, meaning_of, before_path, changed_components, has_default_host, has_root_path, is_text, ruled_text, normal_authority, normal_components, normal_scheme, normal_text, Rules, authority_under, empty_authority, has_no_token, is_localhost, is_scheme_of, meaning_under, path_under, root, under_rules, guarded, and_parts, false≢true, bytes_eq-Decides, recompose-components}
+use Rattle.uri_ops.proofs.Common.{common_steps, ◌≡◌, ℕ, ◌+◌, ◌-◌, Bool, true, false, cond, List, [], ◌∷◌, ◌++◌, length, take, refl, sym, ap, subst, ◌∙◌, ◌&&◌, arith, append_assoc, length-append, Option, Some, None, option_map, codes, is_some, unwrap_or, IsCharBoundary, IsUtf8, take-append_seam, Token, print, Components, components, marked, recompose, Kind, IsTextOf, packed, authority_at, positions_of, boundary_after_mark, length-before_hash, HasComponentSets, is_empty, AuthorityMeaning, Meaning, meaning_of, before_path, changed_components, has_default_host, has_root_path, is_text, ruled_text, normal_authority, normal_components, normal_scheme, normal_text, Rules, authority_under, has_no_token, is_scheme_of, meaning_under, path_under, root, under_rules, guarded, and_parts, false≢true, bytes_eq-Decides, recompose-components}
 use Rattle.uri_ops.proofs.Normal.NormalTexts.{components-of-normal_text}
 use Rattle.uri_ops.proofs.Normal.WrittenPlaces.{length-before_path-is-path_start}
 use Rattle.uri_ops.proofs.Paths.DotRuns.{empty-text-is-nil}
@@ -77,32 +77,14 @@ module _ (drops_host adds_root : Bool) (p : Components)
         query_end = query_end;
       } ≡ packed (positions_of changed)
   changed-copy-has-positions path_end query_end host g h =
-      let place = delimited_length 1 p.scheme + 2 in
-      let hosts = changed-host-positions drops_host place p.authority host in
-      let n : length prefix ≡ (positions_of changed).path_start =
-      ap length e ∙ length-before_path-is-path_start changed in
-      let k : length added + length p.path ≡ length changed.path = sym (length-append added p.path)
-      ∙ ap length (changed-path-is-root-and-path adds_root p.path added empty f) in
-      let path : path_end ≡ (positions_of changed).path_end = omega
-      (arith, g, n, k, length-append prefix added) in
-      let query : query_end ≡ before_fragment (positions_of changed) = omega (
+      grind (
         arith,
-        h,
-        n,
-        k,
-        length-append prefix added,
-        length-before_path-is-path_start changed,
-        length-before_hash changed,
-        length-append (before_path changed ++ changed.path) (marked (codes "?") p.query []),
-        length-append (before_path changed) changed.path,
-      ) in
-      λ i. record (packed (positions_of p)) {
-        host_start = hosts.0 i;
-        host_end = hosts.1 i;
-        path_start = n i;
-        path_end = path i;
-        query_end = query i;
-      }
+        common_steps,
+        changed-host-positions,
+        length-before_path-is-path_start,
+        changed-path-is-root-and-path,
+        length-before_hash,
+      )
 
 -- rules: the authority of what a text means under them, as text
 authority-under-rules : (local : Bool) (o : Option AuthorityMeaning)
@@ -110,10 +92,7 @@ authority-under-rules : (local : Bool) (o : Option AuthorityMeaning)
     (codes "localhost") (option_map normal_authority o)) (Some []) (option_map normal_authority o)
 authority-under-rules true None = refl
 authority-under-rules false None = refl
-authority-under-rules local (Some a) =
-    let drops = local && is_localhost a in
-    ap Some (map-cond normal_authority drops empty_authority a)
-    ∙ map-cond Some drops [] (normal_authority a)
+authority-under-rules local (Some a) = grind (arith, map-cond)
 
 -- rules: the path of what a text means under them, as text
 path-under-rules : (rooted local : Bool) (o : Option AuthorityMeaning) (ts : List Token)
@@ -144,15 +123,7 @@ changed-components-are-normal : (rules : Rules) (m : Meaning) → normal_scheme 
     → (let p = normal_components m in normal_components (under_rules rules m)
     ≡ changed_components (has_default_host rules.locals p) (has_root_path rules.roots p) p)
 changed-components-are-normal rules m e =
-    let p = normal_components m in
-    let local = is_scheme_of rules.locals m.scheme in
-    let authority = authority-under-rules local m.authority
-    ∙ ap (λ s. cond (is_scheme_of rules.locals s && is_text (codes "localhost") p.authority)
-    (Some []) p.authority) (sym e) in
-    let path = path-under-rules-of-scheme rules.roots local m.scheme m.authority m.path
-    ∙ ap (λ s. cond ((is_scheme_of rules.roots s && is_some p.authority) && is_empty p.path)
-    (codes "/") p.path) (sym e) in
-    λ i. record p { authority = authority i; path = path i }
+    grind (arith, authority-under-rules, is_text, path-under-rules-of-scheme)
 
 -- a text that is normal by the ports of the rules
 module _ (kind : Kind) (rules : Rules) (sets : HasComponentSets kind) (text : List ℕ)

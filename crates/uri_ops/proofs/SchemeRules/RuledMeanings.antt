@@ -1,5 +1,5 @@
 -- What the rules of schemes make of a meaning.
-use Rattle.uri_ops.proofs.Common.{◌≡◌, ℕ, ◌<◌, Bool, true, false, cond, List, [], ◌∷◌, ◌++◌, length, refl, ap, ◌∙◌, ◌&&◌, arith, Option, Some, None, option_map, rules, is_some, encode_utf8, cond-false, length-encode, len_utf8_bounds, Token, Char, Octet, print, is_some-option_map, Kind, PortFunction, is_empty, AuthorityMeaning, Meaning, meaning_of, Rules, authority_under, empty_authority, has_no_token, is_localhost, is_scheme_of, meaning_under, only_ports, path_under, root, under_rules}
+use Rattle.uri_ops.proofs.Common.{◌≡◌, ℕ, ◌<◌, Bool, true, false, cond, List, [], ◌∷◌, ◌++◌, length, refl, ap, ◌&&◌, arith, Option, Some, None, option_map, rules, encode_utf8, cond-false, length-encode, len_utf8_bounds, Token, Char, Octet, print, is_some-option_map, Kind, PortFunction, is_empty, AuthorityMeaning, Meaning, meaning_of, Rules, authority_under, empty_authority, has_no_token, is_localhost, is_scheme_of, meaning_under, only_ports, path_under, root, under_rules}
 
 -- general fact on booleans, for rules: a function of what a test chooses
 pub map-cond : {A B : Type 0} (f : A → B) (b : Bool) (x y : A) → f (cond b x y) ≡ cond b (f x) (f y)
@@ -47,13 +47,12 @@ authority_under-if-some-is-idempotent local (Some a) =
 pub under_rules-is-idempotent : (rules : Rules) (m : Meaning)
     → under_rules rules (under_rules rules m) ≡ under_rules rules m
 under_rules-is-idempotent rules m =
-    let rooted = is_scheme_of rules.roots m.scheme in
-    let local = is_scheme_of rules.locals m.scheme in
-    let authority = authority_under-if-some-is-idempotent local m.authority in
-    let path = ap (λ t. path_under rooted t (path_under rooted (is_some m.authority) m.path))
-    (is_some-option_map (authority_under local) m.authority) ∙ path_under-is-idempotent rooted
-    (is_some m.authority) m.path ((rooted && is_some m.authority) && has_no_token m.path) refl in
-    λ i. record m { authority = authority i; path = path i }
+    grind (
+      arith,
+      authority_under-if-some-is-idempotent,
+      is_some-option_map,
+      path_under-is-idempotent,
+    )
 
 -- rules: those of ports alone leave a meaning as it is
 no-scheme-is-of-no-rule : (scheme : Option (List ℕ)) → is_scheme_of (λ _. false) scheme ≡ false

@@ -1,5 +1,5 @@
 -- The authority and the path that the rules of schemes leave of a text.
-use Rattle.uri_ops.proofs.Common.{◌≡◌, ℕ, Bool, true, false, List, [], ◌∷◌, refl, ap, Option, Some, None, option_map, is_some, str_to_ascii_lowercase, Components, components, Kind, IsTextOf, HasComponentSets, run, underflows, components_meaning, ruled_components, ruled_path, normal_text, path_underflows, Rules, is_scheme_of, meaning_under}
+use Rattle.uri_ops.proofs.Common.{arith, ◌≡◌, ℕ, Bool, true, false, List, [], ◌∷◌, refl, ap, Option, Some, None, Components, components, Kind, IsTextOf, HasComponentSets, run, underflows, components_meaning, ruled_components, ruled_path, normal_text, path_underflows, Rules, meaning_under}
 use Rattle.uri_ops.proofs.Normal.NormalTexts.{text-has-parts-of-kind}
 use Rattle.uri_ops.proofs.SchemeRules.RuledTexts.{ruled_components-have-meaning-under}
 
@@ -26,6 +26,4 @@ ruled-path-underflows-alike (Some s) false after (c ∷ path) = refl
 pub ruled-components-underflow-alike : (kind : Kind) (rules : Rules) (p : Components)
     → path_underflows p.scheme (ruled_components kind rules p).path
     ≡ path_underflows p.scheme p.path
-ruled-components-underflow-alike kind rules p = ruled-path-underflows-alike p.scheme
-    (is_scheme_of rules.roots (option_map str_to_ascii_lowercase p.scheme))
-    (is_some p.authority) p.path
+ruled-components-underflow-alike kind rules p = grind (arith, ruled-path-underflows-alike)

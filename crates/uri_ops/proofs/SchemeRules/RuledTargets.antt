@@ -1,5 +1,5 @@
 -- Resolving respects equivalence under the rules of schemes, so resolving and normalising swap.
-use Rattle.uri_ops.proofs.Common.{◌≡◌, ℕ, Bool, true, false, not, cond, List, [], ◌∷◌, ◌++◌, refl, sym, ap, ◌∙◌, ◌&&◌, ◌||◌, Option, Some, None, option_map, codes, is_some, is_none, Result, Ok, Err, option_and_then, result_map_both, str_to_ascii_lowercase, and-false, is_some-option_map, Components, components, recompose, starts, Kind, IsTextOf, HasComponentSets, is_empty, directory, Meaning, authority_meaning, components_meaning, meaning_of, normal_text, reference_kind, resolved_meaning, TargetError, is_opaque_rejection, is_fragment_only, dotted_target, target_of, query_or, components_of_parts, Rules, authority_under, is_scheme_of, meaning_under, path_under, under_rules, ruled_authority, ruled_components, ruled_path, ruled_text}
+use Rattle.uri_ops.proofs.Common.{arith, ◌≡◌, ℕ, Bool, true, false, not, cond, List, [], ◌∷◌, refl, sym, ap, ◌∙◌, ◌&&◌, ◌||◌, Option, Some, None, option_map, codes, is_some, is_none, Result, Ok, Err, result_map_both, and-false, is_some-option_map, Components, components, recompose, starts, Kind, IsTextOf, HasComponentSets, directory, Meaning, components_meaning, meaning_of, normal_text, reference_kind, resolved_meaning, TargetError, is_opaque_rejection, is_fragment_only, dotted_target, target_of, components_of_parts, Rules, meaning_under, under_rules, ruled_authority, ruled_components, ruled_path, ruled_text}
 use Rattle.uri_ops.proofs.Meanings.AllowedParts.{is_set_text}
 use Rattle.uri_ops.proofs.Normal.NormalTexts.{text-has-parts-of-kind}
 use Rattle.uri_ops.proofs.Targeting.JoinedMeanings.{target-path-has-meaning-of-joined, reference-kind-has-component-sets}
@@ -61,8 +61,7 @@ module _ (kind : Kind) (rules : Rules) (sets : HasComponentSets kind) where
   ruled-components-mean-same-under : (p : Components) → is_set_text kind.path p.path ≡ true
       → under (ruled_components kind rules p) ≡ under p
   ruled-components-mean-same-under p valid =
-      ap (under_rules rules) (ruled_components-have-meaning-under kind rules sets p valid)
-      ∙ under_rules-is-idempotent rules (meaning p)
+      grind (arith, ruled_components-have-meaning-under, under_rules-is-idempotent)
 
   -- only their authority is ruled
   ruled-authority-means-same-under : (base : Components) (path : List ℕ) (query fragment : Option
@@ -70,21 +69,12 @@ module _ (kind : Kind) (rules : Rules) (sets : HasComponentSets kind) where
       { path = path; query = query; fragment = fragment })
       ≡ under (record base { path = path; query = query; fragment = fragment })
   ruled-authority-means-same-under base path query fragment =
-      let scheme = option_map str_to_ascii_lowercase base.scheme in
-      let default = option_and_then rules.ports scheme in
-      let local = is_scheme_of rules.locals scheme in
-      let rooted = is_scheme_of rules.roots scheme in
-      let ruled = option_map (ruled_authority kind default local) base.authority in
-      let m = under (record base { path = path; query = query; fragment = fragment }) in
-      let plain = meaning (record base { path = path; query = query; fragment = fragment }) in
-      let authority = ap (option_map (authority_under local))
-      (ruled_authority-has-meaning-under kind default local base.authority)
-      ∙ authority_under-if-some-is-idempotent local
-      (option_map (authority_meaning kind default) base.authority) in
-      let after = is_some-option_map (authority_meaning kind default) ruled
-      ∙ is_some-option_map (ruled_authority kind default local) base.authority
-      ∙ sym (is_some-option_map (authority_meaning kind default) base.authority) in
-      λ i. record m { authority = authority i; path = path_under rooted (after i) plain.path }
+      grind (
+        arith,
+        ruled_authority-has-meaning-under,
+        authority_under-if-some-is-idempotent,
+        is_some-option_map,
+      )
 
   -- ruled components of a base and a reference have an equivalent target
   ruled-targets-mean-same : (base : Components) (scheme authority : Option (List ℕ))
@@ -98,17 +88,16 @@ module _ (kind : Kind) (rules : Rules) (sets : HasComponentSets kind) where
   ruled-targets-mean-same base None (Some a) path query fragment valid h =
       cc (components-without-scheme-are-ruled kind rules (Some a) path query fragment)
   ruled-targets-mean-same base None None path query fragment valid h =
-      let s = ruled_components kind rules base in
-      let scheme = option_map str_to_ascii_lowercase base.scheme in
-      ap (λ r. under (dotted_target s r))
-      (components-without-scheme-are-ruled kind rules None path query fragment)
-      ∙ choices-are-alike under (is_empty path) _ _ _ _ (ruled-components-mean-same-under
-      (record base { query = query_or base.query query; fragment = fragment }) valid)
-      (choices-are-alike under (starts 47 path) _ _ _ _
-      (ruled-authority-means-same-under base path query fragment) (ap (λ d. under (record s
-      { path = d ++ path; query = query; fragment = fragment })) (ruled-path-has-same-directory
-      (is_scheme_of rules.roots scheme) (is_some base.authority) base.path)
-      ∙ ruled-authority-means-same-under base (directory base.path ++ path) query fragment))
+      grind (
+        arith,
+        components-without-scheme-are-ruled,
+        choices-are-alike,
+        ruled-components-mean-same-under,
+        starts,
+        ruled-authority-means-same-under,
+        ruled-path-has-same-directory,
+        directory,
+      )
 
   -- the outcome for a base and a reference, by their components
   resolution_under : Components → Components → Result Meaning TargetError
@@ -134,15 +123,12 @@ module _ (kind : Kind) (rules : Rules) (sets : HasComponentSets kind) where
       ≡ resolution_under base r
   unfolding resolution_under
   ruled-components-have-same-resolution base r valid h =
-      let s = ruled_components kind rules base in
-      let t = ruled_components kind rules r in
-      let scheme = option_map str_to_ascii_lowercase base.scheme in
-      let opaque = ruled-base-is-opaque-alike kind (option_and_then rules.ports scheme)
-      (is_scheme_of rules.locals scheme) (is_scheme_of rules.roots scheme) base.authority
-      base.path in
-      let passes = ruled-reference-passes-alike kind rules r.scheme r.authority r.path r.query
-      r.fragment in
-      cc (ruled-targets-mean-same base r.scheme r.authority r.path r.query r.fragment valid h)
+      grind (
+        arith,
+        ruled-base-is-opaque-alike,
+        ruled-reference-passes-alike,
+        ruled-targets-mean-same,
+      )
 
   -- so do the ruled texts
   ruled-texts-resolve-to-same-meaning : (b t : List ℕ) → kind.needs_scheme ≡ true → IsTextOf kind b

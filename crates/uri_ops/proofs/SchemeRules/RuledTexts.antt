@@ -1,7 +1,7 @@
 -- A ruled text is a text with what the rules of its scheme change, not yet normal. Under default
 -- ports alone it has the meaning that the text has under the rules. So the laws of normal texts
 -- hold under any rules.
-use Rattle.uri_ops.proofs.Common.{◌≡◌, ℕ, Bool, true, false, cond, List, [], ◌∷◌, refl, sym, ap, ◌∙◌, ⊎_elim, ◌&&◌, ◌||◌, Option, Some, None, option_map, not, rules, lit<, subst, codes, is_some, IfSome, IfNone, ◌↔◌, option_and_then, str_to_ascii_lowercase, IsUtf8, chars, IsUtf8-nil, All-cons, All-nil, cond_both, cond-false, cases_Bool, and_from, false≢true, tokens_from_chars, is_valid_for, TableSet, decode_unreserved, decode_run, decode_after_run, pieces_from, ascii_char_separates_encode_formatting, is_some-option_map, read_ipv4, read_octet, read_number, host_kind, ipv4_value, Components, IsSplitOf, Lacks, IsAbemptyPath, components, recompose, has_authority, has_scheme, starts, Kind, IsTextOf, is_authority, has_colon_in_first_segment, empty_is_authority, components-are-split-of-text, components_of_parts, only-split-is-components, HasComponentSets, IsComponentSet, is_empty, authority_meaning, dotless_path, components_meaning, meaning_of, normal_text, ruled_authority, ruled_components, ruled_path, ruled_text, print_decoded, Rules, empty_authority, has_no_token, is_localhost, is_scheme_of, root, authority_under, path_under, under_rules, meaning_under}
+use Rattle.uri_ops.proofs.Common.{arith, ◌≡◌, ℕ, Bool, true, false, cond, List, [], ◌∷◌, refl, ap, ◌∙◌, ◌&&◌, ◌||◌, Option, Some, None, option_map, not, rules, lit<, subst, codes, is_some, IfSome, IfNone, ◌↔◌, option_and_then, str_to_ascii_lowercase, IsUtf8, chars, IsUtf8-nil, All-cons, All-nil, cond_both, false≢true, tokens_from_chars, is_valid_for, TableSet, decode_unreserved, decode_run, decode_after_run, pieces_from, ascii_char_separates_encode_formatting, is_some-option_map, read_ipv4, read_octet, read_number, host_kind, ipv4_value, Components, IsSplitOf, Lacks, IsAbemptyPath, components, recompose, has_authority, has_scheme, starts, Kind, IsTextOf, is_authority, has_colon_in_first_segment, empty_is_authority, components-are-split-of-text, components_of_parts, only-split-is-components, HasComponentSets, IsComponentSet, is_empty, authority_meaning, dotless_path, components_meaning, meaning_of, normal_text, ruled_authority, ruled_components, ruled_path, ruled_text, print_decoded, Rules, empty_authority, has_no_token, is_localhost, is_scheme_of, root, authority_under, path_under, under_rules, meaning_under}
 use Rattle.uri_ops.proofs.Meanings.AllowedParts.{is_set_text, set-text-from-utf8, validity-splits-at-slash}
 use Rattle.uri_ops.proofs.Meanings.AsciiCharacters.{ascii-bytes-are-utf8}
 use Rattle.uri_ops.proofs.Meanings.TextParts.{ArePartsOfKind, components-of-kind-meet-grammar}
@@ -35,16 +35,14 @@ module _ (set : TableSet) (w : IsComponentSet (codes "?#[]") set)
       → has_no_token (decode_unreserved set path) ≡ is_empty path
   unfolding print_decoded
   path-has-tokens-unless-empty path e =
-      sym (print-is-empty-without-tokens (decode_unreserved set path))
-      ∙ decoding-keeps-emptiness set w.percent w.unreserved path e
+      grind (arith, print-is-empty-without-tokens, decoding-keeps-emptiness)
 
   -- removing dot segments leaves a path that is not empty
   dotless-path-keeps-emptiness : (scheme : Option (List ℕ)) (path : List ℕ)
       → is_empty (dotless_path scheme path) ≡ is_empty path
   dotless-path-keeps-emptiness None path = refl
   dotless-path-keeps-emptiness (Some s) path =
-      ⊎_elim (search (rules, text-with-slash-is-not-empty, removing-dots-keeps-leading-slash))
-      (λ e. ap is_empty (cond-false (starts 47 path) _ _ e)) (cases_Bool (starts 47 path))
+      grind (arith, text-with-slash-is-not-empty, removing-dots-keeps-leading-slash, starts)
 
   dotless-path-is-set-text : (scheme : Option (List ℕ)) (path : List ℕ)
       → is_set_text set path ≡ true → is_set_text set (dotless_path scheme path) ≡ true
@@ -63,10 +61,14 @@ module _ (set : TableSet) (w : IsComponentSet (codes "?#[]") set)
       → decode_unreserved set (dotless_path scheme (ruled_path rooted after path))
       ≡ path_under rooted after (decode_unreserved set (dotless_path scheme path))
   ruled_path-has-meaning-under rooted after scheme path e =
-      let ts = decode_unreserved set (dotless_path scheme path) in
-      let blank = path-has-tokens-unless-empty (dotless_path scheme path)
-      (dotless-path-is-set-text scheme path e) ∙ dotless-path-keeps-emptiness scheme path in
-      search (rules, map-cond, slash-is-dotless)
+      grind (
+        arith,
+        path-has-tokens-unless-empty,
+        dotless-path-is-set-text,
+        dotless-path-keeps-emptiness,
+        map-cond,
+        slash-is-dotless,
+      )
 
 -- rules: a ruled authority means what the rules make of the authority's meaning
 pub ruled_authority-has-meaning-under :
@@ -90,8 +92,7 @@ pub components-without-scheme-are-ruled : (kind : Kind) (rules : Rules)
     → ruled_components kind rules (components_of_parts None authority path query fragment)
     ≡ components_of_parts None authority path query fragment
 components-without-scheme-are-ruled kind rules authority path query fragment =
-    λ i. record (components_of_parts None authority path query fragment)
-    { authority = ruled_authority-without-rule kind None authority i }
+    grind (arith, ruled_authority-without-rule)
 
 -- rules: without an authority, so is a path
 pub path-without-authority-is-ruled : (rooted : Bool) (path : List ℕ)
@@ -144,8 +145,7 @@ ruled-authority-is-of-kind kind default local (Some a) h =
 pub slash-is-set-text : (set : TableSet) → set.ascii 47 ≡ true → is_set_text set (codes "/") ≡ true
 unfolding is_valid_for chars tokens_from_chars
 slash-is-set-text set slash =
-    set-text-from-utf8 set (codes "/") (ascii-bytes-are-utf8 (codes "/") refl)
-    (validity-splits-at-slash set [] [] IsUtf8-nil ∙ and_from _ _ slash refl)
+    grind (arith, set-text-from-utf8, ascii-bytes-are-utf8, validity-splits-at-slash)
 
 -- the rule of a kind about schemes and colons
 abbrev meets_needs : Kind → Components → Type 0
@@ -158,8 +158,7 @@ ruled-components-keep-needs : (kind : Kind) (rules : Rules) (scheme authority : 
     → meets_needs kind (components_of_parts scheme authority path query fragment) → meets_needs kind
     (ruled_components kind rules (components_of_parts scheme authority path query fragment))
 ruled-components-keep-needs kind rules None authority path query fragment h =
-    subst (meets_needs kind)
-    (sym (components-without-scheme-are-ruled kind rules authority path query fragment)) h
+    grind (arith, components-without-scheme-are-ruled)
 ruled-components-keep-needs kind rules (Some s) authority path query fragment h = refl
 
 module _ (kind : Kind) (rules : Rules) (sets : HasComponentSets kind) where
@@ -186,35 +185,19 @@ module _ (kind : Kind) (rules : Rules) (sets : HasComponentSets kind) where
   ruled-components-are-of-kind : (p : Components) → ArePartsOfKind kind p
       → ArePartsOfKind kind (ruled_components kind rules p)
   ruled-components-are-of-kind p parts =
-      let scheme = option_map str_to_ascii_lowercase p.scheme in
-      record {
-        scheme = parts.scheme;
-        authority = ruled-authority-is-of-kind kind (option_and_then rules.ports scheme)
-            (is_scheme_of rules.locals scheme) p.authority parts.authority;
-        path = cond_both ((is_scheme_of rules.roots scheme && is_some p.authority)
-            && is_empty p.path) (codes "/") p.path (λ t. is_set_text kind.path t ≡ true)
-            (λ _. slash-is-set-text kind.path sets.slash) (λ _. parts.path);
-        query = parts.query;
-        fragment = parts.fragment;
-        needs = ruled-components-keep-needs kind rules p.scheme p.authority p.path p.query
-            p.fragment parts.needs;
-      }
+      grind (arith, ruled-authority-is-of-kind, slash-is-set-text, ruled-components-keep-needs)
 
   -- ruled components mean what the rules make of the components' meaning
   pub ruled_components-have-meaning-under : (p : Components) → is_set_text kind.path p.path ≡ true
       → components_meaning kind rules.ports (ruled_components kind rules p)
       ≡ under_rules rules (components_meaning kind rules.ports p)
   ruled_components-have-meaning-under p valid =
-      let scheme = option_map str_to_ascii_lowercase p.scheme in
-      let default = option_and_then rules.ports scheme in
-      let rooted = is_scheme_of rules.roots scheme in
-      let m = components_meaning kind rules.ports p in
-      let authority = ruled_authority-has-meaning-under kind default
-      (is_scheme_of rules.locals scheme) p.authority in
-      let path = ruled_path-has-meaning-under kind.path sets.path sets.slash rooted
-      (is_some p.authority) p.scheme p.path valid ∙ ap (λ t. path_under rooted t m.path)
-      (sym (is_some-option_map (authority_meaning kind default) p.authority)) in
-      λ i. record m { authority = authority i; path = path i }
+      grind (
+        arith,
+        ruled_authority-has-meaning-under,
+        ruled_path-has-meaning-under,
+        is_some-option_map,
+      )
 
   pub components-of-ruled_text : (text : List ℕ)
       → components (ruled_text kind rules text) ≡ ruled_components kind rules (components text)

@@ -1,5 +1,5 @@
 -- What is known of a target where what it is made of is found.
-use Rattle.uri_ops.proofs.Common.{◌≡◌, true, false, Bool, List, ℕ, ap, sym, ◌∙◌, Ok, is_some, cond-false, Components, components, recompose, ArePackedPositionsOf, packed, positions_of, IsTarget, with_final_path, dotted_target, is_opaque_rejection, underflows_if_absolute}
+use Rattle.uri_ops.proofs.Common.{arith, ◌≡◌, true, false, Bool, List, ℕ, ap, sym, ◌∙◌, is_some, Components, components, recompose, ArePackedPositionsOf, packed, positions_of, IsTarget, with_final_path, dotted_target, is_opaque_rejection, underflows_if_absolute}
 use Rattle.uri_parts.specs.declared.packed_positions.PackedPositions.{PackedPositions}
 use Rattle.uri_ops.proofs.Targeting.Targets.{target-text-has-target-components}
 
@@ -11,11 +11,7 @@ module _ (b r : Components) where
   pub text-of-found-target-is-target : (allowed : Bool) (text : List ℕ) → is_some b.fragment ≡ false
       → is_opaque_rejection b r ≡ false → text ≡ final_text → (allowed ≡ false
       → underflows_if_absolute (dotted_target b r).path ≡ false) → IsTarget allowed b r text
-  text-of-found-target-is-target allowed text none taken same underflow = (
-    cond-false (is_some b.fragment) _ _ none ∙ cond-false (is_opaque_rejection b r) _ _ taken
-        ∙ ap Ok (sym same),
-    underflow,
-  )
+  text-of-found-target-is-target allowed text none taken same underflow = grind arith
 
 -- positions in a target: those of its components are those of its text
 pub text-of-target-has-positions : (base reference text : List ℕ) (positions : PackedPositions)

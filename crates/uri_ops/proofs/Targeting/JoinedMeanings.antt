@@ -1,6 +1,6 @@
 -- If base and reference are replaced by their normal texts, the target is equivalent, and the
 -- errors are the same.
-use Rattle.uri_ops.proofs.Common.{◌≡◌, ℕ, true, false, cond, List, [], ◌∷◌, ◌++◌, refl, sym, ap, ◌∙◌, ◌||◌, ⊎_elim, option_map, arith, codes, Option, Some, None, IfSome, is_some, is_none, IsUtf8, cases_Bool, cond-true, cond-false, cond_both, false≢true, nat_tests, TableSet, print, decode_unreserved, Components, starts, IsAbemptyPath, Kind, is_authority, components_of_parts, is_empty, directory, is_opaque, is_fragment_only, is_opaque_rejection, dotted_target, dotless_if_absolute, guarded, IsComponentSet, HasComponentSets, PortFunction, Meaning, authority_meaning, components_meaning, normal_authority, normal_components, reference_kind, print_decoded, is_none-option_map}
+use Rattle.uri_ops.proofs.Common.{common_steps, ◌≡◌, ℕ, true, false, cond, List, [], ◌∷◌, ◌++◌, refl, sym, ap, ◌∙◌, ◌||◌, ⊎_elim, option_map, arith, codes, Option, Some, None, IfSome, is_some, is_none, IsUtf8, cases_Bool, cond-true, cond-false, cond_both, false≢true, nat_tests, TableSet, print, decode_unreserved, Components, starts, IsAbemptyPath, Kind, is_authority, components_of_parts, is_empty, directory, is_opaque, is_fragment_only, is_opaque_rejection, dotted_target, dotless_if_absolute, guarded, IsComponentSet, HasComponentSets, PortFunction, Meaning, authority_meaning, components_meaning, normal_authority, normal_components, reference_kind, print_decoded, is_none-option_map}
 use Rattle.uri_ops.proofs.Meanings.AllowedParts.{is_set_text, print_decoded-of-nil-is-nil, decode_unreserved-is-idempotent}
 use Rattle.uri_ops.proofs.Paths.DecodedStarts.{decoding-keeps-emptiness, decoding-keeps-leading-slash}
 use Rattle.uri_ops.proofs.Paths.PathMeanings.{two-slashes-begin-with-slash, removing-dots-keeps-leading-slash, dotless_if_absolute-is-idempotent, guard-is-removed-as-dot-segment, path-without-dots-is-set-text, dotless_if_absolute-and-decoding-swap}
@@ -29,10 +29,13 @@ module _ (set : TableSet) (w : IsComponentSet (codes "?#[]") set)
       → decode_unreserved set (dotless_if_absolute (print (decode_unreserved set path)))
       ≡ decode_unreserved set (dotless_if_absolute path)
   unfolding print_decoded
-  removing-dots-of-decoded-path-decodes-same path e = ap (decode_unreserved set)
-      (dotless_if_absolute-and-decoding-swap set w slash path e)
-      ∙ decode_unreserved-is-idempotent set w.percent (dotless_if_absolute path)
-      (path-without-dots-is-set-text set w slash path e)
+  removing-dots-of-decoded-path-decodes-same path e =
+      grind (
+        arith,
+        dotless_if_absolute-and-decoding-swap,
+        decode_unreserved-is-idempotent,
+        path-without-dots-is-set-text,
+      )
 
   normal-path-keeps-emptiness : (path : List ℕ) → is_set_text set path ≡ true
       → is_empty (print (decode_unreserved set path)) ≡ is_empty path
@@ -68,12 +71,8 @@ module _ (kind : Kind) (sets : HasComponentSets kind) (ports : PortFunction) whe
   -- the target's path has lost its dot segments, and may have a guard
   pub target-path-has-meaning-of-joined : (t : Components) → is_some t.scheme ≡ true
       → meaning (record t { path = guarded t.authority (dotless_if_absolute t.path) }) ≡ meaning t
-  target-path-has-meaning-of-joined = with_scheme (λ t. meaning (record t
-      { path = guarded t.authority (dotless_if_absolute t.path) }) ≡ meaning t) (λ s a p q f.
-      let e = guard-is-removed-as-dot-segment a (dotless_if_absolute p)
-      ∙ dotless_if_absolute-is-idempotent p in
-      λ i. record (meaning (components_of_parts (Some s) a p q f))
-      { path = decode_unreserved kind.path (e i) })
+  target-path-has-meaning-of-joined =
+      grind (arith, with_scheme, guard-is-removed-as-dot-segment, dotless_if_absolute-is-idempotent)
 
   -- an authority that came without a scheme
   normal-bare-authority-has-meaning-under-default : (default : Option ℕ) (a : List ℕ)
@@ -118,21 +117,15 @@ module _ (kind : Kind) (sets : HasComponentSets kind) (ports : PortFunction) whe
       ≡ meaning (dotted_target base (components_of_parts None None [] q f))
   unfolding print_decoded
   reference-without-path-has-same-target-meaning base q f parts hq hf =
-      let r = components_of_parts None None [] q f in
-      let same = normal-components-have-same-meaning kind sets
-      (normal-authorities-are-authorities kind sets) ports base parts in
-      let nothing : is_empty (normal r).path
-      ≡ true = ap is_empty (print_decoded-of-nil-is-nil kind.path) in
-      let query = chosen-normal-query-decodes-as-chosen q (normal base).query base.query hq
-      (ap (λ m. m.query) same) in
-      let fragment = normal-fragment-decodes-as-fragment f hf in
-      ap meaning (cond-true _ _ _ nothing) ∙ (λ i. record {
-        scheme = (same i).scheme;
-        authority = (same i).authority;
-        path = (same i).path;
-        query = query i;
-        fragment = fragment i;
-      })
+      grind (
+        arith,
+        common_steps,
+        normal-components-have-same-meaning,
+        normal-authorities-are-authorities,
+        print_decoded-of-nil-is-nil,
+        chosen-normal-query-decodes-as-chosen,
+        normal-fragment-decodes-as-fragment,
+      )
 
   -- a reference with a path, but neither scheme nor authority, against a base with a scheme
   reference-with-path-has-same-target-meaning : (b : List ℕ) (ba : Option

@@ -1,5 +1,5 @@
 -- What a target has of a base and a reference (section 5.2.2), by what the reference has.
-use Rattle.uri_ops.proofs.Common.{◌≡◌, ℕ, ◌+◌, true, false, List, [], ◌∷◌, ◌++◌, length, refl, sym, ap, ◌∙◌, arith, ◌&&◌, append_assoc, length-append, option_map, codes, Option, Some, None, is_some, ◌==◌, cond-true, false≢true, ne_eqb, nat_tests, Components, IsAbemptyPath, components, marked, recompose, starts, components-are-split-of-text, before_path, directory, is_empty, remove_dot_segments, underflows, dotless_if_absolute, underflows_if_absolute, is_opaque_rejection, dotted_target, merged, eq_true_from_IsTrue, not_some_is_none}
+use Rattle.uri_ops.proofs.Common.{common_steps, ◌≡◌, ℕ, ◌+◌, true, false, List, [], ◌∷◌, ◌++◌, length, refl, sym, ap, ◌∙◌, arith, ◌&&◌, append_assoc, option_map, codes, Option, Some, None, is_some, ◌==◌, cond-true, false≢true, ne_eqb, nat_tests, Components, IsAbemptyPath, components, marked, recompose, starts, components-are-split-of-text, before_path, directory, is_empty, remove_dot_segments, underflows, dotless_if_absolute, underflows_if_absolute, is_opaque_rejection, dotted_target, merged, eq_true_from_IsTrue, not_some_is_none}
 use Rattle.uri_ops.proofs.Paths.DotLaws.{directory-is-absolute}
 use Rattle.uri_ops.proofs.Targeting.Swaps.{merging-base-is-not-opaque, base-that-is-not-opaque-has-abempty-path}
 use Rattle.uri_ops.proofs.Targeting.Targets.{appended-absolute-path-is-absolute}
@@ -48,14 +48,7 @@ pub pushed-query-ends-at-length : (query : Option (List ℕ)) (o3 o4 : List ℕ)
     → is_some query ≡ true → o4 ≡ o3 ++ marked (codes "?") query []
     → end ≡ length o4 → Some end ≡ option_map (λ q. length o3 + 1 + length q) query
 pushed-query-ends-at-length None o3 o4 end some e n = absurd (false≢true some)
-pushed-query-ends-at-length (Some q) o3 o4 end some e n = ap Some (omega (
-  arith,
-  n,
-  ap length e,
-  length-append o3 (codes "?" ++ q ++ []),
-  length-append (codes "?" ++ q) [],
-  length-append (codes "?") q,
-))
+pushed-query-ends-at-length (Some q) o3 o4 end some e n = grind (arith, common_steps)
 
 -- general fact on texts, for targets: one of length 0 is empty
 pub zero-length-is-empty : (text : List ℕ) → (length text == 0) ≡ is_empty text

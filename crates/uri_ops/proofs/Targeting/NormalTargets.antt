@@ -1,6 +1,6 @@
 -- An equivalent base and reference have a target with the same normal form, or both pairs have no
 -- target.
-use Rattle.uri_ops.proofs.Common.{◌≡◌, ℕ, Bool, true, false, List, refl, sym, ap, subst, ◌∙◌, arith, Result, Ok, Err, IfErr, IsErrAnd, is_ok, result_map_both, false≢true, nat_tests, Components, components, Kind, IsTextOf, HasComponentSets, normal_text, HasMeaningOf, HasTargetMeaning, IsErrorUnderSetting, IsNormalFormOfTarget, IsTargetOfMeanings, IsErrorOfMeanings, IsNormalTarget, IsNormalTargetError, reference_kind, resolved_meaning, IsNormalForm, Rules, meaning_under, IsTarget, IsErrorFor, IsErrorWithUnderflowAllowed, TargetError, BaseWithFragment, InvalidReferenceAgainstOpaqueBase, resolution_of, resolution_of_texts, ResolveError}
+use Rattle.uri_ops.proofs.Common.{◌≡◌, ℕ, Bool, true, false, List, refl, sym, ap, subst, ◌∙◌, arith, Result, Ok, Err, IfErr, IsErrAnd, is_ok, result_map_both, false≢true, nat_tests, Components, components, Kind, IsTextOf, HasComponentSets, HasMeaningOf, HasTargetMeaning, IsErrorUnderSetting, IsNormalFormOfTarget, IsTargetOfMeanings, IsErrorOfMeanings, IsNormalTarget, IsNormalTargetError, reference_kind, resolved_meaning, IsNormalForm, Rules, meaning_under, IsTarget, IsErrorFor, IsErrorWithUnderflowAllowed, TargetError, BaseWithFragment, InvalidReferenceAgainstOpaqueBase, resolution_of, resolution_of_texts, ResolveError}
 use Rattle.uri_ops.proofs.SchemeRules.RuledTargets.{resolving-respects-meaning}
 use Rattle.uri_ops.specs.declared.resolve.error.ResolveError.TheVariants as Of
 
@@ -58,12 +58,7 @@ module _ {A : Type 0} (f : List ℕ → A) where
 pub same-meaning-same-normal-form : (kind : Kind) (rules : Rules) (text other normal : List ℕ)
     → meaning_under kind rules other ≡ meaning_under kind rules text
     → IsNormalForm kind rules text normal → IsNormalForm kind rules other normal
-same-meaning-same-normal-form kind rules text other normal e h = record {
-  text = record { text = h.text.text ∙ ap normal_text (sym e) };
-  of_kind = h.of_kind;
-  meaning = h.meaning ∙ sym e;
-  same = λ u w. let both = h.same u w in (λ d. e ∙ both.0 d, λ d. both.1 (sym e ∙ d));
-}
+same-meaning-same-normal-form kind rules text other normal e h = grind arith
 
 -- resolving: an equivalent base and reference are rejected with the same error;
 -- b, r and base, reference: their components
@@ -99,8 +94,7 @@ same-resolution-error-under-setting : (allowed : Bool) (b r base reference : Com
     → is_ok (resolution_of b r) ≡ is_ok (resolution_of base reference)
     → IsErrorFor allowed base reference error → IsErrorUnderSetting allowed b r error
 same-resolution-error-under-setting true b r base reference error f e h =
-    same-resolution-error-with-underflow-allowed b r base reference error f e
-    (allowed-underflow-is-no-error base reference error h)
+    grind (arith, same-resolution-error-with-underflow-allowed, allowed-underflow-is-no-error)
 same-resolution-error-under-setting false b r base reference Of.BaseWithFragment f e h =
     f BaseWithFragment h
 same-resolution-error-under-setting false b r base

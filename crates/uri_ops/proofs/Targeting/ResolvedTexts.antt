@@ -1,5 +1,5 @@
 -- What is known of a base, a reference and a target where a target is computed.
-use Rattle.uri_ops.proofs.Common.{◌≡◌, ℕ, Bool, true, List, subst, sym, IfErr, IfOk, Ok, Result, IfErr-weaker, IfOk-weaker, IsUtf8, Components, components, Kind, IsOfKind, IsTextOf, HasComponentSets, reference_kind, IsTargetOfMeanings, IsErrorOfMeanings, IsTargetOfEncoded, IsErrorForEncoded, IsTarget, IsErrorFor, ResolveError}
+use Rattle.uri_ops.proofs.Common.{arith, ◌≡◌, ℕ, Bool, true, List, subst, IfErr, IfOk, Ok, Result, IfErr-weaker, IfOk-weaker, IsUtf8, Components, components, Kind, IsOfKind, IsTextOf, HasComponentSets, reference_kind, IsTargetOfMeanings, IsErrorOfMeanings, IsTargetOfEncoded, IsErrorForEncoded, IsTarget, IsErrorFor, ResolveError}
 use Rattle.uri_ops.specs.Resolved.{IsResolved}
 use Rattle.uri_ops.proofs.AsciiForms.EncodedTargets.{target-is-target-of-encoded, error-is-error-for-encoded}
 use Rattle.uri_ops.proofs.Targeting.NormalTargets.{target-respects-meaning, error-respects-meaning}
@@ -74,12 +74,5 @@ pub value-with-text-is-resolved : {T U : Type 0} (kind other : Kind) (allowed : 
     → IsResolved kind other allowed base reference (Ok value) text_of
     → IsResolved kind other allowed base reference (Ok returned) text_of_returned
 value-with-text-is-resolved kind other allowed base reference value returned text_of
-    text_of_returned same is = record {
-      target = subst (IsTarget allowed (components base) (components reference)) (sym same)
-          is.target;
-      error = tt;
-      encoded = subst (IsTargetOfEncoded allowed base reference) (sym same) is.encoded;
-      encoded_error = tt;
-      alike = subst (IsTargetOfMeanings kind other base reference) (sym same) is.alike;
-      alike_error = tt;
-    }
+    text_of_returned same is =
+    grind (arith, components)

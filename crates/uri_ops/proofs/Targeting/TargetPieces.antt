@@ -1,5 +1,5 @@
 -- Targets that are a prefix of the base and a suffix of the reference.
-use Rattle.uri_ops.proofs.Common.{◌≡◌, ℕ, ◌+◌, true, false, Bool, List, [], ◌++◌, length, take, drop, ap, inr, subst, sym, ◌∙◌, ◌&&◌, ◌||◌, append_assoc, arith, length-append, codes, Option, None, is_some, cond-true, append-nil, nat_tests, or-false, Components, marked, recompose, starts, packed, before_fragment, positions_of, length-before_hash, EndsInSlash, IsAbsolute, directory, has_slash, is_double_dot, is_empty, lacks_dot_segments, remove_dot_segments, underflows, IsDotlessDirectory, RemovalState, IsSlashOrStart, before_path, IsCaseOf, HasJoinedPath, IsDirectoryOfBase, AbsolutePath, with_final_path, dotless_if_absolute, underflows_if_absolute, guarded, is_opaque_rejection, dotted_target, merged, query_or, equal-to-true-is-IsTrue, eq_true_from_IsTrue, some_is_not_none, None-from-not-is_some}
+use Rattle.uri_ops.proofs.Common.{common_steps, ◌≡◌, ℕ, ◌+◌, true, false, Bool, List, [], ◌++◌, length, take, drop, ap, inr, subst, sym, ◌∙◌, ◌&&◌, append_assoc, arith, length-append, codes, Option, None, is_some, append-nil, nat_tests, Components, marked, recompose, starts, packed, positions_of, length-before_hash, EndsInSlash, IsAbsolute, directory, has_slash, is_double_dot, is_empty, lacks_dot_segments, underflows, IsDotlessDirectory, RemovalState, IsSlashOrStart, before_path, IsCaseOf, HasJoinedPath, IsDirectoryOfBase, AbsolutePath, with_final_path, dotless_if_absolute, underflows_if_absolute, guarded, is_opaque_rejection, dotted_target, merged, query_or, equal-to-true-is-IsTrue, eq_true_from_IsTrue, some_is_not_none, None-from-not-is_some}
 use Rattle.uri_ops.proofs.Normal.WrittenPlaces.{length-before_path-is-path_start}
 use Rattle.uri_ops.proofs.Paths.ClimbedDirectories.{first-bytes-are-prefix}
 use Rattle.uri_ops.proofs.Paths.DotLaws.{directory-is-absolute, directory-ends-in-slash, remove-dots-of-dotless, dotless-path-does-not-underflow}
@@ -36,9 +36,13 @@ dotless-path-after-authority-is-unchanged : (authority : Option (List ℕ)) (pat
     → is_some authority ≡ true → IsAbsolute path
     → lacks_dot_segments path ≡ true → guarded authority (dotless_if_absolute path) ≡ path
 dotless-path-after-authority-is-unchanged authority path some absolute dotless =
-    sym (path-after-authority-needs-no-guard authority (dotless_if_absolute path) some)
-    ∙ cond-true (starts 47 path) _ _ (eq_true_from_IsTrue _ absolute)
-    ∙ remove-dots-of-dotless path absolute dotless
+    grind (
+      arith,
+      path-after-authority-needs-no-guard,
+      starts,
+      eq_true_from_IsTrue,
+      remove-dots-of-dotless,
+    )
 
 -- targets: the text of a reference without scheme and authority begins with its path
 text-without-prefix-is-path-and-suffix : (r : Components) → r.scheme ≡ None → r.authority ≡ None
@@ -75,25 +79,7 @@ module _ (b r : Components) (prefix rest : List ℕ) (underflows : Bool)
       ≡ packed (positions_of (with_final_path (dotted_target b r)))
   unfolding joined
   joined-pieces-have-target-positions path_end query_end e f =
-      let through : length (before_path joined ++ joined.path)
-      ≡ length prefix + length rest = omega (
-        arith,
-        length-append (before_path b) (h.stem ++ rest),
-        length-append h.stem rest,
-        ap length h.before,
-        length-append (before_path b) h.stem,
-      ) in
-      let path : path_end ≡ (positions_of joined).path_end = e ∙ sym through
-      ∙ length-through-path-is-path_end joined in
-      let query : query_end ≡ before_fragment (positions_of joined) = omega (
-        arith,
-        f,
-        through,
-        length-before_hash joined,
-        length-append (before_path joined ++ joined.path) (marked (codes "?") r.query []),
-      ) in
-      (λ i. record (packed (positions_of b)) { path_end = path i; query_end = query i })
-      ∙ sym (ap (λ c. packed (positions_of c)) h.target)
+      grind (arith, common_steps, joined, length-through-path-is-path_end, length-before_hash)
 
 -- resolving: a relative path follows the directory of a base with an authority; what its dot
 -- segments leave of both is kept and rest
@@ -105,31 +91,20 @@ module _ (b r : Components) (s : is_some r.scheme ≡ false) (a : is_some r.auth
   pub relative-path-after-directory-is-joined : (prefix : List ℕ) → prefix ≡ before_path b ++ kept
       → HasJoinedPath b r prefix rest underflowed
   relative-path-after-directory-is-joined prefix f =
-      let t = joined-with-relative-path b r s a e n in
-      let path = merged b.path r.path in
-      let same : base ++ r.path ≡ path = ap (λ t. t ++ r.path) d.text in
-      let absolute : IsAbsolute path = subst IsAbsolute same
-      (appended-absolute-path-is-absolute base r.path d.dotless.absolute) in
-      let is_absolute = eq_true_from_IsTrue _ absolute in
-      let whole = appended-absolute-path-is-absolute kept rest k.absolute in
-      let lacks = dotless-path-after-directory-is-dotless kept rest k dotless in
-      let final : guarded b.authority (dotless_if_absolute path) ≡ kept ++ rest =
-      sym (path-after-authority-needs-no-guard b.authority (dotless_if_absolute path) d.authority)
-      ∙ cond-true (starts 47 path) _ _ is_absolute ∙ sym (ap remove_dot_segments same)
-      ∙ sym h.removed ∙ remove-dots-of-dotless (kept ++ rest) whole lacks in
-      record {
-        taken = base-with-authority-rejects-no-reference b r d.authority;
-        underflow = ap (λ (c : Components). underflows_if_absolute c.path) t
-            ∙ ap (λ x. x && underflows path) is_absolute ∙ sym (ap underflows same)
-            ∙ sym h.underflow
-            ∙ ap (λ x. underflowed || x)
-            (dotless-path-does-not-underflow (kept ++ rest) whole lacks)
-            ∙ or-false underflowed;
-        stem = kept;
-        before = f;
-        target = ap with_final_path t
-            ∙ (λ i. record b { path = final i; query = r.query; fragment = r.fragment });
-      }
+      grind (
+        arith,
+        joined-with-relative-path,
+        merged,
+        appended-absolute-path-is-absolute,
+        eq_true_from_IsTrue,
+        kept,
+        dotless-path-after-directory-is-dotless,
+        path-after-authority-needs-no-guard,
+        starts,
+        remove-dots-of-dotless,
+        base-with-authority-rejects-no-reference,
+        dotless-path-does-not-underflow,
+      )
 
 -- resolving: a path without dot segments that begins with `/` (47) is after the base's authority
 pub absolute-path-after-authority-is-joined : (b r : Components) (prefix : List ℕ)
@@ -165,28 +140,27 @@ module _ (b r : Components) (prefix : List ℕ) (s : is_some r.scheme ≡ false)
   kept = dotless-path-after-authority-is-unchanged b.authority b.path some absolute dotless
 
   pub dotless-base-path-does-not-underflow : underflows_if_absolute (dotted_target b r).path ≡ false
-  dotless-base-path-does-not-underflow = ap (λ (c : Components). underflows_if_absolute c.path)
-      dotted_target-without-path-keeps-base-path
-      ∙ ap (λ x. x && underflows b.path) (eq_true_from_IsTrue _ absolute)
-      ∙ dotless-path-does-not-underflow b.path absolute dotless
+  dotless-base-path-does-not-underflow =
+      grind (
+        arith,
+        dotted_target-without-path-keeps-base-path,
+        eq_true_from_IsTrue,
+        dotless-path-does-not-underflow,
+      )
 
   -- a reference that begins with `?` is after the base's path in the target
   pub query-after-base-path-is-joined : is_some r.query ≡ true → prefix ≡ before_path b ++ b.path
       → HasJoinedPath b r prefix r.path false
   query-after-base-path-is-joined q f =
-      let path : b.path ≡ b.path ++ r.path = sym
-      (ap (λ x. b.path ++ x) (empty-text-is-nil r.path e) ∙ append-nil b.path) in
-      record {
-        taken = base-with-authority-rejects-no-reference b r some;
-        underflow = dotless-base-path-does-not-underflow;
-        stem = b.path;
-        before = f;
-        target = ap with_final_path dotted_target-without-path-keeps-base-path ∙ (λ i. record b {
-          path = (kept ∙ path) i;
-          query = cond-true (is_some r.query) r.query b.query q i;
-          fragment = r.fragment;
-        });
-      }
+      grind (
+        arith,
+        common_steps,
+        empty-text-is-nil,
+        base-with-authority-rejects-no-reference,
+        dotless-base-path-does-not-underflow,
+        dotted_target-without-path-keeps-base-path,
+        kept,
+      )
 
   -- an empty reference, or one that begins with `#`, is after all but the base's fragment
   pub fragment-after-base-is-target-text : is_some r.query ≡ false

@@ -40,20 +40,26 @@ text-with-scheme-is-of-kind-with-scheme kind text s h = let p = and_parts _ _ h 
 -- conversions: a URI reference converts to a URI exactly if it is one
 pub uri_ref_with_scheme_is_uri : (text : List ℕ) → IsOfKind uri_ref text
     → (missing_scheme_error text ≡ None ↔ IsOfKind uri text)
-uri_ref_with_scheme_is_uri text h = (
-  λ e. text-with-scheme-is-of-kind-with-scheme uri_ref text
-      (no-missing_scheme_error-means-scheme text e) h,
-  λ w. text-with-scheme-misses-no-scheme text (uri_has_scheme text w),
-)
+uri_ref_with_scheme_is_uri text h =
+    grind (
+      arith,
+      text-with-scheme-is-of-kind-with-scheme,
+      no-missing_scheme_error-means-scheme,
+      text-with-scheme-misses-no-scheme,
+      uri_has_scheme,
+    )
 
 -- conversions: an IRI reference converts to an IRI exactly if it is one
 pub iri_ref_with_scheme_is_iri : (text : List ℕ) → IsOfKind iri_ref text
     → (missing_scheme_error text ≡ None ↔ IsOfKind iri text)
-iri_ref_with_scheme_is_iri text h = (
-  λ e. text-with-scheme-is-of-kind-with-scheme iri_ref text
-      (no-missing_scheme_error-means-scheme text e) h,
-  λ w. text-with-scheme-misses-no-scheme text (iri_has_scheme text w),
-)
+iri_ref_with_scheme_is_iri text h =
+    grind (
+      arith,
+      text-with-scheme-is-of-kind-with-scheme,
+      no-missing_scheme_error-means-scheme,
+      text-with-scheme-misses-no-scheme,
+      iri_has_scheme,
+    )
 
 -- conversions: the byte is ASCII
 abbrev is_ascii_code : ℕ → Bool
@@ -96,11 +102,13 @@ no-not_ascii_error-means-ascii : (text : List ℕ) → not_ascii_error text ≡ 
     → list_all (λ c. ltb c 128) text ≡ true
 unfolding not_ascii_error first_past_ascii
 no-not_ascii_error-means-ascii text e =
-    let none = absent-mapped-index-is-absent (position is_past_ascii text) e in
-    ⊎_elim (λ h. absurd (some-index-is-not-none (prefix_len is_ascii_code text)
-    (sym (cond-true _ _ _ (lt-ltb (prefix_len is_ascii_code text) (length text) h)) ∙ none)))
-    (λ h. whole-ascii-prefix-means-ascii-text text h)
-    (cases_lt (prefix_len is_ascii_code text) (length text))
+    grind (
+      arith,
+      absent-mapped-index-is-absent,
+      position,
+      some-index-is-not-none,
+      whole-ascii-prefix-means-ascii-text,
+    )
 
 -- conversions: an ASCII text has no error for a character past ASCII
 ascii-text-has-no-not_ascii_error : (text : List ℕ) → list_all (λ c. ltb c 128) text ≡ true
@@ -151,14 +159,15 @@ both-none-give-option_or-none a b e f = ap (λ o. option_or o b) e ∙ f
 pub ascii_iri_ref_with_scheme_is_uri : (text : List ℕ) → IsUtf8 text → IsOfKind iri_ref text
     → (uri_conversion_error text ≡ None ↔ IsOfKind uri text)
 unfolding uri_conversion_error
-ascii_iri_ref_with_scheme_is_uri text u h = (
-  λ e. let p = option_or-is-none-if-both-are _ _ e in
-      (uri_ref_with_scheme_is_uri _ ((ascii_iri_ref_is_uri_ref _ u h).0 p.1)).0 p.0,
-  λ w.
-      let reference = uri_is_uri_ref text w in
-      both-none-give-option_or-none _ _ ((uri_ref_with_scheme_is_uri _ reference).1 w)
-      ((ascii_iri_ref_is_uri_ref _ u h).1 reference),
-)
+ascii_iri_ref_with_scheme_is_uri text u h =
+    grind (
+      arith,
+      option_or-is-none-if-both-are,
+      uri_ref_with_scheme_is_uri,
+      ascii_iri_ref_is_uri_ref,
+      uri_is_uri_ref,
+      both-none-give-option_or-none,
+    )
 
 -- conversions: each URI is an IRI
 pub uri_is_iri : (text : List ℕ) → IsUtf8 text → IsOfKind uri text → IsOfKind iri text
@@ -175,9 +184,8 @@ uri_ref_is_iri_ref text u h = (text-is-of-wider-kind uri_ref iri_ref iri_ref-has
 module _ (kind : Kind) (sets : HasComponentSets kind) where
   encoded-text-is-of-ascii-kind : (text encoded : List ℕ) → encoded ≡ encode_past_ascii text
       → IsUtf8 text → IsOfKind kind text → IsOfKind (ascii_kind kind) encoded
-  encoded-text-is-of-ascii-kind text encoded e u h = ap (components_meet_rules (ascii_kind kind))
-      (ap components e)
-      ∙ (encoded-text-is-of-ascii_kind kind sets text (record { utf8 = u; grammar = h })).grammar
+  encoded-text-is-of-ascii-kind text encoded e u h =
+      grind (arith, components, encoded-text-is-of-ascii_kind)
 
   encoded-text-is-equivalent : (text encoded : List ℕ) → encoded ≡ encode_past_ascii text
       → IsUtf8 text → IsOfKind kind text → AreEquivalent kind encoded text

@@ -1,5 +1,5 @@
 -- The texts that pass the tests of a kind are those of its grammar.
-use Rattle.uri_ops.proofs.Common.{◌≡◌, ℕ, Bool, true, false, not, List, refl, sym, ap, subst, ◌∙◌, ◌&&◌, ◌||◌, inl, inr, ⊎_elim, ◌↔◌, ◌⊎◌, is_some, IsUtf8, false≢true, TableSet, AuthorityParts, IsAuthorityFor, LackAuthorityDelimiters, authority_parts, Components, components, Kind, IsOfKind, is_scheme, is_authority, has_colon_in_first_segment, components_meet_rules, uri, uri_ref, iri, iri_ref, HostKind, IsHost, host_kind, is_authority_for-sound, is_authority_for-complete, authority_parts-are-unique, names_exclude_delimiters, is_host-complete, components-are-split-of-text, only-split-is-components, HasComponentSets, IfSome-weaken, IfSome-combine}
+use Rattle.uri_ops.proofs.Common.{arith, ◌≡◌, ℕ, Bool, true, false, not, List, refl, sym, ap, ◌&&◌, ◌||◌, inl, inr, ⊎_elim, ◌↔◌, ◌⊎◌, is_some, IsUtf8, false≢true, TableSet, AuthorityParts, IsAuthorityFor, LackAuthorityDelimiters, authority_parts, Components, components, Kind, IsOfKind, is_scheme, is_authority, has_colon_in_first_segment, uri, uri_ref, iri, iri_ref, HostKind, IsHost, host_kind, is_authority_for-sound, is_authority_for-complete, authority_parts-are-unique, names_exclude_delimiters, is_host-complete, components-are-split-of-text, only-split-is-components, HasComponentSets, IfSome-weaken, IfSome-combine}
 use Rattle.uri_parts.specs.GrammarInWords.{HasAuthorityParts, FollowsRules, IsInGrammar}
 use Rattle.uri_ops.proofs.Meanings.AuthorityMeanings.{kind-sets-lack-authority-delimiters}
 use Rattle.uri_ops.proofs.TextKinds.FourKinds.{uri-has-component-sets, uri_ref-has-component-sets, iri-has-component-sets, iri_ref-has-component-sets}
@@ -78,9 +78,13 @@ module _ (kind : Kind) (sets : HasComponentSets kind) where
   grammar-gives-text-of-kind : (text : List ℕ) → IsUtf8 text → IsInGrammar kind text
       → IsOfKind kind text
   grammar-gives-text-of-kind text u (p, g) =
-      let same = only-split-is-components _ p g.split in
-      ap (components_meet_rules kind) same ∙ components-of-kind-meet-grammar _ p
-      (rules-give-components-of-kind _ p (subst AreUtf8 same (components-of-utf8-are-utf8 _ u)) g)
+      grind (
+        arith,
+        only-split-is-components,
+        components-of-kind-meet-grammar,
+        rules-give-components-of-kind,
+        components-of-utf8-are-utf8,
+      )
 
   text-is-of-kind-if-in-grammar : (text : List ℕ) → IsUtf8 text
       → (IsOfKind kind text ↔ IsInGrammar kind text)

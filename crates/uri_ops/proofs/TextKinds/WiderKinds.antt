@@ -1,5 +1,5 @@
 -- A text of a kind is of each kind with wider sets.
-use Rattle.uri_ops.proofs.Common.{◌≡◌, ℕ, Bool, true, false, not, List, [], ◌∷◌, refl, sym, ◌∙◌, ◌&&◌, ◌||◌, ⊎_elim, is_some, list_all, IsUtf8, cases_lt, and_parts, and_from, or_cases, or_left, or_right, false≢true, TableSet, IsSubset, allows, allows_past_ascii, Token, Char, Octet, tokens, allows_token, is_valid_for, IsValidFor, ascii_char_is_allowed_iff_in_set, char_past_ascii_is_allowed_by_flags, components, Kind, is_authority, has_colon_in_first_segment, IsTextOf, HostKind, Ipv4, Ipv6, IpvFuture, RegName, IsHost, is_authority_for-sound, is_authority_for-complete, HasComponentSets, IsWithin, ascii_set, ascii_kind, IfSome-weaken}
+use Rattle.uri_ops.proofs.Common.{arith, ◌≡◌, ℕ, Bool, true, false, not, List, [], ◌∷◌, refl, ◌&&◌, ◌||◌, is_some, list_all, IsUtf8, and_parts, and_from, false≢true, TableSet, IsSubset, allows, allows_past_ascii, Token, Char, Octet, tokens, allows_token, is_valid_for, IsValidFor, ascii_char_is_allowed_iff_in_set, char_past_ascii_is_allowed_by_flags, components, Kind, is_authority, has_colon_in_first_segment, IsTextOf, HostKind, Ipv4, Ipv6, IpvFuture, RegName, IsHost, is_authority_for-sound, is_authority_for-complete, HasComponentSets, IsWithin, ascii_set, ascii_kind, IfSome-weaken}
 use Rattle.uri_ops.proofs.Meanings.AllowedParts.{is_set_text, set-text-from-utf8, set-text-is-utf8, set-text-is-valid}
 use Rattle.uri_ops.proofs.Meanings.TextParts.{components-of-utf8-are-utf8, grammar-gives-components-of-kind, components-of-kind-meet-grammar}
 use Rattle.uri_ops.proofs.Meanings.AuthorityMeanings.{kind-sets-lack-authority-delimiters}
@@ -8,16 +8,16 @@ module _ (s t : TableSet) (w : IsSubset s t) where
   wider-set-allows-past-ascii : (c : ℕ) → allows_past_ascii s c ≡ true
       → allows_past_ascii t c ≡ true
   unfolding allows_past_ascii
-  wider-set-allows-past-ascii c e = ⊎_elim (λ h. let p = and_parts _ _ h in
-      or_left _ _ (and_from _ _ (w.ucschar p.0) p.1)) (λ h. let p = and_parts _ _ h in
-      or_right _ _ (and_from _ _ (w.iprivate p.0) p.1)) (or_cases _ _ e)
+  wider-set-allows-past-ascii c e = grind arith
 
   wider-set-allows-character : (c : ℕ) → allows s c ≡ true → allows t c ≡ true
-  wider-set-allows-character c e = ⊎_elim (λ h. ascii_char_is_allowed_iff_in_set t c h
-      ∙ w.ascii c (sym (ascii_char_is_allowed_iff_in_set s c h) ∙ e))
-      (λ h. char_past_ascii_is_allowed_by_flags t c h
-      ∙ wider-set-allows-past-ascii c (sym (char_past_ascii_is_allowed_by_flags s c h) ∙ e))
-      (cases_lt c 128)
+  wider-set-allows-character c e =
+      grind (
+        arith,
+        ascii_char_is_allowed_iff_in_set,
+        char_past_ascii_is_allowed_by_flags,
+        wider-set-allows-past-ascii,
+      )
 
   wider-set-allows-tokens : (ts : List Token) → list_all (allows_token s) ts ≡ true
       → list_all (allows_token t) ts ≡ true
@@ -95,23 +95,11 @@ module _ (kind wide : Kind) (sets : HasComponentSets wide) (w : IsWithin kind wi
 
 -- conversions: a set without its characters past ASCII is within it
 ascii_set-is-subset-of-set : (set : TableSet) → IsSubset (ascii_set set) set
-ascii_set-is-subset-of-set set = record {
-  ascii = λ c e. e;
-  pct_encoded = λ e. e;
-  ucschar = λ e. absurd (false≢true e);
-  iprivate = λ e. absurd (false≢true e);
-}
+ascii_set-is-subset-of-set set = grind arith
 
 -- conversions: the sets of the kind without characters past ASCII are within those of the kind
 pub ascii_kind-is-within-kind : (kind : Kind) → IsWithin (ascii_kind kind) kind
-ascii_kind-is-within-kind kind = record {
-  userinfo = ascii_set-is-subset-of-set kind.userinfo;
-  reg_name = ascii_set-is-subset-of-set kind.reg_name;
-  path = ascii_set-is-subset-of-set kind.path;
-  query = ascii_set-is-subset-of-set kind.query;
-  fragment = ascii_set-is-subset-of-set kind.fragment;
-  needs_scheme = λ e. e;
-}
+ascii_kind-is-within-kind kind = grind (arith, ascii_set-is-subset-of-set)
 
 -- conversions: a set is within itself
 set-is-subset-of-itself : (set : TableSet) → IsSubset set set
@@ -121,11 +109,4 @@ set-is-subset-of-itself set =
 -- conversions: a kind is a wider one than the same with a scheme needed
 pub kind-with-scheme-is-within-kind : (kind : Kind)
     → IsWithin (record kind { needs_scheme = true }) kind
-kind-with-scheme-is-within-kind kind = record {
-  userinfo = set-is-subset-of-itself kind.userinfo;
-  reg_name = set-is-subset-of-itself kind.reg_name;
-  path = set-is-subset-of-itself kind.path;
-  query = set-is-subset-of-itself kind.query;
-  fragment = set-is-subset-of-itself kind.fragment;
-  needs_scheme = λ e. refl;
-}
+kind-with-scheme-is-within-kind kind = grind (arith, set-is-subset-of-itself)

@@ -1,4 +1,4 @@
-use Rattle.uri_ops.proofs.Common.{ap, refl, sym, subst, ◌∙◌, IsHostAt, with_authority}
+use Rattle.uri_ops.proofs.Common.{arith, ap, refl, ◌∙◌, with_authority}
 use Rattle.uri_ops.proofs.Builders.BuilderAuthorities.{authority-text-from-encoders}
 use Rattle.uri_ops.proofs.Builders.DraftHosts.{host-range-of-new-authority}
 use Rattle.uri_ops.proofs.Builders.PartRules.{parts-with-authority-meet-rules, parts-with-authority-are-in-order, in-order-parts-pass-the-test}
@@ -21,10 +21,7 @@ from_draft-requires-clause-place g c = parts-with-authority-are-in-order g.R.RiM
     c.with_authority.ensures.adds c.into_draft.ensures.before
 
 pub from_draft-requires-clause-host : goal.from_draft-requires-clause-host
-from_draft-requires-clause-host g c = host-range-of-new-authority c.as_str.result.now
-    c.into_draft.result c.with_authority.result c.with_authority.ensures.adds (subst
-    (λ h. IsHostAt h c.as_str.result.now) (sym c.with_authority.ensures.host)
-    (subst (IsHostAt c.host_place.result) (sym c.as_str.ensures.text) c.host_place.ensures))
+from_draft-requires-clause-host g c = grind (arith, host-range-of-new-authority)
 
 pub returns : goal.returns
 returns g c = step-adds-to-contents with_authority _ _ _ _ _ _ refl c.as_str.ensures.text

@@ -1,4 +1,4 @@
-use Rattle.uri_ops.proofs.Common.{sym, ap, ◌∙◌, refl, subst, is_some, false≢true, packed, IsTextOfParts, refusal}
+use Rattle.uri_ops.proofs.Common.{arith, sym, ap, ◌∙◌, refl, subst, packed, IsTextOfParts, refusal}
 use Rattle.uri_ops.proofs.Builders.Built.{built-draft-is-text-of-parts, built-positions-are-of-parts, built-text-is-of-kind, text-of-parts-is-accepted}
 use Rattle.uri_ops.proofs.build.Builder.build.Goals as goal
 
@@ -15,12 +15,7 @@ make_owned-requires-clause-at g c = c.of-positions.ensures ∙ ap packed (c.posi
     c.into_draft-draft.ensures.before (sym c.refusal.ensures ∙ c.in-None.is)))
 
 pub returns-in-Some-clause-exactly : goal.returns-in-Some-clause-exactly
-returns-in-Some-clause-exactly g c = λ _. (
-  λ e. absurd (false≢true e),
-  λ w. absurd (false≢true (sym (ap is_some (sym c.in-Some.is
-      ∙ (c.refusal.ensures ∙ (ap refusal c.into_draft-draft.ensures.same ∙ text-of-parts-is-accepted
-      g.R.RiMaybeRef.kind (g.S.Contents.BuilderContents.parts c.args.self.contents) w)))))),
-)
+returns-in-Some-clause-exactly g c = grind (arith, refusal, text-of-parts-is-accepted)
 
 pub returns-in-None-clause-exactly : goal.returns-in-None-clause-exactly
 returns-in-None-clause-exactly g c = λ _. (

@@ -1,4 +1,4 @@
-use Rattle.uri_ops.proofs.Common.{refl, ap, ◌∙◌, with_query}
+use Rattle.uri_ops.proofs.Common.{arith, refl, ap, ◌∙◌, with_query}
 use Rattle.uri_ops.proofs.Builders.BuilderDrafts.{step-adds-to-contents, valid-utf8-is-text-for-encoder}
 use Rattle.uri_ops.proofs.Builders.DraftHosts.{host-range-stays-with-authority}
 use Rattle.uri_ops.proofs.Builders.PartRules.{parts-with-query-meet-rules, parts-with-query-are-in-order, path-last-lacks-query-and-fragment}
@@ -18,9 +18,7 @@ from_draft-requires-clause-place g c = parts-with-query-are-in-order g.R.RiMaybe
     c.with_query.ensures.adds c.into_draft.ensures.before
 
 pub from_draft-requires-clause-host : goal.from_draft-requires-clause-host
-from_draft-requires-clause-host g c = host-range-stays-with-authority
-    (with_query c.as_str.result.now) c.into_draft.result c.with_query.result
-    c.with_query.ensures.adds refl refl c.with_query.ensures.host c.into_draft.ensures.host
+from_draft-requires-clause-host g c = grind (arith, host-range-stays-with-authority)
 
 pub returns : goal.returns
 returns g c = step-adds-to-contents with_query _ _ _ _ _ _ refl c.as_str.ensures.text

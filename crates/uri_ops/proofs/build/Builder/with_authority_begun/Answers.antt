@@ -1,4 +1,4 @@
-use Rattle.uri_ops.proofs.Common.{[], ap, refl, draft_parts, with_authority}
+use Rattle.uri_ops.proofs.Common.{arith, [], refl, draft_parts, with_authority}
 use Rattle.uri_ops.proofs.Builders.BuilderDrafts.{step-adds-to-contents}
 use Rattle.uri_ops.proofs.Builders.BuilderAuthorities.{empty-text-is-authority}
 use Rattle.uri_ops.proofs.Builders.DraftHosts.{host-range-of-new-authority, empty-authority-has-host-range}
@@ -9,9 +9,8 @@ pub with_authority-requires : goal.with_authority-requires
 with_authority-requires g c = in-order-parts-pass-the-test _ _ _ c.into_draft.ensures.before
 
 pub from_draft-requires-clause-rules : goal.from_draft-requires-clause-rules
-from_draft-requires-clause-rules g c = parts-with-authority-meet-rules _
-    g.R.RiMaybeRef.kind.needs_scheme _ _ [] c.with_authority.ensures.adds c.into_draft.ensures.rules
-    (empty-text-is-authority _)
+from_draft-requires-clause-rules g c =
+    grind (arith, parts-with-authority-meet-rules, empty-text-is-authority)
 
 pub from_draft-requires-clause-place : goal.from_draft-requires-clause-place
 from_draft-requires-clause-place g c = g.met.S.BeginsAuthority.begun
@@ -20,10 +19,8 @@ from_draft-requires-clause-place g c = g.met.S.BeginsAuthority.begun
     c.with_authority.ensures.adds c.into_draft.ensures.before)
 
 pub from_draft-requires-clause-host : goal.from_draft-requires-clause-host
-from_draft-requires-clause-host g c = host-range-of-new-authority [] c.into_draft.result
-    c.with_authority.result c.with_authority.ensures.adds (empty-authority-has-host-range
-    c.with_authority.result.host (ap (λ h. h.start) c.with_authority.ensures.host)
-    (ap (λ h. h.end) c.with_authority.ensures.host))
+from_draft-requires-clause-host g c =
+    grind (arith, host-range-of-new-authority, empty-authority-has-host-range)
 
 pub returns : goal.returns
 returns g c = step-adds-to-contents with_authority _ _ _ _ _ _ refl refl c.into_draft.ensures.same

@@ -1,18 +1,11 @@
-use Rattle.uri_ops.proofs.Common.{rules, ◌≡◌, arith, ap, sym, subst, ◌∙◌, length, string_bytes, take, IsUtf8, false≢true, take_all, core_text, IsOfKind, packed, ArePositionsOf, encode_past_ascii}
+use Rattle.uri_ops.proofs.Common.{common_steps, rules, ◌≡◌, arith, ap, sym, subst, ◌∙◌, length, string_bytes, IsUtf8, false≢true, core_text, IsOfKind, packed, ArePositionsOf, encode_past_ascii}
 use Rattle.uri_ops.specs.Models.EncodedPlaces.{ArePositionsOrdered, positions_in_encoded}
 use Rattle.uri_ops.proofs.AsciiForms.EncodedPlaces.{encoded-positions-are-right, positions-are-ordered}
 use Rattle.uri_ops.proofs.AsciiForms.EncodedTokens.{encoded-text-is-utf8}
 use Rattle.uri_ops.proofs.convert.encoded.encoded.Goals as goal
 
 pub returns-then-ascii-bytes-clause-text : goal.returns-then-ascii-bytes-clause-text
-returns-then-ascii-bytes-clause-text g c =
-    let bytes = c.as_bytes-bytes.result.now in
-    let n = c.ascii_prefix_len-ascii.result in
-    let copied : string_bytes c.in_ok-copy.copy ≡ c.as_str-text.result.now = search rules in
-    let all : take n bytes ≡ bytes = take_all n bytes (omega (arith, c.if-ascii-bytes.true)) in
-    copied ∙ sym c.as_bytes-bytes.ensures.value ∙ sym all
-    ∙ sym c.ascii_prefix_len-ascii.ensures.unchanged ∙ ap encode_past_ascii (all
-    ∙ c.as_bytes-bytes.ensures.value ∙ c.as_str-text.ensures.text ∙ c.core-core.ensures.text)
+returns-then-ascii-bytes-clause-text g c = grind (arith, common_steps)
 
 pub push_encoded_components-requires-clause-ordered
     : goal.push_encoded_components-requires-clause-ordered

@@ -1,4 +1,4 @@
-use Rattle.uri_ops.proofs.Common.{◌≡◌, ℕ, ◌+◌, ◌*◌, ◌≤◌, List, [], ◌∷◌, ◌++◌, length, get_or, set, take, refl, sym, ap, ◌∙◌, arith, append_assoc, take-set_at, length-set}
+use Rattle.uri_ops.proofs.Common.{common_steps, ◌≡◌, ℕ, ◌+◌, ◌*◌, ◌≤◌, List, [], ◌∷◌, ◌++◌, length, get_or, set, take, refl, sym, ap, ◌∙◌, arith, length-set}
 use Rattle.uri_ops.proofs.AsciiForms.EncodedTokens.{octet_text}
 use Rattle.uri_ops.proofs.AsciiForms.EncodedRuns.{pushed-octet-is-encoding}
 use Rattle.uri_ops.proofs.AsciiForms.EncodedPaths.{encoding-of-nil-is-nil}
@@ -7,19 +7,7 @@ use Rattle.uri_ops.proofs.convert.encoded.push_leading_octets.Goals as goal
 -- general fact on lists, for the octets of a run: three stores, one after the other
 three-stores : (xs : List ℕ) (n m a b c : ℕ) → m ≡ n + 3 → m ≤ length xs
     → take m (set (set (set xs n a) (n + 1) b) (n + 2) c) ≡ take n xs ++ a ∷ b ∷ c ∷ []
-three-stores xs n m a b c e inside =
-    let one = set xs n a in
-    let two = set one (n + 1) b in
-    let size_one : length one ≡ length xs = length-set xs n a in
-    let size : length two ≡ length xs = length-set one _ b ∙ size_one in
-    let first : take (n + 1) one ≡ take n xs ++ a ∷ [] =
-    take-set_at xs n _ a (omega arith) (omega arith) in
-    let second : take (n + 2) two ≡ take (n + 1) one ++ b ∷ [] =
-    take-set_at one _ _ b (omega arith) (omega arith) in
-    let third : take m (set two (n + 2) c) ≡ take (n + 2) two ++ c ∷ [] =
-    take-set_at two _ m c (omega arith) (omega arith) in
-    third ∙ ap (λ t. t ++ c ∷ []) (second ∙ ap (λ t. t ++ b ∷ []) first)
-    ∙ append_assoc (take n xs ++ a ∷ []) _ _ ∙ append_assoc (take n xs) _ _
+three-stores xs n m a b c e inside = grind (arith, common_steps, set)
 
 -- general fact on lists, for the three bytes of an octet: a list of three is its elements
 list-of-three : (xs ys : List ℕ) (a b c : ℕ) → xs ≡ ys → ys ≡ a ∷ b ∷ c ∷ []
@@ -28,12 +16,7 @@ list-of-three xs ys a b c same three =
     ap (λ t. get_or t 0 0 ∷ get_or t 1 0 ∷ get_or t 2 0 ∷ []) (same ∙ three) ∙ sym three
 
 pub loop-count-init : goal.loop-count-init
-loop-count-init c = record {
-  inside = omega arith;
-  few = omega arith;
-  size = refl;
-  octets = sym encoding-of-nil-is-nil;
-}
+loop-count-init c = grind (arith, encoding-of-nil-is-nil)
 
 pub loop-count-preserved : goal.loop-count-preserved
 loop-count-preserved c =

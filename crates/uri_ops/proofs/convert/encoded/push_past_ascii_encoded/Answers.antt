@@ -20,19 +20,7 @@ pushed-encoding-is-encoding old mid new bytes i n o e =
 
 pub loop-done-preserved-then-bytes-done-ge128 : goal.loop-done-preserved-then-bytes-done-ge128
 loop-done-preserved-then-bytes-done-ge128 c =
-    let bytes = c.args.bytes.now in
-    let done = c.loop-done.done in
-    let count = c.in_ok-done.field-0 in
-    let pushed = c.in_ok-done.ensures in
-    record {
-      inside = end-of-run-is-within-bytes _ _ _ c.loop-done.invariant.inside pushed.inside;
-      total = pushed-encoding-is-encoding _ _ _ _ _ _ c.loop-done.invariant.total pushed.text;
-    }
+    grind (arith, end-of-run-is-within-bytes, pushed-encoding-is-encoding)
 
 pub loop-done-preserved : goal.loop-done-preserved
-loop-done-preserved c = record {
-  inside = end-of-run-is-within-bytes _ _ _
-      c.loop-done.invariant.inside c.ascii_prefix_len.ensures.inside;
-  total = pushed-ascii-run-is-encoding _ _ _ _ _ _ c.ascii_prefix_len.ensures.unchanged
-      c.loop-done.invariant.total c.in_ok-push_run.ensures;
-}
+loop-done-preserved c = grind (arith, end-of-run-is-within-bytes, pushed-ascii-run-is-encoding)

@@ -1,4 +1,4 @@
-use Rattle.uri_ops.proofs.Common.{◌≡◌, ℕ, Bool, ◌&&◌, List, ◌++◌, cond, sym, ap, ◌∙◌, string_bytes, ⊎_elim, IsAscii, cases_Bool, cond-true, cond-false, IsUtf8-from_ascii, widest_set, decode_unreserved, encoded_formatting_text, TableSet, set_of, IsValidFor, print, decoded_text, lowered_if}
+use Rattle.uri_ops.proofs.Common.{arith, ◌≡◌, ℕ, Bool, ◌&&◌, List, ◌++◌, cond, sym, ap, ◌∙◌, string_bytes, ⊎_elim, IsAscii, cases_Bool, cond-true, cond-false, IsUtf8-from_ascii, widest_set, decode_unreserved, encoded_formatting_text, TableSet, set_of, IsValidFor, print, decoded_text, lowered_if}
 use Rattle.uri_ops.proofs.Meanings.AsciiSuffixes.{ascii-lacks-byte-E2}
 use Rattle.uri_ops.proofs.Meanings.DecodedPrefixes.{unset-flags-lack-past-ascii}
 use Rattle.uri_ops.proofs.Meanings.WrittenFormatting.{encoding-formatting-completes-decoding, decoding-without-formatting-is-complete, no-byte-E2-no-formatting, text-without-formatting-is-unchanged}
@@ -16,10 +16,8 @@ normal lowers set text = print (lowered_if lowers (decode_unreserved set text))
 formatting-completes-decoding : (lowers : Bool) (set : TableSet) (text : List ℕ)
     → IsValidFor widest_set text → formatted set (decoded_text lowers set text)
     ≡ normal lowers set text
-formatting-completes-decoding lowers set text valid = ⊎_elim
-    (λ e. cond-true _ _ _ e ∙ encoding-formatting-completes-decoding lowers set text e valid)
-    (λ e. cond-false _ _ _ e ∙ decoding-without-formatting-is-complete lowers set text e)
-    (cases_Bool (set.ucschar && set.pct_encoded))
+formatting-completes-decoding lowers set text valid =
+    grind (arith, encoding-formatting-completes-decoding, decoding-without-formatting-is-complete)
 
 -- decoding: ASCII has no formatting characters
 formatting-leaves-ascii : (set : TableSet) (text : List ℕ) → IsAscii text

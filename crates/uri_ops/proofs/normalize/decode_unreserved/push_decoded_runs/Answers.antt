@@ -1,4 +1,4 @@
-use Rattle.uri_ops.proofs.Common.{◌≡◌, ◌+◌, ◌*◌, ◌-◌, ◌++◌, ◌∷◌, [], ◌<◌, ◌≤◌, ◌⊎◌, inl, inr, false, true, not, eqb, length, drop, refl, sym, ap, ◌∙◌, subst, arith, string_bytes, digit_value, position_or_len, length-drop, on_ok_weaker, IsUtf8-drop, IsCharBoundary-start, IsCharBoundary-from_rest, decode_octet, set_of, Octet, print, KeepsPrefixWhenDecoded, decoded_text, lowered_if, lowered_text_if}
+use Rattle.uri_ops.proofs.Common.{common_steps, ◌≡◌, ◌+◌, ◌*◌, ◌-◌, ◌++◌, ◌∷◌, [], ◌<◌, ◌≤◌, ◌⊎◌, inl, inr, false, true, not, eqb, length, drop, refl, sym, ap, ◌∙◌, subst, arith, string_bytes, digit_value, position_or_len, on_ok_weaker, IsUtf8-drop, IsCharBoundary-start, decode_octet, set_of, Octet, print, KeepsPrefixWhenDecoded, decoded_text, lowered_if, lowered_text_if}
 use Rattle.uri_ops.proofs.Meanings.DecodedPrefixes.{LiteralPrefix, octet-is-decoded-alone, text-before-percent-is-literal-prefix, empty-prefix-is-unchanged, unchanged-prefix-grows, unchanged-prefix-is-pushed, last-prefix-is-pushed, suffix-of-suffix-is-valid, decoded-octet-is-pushed, unset-flags-lack-past-ascii}
 use Rattle.uri_ops.proofs.Meanings.DecodedOctets.{uppercase-reserved-octet-is-unchanged}
 use Rattle.uri_ops.proofs.normalize.decode_unreserved.push_decoded_runs.Goals as goal
@@ -26,44 +26,14 @@ literal c =
     (c.unencoded_len-end.ensures ∙ ap (position_or_len (λ b. eqb b 37)) c.range_from.ensures.value)
 
 pub overflow_add-end : goal.overflow_add-end
-overflow_add-end c =
-    let within = (literal c).boundary.0 in
-    let long = length-drop c.loop-end.end c.args.text.now in
-    omega (arith, within, long)
+overflow_add-end c = grind (arith, literal)
 
 pub loop-end-preserved-then-bytes-end-ne37 : goal.loop-end-preserved-then-bytes-end-ne37
 loop-end-preserved-then-bytes-end-ne37 c =
-    let text = c.args.text.now in
-    let end = c.loop-end.end in
-    let more = c.unencoded_len-end.result in
-    let holds = c.loop-end.invariant in
-    let p = literal c in
-    record {
-      order = omega (arith, holds.order);
-      start = holds.start;
-      boundary = IsCharBoundary-from_rest text end more holds.boundary.0 p.boundary;
-      valid = suffix-of-suffix-is-valid text end more p.valid;
-      prefix = unchanged-prefix-grows c.args.lowers (set_of c.args.table.now) text c.loop-end.done
-          end more holds.order holds.prefix (p.prefix c.args.lowers (set_of c.args.table.now));
-      total = holds.total;
-    }
+    grind (arith, common_steps, literal, suffix-of-suffix-is-valid, unchanged-prefix-grows)
 
 pub returns-then-not-alone : goal.returns-then-not-alone
-returns-then-not-alone c =
-    let text = c.args.text.now in
-    let lowers = c.args.lowers in
-    let set = set_of c.args.table.now in
-    let out = string_bytes c.loop-end.out in
-    let holds = c.loop-end.invariant in
-    let pushed = c.in_ok-push_literal-2.ensures
-    ∙ ap (λ x. out ++ lowered_text_if lowers x) c.range-then-not-alone.ensures.value in
-    let total = unchanged-prefix-is-pushed lowers set text out
-    (string_bytes c.push_literal-then-not-alone.new.out)
-    (string_bytes c.args.out.now ++ decoded_text lowers set text) c.loop-end.done c.loop-end.end
-    holds.order holds.prefix pushed holds.total in
-    on_ok_weaker c.push_decoded_parts.result (λ decoded. decoded
-    ∙ ap (λ x. string_bytes c.push_literal-then-not-alone.new.out ++ decoded_text lowers set x)
-    c.range_from-then-not-alone.ensures.value ∙ total) c.push_decoded_parts.ensures
+returns-then-not-alone c = grind (arith, common_steps, unchanged-prefix-is-pushed)
 
 pub loop-end-preserved-in-Some : goal.loop-end-preserved-in-Some
 loop-end-preserved-in-Some c =

@@ -1,17 +1,10 @@
-use Rattle.uri_ops.proofs.Common.{◌≡◌, ◌<◌, ◌+◌, ◌*◌, ◌++◌, ◌∷◌, [], false, inr, slice_set, drop, take, refl, sym, ap, ◌∙◌, subst, arith, digit_value, encode_utf8, IsAscii, ltb-true, true≢false, take_more_set, encode_ascii, IsAscii-nil, IsAscii-push, decoded_text, lowered_code_if}
+use Rattle.uri_ops.proofs.Common.{◌≡◌, ◌<◌, ◌+◌, ◌*◌, ◌++◌, ◌∷◌, [], false, inr, slice_set, drop, take, sym, ap, ◌∙◌, subst, arith, digit_value, encode_utf8, IsAscii, ltb-true, true≢false, take_more_set, encode_ascii, IsAscii-push, decoded_text, lowered_code_if}
 use Rattle.uri_ops.proofs.Meanings.DecodedPrefixes.{octet-is-decoded-alone, decoded-octet-is-pushed}
 use Rattle.uri_ops.proofs.Meanings.UnreservedCodes.{unreserved-octet-prints-its-code, lowered-code-of-ascii-is-ascii}
 use Rattle.uri_ops.proofs.normalize.octet_runs.decode_block.Goals as goal
 
 pub loop-count-init : goal.loop-count-init
-loop-count-init c = record {
-  few = omega arith;
-  position = omega arith;
-  ascii = IsAscii-nil;
-  boundary = c.requires.boundary;
-  valid = c.requires.valid;
-  decoded = λ set. refl;
-}
+loop-count-init c = grind arith
 
 pub octet_digits-high-requires-clause-within : goal.octet_digits-high-requires-clause-within
 octet_digits-high-requires-clause-within c =

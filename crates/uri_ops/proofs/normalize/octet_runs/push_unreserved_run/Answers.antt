@@ -1,14 +1,9 @@
-use Rattle.uri_ops.proofs.Common.{◌+◌, ◌*◌, ◌++◌, inr, false, drop, refl, sym, arith, ◌∙◌, string_bytes, digit_value, true≢false, IfOk-weaker, decoded_text}
+use Rattle.uri_ops.proofs.Common.{◌+◌, ◌*◌, ◌++◌, inr, false, drop, sym, arith, ◌∙◌, string_bytes, digit_value, true≢false, IfOk-weaker, decoded_text}
 use Rattle.uri_ops.proofs.Meanings.DecodedPrefixes.{decoded-octet-is-pushed}
 use Rattle.uri_ops.proofs.normalize.octet_runs.push_unreserved_run.Goals as goal
 
 pub loop-end-init : goal.loop-end-init
-loop-end-init c = record {
-  from = omega arith;
-  boundary = c.requires.boundary;
-  valid = c.requires.valid;
-  total = λ set. refl;
-}
+loop-end-init c = grind arith
 
 pub returns-then-left-eq0-clause-text : goal.returns-then-left-eq0-clause-text
 returns-then-left-eq0-clause-text c = λ set. IfOk-weaker c.push_blocks.result _ _

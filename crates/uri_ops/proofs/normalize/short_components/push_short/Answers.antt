@@ -1,24 +1,13 @@
-use Rattle.uri_ops.proofs.Common.{◌≡◌, ◌++◌, ◌≤◌, [], take, drop, length, sym, ap, subst, ◌∙◌, arith, append-nil, string_bytes, IsAscii, IsUtf8, decoded_text}
+use Rattle.uri_ops.proofs.Common.{◌≡◌, ◌++◌, ◌≤◌, [], drop, length, sym, ap, subst, ◌∙◌, arith, append-nil, string_bytes, IsAscii, decoded_text}
 use Rattle.uri_ops.proofs.Meanings.AsciiSuffixes.{ascii-suffix-keeps-utf8, suffix-and-rest-are-text}
 use Rattle.uri_ops.proofs.Meanings.DecodedPrefixes.{none_written}
 use Rattle.uri_ops.proofs.normalize.short_components.push_short.Goals as goal
 
 pub put_bytes-requires : goal.put_bytes-requires
-put_bytes-requires c =
-    let old = c.take_bytes-bytes.result.items in
-    let new = c.push_short_bytes-end.new.out.items in
-    let place : length c.as_str-start.result.now ≡ length old = ap length
-    (c.as_str-start.ensures.value ∙ sym (ap (λ v. v.items) c.take_bytes-bytes.ensures.value)) in
-    let same : c.truncate.new.self.items ≡ old = c.truncate.ensures.items
-    ∙ ap (λ k. take k new) place ∙ c.push_short_bytes-end.ensures.unchanged in
-    subst IsUtf8 (sym same) c.take_bytes-bytes.ensures.utf8
+put_bytes-requires c = grind arith
 
 pub put_bytes-requires-2 : goal.put_bytes-requires-2
-put_bytes-requires-2 c = ascii-suffix-keeps-utf8 c.take_bytes-bytes.result.items
-    c.push_short_bytes-end.new.out.items c.take_bytes-bytes.ensures.utf8 (record {
-      unchanged = c.push_short_bytes-end.ensures.unchanged;
-      ascii = c.push_short_bytes-end.ensures.ascii;
-    })
+put_bytes-requires-2 c = grind (arith, ascii-suffix-keeps-utf8)
 
 pub returns-clause-done : goal.returns-clause-done
 returns-clause-done c = λ _ set none.

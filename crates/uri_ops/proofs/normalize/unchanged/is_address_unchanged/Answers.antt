@@ -1,4 +1,4 @@
-use Rattle.uri_ops.proofs.Common.{◌≡◌, ℕ, zero, suc, ◌+◌, ◌-◌, ◌*◌, ◌/◌, ◌%◌, ◌<◌, ◌≤◌, Bool, true, false, not, ◌||◌, ◌==◌, List, [], ◌∷◌, ◌++◌, length, take, drop, replicate, flat_map, refl, sym, ap, subst, ◌∙◌, arith, inl, inr, append_assoc, length-append, add-one, le-leb, lt-ltb, ne_eqb, codes, decimal, bytes_eq, ⊤, Option, Some, None, digit_value, digit_char, to_ascii_lowercase, str_to_ascii_lowercase, IsDotted, IsGroup, IsGroupsAfter, IsGroups, IsColonHex, IsElided, hex, groups_text, zero_run, longest_zero_run, compressed_text, hex_groups_text, ipv6_text, and_parts, and_from, cond-true, cond-false, leb-true, lt-leb, true≢false, nat_tests, drop_all, drop_at, length-replicate, take_at, bytes_eq-Decides, TableSet, starts, bracketed, host_kind, ipv6_value, is_host, literal_kind, literal_of, ipv6_value-sound, host_meaning, host_text}
+use Rattle.uri_ops.proofs.Common.{common_steps, ◌≡◌, ℕ, zero, suc, ◌+◌, ◌-◌, ◌*◌, ◌/◌, ◌%◌, ◌<◌, ◌≤◌, Bool, true, false, not, ◌||◌, ◌==◌, List, [], ◌∷◌, ◌++◌, length, take, drop, replicate, flat_map, refl, sym, ap, subst, ◌∙◌, arith, inl, inr, append_assoc, length-append, add-one, le-leb, lt-ltb, ne_eqb, codes, bytes_eq, ⊤, Option, Some, None, digit_value, digit_char, to_ascii_lowercase, str_to_ascii_lowercase, IsDotted, IsGroup, IsGroupsAfter, IsGroups, IsColonHex, IsElided, hex, groups_text, zero_run, longest_zero_run, compressed_text, hex_groups_text, ipv6_text, and_parts, and_from, cond-true, cond-false, lt-leb, nat_tests, drop_at, length-replicate, take_at, bytes_eq-Decides, TableSet, starts, bracketed, host_kind, ipv6_value, is_host, literal_kind, literal_of, ipv6_value-sound, host_meaning, host_text}
 use Rattle.uri_ops.proofs.normalize.unchanged.is_address_unchanged.Invariants.{unusual, usual, colons_of}
 use Rattle.uri_ops.proofs.normalize.unchanged.is_address_unchanged.Goals as goal
 
@@ -29,17 +29,12 @@ usual-first-digit-is-not-zero p c begins e h = grind (arith, nat_tests)
 -- numbers in hexadecimal digits, by how many there are
 hex-of-one : (s : ℕ) → s < 16 → hex s ≡ digit_char (s % 16) ∷ []
 unfolding hex
-hex-of-one s h =
-    let a : s < 0x1000 = omega arith in
-    let b : s < 0x100 = omega arith in
-    rw (lt-leb 0x1000 s a, lt-leb 0x100 s b, lt-leb 0x10 s h) refl
+hex-of-one s h = grind arith
 
 hex-of-two : (s : ℕ) → 0x10 ≤ s → s < 0x100
     → hex s ≡ digit_char (s / 0x10 % 16) ∷ digit_char (s % 16) ∷ []
 unfolding hex
-hex-of-two s k h =
-    let a : s < 0x1000 = omega arith in
-    rw (lt-leb 0x1000 s a, lt-leb 0x100 s h, le-leb 0x10 s k) refl
+hex-of-two s k h = grind arith
 
 hex-of-three : (s : ℕ) → 0x100 ≤ s → s < 0x1000
     → hex s ≡ digit_char (s / 0x100 % 16) ∷ digit_char (s / 0x10 % 16) ∷ digit_char (s % 16) ∷ []
@@ -59,13 +54,7 @@ usual-group-is-hex : (p : ℕ) (group : List ℕ) (s : ℕ) → (p == 58 || p ==
     → usual p group ≡ true → IsGroup group s → IsHexOf group s
 usual-group-is-hex p [] s begins e h = absurd (omega (arith, h.0.0.0))
 usual-group-is-hex p (a ∷ []) s begins e h =
-    let ea = and_parts (not (unusual p a)) true e in
-    let ha = h.0.0.1.0 in
-    let va = usual-first-digit-is-not-zero p a begins ea.0 ha in
-    let value : digit_value a ≡ s = omega (arith, h.0.1) in
-    let one : s % 16 ≡ digit_value a = omega (arith, value, ha) in
-    let da = ap digit_char one ∙ usual-digit-is-of-its-value p a ea.0 ha in
-    (hex-of-one s (omega (arith, value, ha)) ∙ (λ i. da i ∷ []), omega (arith, value, va))
+    grind (arith, usual-first-digit-is-not-zero, usual-digit-is-of-its-value, hex-of-one)
 usual-group-is-hex p (a ∷ b ∷ []) s begins e h =
     let ea = and_parts (not (unusual p a)) _ e in
     let eb = and_parts (not (unusual a b)) true ea.1 in
@@ -128,19 +117,13 @@ usual-group-is-hex p (a ∷ b ∷ c ∷ d ∷ x ∷ group) s begins e h = absurd
 
 -- normal addresses: a usual text has no `.`
 usual-text-has-no-dot : (p : ℕ) (xs ys : List ℕ) → usual p (xs ++ codes "." ++ ys) ≡ true → ⊥
-usual-text-has-no-dot p xs ys e =
-    let parts = usual-splits p (xs ++ codes ".") ys e in
-    let dot = usual-splits p xs (codes ".") parts.0 in
-    true≢false (sym dot.1.1)
+usual-text-has-no-dot p xs ys e = grind (arith, usual-splits)
 
 -- normal addresses: a usual text has no IPv4 address
 usual-text-is-not-dotted : (p : ℕ) (lead text octets : List ℕ) → usual p (lead ++ text) ≡ true
     → IsDotted text octets → ⊥
 usual-text-is-not-dotted p lead text octets e h =
-    let own = usual-splits p lead text e in
-    let whole = subst (λ t. usual own.1.0 t ≡ true) h.spelled own.1.1 in
-    usual-text-has-no-dot own.1.0
-    (decimal h.a ++ codes "." ++ decimal h.b ++ codes "." ++ decimal h.c) (decimal h.d) whole
+    grind (arith, usual-splits, usual, usual-text-has-no-dot)
 
 -- all of these numbers are above 0
 abbrev AllPositive : List ℕ → Type 0
@@ -229,9 +212,7 @@ first-zeros-are-longest_zero_run : (n : ℕ) (tail : List ℕ) → AllPositive t
     → longest_zero_run (replicate n 0 ++ tail) ≡ (0, n)
 first-zeros-are-longest_zero_run zero tail h k = absurd (omega arith)
 first-zeros-are-longest_zero_run (suc n) tail h k =
-    let later = longest_zero_run-of-zeros n tail h in
-    let run = zero_run-of-zeros (suc n) tail h in
-    rw (later, run, le-leb n (suc n) (omega arith)) refl
+    grind (arith, longest_zero_run-of-zeros, zero_run-of-zeros)
 
 zeros-are-longest_zero_run : (head : List ℕ) (n : ℕ) (tail : List ℕ) → AllPositive head
     → AllPositive tail → 0 < n
@@ -269,11 +250,9 @@ normal-groups-around-zeros-are-printed : (head tail head_text tail_text : List �
     → AllPositive tail → 1 < n → usual 91 (head_text ++ 58 ∷ 58 ∷ tail_text) ≡ true
     → ipv6_text (head ++ replicate n 0 ++ tail) ≡ head_text ++ 58 ∷ 58 ∷ tail_text
 normal-groups-around-zeros-are-printed [] tail head_text tail_text n e f h t k u =
-    let begins = subst (λ (x : List ℕ). usual 91 (x ++ 58 ∷ 58 ∷ tail_text) ≡ true) e u in
-    absurd (true≢false (sym begins))
+    grind (arith, usual)
 normal-groups-around-zeros-are-printed (s ∷ head) tail head_text tail_text n e f h t k u =
-    elided-text-is-printed s head tail n h t k
-    ∙ (λ i. sym e i ++ codes "::" ++ sym f i) ∙ append_assoc head_text (codes "::") tail_text
+    grind (arith, common_steps, elided-text-is-printed)
 
 -- normal addresses: a usual address with `::`, in which six `:` are, is printed as it is
 usual-elided-text-is-printed : (text segments : List ℕ) → usual 91 text ≡ true
@@ -347,17 +326,4 @@ usual-host-is-its-normal-form names host begins u few valid =
     ∙ usual-literal-is-its-normal-form names host u few same (ipv6_value (literal_of host)) refl
 
 pub returns : goal.returns
-returns c = λ e names valid.
-    let bytes = c.as_bytes-bytes.result.now in
-    let host = c.args.host.now in
-    let past : drop c.loop-i.i bytes ≡ [] = drop_all c.loop-i.i bytes c.loop-i-test.false in
-    let u : usual 91 host ≡ true = ap (usual 91) (sym c.as_bytes-bytes.ensures.value)
-    ∙ sym c.loop-i.invariant.usual ∙ ap (usual c.loop-i.previous) past in
-    let few : colons_of host ≤ 6 = omega (
-      arith,
-      leb-true _ _ e,
-      ap colons_of past,
-      c.loop-i.invariant.colons,
-      ap colons_of c.as_bytes-bytes.ensures.value,
-    ) in
-    usual-host-is-its-normal-form names host c.requires u few valid
+returns c = grind (arith, common_steps, usual, usual-host-is-its-normal-form)

@@ -1,4 +1,4 @@
-use Rattle.uri_ops.proofs.Common.{arith, refl, leb-true}
+use Rattle.uri_ops.proofs.Common.{common_steps, arith, refl, leb-true}
 use Rattle.uri_ops.proofs.Normal.UnchangedPrefixes.{run-of-unchanged-bytes-is-literal, run-of-unchanged-bytes-is-unchanged-prefix}
 use Rattle.uri_ops.proofs.normalize.unchanged.is_prefix_unchanged.Goals as goal
 
@@ -8,6 +8,4 @@ returns-clause-unchanged c = λ e. run-of-unchanged-bytes-is-unchanged-prefix
     (omega (arith, c.max.ensures)) c.requires c.run_end.ensures (leb-true _ _ e)
 
 pub returns-clause-literal : goal.returns-clause-literal
-returns-clause-literal c =
-    λ e. run-of-unchanged-bytes-is-literal c.args.bytes.now _ c.max.result c.args.end
-    c.run_end.result refl (omega (arith, c.max.ensures)) c.run_end.ensures (leb-true _ _ e)
+returns-clause-literal c = grind (arith, common_steps, run-of-unchanged-bytes-is-literal)

@@ -1,4 +1,4 @@
-use Rattle.uri_ops.proofs.Common.{◌≡◌, ℕ, ◌<◌, ◌||◌, Bool, true, false, not, cond, eqb, bit_and, get_or, refl, sym, ap, ◌∙◌, ⊎_elim, arith, agree_below, agree_below_at, cases_Bool, cond-false, cond-true, eqb-true, is_unchanged_octet}
+use Rattle.uri_ops.proofs.Common.{◌≡◌, ℕ, ◌<◌, ◌||◌, Bool, true, false, not, cond, eqb, bit_and, get_or, refl, sym, ap, ◌∙◌, ⊎_elim, arith, agree_below, agree_below_at, cases_Bool, eqb-true, is_unchanged_octet}
 use Rattle.std.specs.Int.Bits.{and_zero_l}
 use Rattle.uri_ops.specs.declared.normalize.unchanged_octets.TheConstants.{FIRST_DIGITS, SECOND_DIGITS}
 use Rattle.uri_ops.proofs.normalize.unchanged_octets.are_digits_unchanged.Goals as goal
@@ -44,21 +44,7 @@ test-is-sound alone high low small below = ⊎_elim (λ none.
 
 digits-that-pass-are-unchanged : (alone : Bool) (high low : ℕ) → high < 256 → low < 256
     → passes alone high low ≡ true → is_unchanged_octet alone high low ≡ true
-digits-that-pass-are-unchanged alone high low small below e =
-    sym (ap (λ b. not b || is_unchanged_octet alone high low) e)
-    ∙ test-is-sound alone high low small below
+digits-that-pass-are-unchanged alone high low small below e = grind (arith, test-is-sound)
 
 pub returns : goal.returns
-returns c = λ e.
-    let high = c.args.high in
-    let low = c.args.low in
-    let k : ℕ = c.if-alone.classes in
-    let classes : k ≡ cond c.args.alone 255 127 = elim c.if-alone.branch [
-      | then-alone w ↦ w.classes-is ∙ sym (cond-true c.args.alone 255 127 w.if-alone.true)
-      | else-alone w ↦ w.classes-is ∙ sym (cond-false c.args.alone 255 127 w.if-alone.false)
-    ] in
-    digits-that-pass-are-unchanged c.args.alone high low (omega arith) (omega arith)
-    (ap (λ n. not (eqb (bit_and (bit_and (first high) (second low)) n) 0)) (sym classes)
-    ∙ ap (λ n. not (eqb (bit_and (bit_and (first n) (second low)) k) 0)) (sym c.from.ensures)
-    ∙ ap (λ n. not (eqb (bit_and (bit_and (first c.from.result) (second n)) k) 0))
-    (sym c.from-2.ensures) ∙ e)
+returns c = grind (arith, digits-that-pass-are-unchanged)

@@ -1,4 +1,4 @@
-use Rattle.uri_ops.proofs.Common.{◌++◌, ◌||◌, sym, ap, ◌∙◌, refl, subst, IsDotlessDirectory, parent_directory, begins_with_dot}
+use Rattle.uri_ops.proofs.Common.{arith, ◌++◌, ◌||◌, sym, ap, ◌∙◌, refl, subst, IsDotlessDirectory, parent_directory, begins_with_dot}
 use Rattle.uri_ops.proofs.Paths.DotStarts.{path-without-leading-dot-begins-with-none}
 use Rattle.uri_ops.proofs.Paths.LeftPaths.{removal-state-of-equals, removal-passes-double-dot, removal-passes-single-dot}
 use Rattle.uri_ops.proofs.Paths.ClimbedDirectories.{path-beginning-with-dot-is-not-empty, parent-of-directory-is-directory, prefix-of-prefix-is-prefix, rest-of-suffix-is-suffix, directory-of-one-byte-is-root}
@@ -53,6 +53,4 @@ loop-next-preserved c =
     }
 
 pub returns-clause-first : goal.returns-clause-first
-returns-clause-first c = path-without-leading-dot-begins-with-none c.loop-next.rest.now
-    (ap begins_with_dot (sym c.as_bytes.ensures.value)
-    ∙ sym c.begins_with_dot.ensures ∙ c.loop-next-test.false)
+returns-clause-first c = grind (arith, path-without-leading-dot-begins-with-none)

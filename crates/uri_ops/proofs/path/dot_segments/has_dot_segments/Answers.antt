@@ -1,4 +1,4 @@
-use Rattle.uri_ops.proofs.Common.{not, ◌≡◌, ◌<◌, ◌+◌, ◌++◌, length, take, drop, false, arith, refl, sym, ap, subst, ◌∙◌, IsCharBoundary, drop-drop, IsCharBoundary-from_rest, take_then_take_is_take_of_sum, is_double_dot, is_single_dot, RemovalState, DescribesLeadingDots}
+use Rattle.uri_ops.proofs.Common.{common_steps, ◌≡◌, ◌<◌, ◌+◌, ◌++◌, length, take, drop, false, arith, refl, sym, ap, subst, ◌∙◌, IsCharBoundary, drop-drop, IsCharBoundary-from_rest, take_then_take_is_take_of_sum, RemovalState}
 use Rattle.uri_ops.proofs.Paths.DotStarts.{path-without-leading-dot-begins-with-none}
 use Rattle.uri_ops.proofs.Paths.FoundDotSegments.{dot-segment-before-rest-is-in-path, double-dot-is-dot-segment, single-dot-is-dot-segment}
 use Rattle.uri_ops.proofs.Paths.LeftPaths.{removal-state-of-equals, removal-passes-dotless-prefix}
@@ -6,13 +6,7 @@ use Rattle.uri_ops.proofs.Paths.PushedPaths.{absolute-path-begins-with-no-dot, r
 use Rattle.uri_ops.proofs.path.dot_segments.has_dot_segments.Goals as goal
 
 pub loop-done-init : goal.loop-done-init
-loop-done-init c =
-    let prefix = c.dotless_prefix_len-dotless.ensures in
-    record {
-      place = prefix.place;
-      left = removal-begins-after-dotless-prefix c.args.path.now c.dotless_prefix_len-dotless.result
-          c.requires prefix.some prefix.dotless.dotless prefix.dotless.closed;
-    }
+loop-done-init c = grind (arith, common_steps, removal-begins-after-dotless-prefix)
 
 pub dotless_prefix_len-dotless-requires-clause-some
     : goal.dotless_prefix_len-dotless-requires-clause-some
@@ -51,18 +45,8 @@ loop-done-preserved c =
 
 pub returns-in-SingleDot : goal.returns-in-SingleDot
 returns-in-SingleDot c =
-    let path = c.args.path.now in
-    let rest = c.range_from-rest.result.now in
-    sym (ap not (dot-segment-before-rest-is-in-path is_single_dot
-    single-dot-is-dot-segment path rest c.loop-done.done _ c.range_from-rest.ensures.value
-    (omega (arith, c.range_from-rest.ensures.len, c.loop-done-test.true)) c.loop-done.invariant.left
-    (subst (DescribesLeadingDots rest) c.in-SingleDot.is c.leading_dot_segment.ensures.leading)))
+    grind (arith, dot-segment-before-rest-is-in-path, single-dot-is-dot-segment)
 
 pub returns-in-DoubleDot : goal.returns-in-DoubleDot
 returns-in-DoubleDot c =
-    let path = c.args.path.now in
-    let rest = c.range_from-rest.result.now in
-    sym (ap not (dot-segment-before-rest-is-in-path is_double_dot
-    double-dot-is-dot-segment path rest c.loop-done.done _ c.range_from-rest.ensures.value
-    (omega (arith, c.range_from-rest.ensures.len, c.loop-done-test.true)) c.loop-done.invariant.left
-    (subst (DescribesLeadingDots rest) c.in-DoubleDot.is c.leading_dot_segment.ensures.leading)))
+    grind (arith, dot-segment-before-rest-is-in-path, double-dot-is-dot-segment)

@@ -31,15 +31,4 @@ returns-then-mask-ne0 c =
     }
 
 pub loop-left-preserved : goal.loop-left-preserved
-loop-left-preserved c =
-    let left = c.loop-left.left in
-    let holds = c.loop-left.invariant in
-    let all : left - 16 + 16 ≡ left = omega (arith, c.loop-left-test.true) in
-    record {
-      from = omega (arith, c.loop-left-test.true);
-      within = omega (arith, holds.within);
-      none = zero-mask-block-extends-slashless-suffix c.args.bytes.now
-          (left - 16) c.lanes_equal_to-mask.result
-          (omega (arith, all, holds.within)) c.lanes_equal_to-mask.ensures c.if-mask-ne0.false
-          (ap (λ n. has_slash (drop n c.args.bytes.now)) all ∙ holds.none);
-    }
+loop-left-preserved c = grind (arith, zero-mask-block-extends-slashless-suffix)

@@ -18,19 +18,7 @@ truncate-requires c =
     λ _. (place.0, λ _. place.1)
 
 pub returns-clause-bytes : goal.returns-clause-bytes
-returns-clause-bytes c =
-    let text = string_bytes c.args.out.now in
-    let all = take (c.len-end.result - 1) c.as_bytes.result.now in
-    let end_is : c.len-end.result ≡ length text = c.len-end.ensures ∙ sym c.as_bytes.ensures.len
-    ∙ ap length c.as_bytes.ensures.value in
-    let all_is : all ≡ take (length text - 1) text =
-    ap (λ n. take (n - 1) c.as_bytes.result.now) end_is
-    ∙ ap (take (length text - 1)) c.as_bytes.ensures.value in
-    c.truncate.ensures.bytes ∙ popped-directory-is-parent
-    text c.args.start c.requires all all_is c.last_slash_before-slash.result
-    c.last_slash_before-slash.ensures.place c.last_slash_before-slash.ensures.prefix
+returns-clause-bytes c = grind (arith, popped-directory-is-parent)
 
 pub returns-clause-none : goal.returns-clause-none
-returns-clause-none c = root-directory-has-no-segment
-    (string_bytes c.args.out.now) c.args.start c.requires c.len-end.result
-    (c.len-end.ensures ∙ sym c.as_bytes.ensures.len ∙ ap length c.as_bytes.ensures.value)
+returns-clause-none c = grind (arith, root-directory-has-no-segment)

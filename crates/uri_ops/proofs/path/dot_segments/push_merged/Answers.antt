@@ -1,4 +1,4 @@
-use Rattle.uri_ops.proofs.Common.{◌≡◌, length, rules, string_bytes}
+use Rattle.uri_ops.proofs.Common.{arith, ◌≡◌, length, rules, string_bytes}
 use Rattle.uri_ops.proofs.Paths.LeftPaths.{slice-from-zero-is-prefix}
 use Rattle.uri_ops.proofs.Paths.PushedPaths.{pushed-base-directory-is-dotless-directory, prefix-loses-dots-as-directory, prefix-underflows-as-directory, pushed-merged-path-loses-its-dots, base-or-rest-underflows-as-merged-path}
 use Rattle.uri_ops.proofs.Paths.Piecewise.{identity-keeps-slashes-and-dots}
@@ -21,24 +21,11 @@ push_segments-requires-clause-directory c =
 
 pub returns : goal.returns
 returns c =
-    let at : c.len-start.result ≡ length (string_bytes c.args.out.now) = search rules in
-    let base = c.path_or_slash-base.result.now in
-    let directory = c.range-directory.result.now in
-    let end = c.directory_end.result in
-    let taken = slice-from-zero-is-prefix base directory end c.range-directory.ensures.value in
-    let loses = prefix-loses-dots-as-directory base directory end taken
-    c.directory_end.ensures.text in
-    let new = string_bytes c.push_without_dot_segments.new.out in
-    record {
-      text = pushed-merged-path-loses-its-dots (string_bytes c.args.out.now) c.len-start.result at
-          new c.args.base.now base c.path_or_slash-base.ensures.absolute
-          c.path_or_slash-base.ensures.directory directory loses c.in_ok-of_base.ensures.text
-          c.args.reference.now (string_bytes c.push_segments.new.out)
-          c.in_ok-of_reference.ensures.before c.in_ok-of_reference.ensures.text;
-      underflow = base-or-rest-underflows-as-merged-path (string_bytes c.args.out.now)
-          c.len-start.result at new c.args.base.now base c.path_or_slash-base.ensures.absolute
-          c.path_or_slash-base.ensures.directory directory loses c.in_ok-of_base.ensures.text
-          c.args.reference.now c.in_ok-of_base.of_base c.in_ok-of_reference.of_reference
-          c.in_ok-of_base.ensures.underflow (prefix-underflows-as-directory base directory
-          end taken c.directory_end.ensures.underflow) c.in_ok-of_reference.ensures.underflow;
-    }
+    grind (
+      arith,
+      slice-from-zero-is-prefix,
+      prefix-loses-dots-as-directory,
+      pushed-merged-path-loses-its-dots,
+      base-or-rest-underflows-as-merged-path,
+      prefix-underflows-as-directory,
+    )

@@ -1,16 +1,10 @@
-use Rattle.uri_ops.proofs.Common.{◌++◌, ◌||◌, drop, string_bytes, sym, ap, ◌∙◌, refl, parent_directory}
+use Rattle.uri_ops.proofs.Common.{arith, ◌++◌, ◌||◌, drop, string_bytes, sym, ap, ◌∙◌, refl, parent_directory}
 use Rattle.uri_ops.proofs.Paths.LeftPaths.{replacing-keeps-text-to-start, appending-keeps-text-to-start, slice-from-zero-is-prefix, replacement-is-text-from-start, appending-extends-text-from-start, removal-state-of-equals, removal-state-begins-with-directory, rest-of-nonzero-length-has-bytes}
 use Rattle.uri_ops.proofs.Paths.Piecewise.{prefix_among, kept-text-is-directory, removal-ends-with-nothing-left, removal-step-at-double-dot, removal-keeps-changed-prefix, removal-step-at-single-dot}
 use Rattle.uri_ops.proofs.path.dot_segments.push_segments.Goals as goal
 
 pub loop-rest-init : goal.loop-rest-init
-loop-rest-init g c = record {
-  before = refl;
-  left = removal-state-begins-with-directory (drop c.args.start (string_bytes c.args.out.now))
-      (g.M.SegmentMode.pushed_text c.args.mode c.args.path.now) c.requires.directory;
-  taken = c.requires.takes;
-  utf8 = c.utf8.path;
-}
+loop-rest-init g c = grind (arith, removal-state-begins-with-directory)
 
 pub loop-rest-preserved-in-SingleDot : goal.loop-rest-preserved-in-SingleDot
 loop-rest-preserved-in-SingleDot g c =

@@ -1,4 +1,4 @@
-use Rattle.uri_ops.proofs.Common.{◌≡◌, ◌++◌, ap, length, rules, string_bytes, ◌∙◌}
+use Rattle.uri_ops.proofs.Common.{common_steps, arith, ◌≡◌, ◌++◌, ap, length, rules, string_bytes, ◌∙◌}
 use Rattle.uri_ops.proofs.Paths.DotStarts.{path-without-leading-dot-begins-with-none}
 use Rattle.uri_ops.proofs.Paths.LeftPaths.{slice-from-zero-is-prefix}
 use Rattle.uri_ops.proofs.Paths.PushedPaths.{absolute-path-begins-with-no-dot, pushed-dotless-path-prefix-is-directory, pushed-path-loses-its-dots, pushed-rest-underflows-as-path, dotless-path-is-its-own-removal}
@@ -45,18 +45,10 @@ push_segments-requires-clause-directory c =
 
 pub returns : goal.returns
 returns c =
-    let at : c.len-start.result ≡ length (string_bytes c.args.out.now) = search rules in
-    let path = c.args.path.now in
-    let n = c.dotless_prefix_len-dotless.result in
-    let taken = slice-from-zero-is-prefix path c.range.result.now n c.range.ensures.value in
-    let new = string_bytes c.push_str.new.self in
-    record {
-      text = pushed-path-loses-its-dots (string_bytes c.args.out.now) c.len-start.result
-          at new path c.requires n c.range.result.now taken c.in_ok-push_str.ensures.bytes
-          c.range_from.result.now c.range_from.ensures.value (string_bytes c.push_segments.new.out)
-          c.in_ok-underflowed.ensures.before c.in_ok-underflowed.ensures.text;
-      underflow = pushed-rest-underflows-as-path (string_bytes c.args.out.now) c.len-start.result at
-          new path c.requires n c.range.result.now taken c.in_ok-push_str.ensures.bytes
-          c.range_from.result.now c.range_from.ensures.value c.in_ok-underflowed.underflowed
-          c.in_ok-underflowed.ensures.underflow;
-    }
+    grind (
+      arith,
+      common_steps,
+      slice-from-zero-is-prefix,
+      pushed-path-loses-its-dots,
+      pushed-rest-underflows-as-path,
+    )

@@ -1,5 +1,5 @@
 -- Bytes that are UTF-8, and begin with a character that is as long as they are, are that character.
-use Rattle.uri_ops.proofs.Common.{length, sym, ap, ◌∙◌, subst, arith, len_utf8, IsUtf8, eqb-true, false≢true, IsUtf8-encode, IsCharBoundary-start, length-encode, is_decodable, set_of}
+use Rattle.uri_ops.proofs.Common.{length, sym, ap, ◌∙◌, subst, arith, len_utf8, IsUtf8, false≢true, IsUtf8-encode, IsCharBoundary-start, length-encode, is_decodable, set_of}
 use Rattle.uri_ops.proofs.FromEnd.LastDecodables.{char_has_one_to_four_bytes, first_char_is_only_char}
 use Rattle.uri_ops.proofs.read_back.last_tokens.decodable.Goals as goal
 
@@ -8,10 +8,7 @@ returns-in_default c = λ d scalar decodable e.
     c.in_default.ensures.cases.0 (subst IsUtf8 (sym e) (IsUtf8-encode d scalar))
 
 pub returns-then-is_empty : goal.returns-then-is_empty
-returns-then-is_empty c = λ d scalar decodable e.
-    let some = char_has_one_to_four_bytes d in
-    let none = eqb-true (length c.in-Ok.text.now) 0 (sym c.if-is_empty.ensures) in
-    omega (arith, ap length e, ap length c.in-Ok.ensures.cases.0)
+returns-then-is_empty c = grind (arith, char_has_one_to_four_bytes)
 
 pub char_at-ch-requires-clause-boundary : goal.char_at-ch-requires-clause-boundary
 char_at-ch-requires-clause-boundary c = IsCharBoundary-start c.in-Ok.text.now

@@ -1,16 +1,10 @@
 -- Octets are passed from the end until they are a decodable character, or there are four of them.
-use Rattle.uri_ops.proofs.Common.{drop, refl, sym, arith, append-nil, length-drop, set_of, tokens}
+use Rattle.uri_ops.proofs.Common.{common_steps, drop, arith, length-drop, set_of, tokens}
 use Rattle.uri_ops.proofs.FromEnd.LastDecodables.{no_decodable_ends_after_no_octet, none_ends_no_bytes, no_decodable_ends_with_four_octets}
 use Rattle.uri_ops.proofs.read_back.last_tokens.split_last_decodable.Goals as goal
 
 pub loop-start-init : goal.loop-start-init
-loop-start-init c = record {
-  within = omega arith;
-  size = refl;
-  utf8 = c.utf8.text;
-  ends = record { tokens = sym (append-nil (tokens c.args.text.now)); valid = c.requires };
-  none = none_ends_no_bytes (set_of c.args.table.now);
-}
+loop-start-init c = grind (arith, common_steps, tokens, none_ends_no_bytes)
 
 pub returns-in_default : goal.returns-in_default
 returns-in_default c = no_decodable_ends_after_no_octet (set_of c.args.table.now)

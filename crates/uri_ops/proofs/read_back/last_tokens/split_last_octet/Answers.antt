@@ -1,5 +1,5 @@
 -- The third byte from the end says whether an octet ends the text.
-use Rattle.uri_ops.proofs.Common.{◌≡◌, ◌-◌, length, get_or, sym, ap, ◌∙◌, arith, take, widest_set, IsValidFor, is_valid_for}
+use Rattle.uri_ops.proofs.Common.{◌≡◌, ◌-◌, length, sym, ap, ◌∙◌, arith, take, widest_set, IsValidFor, is_valid_for}
 use Rattle.uri_ops.proofs.FromEnd.LastTokens.{no_octet_ends_text, percent_third_from_end_begins_last_octet, equal_text_ends_in_same_octet}
 use Rattle.uri_ops.proofs.read_back.last_tokens.split_last_octet.Goals as goal
 
@@ -8,19 +8,10 @@ returns-then-bytes-lt3 c =
     no_octet_ends_text c.args.text.now c.utf8.text c.requires (λ n long percent. omega arith)
 
 pub returns-then-bytes-start-ne37 : goal.returns-then-bytes-start-ne37
-returns-then-bytes-start-ne37 c =
-    let bytes = c.as_bytes-bytes.result.now in
-    no_octet_ends_text c.args.text.now c.utf8.text c.requires (λ n long percent.
-    let same : length bytes - 3 ≡ n = omega arith in
-    c.if-bytes-start-ne37.true (ap (λ m. get_or bytes m 0) same
-    ∙ ap (λ t. get_or t n 0) c.as_bytes-bytes.ensures.value ∙ percent))
+returns-then-bytes-start-ne37 c = grind (arith, no_octet_ends_text)
 
 pub octet_value-value-requires-clause-high : goal.octet_value-value-requires-clause-high
-octet_value-value-requires-clause-high c =
-    (percent_third_from_end_begins_last_octet c.as_bytes-bytes.result.now
-    (length c.as_bytes-bytes.result.now - 3) c.as_bytes-bytes.ensures.utf8
-    (ap (is_valid_for widest_set) c.as_bytes-bytes.ensures.value ∙ c.requires)
-    (omega arith) c.if-bytes-start-ne37.false).high
+octet_value-value-requires-clause-high c = grind (arith, percent_third_from_end_begins_last_octet)
 
 pub octet_value-value-requires-clause-low : goal.octet_value-value-requires-clause-low
 octet_value-value-requires-clause-low c =

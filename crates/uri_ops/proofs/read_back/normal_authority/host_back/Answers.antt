@@ -1,16 +1,11 @@
-use Rattle.uri_ops.proofs.Common.{map, true, sym, ap, ◌∙◌, str_to_ascii_lowercase, widest_set, left_bracket, decode_unreserved, lower_token, set_of, print, empty_text_is_valid, starts, host_kind, holds, host_meaning, host_text}
+use Rattle.uri_ops.proofs.Common.{arith, map, true, sym, ap, ◌∙◌, str_to_ascii_lowercase, widest_set, left_bracket, decode_unreserved, lower_token, set_of, print, empty_text_is_valid, starts, host_kind, holds, host_meaning, host_text}
 use Rattle.uri_ops.proofs.Meanings.BracketedHosts.{normal-name-is-lowered-decoded}
 use Rattle.uri_ops.proofs.Meanings.Decodable.{unbracketed-host-is-decodable}
 use Rattle.uri_ops.proofs.FromEnd.NormalParts.{empty_if_tested, not_empty_if_tested, first_piece_alone, host_with_address_is_its_text, host_without_address_is_lowered, nothing_is_written, second_piece_alone}
 use Rattle.uri_ops.proofs.read_back.normal_authority.host_back.Goals as goal
 
 pub new-requires : goal.new-requires
-new-requires g c =
-    let w =
-    (holds g.U.Encoder.set g.R.Encoder.set c.args.authority.text.now c.args.authority.valid).host in
-    unbracketed-host-is-decodable c.table.result g.R.Encoder.set c.host-host.result.now
-    c.table.ensures
-    (rw c.host-host.ensures w) (sym c.is_bracketed.ensures ∙ c.if-not-is_bracketed.true)
+new-requires g c = grind (arith, holds, unbracketed-host-is-decodable)
 
 pub returns-then-not-is_bracketed : goal.returns-then-not-is_bracketed
 returns-then-not-is_bracketed g c =

@@ -1,15 +1,10 @@
-use Rattle.uri_ops.proofs.Common.{None, Some, refl, ap, subst, ◌∙◌, arith, lit<, IsUtf8, utf8_around_ascii_byte, segments_left, without_last_segments}
+use Rattle.uri_ops.proofs.Common.{None, Some, ap, subst, ◌∙◌, arith, lit<, IsUtf8, utf8_around_ascii_byte, segments_left, without_last_segments}
 use Rattle.uri_ops.proofs.FromEnd.SegmentsLeft.{abempty-path-by-test, abempty-path-passes-test, cut-at-last-slash, other-segment-is-left, segments_left-of-nothing, segments_left-with-segment, without_last_segments-of-nothing}
 use Rattle.uri_ops.proofs.read_back.segments_back.split_last_segment.Goals as goal
 
 pub loop-prefix-init : goal.loop-prefix-init
 unfolding without_last_segments
-loop-prefix-init c = record {
-  utf8 = c.utf8.path;
-  rooted = abempty-path-by-test c.args.path.now c.requires;
-  fits = omega arith;
-  left = refl;
-}
+loop-prefix-init c = grind (arith, abempty-path-by-test)
 
 pub climbs_before-requires-clause-lacks : goal.climbs_before-requires-clause-lacks
 climbs_before-requires-clause-lacks c =

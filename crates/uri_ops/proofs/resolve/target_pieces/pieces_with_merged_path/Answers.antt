@@ -1,4 +1,4 @@
-use Rattle.uri_ops.proofs.Common.{ap, subst, ◌++◌, ◌∙◌, EndsIn, RemovalState, before_path, components_of}
+use Rattle.uri_ops.proofs.Common.{common_steps, arith, ap, subst, ◌++◌, ◌∙◌, RemovalState, before_path, components_of}
 use Rattle.uri_ops.proofs.Paths.ClimbedDirectories.{directory-at-start-ends-at-slash, path-with-directory-at-start-is-absolute, prefix-of-prefix-is-prefix}
 use Rattle.uri_ops.proofs.Targeting.TargetPieces.{relative-path-after-directory-is-joined}
 use Rattle.uri_ops.proofs.resolve.target_pieces.pieces_with_merged_path.Goals as goal
@@ -11,17 +11,10 @@ through_slash-prefix-requires-clause-absolute c = path-with-directory-at-start-i
 
 pub through_slash-prefix-requires-clause-place : goal.through_slash-prefix-requires-clause-place
 through_slash-prefix-requires-clause-place c =
-    let path = (components_of c.args.base.now).path in
-    let directory = c.in_ok-directory.directory.now in
-    let followed = c.follow_leading_dots-underflows in
-    let kept = followed.result.0.now in
-    (directory-at-start-ends-at-slash path kept followed.ensures.kept (prefix-of-prefix-is-prefix
-    path directory kept c.in_ok-directory.ensures.place followed.ensures.prefix)).1
+    grind (arith, common_steps, directory-at-start-ends-at-slash, prefix-of-prefix-is-prefix)
 
 pub pieces_after-requires-clause-rest : goal.pieces_after-requires-clause-rest
-pieces_after-requires-clause-rest c =
-    let followed = c.follow_leading_dots-underflows in
-    subst (λ t. EndsIn t followed.result.1.now) c.path.ensures followed.ensures.suffix
+pieces_after-requires-clause-rest c = grind arith
 
 pub pieces_after-requires-clause-target : goal.pieces_after-requires-clause-target
 pieces_after-requires-clause-target c =

@@ -1,4 +1,4 @@
-use Rattle.uri_ops.proofs.Common.{ap, sym, ◌++◌, ◌∙◌, string_bytes}
+use Rattle.uri_ops.proofs.Common.{common_steps, arith, sym, ◌∙◌, string_bytes}
 use Rattle.uri_ops.proofs.Builders.BuilderGrowth.{string_len-is-length-of-bytes}
 use Rattle.uri_ops.proofs.Targeting.JoinedPieces.{empty-query-is-absent, query-with-bytes-is-there, pushed-query-ends-at-length}
 use Rattle.uri_ops.proofs.resolve.target_text.push_query.Goals as goal
@@ -8,8 +8,11 @@ returns-then-is_empty-clause-end c = λ query is. empty-query-is-absent query c.
     (string_bytes c.args.out.now) is (sym c.is_empty.ensures ∙ c.if-is_empty.true)
 
 pub returns-clause-end : goal.returns-clause-end
-returns-clause-end c = λ query is. pushed-query-ends-at-length query (string_bytes c.args.out.now)
-    (string_bytes c.push_str.new.self) c.len.result (query-with-bytes-is-there query
-    c.args.query.now is (sym c.is_empty.ensures ∙ c.if-is_empty.false))
-    (c.in_ok-push_str.ensures.bytes ∙ ap (λ x. string_bytes c.args.out.now ++ x) is)
-    (c.len.ensures ∙ string_len-is-length-of-bytes c.push_str.new.self)
+returns-clause-end c =
+    grind (
+      arith,
+      common_steps,
+      pushed-query-ends-at-length,
+      query-with-bytes-is-there,
+      string_len-is-length-of-bytes,
+    )

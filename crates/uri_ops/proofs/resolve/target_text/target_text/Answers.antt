@@ -1,4 +1,4 @@
-use Rattle.uri_ops.proofs.Common.{rules, ap, subst, sym, ◌∙◌, recompose, packed, positions_of, recompose-components, components_of, dotted_target}
+use Rattle.uri_ops.proofs.Common.{arith, ap, subst, sym, ◌∙◌, recompose, packed, positions_of, recompose-components, components_of, dotted_target}
 use Rattle.uri_ops.specs.Models.FoundTargets.{IsMadeOf}
 use Rattle.uri_ops.proofs.Targeting.FoundTargets.{text-of-found-target-is-target, text-of-target-has-positions}
 use Rattle.uri_ops.proofs.resolve.target_text.target_text.Goals as goal
@@ -29,13 +29,7 @@ returns-in_ok-from_str-in-Reference-clause-at c =
     (c.packed_positions.ensures ∙ sym (ap (λ p. packed (positions_of p)) made.0))
 
 pub returns-in_ok-joined-in-Pieces-clause-target : goal.returns-in_ok-joined-in-Pieces-clause-target
-returns-in_ok-joined-in-Pieces-clause-target c =
-    let b = components_of c.args.base.now in
-    let r = components_of c.args.reference.now in
-    let found = c.in_ok-found.ensures.found in
-    let made = subst (IsMadeOf c.args.allow_path_underflow b r) c.in-Pieces.is found.made in
-    text-of-found-target-is-target b r c.args.allow_path_underflow _ found.none found.taken
-    (c.in_ok-joined-in-Pieces.ensures ∙ made.0.text) (λ a. made.0.underflow ∙ made.1 a)
+returns-in_ok-joined-in-Pieces-clause-target c = grind (arith, text-of-found-target-is-target)
 
 pub returns-in_ok-joined-in-Pieces-clause-at : goal.returns-in_ok-joined-in-Pieces-clause-at
 returns-in_ok-joined-in-Pieces-clause-at c =
@@ -48,20 +42,10 @@ returns-in_ok-joined-in-Pieces-clause-at c =
     (c.in_ok-joined-in-Pieces.ensures ∙ made.0.text) made.0.places
 
 pub written_target-requires : goal.written_target-requires
-written_target-requires c =
-    (subst (IsMadeOf c.args.allow_path_underflow (components_of c.args.base.now)
-    (components_of c.args.reference.now)) c.in-Dotted.is c.in_ok-found.ensures.found.made).rooted
+written_target-requires c = grind arith
 
 pub returns-else-underflowed-clause-target : goal.returns-else-underflowed-clause-target
-returns-else-underflowed-clause-target c =
-    let b = components_of c.args.base.now in
-    let r = components_of c.args.reference.now in
-    let t = dotted_target b r in
-    let found = c.in_ok-found.ensures.found in
-    let made = subst (IsMadeOf c.args.allow_path_underflow b r) c.in-Dotted.is found.made in
-    text-of-found-target-is-target b r c.args.allow_path_underflow _ found.none found.taken
-    (c.in_ok-target-in-Dotted.ensures.text t made)
-    (λ a. sym (c.in_ok-target-in-Dotted.ensures.underflow t made) ∙ search rules)
+returns-else-underflowed-clause-target c = grind (arith, text-of-found-target-is-target)
 
 pub returns-else-underflowed-clause-at : goal.returns-else-underflowed-clause-at
 returns-else-underflowed-clause-at c =

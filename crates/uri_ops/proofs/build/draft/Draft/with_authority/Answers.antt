@@ -1,4 +1,4 @@
-use Rattle.uri_ops.proofs.Common.{◌++◌, length, codes, Some, with_authority}
+use Rattle.uri_ops.proofs.Common.{common_steps, arith, with_authority}
 use Rattle.uri_ops.proofs.Builders.BuilderDrafts.{change-of-draft-by-appending, draft-with-authority}
 use Rattle.uri_ops.proofs.build.draft.Draft.with_authority.Goals as goal
 
@@ -7,8 +7,5 @@ appended-requires c = λ e.
     (draft-with-authority c.args.self c.args.authority.now c.requires e).draft
 
 pub returns-clause-adds : goal.returns-clause-adds
-returns-clause-adds c = change-of-draft-by-appending
-    (with_authority c.args.authority.now) c.args.self c.appended.result (record c.args.self.lengths
-    { authority = Some (length c.args.authority.now) }) (codes "//" ++ c.args.authority.now)
-    c.appended.ensures.kept c.appended.ensures.lengths c.appended.ensures.text
-    (λ e. (draft-with-authority c.args.self c.args.authority.now c.requires e).parts)
+returns-clause-adds c =
+    grind (arith, common_steps, change-of-draft-by-appending, with_authority, draft-with-authority)

@@ -1,5 +1,5 @@
 -- A suffix of ASCII that is in no octet is what is written last, and so is the last token.
-use Rattle.uri_ops.proofs.Common.{◌≡◌, ◌-◌, ◌++◌, length, take, drop, sym, ap, ◌∙◌, arith, rules, set_of, held_text, cased, normal_component}
+use Rattle.uri_ops.proofs.Common.{◌≡◌, ◌-◌, take, ap, ◌∙◌, arith, rules, set_of}
 use Rattle.uri_ops.proofs.FromEnd.Blocks.{end_is_read_if_nothing_is_held, some_is_read}
 use Rattle.uri_ops.proofs.FromEnd.LastAscii.{ascii_end_is_written_last}
 use Rattle.uri_ops.proofs.read_back.octets_back.OctetsBack.read_last.Goals as goal
@@ -23,20 +23,4 @@ invariant_of-self-2 c =
     }
 
 pub returns-clause-text : goal.returns-clause-text
-returns-clause-text c =
-    let set = set_of c.args.self.now.table in
-    let lowers = c.args.self.now.lowers in
-    let text = c.args.self.now.rest.now in
-    let bytes = c.as_bytes-bytes.result.now in
-    let start = c.ascii_suffix_start-start.result in
-    let held = held_text c.args.self.now.held in
-    let zero : start - 0 ≡ start = omega arith in
-    let written = ascii_end_is_written_last set lowers bytes text c.range-self.result.now
-    start c.as_bytes-bytes.ensures.value (c.range-self.ensures.value ∙ ap (λ n. take n text) zero)
-    c.range-self.utf8 c.args.self.now.valid c.ascii_suffix_start-start.ensures.suffix in
-    end_is_read_if_nothing_is_held
-    (normal_component lowers set text) held (normal_component lowers set c.range-self.result.now)
-    (cased lowers (take (length bytes - start) (drop start bytes))) held
-    (drop c.args.end c.args.block.now) (drop c.put_back.result c.put_back.new.block)
-    written.0 c.requires.none (sym c.put_back.ensures.text
-    ∙ ap (λ t. t ++ drop c.put_back.result c.put_back.new.block) (sym c.requires.none))
+returns-clause-text c = grind (arith, ascii_end_is_written_last, end_is_read_if_nothing_is_held)

@@ -1,6 +1,5 @@
-use Rattle.uri_ops.proofs.Common.{◌∙◌, ap, sym, subst, nil_from_length, IsUtf8-from_is_utf8, is_utf8-from_IsUtf8, set_of, octets_unread, segments_left}
+use Rattle.uri_ops.proofs.Common.{arith, subst, IsUtf8-from_is_utf8, is_utf8-from_IsUtf8, set_of, octets_unread, segments_left}
 use Rattle.uri_ops.proofs.FromEnd.PathBack.{IsDecodableText, decodable-text-splits, unread-of-begun-segment, unread-of-read-path}
-use Rattle.std.proofs.lemmas.Bool.Decides.{Decides-eqb}
 use Rattle.uri_ops.specs.Dots.{remove_dot_segments, run}
 use Rattle.uri_ops.proofs.read_back.path_back.PathBack.begin_segment.Goals as goal
 
@@ -45,16 +44,8 @@ returns-in-Some-clause-same c =
     c.new.ensures
 
 pub returns-in-None-clause-none : goal.returns-in-None-clause-none
-returns-in-None-clause-none c = λ none.
-    let path = c.args.self.now in
-    unread-of-read-path (set_of path.table) path.follows_slash (segments_left path.rest.now)
-    (octets_unread path.segment) c.if-self.false c.requires c.in-None.ensures
+returns-in-None-clause-none c = grind (arith, unread-of-read-path)
 
 pub returns-then-is_empty-clause-none : goal.returns-then-is_empty-clause-none
 unfolding segments_left remove_dot_segments run
-returns-then-is_empty-clause-none c = λ none.
-    let path = c.args.self.now in
-    unread-of-read-path (set_of path.table) path.follows_slash (segments_left path.rest.now)
-    (octets_unread path.segment) c.if-self.false c.requires
-    (ap segments_left (nil_from_length path.rest.now ((Decides-eqb _ 0).0
-    (sym c.is_empty.ensures ∙ c.if-is_empty.true))))
+returns-then-is_empty-clause-none c = grind (arith, unread-of-read-path)

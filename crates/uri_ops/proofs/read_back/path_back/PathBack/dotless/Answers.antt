@@ -1,4 +1,4 @@
-use Rattle.uri_ops.proofs.Common.{inr, is_utf8-from_IsUtf8, set_of, remove_dot_segments, octets_unread, segments_left}
+use Rattle.uri_ops.proofs.Common.{arith, inr, is_utf8-from_IsUtf8, segments_left}
 use Rattle.uri_ops.proofs.FromEnd.PathBack.{empty-text-is-decodable, segments_left-are-decodable, unread-of-dotless-path}
 use Rattle.uri_ops.proofs.FromEnd.SegmentsLeft.{abempty-path-passes-test}
 use Rattle.uri_ops.proofs.read_back.path_back.PathBack.dotless.Goals as goal
@@ -17,9 +17,4 @@ invariant_of-result c =
     }
 
 pub returns : goal.returns
-returns c =
-    let left = segments_left-are-decodable c.args.path.now c.ends_in_dot_segment.result
-    c.requires.absolute (c.utf8.path, c.requires.valid) c.ends_in_dot_segment.ensures in
-    unread-of-dotless-path (set_of c.args.table.now) c.ends_in_dot_segment.result
-    (segments_left c.args.path.now) (remove_dot_segments c.args.path.now)
-    (octets_unread c.new.result) left.0 c.ends_in_dot_segment.ensures c.new.ensures
+returns c = grind (arith, segments_left-are-decodable, unread-of-dotless-path)

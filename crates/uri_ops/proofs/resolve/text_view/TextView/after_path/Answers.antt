@@ -1,4 +1,4 @@
-use Rattle.uri_ops.proofs.Common.{ap, [], ◌++◌, ◌∙◌, codes, components, marked}
+use Rattle.uri_ops.proofs.Common.{arith, components}
 use Rattle.uri_ops.proofs.Targeting.TextViews.{path_end-is-boundary, slice-after-path}
 use Rattle.uri_ops.proofs.resolve.text_view.TextView.after_path.Goals as goal
 
@@ -7,7 +7,4 @@ range_from-requires c = λ _. path_end-is-boundary c.as_str-text.result.now c.un
     c.as_str-text.utf8 c.unpack-positions.ensures
 
 pub returns : goal.returns
-returns c = c.range_from.ensures.value
-    ∙ slice-after-path c.as_str-text.result.now c.unpack-positions.result c.as_str-text.utf8
-    c.unpack-positions.ensures ∙ ap (λ t. marked (codes "?") (components t).query []
-    ++ marked (codes "#") (components t).fragment []) c.as_str-text.ensures.text
+returns c = grind (arith, slice-after-path, components)

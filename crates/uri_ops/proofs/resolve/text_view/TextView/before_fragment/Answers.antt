@@ -1,4 +1,4 @@
-use Rattle.uri_ops.proofs.Common.{[], ap, sym, subst, ◌++◌, ◌∙◌, codes, slice_range, IsCharBoundary, components, marked, before_path}
+use Rattle.uri_ops.proofs.Common.{arith, sym, subst, IsCharBoundary, components}
 use Rattle.uri_ops.proofs.Targeting.TextViews.{query-end-is-boundary, slice-before-fragment}
 use Rattle.uri_ops.proofs.resolve.text_view.TextView.before_fragment.Goals as goal
 
@@ -8,8 +8,4 @@ range-requires-clause-end_boundary c = subst (IsCharBoundary c.as_str-text.resul
     c.unpack-positions.result c.as_str-text.utf8 c.unpack-positions.ensures)
 
 pub returns : goal.returns
-returns c = c.range.ensures.value
-    ∙ ap (slice_range c.as_str-text.result.now 0) c.before_fragment.ensures
-    ∙ slice-before-fragment c.as_str-text.result.now c.unpack-positions.result c.as_str-text.utf8
-    c.unpack-positions.ensures ∙ ap (λ t. (before_path (components t) ++ (components t).path)
-    ++ marked (codes "?") (components t).query []) c.as_str-text.ensures.text
+returns c = grind (arith, slice-before-fragment, components)

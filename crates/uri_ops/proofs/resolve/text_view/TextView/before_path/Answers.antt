@@ -1,4 +1,4 @@
-use Rattle.uri_ops.proofs.Common.{ap, ◌∙◌, components, before_path}
+use Rattle.uri_ops.proofs.Common.{arith, components}
 use Rattle.uri_ops.proofs.Targeting.TextViews.{path_start-is-boundary, slice-before-path}
 use Rattle.uri_ops.proofs.resolve.text_view.TextView.before_path.Goals as goal
 
@@ -7,6 +7,4 @@ range-requires-clause-end_boundary c = path_start-is-boundary
     c.as_str-text.result.now c.unpack-positions.result c.as_str-text.utf8 c.unpack-positions.ensures
 
 pub returns : goal.returns
-returns c = c.range.ensures.value
-    ∙ slice-before-path c.as_str-text.result.now c.unpack-positions.result c.as_str-text.utf8
-    c.unpack-positions.ensures ∙ ap (λ t. before_path (components t)) c.as_str-text.ensures.text
+returns c = grind (arith, slice-before-path, components)

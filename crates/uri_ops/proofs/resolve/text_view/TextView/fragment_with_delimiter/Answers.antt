@@ -1,4 +1,4 @@
-use Rattle.uri_ops.proofs.Common.{ap, drop, sym, subst, [], ◌∙◌, codes, IsCharBoundary, components, marked}
+use Rattle.uri_ops.proofs.Common.{arith, sym, subst, IsCharBoundary, components}
 use Rattle.uri_ops.proofs.Targeting.TextViews.{query-end-is-boundary, slice-of-fragment}
 use Rattle.uri_ops.proofs.resolve.text_view.TextView.fragment_with_delimiter.Goals as goal
 
@@ -8,7 +8,4 @@ range_from-requires c = λ _. subst (IsCharBoundary c.as_str-text.result.now)
     c.unpack-positions.result c.as_str-text.utf8 c.unpack-positions.ensures)
 
 pub returns : goal.returns
-returns c = c.range_from.ensures.value
-    ∙ ap (λ n. drop n c.as_str-text.result.now) c.before_fragment.ensures ∙ slice-of-fragment
-    c.as_str-text.result.now c.unpack-positions.result c.as_str-text.utf8 c.unpack-positions.ensures
-    ∙ ap (λ t. marked (codes "#") (components t).fragment []) c.as_str-text.ensures.text
+returns c = grind (arith, slice-of-fragment, components)

@@ -1,4 +1,4 @@
-use Rattle.uri_ops.proofs.Common.{ap, sym, subst, [], ◌∙◌, codes, slice_range, IsCharBoundary, components, marked}
+use Rattle.uri_ops.proofs.Common.{arith, sym, subst, IsCharBoundary, components}
 use Rattle.uri_ops.proofs.Targeting.TextViews.{path_end-is-boundary, query-end-is-boundary, slice-of-query}
 use Rattle.uri_ops.proofs.resolve.text_view.TextView.query_with_delimiter.Goals as goal
 
@@ -12,7 +12,4 @@ range-requires-clause-end_boundary c = subst (IsCharBoundary c.as_str-text.resul
     c.unpack-positions.result c.as_str-text.utf8 c.unpack-positions.ensures)
 
 pub returns : goal.returns
-returns c = c.range.ensures.value ∙ ap (slice_range c.as_str-text.result.now
-    c.unpack-positions.result.path_end) c.before_fragment.ensures ∙ slice-of-query
-    c.as_str-text.result.now c.unpack-positions.result c.as_str-text.utf8 c.unpack-positions.ensures
-    ∙ ap (λ t. marked (codes "?") (components t).query []) c.as_str-text.ensures.text
+returns c = grind (arith, slice-of-query, components)

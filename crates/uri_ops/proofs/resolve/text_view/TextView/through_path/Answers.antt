@@ -1,4 +1,4 @@
-use Rattle.uri_ops.proofs.Common.{ap, ◌++◌, ◌∙◌, components, before_path}
+use Rattle.uri_ops.proofs.Common.{arith, components}
 use Rattle.uri_ops.proofs.Targeting.TextViews.{slice-through-path, path_end-is-boundary}
 use Rattle.uri_ops.proofs.resolve.text_view.TextView.through_path.Goals as goal
 
@@ -7,6 +7,4 @@ range-requires-clause-end_boundary c = path_end-is-boundary c.as_str-text.result
     c.unpack-positions.result c.as_str-text.utf8 c.unpack-positions.ensures
 
 pub returns : goal.returns
-returns c = c.range.ensures.value ∙ slice-through-path
-    c.as_str-text.result.now c.unpack-positions.result c.as_str-text.utf8 c.unpack-positions.ensures
-    ∙ ap (λ t. before_path (components t) ++ (components t).path) c.as_str-text.ensures.text
+returns c = grind (arith, slice-through-path, components)
