@@ -153,11 +153,11 @@ last_octet_is_unchanged_after_run set run (Octet u ∷ ts) v none = last_octet_i
     (sym (ap (λ t. t ++ (ts ++ Octet v ∷ [])) (map-append Octet run (u ∷ []))
     ∙ append_assoc (map Octet run) (Octet u ∷ []) (ts ++ Octet v ∷ [])) ∙ e))
 last_octet_is_unchanged_after_run set run (Char d ∷ ts) v none =
-    grind (
-      arith,
-      common_steps,
-      last_octet_is_unchanged_after_run set [] ts v (λ before c scalar decodable e. none (map Octet run ++ Char d ∷ before) c scalar decodable (ap (λ t. map Octet run ++ Char d ∷ t) e ∙ sym (append_assoc (map Octet run) (Char d ∷ before) (map Octet (encode_utf8 c))))),
-    )
+    ap (λ x. decode_run set run ++ Char d ∷ x) (last_octet_is_unchanged_after_run set [] ts v
+    (λ before c scalar decodable e. none
+    (map Octet run ++ Char d ∷ before) c scalar decodable (ap (λ t. map Octet run ++ Char d ∷ t) e
+    ∙ sym (append_assoc (map Octet run) (Char d ∷ before) (map Octet (encode_utf8 c))))))
+    ∙ sym (append_assoc (decode_run set run) (Char d ∷ decode_after_run set [] ts) (Octet v ∷ []))
 
 -- unreserved octets: the tokens that normalising makes of tokens
 abbrev pub decoded : TableSet → List Token → List Token

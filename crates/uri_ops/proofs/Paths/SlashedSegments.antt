@@ -66,14 +66,10 @@ unfolding slashed pop
 before_last_slash-of-slashed-is-popped [] e = refl
 before_last_slash-of-slashed-is-popped (s ∷ []) e = ap before_last_slash (ap (λ t. 47 ∷ t)
     (append-nil s)) ∙ cond-false _ _ _ (first-segment-and-rest-lack-slashes s [] e).0
-before_last_slash-of-slashed-is-popped (s ∷ t ∷ rest) e =
-    grind (
-      arith,
-      common_steps,
-      before_last_slash-of-append,
-      first-segment-and-rest-lack-slashes,
-      before_last_slash-of-slashed-is-popped (t ∷ rest) (first-segment-and-rest-lack-slashes s (t ∷ rest) e).1,
-    )
+before_last_slash-of-slashed-is-popped (s ∷ t ∷ rest) e = before_last_slash-of-append (47 ∷ s)
+    (slashed (t ∷ rest)) refl
+    ∙ ap (λ r. 47 ∷ s ++ r) (before_last_slash-of-slashed-is-popped (t ∷ rest)
+    (first-segment-and-rest-lack-slashes s (t ∷ rest) e).1)
 
 pub slashed-is-empty-if-no-segments : (xs : List (List ℕ)) → is_empty (slashed xs) ≡ is_none xs
 unfolding slashed is_none
