@@ -1,13 +1,12 @@
 -- What is returned of a host in ASCII is the result that is defined.
 use Rattle.fluent_uri_c.proofs.Common.{◌≡◌, ℕ, true, List, [], arith, inl, inr, refl, sym, ap, ◌∙◌, subst, IsSomeAnd, Option, Some, None, Ok, Err, is_none, not, ok_or, option_map, is_utf8, cond-false, cond-true, false_from_ne_true, IsUtf8-from_is_utf8, is_utf8-from_IsUtf8, Components, components, recompose, Kind, Rejection, text_error}
-use Rattle.uri_ops.specs.Encoded.{encode_past_ascii}
 use Rattle.uri_ops.proofs.Offered.{ascii-bytes-are-utf8}
 use Rattle.uri_parts.specs.Authority.{authority_parts}
 use Rattle.uri_parts.specs.Connecting.{name_bytes}
 use Rattle.uri_idna.specs.declared.error.AsciiHostError.{AsciiHostError}
 use Rattle.uri_idna.specs.declared.error.AsciiHostError.TheVariants.{InvalidName, NameNotUtf8, OutOfMemory}
 use Rattle.uri_idna.specs.AsciiHosts.{IsAsciiHostError, ascii_host, ascii_host_of, is_unencoded_ascii}
-use Rattle.uri_idna.specs.AsciiReferences.{IsAsciiHostErrorOf, ascii_components, with_authority, with_host}
+use Rattle.uri_idna.specs.AsciiReferences.{IsAsciiHostErrorOf, ascii_components, with_authority}
 use Rattle.uri_idna.proofs.Offered.{name_not_utf8_has_no_ascii_form, unencoded_ascii_name_stays}
 use Rattle.fluent_uri_c.specs.AsciiHosts.{ascii_host_or_error, ascii_host_rejection, ascii_uri_of_kind, ascii_uri_or_error, host_or_empty, no_ascii_host, takes_memory_for_host}
 use Rattle.fluent_uri_c.proofs.HostNames.{empty_is_name}
@@ -48,9 +47,7 @@ host-error-is-defined host OutOfMemory is =
     inl (refl, ap not (false_from_ne_true (is_unencoded_ascii host) is.1))
 
 empty-host-stays : ascii_host_or_error [] ≡ Ok []
-empty-host-stays = ap (λ made. ok_or made (no_ascii_host []))
-    (ap (λ kind. ascii_host_of kind []) (empty_is_name [] (omega arith))
-    ∙ unencoded_ascii_name_stays [] (ascii-bytes-are-utf8 [] refl) refl)
+empty-host-stays = grind (arith, empty_is_name, unencoded_ascii_name_stays, ascii-bytes-are-utf8)
 
 -- exports for C: the host without an authority is the empty text
 pub host-without-authority-is-empty : (authority : Option (List ℕ)) → authority ≡ None
@@ -80,20 +77,12 @@ no-form-of-rejected-authority : (c : Components) (authority : Option (List ℕ))
     → (option_map recompose (ascii_components c authority) ≡ None)
     × (no_ascii_host (host_or_empty authority) ≡ ascii_host_rejection error)
 no-form-of-rejected-authority c None error is = absurd is
-no-form-of-rejected-authority c (Some authority) error is = (
-  ap (λ made. option_map recompose
-      (option_map (λ host. with_authority c (with_host authority host)) made)) is.0,
-  is.1,
-)
+no-form-of-rejected-authority c (Some authority) error is = grind (arith, with_authority)
 
 rejected-text-has-error : (text : List ℕ) (error : AsciiHostError)
     → IsSomeAnd (components text).authority (λ a. IsRejectedHost (authority_parts a).host error)
     → ascii_uri_or_error text ≡ Err (ascii_host_rejection error)
-rejected-text-has-error text error is =
-    let authority = (components text).authority in
-    let none = no-form-of-rejected-authority (components text) authority error is in
-    ap (λ made. ok_or (option_map encode_past_ascii made)
-    (no_ascii_host (host_or_empty authority))) none.0 ∙ ap Err none.1
+rejected-text-has-error text error is = grind (arith, components, no-form-of-rejected-authority)
 
 text-error-is-defined : (text : List ℕ) (error : AsciiHostError) → IsAsciiHostErrorOf text error
     → IsErrorOf true (ascii_uri_or_error text) (ascii_host_rejection error)

@@ -23,10 +23,8 @@ slice_get-set_other (y ∷ ys) (suc i) (suc j) x apart =
 pub holds-up-to-set-item : {A : Type 0} → (P : ℕ → Option A → Type 0) (all : List A) (n : ℕ)
     (here : A) → n < length all → P n (Some here) → ((i : ℕ) → i < n → P i (slice_get all i))
     → (i : ℕ) → i < n + 1 → P i (slice_get (set all n here) i)
-holds-up-to-set-item P all n here inside holds before i below = ⊎_elim
-    (λ same. subst (λ k. P k (slice_get (set all n here) k)) (sym same)
-    (rw (slice_get-set_same all n here inside) holds))
-    (λ apart. rw (slice_get-set_other all n i here apart) (before i (omega arith))) (cases_eq i n)
+holds-up-to-set-item P all n here inside holds before i below =
+    grind (arith, set, slice_get-set_same, slice_get-set_other)
 
 module _ (at : ℕ → Option (List ℕ)) (n position : ℕ) (bytes : List ℕ)
     (here : position ≡ length (joined_results at n)) (made : bytes ≡ bytes_of (at n)) where

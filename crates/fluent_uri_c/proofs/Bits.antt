@@ -1,5 +1,5 @@
 -- The bit of an index after its byte was written.
-use Rattle.fluent_uri_c.proofs.Common.{◌≡◌, ◌≢◌, ℕ, ◌/◌, ◌%◌, ◌<◌, List, length, get_or, set, ap, ◌∙◌, arith, sym, ⊎_elim, cases_eq, get_or-set_same, get_or-set_other, bit_of}
+use Rattle.fluent_uri_c.proofs.Common.{common_steps, ◌≡◌, ◌≢◌, ℕ, ◌/◌, ◌%◌, ◌<◌, List, length, get_or, set, ap, arith, get_or-set_same, bit_of}
 use Rattle.std.specs.Int.{bit_at}
 
 -- columns for C: after a byte of validity bits was written, the bit of index i is the one written
@@ -16,10 +16,4 @@ same_index i j e m = omega arith
 pub bit_of-other : (bytes : List ℕ) (i value j : ℕ) → i / 8 < length bytes → j ≢ i
     → ((bit : ℕ) → bit < 8 → bit ≢ i % 8 → bit_at value bit ≡ bit_at (get_or bytes (i / 8) 0) bit)
     → bit_of (set bytes (i / 8) value) j ≡ bit_of bytes j
-bit_of-other bytes i value j inside apart kept = ⊎_elim
-    (λ e. ap (λ k. bit_at (get_or (set bytes (i / 8) value) k 0) (j % 8)) e
-    ∙ ap (λ byte. bit_at byte (j % 8)) (get_or-set_same bytes (i / 8) value 0 inside)
-    ∙ kept (j % 8) (omega arith) (λ m. apart (same_index i j e m))
-    ∙ ap (λ k. bit_at (get_or bytes k 0) (j % 8)) (sym e))
-    (λ ne. ap (λ byte. bit_at byte (j % 8)) (get_or-set_other bytes (i / 8) (j / 8) value 0 ne))
-    (cases_eq (j / 8) (i / 8))
+bit_of-other bytes i value j inside apart kept = grind (arith, common_steps, set, same_index)

@@ -1,5 +1,5 @@
 -- The text that is built of components has them again.
-use Rattle.fluent_uri_c.proofs.Common.{◌≡◌, ℕ, Bool, true, false, ◌&&◌, ◌||◌, not, List, [], ◌++◌, refl, sym, ◌∙◌, subst, Option, Some, None, IfSome, codes, is_none, is_some, option_map, slice_index, unwrap_or, IsUtf8, is_utf8, and_from, and_parts, cond-false, or_right, none-some, IsUtf8-append, IsUtf8-from_is_utf8, is_utf8-from_IsUtf8, Kind, absent_or_passes, BuilderParts, is_authority_text, is_scheme_text, is_text_for, meet_rules, Rejection, HasGivenComponents, HasValidAuthority, HasValidTail, error_of_building, given, given_authority, given_components, is_host_text, missing, path_rejection, together_rejection, in_component, rejected, first_rejection}
+use Rattle.fluent_uri_c.proofs.Common.{arith, ◌≡◌, ℕ, Bool, true, false, ◌&&◌, ◌||◌, not, List, [], ◌++◌, refl, sym, Option, Some, None, IfSome, codes, is_none, is_some, option_map, slice_index, unwrap_or, IsUtf8, and_from, and_parts, none-some, IsUtf8-append, IsUtf8-from_is_utf8, is_utf8-from_IsUtf8, Kind, absent_or_passes, BuilderParts, is_authority_text, is_scheme_text, is_text_for, meet_rules, Rejection, HasGivenComponents, HasValidAuthority, HasValidTail, error_of_building, given, given_authority, given_components, is_host_text, missing, path_rejection, together_rejection, in_component, rejected, first_rejection}
 use Rattle.std.specs.Char.{is_ascii_alphabetic}
 use Rattle.fluent_uri.specs.Authority.{AuthorityParts, IsAuthorityFor, authority_parts, recompose_authority}
 use Rattle.fluent_uri.specs.Components.{marked, starts}
@@ -25,10 +25,7 @@ pub scheme-from-characters : (set : TableSet) (bytes : List ℕ) → set ≡ sch
     → is_text_for set bytes ≡ true → is_ascii_alphabetic (slice_index bytes 0) ≡ true
     → is_scheme_text bytes ≡ true
 unfolding is_text_for is_scheme_text
-scheme-from-characters set bytes same e letter =
-    let p = and_parts (is_utf8 bytes) (is_valid_for set bytes) e in
-    and_from _ _ p.0
-    (and_from _ _ letter (subst (λ (s : TableSet). is_valid_for s bytes ≡ true) same p.1))
+scheme-from-characters set bytes same e letter = grind arith
 
 -- building for C: an address in brackets is a host
 pub host-from-literal : (names : TableSet) (bytes : List ℕ) → IsUtf8 bytes
@@ -40,9 +37,7 @@ host-from-literal names bytes utf8 host = and_from _ _ (is_utf8-from_IsUtf8 byte
 pub host-from-characters : (names : TableSet) (bytes : List ℕ) → starts 91 bytes ≡ false
     → is_text_for names bytes ≡ true → is_host_text names bytes ≡ true
 unfolding is_host_text is_text_for is_host
-host-from-characters names bytes plain e =
-    let p = and_parts (is_utf8 bytes) (is_valid_for names bytes) e in
-    and_from _ _ p.0 (cond-false _ _ _ plain ∙ or_right _ _ p.1)
+host-from-characters names bytes plain e = grind arith
 
 -- building for C: the empty text is UTF-8
 nothing-is-utf8 : IsUtf8 []
@@ -104,8 +99,7 @@ pub given-authority-is-valid : (kind : Kind) → HasComponentSets kind
     → HasValidAuthority kind text spans
 given-authority-is-valid kind sets text spans None e u h d = rw e tt
 given-authority-is-valid kind sets text spans (Some host) e u h d =
-    rw e (recomposed-authority-has-its-parts kind sets (given text spans.userinfo)
-    (given text spans.port) host u h d)
+    grind (arith, recomposed-authority-has-its-parts)
 
 -- building for C: an authority passes its test, if it is there and valid
 valid-authority-passes : (kind : Kind) (authority : Option AuthorityParts)

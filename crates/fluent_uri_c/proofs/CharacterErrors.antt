@@ -1,5 +1,5 @@
 -- Where a component ends whose characters are those of a set, and its error there.
-use Rattle.fluent_uri_c.proofs.Common.{◌≡◌, ℕ, ◌<◌, ◌≤◌, true, false, ◌&&◌, List, length, refl, sym, ap, ◌∙◌, arith, zero-add, Some, None, IsTrue, IsUtf8, and_from, and_right, eq-eqb, ne_eqb, drop_all, is_utf8-from_IsUtf8, LacksPercent, TableSet, starts, is_text_for, parse_rejection, IsPossibleUtf8, component_error, component_refusal, is_possible_length}
+use Rattle.fluent_uri_c.proofs.Common.{common_steps, ◌≡◌, ℕ, ◌<◌, ◌≤◌, true, false, ◌&&◌, List, length, sym, ap, ◌∙◌, arith, zero-add, Some, None, IsTrue, IsUtf8, and_from, eq-eqb, is_utf8-from_IsUtf8, LacksPercent, TableSet, starts, is_text_for, parse_rejection, IsPossibleUtf8, component_error, is_possible_length}
 use Rattle.uri_pct.specs.Delimiters.{percent_sign}
 use Rattle.uri_pct.specs.Prefixes.{valid_prefix}
 use Rattle.uri_pct.proofs.Offered.{is_valid_for_is_scanned_to_end, valid_prefix_is_at_most_length}
@@ -29,10 +29,7 @@ module _ (set : TableSet) (text : List ℕ) (end : ℕ) (is : IsScanned set text
 
   -- components for C: a scan ends within the text
   pub scan-is-within : end ≤ length text
-  scan-is-within =
-      let most = valid_prefix_is_at_most_length set text in
-      let at = prefix in
-      omega (arith, at, most)
+  scan-is-within = grind (arith, valid_prefix_is_at_most_length, prefix)
 
   -- components for C: a text that is scanned to its end passes its test
   pub scanned-text-passes : LacksPercent set → end ≡ length text → is_text_for set text ≡ true
@@ -44,19 +41,10 @@ module _ (set : TableSet) (text : List ℕ) (end : ℕ) (is : IsScanned set text
   -- components for C: a text that is scanned to its end has no error
   pub scanned-text-has-no-error : end ≡ length text → component_error set text ≡ None
   scanned-text-has-no-error whole =
-      let percent : (set.pct_encoded && is_next text percent_sign end) ≡ false = and_right
-      set.pct_encoded _ (ap (starts percent_sign) (drop_all end text (omega (arith, whole)))) in
-      let left = text_ends_where_position_is_length end text (omega (arith, whole))
-      ∙ eq-eqb end (length text) whole in
-      let none : component_refusal set text ≡ None = rw (sym is.here, percent, left) refl in
-      rw (sym (utf8_error-of-utf8 text is.utf8 is.possible), none) refl
+      grind (arith, common_steps, starts, text_ends_where_position_is_length, utf8_error-of-utf8)
 
   -- components for C: another character where the scan ends is unexpected
   pub other-character-is-error : (set.pct_encoded && is_next text percent_sign end) ≡ false
       → end < length text → component_error set text ≡ Some (parse_rejection (unexpected end))
   other-character-is-error percent less =
-      let left = text_ends_where_position_is_length end text (omega (arith, less))
-      ∙ ne_eqb end (length text) (λ e. omega (arith, e, less)) in
-      let some : component_refusal set text ≡ Some (unexpected end) =
-      rw (sym is.here, percent, left) refl in
-      rw (sym (utf8_error-of-utf8 text is.utf8 is.possible), some) refl
+      grind (arith, text_ends_where_position_is_length, utf8_error-of-utf8)

@@ -1,12 +1,13 @@
 -- What proofs import from std, from lower crates and from `specs/`: the modules that three
 -- files or more use.
-pub use Rattle.std.proofs.Common.{◌≡◌, ℕ, zero, suc, ◌+◌, ◌-◌, ◌^◌, ◌%◌, ◌<◌, ◌≤◌, Bool, true, false, cond, eqb, leb, List, [], ◌∷◌, map, length, get_or, replicate, sym, refl, ap, ◌∙◌, arith, leb-false, eqb-true, inl, inr, subst, ◌≢◌, ◌++◌, set, take, drop, append_assoc, ⊎_elim, length-append, ◌/◌, ◌&&◌, ◌||◌, not, zero-add, length-drop, ◌==◌, le-leb, lit≤, add-zero, ◌⊎◌, ◌↔◌, Ordering, Equal, rules, w8, string_bytes, below_more}
+pub use Rattle.std.proofs.Common.{◌≡◌, ℕ, zero, suc, ◌+◌, ◌-◌, ◌^◌, ◌%◌, ◌<◌, ◌≤◌, Bool, true, false, cond, eqb, leb, List, [], ◌∷◌, map, length, get_or, replicate, sym, refl, ap, ◌∙◌, arith, leb-false, eqb-true, inl, inr, subst, ◌≢◌, ◌++◌, set, take, drop, append_assoc, ⊎_elim, length-append, ◌/◌, ◌&&◌, ◌||◌, not, zero-add, length-drop, ◌==◌, lit≤, add-zero, ◌⊎◌, ◌↔◌, Ordering, Equal, rules, w8, string_bytes, below_more}
 pub use Rattle.std.proofs.Math.Seq.{drop-append_seam, take-append_seam, take-length}
-pub use Rattle.std.proofs.lemmas.Bool.{cond-false, cond-true, false_from_ne_true, cases_eq, and_from, and_parts, or_right, and_right, eq-eqb, ne_eqb, cases_lt, both_ways, not-true, false≢true, or_left, le-ltb, lt-ltb, ltb-false}
-pub use Rattle.std.proofs.lemmas.List.{length-map, length-replicate, drop-drop, drop-set-lt, get_or-set_same, get_or-set_other, drop_all, take_at, get_or-drop, append_cancel_left, take-append-drop, take-take, take_rest, length-take-le}
+pub use Rattle.std.proofs.lemmas.Bool.{cond-false, cond-true, false_from_ne_true, cases_eq, and_from, and_parts, eq-eqb, cases_lt, not-true, false≢true, le-ltb}
+pub use Rattle.std.proofs.lemmas.Grind.{common_steps}
+pub use Rattle.std.proofs.lemmas.List.{length-map, length-replicate, drop-drop, drop-set-lt, get_or-set_same, drop_all, get_or-drop, append_cancel_left, take-take, take_rest, length-take-le}
 pub use Rattle.std.proofs.lemmas.Option.{none-some, slice_get_read, same_Some}
 pub use Rattle.std.proofs.lemmas.Str.{IsUtf8-from_is_utf8, is_utf8-from_IsUtf8, IsUtf8-append, IsUtf8-drop, utf8_valid_len-IsUtf8, IsCharBoundary-start, IsUtf8-from_ascii}
-pub use Rattle.std.specs.List.{position_or_len, prefix_len, fold, position}
+pub use Rattle.std.specs.List.{position_or_len, fold, position}
 pub use Rattle.std.specs.Prelude.{IsSomeAnd, Option, Some, None, Ok, Err, is_none, ok_or, option_map, IsSome, slice_get, is_some, IfSome, codes, slice_index, unwrap_or, IsTrue, encode_utf8, slice_range, bytes_eq, nat_lt, Result, if◌then◌else◌, IsOk, option_and_then}
 pub use Rattle.std.specs.Result.{is_ok, result_ok, result_map_both}
 pub use Rattle.std.specs.Str.{is_utf8, IsUtf8, IsCharBoundary}
@@ -21,7 +22,7 @@ pub use Rattle.fluent_uri_c.specs.Errors.{in_component, rejected, parse_rejectio
 pub use Rattle.fluent_uri_c.specs.Fnv.{fnv_bytes, fnv_write}
 pub use Rattle.fluent_uri_c.specs.Kinds.{base_numbered, iri_numbered, kind_numbered}
 pub use Rattle.fluent_uri_c.specs.Lines.{is_newline, lines_of, HasConsumed, IsFullAt, LeavesLines, LineBuffers, TakesMemoryAt, newline, error_number_at, number_returned, written_at, line_buffers}
-pub use Rattle.fluent_uri_c.specs.Mends.{is_link_copied, mended_link_result, mended_result, takes_memory_for_link, mend_link_result, mend_result, unmendable_error}
+pub use Rattle.fluent_uri_c.specs.Mends.{mended_link_result, mended_result, takes_memory_for_link, mend_link_result, mend_result, unmendable_error}
 pub use Rattle.fluent_uri_c.specs.Options.{basic_choice, path_preference, rules_choice}
 pub use Rattle.fluent_uri_c.specs.Outcomes.{outcome_of_batch, outcome_of_text, written}
 pub use Rattle.fluent_uri_c.specs.Relatives.{relativize_result, reference_from}
@@ -34,7 +35,7 @@ pub use Rattle.fluent_uri_c.specs.declared.parts.Parts.{Parts}
 pub use Rattle.uri_mend.specs.MendedParts.{mended}
 pub use Rattle.uri_ops.specs.BuilderParts.{BuilderParts, is_authority_text, meet_rules}
 unfoldable pub use Rattle.uri_ops.specs.BuilderParts.{is_scheme_text, is_text_for}
-pub use Rattle.uri_ops.specs.NormalTargets.{reference_kind, IsNormalFormOfTarget}
+pub use Rattle.uri_ops.specs.NormalTargets.{IsNormalFormOfTarget}
 pub use Rattle.uri_ops.specs.RuleSets.{rules_of_set}
 pub use Rattle.uri_ops.specs.declared.scheme_rules.RuleSet.{RuleSet}
 pub use Rattle.uri_parts.proofs.Offered.{authority_is_at_positions, fragment_is_at_positions, no_fragment_at_end, query_is_at_positions, path_is_at_positions}

@@ -1,6 +1,6 @@
 -- A component, mended from left to right: what a scan passes stays, and the character where it
 -- stops becomes octets.
-use Rattle.fluent_uri_c.proofs.Common.{◌≡◌, ℕ, ◌+◌, ◌-◌, ◌<◌, ◌≤◌, true, List, ◌++◌, length, take, drop, map, sym, ap, ◌∙◌, arith, ⊎_elim, append_assoc, length-append, length-drop, encode_utf8, slice_range, IsUtf8, IsCharBoundary, cases_lt, drop-drop, take_at, IsUtf8-drop, TableSet, LacksPercent, Octet, print, mended}
+use Rattle.fluent_uri_c.proofs.Common.{common_steps, ◌≡◌, ℕ, ◌+◌, ◌-◌, ◌<◌, ◌≤◌, true, List, ◌++◌, length, take, drop, map, sym, ap, ◌∙◌, arith, ⊎_elim, encode_utf8, slice_range, IsUtf8, IsCharBoundary, cases_lt, drop-drop, IsUtf8-drop, TableSet, LacksPercent, Octet, print, mended}
 use Rattle.std.proofs.lemmas.List.Edits.{between_none}
 use Rattle.uri_pct.specs.Prefixes.{valid_prefix}
 use Rattle.uri_mend.proofs.Offered.{nothing-is-scanned-after-scan, scanned-prefix-is-unchanged, unscanned-char-is-encoded}
@@ -12,17 +12,7 @@ octets_between text start end = print (map Octet (slice_range text start end))
 -- mended components for C: what is between a position and that after a character is the character
 char-is-part-of-text : (text : List ℕ) (end next c : ℕ) → end ≤ next → next ≤ length text
     → drop end text ≡ encode_utf8 c ++ drop next text → slice_range text end next ≡ encode_utf8 c
-char-is-part-of-text text end next c order inside joined =
-    let size : next - end ≡ length (encode_utf8 c) = omega (
-      arith,
-      ap length joined,
-      length-append (encode_utf8 c) (drop next text),
-      length-drop end text,
-      length-drop next text,
-      order,
-      inside,
-    ) in
-    ap (take (next - end)) joined ∙ take_at (encode_utf8 c) (drop next text) (next - end) (sym size)
+char-is-part-of-text text end next c order inside joined = grind (arith, common_steps)
 
 module _ (set : TableSet) (lacks : LacksPercent set) (octets : set.pct_encoded ≡ true)
     (text : List ℕ) (u : IsUtf8 text) where
@@ -74,6 +64,4 @@ pub text-grows-by-run-and-octets : (old mid new run octets rest left whole : Lis
     → mid ≡ old ++ run → new ≡ mid ++ octets → left ≡ run ++ (octets ++ rest)
     → old ++ left ≡ whole → new ++ rest ≡ whole
 text-grows-by-run-and-octets old mid new run octets rest left whole first second step before =
-    ap (λ t. t ++ rest) (second ∙ ap (λ t. t ++ octets) first)
-    ∙ append_assoc (old ++ run) octets rest ∙ append_assoc old run (octets ++ rest)
-    ∙ ap (λ t. old ++ t) (sym step) ∙ before
+    grind (arith, common_steps)

@@ -1,11 +1,9 @@
 -- A host that begins with neither a digit nor a `[` is a name.
-use Rattle.fluent_uri_c.proofs.Common.{◌≡◌, ℕ, ◌<◌, ◌≤◌, ◌==◌, false, not, List, [], ◌∷◌, length, arith, ⊎_elim, le-leb, lit≤, None, IsTrue, slice_index, and_from, both_ways, cases_lt, not-true, RegName, host_kind, ipv4_value}
+use Rattle.fluent_uri_c.proofs.Common.{◌≡◌, ℕ, ◌<◌, ◌≤◌, ◌==◌, false, not, List, [], ◌∷◌, length, arith, lit≤, None, IsTrue, slice_index, not-true, RegName, host_kind, ipv4_value}
 use Rattle.std.specs.Char.{digit_value, is_ascii_digit}
-use Rattle.std.specs.Int.{IsInRange}
 use Rattle.std.specs.Net.Reader.{read_ipv4, read_octet}
 use Rattle.std.proofs.NetLemmas.Numbers.{NoDigit, read_number_empty}
 use Rattle.std.proofs.lemmas.Bool.Decides.{nat_tests}
-use Rattle.std.proofs.lemmas.Str.Parse.{digit_from_value}
 
 -- exports for C: a host that begins with no digit is no IPv4 address
 no_ipv4 : (host : List ℕ) → NoDigit 10 host → ipv4_value host ≡ None
@@ -14,10 +12,7 @@ no_ipv4 host h = rw (read_number_empty 10 255 host h)
 
 -- exports for C: a byte that is no ASCII digit has no value below 10
 no_digit : (c : ℕ) → is_ascii_digit c ≡ false → 10 ≤ digit_value c
-no_digit c e = ⊎_elim
-    (λ (small : digit_value c < 10). let digit : IsInRange 48 57 c = digit_from_value c small in
-    absurd (both_ways _ e (and_from _ _ (le-leb 48 c digit.0) (le-leb c 57 digit.1))))
-    (λ (large : 10 ≤ digit_value c). large) (cases_lt (digit_value c) 10)
+no_digit c e = grind arith
 
 -- exports for C: an empty host is a registered name
 pub empty_is_name : (host : List ℕ) → length host < 1 → host_kind host ≡ RegName

@@ -1,6 +1,5 @@
 -- The test of a host in brackets.
-use Rattle.fluent_uri_c.proofs.Common.{◌≡◌, ℕ, true, false, List, ◌∷◌, ◌++◌, refl, sym, ap, ◌∙◌, ◌&&◌, ◌||◌, [], drop, eqb, length, not, bytes_eq, codes, is_some, nat_lt, prefix_len, eq-eqb, eqb-true, false≢true, append_cancel_left, take-append-drop, TableSet, hexdig_set, is_one_of, is_valid_for, before_any, from_any, starts, ipv6_value, is_future_address, is_host, is_ipv_future}
-use Rattle.std.proofs.Math.Bool.{or-false}
+use Rattle.fluent_uri_c.proofs.Common.{common_steps, arith, ◌≡◌, ℕ, true, List, ◌∷◌, ◌++◌, refl, sym, ap, ◌&&◌, ◌||◌, [], drop, eqb, length, bytes_eq, codes, is_some, nat_lt, eq-eqb, eqb-true, false≢true, append_cancel_left, TableSet, hexdig_set, is_one_of, is_valid_for, before_any, from_any, starts, ipv6_value, is_future_address, is_host, is_ipv_future}
 use Rattle.std.proofs.lemmas.Slice.Eq.{bytes_eq-Decides}
 use Rattle.uri_ops.proofs.Offered.{tests-that-imply-each-other-are-equal}
 
@@ -20,14 +19,7 @@ literal-is-tested-by-its-cut : (names : TableSet) (rest : List ℕ)
     && (is_some (ipv6_value (before_any (codes "]") rest))
     || is_ipv_future (before_any (codes "]") rest)))
 unfolding is_host
-literal-is-tested-by-its-cut names rest =
-    let b : List ℕ = before_any (codes "]") rest in
-    let f : List ℕ = from_any (codes "]") rest in
-    let whole : b ++ f ≡ rest =
-    take-append-drop (prefix_len (λ c. not (is_one_of (codes "]") c)) rest) rest in
-    let same : bytes_eq (b ++ codes "]") rest ≡ bytes_eq f (codes "]") =
-    ap (bytes_eq (b ++ codes "]")) (sym whole) ∙ suffixes-are-compared b (codes "]") f in
-    ap (λ t. t && (is_some (ipv6_value b) || is_ipv_future b)) same
+literal-is-tested-by-its-cut names rest = grind (arith, common_steps, suffixes-are-compared)
 
 -- hosts for C: the test of a host that begins with `[`
 pub literal_by_its_cut : (names : TableSet) (host : List ℕ) → starts 91 host ≡ true
@@ -45,9 +37,7 @@ equality-is-symmetric a b = tests-that-imply-each-other-are-equal (eqb a b) (eqb
 
 -- hosts for C: a byte is one of two letters if it is the one or the other
 version-letter-is-one-of-two : (c : ℕ) → is_one_of (codes "vV") c ≡ (eqb c 118 || eqb c 86)
-version-letter-is-one-of-two c = ap (λ v. v || (eqb 86 c || false)) (equality-is-symmetric 118 c)
-    ∙ ap (λ w. eqb c 118 || (w || false)) (equality-is-symmetric 86 c)
-    ∙ ap (λ t. eqb c 118 || t) (or-false (eqb c 86))
+version-letter-is-one-of-two c = grind (arith, equality-is-symmetric)
 
 -- hosts for C: the test of an IPvFuture address, by what is before and from the first `.`
 pub ipv_future_by_its_cut : (text : List ℕ)
@@ -57,6 +47,4 @@ pub ipv_future_by_its_cut : (text : List ℕ)
     && is_future_address (from_any (codes ".") (drop 1 text))))
 unfolding is_ipv_future
 ipv_future_by_its_cut [] = refl
-ipv_future_by_its_cut (c ∷ rest) = ap (λ t. t && ((nat_lt 0 (length (before_any (codes ".") rest))
-    && is_valid_for hexdig_set (before_any (codes ".") rest))
-    && is_future_address (from_any (codes ".") rest))) (version-letter-is-one-of-two c)
+ipv_future_by_its_cut (c ∷ rest) = grind (arith, version-letter-is-one-of-two)

@@ -1,5 +1,5 @@
 -- What mending returns is the result that is defined.
-use Rattle.fluent_uri_c.proofs.Common.{◌≡◌, ◌⊎◌, ℕ, Bool, List, inl, inr, refl, sym, ap, ◌∙◌, subst, IsTrue, None, Ok, Err, is_ok, or_left, or_right, Kind, Rejection, mend_rejection, rejected, is_link_copied, mended_link_result, mended_result, takes_memory_for_link, Returned, utf8_error}
+use Rattle.fluent_uri_c.proofs.Common.{arith, ◌≡◌, ◌⊎◌, ℕ, Bool, List, inl, inr, refl, sym, IsTrue, None, Ok, Err, is_ok, Kind, Rejection, mend_rejection, rejected, mended_link_result, mended_result, takes_memory_for_link, Returned, utf8_error}
 use Rattle.uri_mend.specs.declared.error.MendError.{MendError}
 use Rattle.uri_mend.specs.declared.error.MendError.TheVariants.{OutOfMemory, Unmendable}
 use Rattle.uri_mend.specs.Mended.{IsMended}
@@ -10,17 +10,13 @@ use Rattle.fluent_uri_c.specs.declared.errors.Error.TheVariants as Of
 -- exports for C: the text that a text is mended to is the one that the contract defines
 pub mended_result-of-mended : (kind : Kind) (bytes text made : List ℕ) → None ≡ utf8_error bytes
     → text ≡ bytes → IsMended kind text made → mended_result kind bytes ≡ Ok made
-mended_result-of-mended kind bytes text made valid same is =
-    subst (λ t. mended_result kind t ≡ Ok made) same
-    (rw (sym (valid ∙ ap utf8_error (sym same)), is.mendable) (ap Ok (sym is.text)))
+mended_result-of-mended kind bytes text made valid same is = grind arith
 
 -- exports for C: the text that a link is mended to is the one that the contract defines
 pub mended_link_result-of-mended : (kind : Kind) (bytes text made : List ℕ)
     → None ≡ utf8_error bytes → text ≡ bytes → IsMended kind (trimmed_link text) made
     → mended_link_result kind bytes ≡ Ok made
-mended_link_result-of-mended kind bytes text made valid same is =
-    subst (λ t. mended_link_result kind t ≡ Ok made) same
-    (rw (sym (valid ∙ ap utf8_error (sym same)), is.mendable) (ap Ok (sym is.text)))
+mended_link_result-of-mended kind bytes text made valid same is = grind arith
 
 -- exports for C: a rejection is that memory is out, where the call takes memory, or the defined one
 abbrev pub IsErrorOf : Bool → Returned → Rejection → Type 0
@@ -40,32 +36,20 @@ pub mended_result-of-error : (kind : Kind) (bytes text : List ℕ) (error : Mend
     → why ≡ mend_rejection error
     → IsErrorOf (is_ok (mended_result kind bytes)) (mended_result kind bytes) why
 mended_result-of-error kind bytes text error why valid same is e =
-    subst (λ w. IsErrorOf (is_ok (mended_result kind bytes)) (mended_result kind bytes) w) (sym e)
-    (mended_result-of-parsed-error kind bytes error valid
-    (subst (λ t. IsMendErrorOf kind t error) same is))
+    grind (arith, mended_result-of-parsed-error)
 
 mended_link_result-of-parsed-error : (kind : Kind) (text : List ℕ) (error : MendError)
     → None ≡ utf8_error text → IsLinkErrorOf kind text error → IsErrorOf
     (takes_memory_for_link kind text) (mended_link_result kind text) (mend_rejection error)
 mended_link_result-of-parsed-error kind text (Unmendable error) valid is =
     inr (rw (sym valid, is.0, is.1) refl)
-mended_link_result-of-parsed-error kind text OutOfMemory valid (inl is) = inl (
-  refl,
-  or_left (is_ok (mended_link_result kind text)) (is_link_copied text)
-      (rw (sym valid, is) refl),
-)
-mended_link_result-of-parsed-error kind text OutOfMemory valid (inr is) = inl (
-  refl,
-  or_right (is_ok (mended_link_result kind text)) (is_link_copied text)
-      (rw (sym valid, is) refl),
-)
+mended_link_result-of-parsed-error kind text OutOfMemory valid (inl is) = grind arith
+mended_link_result-of-parsed-error kind text OutOfMemory valid (inr is) = grind arith
 
 -- exports for C: if mending a link fails, memory is out or the rejection is the one that is defined
 pub mended_link_result-of-error : (kind : Kind) (bytes text : List ℕ) (error : MendError)
     (why : Rejection) → None ≡ utf8_error bytes → text ≡ bytes → IsLinkErrorOf kind text error
     → why ≡ mend_rejection error
     → IsErrorOf (takes_memory_for_link kind bytes) (mended_link_result kind bytes) why
-mended_link_result-of-error kind bytes text error why valid same is e = subst
-    (λ w. IsErrorOf (takes_memory_for_link kind bytes) (mended_link_result kind bytes) w) (sym e)
-    (mended_link_result-of-parsed-error kind bytes error valid
-    (subst (λ t. IsLinkErrorOf kind t error) same is))
+mended_link_result-of-error kind bytes text error why valid same is e =
+    grind (arith, mended_link_result-of-parsed-error)

@@ -1,5 +1,5 @@
 -- Exports for C: the order of keys of tables, which are normal forms.
-use Rattle.fluent_uri_c.proofs.Common.{◌≡◌, ◌↔◌, ◌⊎◌, inl, inr, ℕ, Bool, true, List, refl, sym, ap, ◌∙◌, Option, Some, None, Ok, Ordering, Equal, fold, result_ok, Kind, rules_of_set, RuleSet, fnv_write, normal_form_of, normal_result, rejection_or_result, text_error}
+use Rattle.fluent_uri_c.proofs.Common.{arith, ◌≡◌, ◌↔◌, ◌⊎◌, ℕ, Bool, true, List, sym, ap, ◌∙◌, Option, Some, None, Ok, Ordering, Equal, fold, result_ok, Kind, rules_of_set, RuleSet, fnv_write, normal_form_of, normal_result, text_error}
 use Rattle.std.proofs.lemmas.Map.Text.{is_eq-slice_cmp}
 use Rattle.std.proofs.lemmas.Slice.Eq.{bytes_eq-Decides}
 use Rattle.std.specs.Cmp.{Equal-is}
@@ -7,7 +7,7 @@ use Rattle.std.specs.Option.{unwrap_or}
 use Rattle.uri_order.specs.HashedTexts.{hashed_text}
 use Rattle.uri_order.specs.NormalForms.{normal_form}
 use Rattle.fluent_uri_c.specs.declared.fnv.Fnv.{Fnv}
-use Rattle.fluent_uri_c.specs.Orders.{AreOneKey, byte_order, hash_of_bytes, key_order, normal_key, order_of_keys, seeded}
+use Rattle.fluent_uri_c.specs.Orders.{AreOneKey, byte_order, hash_of_bytes, key_order, order_of_keys, seeded}
 
 -- exports for C: a normal form by the rules of an order is one by the set that these are
 pub form-by-set : (given set : RuleSet) → given ≡ set → (kind : Kind) (text : List ℕ)
@@ -24,16 +24,12 @@ order-of-same-texts order one other same same_other e f h = h ∙ (λ i. byte_or
 normal_result-of-text : (set : RuleSet) (kind : Kind) (bytes text : List ℕ)
     → None ≡ text_error kind bytes → text ≡ bytes
     → normal_result set kind bytes ≡ Ok (normal_form_of set kind text)
-normal_result-of-text set kind bytes text none same =
-    ap (λ o. rejection_or_result o (Ok (normal_form_of set kind bytes))) (sym none)
-    ∙ ap (λ t. Ok (normal_form_of set kind t)) (sym same)
+normal_result-of-text set kind bytes text none same = grind arith
 
 -- exports for C: two keys in order
 keys-in-order : (one other one_key other_key : Option (List ℕ)) (order : Ordering) → one ≡ one_key
     → other ≡ other_key → order_of_keys one_key other_key order ≡ order_of_keys one other order
-keys-in-order one other one_key other_key order e f =
-    ap (λ key. order_of_keys key other_key order) (sym e)
-    ∙ ap (λ key. order_of_keys one key order) (sym f)
+keys-in-order one other one_key other_key order e f = grind arith
 
 -- exports for C: the order of two texts of the kind is that of their normal forms
 pub order-of-two-texts : (set : RuleSet) (kind : Kind) (one other first second : List ℕ)
@@ -42,8 +38,7 @@ pub order-of-two-texts : (set : RuleSet) (kind : Kind) (one other first second :
     ≡ order_of_keys (result_ok (normal_result set kind one))
     (result_ok (normal_result set kind other)) order
 order-of-two-texts set kind one other first second order none same no_other same_other =
-    keys-in-order _ _ _ _ order (ap result_ok (normal_result-of-text set kind one first none same))
-    (ap result_ok (normal_result-of-text set kind other second no_other same_other))
+    grind (arith, keys-in-order, normal_result-of-text)
 
 -- exports for C: bytes are equal in their order exactly if they are the same
 same-bytes-are-equal-in-order : (one other : List ℕ)
@@ -58,59 +53,32 @@ same-bytes-are-equal-in-order one other =
 same-keys : (one other : Option (List ℕ)) (raw raw_other : List ℕ) → (order_of_keys one other
     (byte_order raw raw_other) ≡ Equal) ↔ (((normal : List ℕ) × ((one ≡ Some normal)
     × (other ≡ Some normal))) ⊎ ((one ≡ None) × ((other ≡ None) × (raw ≡ raw_other))))
-same-keys (Some one) (Some other) raw raw_other =
-    let equal = same-bytes-are-equal-in-order one other in (
-      λ e. inl (other, (ap Some (equal.0 e), refl)),
-      λ h. elim h [
-        | inl w ↦ equal.1 (let same : one ≡ other = cc in same)
-        | inr w ↦ absurd (let no : ⊥ = cc in no)
-      ],
-    )
-same-keys (Some one) None raw raw_other = (
-  λ e. cc,
-  λ h. elim h [ inl w ↦ cc | inr w ↦ cc ],
-)
-same-keys None (Some other) raw raw_other = (
-  λ e. cc,
-  λ h. elim h [ inl w ↦ cc | inr w ↦ cc ],
-)
-same-keys None None raw raw_other =
-    let equal = same-bytes-are-equal-in-order raw raw_other in (
-      λ e. inr (refl, (refl, equal.0 e)),
-      λ h. elim h [ inl w ↦ cc | inr w ↦ equal.1 w.1.1 ],
-    )
+same-keys (Some one) (Some other) raw raw_other = grind (arith, same-bytes-are-equal-in-order)
+same-keys (Some one) None raw raw_other = grind arith
+same-keys None (Some other) raw raw_other = grind arith
+same-keys None None raw raw_other = grind (arith, same-bytes-are-equal-in-order)
 
 -- exports for C: keys are in order as one key exactly if they are one
 pub equal-keys-are-one : (kind options : ℕ) (one other : List ℕ) (order : Ordering)
     → order ≡ key_order kind options one other → (order ≡ Equal) ↔ AreOneKey kind options one other
-equal-keys-are-one kind options one other order e =
-    let same = same-keys (normal_key kind options one) (normal_key kind options other) one other in
-    (λ equal. same.0 (sym e ∙ equal), λ h. e ∙ same.1 h)
+equal-keys-are-one kind options one other order e = grind (arith, same-keys)
 
 -- exports for C: a text of the kind is its own normal form exactly if normalising returns it
 pub own-normal-result : (set : RuleSet) (kind : Kind) (bytes text : List ℕ) (is_normal : Bool)
     → None ≡ text_error kind bytes → text ≡ bytes
     → (is_normal ≡ true) ↔ (normal_form_of set kind text ≡ text)
     → (is_normal ≡ true) ↔ (normal_result set kind bytes ≡ Ok bytes)
-own-normal-result set kind bytes text is_normal none same h =
-    let made = normal_result-of-text set kind bytes text none same in (
-      λ e. made ∙ ap Ok (h.0 e ∙ same),
-      λ e. h.1 (let own : normal_form_of set kind text ≡ bytes = cc in own ∙ sym same),
-    )
+own-normal-result set kind bytes text is_normal none same h = grind (arith, normal_result-of-text)
 
 -- exports for C: a hasher that begins with the seed and is given a normal form has its hash
 pub hash-of-form : (seed : ℕ) (form same : List ℕ) (old new : Fnv) → old ≡ seeded seed
     → form ≡ same → new ≡ fold fnv_write old (hashed_text form)
     → new.state ≡ hash_of_bytes seed same
-hash-of-form seed form same old new begun e h =
-    ap (λ hasher. hasher.state) (h ∙ ap (λ hasher. fold fnv_write hasher (hashed_text form)) begun
-    ∙ ap (λ t. fold fnv_write (seeded seed) (hashed_text t)) e)
+hash-of-form seed form same old new begun e h = grind arith
 
 -- exports for C: the hash of a text of the kind is that of its normal form
 pub hash-of-text : (set : RuleSet) (kind : Kind) (bytes text : List ℕ) (seed : ℕ)
     → None ≡ text_error kind bytes → text ≡ bytes
     → hash_of_bytes seed (normal_form_of set kind text)
     ≡ hash_of_bytes seed (unwrap_or (result_ok (normal_result set kind bytes)) bytes)
-hash-of-text set kind bytes text seed none same =
-    ap (λ r. hash_of_bytes seed (unwrap_or (result_ok r) bytes))
-    (sym (normal_result-of-text set kind bytes text none same))
+hash-of-text set kind bytes text seed none same = grind (arith, normal_result-of-text)

@@ -1,5 +1,5 @@
 -- No call is defined to return that memory is out: that comes from a denied request alone.
-use Rattle.fluent_uri_c.proofs.Common.{◌≡◌, ℕ, Bool, true, false, List, refl, sym, ap, subst, ◌∙◌, inl, inr, ◌==◌, Option, Some, None, Result, Ok, Err, IsTrue, ◌⊎◌, if◌then◌else◌, nat_lt, option_map, length, result_map_both, both_ways, components, Kind, reference_kind, RuleSet, Rejection, error_of_kind, in_reference, number_of, parse_rejection, rejected, rejected_at, base_numbered, iri_numbered, kind_numbered, mend_link_result, mend_result, unmendable_error, basic_choice, path_preference, rules_choice, relativize_result, IsReturnedOrDenied, Returned, second_text_error, with_base, basic_resolution, component_error, component_refusal, decode_result, encode_result, error_of_basic_target, error_of_target, resolution_by, first_rejection, is_out_of_memory, is_possible_length, length_error, normal_form_of, normal_resolution, normalize_result, rejection_or_result, resolution, resolve_result, resolve_normalized_result, text_error, to_uri_result, utf8_error, with_valid_number}
+use Rattle.fluent_uri_c.proofs.Common.{arith, ◌≡◌, ℕ, Bool, true, false, List, refl, ◌==◌, Option, Some, None, Result, Ok, Err, IsTrue, ◌⊎◌, if◌then◌else◌, nat_lt, option_map, length, result_map_both, components, Kind, RuleSet, Rejection, error_of_kind, in_reference, number_of, parse_rejection, rejected, rejected_at, iri_numbered, mend_link_result, mend_result, unmendable_error, relativize_result, IsReturnedOrDenied, Returned, second_text_error, with_base, basic_resolution, component_error, component_refusal, decode_result, encode_result, error_of_basic_target, error_of_target, resolution_by, first_rejection, is_out_of_memory, is_possible_length, length_error, normal_form_of, normal_resolution, normalize_result, rejection_or_result, resolution, resolve_result, resolve_normalized_result, text_error, to_uri_result, utf8_error, with_valid_number}
 use Rattle.std.specs.Str.Lossy.{utf8_valid_len}
 use Rattle.uri_parts.specs.declared.error.ParseError.{ParseError}
 use Rattle.uri_parts.specs.declared.error.ParseErrorKind.{ParseErrorKind}
@@ -7,10 +7,8 @@ use Rattle.uri_parts.specs.declared.error.ParseErrorKind.TheVariants.{InvalidPct
 use Rattle.uri_parts.specs.Refusals.{refusal}
 use Rattle.uri_ops.specs.Target as Target
 use Rattle.uri_relative.specs.Leading.{without_fragment}
-use Rattle.uri_relative.specs.Rule.{reference_to}
 use Rattle.uri_basic.specs.Target as Basic
-use Rattle.uri_mend.specs.Mending.{can_be_mended, mended_text}
-use Rattle.uri_mend.specs.Trimming.{trimmed_link}
+use Rattle.uri_mend.specs.Mending.{can_be_mended}
 use Rattle.fluent_uri_c.specs.declared.errors.Error.TheVariants.{OutOfMemory, InvalidArgument, NotUtf8}
 use Rattle.fluent_uri_c.specs.Sets.{decoding_set, encoding_set}
 
@@ -76,9 +74,7 @@ of_second_text kind bytes = of_in_reference (text_error kind bytes) (of_text_err
 of_base : (n : ℕ) (base : List ℕ) (result : Kind → Returned)
     → ((kind : Kind) → is_out_of_memory (result kind) ≡ false)
     → is_out_of_memory (with_base n base result) ≡ false
-of_base n base result h = of_valid_number (base_numbered n) _
-    (λ kind. of_rejection_or_result (text_error kind base) (result kind)
-    (of_text_error kind base) (h kind))
+of_base n base result h = grind (arith, of_valid_number, of_rejection_or_result, of_text_error)
 
 of_unmendable : (b : Bool) (o : Option ParseError)
     → option_is_memory (if b then None else option_map parse_rejection o) ≡ false
@@ -131,10 +127,8 @@ of_normal_resolution set kind base reference = of_mapped_text (normal_form_of se
 -- exports for C: normalising is not defined to return that memory is out
 pub normalize_result-is-other : (n options : ℕ) (text : List ℕ)
     → is_out_of_memory (normalize_result n options text) ≡ false
-normalize_result-is-other n options text = of_valid_number (rules_choice options) _
-    (λ set. of_valid_number (kind_numbered n) _
-    (λ kind. of_rejection_or_result (text_error kind text)
-    (Ok (normal_form_of set kind text)) (of_text_error kind text) refl))
+normalize_result-is-other n options text =
+    grind (arith, of_valid_number, of_rejection_or_result, of_text_error)
 
 -- exports for C: converting is not defined to return that memory is out
 pub to_uri_result-is-other : (n : ℕ) (text : List ℕ)
@@ -146,29 +140,33 @@ to_uri_result-is-other n text = of_valid_number (iri_numbered n) _
 pub resolve_result-is-other : (n options : ℕ) (base reference : List ℕ)
     → is_out_of_memory (resolve_result n options base reference) ≡ false
 resolve_result-is-other n options base reference =
-    of_valid_number (basic_choice options) _ (λ is_basic. of_base n base _
-    (λ kind. of_rejection_or_result (second_text_error (reference_kind kind) reference)
-    (resolution_by is_basic base reference)
-    (of_second_text (reference_kind kind) reference)
-    (of_resolution_by is_basic base reference)))
+    grind (
+      arith,
+      of_valid_number,
+      of_base,
+      of_rejection_or_result,
+      of_second_text,
+      of_resolution_by,
+    )
 
 -- exports for C: resolving and normalising are not defined to return that memory is out
 pub resolve_normalized_result-is-other : (n options : ℕ) (base reference : List ℕ)
     → is_out_of_memory (resolve_normalized_result n options base reference) ≡ false
 resolve_normalized_result-is-other n options base reference =
-    of_valid_number (rules_choice options) _ (λ set. of_base n base _
-    (λ kind. of_rejection_or_result (second_text_error (reference_kind kind) reference)
-    (normal_resolution set kind base reference)
-    (of_second_text (reference_kind kind) reference)
-    (of_normal_resolution set kind base reference)))
+    grind (
+      arith,
+      of_valid_number,
+      of_base,
+      of_rejection_or_result,
+      of_second_text,
+      of_normal_resolution,
+    )
 
 -- exports for C: relativizing is not defined to return that memory is out
 pub relativize_result-is-other : (n options : ℕ) (base target : List ℕ)
     → is_out_of_memory (relativize_result n options base target) ≡ false
-relativize_result-is-other n options base target = of_valid_number (path_preference options) _
-    (λ prefers. of_base n base _
-    (λ kind. of_rejection_or_result (second_text_error kind target)
-    (Ok (reference_to prefers base target)) (of_second_text kind target) refl))
+relativize_result-is-other n options base target =
+    grind (arith, of_valid_number, of_base, of_rejection_or_result, of_second_text)
 
 -- exports for C: decoding is not defined to return that memory is out
 pub decode_result-is-other : (n : ℕ) (text : List ℕ)
@@ -185,28 +183,20 @@ encode_result-is-other n bytes = of_valid_number (encoding_set n) _
 
 -- exports for C: mending is not defined to return that memory is out
 pub mend_result-is-other : (n : ℕ) (text : List ℕ) → is_out_of_memory (mend_result n text) ≡ false
-mend_result-is-other n text = of_valid_number (kind_numbered n) _
-    (λ kind. of_rejection_or_result (first_rejection (utf8_error text) (unmendable_error kind text))
-    (Ok (mended_text kind text)) (of_mending kind text text) refl)
+mend_result-is-other n text = grind (arith, of_valid_number, of_rejection_or_result, of_mending)
 
 -- exports for C: mending a link is not defined to return that memory is out
 pub mend_link_result-is-other : (n : ℕ) (text : List ℕ)
     → is_out_of_memory (mend_link_result n text) ≡ false
-mend_link_result-is-other n text = of_valid_number (kind_numbered n) _
-    (λ kind. of_rejection_or_result
-    (first_rejection (utf8_error text) (unmendable_error kind (trimmed_link text)))
-    (Ok (mended_text kind (trimmed_link text))) (of_mending kind text (trimmed_link text)) refl)
+mend_link_result-is-other n text =
+    grind (arith, of_valid_number, of_rejection_or_result, of_mending)
 
 -- exports for C: if a call returns that memory is out, it is one that takes memory
 pub takes-memory-if-out-of-memory : (takes_memory : Bool) (defined : Returned) (why : Rejection)
     → why.error ≡ OutOfMemory → is_out_of_memory defined ≡ false
     → (((why ≡ rejected OutOfMemory) × IsTrue takes_memory) ⊎ (defined ≡ Err why))
     → IsTrue takes_memory
-takes-memory-if-out-of-memory takes_memory defined why e other h = elim h [
-  | inl p ↦ p.1
-  | inr is ↦ absurd (both_ways _ (sym (ap is_out_of_memory is) ∙ other)
-      (ap (λ error. number_of error == 8) e))
-]
+takes-memory-if-out-of-memory takes_memory defined why e other h = grind arith
 
 -- exports for C: the same, of what a call returned
 pub takes-memory-if-denied : {T : Type 0} → (takes_memory : Bool) (bytes : T → List ℕ)
@@ -214,6 +204,4 @@ pub takes-memory-if-denied : {T : Type 0} → (takes_memory : Bool) (bytes : T �
     → why.error ≡ OutOfMemory → is_out_of_memory defined ≡ false
     → IsReturnedOrDenied takes_memory bytes defined returned → IsTrue takes_memory
 takes-memory-if-denied takes_memory bytes defined returned why is e other h =
-    let rejected : IsReturnedOrDenied takes_memory bytes defined (Err why) =
-    subst (λ r. IsReturnedOrDenied takes_memory bytes defined r) is h in
-    takes-memory-if-out-of-memory takes_memory defined why e other rejected
+    grind (arith, takes-memory-if-out-of-memory)

@@ -1,15 +1,12 @@
 -- What a call returns by a base that is parsed is what it returns for the base's bytes.
-use Rattle.fluent_uri_c.proofs.Common.{◌≡◌, ℕ, Bool, List, refl, sym, ap, ◌∙◌, Option, Some, None, Err, unwrap_or, Kind, iri, uri, reference_text, RuleSet, Rejection, base_numbered, basic_choice, path_preference, rules_choice, reference_from, relativize_result, Returned, normal_target_from, rejection_or_result, resolve_normalized_result, resolve_result, target_from, text_error, with_base, with_valid_number, parse_error}
+use Rattle.fluent_uri_c.proofs.Common.{arith, ◌≡◌, ℕ, Bool, List, refl, sym, ap, Option, Some, None, Err, unwrap_or, Kind, iri, uri, reference_text, RuleSet, Rejection, base_numbered, basic_choice, path_preference, rules_choice, reference_from, relativize_result, Returned, normal_target_from, rejection_or_result, resolve_normalized_result, resolve_result, target_from, text_error, with_base, with_valid_number, parse_error}
 use Rattle.fluent_uri_c.specs.declared.bases.Base.{Base}
 use Rattle.fluent_uri_c.specs.declared.bases.Base.TheVariants.{Iri, Rejected, Uri}
 use Rattle.fluent_uri_c.specs.Bases.{IsBaseOf, IsParsedBase, by_base, normal_target_by, reference_by, target_by}
 
 of_parsed_base : (result : Kind → List ℕ → Returned) (n : ℕ) (bytes text : List ℕ) (kind : Kind)
     → IsParsedBase n bytes kind text → result kind text ≡ with_base n bytes (λ k. result k bytes)
-of_parsed_base result n bytes text kind is = ap (result kind) is.same
-    ∙ ap (λ o. rejection_or_result o (result kind bytes)) is.valid ∙ ap
-    (λ o. with_valid_number o (λ k. rejection_or_result (text_error k bytes) (result k bytes)))
-    (sym is.number)
+of_parsed_base result n bytes text kind is = grind arith
 
 of_rejected_base : (kind : Option Kind) (bytes : List ℕ) (why : Rejection)
     (result : Kind → Returned) → parse_error kind bytes ≡ Some why

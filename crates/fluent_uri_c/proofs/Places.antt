@@ -112,14 +112,7 @@ module _ (kind : Kind) (text : List ℕ) (p : Positions) (a : AuthorityPositions
       → j ≤ length inside.authority
       → IsSpan text begin (f (components text).authority) (record { start = start; end = end })
   part-span f i j start end begin part is holds begins from to ordered short =
-      subst (λ o. IsSpan text begin (f o) (record { start = start; end = end })) (sym inside.is)
-      (subst (λ o. IsSpan text begin o (record { start = start; end = end })) is (
-        begins,
-        omega arith,
-        omega (arith, inside.inside, ends),
-        ap (λ k. slice_range text k end) from ∙ ap (slice_range text (a.start + i)) to
-            ∙ within text inside.authority a.start a.end inside.at ends i j short ∙ holds,
-      ))
+      grind (arith, ends, within)
 
   -- a part that the authority lacks
   absent-span : (f : Option (List ℕ) → Option (List ℕ)) (begin : ℕ)
@@ -216,19 +209,4 @@ pub AreSpansOf-with-authority : (text : List ℕ) (parts : Parts) (scheme path q
     → parts.host_kind ≡ authority_host_number (components text).authority → AreSpansOf text parts
 AreSpansOf-with-authority text parts scheme path query fragment index at_scheme at_path at_query
     at_fragment is_scheme is_path is_query is_fragment authority userinfo host port kind =
-    let part = components text in
-    record {
-      index = index;
-      scheme = subst (λ (s : Span). IsSpan text 0 part.scheme s) (sym at_scheme) is_scheme;
-      authority = authority;
-      userinfo = userinfo;
-      host = host;
-      port = port;
-      path = subst (λ (s : Span). IsSpan text (path_start text) (Some part.path) s) (sym at_path)
-          is_path;
-      query = subst (λ (s : Span). IsSpan text (query_start text) part.query s) (sym at_query)
-          is_query;
-      fragment = subst (λ (s : Span). IsSpan text (fragment_start text) part.fragment s)
-          (sym at_fragment) is_fragment;
-      host_kind = kind;
-    }
+    grind (arith, components)

@@ -1,5 +1,5 @@
 -- The next pair of a query, as C gets it.
-use Rattle.fluent_uri_c.proofs.Common.{ℕ, ◌<◌, ◌≤◌, List, refl, sym, subst, ◌∙◌, arith, ⊎_elim, length, ◌+◌, Some, slice_range, cases_lt, cond-false, cond-true, le-ltb, lt-ltb, IsSpan}
+use Rattle.fluent_uri_c.proofs.Common.{ℕ, ◌≤◌, List, refl, arith, length, ◌+◌, IsSpan}
 use Rattle.uri_query.specs.declared.places.PairPlace.{PairPlace}
 use Rattle.uri_query.specs.Places.{IsNextPair, pair_at, value_of_pair}
 use Rattle.fluent_uri_c.specs.declared.queries.Pair.{Pair}
@@ -9,21 +9,7 @@ module _ (query : List ℕ) (from : ℕ) (place : PairPlace) (next : IsNextPair 
   -- pairs for C: the value of the next pair is at its span
   value-is-at-span : IsSpan query (place.name_end + 1) (value_of_pair (pair_at query place))
       (value_span place)
-  value-is-at-span = ⊎_elim
-      (λ (more : place.name_end < place.end).
-      let is = lt-ltb place.name_end place.end more in
-      subst (λ part. IsSpan query (place.name_end + 1) part (value_span place))
-      (sym (cond-true _ _ _ is) ∙ next.value)
-      (subst (IsSpan query (place.name_end + 1)
-      (Some (slice_range query (place.name_end + 1) place.end)))
-      (sym (cond-true _ _ _ is))
-      (refl, omega (arith, more), next.within, refl)))
-      (λ (last : place.end ≤ place.name_end).
-      let is = le-ltb place.name_end place.end last in
-      subst (λ part. IsSpan query (place.name_end + 1) part (value_span place))
-      (sym (cond-false _ _ _ is) ∙ next.value)
-      (cond-false _ _ _ is))
-      (cases_lt place.name_end place.end)
+  value-is-at-span = grind arith
 
   -- pairs for C: the next pair is the one that is reported
   pub next-pair-is-reported : (old : Pair) → LeavesPair query from place.end old (record {

@@ -1,5 +1,5 @@
 -- A reference that leads from a base to a target, of the texts that were parsed.
-use Rattle.fluent_uri_c.proofs.Common.{◌≡◌, ℕ, Bool, List, sym, ap, ◌∙◌, None, Ok, Kind, reference_from, text_error}
+use Rattle.fluent_uri_c.proofs.Common.{arith, ◌≡◌, ℕ, Bool, List, sym, None, Ok, Kind, reference_from, text_error}
 use Rattle.uri_relative.specs.Relativized.{IsRelativized}
 use Rattle.uri_relative.specs.Rule.{reference_to}
 
@@ -20,5 +20,4 @@ pub reference_from-of-reference : (kind : Kind) (base target reference given wan
     → reference_from wants kind given wanted ≡ Ok reference
 reference_from-of-reference kind base target reference given wanted prefers wants valid b t same
     is =
-    rw (sym valid) (ap Ok (sym (is ∙ ap (λ p. reference_to p base target) same
-    ∙ ap (λ u. reference_to wants u target) b ∙ ap (reference_to wants given) t)))
+    grind arith

@@ -1,5 +1,5 @@
 -- The parts of bytes that are rejected.
-use Rattle.fluent_uri_c.proofs.Common.{◌≡◌, ℕ, List, sym, ap, ◌∙◌, arith, Some, IsSomeAnd, Kind, Rejection, Parts, number_of, IsPossibleText, text_error, ArePartsOf, rejected_parts}
+use Rattle.fluent_uri_c.proofs.Common.{◌≡◌, ℕ, List, arith, Some, IsSomeAnd, Kind, Rejection, Parts, number_of, IsPossibleText, text_error, ArePartsOf, rejected_parts}
 use Rattle.fluent_uri_c.specs.declared.errors.Error.{Error}
 use Rattle.fluent_uri_c.specs.declared.errors.Error.TheVariants as Of
 
@@ -32,11 +32,4 @@ pub rejected_parts-are-parts : (kind : Kind) (bytes : List ℕ) (why : Rejection
     → Some why ≡ text_error kind bytes → (IsPossibleText kind bytes → ⊥)
     → parts ≡ rejected_parts why → ArePartsOf (Some kind) bytes parts
 rejected_parts-are-parts kind bytes why parts e outside is =
-    let number : parts.error ≡ number_of why.error = ap (λ (p : Parts). p.error) is in
-    let never = λ (z : parts.error ≡ 0). number_of-is-not-zero why.error (sym number ∙ z) in
-    record {
-      accepts = ((λ z. absurd (never z)), (λ t. absurd (outside t)));
-      spans = λ z. absurd (never z);
-      none = λ z. absurd (never z);
-      rejected = λ _. rejected-parts-of-some (text_error kind bytes) why parts e is;
-    }
+    grind (arith, number_of-is-not-zero, rejected-parts-of-some)

@@ -1,11 +1,10 @@
 -- What resolving returns is the result that is defined.
-use Rattle.fluent_uri_c.proofs.Common.{◌≡◌, ◌⊎◌, ℕ, Bool, false, List, inl, inr, refl, sym, ap, ◌∙◌, subst, Result, Ok, Err, None, IsOk, IsTrue, result_map_both, false≢true, Components, components, Kind, IsNormalFormOfTarget, rules_of_set, RuleSet, Rejection, basic_resolve_rejection, rejected, resolve_rejection, IsReturnedAs, IsTargetReturned, Returned, basic_resolution, error_of_basic_target, error_of_target, normal_form_of, normal_resolution, normal_result, resolution, resolution_by, rejection_or_result, takes_memory_for_target, text_error}
+use Rattle.fluent_uri_c.proofs.Common.{arith, ◌≡◌, ◌⊎◌, ℕ, Bool, false, List, inl, inr, refl, sym, ap, ◌∙◌, subst, Result, Ok, Err, None, IsOk, IsTrue, result_map_both, false≢true, Components, components, Kind, IsNormalFormOfTarget, rules_of_set, RuleSet, Rejection, basic_resolve_rejection, rejected, resolve_rejection, IsReturnedAs, IsTargetReturned, Returned, basic_resolution, error_of_basic_target, error_of_target, normal_form_of, normal_resolution, normal_result, resolution, resolution_by, takes_memory_for_target, text_error}
 use Rattle.uri_parts.specs.Fragments.{IsWithFragment}
 use Rattle.uri_ops.specs.declared.resolve.error.ResolveError.{ResolveError}
 use Rattle.uri_ops.specs.declared.resolve.error.ResolveError.TheVariants as Of
 use Rattle.uri_ops.specs.Resolving.{IsErrorWithUnderflowAllowed}
 use Rattle.uri_ops.specs.Target as Target
-use Rattle.uri_relative.specs.Leading.{without_fragment}
 use Rattle.uri_basic.specs.declared.error.BasicResolveError.{BasicResolveError}
 use Rattle.uri_basic.specs.declared.error.BasicResolveError.TheVariants as OfBasic
 use Rattle.uri_basic.specs.Resolving.{IsBasicError}
@@ -52,9 +51,7 @@ pub resolution-of-error : (base bare reference : List ℕ) (error : ResolveError
     → IsErrorWithUnderflowAllowed (components bare) (components reference) error
     → IsErrorOf (resolution base reference) (resolve_rejection error)
 unfolding resolution returned_of
-resolution-of-error base bare reference error is h =
-    returned_of-error (without_fragment (components base)) (components reference) error
-    (subst (λ b. IsErrorWithUnderflowAllowed b (components reference) error) is.parts h)
+resolution-of-error base bare reference error is h = grind (arith, returned_of-error, components)
 
 -- exports for C: the result of resolving, normalised; or the rejection
 normal_of : RuleSet → Kind → Returned → Returned
@@ -77,11 +74,8 @@ pub normal_resolution-of-error : (set : RuleSet) (kind : Kind) (base bare refere
     → IsErrorWithUnderflowAllowed (components bare) (components reference) error
     → IsErrorOf (normal_resolution set kind base reference) (resolve_rejection error)
 unfolding normal_resolution normal_of
-normal_resolution-of-error set kind base bare reference error is h = elim
-    (resolution-of-error base bare reference error is h) [
-      | inl e ↦ inl (e.0, is_ok_mapped (normal_form_of set kind) (λ why. why) _ e.1)
-      | inr e ↦ inr (ap (normal_of set kind) e)
-    ]
+normal_resolution-of-error set kind base bare reference error is h =
+    grind (arith, resolution-of-error, is_ok_mapped, normal_of)
 
 -- exports for C: if a returned rejection is that of an error,
 -- memory is out or the rejection is the one defined
@@ -94,17 +88,13 @@ returned-rejection-is-of-error returned why error e h = rw e h
 pub normal_result-of-normal-form : (set : RuleSet) (kind : Kind) (bytes text normal : List ℕ)
     → None ≡ text_error kind bytes → text ≡ bytes → normal ≡ normal_form_of set kind text
     → normal_result set kind bytes ≡ Ok normal
-normal_result-of-normal-form set kind bytes text normal none same is =
-    ap (λ o. rejection_or_result o (Ok (normal_form_of set kind bytes))) (sym none)
-    ∙ ap (λ t. Ok (normal_form_of set kind t)) (sym same) ∙ ap Ok (sym is)
+normal_result-of-normal-form set kind bytes text normal none same is = grind arith
 
 -- exports for C: a text that is its own normal form is what normalising returns
 pub normal_result-of-own-form : (set : RuleSet) (kind : Kind) (bytes text form : List ℕ)
     → None ≡ text_error kind bytes → text ≡ bytes → normal_form_of set kind text ≡ text
     → form ≡ text → normal_result set kind bytes ≡ Ok form
-normal_result-of-own-form set kind bytes text form none same own is =
-    ap (λ o. rejection_or_result o (Ok (normal_form_of set kind bytes))) (sym none)
-    ∙ ap Ok (ap (normal_form_of set kind) (sym same) ∙ own ∙ sym is)
+normal_result-of-own-form set kind bytes text form none same own is = grind arith
 
 -- exports for C: the result of the basic algorithm: a target, or the rejection
 basic_of : Result (List ℕ) Basic.BasicTargetError → Returned
@@ -147,8 +137,7 @@ pub basic_resolution-of-error : (base given reference : List ℕ) (why : Rejecti
     → IsTargetErrorOf (basic_resolution base reference) why
 unfolding basic_resolution basic_of
 basic_resolution-of-error base given reference why error same e h =
-    rw e (basic_of-error (components base) (components reference) error
-    (subst (λ b. IsBasicError (components b) (components reference) error) same h))
+    grind (arith, basic_of-error, components)
 
 ok-takes-memory : (returned : Returned) → IsOk returned → IsTrue (takes_memory_for_target returned)
 ok-takes-memory (Ok target) h = refl
@@ -158,10 +147,7 @@ returned-if-returned-as : {T : Type 0} → (bytes : T → List ℕ) (returned : 
     (made : Result T Rejection) → IsReturnedAs bytes returned made
     → IsTargetReturned bytes returned made
 returned-if-returned-as bytes returned (Ok value) h = h
-returned-if-returned-as bytes returned (Err why) h = elim h [
-  | inl p ↦ inl (p.0, ok-takes-memory returned p.1)
-  | inr e ↦ inr e
-]
+returned-if-returned-as bytes returned (Err why) h = grind (arith, ok-takes-memory)
 
 -- exports for C: what is returned without the basic algorithm is what a call that resolves may
 -- return

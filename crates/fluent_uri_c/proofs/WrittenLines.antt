@@ -1,5 +1,5 @@
 -- What is written of lines, and what a batch of them leaves.
-use Rattle.fluent_uri_c.proofs.Common.{◌≡◌, ◌≢◌, ℕ, zero, suc, ◌+◌, ◌<◌, ◌≤◌, List, [], ◌∷◌, ◌++◌, length, take, drop, refl, sym, ap, ◌∙◌, arith, append_assoc, length-append, true, false, Bool, ◌⊎◌, inl, inr, Some, None, IsSome, IsTrue, cond, slice_get, nat_lt, position, position_or_len, result_ok, drop-append_seam, take-append_seam, and_from, false≢true, ltb-false, drop-drop, length-take-le, none-some, same_Some, bytes_of, joined_results, kind_numbered, rules_choice, outcome_of_batch, HasConsumed, IsFullAt, LeavesLines, LineBuffers, TakesMemoryAt, is_newline, lines_of, newline, error_number_at, number_returned, written_at, is_possible_length, normalize_result}
+use Rattle.fluent_uri_c.proofs.Common.{◌≡◌, ◌≢◌, ℕ, zero, suc, ◌+◌, ◌<◌, ◌≤◌, List, [], ◌∷◌, ◌++◌, length, take, drop, refl, sym, ap, ◌∙◌, arith, append_assoc, length-append, true, false, Bool, ◌⊎◌, inl, inr, Some, None, IsSome, IsTrue, cond, slice_get, nat_lt, position, position_or_len, result_ok, drop-append_seam, take-append_seam, drop-drop, length-take-le, none-some, same_Some, bytes_of, joined_results, kind_numbered, rules_choice, outcome_of_batch, HasConsumed, IsFullAt, LeavesLines, LineBuffers, TakesMemoryAt, is_newline, lines_of, newline, error_number_at, number_returned, written_at, is_possible_length, normalize_result}
 use Rattle.fluent_uri_c.specs.declared.outcome.Outcome.{Outcome}
 use Rattle.fluent_uri_c.specs.Endings.{EndsAt}
 
@@ -22,9 +22,7 @@ first-newline-found rest k e = cond_some (nat_lt (position_or_len is_newline res
 -- lines for C: if no newline is found, the last line is all that is left
 pub no-newline-found : (rest : List ℕ) → None ≡ position is_newline rest
     → length rest ≤ position_or_len is_newline rest
-no-newline-found rest e =
-    let n = position_or_len is_newline rest in
-    ltb-false n (length rest) (cond_none (nat_lt n (length rest)) n e)
+no-newline-found rest e = grind (arith, cond_none)
 
 -- lines for C: bytes that are written at a position and more after them are one text that is
 -- written there
@@ -85,18 +83,12 @@ valid_options options (inr rules) = rw rules refl
 pub consumed-before-line : (input : List ℕ) (done start : ℕ) → done < length (lines_of input)
     → start ≤ length input → drop done (lines_of input) ≡ lines_of (drop start input)
     → HasConsumed input done start
-consumed-before-line input done start more inside left = record {
-  all = λ e. absurd (omega (arith, e, more));
-  left = λ _. (inside, left);
-}
+consumed-before-line input done start more inside left = grind arith
 
 -- lines for C: after the last line all of the input is done
 pub consumed-after-last-line : (input : List ℕ) (done end : ℕ) → length (lines_of input) ≡ done
     → end ≡ length input → HasConsumed input done end
-consumed-after-last-line input done end last all = record {
-  all = λ _. all;
-  left = λ more. absurd (omega (arith, last, more));
-}
+consumed-after-last-line input done end last all = grind arith
 
 -- lines for C: normalising a batch of lines leaves the buffers that its contract defines;
 -- done: how many were processed
@@ -115,18 +107,4 @@ pub leaves_lines : (kind options : ℕ) (input : List ℕ) (old new : LineBuffer
     → HasConsumed input done consumed → LeavesLines kind options input old new outcome returned
 leaves_lines kind options input old new outcome number which needed done at consumed returned valid
     chosen possible same is full bytes total errors others end left =
-    let is_valid = and_from _ _
-    (and_from _ _ (valid_kind kind valid) (valid_options options chosen)) possible in
-    rw (same, is) (record {
-      error = refl;
-      full = full;
-      invalid = λ none. absurd (false≢true (sym none ∙ is_valid));
-      done = λ _. record {
-        bytes = bytes;
-        total = total;
-        errors = errors;
-        other_errors = others;
-        end = end;
-        consumed = left;
-      };
-    })
+    grind (arith, valid_kind, valid_options)

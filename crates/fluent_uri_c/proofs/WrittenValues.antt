@@ -1,5 +1,5 @@
 -- What a call leaves that writes a value.
-use Rattle.fluent_uri_c.proofs.Common.{◌≡◌, ◌+◌, ◌≤◌, ◌++◌, ◌∙◌, ℕ, Bool, List, Ok, ap, arith, drop, length, length-append, refl, subst, sym, take, cond-false, le-ltb, take_at, Parts, outcome_of_text, written, HasPartsFirst, LeavesValueOrDenied}
+use Rattle.fluent_uri_c.proofs.Common.{common_steps, ◌≡◌, ◌+◌, ◌≤◌, ◌++◌, ◌∙◌, ℕ, Bool, List, Ok, ap, arith, drop, length, length-append, sym, take, cond-false, le-ltb, Parts, outcome_of_text, written, HasPartsFirst, LeavesValueOrDenied}
 use Rattle.fluent_uri_c.specs.declared.outcome.Outcome.{Outcome}
 use Rattle.fluent_uri_c.proofs.WrittenLines.{two-writes-are-one}
 
@@ -11,17 +11,7 @@ pub value-is-left : (takes_memory : Bool) (text result old new : List ℕ)
     → LeavesValueOrDenied takes_memory (Ok result) old new old_parts new_parts outcome 0
 value-is-left takes_memory text result old new old_parts new_parts outcome is reported written
     first =
-    subst (λ t. LeavesValueOrDenied takes_memory (Ok t) old new old_parts new_parts outcome 0) is
-    (record {
-      text = record {
-        error = ap (λ (o : Outcome). o.error) reported;
-        text = λ _. (reported, written);
-        rejected = λ not. absurd (not refl);
-        kept = λ not. absurd (not refl);
-      };
-      parts = λ _. first;
-      kept = λ not. absurd (not refl);
-    })
+    grind arith
 
 -- exports for C: a prefix and a suffix, each written where it belongs in a buffer for both
 module _ (old mid new prefix suffix : List ℕ) (fits : length prefix + length suffix ≤ length old)
@@ -42,6 +32,4 @@ module _ (old mid new prefix suffix : List ℕ) (fits : length prefix + length s
 
   -- which the buffer begins with
   pub pieces-are-prefix-of-buffer : take (length prefix + length suffix) new ≡ text
-  pieces-are-prefix-of-buffer = ap (take (length prefix + length suffix)) text-begins-buffer
-      ∙ take_at text (drop (length text) old) (length prefix + length suffix)
-      (length-append prefix suffix)
+  pieces-are-prefix-of-buffer = grind (arith, common_steps, text-begins-buffer)

@@ -1,5 +1,5 @@
 -- The lines of outcomes.
-use Rattle.uri_commands.proofs.Common.{◌≡◌, ◌+◌, ◌<◌, ◌++◌, ◌∷◌, ◌∙◌, ℕ, List, [], Option, length, take, get_or, sym, ap, subst, append-nil, Appends-trans, take_more, Appends, rules_of_set, RuleSet, link_lines, outcome_line, outcome_lines}
+use Rattle.uri_commands.proofs.Common.{common_steps, arith, ◌≡◌, ◌+◌, ◌<◌, ◌++◌, ◌∷◌, ◌∙◌, ℕ, List, [], Option, length, take, get_or, sym, ap, subst, append-nil, Appends-trans, take_more, Appends, rules_of_set, RuleSet, link_lines, outcome_line, outcome_lines}
 use Rattle.std.proofs.lemmas.List.Concat.{flat_map-append}
 use Rattle.fluent_uri.specs.SchemeRules.{Rules}
 use Rattle.uri_links.specs.Outcomes.{outcomes_of}
@@ -14,8 +14,7 @@ pub outcome_lines-are-link_lines : (set : RuleSet) (rules : Rules) (base word : 
 unfolding link_lines
 outcome_lines-are-link_lines set rules base word none references words outcomes registered p b
     n r noted =
-    let same : outcomes_of (rules_of_set set) word [] words ≡ (outcomes, registered) = cc in
-    sym (ap (λ (all : List Outcome × List (List ℕ)). outcome_lines all.1 all.0) same)
+    grind arith
 
 -- commands: after one more line of `links` is written, the lines up to n + 1 are;
 -- a, b, c: what the writer holds
@@ -25,11 +24,4 @@ pub outcome_lines-of-one-more : (registered : List (List ℕ)) (outcomes : List 
     → Appends b c (outcome_line registered outcome)
     → Appends a c (outcome_lines registered (take (n + 1) outcomes))
 outcome_lines-of-one-more registered outcomes n outcome a b c h e before now =
-    let more : outcome_lines registered (take (n + 1) outcomes)
-    ≡ outcome_lines registered (take n outcomes) ++ outcome_line registered outcome = ap
-    (outcome_lines registered) (take_more outcomes n outcome h)
-    ∙ flat_map-append (outcome_line registered) (take n outcomes) (get_or outcomes n outcome ∷ [])
-    ∙ ap (λ o. outcome_lines registered (take n outcomes) ++ (outcome_line registered o ++ []))
-    (sym e) ∙ ap (λ l. outcome_lines registered (take n outcomes) ++ l)
-    (append-nil (outcome_line registered outcome)) in
-    subst (Appends a c) (sym more) (Appends-trans a b c _ _ before now)
+    grind (arith, common_steps)

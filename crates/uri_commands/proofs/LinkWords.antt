@@ -1,5 +1,5 @@
 -- References that are parsed one after the other.
-use Rattle.uri_commands.proofs.Common.{◌≡◌, ◌+◌, ◌<◌, ◌++◌, ◌∷◌, ◌∙◌, ℕ, suc, true, List, [], Some, String, string_bytes, length, take, get_or, map, sym, ap, map-append, take-map, take_more, option_map, slice_get, Kind, IsOfKind, is_of_kind, are_of_kind, texts, IsErrorOf, IsErrorOfFirst}
+use Rattle.uri_commands.proofs.Common.{common_steps, arith, ◌≡◌, ◌+◌, ◌<◌, ◌++◌, ◌∷◌, ◌∙◌, ℕ, suc, true, List, [], Some, String, string_bytes, length, take, get_or, map, sym, ap, map-append, take-map, take_more, option_map, slice_get, Kind, IsOfKind, is_of_kind, are_of_kind, texts, IsErrorOf, IsErrorOfFirst}
 use Rattle.std.proofs.lemmas.List.Folds.{list_all-append}
 use Rattle.std.proofs.lemmas.Option.{slice_get-get_or, slice_get-map}
 use Rattle.fluent_uri.specs.declared.ParseError.{ParseError}
@@ -9,9 +9,7 @@ module _ {Z : Type 0} (kind : Kind) (first : List ℕ) (others : List (String Z)
     (same : text ≡ string_bytes word) where
   -- the first word and n of the others, and the next
   next : first ∷ texts (take (n + 1) others) ≡ (first ∷ texts (take n others)) ++ text ∷ []
-  next = ap (λ l. first ∷ map string_bytes l) (take_more others n word below)
-      ∙ ap (λ l. first ∷ l) (map-append string_bytes (take n others) (get_or others n word ∷ []))
-      ∙ ap (λ t. (first ∷ texts (take n others)) ++ t ∷ []) (ap string_bytes (sym is) ∙ sym same)
+  next = grind (arith, common_steps)
 
   pub one-more-reference-is-of-kind : are_of_kind kind (first ∷ texts (take n others)) ≡ true
       → IsOfKind kind text → are_of_kind kind (first ∷ texts (take (n + 1) others)) ≡ true
@@ -38,6 +36,5 @@ module _ {Z : Type 0} (kind : Kind) (first : List ℕ) (others : List (String Z)
       (before after : List A)
       → map text_of before ≡ first ∷ texts (take n others) → text_of reference ≡ text
       → after ≡ before ++ reference ∷ [] → map text_of after ≡ first ∷ texts (take (n + 1) others)
-  one-more-reference-is-kept text_of reference before after kept t e = ap (map text_of) e
-      ∙ map-append text_of before (reference ∷ []) ∙ ap (λ l. l ++ text_of reference ∷ []) kept
-      ∙ ap (λ t. (first ∷ texts (take n others)) ++ t ∷ []) t ∙ sym next
+  one-more-reference-is-kept text_of reference before after kept t e =
+      grind (arith, common_steps, next)

@@ -1,5 +1,5 @@
 -- The error that is returned for a text that is not of its kind.
-use Rattle.uri_commands.proofs.Common.{◌≡◌, ◌↔◌, ◌++◌, List, ℕ, Result, Ok, Err, Some, sym, ap, ◌∙◌, append_assoc, codes, subst, IsOk, IfErr, MatchResult, is_ok, Kind, IsOfKind, IsErrorOf, command_error_text, error_line, CommandError}
+use Rattle.uri_commands.proofs.Common.{common_steps, arith, ◌≡◌, ◌↔◌, ◌++◌, List, ℕ, Result, Ok, Err, Some, sym, ap, ◌∙◌, append_assoc, codes, subst, IsOk, IfErr, MatchResult, is_ok, Kind, IsOfKind, IsErrorOf, command_error_text, error_line, CommandError}
 use Rattle.std.specs.Result.{IsErrAnd}
 use Rattle.fluent_uri.specs.Refusals.{refusal}
 use Rattle.fluent_uri.specs.declared.ParseError.{ParseError}
@@ -31,8 +31,7 @@ pub mapped-parse-error-is-of-text : {A B C : Type 0} (P : B → Type 0) (shown :
 mapped-parse-error-is-of-text P shown kind text (Ok x) mapped result why is error cases was given =
     cc (sym cases ∙ was)
 mapped-parse-error-is-of-text P shown kind text (Err e) mapped result why is error cases was given =
-    let same : why ≡ shown e = subst (λ m. IsErrAnd m (λ y. y ≡ shown e)) was cases in
-    IfErr-of-only-error P result why given (subst P (sym same) (is e error))
+    grind (arith, IfErr-of-only-error)
 
 -- commands: a text that was parsed, and its value mapped, is of its kind
 pub mapped-ok-is-of-kind : {A B E : Type 0} (kind : Kind) (text : List ℕ) (parsed : Result A E)
@@ -45,7 +44,4 @@ mapped-ok-is-of-kind kind text parsed mapped value accepts variant was =
 pub error-line-in-parts : (subject text index : List ℕ) (why : CommandError)
     → subject ++ text ++ index ≡ command_error_text why
     → (codes "error: " ++ subject) ++ ((text ++ index) ++ codes "\n") ≡ error_line why
-error-line-in-parts subject text index why is =
-    sym (append_assoc (codes "error: " ++ subject) (text ++ index) (codes "\n"))
-    ∙ ap (λ l. l ++ codes "\n") (append_assoc (codes "error: ") subject (text ++ index)
-    ∙ ap (λ l. codes "error: " ++ l) (sym (append_assoc subject text index) ∙ is))
+error-line-in-parts subject text index why is = grind (arith, common_steps)

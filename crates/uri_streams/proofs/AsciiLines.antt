@@ -1,5 +1,5 @@
 -- A line that is ASCII, and its text.
-use Rattle.uri_streams.proofs.Common.{◌≡◌, ℕ, Bool, true, false, cond, List, ◌-◌, length, subst, sym, take, IsTrue, IsAscii-take, ends_with_byte, strip_last, IsAscii, end_byte, has_return, line_text, IsCutLine}
+use Rattle.uri_streams.proofs.Common.{arith, ◌≡◌, ℕ, Bool, true, false, cond, List, ◌-◌, length, take, IsTrue, IsAscii-take, ends_with_byte, strip_last, IsAscii, end_byte, has_return, line_text, IsCutLine}
 use Rattle.uri_streams.specs.declared.line_ends.Line.{Line}
 
 -- lines: an ASCII line without its last byte is ASCII
@@ -29,7 +29,4 @@ line_text-ascii is_null line ascii = at (has_return is_null line)
 pub IsCutLine-of-text : (is_null : Bool) (line : Line)
     → line.text.now ≡ line_text is_null line.bytes.now
     → (IsTrue line.is_ascii → IsAscii line.bytes.now) → IsCutLine is_null line
-IsCutLine-of-text is_null line text ascii = record {
-  text = text;
-  ascii = λ known. subst IsAscii (sym text) (line_text-ascii is_null line.bytes.now (ascii known));
-}
+IsCutLine-of-text is_null line text ascii = grind (arith, line_text-ascii)

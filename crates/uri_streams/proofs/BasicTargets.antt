@@ -1,5 +1,5 @@
 -- What the basic algorithm returns is the result of a text.
-use Rattle.uri_streams.proofs.Common.{◌≡◌, ◌≢◌, ℕ, List, Result, Ok, Err, refl, sym, ap, ◌∙◌, subst, IfOk, components, Text, Error, basic_resolution_result, basic_target_result, double_slash_message, result_in, PathStartsWithDoubleSlash}
+use Rattle.uri_streams.proofs.Common.{arith, ◌≡◌, ◌≢◌, ℕ, List, Result, Ok, Err, refl, sym, ap, subst, IfOk, components, Text, Error, basic_resolution_result, basic_target_result, double_slash_message, result_in, PathStartsWithDoubleSlash}
 use Rattle.uri_basic.specs.declared.error.BasicResolveError.{BasicResolveError}
 use Rattle.uri_basic.specs.declared.error.BasicResolveError.TheVariants as errors
 use Rattle.uri_basic.specs.Resolving.{IsBasicError}
@@ -33,6 +33,5 @@ pub basic_target_result-of-returned-error : {E : Type 0} (base given reference :
     → IfOk result (λ line_result. e ≢ errors.OutOfMemory)
     → IfOk result (λ line_result. result_in line_result ≡ basic_target_result base reference)
 basic_target_result-of-returned-error base given reference e (Ok line_result) same is error some =
-    ap result_in error ∙ basic_target_result-of-error base reference e
-    (subst (λ b. IsBasicError (components b) (components reference) e) same is) some
+    grind (arith, basic_target_result-of-error, components)
 basic_target_result-of-returned-error base given reference e (Err failure) same is error some = tt

@@ -1,5 +1,5 @@
 -- What `check` writes for each line, and for the lines of an input.
-use Rattle.uri_streams.proofs.Common.{◌≡◌, ◌+◌, ◌++◌, ◌⊎◌, ℕ, Bool, true, false, cond, List, [], ◌∷◌, refl, ap, sym, subst, ◌∙◌, inl, inr, length, Option, Some, None, not, ◌&&◌, nat_lt, Result, Ok, Err, slice_get, if◌then◌else◌, AllPass, concat, filter, list_all, is_utf8, list_all-from_AllPass, and_parts, is_of_kind, Cut, cut_at_field, cut_of, cut_without_other_fields, field_cut, fields_of, end_byte, line_text, error_output, is_error, is_last, is_stop, line_cut, line_output, line_result, output_of, processed, processed_lines, result_output, kind_named, LineResult, passed_if, passes_check, Known, cut_result, given_text, KindName, NoField, NotUtf8, TooLong, Job}
+use Rattle.uri_streams.proofs.Common.{arith, ◌≡◌, ◌+◌, ◌++◌, ◌⊎◌, ℕ, Bool, true, false, cond, List, [], ◌∷◌, refl, ap, sym, subst, ◌∙◌, inl, inr, length, Option, Some, None, not, ◌&&◌, nat_lt, Result, Ok, Err, slice_get, if◌then◌else◌, AllPass, concat, filter, list_all, is_utf8, list_all-from_AllPass, and_parts, is_of_kind, cut_at_field, cut_of, cut_without_other_fields, field_cut, fields_of, end_byte, line_text, error_output, is_error, is_last, is_stop, line_cut, line_output, line_result, output_of, processed, processed_lines, result_output, kind_named, LineResult, passed_if, passes_check, Known, cut_result, given_text, KindName, NoField, NotUtf8, TooLong, Job}
 use Rattle.uri_streams.specs.Checks.{AreMergedFrom, checking, has_text_of_kind, is_passed, is_text_of_kind, is_within_maximum, lines_for, lines_within_maximum, output_for, passes_over_errors}
 use Rattle.uri_streams.specs.declared.fault.NoText.{NoText}
 use Rattle.uri_streams.specs.declared.job.Field.{Field}
@@ -127,15 +127,7 @@ module _ (job : Job) (kind : KindName) (is_inverted : Bool) where
       → is_within_maximum job line ≡ false → passes_over_errors job.errors ≡ true
       → WritesIfPassed number known line
   WritesIfPassed-past number known line past over =
-      let b = passes (has_text_of_kind job kind line) in
-      let is = line_cut-past-maximum job line past in
-      let none = error_output-passed-over job.errors in (
-        ap (λ (c : Cut). result_output job.errors line c.before (cut_result check known c.text).0
-            (processed check number known line).after) is ∙ (none _ _ _ over).0
-            ∙ sym (ap (λ w. if w && b then line else []) past),
-        ap (λ (c : Cut). is_error (cut_result check known c.text).0
-            && is_stop job.errors) is ∙ (none [] [] [] over).1,
-      )
+      grind (arith, line_cut-past-maximum, error_output-passed-over)
 
   -- no line that is too long ends the run or is written, or there is none
   abbrev pub IsQuiet : List (List ℕ) → Type 0

@@ -1,15 +1,16 @@
 -- What proofs import from std, from lower crates and from `specs/`: the modules that three
 -- files or more use.
-pub use Rattle.std.proofs.BufReadLemmas.{take_through_nonempty, Consumes_through, Consumes_shown, zero_unless_positive, IsAtEnd-of_take_through}
+pub use Rattle.std.proofs.BufReadLemmas.{take_through_nonempty, Consumes_through, Consumes_shown, zero_unless_positive}
 pub use Rattle.std.proofs.Common.{◌≡◌, ℕ, Bool, true, false, cond, List, ◌-◌, length, subst, sym, take, ◌≢◌, Result, refl, ap, ◌∙◌, ◌+◌, ◌++◌, ◌⊎◌, [], ◌∷◌, inl, inr, Option, Some, None, ◌<◌, ◌≤◌, arith, ⊎_elim, length-take-le, take_all, lt-ltb, ltb-true, ltb-false, drop, get_or, get_or-take, eqb-true, take-take, All, true≢false, suc, zero, eqb, length-drop, add-one, rules, append_assoc, ◌==◌, ◌%◌, length-append, IfSome, min, eq-eqb, zero-add, ◌^◌, string_bytes, bit_or, replicate, w8}
 pub use Rattle.std.proofs.KnownBytes.{Appends-kept, Appends-nil, Appends-trans, Keeps-refl, Keeps-trans, Consumes-nil, Consumes-kept, Consumes-trans}
-pub use Rattle.std.proofs.Math.Seq.{drop-cons, drop-length, take-add, take-suc, take-append-add, get_or-append_right, take-nil}
+pub use Rattle.std.proofs.Math.Seq.{drop-cons, drop-length, take-add, take-suc, take-append-add, take-nil}
 pub use Rattle.std.proofs.lemmas.Bool.{and_parts, false_from_ne_true, cond-true, cond-false, and_from, cases_lt, both_ways, not-true}
 pub use Rattle.std.proofs.lemmas.Bool.Decides.{nat_tests, Decides-below_and, same_from_decides, Decides-like}
+pub use Rattle.std.proofs.lemmas.Grind.{common_steps}
 pub use Rattle.std.proofs.lemmas.List.{drop_more, append-nil, take-append-drop, take_rest, take-append-le, length-take, nil_from_length, drop-drop, length-map, map-id}
 pub use Rattle.std.proofs.lemmas.List.Concat.{flat_map-append}
 pub use Rattle.std.proofs.lemmas.List.Elements.{All-nil, All-from_get_or, recursion_from_All, All-get_or, All-more, All-append}
-pub use Rattle.std.proofs.lemmas.List.Folds.{list_all-append, list_any-append}
+pub use Rattle.std.proofs.lemmas.List.Folds.{list_all-append}
 pub use Rattle.std.proofs.lemmas.List.Sums.{list_all-from_AllPass, sum_by-append}
 pub use Rattle.std.proofs.lemmas.Str.{IsAscii-take, IsUtf8-append, IsUtf8-encode, IsUtf8-nil, IsUtf8-from_is_utf8, encodes-chars, chars-append, chars-IsAscii, chars-encodes, chars-nil, IsUtf8-from_ascii, scalars-chars, is_utf8-from_IsUtf8, encode_ascii}
 pub use Rattle.std.specs.Char.{is_ascii_hexdigit, IsScalar, is_ascii_digit}
@@ -33,7 +34,7 @@ pub use Rattle.uri_commands.specs.Messages.{error_text, resolve_error_text}
 pub use Rattle.uri_commands.specs.Prefixes.{AppendsPrefix}
 pub use Rattle.uri_commands.specs.declared.kinds.KindName.{KindName}
 pub use Rattle.uri_query.specs.Pairs.{decode_pair, NameAndValue, pair_texts}
-pub use Rattle.uri_streams.specs.Causes.{caused_by_output, is_input_cause, is_output_cause}
+pub use Rattle.uri_streams.specs.Causes.{is_input_cause, is_output_cause}
 pub use Rattle.uri_streams.specs.Fields.{Cut, cut_at_field, cut_of, cut_without_other_fields, fields_of, IsFieldStart, fields_after_delimiters, fields_before_delimiters, no_text_message, bounded_cut}
 unfoldable pub use Rattle.uri_streams.specs.Fields.{field_cut}
 pub use Rattle.uri_streams.specs.Json.{host_word, member, member_before, member_after, authority_members}
@@ -47,7 +48,7 @@ pub use Rattle.uri_streams.specs.Outputs.{error_output, is_error, is_last, is_st
 unfoldable pub use Rattle.uri_streams.specs.Outputs.{processed_lines}
 pub use Rattle.uri_streams.specs.Queries.{pairs_of_query, pair_json, following_pairs_json, pairs_json, hex_digit, control_json, escaped_char, escaped_text}
 unfoldable pub use Rattle.uri_streams.specs.Queries.{query_json}
-pub use Rattle.uri_streams.specs.Results.{Text, Error, basic_resolution_result, double_slash_message, LineResult, passed_if, parse_message, parsed_result, resolution_result, NoLine, target_result_by}
+pub use Rattle.uri_streams.specs.Results.{Text, Error, basic_resolution_result, double_slash_message, LineResult, passed_if, parse_message, parsed_result, resolution_result, target_result_by}
 unfoldable pub use Rattle.uri_streams.specs.Results.{basic_target_result, passes_check, mend_result, normalize_result, target_result, relativize_result, resolve_result, query_result, parse_result}
 pub use Rattle.uri_streams.specs.Returned.{result_in, IsResult, line_error_message, cut_in}
 pub use Rattle.uri_streams.specs.Runs.{ErrorOutput, Reports, StopsAfterPrefix, WritesOutput, ReportsPrefix, WritesWholeLines, Sees, error_output_of, LeavesRest, left_after}

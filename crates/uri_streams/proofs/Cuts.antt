@@ -1,5 +1,5 @@
 -- A line that is kept in part is an error as the whole is: it is too long either way.
-use Rattle.uri_streams.proofs.Common.{◌≡◌, ◌<◌, ◌≤◌, ◌+◌, ◌-◌, ℕ, Bool, true, false, cond, List, refl, ap, sym, ◌∙◌, length, take, arith, inl, inr, ◌++◌, ◌⊎◌, ⊎_elim, length-take-le, take_all, lt-ltb, ltb-true, ltb-false, Err, nat_lt, ends_with_byte, strip_last, Cut, cut_without_other_fields, end_byte, has_return, line_text, bytes_output, line_cut, result_output, Known, cut_result, TooLong, Job}
+use Rattle.uri_streams.proofs.Common.{◌≡◌, ◌<◌, ◌≤◌, ◌+◌, ◌-◌, ℕ, Bool, true, false, cond, List, refl, ap, sym, ◌∙◌, length, take, arith, inl, inr, ◌⊎◌, ⊎_elim, length-take-le, take_all, lt-ltb, ltb-true, ltb-false, Err, nat_lt, ends_with_byte, strip_last, Cut, cut_without_other_fields, end_byte, has_return, line_text, bytes_output, line_cut, Known, TooLong, Job}
 
 -- lines: without its end, a line is one byte shorter at most
 stripped : (byte : ℕ) (xs : List ℕ) → length xs ≤ length (strip_last byte xs) + 1
@@ -79,10 +79,4 @@ line_cut-if-StandsFor job line whole stands =
 -- lines: for bytes that stand for a line the output is that of the line
 pub bytes_output-if-StandsFor : (job : Job) (known : Known) (line whole end : List ℕ)
     → StandsFor job line whole → bytes_output job known line end ≡ bytes_output job known whole end
-bytes_output-if-StandsFor job known line whole end stands =
-    ⊎_elim (λ same. ap (λ l. bytes_output job known l end) same)
-    (λ long. ap (output_for line) long.0 ∙ sym (ap (output_for whole) long.1)) stands
-  where
-    output_for : List ℕ → Cut → List ℕ
-    output_for l cut = result_output job.errors l cut.before
-        (cut_result job known cut.text).0 (cut.after ++ end)
+bytes_output-if-StandsFor job known line whole end stands = grind arith

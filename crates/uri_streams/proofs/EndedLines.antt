@@ -1,5 +1,5 @@
 -- The text and the end of a line that its end byte ends.
-use Rattle.uri_streams.proofs.Common.{◌≡◌, ◌<◌, ◌≤◌, ◌-◌, ℕ, Bool, true, false, cond, List, [], ◌∷◌, refl, ap, sym, ◌∙◌, arith, drop, get_or, get_or-take, length, length-take-le, ltb-true, ltb-false, eqb-true, take, take-take, take_all, ends_with_byte, strip_last, ◌&&◌, ◌==◌, nat_lt, not, and_parts, drop_more, length-drop, end_byte, has_return, line_text, line_ending}
+use Rattle.uri_streams.proofs.Common.{common_steps, ◌≡◌, ◌<◌, ◌≤◌, ◌-◌, ℕ, Bool, true, false, cond, List, [], ◌∷◌, refl, ap, sym, ◌∙◌, arith, drop, get_or, get_or-take, length, length-take-le, ltb-true, ltb-false, eqb-true, take, take-take, ends_with_byte, strip_last, ◌&&◌, ◌==◌, nat_lt, not, and_parts, drop_more, end_byte, has_return, line_text, line_ending}
 use mir.Val.{bool_byte}
 use Rattle.std.proofs.Math.ListN.{drop_of_length-le}
 
@@ -47,9 +47,8 @@ ends_with_return-before-newline bs ended = at (nat_lt 0 (length text)) refl
 has_return-of-ended : (is_null : Bool) (bs : List ℕ) → ends_with_byte (end_byte is_null) bs ≡ true
     → has_return is_null bs ≡ (not is_null && (get_or bs (length bs - 1 - 1) 0 == 13))
 has_return-of-ended true bs ended = refl
-has_return-of-ended false bs ended = ap (λ b. b && ends_with_byte 13 (strip_last 10 bs)) ended
-    ∙ ap (ends_with_byte 13) (strip_last-of-ended 10 bs ended)
-    ∙ ends_with_return-before-newline bs ended
+has_return-of-ended false bs ended =
+    grind (arith, strip_last-of-ended, ends_with_return-before-newline)
 
 -- lines: the last byte of bytes, as a list
 drop-but-last : (bs : List ℕ) → 0 < length bs
@@ -122,10 +121,7 @@ pub text-before-end : (is_null is_return : Bool) (bs : List ℕ) (before : ℕ)
     → ends_with_byte (end_byte is_null) bs ≡ true → before ≡ length bs - 1 - 1
     → is_return ≡ (not is_null && (get_or bs before 0 == 13))
     → take (length bs - 1 - bool_byte is_return) bs ≡ line_text is_null bs
-text-before-end is_null is_return bs before ended first is =
-    ap (λ n. take (length bs - 1 - n) bs) (flag-is-number is_return) ∙ ap
-    (λ b. take (length bs - 1 - cond b 1 0) bs)
-    (is ∙ ap (λ i. not is_null && (get_or bs i 0 == 13)) first) ∙ text_of is_null bs ended
+text-before-end is_null is_return bs before ended first is = grind (arith, flag-is-number, text_of)
 
 -- lines: the bytes after the text of a line are what ends its output
 pub end-after-text : (is_null is_return : Bool) (bs : List ℕ) (before : ℕ)
@@ -134,8 +130,4 @@ pub end-after-text : (is_null is_return : Bool) (bs : List ℕ) (before : ℕ)
     (length bs - (length bs - 1 - bool_byte is_return))
     (drop (length bs - 1 - bool_byte is_return) bs) ≡ line_ending is_null (has_return is_null bs)
 end-after-text is_null is_return bs before ended first is =
-    let start = length bs - 1 - bool_byte is_return in
-    take_all (length bs - start) (drop start bs) (omega (arith, length-drop start bs))
-    ∙ ap (λ n. drop (length bs - 1 - n) bs) (flag-is-number is_return) ∙ ap
-    (λ b. drop (length bs - 1 - cond b 1 0) bs)
-    (is ∙ ap (λ i. not is_null && (get_or bs i 0 == 13)) first) ∙ end_of is_null bs ended
+    grind (arith, common_steps, flag-is-number, end_of)

@@ -1,5 +1,5 @@
 -- What a writer holds, and what was reported, after a failure.
-use Rattle.std.proofs.Common.{◌≡◌, ◌≢◌, ◌++◌, ℕ, List, [], All, refl, ap, sym, ◌∙◌, subst, Option, Some, None, true≢false}
+use Rattle.std.proofs.Common.{arith, ◌≡◌, ◌≢◌, ◌++◌, ℕ, List, [], All, refl, ap, sym, ◌∙◌, subst, Option, Some, None, true≢false}
 use Rattle.std.proofs.lemmas.List.{append-nil}
 use Rattle.std.proofs.lemmas.List.Concat.{flat_map-append}
 use Rattle.std.proofs.lemmas.List.Elements.{All-nil}
@@ -12,7 +12,7 @@ use Rattle.std.specs.List.{flat_map}
 use Rattle.std.specs.Result.{IsErrAnd}
 use Rattle.uri_commands.specs.Sinks.{KeepsFinalError}
 use Rattle.uri_commands.specs.declared.sink.Sink.{Sink}
-use Rattle.uri_streams.specs.Causes.{caused_by_output, is_input_cause, is_output_cause}
+use Rattle.uri_streams.specs.Causes.{is_input_cause, is_output_cause}
 use Rattle.uri_streams.specs.Lines.{end_byte, lines_of}
 use Rattle.uri_streams.specs.Outputs.{ProcessedLine, processed_lines, processed_in, line_output, errors_of, line_report, output_of}
 use Rattle.uri_streams.specs.Runs.{ErrorOutput, Reports, StopsAfterPrefix, WritesOutput, ReportsPrefix, WritesWholeLines}
@@ -51,21 +51,7 @@ module _ (job : Job) (number : ℕ) (task : Task) (xs : List ℕ) (b h i : Optio
       → Appends h j (output_of job so.lines) → Reports d f (errors_of job so.lines)
       → WritesWholeLines job xs left h j d f
   left_with None j f part consumes none written reported = absurd consumes
-  left_with (Some later) j f part consumes none written reported = (
-    so.lines,
-    so.known,
-    part,
-    later,
-    written,
-    reported,
-    so.whole
-        ∙ ap (λ l. so.lines ++ processed_lines job number so.known
-        (lines_of (end_byte job.is_null) l)) consumes
-        ∙ ap (λ n. so.lines ++ processed_lines job n so.known
-        (lines_of (end_byte job.is_null) (part ++ later))) (sym so.count),
-    refl,
-    none,
-  )
+  left_with (Some later) j f part consumes none written reported = grind arith
 
 -- streams: where a line fails after the lines before it were written, the output is a prefix;
 -- a, b, c: what is left to read, h, i, j: what the writer holds, d, e, f: the error output,
@@ -184,9 +170,4 @@ pub KeepsFailures-in-writing : {T R W : Type 0} (result : Result T Cause)
     → FailsInWriting result writer_mid writer_new
     → KeepsFailures result reader reader_new writer writer_new
 KeepsFailures-in-writing result reader reader_new writer writer_mid writer_new same same' fails =
-    record {
-      reading = same ∙ sym (ap (λ b. b || reader.has_failed) fails.reading);
-      writing = fails.writing ∙ ap (λ b. caused_by_output result || b) same';
-      read_error = λ input. absurd (true≢false (sym input ∙ fails.reading));
-      write_error = fails.write_error;
-    }
+    grind arith

@@ -165,11 +165,7 @@ pub field_cut-found : (d k start end : ℕ) (line before text after : List ℕ)
     cut ≡ field_cut d k line)
 unfolding field_cut
 field_cut-found d k start end line before text after is found rest before_is text_is after_is =
-    (λ i. record {
-      before = (before_is ∙ is.before_it) i;
-      text = Ok (text_is i);
-      after = (after_is ∙ rest) i;
-    }) ∙ sym (ap (cut_at_field d k (fields_of d line)) found)
+    grind arith
 
 -- fields: a line without field k gives the error that says so; d: the delimiter
 pub field_cut-none : (d k : ℕ) (line : List ℕ) → slice_get (fields_of d line) k ≡ None

@@ -1,5 +1,5 @@
 -- The value of a reference has its components, and each under a name of its own.
-use Rattle.uri_streams.proofs.Common.{◌≡◌, ℕ, Bool, true, false, List, [], ◌∷◌, refl, sym, ap, ◌∙◌, rules, codes, Option, Some, None, IfSome, option_map, option_and_then, map, ◌&&◌, bytes_eq, if◌then◌else◌, nat_lt, unwrap_or, AllByRecursion, IsDistinct, list_all, chars, encode_utf8_all, and_parts, Components, host_word, JsonValue, Object, Members, EndOfObject, Member, is_unescaped, text_members, with_present, present, named_components, components_value}
+use Rattle.uri_streams.proofs.Common.{arith, ◌≡◌, ℕ, Bool, true, false, List, [], ◌∷◌, refl, sym, ap, ◌∙◌, rules, codes, Option, Some, None, IfSome, option_map, option_and_then, map, ◌&&◌, bytes_eq, if◌then◌else◌, nat_lt, unwrap_or, AllByRecursion, IsDistinct, list_all, chars, encode_utf8_all, and_parts, Components, host_word, JsonValue, Object, Members, EndOfObject, Member, is_unescaped, text_members, with_present, present, named_components, components_value}
 use Rattle.fluent_uri.specs.Authority.{authority_parts}
 use Rattle.fluent_uri.specs.Hosts.{host_kind}
 use Rattle.uri_streams.proofs.JsonStringTexts.{IsPlain, ascii-is-plain}
@@ -21,10 +21,7 @@ names-are-in-their-members : (named : List (List ℕ × List ℕ)) → AreUtf8 n
     → named_in (text_members named) ≡ named
 names-are-in-their-members [] h = refl
 names-are-in-their-members (one ∷ others) (n, t, h) =
-    let more = named_in (text_members others) in
-    ap (λ x. (x, encode_utf8_all (chars one.1)) ∷ more) (text-is-in-its-value one.0 n)
-    ∙ ap (λ x. (one.0, x) ∷ more) (text-is-in-its-value one.1 t)
-    ∙ ap (λ x. one ∷ x) (names-are-in-their-members others h)
+    grind (arith, chars, text-is-in-its-value, names-are-in-their-members others h)
 
 -- lines of JSON: the text with this name
 abbrev find_named : List ℕ → List (List ℕ × List ℕ) → Option (List ℕ)
@@ -78,25 +75,7 @@ components_in named = record {
 -- lines of JSON: each component is found by its name
 components-are-found-by-name : (p : Components) → components_in (present (named_components p)) ≡ p
 components-are-found-by-name p =
-    let all = named_components p in
-    let found = λ (name : List ℕ). present-text-is-found name all in
-    let scheme : find_named (codes "scheme") (present all) ≡ p.scheme =
-    found (codes "scheme") ∙ text-without-others-is-first p.scheme in
-    let authority : find_named (codes "authority") (present all) ≡ p.authority =
-    found (codes "authority") ∙ text-without-others-is-first p.authority in
-    let path : unwrap_or (find_named (codes "path") (present all)) [] ≡ p.path =
-    ap (λ o. unwrap_or o []) (found (codes "path")) in
-    let query : find_named (codes "query") (present all) ≡ p.query =
-    found (codes "query") ∙ text-without-others-is-first p.query in
-    let fragment : find_named (codes "fragment") (present all) ≡ p.fragment =
-    found (codes "fragment") ∙ text-without-others-is-first p.fragment in
-    λ i. record {
-      scheme = scheme i;
-      authority = authority i;
-      path = path i;
-      query = query i;
-      fragment = fragment i;
-    }
+    grind (arith, present-text-is-found, present, text-without-others-is-first)
 
 -- lines of JSON: whether the names need no escape
 abbrev are_plain_names : List (List ℕ × Option (List ℕ)) → Bool

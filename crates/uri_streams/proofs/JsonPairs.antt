@@ -1,5 +1,5 @@
 -- The line of JSON for a query represents its pairs, and determines them.
-use Rattle.uri_streams.proofs.Common.{◌≡◌, ℕ, List, [], ◌∷◌, ◌++◌, append_assoc, refl, sym, ap, ◌∙◌, subst, codes, IsUtf8, chars, encode_utf8_all, encodes-chars, NameAndValue, JsonValue, Array, String, Elements, EndOfArray, Element, IsStructural, RepresentsValue, RepresentsElements, RepresentsMoreElements, IsJsonTextOf, pair_value, pair_elements, pair_json, following_pairs_json, pairs_json}
+use Rattle.uri_streams.proofs.Common.{arith, ◌≡◌, ℕ, List, [], ◌∷◌, ◌++◌, append_assoc, refl, sym, ap, ◌∙◌, subst, codes, IsUtf8, chars, encode_utf8_all, encodes-chars, NameAndValue, JsonValue, Array, String, Elements, EndOfArray, Element, IsStructural, RepresentsValue, RepresentsElements, RepresentsMoreElements, IsJsonTextOf, pair_value, pair_elements, pair_json, following_pairs_json, pairs_json}
 use Rattle.uri_streams.proofs.JsonStringTexts.{AreTextOf, ◌and_then◌, nothing-is-text, mark-is-structural, escaped-string-is-text, value-is-json-text}
 
 -- lines of JSON: names and values in UTF-8
@@ -70,10 +70,7 @@ pairs-are-in-their-value : (pairs : List NameAndValue) → AreUtf8 pairs
     → pairs_in (Array (pair_elements pairs)) ≡ pairs
 pairs-are-in-their-value [] h = refl
 pairs-are-in-their-value (pair ∷ pairs) (u, v, h) =
-    let others = pairs_in_elements (pair_elements pairs) in
-    ap (λ x. (x, encode_utf8_all (chars pair.1)) ∷ others) (text-is-in-its-value pair.0 u)
-    ∙ ap (λ x. (pair.0, x) ∷ others) (text-is-in-its-value pair.1 v)
-    ∙ ap (λ x. pair ∷ x) (pairs-are-in-their-value pairs h)
+    grind (arith, chars, text-is-in-its-value, pairs-are-in-their-value pairs h)
 
 -- lines of JSON: pairs of equal values are equal
 pub equal-arrays-have-equal-pairs : (xs ys : List NameAndValue) → AreUtf8 xs → AreUtf8 ys

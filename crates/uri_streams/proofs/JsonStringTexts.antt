@@ -1,5 +1,5 @@
 -- Bytes that are texts of JSON's rules; those of strings, with or without escapes.
-use Rattle.uri_streams.proofs.Common.{◌≡◌, ℕ, zero, suc, ◌<◌, ◌%◌, ◌&&◌, ◌==◌, Bool, true, false, List, [], ◌∷◌, ◌++◌, append-nil, refl, sym, ap, ◌∙◌, subst, arith, inl, inr, codes, Some, nat_lt, encode_utf8, if◌then◌else◌, is_ascii_hexdigit, IsScalar, list_all, flat_map, IsUtf8, IsAscii, chars, all_scalars, and_parts, and_from, eqb-true, ltb-true, nat_tests, Decides-below_and, chars-append, chars-IsAscii, chars-encodes, chars-nil, IsUtf8-append, IsUtf8-nil, IsUtf8-encode, IsUtf8-from_ascii, scalars-chars, JsonValue, Rule, ◌then◌, Is, IsStructural, is_unescaped, escaped_by, hex_number, RepresentsCharacter, RepresentsCharacters, RepresentsString, RepresentsValue, IsJsonTextOf, hex_digit, control_json, escaped_char, escaped_text}
+use Rattle.uri_streams.proofs.Common.{common_steps, ◌≡◌, ℕ, zero, suc, ◌<◌, ◌%◌, ◌&&◌, ◌==◌, Bool, true, false, List, [], ◌∷◌, ◌++◌, append-nil, refl, sym, ap, ◌∙◌, subst, arith, inl, inr, codes, Some, nat_lt, encode_utf8, if◌then◌else◌, is_ascii_hexdigit, IsScalar, list_all, flat_map, IsUtf8, IsAscii, chars, all_scalars, and_parts, and_from, eqb-true, ltb-true, nat_tests, Decides-below_and, chars-append, chars-IsAscii, chars-encodes, chars-nil, IsUtf8-append, IsUtf8-nil, IsUtf8-encode, IsUtf8-from_ascii, scalars-chars, JsonValue, Rule, ◌then◌, Is, IsStructural, is_unescaped, escaped_by, hex_number, RepresentsCharacter, RepresentsCharacters, RepresentsString, RepresentsValue, IsJsonTextOf, hex_digit, control_json, escaped_char, escaped_text}
 use Rattle.std.specs.Int.{is_in_range}
 use Rattle.std.proofs.lemmas.Str.Ascii.{IsAscii-nil, IsAscii-cons}
 
@@ -199,7 +199,4 @@ plain-string-is-text text plain =
 -- writing JSON: bytes that represent a value are a JSON text
 pub value-is-json-text : (v : JsonValue) (bytes : List ℕ) → AreTextOf (RepresentsValue v) bytes
     → IsJsonTextOf v bytes
-value-is-json-text v bytes h = (
-  h.utf8,
-  ([], chars bytes, refl, refl, (chars bytes, [], sym (append-nil (chars bytes)), h.text, refl)),
-)
+value-is-json-text v bytes h = grind (arith, common_steps, chars)

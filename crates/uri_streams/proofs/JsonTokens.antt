@@ -126,9 +126,8 @@ some-digits-are-of-numbers = then-is-of-numbers
 -- reading JSON: the integer of a number has characters of numbers only
 integer-is-of-numbers : (x : List ℕ) → IsInteger x → AreOfNumbers x
 integer-is-of-numbers x (inl e) = ap (list_all is_number_character) e
-integer-is-of-numbers x (inr h) = then-is-of-numbers
-    (one-is-of-numbers (codes "123456789") (λ c e. grind (arith, nat_tests)))
-    digits-are-of-numbers x h
+integer-is-of-numbers x (inr h) =
+    grind (arith, then-is-of-numbers, one-is-of-numbers, digits-are-of-numbers)
 
 -- reading JSON: a number has characters of numbers only
 number-is-of-numbers : (x : List ℕ) → IsNumber x → AreOfNumbers x

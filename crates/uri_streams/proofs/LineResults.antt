@@ -1,5 +1,5 @@
 -- The result of bytes, and that of the text that they are.
-use Rattle.uri_streams.proofs.Common.{◌≡◌, ◌∙◌, ℕ, Bool, false, true, List, ap, sym, IsUtf8, if◌then◌else◌, is_utf8, IsUtf8-from_is_utf8, is_utf8-from_IsUtf8, false_from_ne_true, LineResult, Known, bytes_result, given_text, no_text_result, text_kind, text_result, NotUtf8, Job}
+use Rattle.uri_streams.proofs.Common.{arith, ◌≡◌, ℕ, Bool, false, true, List, ap, sym, IsUtf8, if◌then◌else◌, is_utf8, IsUtf8-from_is_utf8, is_utf8-from_IsUtf8, false_from_ne_true, LineResult, Known, bytes_result, given_text, no_text_result, text_kind, text_result, NotUtf8, Job}
 use Rattle.std.specs.Str.Lossy.{utf8_valid_len}
 use Rattle.uri_commands.specs.MendedLinks.{mended_link}
 
@@ -32,15 +32,12 @@ pub bytes_result-of-mended : (job : Job) (known : Known) (text bytes : List ℕ)
     ≡ bytes_result job known bytes
 unfolding given_result_if
 bytes_result-of-mended job known text bytes is is_mended =
-    ap (λ t. text_result job.command known (mended_link (text_kind job.command) t)) is.0
-    ∙ sym (ap (given_result_if job known bytes) is_mended)
-    ∙ bytes_result-of-utf8 job known bytes is.1
+    grind (arith, given_result_if, bytes_result-of-utf8)
 
 -- lines: the result of a text that is not mended is that of the bytes that it is of
 pub bytes_result-of-text : (job : Job) (known : Known) (text bytes : List ℕ)
     → (text ≡ bytes) × IsUtf8 bytes → job.is_mended ≡ false
     → text_result job.command known text ≡ bytes_result job known bytes
 unfolding given_result_if
-bytes_result-of-text job known text bytes is is_mended = ap (text_result job.command known) is.0
-    ∙ sym (ap (given_result_if job known bytes) is_mended)
-    ∙ bytes_result-of-utf8 job known bytes is.1
+bytes_result-of-text job known text bytes is is_mended =
+    grind (arith, given_result_if, bytes_result-of-utf8)

@@ -1,9 +1,9 @@
 -- What `mended` returned of a link is the result of its line.
-use Rattle.uri_streams.proofs.Common.{◌≡◌, ◌≢◌, ℕ, Bool, true, false, true≢false, List, Result, Ok, Err, refl, ap, sym, ◌∙◌, IfOk, if◌then◌else◌, string_bytes, Kind, ParseError, is_output_failure, kind_named, error_text, KindName, LineResult, Text, Error, mend_result, parse_message, result_in, Refused}
+use Rattle.uri_streams.proofs.Common.{arith, ◌≡◌, ◌≢◌, ℕ, Bool, true, false, true≢false, List, Result, Ok, Err, refl, ap, sym, ◌∙◌, IfOk, if◌then◌else◌, string_bytes, Kind, ParseError, is_output_failure, kind_named, error_text, KindName, LineResult, Text, Error, mend_result, parse_message, result_in, Refused}
 use Rattle.std.specs.Prelude.{String}
 use Rattle.uri_commands.specs.Commands.{Mend}
 use Rattle.uri_commands.specs.MendedLinks.{mended_link}
-use Rattle.uri_commands.specs.Refusals.{IsErrorOfCommand, command_error_text}
+use Rattle.uri_commands.specs.Refusals.{IsErrorOfCommand}
 use Rattle.uri_commands.specs.declared.refusal.CommandError.{CommandError}
 use Rattle.uri_commands.specs.declared.refusal.CommandError.TheVariants.{Text as TextError, Base, Reference, Target, OutOfMemory, OutputFailed}
 use Rattle.uri_mend.specs.Mending.{can_be_mended, mended_text}
@@ -50,8 +50,7 @@ mend_result-of-error : (kind : Kind) (text : List ℕ) (e : ParseError)
     → Error (error_text e) ≡ mend_result kind text
 unfolding mend_result mend_result_if
 mend_result-of-error kind text e refused =
-    ap Error (error_text-is-parse_message kind (trimmed_link text) e refused.1)
-    ∙ sym (ap (mend_result_if kind text) refused.0)
+    grind (arith, error_text-is-parse_message, mend_result_if)
 
 -- lines: an error of mending, but for lack of memory, is the error of the line
 pub mend_result-of-returned-error : {E : Type 0} (name : KindName) (text : List ℕ)
@@ -62,9 +61,7 @@ pub mend_result-of-returned-error : {E : Type 0} (name : KindName) (text : List 
     → IfOk result (λ line_result. result_in line_result ≡ mend_result (kind_named name) text)
 unfolding IsRejection
 mend_result-of-returned-error name text why (Ok line_result) is written error some =
-    let (parse_error, same, refused) = IsRejection-of-error name text why is written some in
-    ap result_in error ∙ ap (λ e. Error (command_error_text e)) same
-    ∙ mend_result-of-error (kind_named name) text parse_error refused
+    grind (arith, IsRejection-of-error, mend_result-of-error, kind_named)
 mend_result-of-returned-error name text why (Err failure) is written error some = tt
 
 -- lines: what a link is mended to, if it can be mended or not
@@ -87,6 +84,5 @@ pub mended_link-of-trimmed : {A E : Type 0} (name : KindName) (text : List ℕ) 
     → IfOk result (λ link. string_bytes link ≡ mended_link (kind_named name) text)
 unfolding IsRejection mended_link mended_link_if
 mended_link-of-trimmed name text why (Ok link) is written trimmed some =
-    let (error, same, refused) = IsRejection-of-error name text why is written some in
-    trimmed ∙ sym (ap (mended_link_if (kind_named name) text) refused.0)
+    grind (arith, IsRejection-of-error, kind_named)
 mended_link-of-trimmed name text why (Err failure) is written trimmed some = tt

@@ -1,5 +1,5 @@
 -- The lines of an input, some of them put together, and lists of lines that are merged.
-use Rattle.uri_streams.proofs.Common.{◌≡◌, ◌++◌, ◌⊎◌, ℕ, Bool, true, false, cond, eqb, List, [], ◌∷◌, refl, ap, sym, subst, ◌∙◌, inl, inr, append-nil, not, ◌&&◌, concat, filter, lines_of, prepend_to_first_line}
+use Rattle.uri_streams.proofs.Common.{common_steps, arith, ◌≡◌, ◌++◌, ◌⊎◌, ℕ, Bool, true, false, cond, eqb, List, [], ◌∷◌, refl, ap, sym, subst, ◌∙◌, inl, inr, not, ◌&&◌, concat, filter, lines_of, prepend_to_first_line}
 use Rattle.uri_streams.specs.Checks.{AreMergedFrom}
 
 -- lines: a byte is put before the first of some, and so before them all
@@ -38,24 +38,17 @@ AreLines end (line ∷ lines) =
 lines_of-after-ended-line : (end : ℕ) (line ys : List ℕ) → IsEnded end line
     → lines_of end (line ++ ys) ≡ line ∷ lines_of end ys
 lines_of-after-ended-line end [] ys is = absurd is
-lines_of-after-ended-line end (x ∷ xs) ys (inl last) = ap (λ b. cond b
-    ((x ∷ []) ∷ lines_of end (xs ++ ys)) (prepend_to_first_line x (lines_of end (xs ++ ys)))) last.0
-    ∙ ap (λ l. (x ∷ []) ∷ lines_of end (l ++ ys)) last.1
-    ∙ sym (ap (λ l. (x ∷ l) ∷ lines_of end ys) last.1)
-lines_of-after-ended-line end (x ∷ xs) ys (inr more) = ap (λ b. cond b
-    ((x ∷ []) ∷ lines_of end (xs ++ ys)) (prepend_to_first_line x (lines_of end (xs ++ ys)))) more.0
-    ∙ ap (prepend_to_first_line x) (lines_of-after-ended-line end xs ys more.1)
+lines_of-after-ended-line end (x ∷ xs) ys (inl last) = grind arith
+lines_of-after-ended-line end (x ∷ xs) ys (inr more) =
+    grind (arith, lines_of-after-ended-line end xs ys more.1)
 
 -- lines: one that is not ended is the only line
 lines_of-unended-line : (end : ℕ) (line : List ℕ) → IsUnended end line
     → lines_of end line ≡ line ∷ []
 lines_of-unended-line end [] is = absurd is
-lines_of-unended-line end (x ∷ xs) (lacks, inl none) =
-    ap (λ b. cond b ((x ∷ []) ∷ lines_of end xs) (prepend_to_first_line x (lines_of end xs))) lacks
-    ∙ ap (λ l. prepend_to_first_line x (lines_of end l)) none ∙ sym (ap (λ l. (x ∷ l) ∷ []) none)
+lines_of-unended-line end (x ∷ xs) (lacks, inl none) = grind arith
 lines_of-unended-line end (x ∷ xs) (lacks, inr more) =
-    ap (λ b. cond b ((x ∷ []) ∷ lines_of end xs) (prepend_to_first_line x (lines_of end xs))) lacks
-    ∙ ap (prepend_to_first_line x) (lines_of-unended-line end xs more)
+    grind (arith, lines_of-unended-line end xs more)
 
 -- lines: a byte that ends no line is put before the first
 AreLines-prepended : (end x : ℕ) (lines : List (List ℕ)) → eqb x end ≡ false → AreLines end lines
@@ -99,11 +92,9 @@ lines_of-concat : (end : ℕ) (lines : List (List ℕ)) → AreLines end lines
     → lines_of end (concat lines) ≡ lines
 lines_of-concat end [] are = refl
 lines_of-concat end (line ∷ lines) (inl (ended, more)) =
-    lines_of-after-ended-line end line (concat lines) ended
-    ∙ ap (λ l. line ∷ l) (lines_of-concat end lines more)
+    grind (arith, lines_of-after-ended-line, lines_of-concat end lines more)
 lines_of-concat end (line ∷ lines) (inr (unended, none)) =
-    ap (λ l. lines_of end (line ++ concat l)) none ∙ ap (lines_of end) (append-nil line)
-    ∙ lines_of-unended-line end line unended ∙ sym (ap (λ l. line ∷ l) none)
+    grind (arith, common_steps, lines_of-unended-line)
 
 -- lines: some lines of an input, put together, are the lines of what they make
 pub lines_of-some-lines : (end : ℕ) (keeps : List ℕ → Bool) (xs : List ℕ)

@@ -1,5 +1,5 @@
 -- What is kept of parts of a line that are read one after the other.
-use Rattle.uri_streams.proofs.Common.{◌≡◌, ◌<◌, ◌≤◌, ◌+◌, ◌-◌, ℕ, Bool, true, false, List, ◌++◌, Option, Some, None, IfSome, cond, drop, length, take, min, ap, arith, refl, subst, sym, ◌∙◌, take-take, take_all, length-take-le, lt-ltb, ltb-true, ltb-false, ◌≢◌, All, eqb, eq-eqb, get_or-take, ◌==◌, get_or, ◌&&◌, nat_lt, slice_index, OnErr, OnOk, Result, Ok, Err, drop_through, ends_with_byte, take_through, DropsConsumable, DropsThrough, Consumes, IsAtEnd, Keeps, prepend_known, take_through_nonempty, take-append-drop, take-append-le, length-take, append-nil, All-from_get_or, take-append-add, ends_with_return, IsBufferedLine, ReadsFirstLine}
+use Rattle.uri_streams.proofs.Common.{common_steps, ◌≡◌, ◌<◌, ◌≤◌, ◌+◌, ◌-◌, ℕ, Bool, true, false, List, ◌++◌, Option, Some, None, IfSome, cond, drop, length, take, min, ap, arith, refl, subst, sym, ◌∙◌, take-take, take_all, length-take-le, ltb-true, ltb-false, ◌≢◌, All, eqb, eq-eqb, get_or-take, nat_lt, slice_index, OnErr, OnOk, Result, Ok, Err, ends_with_byte, take_through, DropsConsumable, DropsThrough, Consumes, IsAtEnd, Keeps, prepend_known, take-append-drop, take-append-le, length-take, append-nil, All-from_get_or, take-append-add, ends_with_return, IsBufferedLine, ReadsFirstLine}
 use Rattle.std.proofs.Transfers.{StopsAt-take}
 
 -- general fact on lists, for lines: as much of a prefix is taken as there is room for
@@ -48,12 +48,7 @@ pub ReadsFirstLine-of-parts : (end limit : ℕ) (a c : Option (List ℕ)) (all l
     → ReadsFirstLine a c end limit line is_return
 ReadsFirstLine-of-parts end limit None c all line is_return whole rest some kept is = tt
 ReadsFirstLine-of-parts end limit (Some xs) c all line is_return whole rest some kept is =
-    let longer : 0 < length (take_through end xs) = omega (arith, some, ap length whole) in (
-      take_through_nonempty end xs longer,
-      kept ∙ ap (take limit) whole,
-      rest,
-      is ∙ ap (ends_with_return end) whole,
-    )
+    grind (arith, common_steps)
 
 -- lines: what is consumed of a buffer is consumed of the bytes that are left to read
 pub Consumes-buffered : (unknown : Bool) (buffer : List ℕ) (inner new : Option (List ℕ)) (n : ℕ)
@@ -88,9 +83,7 @@ OnOk-of-any (Err error) P p = tt
 pub Keeps-at-end : (end : ℕ) (a c : Option (List ℕ)) → IsAtEnd a → DropsThrough a c end → Keeps a c
 Keeps-at-end end None c none drops = tt
 Keeps-at-end end (Some xs) None none drops = absurd cc
-Keeps-at-end end (Some xs) (Some ys) none drops =
-    let same : ys ≡ drop_through end xs = cc in
-    same ∙ ap (drop_through end) none ∙ sym none
+Keeps-at-end end (Some xs) (Some ys) none drops = grind arith
 
 -- lines: the first line of a buffer is up to and including the first byte that ends a line
 pub IsBufferedLine-up-to : (end byte index : ℕ) (buffer line : List ℕ) → byte ≡ end
@@ -119,11 +112,4 @@ IsBufferedLine-up-to end byte index buffer line b e within ends lacks =
 pub ends_with_byte-up-to : (end byte index : ℕ) (buffer : List ℕ) → byte ≡ end
     → index < length buffer → slice_index buffer index ≡ byte
     → ends_with_byte end (take (index + 1) buffer) ≡ true
-ends_with_byte-up-to end byte index buffer b within ends =
-    let line : List ℕ = take (index + 1) buffer in
-    let long : length line ≡ index + 1 = length-take-le (index + 1) buffer (omega arith) in
-    let same : index + 1 - 1 ≡ index = omega arith in
-    ap (λ c. c && (get_or line (length line - 1) 0 == end))
-    (lt-ltb 0 (length line) (omega (arith, long))) ∙ eq-eqb (get_or line (length line - 1) 0) end
-    (ap (λ n. get_or line (n - 1) 0) long ∙ ap (λ n. get_or line n 0) same
-    ∙ get_or-take (index + 1) buffer index 0 (omega arith) ∙ ends ∙ b)
+ends_with_byte-up-to end byte index buffer b within ends = grind (arith, common_steps)

@@ -1,9 +1,10 @@
 -- What the error output of a run got, and what its observer saw.
-use Rattle.std.proofs.Common.{◌≡◌, ◌+◌, ◌++◌, ℕ, Bool, true, false, List, [], ◌∷◌, refl, ap, sym, ◌∙◌, subst, Option, Some, None, length, arith, true≢false, cond, append_assoc, zero-add}
+use Rattle.uri_streams.proofs.Common.{common_steps}
+use Rattle.std.proofs.Common.{◌≡◌, ◌+◌, ◌++◌, ℕ, Bool, true, false, List, [], ◌∷◌, refl, ap, sym, ◌∙◌, subst, Option, Some, None, length, arith, true≢false, cond, zero-add}
 use Rattle.std.specs.Prelude.{if◌then◌else◌}
 use Rattle.std.proofs.lemmas.List.{append-nil}
 use Rattle.std.proofs.lemmas.List.Sums.{sum_by-append}
-use Rattle.std.proofs.KnownBytes.{Appends-nil, Appends-trans, Keeps-refl, Keeps-trans}
+use Rattle.std.proofs.KnownBytes.{Appends-trans, Keeps-trans}
 use Rattle.uri_commands.specs.Prefixes.{AppendsPrefix}
 use Rattle.uri_commands.proofs.Offered.{AppendsPrefix-after-Appends, AppendsPrefix-of-longer, AppendsPrefix-of-kept, AppendsPrefix-then-Keeps}
 use Rattle.uri_streams.specs.Outputs.{ProcessedLine, error_count, is_error, tallies_after, tallies_of}
@@ -12,20 +13,13 @@ use Rattle.uri_streams.specs.declared.run.Tally.{Tally}
 
 -- error output: nothing is reported where it stays as it is
 pub Reports-nothing : (a : ErrorOutput) → Reports a a []
-Reports-nothing a = (
-  (
-    AppendsPrefix-of-kept a.held a.held [] (Keeps-refl a.held),
-    λ failed. (failed, Keeps-refl a.held),
-  ),
-  λ _. Appends-nil a.held,
-)
+Reports-nothing a = grind (arith, common_steps, AppendsPrefix-of-kept)
 
 -- error output: a prefix of a second text comes after the whole of the first, or the output failed
 prefix-of-both : (a b c : ErrorOutput) (text more : List ℕ) (y : Bool) → b.has_failed ≡ y
     → Reports a b text → ReportsPrefix b c more → AppendsPrefix a.held c.held (text ++ more)
 prefix-of-both a b c text more true is first second =
-    AppendsPrefix-of-longer a.held c.held text more
-    (AppendsPrefix-then-Keeps a.held b.held c.held text first.0.0 (second.1 is).1)
+    grind (arith, AppendsPrefix-of-longer, AppendsPrefix-then-Keeps)
 prefix-of-both a b c text more false is first second =
     AppendsPrefix-after-Appends a.held b.held c.held text more (first.1 is) second.0
 
@@ -79,9 +73,7 @@ Sees-nothing (Some before) = ap Some (sym (append-nil before))
 pub Sees-after-Sees : (a b c : Option (List Tally)) (tallies more : List Tally) → Sees a b tallies
     → Sees b c more → Sees a c (tallies ++ more)
 Sees-after-Sees None b c tallies more first second = tt
-Sees-after-Sees (Some before) b c tallies more first second =
-    subst (λ o. Sees o c more) first second
-    ∙ ap Some (append_assoc before tallies more)
+Sees-after-Sees (Some before) b c tallies more first second = grind (arith, common_steps)
 
 -- the tally of so many lines and errors
 abbrev tally : ℕ → ℕ → Tally
@@ -117,6 +109,4 @@ pub tallies_of-one-more : (lines : List ProcessedLine) (line : ProcessedLine) (t
     → tally_new.errors ≡ error_count lines + (if is_error line.result then 1 else 0)
     → tallies_of (lines ++ line ∷ []) ≡ tallies_of lines ++ tally_new ∷ []
 tallies_of-one-more lines line tally_new is errors =
-    tallies_after-one-more 0 0 lines line
-    ∙ ap (λ (t : Tally). tallies_of lines ++ t ∷ [])
-    (same-tally _ _ _ _ (omega (arith, is)) (omega (arith, errors)))
+    grind (arith, tallies_after-one-more, same-tally)

@@ -1,18 +1,11 @@
 -- Whether a `\r` is before the end of a line that is read in parts.
-use Rattle.uri_streams.proofs.Common.{◌≡◌, ◌≢◌, ◌<◌, ◌+◌, ◌-◌, ◌++◌, ℕ, Bool, true, false, cond, List, [], All, refl, ap, sym, ◌∙◌, length, length-append, take, arith, get_or, append-nil, lt-ltb, ltb-true, ltb-false, eqb-true, eq-eqb, ◌==◌, ends_with_byte, strip_last, ◌&&◌, nat_lt, not, get_or-append_right, take-append-add, nil_from_length, All-get_or, false_from_ne_true, end_byte, ends_with_return, has_return, return_after, line_ending}
+use Rattle.uri_streams.proofs.Common.{common_steps, ◌≡◌, ◌≢◌, ◌<◌, ◌-◌, ◌++◌, ℕ, Bool, true, false, cond, List, [], All, refl, ap, sym, ◌∙◌, length, length-append, take, arith, get_or, append-nil, ltb-true, ltb-false, eqb-true, eq-eqb, ◌==◌, ends_with_byte, strip_last, ◌&&◌, nat_lt, not, take-append-add, nil_from_length, All-get_or, false_from_ne_true, end_byte, ends_with_return, has_return, return_after, line_ending}
 use Rattle.std.specs.Io.{IsEmptyOrEndsWith}
 
 -- lines: the last byte of two lists is that of the second, where that has one
 ends_with_byte-append : (byte : ℕ) (xs ys : List ℕ) → 0 < length ys
     → ends_with_byte byte (xs ++ ys) ≡ ends_with_byte byte ys
-ends_with_byte-append byte xs ys some =
-    let long : length (xs ++ ys) ≡ length xs + length ys = length-append xs ys in
-    let last : get_or (xs ++ ys) (length (xs ++ ys) - 1) 0 ≡ get_or ys (length ys - 1) 0 =
-    get_or-append_right xs ys (length (xs ++ ys) - 1) 0 (omega (arith, long, some))
-    ∙ ap (λ i. get_or ys i 0) (omega (arith, long, some)) in
-    ap (λ c. c && (get_or (xs ++ ys) (length (xs ++ ys) - 1) 0 == byte))
-    (lt-ltb 0 (length (xs ++ ys)) (omega (arith, long, some))) ∙ ap (λ x. x == byte) last
-    ∙ sym (ap (λ c. c && (get_or ys (length ys - 1) 0 == byte)) (lt-ltb 0 (length ys) some))
+ends_with_byte-append byte xs ys some = grind (arith, common_steps)
 
 -- lines: the last byte of two texts is that of the second, if it has one
 strip_last-append : (byte : ℕ) (xs ys : List ℕ) → 0 < length ys
@@ -72,9 +65,8 @@ ends_with_byte-after-part was xs ys is = at (nat_lt 0 (length ys)) refl
 pub return_after-inner-part : (end : ℕ) (was : Bool) (done part : List ℕ) → was
     ≡ ends_with_byte 13 done
     → All (λ x. x ≢ end) part → return_after end was part ≡ ends_with_byte 13 (done ++ part)
-return_after-inner-part end was done part is none = ap
-    (λ l. cond (nat_lt 0 (length l)) (ends_with_byte 13 l) was)
-    (strip_last-of-lacking end part none) ∙ ends_with_byte-after-part was done part is
+return_after-inner-part end was done part is none =
+    grind (arith, strip_last-of-lacking, ends_with_byte-after-part)
 
 -- lines: whether a line ends with `\r` and the byte that ends it, after its last part
 pub return_after-last-part : (end : ℕ) (was : Bool) (done part : List ℕ)

@@ -1,4 +1,5 @@
 -- What is read of a line, and written for it, is a step.
+use Rattle.uri_streams.proofs.Common.{common_steps}
 use Rattle.std.proofs.Common.{◌≡◌, ◌+◌, ◌++◌, ℕ, Bool, false, List, [], ◌∷◌, refl, ap, sym, ◌∙◌, subst, Option, Some, None, IfSome, inl, cond, ◌<◌, ◌≢◌, length, arith}
 use Rattle.std.specs.Prelude.{◌&&◌, IfErr, IfOk, Result, Ok, Err, not}
 use Rattle.std.specs.Io.Buffered.{reader_remaining}
@@ -51,22 +52,7 @@ pub HasLine-of-read : (job : Job) (left left_new : Option (List ℕ)) (byte : �
 HasLine-of-read job None left_new byte line line_is end read is_return e l r ends taken =
     record { taken = tt }
 HasLine-of-read job (Some xs) left_new byte line line_is end read is_return e l r ends taken =
-    let first : ReadsFirstLine (Some xs) left_new (end_byte job.is_null) (job.max_line + 3) line_is
-    is_return =
-    subst (λ n. ReadsFirstLine (Some xs) left_new n (job.max_line + 3) line_is is_return) e
-    (subst (λ b. ReadsFirstLine (Some xs) left_new byte (job.max_line + 3) b is_return) l
-    (subst (λ o. IfSome o (ReadsFirstLine (Some xs) left_new byte (job.max_line + 3) line)) r
-    taken)) in
-    let whole = take_through (end_byte job.is_null) xs in
-    record {
-      taken = (
-        first.0,
-        subst (λ l. StandsFor job l whole) (sym first.1)
-            (StandsFor-of-limited-line job (job.max_line + 3) whole refl),
-        first.2,
-        ends ∙ output-end-is-line-end job.is_null is_return whole first.3,
-      );
-    }
+    grind (arith, StandsFor-of-limited-line, output-end-is-line-end)
 
 -- lines: one that was read whole is the first line that is left
 HasLine-of-whole-line : (job : Job) (left left_new : Option (List ℕ)) (line end : List ℕ)
@@ -117,9 +103,7 @@ module _ (job : Job) (before : ℕ) (task task_new : Task) (left left_new : Opti
 
     output_is : bytes_output job known line end
         ≡ line_output job (processed job (before + 1) known whole)
-    output_is =
-        bytes_output-if-StandsFor job known line whole end has_here.taken.1
-        ∙ ap (bytes_output job known whole) has_here.taken.3
+    output_is = grind (arith, bytes_output-if-StandsFor)
 
     first_of : {A : Type 0} (f : List ProcessedLine → A)
         → f (processed_lines job before known (lines_of (end_byte job.is_null) xs))
@@ -196,18 +180,11 @@ module _ (job : Job) (number : ℕ) (task task_new : Task) (line end : List ℕ)
   made_is : (known : Known) → Remembers task job.command known
       → result_output job.errors line cut.before (result_in made) (cut.after ++ end)
       ≡ bytes_output job known line end
-  made_is known remembers =
-      ap (λ m. result_output job.errors line cut.before m (cut.after ++ end))
-      (gives known remembers).0
-      ∙ ap (λ (c : Cut). result_output job.errors line c.before
-      (cut_result job known c.text).0 (c.after ++ end)) cut_is
+  made_is known remembers = grind arith
 
   reported_is : (known : Known) → Remembers task job.command known
       → result_report job.errors number (result_in made) ≡ bytes_report job number known line
-  reported_is known remembers =
-      ap (result_report job.errors number) (gives known remembers).0
-      ∙ ap (λ (c : Cut). result_report job.errors number (cut_result job known c.text).0)
-      cut_is
+  reported_is known remembers = grind arith
 
   pub writes-output-of-cut : (result : Result StepResult Cause)
       → IfOk result (WritesResult job.errors number line cut.before (result_in made)
@@ -217,33 +194,9 @@ module _ (job : Job) (number : ℕ) (task task_new : Task) (line end : List ℕ)
       → ReportsPrefix err err_new (result_report job.errors number (result_in made))
       → IfOk result (WritesLineOutput job number task line end held held_new err err_new task_new)
       × IfErr result (WritesOutputPrefix job number task line end held held_new err err_new)
-  writes-output-of-cut (Ok step) (output, shown, counts, error, last) prefix reported = (
-    record {
-      written = λ known remembers.
-          let given = gives known remembers in
-          let same : cut_result job known cut.text ≡ line_result job known line =
-          ap (λ (c : Cut). cut_result job known c.text) cut_is in
-          let is : is_error (result_in made) ≡ is_error (line_result job known line).0 =
-          ap is_error given.0 ∙ ap (λ (r : LineResult × Known). is_error r.0) same in (
-            subst (Appends held held_new) (made_is known remembers) output,
-            subst (Reports err err_new) (reported_is known remembers) shown,
-            counts,
-            error ∙ is,
-            last ∙ ap (λ b. b && is_stop job.errors) is,
-            subst (λ (r : LineResult × Known). Remembers task_new job.command r.1) same given.1,
-          );
-    },
-    tt,
-  )
-  writes-output-of-cut (Err cause) output prefix reported = (
-    tt,
-    record {
-      prefix = λ known remembers. (
-        subst (AppendsPrefix held held_new) (made_is known remembers) prefix,
-        subst (ReportsPrefix err err_new) (reported_is known remembers) reported,
-      );
-    },
-  )
+  writes-output-of-cut (Ok step) (output, shown, counts, error, last) prefix reported =
+      grind (arith, made_is, reported_is)
+  writes-output-of-cut (Err cause) output prefix reported = grind (arith, made_is, reported_is)
 
 -- streams: a call is a step of a run if it writes the output of the first line that is left, or
 -- fails in that; writer_mid: before the output is written
@@ -266,13 +219,8 @@ pub IsStepOf-of-written-line : {R W E : Type 0} (job : Job) (before : ℕ)
     writer_new err err_new result
 IsStepOf-of-written-line job before remaining contents reported task task_new reader reader_new
     writer writer_mid writer_new err err_new line end (Ok step) has kept same same' written prefix
-    failures = record {
-      steps = line-output-is-step job before task task_new _ _ _ _ _ _ _ line end has kept step
-          written;
-      fails = tt;
-      failures = KeepsFailures-in-writing (Ok step) reader reader_new writer writer_mid writer_new
-          same same' failures;
-    }
+    failures =
+    grind (arith, line-output-is-step, KeepsFailures-in-writing)
 IsStepOf-of-written-line job before remaining contents reported task task_new reader reader_new
     writer writer_mid writer_new err err_new line end (Err cause) has kept same same' written prefix
     failures = record {
@@ -293,10 +241,5 @@ pub StepFails-in-reading : (job : Job) (before : ℕ) (task : Task)
 StepFails-in-reading job before task None left_new held held_new err err_new cause stopped kept
     none = record { failed = tt }
 StepFails-in-reading job before task (Some xs) left_new held held_new err err_new cause stopped kept
-    none = record {
-      failed = λ known remembers. (
-        AppendsPrefix-of-kept held held_new _ kept,
-        ReportsPrefix-of-nothing err err_new _ none,
-        λ input. (kept, none, stopped),
-      );
-    }
+    none =
+    grind (arith, common_steps, AppendsPrefix-of-kept, ReportsPrefix-of-nothing)

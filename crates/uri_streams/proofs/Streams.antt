@@ -1,5 +1,5 @@
 -- The first line is taken, and its output is written.
-use Rattle.uri_streams.proofs.Common.{◌≡◌, ◌+◌, ◌-◌, ◌^◌, ◌<◌, ◌≤◌, ◌++◌, ℕ, Bool, true, false, cond, eqb, List, [], ◌∷◌, refl, ap, sym, ◌∙◌, subst, append_assoc, length, length-append, Option, Some, None, arith, ◌⊎◌, ⊎_elim, true≢false, min, zero-add, drop, concat, flat_map, if◌then◌else◌, append-nil, drop-drop, flat_map-append, sum_by-append, take_through, drop_through, Appends, Appends-nil, Appends-trans, Appends-kept, end_byte, lines_of, prepend_to_first_line, ProcessedLine, processed, processed_lines, processed_in, error_count, errors_of, line_report, tallies_of, is_error, is_last, line_result, line_output, output_of, ErrorOutput, LeavesRest, Reports, Sees, WritesOutput, left_after, FindsEnd, HasWrittenSoFar, ProcessedSoFar, Steps, WritesLine, Known, Remembers, Job, Tally, Task}
+use Rattle.uri_streams.proofs.Common.{common_steps, ◌≡◌, ◌+◌, ◌-◌, ◌^◌, ◌<◌, ◌≤◌, ◌++◌, ℕ, Bool, true, false, cond, eqb, List, [], ◌∷◌, refl, ap, sym, ◌∙◌, subst, append_assoc, length, length-append, Option, Some, None, arith, ◌⊎◌, ⊎_elim, min, drop, flat_map, if◌then◌else◌, append-nil, drop-drop, flat_map-append, take_through, drop_through, Appends, Appends-nil, Appends-trans, Appends-kept, end_byte, lines_of, prepend_to_first_line, ProcessedLine, processed, processed_lines, processed_in, error_count, errors_of, line_report, tallies_of, is_error, is_last, line_result, line_output, output_of, ErrorOutput, LeavesRest, Reports, Sees, WritesOutput, left_after, FindsEnd, HasWrittenSoFar, ProcessedSoFar, Steps, WritesLine, Known, Remembers, Job, Tally, Task}
 use Rattle.uri_streams.proofs.MergedLines.{concat-of-lines}
 use Rattle.uri_streams.specs.declared.output.StepResult.{StepResult}
 use Rattle.uri_streams.proofs.Reports.{Reports-after-Reports, Reports-nothing, Reports-then-nothing, Sees-after-Sees, Sees-nothing, tallies_of-one-more}
@@ -59,9 +59,7 @@ module _ (job : Job) where
       → lines_after_first before known xs ≡ (if b then [] else processed_lines job (before + 1)
       (line_result job known (take_through (end_byte job.is_null) xs)).1
       (lines_of (end_byte job.is_null) (drop_through (end_byte job.is_null) xs)))
-  lines_after_first-by before known xs b is = ap (λ b. if b then [] else processed_lines job
-      (before + 1) (line_result job known (take_through (end_byte job.is_null) xs)).1
-      (lines_of (end_byte job.is_null) (drop_through (end_byte job.is_null) xs))) is
+  lines_after_first-by before known xs b is = grind arith
 
 -- streams: what is written or reported of one line more is after that of the others
 of-one-more-line : (f : ProcessedLine → List ℕ) (lines : List ProcessedLine) (line : ProcessedLine)
@@ -72,9 +70,7 @@ of-one-more-line f lines line = flat_map-append f lines (line ∷ [])
 -- streams: one line more is counted if it is an error
 error_count-of-one-more-line : (lines : List ProcessedLine) (line : ProcessedLine)
     → error_count (lines ++ line ∷ []) ≡ error_count lines + (if is_error line.result then 1 else 0)
-error_count-of-one-more-line lines line =
-    sum_by-append (λ l. cond (is_error l.result) 1 0) lines (line ∷ [])
-    ∙ ap (λ n. error_count lines + n) (zero-add (if is_error line.result then 1 else 0))
+error_count-of-one-more-line lines line = grind (arith, common_steps)
 
 -- general fact on lists, for streams: after one element more, what is left is the tail
 left-after-one-more : {A : Type 0} (n : ℕ) (xs ys : List A) (y : A) → drop n xs ≡ y ∷ ys
@@ -85,9 +81,7 @@ left-after-one-more n xs ys y e = sym (drop-drop 1 n xs) ∙ ap (drop 1) e
 left_after-of-lines : (job : Job) (number : ℕ) (xs rest : List ℕ)
     → length (processed_in job xs) ≡ number → drop number (lines_of (end_byte job.is_null) xs)
     ≡ lines_of (end_byte job.is_null) rest → left_after job xs ≡ rest
-left_after-of-lines job number xs rest count left =
-    ap (λ n. concat (drop n (lines_of (end_byte job.is_null) xs))) count ∙ ap concat left
-    ∙ concat-of-lines (end_byte job.is_null) rest
+left_after-of-lines job number xs rest count left = grind (arith, concat-of-lines)
 
 -- streams: a step of a run; b, c: what is left to read before and after it; h, i, j: what the
 -- writer holds, d, e, f: the error output, s, t, u: what the observer saw, when the run begins,
@@ -112,10 +106,7 @@ module _ (job : Job) (number : ℕ) (task task_new : Task) (b c h i j : Option (
 
     module _ (is : WritesLine job number so.known so.rest c i j e f task_new step) where
       lines_are : tally_new.lines ≡ number + 1
-      lines_are =
-          let e = lines_new ∙ ap (λ y. min (tally.lines + (if y then 1 else 0)) (2 ^ 64 - 1))
-          is.3 in
-          omega (arith, e, so.lines_counted, fits)
+      lines_are = grind arith
 
       one : (y : Bool) → (if y then 1 else 0) ≤ 1
       one true = omega arith
@@ -146,10 +137,7 @@ module _ (job : Job) (number : ℕ) (task task_new : Task) (b c h i j : Option (
           is.7)
 
       saw_new : Sees s u (tallies_of lines)
-      saw_new = subst (Sees s u) (sym (tallies_of-one-more so.lines line tally_new
-          (lines_are ∙ ap (λ n. n + 1) (sym so.count)) errors_so_far)) (Sees-after-Sees s t u
-          (tallies_of so.lines) (tally_new ∷ []) so.saw
-          (subst (λ (y : Bool). Sees t u (if y then tally_new ∷ [] else [])) is.3 looks))
+      saw_new = grind (arith, tallies_of-one-more, lines_are, errors_so_far, Sees-after-Sees)
 
       written_new : Appends h j (output_of job lines)
       written_new = subst (Appends h j) (sym (of-one-more-line (line_output job) so.lines line))
@@ -162,37 +150,36 @@ module _ (job : Job) (number : ℕ) (task task_new : Task) (b c h i j : Option (
 
       so_far : step.is_last ≡ false
           → ProcessedSoFar job (number + 1) task_new xs c h j d f s u tally_new
-      so_far more = record {
-        lines = lines;
-        known = (line_result job so.known first).1;
-        rest = drop_through (end_byte job.is_null) so.rest;
-        left_is = is.1;
-        written = written_new;
-        whole = whole_new ∙ ap (λ l. lines ++ l)
-            (lines_after_first-by job number so.known so.rest false (sym is.5 ∙ more));
-        remembers = is.6;
-        count = count_new;
-        lines_left = lines_left_new;
-        lines_counted = lines_are;
-        errors_counted = errors_are;
-        few_errors = omega (arith, errors_here, one step.is_error, so.few_errors);
-        reported = reported_new;
-        saw = saw_new;
-      }
+      so_far more =
+          grind (
+            arith,
+            written_new,
+            whole_new,
+            lines_after_first-by,
+            count_new,
+            lines_left_new,
+            lines_are,
+            errors_are,
+            errors_here,
+            one,
+            reported_new,
+            saw_new,
+          )
 
       all_processed : step.is_last ≡ true → processed_in job xs ≡ lines
-      all_processed ends = whole_new ∙ ap (λ l. lines ++ l)
-          (lines_after_first-by job number so.known so.rest true (sym is.5 ∙ ends))
-          ∙ append-nil lines
+      all_processed ends = grind (arith, common_steps, whole_new, lines_after_first-by)
 
       last : step.is_last ≡ true → WritesOutput job (Some xs) h j d f s u tally_new
       last ends =
-          let all = all_processed ends in (
-            subst (λ l. Appends h j (output_of job l)) (sym all) written_new,
-            subst (λ l. Reports d f (errors_of job l)) (sym all) reported_new,
-            subst (λ l. Sees s u (tallies_of l)) (sym all) saw_new,
-            lines_are ∙ sym (ap length all ∙ count_new),
-            errors_are ∙ sym (ap error_count all),
+          grind (
+            arith,
+            all_processed,
+            written_new,
+            reported_new,
+            saw_new,
+            lines_are,
+            count_new,
+            errors_are,
           )
 
       rest_left : step.is_last ≡ true → LeavesRest job (Some xs) c
@@ -200,10 +187,7 @@ module _ (job : Job) (number : ℕ) (task task_new : Task) (b c h i j : Option (
           (ap length (all_processed ends) ∙ count_new) lines_left_new))
 
     all_processed_at_end : so.rest ≡ [] → processed_in job xs ≡ so.lines
-    all_processed_at_end none = so.whole ∙ ap
-        (λ l. so.lines ++ processed_lines job number so.known (lines_of (end_byte job.is_null) l))
-        none ∙ ap (λ l. so.lines ++ l) (processed_lines-of-nothing job number so.known)
-        ∙ append-nil so.lines
+    all_processed_at_end none = grind (arith, common_steps, processed_lines-of-nothing)
 
     rest_left_at_end : FindsEnd so.rest c i j e f step → LeavesRest job (Some xs) c
     rest_left_at_end is = is.6 ∙ ap Some (sym is.0 ∙ sym (left_after-of-lines job number xs so.rest
@@ -235,9 +219,7 @@ module _ (job : Job) (number : ℕ) (task task_new : Task) (b c h i j : Option (
     stepped : Steps job number task b c i j e f task_new step
         → WritesLine job number so.known so.rest c i j e f task_new step
         ⊎ FindsEnd so.rest c i j e f step
-    stepped st =
-        let here = subst (λ o. Steps job number task o c i j e f task_new step) so.left_is st in
-        here.stepped so.known so.remembers
+    stepped st = grind arith
 
   -- streams: after a step that is not the last, one line more has been written and tallied; a: what
   -- was left to read at the beginning
@@ -246,12 +228,7 @@ module _ (job : Job) (number : ℕ) (task task_new : Task) (b c h i j : Option (
       → Steps job number task b c i j e f task_new step → step.is_last ≡ false
       → HasWrittenSoFar job (number + 1) task_new a c h j d f s u tally_new
   HasWrittenSoFar-after-step None so st more = record { so_far = tt }
-  HasWrittenSoFar-after-step (Some xs) so st more = record {
-    so_far = ⊎_elim (λ (is : WritesLine job number so.so_far.known so.so_far.rest c i j e f task_new
-        step). so_far xs so.so_far is more)
-        (λ (is : FindsEnd so.so_far.rest c i j e f step). absurd (true≢false (sym is.4 ∙ more)))
-        (stepped xs so.so_far st);
-  }
+  HasWrittenSoFar-after-step (Some xs) so st more = grind (arith, so_far, stepped)
 
   -- streams: after the last step the whole output is written
   pub HasWrittenSoFar-then-last-step : (a : Option (List ℕ))

@@ -1,5 +1,5 @@
 -- The result under a task, by its command.
-use Rattle.uri_streams.proofs.Common.{◌≡◌, ℕ, true, List, Result, Ok, Err, IfOk, refl, ap, sym, subst, ◌∙◌, Some, codes, ◌++◌, if◌then◌else◌, IsOfKind, Kind, is_of_kind, uri_ref, ParseError, false_from_ne_true, error_text, kind_named, LineResult, Error, normalize_result, parse_message, IsResult, result_in, HasMet, Known, Remembers, text_if_new, link_result, no_text_result, noted_result, text_result, unique_result, no_text_message, KindName, Task, NoField, NotUtf8, TooLong}
+use Rattle.uri_streams.proofs.Common.{arith, ◌≡◌, ℕ, true, List, Result, Ok, Err, IfOk, refl, ap, subst, Some, codes, ◌++◌, IsOfKind, Kind, is_of_kind, uri_ref, ParseError, error_text, kind_named, LineResult, Error, normalize_result, IsResult, result_in, HasMet, Known, Remembers, text_if_new, link_result, no_text_result, noted_result, text_result, unique_result, no_text_message, Task, NoField, NotUtf8, TooLong}
 use Rattle.fluent_uri.specs.Refusals.{refusal}
 use Rattle.fluent_uri.specs.RuleSets.{rules_of_set}
 use Rattle.fluent_uri.specs.SchemeRules.{Rules}
@@ -47,18 +47,7 @@ GivesText-of-unique own own_new task task_new text (Ok line_result) e e_new is k
     absurd (subst (λ t. Remembers t (Each command) known) e remembers)
 GivesText-of-unique own own_new task task_new text (Ok line_result) e e_new is k r
     (Unique kind set hasher) known remembers =
-    let same = subst (λ t. Remembers t (Unique kind set hasher) known) e remembers in
-    let processed = is known same.2 in
-    let given : RuleSet → KindName → LineResult × Known =
-    λ b n. unique_result b (kind_named n) known text in (
-      processed.0 ∙ (λ i. (given (same.1 i) (same.0 i)).0),
-      subst (λ t. Remembers t (Unique kind set hasher) (given set kind).1) (sym e_new) (
-        k ∙ same.0,
-        r ∙ same.1,
-        subst (λ b. HasMet own_new.met (given b kind).1) same.1
-            (subst (λ n. HasMet own_new.met (given own.rules n).1) same.0 processed.1),
-      ),
-    )
+    grind (arith, kind_named)
 GivesText-of-unique own own_new task task_new text (Ok line_result) e e_new is k r
     (Links base set) known remembers =
     absurd (subst (λ t. Remembers t (Links base set) known) e remembers)
@@ -85,10 +74,7 @@ link_result-of-outcome set base known known_new text reference rules (Err error)
     same is = tt
 link_result-of-outcome set base known known_new text reference rules
     (Ok line_result) p of_kind same is =
-    is ∙ ap (λ f. noted_result (outcome_of f base known reference)) p
-    ∙ ap (λ t. noted_result (outcome_of (rules_of_set set) base known t)) same
-    ∙ sym (ap (λ b. if b then noted_result (outcome_of (rules_of_set set) base known text)
-    else (Error (codes "reference: " ++ parse_message uri_ref text), known)) of_kind)
+    grind arith
 
 -- lines: what `urilines links` writes of a text that is no reference is the error that is defined
 -- for it
@@ -96,11 +82,8 @@ pub link_result-of-error : (set : RuleSet) (base : List ℕ) (known : Known) (te
     (e : ParseError) → ¬ (IsOfKind uri_ref text) → refusal uri_ref text ≡ Some e
     → (Error (codes "reference: " ++ error_text e), known) ≡ link_result set base known text
 unfolding link_result
-link_result-of-error set base known text e not_of_kind is = ap
-    (λ m. (Error (codes "reference: " ++ m), known)) (error_text-is-parse_message uri_ref text e is)
-    ∙ sym (ap (λ b. if b then noted_result (outcome_of (rules_of_set set) base known text) else
-    (Error (codes "reference: " ++ parse_message uri_ref text), known))
-    (false_from_ne_true (is_of_kind uri_ref text) not_of_kind))
+link_result-of-error set base known text e not_of_kind is =
+    grind (arith, error_text-is-parse_message)
 
 -- lines: the command that the task of a command that remembers nothing is of
 pub command-of-each : (own : LineCommand) (command : Command) (known : Known)

@@ -1,9 +1,8 @@
 -- What was met, and the first time that a normal form comes.
-use Rattle.uri_streams.proofs.Common.{◌≡◌, ℕ, Bool, true, false, cond, List, [], ◌∷◌, ◌++◌, refl, ap, sym, ◌∙◌, subst, string_bytes, bytes_eq, if◌then◌else◌, ◌||◌, list_any-append, same_from_decides, Decides-like, LineResult, Text, NoLine, HasMet, Known, text_if_new, has_met}
+use Rattle.uri_streams.proofs.Common.{common_steps, arith, ◌≡◌, ℕ, Bool, true, false, cond, List, [], ◌∷◌, ◌++◌, refl, sym, string_bytes, bytes_eq, ◌||◌, same_from_decides, Decides-like, Text, HasMet, Known, text_if_new, has_met}
 use Rattle.std.proofs.Common.{String}
 use Rattle.std.specs.HashSet as bag
 use Rattle.std.specs.String.{string_eq}
-use Rattle.std.proofs.Math.Bool.{or-false}
 use Rattle.std.proofs.lemmas.Map.Text.{hash_set_updates_text}
 use Rattle.std.proofs.lemmas.Slice.Eq.{bytes_eq-Decides}
 use Rattle.uri_streams.specs.declared.met.MetTexts.{MetTexts}
@@ -31,10 +30,7 @@ or-as-cond false false = refl
 -- lines: after one text more, `unique` has met it and those before
 has_met-more : (known : Known) (text other : List ℕ)
     → has_met (known ++ text ∷ []) other ≡ cond (bytes_eq text other) true (has_met known other)
-has_met-more known text other = list_any-append (bytes_eq other) known (text ∷ [])
-    ∙ ap (λ b. has_met known other || b) (or-false (bytes_eq other text))
-    ∙ ap (λ b. has_met known other || b) (bytes_eq-sym other text)
-    ∙ sym (or-as-cond (bytes_eq text other) (has_met known other))
+has_met-more known text other = grind (arith, common_steps, bytes_eq-sym, or-as-cond)
 
 -- lines: what `unique` writes of a text that it has not met is the text, and it has met it then
 pub text_if_new-of-new : (met met_new : MetTexts) (known : Known) (normal : List ℕ)
@@ -43,11 +39,4 @@ pub text_if_new-of-new : (met met_new : MetTexts) (known : Known) (normal : List
     → bag.contains_text met.texts normal ≡ false
     → (Text normal ≡ (text_if_new known (Text normal)).0)
     × HasMet met_new (text_if_new known (Text normal)).1
-text_if_new-of-new met met_new known normal has noted unknown =
-    subst (λ (a : LineResult × Known). (Text normal ≡ a.0) × HasMet met_new a.1)
-    (sym (ap (λ b. if b then (NoLine, known) else (Text normal, known ++ normal ∷ []))
-    (sym (has normal) ∙ unknown))) (
-      refl,
-      λ other. noted other ∙ ap (cond (bytes_eq normal other) true) (has other)
-          ∙ sym (has_met-more known normal other),
-    )
+text_if_new-of-new met met_new known normal has noted unknown = grind (arith, has_met-more)

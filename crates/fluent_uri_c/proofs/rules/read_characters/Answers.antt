@@ -9,24 +9,10 @@ scan-end-requires c = subst (λ (t : List ℕ). IsCharBoundary t 0) (sym c.in_ok
     (IsCharBoundary-start c.args.bytes.now (c.in_ok-text.ensures.accepts.0 refl).0)
 
 pub returns-then-end-text-clause-valid : goal.returns-then-end-text-clause-valid
-returns-then-end-text-clause-valid c =
-    let set = set_of c.args.table.now in
-    let end = c.scan-end.result in
-    let is : IsScanned set c.args.bytes.now end = scanned-bytes set c.args.bytes.now _ end
-    (c.in_ok-text.ensures.accepts.0 refl) c.in_ok-text.ensures.text c.scan-end.ensures.end in
-    let whole : end ≡ length c.args.bytes.now =
-    omega (arith, ap length c.in_ok-text.ensures.text) in
-    scanned-text-passes set c.args.bytes.now end is c.requires whole
+returns-then-end-text-clause-valid c = grind (arith, scanned-bytes, scanned-text-passes)
 
 pub returns-then-end-text-clause-rejected : goal.returns-then-end-text-clause-rejected
-returns-then-end-text-clause-rejected c =
-    let set = set_of c.args.table.now in
-    let end = c.scan-end.result in
-    let is : IsScanned set c.args.bytes.now end = scanned-bytes set c.args.bytes.now _ end
-    (c.in_ok-text.ensures.accepts.0 refl) c.in_ok-text.ensures.text c.scan-end.ensures.end in
-    let whole : end ≡ length c.args.bytes.now =
-    omega (arith, ap length c.in_ok-text.ensures.text) in
-    sym (scanned-text-has-no-error set c.args.bytes.now end is whole)
+returns-then-end-text-clause-rejected c = grind (arith, scanned-bytes, scanned-text-has-no-error)
 
 pub returns-else-is_stray_percent-clause-rejected :
     goal.returns-else-is_stray_percent-clause-rejected

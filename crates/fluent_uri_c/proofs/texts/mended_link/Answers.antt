@@ -1,3 +1,4 @@
+use Rattle.fluent_uri_c.proofs.Common.{arith}
 use Rattle.fluent_uri_c.proofs.Mends.{mended_link_result-of-error, mended_link_result-of-mended}
 use Rattle.fluent_uri_c.proofs.texts.mended_link.Goals as goal
 
@@ -6,6 +7,4 @@ returns-in-Ok-clause-text g c = mended_link_result-of-mended g.K.Kind.kind c.arg
     c.in_ok-text.ensures.rejected c.in_ok-text.ensures.text c.in-Ok.ensures.mended
 
 pub returns-in-Err-clause-text : goal.returns-in-Err-clause-text
-returns-in-Err-clause-text g c =
-    mended_link_result-of-error g.K.Kind.kind c.args.bytes.now _ c.in-Err.error _
-    c.in_ok-text.ensures.rejected c.in_ok-text.ensures.text c.in-Err.ensures.refused c.from.ensures
+returns-in-Err-clause-text g c = grind (arith, mended_link_result-of-error)

@@ -1,6 +1,5 @@
-use Rattle.fluent_uri_c.proofs.Common.{ap, subst, components, IsNormalFormOfTarget, rules_of_set, reference_text}
+use Rattle.fluent_uri_c.proofs.Common.{arith, ap, subst, components, IsNormalFormOfTarget, rules_of_set, reference_text}
 use Rattle.uri_ops.specs.Normalizers.{scheme_rules_of}
-use Rattle.uri_ops.specs.Resolving.{IsErrorWithUnderflowAllowed}
 use Rattle.fluent_uri_c.proofs.Targets.{normal_resolution-of-target, normal_resolution-of-error, returned-rejection-is-of-error}
 use Rattle.fluent_uri_c.proofs.texts.resolve_normalized_text.Goals as goal
 
@@ -20,9 +19,5 @@ returns-in-Ok g c =
     c.scheme_rules_with-normalizer.ensures.rules found)
 
 pub returns-in-Err : goal.returns-in-Err
-returns-in-Err g c = returned-rejection-is-of-error _ _ c.in-Err.error c.from.ensures
-    (normal_resolution-of-error _ _ _ _ _ _ c.strip_fragment.ensures (subst
-    (λ b. IsErrorWithUnderflowAllowed (components b)
-    (components (reference_text c.args.reference.now)) c.in-Err.error)
-    (ap (λ r. reference_text r) c.with_base-resolver.ensures.base)
-    c.in-Err.ensures.refusal.refusal))
+returns-in-Err g c =
+    grind (arith, returned-rejection-is-of-error, normal_resolution-of-error, components)

@@ -1,5 +1,4 @@
-use Rattle.uri_commands.proofs.Common.{rules, arith, ◌≡◌, ◌∷◌, ◌++◌, [], false, sym, subst, uri_ref, uri_ref_text, Links, texts, IsErrorOfCommand}
-use Rattle.std.proofs.lemmas.Grind.{common_steps}
+use Rattle.uri_commands.proofs.Common.{common_steps, rules, arith, ◌≡◌, ◌∷◌, ◌++◌, [], false, sym, subst, uri_ref, uri_ref_text, Links, texts, IsErrorOfCommand}
 use Rattle.uri_commands.proofs.LinkWords.{one-more-reference-is-kept, one-more-reference-is-of-kind, first-error-is-of-this-word}
 use Rattle.uri_commands.proofs.links.parse_references.Goals as goal
 use Rattle.uri_commands.proofs.links.parse_references.Goals.{then-is_refused, else-is_refused}

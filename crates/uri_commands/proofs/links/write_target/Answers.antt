@@ -1,5 +1,5 @@
 use Rattle.std.proofs.Common.{arith}
-use Rattle.std.proofs.lemmas.Grind.{common_steps}
+use Rattle.uri_commands.proofs.Common.{common_steps}
 use Rattle.uri_commands.proofs.links.write_target.Goals as goal
 
 pub returns : goal.returns

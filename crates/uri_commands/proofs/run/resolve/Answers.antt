@@ -1,12 +1,9 @@
-use Rattle.std.proofs.Common.{rules}
+use Rattle.std.proofs.Common.{arith, rules}
 use Rattle.uri_commands.proofs.Outputs.{failed-output-is-error-of-resolve}
 use Rattle.uri_commands.proofs.run.resolve.Goals as goal
 
 pub returns-clause-refused : goal.returns-clause-refused
-returns-clause-refused g c =
-    let target = c.in_ok-target.ensures in
-    failed-output-is-error-of-resolve c.args.kind c.args.base.now c.args.reference.now _
-    c.print_line.result target.base target.reference target.target c.print_line.ensures.failed
+returns-clause-refused g c = grind (arith, failed-output-is-error-of-resolve)
 
 pub returns-in_err-target-clause-keeps : goal.returns-in_err-target-clause-keeps
 returns-in_err-target-clause-keeps g c = search rules

@@ -1,4 +1,4 @@
-use Rattle.uri_commands.proofs.Common.{rules, ◌≡◌, None, OnOk, IfErr, sym, subst, Keeps, Prints, output_of, IsErrorOfCommand}
+use Rattle.uri_commands.proofs.Common.{arith, rules, ◌≡◌, None, OnOk, IfErr, sym, subst, Keeps, Prints, output_of, IsErrorOfCommand}
 use Rattle.uri_commands.specs.Asked.{contract_command}
 use Rattle.uri_commands.proofs.run.run_command.Goals as goal
 
@@ -8,9 +8,7 @@ returns-in-Links-clause-succeeded g c = subst (λ k. OnOk c.links.result (Prints
     (contract_command k))) (sym c.in-Links.is) c.links.ensures.succeeded
 
 pub returns-in-Links-clause-refused : goal.returns-in-Links-clause-refused
-returns-in-Links-clause-refused g c =
-    subst (λ k. IfErr c.links.result (IsErrorOfCommand (contract_command k))) (sym c.in-Links.is)
-    c.links.ensures.refused
+returns-in-Links-clause-refused g c = grind arith
 
 pub returns-in-Links-clause-keeps : goal.returns-in-Links-clause-keeps
 returns-in-Links-clause-keeps g c = subst (λ k. output_of (contract_command k) ≡ None

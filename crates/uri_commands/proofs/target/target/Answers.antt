@@ -1,14 +1,9 @@
-use Rattle.uri_commands.proofs.Common.{rules, sym, subst, IsOfKind, uri, uri_ref, iri, iri_ref, Resolve, kind_of_base, kind_of_references, IsErrorOf, IsErrorOfCommand, Base, Reference}
+use Rattle.uri_commands.proofs.Common.{arith, rules, sym, subst, IsOfKind, uri, uri_ref, iri, iri_ref, Resolve, kind_of_base, kind_of_references, IsErrorOf, IsErrorOfCommand, Base, Reference}
 use Rattle.uri_commands.proofs.Refusals.{mapped-parse-error-is-of-text, mapped-ok-is-of-kind}
 use Rattle.uri_commands.proofs.target.target.Goals as goal
 
 pub returns-in_err-base-in-Uri-clause-refused : goal.returns-in_err-base-in-Uri-clause-refused
-returns-in_err-base-in-Uri-clause-refused c = mapped-parse-error-is-of-text
-    (IsErrorOfCommand (Resolve c.args.kind c.args.base.now c.args.reference.now)) Base uri
-    c.args.base.now c.parse.result c.map_err.result c.from_residual.result _
-    (λ e is. subst (λ k. IsErrorOf (kind_of_base k) c.args.base.now e) (sym c.in-Uri.is) is)
-    c.parse.ensures.refused c.map_err.ensures.cases c.in_err-base-in-Uri.was
-    c.from_residual.ensures.1
+returns-in_err-base-in-Uri-clause-refused c = grind (arith, mapped-parse-error-is-of-text)
 
 pub returns-in_err-reference-in-Uri-clause-refused
     : goal.returns-in_err-reference-in-Uri-clause-refused
@@ -25,13 +20,7 @@ returns-in_err-reference-in-Uri-clause-refused c =
     c.in_err-reference-in-Uri.was c.from_residual-in_err-reference-in-Uri.ensures.1
 
 pub returns-in_err-base-in-Iri-clause-refused : goal.returns-in_err-base-in-Iri-clause-refused
-returns-in_err-base-in-Iri-clause-refused c = mapped-parse-error-is-of-text
-    (IsErrorOfCommand (Resolve c.args.kind c.args.base.now c.args.reference.now)) Base iri
-    c.args.base.now c.parse-in-Iri.result c.map_err-in-Iri.result
-    c.from_residual-in_err-base-in-Iri.result _
-    (λ e is. subst (λ k. IsErrorOf (kind_of_base k) c.args.base.now e) (sym c.in-Iri.is) is)
-    c.parse-in-Iri.ensures.refused c.map_err-in-Iri.ensures.cases
-    c.in_err-base-in-Iri.was c.from_residual-in_err-base-in-Iri.ensures.1
+returns-in_err-base-in-Iri-clause-refused c = grind (arith, mapped-parse-error-is-of-text)
 
 pub returns-in_err-reference-in-Iri-clause-refused
     : goal.returns-in_err-reference-in-Iri-clause-refused

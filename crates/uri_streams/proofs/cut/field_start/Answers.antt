@@ -1,3 +1,4 @@
+use Rattle.uri_streams.proofs.Common.{arith}
 use Rattle.uri_streams.proofs.Fields.{IsFieldStart-more, no_field}
 use Rattle.uri_streams.proofs.cut.field_start.Goals as goal
 
@@ -7,6 +8,4 @@ loop-skipped-preserved c = IsFieldStart-more c.args.delimiter c.loop-skipped.ski
     c.in-Some.ensures.1
 
 pub returns-in-None : goal.returns-in-None
-returns-in-None c =
-    no_field c.args.delimiter c.loop-skipped.skipped c.args.line.now c.loop-skipped.start
-    c.loop-skipped.invariant c.in-None.ensures c.args.before c.loop-skipped-test.true
+returns-in-None c = grind (arith, no_field)

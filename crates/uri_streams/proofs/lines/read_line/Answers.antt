@@ -1,20 +1,10 @@
-use Rattle.uri_streams.proofs.Common.{◌≢◌, ◌++◌, [], length-append, refl, sym, ap, ◌∙◌, rules, arith, true≢false, ◌&&◌, nat_lt, take-nil, Consumes-nil, Consumes-kept, Consumes-trans, Keeps-refl, Keeps-trans, Consumes_through, IsAtEnd-of_take_through, All-nil, All-append, reader_remaining, return_after}
+use Rattle.uri_streams.proofs.Common.{common_steps, ◌≢◌, ◌++◌, length-append, sym, ap, ◌∙◌, rules, arith, true≢false, ◌&&◌, nat_lt, Consumes-kept, Consumes-trans, Keeps-trans, Consumes_through, All-append, return_after}
 use Rattle.uri_streams.proofs.Parts.{Keeps-at-end, ReadsFirstLine-of-parts, OnErr-of-any, take-of-appended-part}
 use Rattle.uri_streams.proofs.Returns.{return_after-inner-part, return_after-last-part}
 use Rattle.uri_streams.proofs.lines.read_line.Goals as goal
 
 pub loop-reads-init : goal.loop-reads-init
-loop-reads-init g c = (
-  [],
-  c.clear.ensures.items ∙ sym (take-nil c.args.limit),
-  All-nil (λ x. x ≢ c.args.end),
-  Consumes-nil (reader_remaining g.R.Read.remaining c.args.reader.now.reader),
-  refl,
-  Keeps-refl (g.W.Write.contents c.args.writer.now.writer),
-  refl,
-  refl,
-  refl,
-)
+loop-reads-init g c = grind (arith, common_steps)
 
 pub loop-reads-preserved : goal.loop-reads-preserved
 loop-reads-preserved g c =
@@ -35,9 +25,7 @@ loop-reads-preserved g c =
 
 pub returns-in_err-flush_before_read-clause-stopped :
     goal.returns-in_err-flush_before_read-clause-stopped
-returns-in_err-flush_before_read-clause-stopped g c =
-    let (done, kept, none, read, counted, held, was, reading, writing) = c.loop-reads.invariant in
-    OnErr-of-any c.from_residual.result _ (done, read, none)
+returns-in_err-flush_before_read-clause-stopped g c = grind (arith, OnErr-of-any)
 
 pub returns-in_err-part-clause-stopped : goal.returns-in_err-part-clause-stopped
 returns-in_err-part-clause-stopped g c =
@@ -46,29 +34,11 @@ returns-in_err-part-clause-stopped g c =
     (done, Consumes-kept _ _ _ done read c.in_err-part.ensures.kept, none)
 
 pub returns-then-count-eq0-clause-end : goal.returns-then-count-eq0-clause-end
-returns-then-count-eq0-clause-end g c = λ _.
-    let (done, kept, none, read, counted, held, was, reading, writing) = c.loop-reads.invariant in
-    let (bs, long, more, stops, read', none', ends, end, is) = c.in_ok-part.ensures.taken in
-    let all = Consumes_through c.args.end _ _ _ done bs read none read' stops (ends
-    c.if-part.true) (end c.if-part.true) in
-    IsAtEnd-of_take_through c.args.end (reader_remaining g.R.Read.remaining
-    c.args.reader.now.reader) [] (done ++ bs) all.0
-    (omega (
-      arith,
-      length-append done bs,
-      c.saturating_add-count.ensures,
-      c.if-count-eq0.true,
-      long,
-      counted,
-    ))
+returns-then-count-eq0-clause-end g c = grind (arith, common_steps)
 
 pub returns-then-count-eq0-clause-ended : goal.returns-then-count-eq0-clause-ended
-returns-then-count-eq0-clause-ended g c = λ e.
-    let (done, kept, none, read, counted, held, was, reading, writing) = c.loop-reads.invariant in
-    let (bs, long, more, stops, read', none', ends, end, is) = c.in_ok-part.ensures.taken in
-    let all = Consumes_through c.args.end _ _ _ done bs read none read' stops (ends
-    c.if-part.true) (end c.if-part.true) in
-    Keeps-at-end c.args.end _ _ (returns-then-count-eq0-clause-end g c e) all.1
+returns-then-count-eq0-clause-ended g c =
+    grind (arith, Keeps-at-end, returns-then-count-eq0-clause-end)
 
 pub returns-then-is_return-clause-line : goal.returns-then-is_return-clause-line
 returns-then-is_return-clause-line g c =

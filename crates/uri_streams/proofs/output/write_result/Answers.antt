@@ -1,4 +1,4 @@
-use Rattle.uri_streams.proofs.Common.{◌+◌, subst, sym, ◌++◌, WritesResult, result_report, result_in, ReportsPrefix, error_output_of}
+use Rattle.uri_streams.proofs.Common.{arith, ◌+◌, subst, sym, result_report, result_in, ReportsPrefix, error_output_of}
 use Rattle.uri_streams.proofs.output.write_result.Goals as goal
 
 pub returns-in_err-write_error-in-Error-clause-reports
@@ -10,25 +10,7 @@ returns-in_err-write_error-in-Error-clause-reports g c =
     (sym c.in-Error.is) c.write_error.ensures.reports
 
 pub returns-clause-whole : goal.returns-clause-whole
-returns-clause-whole g c =
-    subst (λ r. WritesResult c.args.step.job.now.errors (c.args.step.before + 1)
-    c.args.around.line.now c.args.around.before.now (result_in r)
-    (c.args.around.after.now ++ c.args.around.end.now)
-    (g.W.Write.contents c.args.writer.now.writer)
-    (g.W.Write.contents c.write_error.new.writer.writer)
-    (error_output_of g.E.Write.contents c.args.err.now)
-    (error_output_of g.E.Write.contents c.write_error.new.err) c.of_line-in-Error.result)
-    (sym c.in-Error.is) (
-      c.in_ok-write_error-in-Error.ensures.whole,
-      c.in_ok-write_error-in-Error.ensures.reported,
-      c.of_line-in-Error.ensures.line,
-      c.of_line-in-Error.ensures.error,
-      c.of_line-in-Error.ensures.last,
-    )
+returns-clause-whole g c = grind arith
 
 pub returns-clause-reports : goal.returns-clause-reports
-returns-clause-reports g c =
-    subst (λ r. ReportsPrefix (error_output_of g.E.Write.contents c.args.err.now)
-    (error_output_of g.E.Write.contents c.write_error.new.err)
-    (result_report c.args.step.job.now.errors (c.args.step.before + 1) (result_in r)))
-    (sym c.in-Error.is) c.write_error.ensures.reports
+returns-clause-reports g c = grind arith

@@ -1,4 +1,4 @@
-use Rattle.std.proofs.Common.{ℕ, List, [], ap, refl, subst, ◌∙◌}
+use Rattle.std.proofs.Common.{arith, ℕ, List, [], ap, refl, subst, ◌∙◌}
 use Rattle.fluent_uri.specs.RuleSets.{rules_of_set}
 use Rattle.uri_commands.proofs.Offered.{normal_form_is}
 use Rattle.uri_commands.specs.Kinds.{normal_form_of}
@@ -31,10 +31,4 @@ returns-then-is_found_normal-clause-result g c =
 
 pub returns-clause-result : goal.returns-clause-result
 unfolding normalize_result
-returns-clause-result g c =
-    let kind = g.K.Kind.kind in
-    let text = c.args.text.now in
-    let form : List ℕ → LineResult = λ t. Text (normal_form_of c.args.rules kind t) in
-    ap Text (c.into_string.ensures.text ∙ c.in_ok-normal_form.ensures)
-    ∙ ap form c.in-Ok.ensures.text
-    ∙ parsed_result-of-kind [] kind text (form text) c.in-Ok.ensures.accepts
+returns-clause-result g c = grind (arith, parsed_result-of-kind)

@@ -1,13 +1,10 @@
-use Rattle.uri_streams.proofs.Common.{[], ap, ◌∙◌, components, kind_named, json_of, Text, parse_result, result_in}
+use Rattle.uri_streams.proofs.Common.{arith, [], ap, ◌∙◌, components, kind_named, json_of, Text, parse_result, result_in}
 use Rattle.uri_streams.proofs.TextResults.{parsed_result-of-error, parsed_result-of-kind}
 use Rattle.uri_streams.proofs.results.parse.Goals as goal
 
 pub returns-in_ok-json-in-Ok : goal.returns-in_ok-json-in-Ok
 unfolding parse_result
-returns-in_ok-json-in-Ok c =
-    ap Text (c.in_ok-json-in-Ok.ensures ∙ ap (λ t. json_of (components t)) c.in-Ok.ensures.text)
-    ∙ parsed_result-of-kind [] (kind_named c.args.kind) c.args.text.now
-    (Text (json_of (components c.args.text.now))) c.in-Ok.ensures.accepts
+returns-in_ok-json-in-Ok c = grind (arith, components, parsed_result-of-kind, kind_named)
 
 pub returns-in-Err : goal.returns-in-Err
 unfolding parse_result

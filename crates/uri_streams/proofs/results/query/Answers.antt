@@ -1,14 +1,10 @@
-use Rattle.uri_streams.proofs.Common.{[], ap, ◌∙◌, components, kind_named, query_json, Text, query_result, result_in}
+use Rattle.uri_streams.proofs.Common.{arith, [], ap, ◌∙◌, components, kind_named, query_json, Text, query_result, result_in}
 use Rattle.uri_streams.proofs.TextResults.{parsed_result-of-error, parsed_result-of-kind}
 use Rattle.uri_streams.proofs.results.query.Goals as goal
 
 pub returns-in_ok-query_json-in-Ok : goal.returns-in_ok-query_json-in-Ok
 unfolding query_result
-returns-in_ok-query_json-in-Ok c =
-    ap Text (c.in_ok-query_json-in-Ok.ensures ∙ ap query_json c.query.ensures
-    ∙ ap (λ t. query_json (components t).query) c.in-Ok.ensures.text)
-    ∙ parsed_result-of-kind [] (kind_named c.args.kind) c.args.text.now
-    (Text (query_json (components c.args.text.now).query)) c.in-Ok.ensures.accepts
+returns-in_ok-query_json-in-Ok c = grind (arith, components, parsed_result-of-kind, kind_named)
 
 pub returns-in-Err : goal.returns-in-Err
 unfolding query_result

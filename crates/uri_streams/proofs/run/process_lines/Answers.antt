@@ -1,4 +1,4 @@
-use Rattle.uri_streams.proofs.Common.{ap, arith, refl, rules, subst, sym, ◌∙◌, ◌||◌, reader_remaining, is_input_cause, StopsAfterPrefix, error_output_of}
+use Rattle.uri_streams.proofs.Common.{arith, ◌∙◌, reader_remaining, error_output_of}
 use Rattle.fluent_uri.proofs.Outcomes.{IfErr-of-only-error}
 use Rattle.uri_streams.proofs.Failures.{EndsFlushed-after-WritesOutput, KeepsFailures-in-writing, HasWrittenSoFar-then-run-fails, KeepsFailures-passed-on, HasWrittenSoFar-then-step-fails}
 use Rattle.uri_streams.proofs.Streams.{HasWrittenSoFar-after-step, HasWrittenSoFar-at-start, HasWrittenSoFar-then-last-step, HasWrittenSoFar-then-rest-is-left}
@@ -6,39 +6,14 @@ use Rattle.uri_streams.proofs.Parts.{OnOk-of-any}
 use Rattle.uri_streams.proofs.run.process_lines.Goals as goal
 
 pub loop-number-init : goal.loop-number-init
-loop-number-init g c = (
-  HasWrittenSoFar-at-start _ _ _ _ _ _ _ c.new-task.ensures refl refl,
-  refl,
-  refl,
-)
+loop-number-init g c = grind (arith, HasWrittenSoFar-at-start)
 
 pub loop-number-preserved : goal.loop-number-preserved
-loop-number-preserved g c =
-    let (written, read_failures, write_failures) = c.loop-number.invariant in
-    let failures = c.in_ok-step.ensures.failures in (
-      HasWrittenSoFar-after-step _ _ _ _ _ _ _ _ _ _ _ _ _ _ _ _ _ _
-          (omega (arith, c.loop-number-test.true)) c.count.ensures.lines c.count.ensures.errors
-          c.show_tally.ensures _ written c.in_ok-step.ensures.steps c.if-step.false,
-      failures.reading ∙ read_failures,
-      failures.writing ∙ write_failures,
-    )
+loop-number-preserved g c = grind (arith, HasWrittenSoFar-after-step)
 
 pub returns-in_err-step : goal.returns-in_err-step
 returns-in_err-step g c =
-    let (written, read_failures, write_failures) = c.loop-number.invariant in
-    let failures = c.in_err-step.ensures.failures in
-    record {
-      output = search rules;
-      stops = IfErr-of-only-error _ c.from_residual.result c.in_err-step.field-0.0
-          c.from_residual.ensures.1 (HasWrittenSoFar-then-step-fails _ _ _ _ _ _ _ _ _ _ _ _ _ _
-          _ _ written c.in_err-step.ensures.fails);
-      left = search rules;
-      flushed = search rules;
-      failures = KeepsFailures-passed-on c.from_residual.result c.in_err-step.field-0.0
-          c.args.reader.now c.loop-number.reader c.process_line.new.reader c.args.writer.now
-          c.loop-number.writer c.process_line.new.writer c.from_residual.ensures.1 read_failures
-          write_failures failures.reading failures.writing failures.read_error failures.write_error;
-    }
+    grind (arith, IfErr-of-only-error, HasWrittenSoFar-then-step-fails, KeepsFailures-passed-on)
 
 pub returns-then-step : goal.returns-then-step
 returns-then-step g c =
@@ -71,22 +46,7 @@ returns-then-step g c =
     }
 
 pub returns-clause-failures : goal.returns-clause-failures
-returns-clause-failures g c =
-    let failed = c.fail_too_many_reads.ensures in
-    record {
-      reading = failed.failed ∙ sym (ap (λ b. b || c.args.reader.now.has_failed) failed.input);
-      writing = c.loop-number.invariant.2
-          ∙ sym (ap (λ b. b || c.args.writer.now.has_failed) failed.output);
-      read_error = λ _. failed.error;
-      write_error = λ output. absurd (cc (output, failed.output));
-    }
+returns-clause-failures g c = grind arith
 
 pub returns-clause-stops : goal.returns-clause-stops
-returns-clause-stops g c = subst (λ r. StopsAfterPrefix c.args.job.now
-    (reader_remaining g.R.Read.remaining c.args.reader.now.reader)
-    (reader_remaining g.R.Read.remaining r) (g.W.Write.contents c.args.writer.now.writer)
-    (g.W.Write.contents c.loop-number.writer.writer)
-    (error_output_of g.E.Write.contents c.args.err.now)
-    (error_output_of g.E.Write.contents c.loop-number.err)
-    (is_input_cause c.fail_too_many_reads.result)) (sym c.fail_too_many_reads.ensures.kept)
-    (HasWrittenSoFar-then-run-fails _ _ _ _ _ _ _ _ _ _ _ _ _ c.loop-number.invariant.0)
+returns-clause-stops g c = grind (arith, HasWrittenSoFar-then-run-fails)

@@ -1,5 +1,4 @@
 use Rattle.std.proofs.Common.{◌≡◌, ◌+◌, ◌-◌, ◌≤◌, ◌<◌, not, List, ℕ, length, get_or, arith, ◌^◌}
-use Rattle.std.proofs.lemmas.Nat.Bits.{bit_at-lt}
 use Rattle.uri_streams.proofs.source.run_before.Invariants.{is_inside}
 use Rattle.uri_pct.proofs.Offered.{bit_is_failing_test, MarksFailingLanes, last_load_marks_failing_lanes, run_goes_on_past_unmarked_lanes, run_ends_at_first_marked_lane, is_set_bit}
 use Rattle.uri_streams.proofs.source.run_before.Goals as goal
@@ -8,10 +7,7 @@ use Rattle.uri_streams.proofs.source.run_before.Goals as goal
 block : (end : ℕ) (bs : List ℕ) (i mask : ℕ) → mask < 2 ^ 16
     → ((k : ℕ) → k < 16 → is_set_bit mask k ≡ not (is_inside end (get_or bs (i + k) 0)))
     → MarksFailingLanes (is_inside end) bs i 16 mask
-block end bs i mask below lane = record {
-  lane = λ k h. bit_is_failing_test _ _ (bit_at-lt mask k) (lane k h);
-  below = below;
-}
+block end bs i mask below lane = grind (arith, bit_is_failing_test)
 
 pub returns-then-mask-ne0 : goal.returns-then-mask-ne0
 returns-then-mask-ne0 c =

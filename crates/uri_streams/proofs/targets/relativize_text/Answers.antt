@@ -1,21 +1,11 @@
-use Rattle.uri_streams.proofs.Common.{ap, codes, ◌∙◌, reference_text, Text, relativize_result, result_in}
+use Rattle.uri_streams.proofs.Common.{arith, ap, codes, ◌∙◌, reference_text, Text, relativize_result, result_in}
 use Rattle.uri_relative.specs.Rule.{reference_to}
 use Rattle.uri_streams.proofs.TextResults.{parsed_result-of-error, parsed_result-of-kind}
 use Rattle.uri_streams.proofs.targets.relativize_text.Goals as goal
 
 pub returns-in_ok-reference-in-Ok : goal.returns-in_ok-reference-in-Ok
 unfolding relativize_result
-returns-in_ok-reference-in-Ok g c =
-    let base = reference_text c.args.base.now in
-    let target = reference_text c.in-Ok.target in
-    let relativizer = c.prefer_relative_path-relativizer in
-    ap Text (c.into_string.ensures.text ∙ c.in_ok-reference-in-Ok.ensures.text ∙ ap
-    (λ b. reference_to b (reference_text relativizer.result.base) target)
-    relativizer.ensures.prefers ∙ ap (λ b. reference_to c.args.prefers (reference_text b) target)
-    (relativizer.ensures.base ∙ c.with_base.ensures.base)
-    ∙ ap (reference_to c.args.prefers base) c.in-Ok.ensures.text) ∙ parsed_result-of-kind
-    (codes "target: ") g.K.Kind.kind c.args.text.now
-    (Text (reference_to c.args.prefers base c.args.text.now)) c.in-Ok.ensures.accepts
+returns-in_ok-reference-in-Ok g c = grind (arith, parsed_result-of-kind)
 
 pub returns-in-Err : goal.returns-in-Err
 unfolding relativize_result

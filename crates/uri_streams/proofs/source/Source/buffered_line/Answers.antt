@@ -3,15 +3,10 @@ use Rattle.uri_streams.proofs.Parts.{IsBufferedLine-up-to, ends_with_byte-up-to}
 use Rattle.uri_streams.proofs.source.Source.buffered_line.Goals as goal
 
 pub ended-requires-clause-ended : goal.ended-requires-clause-ended
-ended-requires-clause-ended g c =
-    ends_with_byte-up-to (end_byte c.args.is_null) _ c.run_before-index.result _
-    c.line_ending-end.ensures c.if-index-bytes.true c.if-bytes-index.true
+ended-requires-clause-ended g c = grind (arith, ends_with_byte-up-to)
 
 pub ended-requires-in-Some-clause-ended : goal.ended-requires-in-Some-clause-ended
-ended-requires-in-Some-clause-ended g c =
-    let first = c.in-Some.ensures.0 in
-    ends_with_byte-up-to (end_byte c.args.is_null) _ c.in-Some.index _ c.line_ending-end.ensures
-    first.high (eqb-true _ _ c.in-Some.ensures.1)
+ended-requires-in-Some-clause-ended g c = grind (arith, ends_with_byte-up-to)
 
 pub returns-then-bytes-index-clause-line : goal.returns-then-bytes-index-clause-line
 returns-then-bytes-index-clause-line g c =

@@ -1,18 +1,12 @@
-use Rattle.uri_streams.proofs.Common.{◌∙◌, ap, subst, Remembers, no_text_result}
+use Rattle.uri_streams.proofs.Common.{arith}
 use Rattle.uri_streams.proofs.Tasks.{command-of-each, no_text_result-of-links, no_text_result-of-unique}
 use Rattle.uri_streams.proofs.task.Task.no_text_result.Goals as goal
 
 pub returns-in-Each : goal.returns-in-Each
-returns-in-Each c = λ command known remembers.
-    c.no_text_result.ensures ∙ ap (λ k. no_text_result k c.args.why) (command-of-each _ command
-    known (subst (λ t. Remembers t command known) c.in-Each.is remembers))
+returns-in-Each c = grind (arith, command-of-each)
 
 pub returns-in-Unique : goal.returns-in-Unique
-returns-in-Unique c = λ command known remembers.
-    no_text_result-of-unique c.in-Unique.field-0 command known c.args.why
-    (subst (λ t. Remembers t command known) c.in-Unique.is remembers)
+returns-in-Unique c = grind (arith, no_text_result-of-unique)
 
 pub returns-in-Links : goal.returns-in-Links
-returns-in-Links c = λ command known remembers.
-    no_text_result-of-links c.in-Links.field-0 command known c.args.why
-    (subst (λ t. Remembers t command known) c.in-Links.is remembers)
+returns-in-Links c = grind (arith, no_text_result-of-links)
