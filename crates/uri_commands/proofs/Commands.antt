@@ -1,5 +1,5 @@
 -- Which command the words make.
-use Rattle.uri_commands.proofs.Common.{common_steps, ◌≡◌, ◌≤◌, ◌<◌, ◌-◌, take, ℕ, eqb, List, [], ◌∷◌, drop, length, get_or, String, string_bytes, refl, sym, ap, ◌∙◌, arith, inl, inr, length-drop, take_all, if◌then◌else◌, Option, Some, None, MatchOption, codes, KindName, Command, Parse, Normalize, Mend, Resolve, Links, output_of, texts, words_of, AreWordsOfLinks, AreWordsOfResolve, AreWordsOfTextCommand, AreWordsOfRuledLinks, AreWordsOfRuledNormalize, IsCommand}
+use Rattle.uri_commands.proofs.Common.{◌≡◌, ◌≤◌, ◌<◌, ◌-◌, take, ℕ, eqb, List, [], ◌∷◌, drop, length, get_or, String, string_bytes, refl, sym, ap, ◌∙◌, arith, inl, inr, length-drop, take_all, if◌then◌else◌, Option, Some, None, MatchOption, codes, KindName, Command, Parse, Normalize, Mend, Resolve, Links, output_of, texts, words_of, AreWordsOfLinks, AreWordsOfResolve, AreWordsOfTextCommand, AreWordsOfRuledLinks, AreWordsOfRuledNormalize, IsCommand}
 use Rattle.fluent_uri.specs.declared.normalize.RuleSet.TheVariants as Set
 use Rattle.uri_commands.specs.declared.command.BaseName.{BaseName}
 use Rattle.uri_commands.specs.declared.command.BaseName.TheVariants as bases
@@ -20,7 +20,10 @@ pub bytes-of-three-and-others : {Z : Type 0} (words : List (String Z)) (a b c : 
     → texts words ≡ string_bytes a ∷ string_bytes b ∷ string_bytes c
     ∷ texts (take (length words - 3) (drop 3 words))
 bytes-of-three-and-others words a b c least x y z =
-    grind (arith, common_steps, bytes-of-three-and-rest)
+    let rest : take (length words - 3) (drop 3 words) ≡ drop 3 words =
+    take_all (length words - 3) (drop 3 words) (omega (arith, length-drop 3 words)) in
+    bytes-of-three-and-rest words a b c least x y z
+    ∙ ap (λ l. string_bytes a ∷ string_bytes b ∷ string_bytes c ∷ texts l) (sym rest)
 
 -- commands: the bytes of four words of a command line and of those after them
 pub bytes-of-four-and-others : {Z : Type 0} (words : List (String Z)) (a b c d : String Z)
@@ -59,7 +62,10 @@ bytes-of-four-words (u ∷ v ∷ s ∷ t ∷ p ∷ rest) a b c d least below x y
 
 -- commands: the kind that a word names
 kind_named : List ℕ → KindName
-kind_named word = grind arith
+kind_named word =
+    let short = eqb (length word) 3 in
+    if eqb (get_or word 0 0) 117 then (if short then Uri else UriRef) else if short then Iri
+    else IriRef
 
 -- commands: the kind of the base that a word names
 base_named : List ℕ → BaseName

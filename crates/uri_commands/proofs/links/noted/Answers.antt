@@ -1,4 +1,4 @@
-use Rattle.uri_commands.proofs.Common.{arith, rules, ◌≡◌, ◌∷◌, ◌∙◌, ap, map, uri, rules_of_set, uri_ref_text, uri_text, Links, texts, IsErrorOfCommand, Base}
+use Rattle.uri_commands.proofs.Common.{arith, rules, ◌≡◌, ◌∷◌, ◌∙◌, ap, map, rules_of_set, uri_ref_text, uri_text, texts}
 use Rattle.uri_commands.proofs.LinkLines.{outcome_lines-are-link_lines}
 use Rattle.uri_commands.proofs.Refusals.{mapped-parse-error-is-of-text}
 use Rattle.uri_commands.proofs.links.noted.Goals as goal

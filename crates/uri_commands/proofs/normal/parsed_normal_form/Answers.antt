@@ -1,4 +1,4 @@
-use Rattle.uri_commands.proofs.Common.{arith, refl, IsErrorOfNormalForm, Text}
+use Rattle.uri_commands.proofs.Common.{arith}
 use Rattle.uri_commands.proofs.Refusals.{parse-error-is-of-text}
 use Rattle.uri_commands.proofs.normal.parsed_normal_form.Goals as goal
 

@@ -1,4 +1,4 @@
-use Rattle.uri_commands.proofs.Common.{arith, rules, texts}
+use Rattle.uri_commands.proofs.Common.{arith, rules}
 use Rattle.uri_commands.proofs.Outputs.{failed-output-is-error-of-links}
 use Rattle.uri_commands.proofs.run.links.Goals as goal
 

@@ -1,4 +1,4 @@
-use Rattle.uri_commands.proofs.Common.{arith, rules, ◌≡◌, None, OnOk, IfErr, sym, subst, Keeps, Prints, output_of, IsErrorOfCommand}
+use Rattle.uri_commands.proofs.Common.{arith, rules, ◌≡◌, None, OnOk, sym, subst, Keeps, Prints, output_of}
 use Rattle.uri_commands.specs.Asked.{contract_command}
 use Rattle.uri_commands.proofs.run.run_command.Goals as goal
 

@@ -1,4 +1,4 @@
-use Rattle.uri_commands.proofs.Common.{common_steps, arith, ◌≡◌, ◌++◌, ◌-◌, ◌∙◌, ap, ℕ, List, length, subst, take, drop, take-append-drop, Appends-trans, take_rest, Appends, AppendsPrefix}
+use Rattle.uri_commands.proofs.Common.{common_steps, arith, ◌≡◌, ◌++◌, ◌-◌, ◌∙◌, ap, ℕ, List, length, subst, take, drop, take-append-drop, take_rest, AppendsPrefix}
 use Rattle.uri_commands.proofs.Appended.{AppendsPrefix-after-Appends, AppendsPrefix-of-kept, on-ok}
 use Rattle.uri_commands.proofs.sink.write_rest.Goals as goal
 

@@ -1,4 +1,4 @@
-use Rattle.uri_commands.proofs.Common.{arith, rules, sym, subst, IsOfKind, uri, uri_ref, iri, iri_ref, Resolve, kind_of_base, kind_of_references, IsErrorOf, IsErrorOfCommand, Base, Reference}
+use Rattle.uri_commands.proofs.Common.{arith, rules, sym, subst, IsOfKind, uri, uri_ref, iri, iri_ref, Resolve, kind_of_base, kind_of_references, IsErrorOf, IsErrorOfCommand, Reference}
 use Rattle.uri_commands.proofs.Refusals.{mapped-parse-error-is-of-text, mapped-ok-is-of-kind}
 use Rattle.uri_commands.proofs.target.target.Goals as goal
 

@@ -1,5 +1,4 @@
 use Rattle.uri_commands.proofs.Common.{arith}
-use Rattle.uri_commands.specs.Commands.{texts}
 use Rattle.uri_commands.proofs.Commands.{last-form-decides}
 use Rattle.uri_commands.proofs.command.Command.from_words.Goals as goal
 

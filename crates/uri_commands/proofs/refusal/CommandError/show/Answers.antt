@@ -1,4 +1,4 @@
-use Rattle.uri_commands.proofs.Common.{common_steps, arith, ◌++◌, ◌∙◌, ap, codes, subst, Appends, Appends-trans, AppendsPrefix}
+use Rattle.uri_commands.proofs.Common.{common_steps, arith, ◌++◌, ◌∙◌, ap, codes, subst, AppendsPrefix}
 use Rattle.uri_commands.specs.Messages.{index_text}
 use Rattle.uri_commands.proofs.Appended.{AppendsPrefix-after-Appends, AppendsPrefix-of-longer}
 use Rattle.uri_commands.proofs.Refusals.{error-line-in-parts}
