@@ -212,7 +212,13 @@ positions-show-path p before e some two mark =
 
 -- prefixes: positions of a scheme and an authority, with these ends of a path and a query
 positions_before : Option (List ℕ) → Option (List ℕ) → ℕ → ℕ → PackedPositions
-positions_before scheme authority path_end query_end = grind arith
+positions_before scheme authority path_end query_end = with_ends_at (packed (positions_of (record {
+  scheme = scheme;
+  authority = authority;
+  path = [];
+  query = None;
+  fragment = None;
+}))) path_end query_end
 
 -- prefixes: with the same ends, positions depend on the scheme and the authority alone
 positions-by-scheme-and-authority : (p q : Components) (path_end query_end : ℕ)
@@ -221,7 +227,8 @@ positions-by-scheme-and-authority : (p q : Components) (path_end query_end : ℕ
     ≡ with_ends_at (packed (positions_of q)) path_end query_end
 unfolding positions_before
 positions-by-scheme-and-authority p q path_end query_end scheme authority =
-    grind (arith, positions_before)
+    ap (λ s. positions_before s p.authority path_end query_end) scheme
+    ∙ ap (λ a. positions_before q.scheme a path_end query_end) authority
 
 -- prefixes: the link of a text whose prefix shows where its path begins
 pub link-of-prefix : (text p s : List ℕ) (before : PackedPositions) → IsUtf8 text → text ≡ p ++ s

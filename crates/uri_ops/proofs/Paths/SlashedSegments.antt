@@ -121,7 +121,10 @@ buffers-after-one-segment false false s rest output before e =
 
 -- removing dot segments: the buffers after the step of section 5.2.4 for a segment
 buffers_after_cut : List ℕ → List ℕ → List (List ℕ) → Bool → Buffers
-buffers_after_cut segment rest output before = grind arith
+buffers_after_cut segment rest output before =
+    cond (is_single_dot segment) (buffers (or_slash rest) (slashed output) before)
+    (cond (is_double_dot segment) (buffers (or_slash rest) (before_last_slash (slashed output))
+    (before || is_empty (slashed output))) (buffers rest (slashed output ++ 47 ∷ segment) before))
 
 -- removing dot segments: a step of RFC 3986, section 5.2.4, takes one segment from the input
 step-takes-one-segment : (s : List ℕ) (rest output : List (List ℕ)) (before : Bool) → has_slash s
