@@ -3,7 +3,7 @@
 pub use Rattle.std.proofs.Common.{◌≡◌, ◌+◌, ◌<◌, ◌≤◌, ◌++◌, ℕ, Bool, true, false, List, [], refl, ap, sym, ◌∙◌, subst, length, Option, Some, None, arith, take, take_all, ltb-true, ltb-false, ◌-◌, eqb, ◌∷◌, drop, get_or, String, string_bytes, inl, inr, append-nil, suc, map, Result, codes, append_assoc, take-append-drop, ◌↔◌, rules, OnOk}
 pub use Rattle.std.proofs.KnownBytes.{Appends-kept, Appends-nil, Appends-trans, Keeps-trans}
 pub use Rattle.std.proofs.lemmas.Grind.{common_steps}
-pub use Rattle.std.proofs.lemmas.List.{take-append-le, length-drop, take_more, map-append, take-map, take_rest}
+pub use Rattle.std.proofs.lemmas.List.{take-append-le, length-drop, take_more, take-map, take_rest}
 pub use Rattle.std.specs.Io.KnownBytes.{Appends, Keeps}
 pub use Rattle.std.specs.Prelude.{nat_lt, Ok, Err, IfSome, if◌then◌else◌, MatchOption, option_map, slice_get, IfErr, IfOk, IsOk, MatchResult, is_ok}
 pub use Rattle.fluent_uri.specs.Grammar.{Kind, IsOfKind, is_of_kind, uri, uri_ref, iri, iri_ref}

@@ -1,6 +1,5 @@
 -- The lines of outcomes.
-use Rattle.uri_commands.proofs.Common.{common_steps, arith, ◌≡◌, ◌+◌, ◌<◌, ◌++◌, ◌∷◌, ◌∙◌, ℕ, List, [], Option, length, take, get_or, sym, ap, subst, append-nil, Appends-trans, take_more, Appends, rules_of_set, RuleSet, link_lines, outcome_line, outcome_lines}
-use Rattle.std.proofs.lemmas.List.Concat.{flat_map-append}
+use Rattle.uri_commands.proofs.Common.{common_steps, arith, ◌≡◌, ◌+◌, ◌<◌, ℕ, List, [], Option, length, take, get_or, Appends, rules_of_set, RuleSet, link_lines, outcome_line, outcome_lines}
 use Rattle.fluent_uri.specs.SchemeRules.{Rules}
 use Rattle.uri_links.specs.Outcomes.{outcomes_of}
 use Rattle.uri_links.specs.declared.links.Outcome.{Outcome}

@@ -1,5 +1,5 @@
 -- References that are parsed one after the other.
-use Rattle.uri_commands.proofs.Common.{common_steps, arith, ◌≡◌, ◌+◌, ◌<◌, ◌++◌, ◌∷◌, ◌∙◌, ℕ, suc, true, List, [], Some, String, string_bytes, length, take, get_or, map, sym, ap, map-append, take-map, take_more, option_map, slice_get, Kind, IsOfKind, is_of_kind, are_of_kind, texts, IsErrorOf, IsErrorOfFirst}
+use Rattle.uri_commands.proofs.Common.{common_steps, arith, ◌≡◌, ◌+◌, ◌<◌, ◌++◌, ◌∷◌, ◌∙◌, ℕ, suc, true, List, [], Some, String, string_bytes, length, take, get_or, map, sym, ap, take-map, option_map, slice_get, Kind, IsOfKind, is_of_kind, are_of_kind, texts, IsErrorOf, IsErrorOfFirst}
 use Rattle.std.proofs.lemmas.List.Folds.{list_all-append}
 use Rattle.std.proofs.lemmas.Option.{slice_get-get_or, slice_get-map}
 use Rattle.fluent_uri.specs.declared.ParseError.{ParseError}

@@ -1,5 +1,5 @@
 -- The error that is returned for a text that is not of its kind.
-use Rattle.uri_commands.proofs.Common.{common_steps, arith, ◌≡◌, ◌↔◌, ◌++◌, List, ℕ, Result, Ok, Err, Some, sym, ap, ◌∙◌, append_assoc, codes, subst, IsOk, IfErr, MatchResult, is_ok, Kind, IsOfKind, IsErrorOf, command_error_text, error_line, CommandError}
+use Rattle.uri_commands.proofs.Common.{common_steps, arith, ◌≡◌, ◌↔◌, ◌++◌, List, ℕ, Result, Ok, Err, Some, sym, ap, ◌∙◌, codes, subst, IsOk, IfErr, MatchResult, is_ok, Kind, IsOfKind, IsErrorOf, command_error_text, error_line, CommandError}
 use Rattle.std.specs.Result.{IsErrAnd}
 use Rattle.fluent_uri.specs.Refusals.{refusal}
 use Rattle.fluent_uri.specs.declared.ParseError.{ParseError}
