@@ -23,6 +23,8 @@ NAME = r"`([^`]+)`"
 # What is said of an answer that names what the mutant took away: it tells nothing of the goal.
 TAKEN_AWAY = re.compile(r"has no field|is not in scope|has no `|was not admitted|was rejected")
 THROUGH_ANOTHER = re.compile(r"(it calls|it passes|a call of)\b.*not proved")
+# What ends in a fact is a lemma, as `name : (n : ℕ) → n ≤ n + 1`.
+LEMMA = re.compile(r"(?:pub )?(\S+) :\s(?:.*→)?([^→]*[≡≢≤<⊥↔][^→]*|\s*(?:Is|Are|Has|All|Lacks?|If)[A-Z][^→]*)", re.S)
 FUNCTION = re.compile(r' *(?:pub(?:\([^)]*\))? )?(const )?(?:unsafe )?(?:extern "C" )?fn (\w+)')
 
 # A proof that is not looked at.
@@ -90,6 +92,12 @@ class Room:
             hole = HOLE.format(module=module, function=words[-1])
             (folder / "Proof.antt").write_text(hole, encoding="utf-8")
 
+    def assume_lemmas(self):
+        """Puts a hole in the place of the proof of each lemma."""
+        for it in self.sources.glob("proofs/**/*.antt"):
+            if it.name not in ("Answers.antt", "Invariants.antt", "Proof.antt"):
+                it.write_text(assumed(it.read_text(encoding="utf-8")), encoding="utf-8")
+
     def without_bodies(self, functions, texts):
         """The texts of all sources, in which no other function with a contract has its body."""
         names = {it.rpartition("::")[2] for it in functions}
@@ -118,6 +126,18 @@ class Room:
         self.checks += 1
         self.seconds += used.ru_utime + used.ru_stime
         return lines
+
+
+def assumed(text):
+    """A file of `proofs` in which each lemma has a hole for its proof."""
+    found, name = [], None
+    for part in re.split(r"\n(?=[^\s)}])", text):
+        if name and part.startswith((f"{name} ", "unfolding ")):
+            continue
+        head = LEMMA.fullmatch(part.rstrip())
+        name = head and head[1]
+        found += [part.rstrip(), f"{name} = ?\n"] if name else [part]
+    return "\n".join(found)
 
 
 def stated(text, functions):
@@ -174,6 +194,9 @@ class Judge:
         self.room, self.rt, self.crate = room, room.rt, room.crate
 
     def judge(self, batch, texts):
+        # (a wrong definition falls at lemmas)
+        if not any(it.is_of_definition for it in batch):
+            self.room.assume_lemmas()
         lines = self.room.check({it.function for it in batch}, texts)
         unread = [it for it in lines if self.rt.unread(it, texts)]
         if lines[-1].startswith("only=") and not unread:

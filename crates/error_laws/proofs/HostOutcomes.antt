@@ -12,7 +12,6 @@ use Rattle.error_laws.proofs.Outcomes.{IsSomeError, Outcome, carry, stop, Follow
 use Rattle.error_laws.proofs.PathOutcomes.{port-outcome, end-has-no-port-error}
 use Rattle.error_laws.proofs.SharedPrefixes.{IsPosition, position-after-mark, Alike, next-is-shared, scan-ends-at-position, prefix-is-alike, prefix-is-shared, literal-is-parsed, literal-is-shared, literal-ends-at-position, mark-is-within-text, parsed-literal-is-there}
 
--- error law: nothing is scanned where a scan ends
 pub scan-stops-at-its-end : (text : List ℕ) (set : TableSet) (i : ℕ)
     → valid_prefix set (drop (scan_end text set i) text) ≡ 0
 scan-stops-at-its-end text set i =

@@ -13,7 +13,6 @@ pub record Facts (kind : Kind) : Type 0 where
   -- a path has but `@` and `/` more than userinfo
   pub only_slash : HasAllBut (codes "@/") kind.userinfo kind.path
 
--- error law: a character of a path that is not `@` or `/` may be in userinfo too
 path-char-but-at-or-slash-is-userinfo-char : (c : ℕ) → is_one_of (codes "@/") c ≡ false
     → is_userinfo_char c ≡ false
     → is_path_char c ≡ false

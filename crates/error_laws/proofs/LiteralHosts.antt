@@ -16,12 +16,10 @@ pub record IsAddress (address : List ℕ) : Type 0 where
   pub lacks : Lacks (codes "]") address
   pub is : is_literal address ≡ true
 
--- error law: a character of an IPv6 address is ASCII
 address-char-is-ascii : (c : ℕ) → is_address_char c ≡ true → c < 128
 unfolding is_address_char
 address-char-is-ascii c e = grind (arith, nat_tests)
 
--- error law: an IPv6 address may be in brackets
 ipv6-is-address : (address segments : List ℕ) → IsColonHex address segments → IsAddress address
 unfolding is_literal is_address_text
 ipv6-is-address address segments h = record {
@@ -30,7 +28,6 @@ ipv6-is-address address segments h = record {
   is = or_left _ _ (ap is_some (ipv6_value-complete address segments h));
 }
 
--- error law: `::` is an IPv6 address
 double-colon-is-ipv6 : IsColonHex (codes "::") (0 ∷ 0 ∷ 0 ∷ 0 ∷ 0 ∷ 0 ∷ 0 ∷ 0 ∷ [])
 double-colon-is-ipv6 = inr (record {
   head_text = [];
@@ -78,20 +75,17 @@ letter-is-ipv-future-text : IsValidFor ipv_future_set (codes "a")
 unfolding is_valid_for tokens_from_chars chars
 letter-is-ipv-future-text = refl
 
--- error law: a valid text of ASCII characters after one is valid
 valid-text-goes-on : (set : TableSet) → LacksPercent set → (x y : List ℕ)
     → IsUtf8 x × IsValidFor set x → IsUtf8 y → IsValidFor set y
     → IsUtf8 (x ++ y) × IsValidFor set (x ++ y)
 valid-text-goes-on set lacks x y h u v =
     search (rules, IsUtf8-append, valid_text_after_valid_text_is_valid)
 
--- general fact on texts, for the error law: one that passes the test of the end is empty
 ended-text-is-empty : (xs : List ℕ) → is_end xs ≡ true → xs ≡ []
 unfolding is_end
 ended-text-is-empty [] e = refl
 ended-text-is-empty (x ∷ xs) e = absurd (false≢true e)
 
--- general fact on options, for the error law: an end that is compared with n, and is there, is n
 option-with-end-is-that-end : (n : ℕ) (o : Option ℕ) → option_map_or (λ end. eqb end n) o false
     ≡ true → o ≡ Some n
 option-with-end-is-that-end n None e = absurd (false≢true e)

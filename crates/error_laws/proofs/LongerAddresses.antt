@@ -324,7 +324,6 @@ module _ (text more : List ℕ) where
   unfolding ipv6_end
   ipv6-closes-with-text i e last le a past b c = search (rules, groups-close, groups-are-kept)
 
--- error law: an IPv6 address that begins within a text ends within it
 pub ipv6-ends-within-text : (text : List ℕ) (i end : ℕ) → i ≤ length text
     → ipv6_end text i ≡ Some end → end ≤ length text
 unfolding ipv6_end

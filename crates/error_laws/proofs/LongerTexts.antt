@@ -6,7 +6,6 @@ use Rattle.std.proofs.lemmas.List.Sums.{prefix_len-le-length}
 use Rattle.error_laws.proofs.SharedPrefixes.{is_next-by-byte, mark-is-within-text}
 use Rattle.uri_parts.proofs.Offered.{version-letter-begins-no-ipv6}
 
--- error law: what is next before the end of a text is next in a longer text too
 pub next-is-kept-in-longer-text : (text more : List ℕ) (mark i : ℕ) → i < length text
     → is_next (text ++ more) mark i ≡ is_next text mark i
 next-is-kept-in-longer-text text more mark i l =
@@ -17,12 +16,10 @@ pub bytes-are-no-end : (b : ℕ) (bs : List ℕ) → is_end (b ∷ bs) ≡ false
 unfolding is_end
 bytes-are-no-end b bs = refl
 
--- general fact on texts, for the error law: the empty one is at its end
 pub empty-text-is-end : is_end [] ≡ true
 unfolding is_end
 empty-text-is-end = refl
 
--- error law: a position where a text is at its end is not before that
 pub end-is-past-text : (text : List ℕ) (i : ℕ) → is_at_end text i ≡ true → length text ≤ i
 end-is-past-text text i e = ⊎_elim
     (λ (l : i < length text). absurd (both_ways _ (ap is_end (drop_more text i 0 l)
@@ -42,7 +39,6 @@ end_with_room (Groups_end (suc room) end) = true
 end_with_room (Elision room end) = false
 end_with_room Malformed = false
 
--- error law: an address that ends after a `::` has room for that
 pub elided-address-has-room : (text : List ℕ) (g : Groups) (end : ℕ)
     → after_elision text g ≡ Some end
     → (room : ℕ) × (g ≡ Groups_end (suc room) end)
@@ -53,31 +49,26 @@ elided-address-has-room text (Groups_end (suc room) e) end a =
 elided-address-has-room text (Elision room e) end a = absurd (none-some end a)
 elided-address-has-room text Malformed end a = absurd (none-some end a)
 
--- error law: groups after a `::` with room for that end an address
 pub groups-with-room-end-address : (text : List ℕ) (room end : ℕ)
     → after_elision text (Groups_end (suc room) end) ≡ Some end
 groups-with-room-end-address text room end =
     cond-false (eqb (suc room) 0) None (Some end) (ne_eqb (suc room) 0 (λ z. omega (arith, z)))
 
--- error law: no IPv6 address begins at the end of a text
 end-begins-no-ipv6 : (text : List ℕ) (i : ℕ) → length text ≤ i → cannot_begin_ipv6 text i ≡ true
 unfolding cannot_begin_ipv6
 end-begins-no-ipv6 text i l = grind (arith, nat_tests, drop_all)
 
--- error law: where an IPv6 address begins, no address of a later version does in a longer text
 pub longer-text-begins-no-version : (text more : List ℕ) (i : ℕ) → cannot_begin_ipv6 text i ≡ false
     → (is_next (text ++ more) 118 i || is_next (text ++ more) 86 i) ≡ false
 longer-text-begins-no-version text more i begins =
     search (rules, version-letter-begins-no-ipv6, next-is-kept-in-longer-text, end-begins-no-ipv6)
 
--- error law: in a longer text no fewer digits come first
 digits-are-no-fewer-in-longer-text : (radix : ℕ) (bs more : List ℕ)
     → digit_count radix bs ≤ digit_count radix (bs ++ more)
 digits-are-no-fewer-in-longer-text radix [] more = omega arith
 digits-are-no-fewer-in-longer-text radix (b ∷ bs) more =
     let ih = digits-are-no-fewer-in-longer-text radix bs more in grind (arith, nat_tests)
 
--- error law: digits that end within a text end there in a longer text too
 digits-within-text-are-kept : (radix : ℕ) (bs more : List ℕ) → digit_count radix bs < length bs
     → digit_count radix (bs ++ more) ≡ digit_count radix bs
 digits-within-text-are-kept radix [] more l = absurd (omega arith)
@@ -88,7 +79,6 @@ digits-within-text-are-kept radix (b ∷ bs) more l = ⊎_elim
     ∙ ap (λ n. 1 + n) (digits-within-text-are-kept radix bs more (omega (arith, e, l))) ∙ sym e)
     (λ d. cond-false _ _ _ d ∙ sym (cond-false _ _ _ d)) (cases_Bool (is_digit b radix))
 
--- error law: digits end with a text if what is after it begins with none
 digits-end-where-none-follow : (radix : ℕ) (bs more : List ℕ) → digit_count radix more ≡ 0
     → digit_count radix (bs ++ more) ≡ digit_count radix bs
 digits-end-where-none-follow radix [] more z = z
@@ -126,7 +116,6 @@ same-next-if-same-for-value : (f g : ℕ → Option ℕ) (o : Option ℕ)
 same-next-if-same-for-value f g None h = refl
 same-next-if-same-for-value f g (Some n) h = h n refl
 
--- general fact on options, for the error law: after two steps there is what follows the first
 value-after-two-steps : (P : ℕ → Type 0) (f : ℕ → Option ℕ) (o : Option ℕ) (end : ℕ)
     → option_and_then f o ≡ Some end → ((n : ℕ) → o ≡ Some n → f n ≡ Some end → P end) → P end
 value-after-two-steps P f None end e h = absurd (none-some end e)

@@ -7,7 +7,6 @@ use Rattle.std.specs.List.{list_all}
 abbrev pub At : List ℕ → ℕ → List ℕ → Type 0
 At marks i text = IsEmptyOrMarked marks (drop i text)
 
--- error law: a valid text before a mark that its set lacks is scanned to its end
 pub valid-text-is-scanned-to-mark : (set : TableSet) (marks : List ℕ) → LacksPercent set
     → excludes set marks ≡ true → (x rest : List ℕ) → IsUtf8 x → IsUtf8 (x ++ rest)
     → IsValidFor set x → IsEmptyOrMarked marks rest → valid_prefix set (x ++ rest) ≡ length x
@@ -18,7 +17,6 @@ valid-text-is-scanned-to-mark set marks lacks outside x rest u v valid begins =
     ∙ valid)
     ∙ sym (length-of-text-before-marks marks (x ++ rest)) ∙ ap length c.0
 
--- error law: characters that pass a test of ASCII alone are ASCII
 tested-bytes-are-ascii : (test : ℕ → Bool) → ((c : ℕ) → test c ≡ true → c < 128) → (bs : List ℕ)
     → list_all test bs ≡ true → IsAscii bs
 tested-bytes-are-ascii test ascii [] e i = omega arith

@@ -53,7 +53,6 @@ abbrev pub Follows : Bool → List ℕ → ℕ → ℕ → List ℕ → Type 0
 Follows true marks i n other = i < n
 Follows false marks i n other = At marks i other
 
--- error law: what follows with some marks does with more
 pub follows-with-more-marks : (late : Bool) (some all : List ℕ) (i n : ℕ) (other : List ℕ)
     → ((c : ℕ) → is_one_of some c ≡ true → is_one_of all c ≡ true)
     → Follows late some i n other → Follows late all i n other

@@ -7,7 +7,6 @@ use Rattle.error_laws.proofs.Marks.{At}
 use Rattle.error_laws.proofs.Outcomes.{Outcome, carry, stop, Follows, follows-with-more-marks, shared-mark-is-at, shared-mark-follows, digits-end-alike, other-byte-is-not-next, scan-outcome}
 use Rattle.error_laws.proofs.SharedPrefixes.{IsPosition, position-after-mark, scan-goes-on, Alike, scan-ends-at-position, next-is-shared, bytes-are-shared, position-is-shared, scanned-part-is-valid}
 
--- error law: nothing is scanned at the end of a text
 scan-stays-at-end : (text : List ℕ) (set : TableSet) (i : ℕ) → drop i text ≡ []
     → scan text set i ≡ Ok i
 scan-stays-at-end text set i d =

@@ -3,7 +3,6 @@ use Rattle.error_laws.proofs.Common.{◌≡◌, map, refl, has_late_error, is_la
 use Rattle.uri_parts.proofs.Offered.{errors_on_literals}
 use Rattle.error_laws.specs.ViablePrefixRows.{late_error_rows}
 
--- error law: the stored examples have the late errors that their rows say
 pub example-texts-have-late-errors : map (λ row. has_late_error row.0 row.1) late_error_rows
     ≡ map (λ row. row.2) late_error_rows
 unfolding errors_on_literals has_late_error is_late_from_authority is_late_from_host

@@ -8,17 +8,14 @@ use Rattle.uri_parts.specs.Models.Literals.{literal_length}
 use Rattle.uri_parts.proofs.Offered.{is_literal, parses_literal, utf8_after_mark, literal-ends-as-parsed, text-with-mark-is-mark-and-rest}
 use Rattle.error_laws.proofs.Marks.{At, valid-text-is-scanned-to-mark}
 
--- error law: where a mark is next, the text does not end
 pub mark-is-within-text : (text : List ℕ) (mark i : ℕ) → is_next text mark i ≡ true
     → i < length text
 mark-is-within-text text mark i e = grind (arith, nat_tests, drop_all)
 
--- general fact on lists, for the error law: what is taken in one step is taken in two
 pub taken-in-two-steps : (text : List ℕ) (i k : ℕ) → i ≤ length text
     → take (i + k) text ≡ take i text ++ take k (drop i text)
 taken-in-two-steps text i k le = search (rules, length-take-le, take-append-drop, take-append-add)
 
--- error law: what is next at an index within a text is its byte there
 pub is_next-by-byte : (text : List ℕ) (mark i : ℕ) → i < length text
     → is_next text mark i ≡ eqb (get_or text i 0) mark
 is_next-by-byte text mark i l = ap (starts mark) (drop_more text i 0 l)
@@ -28,7 +25,6 @@ pub record IsPosition (text : List ℕ) (i : ℕ) : Type 0 where
   pub utf8 : IsUtf8 (drop i text)
   pub le : i ≤ length text
 
--- error law: after a mark that is ASCII is a position
 pub position-after-mark : (text : List ℕ) (mark i : ℕ) → mark < 128 → is_next text mark i ≡ true
     → IsPosition text i → IsPosition text (i + 1)
 position-after-mark text mark i small e a =
@@ -38,7 +34,6 @@ position-after-mark text mark i small e a =
       le = omega arith;
     }
 
--- error law: a mark that is ASCII is at a position
 pub position-at-mark : (text : List ℕ) (mark i : ℕ) → IsUtf8 text → mark < 128
     → is_next text mark i ≡ true → IsPosition text i
 position-at-mark text mark i u small e =
@@ -49,7 +44,6 @@ position-at-mark text mark i u small e =
       le = omega arith;
     }
 
--- error law: a scan ends at a position
 pub scan-ends-at-position : (text : List ℕ) (set : TableSet) → LacksPercent set → (i : ℕ)
     → IsPosition text i → IsPosition text (scan_end text set i)
 scan-ends-at-position text set lacks i a =
@@ -60,7 +54,6 @@ scan-ends-at-position text set lacks i a =
       le = omega (arith, valid_prefix_is_at_most_length set bs, length-drop i text, a.le);
     }
 
--- error law: what a scan passes is valid
 pub scanned-part-is-valid : (text : List ℕ) (set : TableSet) → LacksPercent set → (i : ℕ)
     → IsPosition text i
     → IsUtf8 (take (valid_prefix set (drop i text)) (drop i text))
@@ -68,7 +61,6 @@ pub scanned-part-is-valid : (text : List ℕ) (set : TableSet) → LacksPercent 
 scanned-part-is-valid text set lacks i a =
     search (rules, IsUtf8-take, valid_prefix_ends_at_boundary, valid_prefix_is_valid)
 
--- error law: a scan goes on at its end if no `%` (37) is next there
 pub scan-goes-on : (text : List ℕ) (set : TableSet) (i end : ℕ) → scan_end text set i ≡ end
     → is_next text 37 end ≡ false → scan text set i ≡ Ok end
 scan-goes-on text set i end e n = cond-false _ _ _ (and_right _ _ (ap (is_next text 37) e ∙ n))

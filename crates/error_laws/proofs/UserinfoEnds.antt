@@ -15,7 +15,6 @@ last-colon-is-colon text (suc n) l = ⊎_elim
     (λ c. let e = cond-false _ n _ c in
     ap (is_next text 58) e ∙ last-colon-is-colon _ n (omega (arith, e))) (cases_Bool _)
 
--- error law: if there is a `:` before position n of a text, the last such one is before n
 pub last-colon-is-before-position : (text : List ℕ) (n : ℕ) → 0 < last_colon text n
     → last_colon text n < n
 unfolding last_colon
@@ -23,7 +22,6 @@ last-colon-is-before-position text zero l = absurd (omega arith)
 last-colon-is-before-position text (suc n) l = last_colon_is_below_position text (suc n)
     (omega arith)
 
--- error law: the last `:` before a position is the same in a text that is alike up to there
 pub last-colon-is-shared : (n : ℕ) (text other : List ℕ) → Alike n text other → (k : ℕ) → k ≤ n
     → last_colon other k ≡ last_colon text k
 unfolding last_colon

@@ -10,7 +10,6 @@ use Rattle.error_laws.proofs.Outcomes.{Any, Outcome, carry, stop, shared-mark-is
 use Rattle.error_laws.proofs.PathOutcomes.{path-outcome, end-has-no-path-error}
 use Rattle.error_laws.proofs.SharedPrefixes.{IsPosition, position-after-mark, Alike, byte-is-shared, scan-ends-at-position, prefix-is-alike, next-is-shared, slashes-are-shared, scan-is-shared}
 
--- error law: after `//` is a position between characters
 position-after-slashes : (text : List ℕ) (i : ℕ) → IsPosition text i
     → has_authority (drop i text) ≡ true → IsPosition text (i + 2)
 position-after-slashes text i a h =

@@ -49,12 +49,10 @@ host-error-is-defined host OutOfMemory is =
 empty-host-stays : ascii_host_or_error [] ≡ Ok []
 empty-host-stays = grind (arith, empty_is_name, unencoded_ascii_name_stays, ascii-bytes-are-utf8)
 
--- exports for C: the host without an authority is the empty text
 pub host-without-authority-is-empty : (authority : Option (List ℕ)) → authority ≡ None
     → ascii_host_or_error (host_or_empty authority) ≡ Ok []
 host-without-authority-is-empty authority none = rw none empty-host-stays
 
--- exports for C: if a host is rejected, memory is out or the rejection is the one that is defined
 pub authority-error-is-defined : (authority : Option (List ℕ)) (text : List ℕ)
     (error : AsciiHostError) (why : Rejection) → authority ≡ Some text
     → IsAsciiHostError (authority_parts text).host error → why ≡ ascii_host_rejection error
@@ -70,7 +68,6 @@ rejected-authority : (authority : Option (List ℕ)) (error : AsciiHostError)
 rejected-authority None error of_host is = is
 rejected-authority (Some authority) error of_host is = of_host (authority_parts authority).host is
 
--- hosts in ASCII: a text whose authority is rejected has no form in ASCII
 no-form-of-rejected-authority : (c : Components) (authority : Option (List ℕ))
     (error : AsciiHostError)
     → IsSomeAnd authority (λ a. IsRejectedHost (authority_parts a).host error)

@@ -18,8 +18,6 @@ slice_get-set_other (y ∷ ys) (suc i) zero x apart = refl
 slice_get-set_other (y ∷ ys) (suc i) (suc j) x apart =
     slice_get-set_other ys i j x (λ e. apart (ap suc e))
 
--- batches for C: what holds of each item before n, and of the one that is set there, holds of each
--- up to n
 pub holds-up-to-set-item : {A : Type 0} → (P : ℕ → Option A → Type 0) (all : List A) (n : ℕ)
     (here : A) → n < length all → P n (Some here) → ((i : ℕ) → i < n → P i (slice_get all i))
     → (i : ℕ) → i < n + 1 → P i (slice_get (set all n here) i)
@@ -95,11 +93,9 @@ module _ {O : Type 0} (value : O → ℕ) (at : ℕ → Option (List ℕ)) where
         other_bits = λ i above. others i (λ e. omega arith) ∙ is.other_bits i (omega arith);
       }
 
--- general fact on options, for batches for C: a value that equals Some is there
 pub equal-to-Some-is-some : {A : Type 0} (o : Option A) (x : A) → Some x ≡ o → IsSome o
 equal-to-Some-is-some o x e = sym (ap is_some e)
 
--- batches for C: the items after one that is set are as they were
 pub later-items-unchanged : {A : Type 0} → (first all : List A) (n : ℕ) (here : A)
     → drop n all ≡ drop n first → drop (n + 1) (set all n here) ≡ drop (n + 1) first
 later-items-unchanged first all n here others = drop-set-lt (n + 1) all n here (omega arith)

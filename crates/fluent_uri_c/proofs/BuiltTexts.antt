@@ -20,7 +20,6 @@ unfolding is_text_for
 text-for-set set x e = let p = and_parts _ (is_valid_for set x) e in
     (IsUtf8-from_is_utf8 x p.0, p.1)
 
--- building for C: a text of the characters of a scheme that begins with a letter is one
 pub scheme-from-characters : (set : TableSet) (bytes : List ℕ) → set ≡ scheme_set
     → is_text_for set bytes ≡ true → is_ascii_alphabetic (slice_index bytes 0) ≡ true
     → is_scheme_text bytes ≡ true
@@ -33,7 +32,6 @@ pub host-from-literal : (names : TableSet) (bytes : List ℕ) → IsUtf8 bytes
 unfolding is_host_text
 host-from-literal names bytes utf8 host = and_from _ _ (is_utf8-from_IsUtf8 bytes utf8) host
 
--- building for C: a text of the characters of names that does not begin with `[` (91) is a host
 pub host-from-characters : (names : TableSet) (bytes : List ℕ) → starts 91 bytes ≡ false
     → is_text_for names bytes ≡ true → is_host_text names bytes ≡ true
 unfolding is_host_text is_text_for is_host
@@ -51,7 +49,6 @@ marked-is-utf8 set before after None b a e = nothing-is-utf8
 marked-is-utf8 set before after (Some x) b a e =
     IsUtf8-append (before ++ x) after (IsUtf8-append before x b (text-for-set set x e).0) a
 
--- building for C: a component that passes its test is valid for its set, if it is there
 passing-is-valid : (set : TableSet) (part : Option (List ℕ))
     → absent_or_passes part (is_text_for set) ≡ true → IfSome part (λ x. is_valid_for set x ≡ true)
 passing-is-valid set None e = tt
@@ -89,7 +86,6 @@ recomposed-authority-has-its-parts kind sets user port host u h d =
       authority_parts-are-unique kind.userinfo kind.reg_name apart text p utf8 grammar,
     )
 
--- building for C: the authority that is given is valid, if each of its components is
 pub given-authority-is-valid : (kind : Kind) → HasComponentSets kind
     → (text : List ℕ) (spans : ComponentSpans) (host : Option (List ℕ))
     → given text spans.host ≡ host
@@ -101,7 +97,6 @@ given-authority-is-valid kind sets text spans None e u h d = rw e tt
 given-authority-is-valid kind sets text spans (Some host) e u h d =
     grind (arith, recomposed-authority-has-its-parts)
 
--- building for C: an authority passes its test, if it is there and valid
 valid-authority-passes : (kind : Kind) (authority : Option AuthorityParts)
     → IfSome authority (λ parts. (is_authority_text kind (recompose_authority parts) ≡ true)
     × (authority_parts (recompose_authority parts) ≡ parts))
@@ -109,7 +104,6 @@ valid-authority-passes : (kind : Kind) (authority : Option AuthorityParts)
 valid-authority-passes kind None valid = refl
 valid-authority-passes kind (Some parts) valid = valid.0
 
--- building for C: an authority that is valid has its components again
 valid-authority-has-its-parts : (kind : Kind) (authority : Option AuthorityParts)
     → IfSome authority (λ parts. (is_authority_text kind (recompose_authority parts) ≡ true)
     × (authority_parts (recompose_authority parts) ≡ parts))
@@ -117,7 +111,6 @@ valid-authority-has-its-parts : (kind : Kind) (authority : Option AuthorityParts
 valid-authority-has-its-parts kind None valid = tt
 valid-authority-has-its-parts kind (Some parts) valid = valid.1
 
--- building for C: if no scheme is missing, there is one or none is needed
 no-scheme-is-missing : (needs : Bool) (scheme : Option (List ℕ)) (other : Option Rejection)
     → first_rejection (missing 5 (needs && is_none scheme)) other ≡ None
     → ((is_some scheme || not needs) ≡ true) × (other ≡ None)
@@ -132,7 +125,6 @@ none-before-map : (o : Option BuildError) (f : BuildError → Rejection) → opt
 none-before-map None f e = refl
 none-before-map (Some x) f e = absurd (none-some _ (sym e))
 
--- building for C: components that are given, each by its rule, are those of the text that is built
 pub built-text-has-given-components : (kind : Kind) → HasComponentSets kind
     → (text : List ℕ) (spans : ComponentSpans)
     → absent_or_passes (given text spans.scheme) is_scheme_text ≡ true

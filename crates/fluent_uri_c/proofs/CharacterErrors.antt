@@ -14,7 +14,6 @@ pub record IsScanned (set : TableSet) (text : List ℕ) (end : ℕ) : Type 0 whe
   pub possible : IsTrue (is_possible_length text)
   pub here : end ≡ scan_end text set 0
 
--- components for C: bytes are scanned as their text is
 pub scanned-bytes : (set : TableSet) (bytes text : List ℕ) (end : ℕ) → IsPossibleUtf8 bytes
     → text ≡ bytes → end ≡ scan_end text set 0 → IsScanned set bytes end
 scanned-bytes set bytes text end accepted same here = record {

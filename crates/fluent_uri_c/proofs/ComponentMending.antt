@@ -9,7 +9,6 @@ use Rattle.uri_mend.proofs.Offered.{nothing-is-scanned-after-scan, scanned-prefi
 abbrev octets_between : List ℕ → ℕ → ℕ → List ℕ
 octets_between text start end = print (map Octet (slice_range text start end))
 
--- mended components for C: what is between a position and that after a character is the character
 char-is-part-of-text : (text : List ℕ) (end next c : ℕ) → end ≤ next → next ≤ length text
     → drop end text ≡ encode_utf8 c ++ drop next text → slice_range text end next ≡ encode_utf8 c
 char-is-part-of-text text end next c order inside joined = grind (arith, common_steps)
@@ -59,7 +58,6 @@ module _ (set : TableSet) (lacks : LacksPercent set) (octets : set.pct_encoded �
       (between_none text end)))
       (cases_lt end (length text)))
 
--- mended components for C: a text that grows by a run and octets
 pub text-grows-by-run-and-octets : (old mid new run octets rest left whole : List ℕ)
     → mid ≡ old ++ run → new ≡ mid ++ octets → left ≡ run ++ (octets ++ rest)
     → old ++ left ≡ whole → new ++ rest ≡ whole

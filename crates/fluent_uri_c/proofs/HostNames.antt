@@ -5,16 +5,13 @@ use Rattle.std.specs.Net.Reader.{read_ipv4, read_octet}
 use Rattle.std.proofs.NetLemmas.Numbers.{NoDigit, read_number_empty}
 use Rattle.std.proofs.lemmas.Bool.Decides.{nat_tests}
 
--- exports for C: a host that begins with no digit is no IPv4 address
 no_ipv4 : (host : List ℕ) → NoDigit 10 host → ipv4_value host ≡ None
 unfolding ipv4_value read_ipv4 read_octet
 no_ipv4 host h = rw (read_number_empty 10 255 host h)
 
--- exports for C: a byte that is no ASCII digit has no value below 10
 no_digit : (c : ℕ) → is_ascii_digit c ≡ false → 10 ≤ digit_value c
 no_digit c e = grind arith
 
--- exports for C: an empty host is a registered name
 pub empty_is_name : (host : List ℕ) → length host < 1 → host_kind host ≡ RegName
 unfolding host_kind
 empty_is_name [] h = rw (no_ipv4 [] (lit≤ tt))

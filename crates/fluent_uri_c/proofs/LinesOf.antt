@@ -38,7 +38,6 @@ pub record IsLine (input : List ℕ) (n start end : ℕ) : Type 0 where
   pub next : end < length input → drop (n + 1) (lines_of input) ≡ lines_of (drop (end + 1) input)
   pub last : length input ≤ end → length (lines_of input) ≡ n + 1
 
--- lines for C: line n of the input, if a newline ends it
 IsLine-before-newline : (input : List ℕ) (n start end : ℕ) → start ≤ length input
     → drop n (lines_of input) ≡ lines_of (drop start input)
     → end ≡ start + line_length (drop start input)
@@ -81,8 +80,6 @@ IsLine-at-end input n start end inside before is past =
       last = λ past. omega (arith, left.0, none, length-drop (n + 1) (lines_of input));
     }
 
--- lines for C: line n of the input begins where the lines before it end,
--- and has the length of the first line that is left
 pub IsLine-from-position : (input : List ℕ) (n start end : ℕ) → start ≤ length input
     → drop n (lines_of input) ≡ lines_of (drop start input)
     → end ≡ start + line_length (drop start input) → IsLine input n start end

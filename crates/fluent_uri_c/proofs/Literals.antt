@@ -35,11 +35,9 @@ equality-is-symmetric : (a b : ℕ) → eqb a b ≡ eqb b a
 equality-is-symmetric a b = tests-that-imply-each-other-are-equal (eqb a b) (eqb b a)
     (λ e. eq-eqb b a (sym (eqb-true a b e))) (λ e. eq-eqb a b (sym (eqb-true b a e)))
 
--- hosts for C: a byte is one of two letters if it is the one or the other
 version-letter-is-one-of-two : (c : ℕ) → is_one_of (codes "vV") c ≡ (eqb c 118 || eqb c 86)
 version-letter-is-one-of-two c = grind (arith, equality-is-symmetric)
 
--- hosts for C: the test of an IPvFuture address, by what is before and from the first `.`
 pub ipv_future_by_its_cut : (text : List ℕ)
     → is_ipv_future text ≡ ((starts 118 text || starts 86 text)
     && ((nat_lt 0 (length (before_any (codes ".") (drop 1 text)))

@@ -12,7 +12,6 @@ pub mended_result-of-mended : (kind : Kind) (bytes text made : List ℕ) → Non
     → text ≡ bytes → IsMended kind text made → mended_result kind bytes ≡ Ok made
 mended_result-of-mended kind bytes text made valid same is = grind arith
 
--- exports for C: the text that a link is mended to is the one that the contract defines
 pub mended_link_result-of-mended : (kind : Kind) (bytes text made : List ℕ)
     → None ≡ utf8_error bytes → text ≡ bytes → IsMended kind (trimmed_link text) made
     → mended_link_result kind bytes ≡ Ok made

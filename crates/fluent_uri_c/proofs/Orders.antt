@@ -9,29 +9,24 @@ use Rattle.uri_order.specs.NormalForms.{normal_form}
 use Rattle.fluent_uri_c.specs.declared.fnv.Fnv.{Fnv}
 use Rattle.fluent_uri_c.specs.Orders.{AreOneKey, byte_order, hash_of_bytes, key_order, order_of_keys, seeded}
 
--- exports for C: a normal form by the rules of an order is one by the set that these are
 pub form-by-set : (given set : RuleSet) → given ≡ set → (kind : Kind) (text : List ℕ)
     → normal_form kind (rules_of_set given) text ≡ normal_form_of set kind text
 unfolding normal_form_of
 form-by-set given set e kind text = ap (λ rules. normal_form kind (rules_of_set rules) text) e
 
--- exports for C: an order of texts is that of texts equal to these
 pub order-of-same-texts : (order : Ordering) (one other same same_other : List ℕ) → one ≡ same
     → other ≡ same_other → order ≡ byte_order one other → order ≡ byte_order same same_other
 order-of-same-texts order one other same same_other e f h = h ∙ (λ i. byte_order (e i) (f i))
 
--- exports for C: normalising a text of the kind returns its normal form
 normal_result-of-text : (set : RuleSet) (kind : Kind) (bytes text : List ℕ)
     → None ≡ text_error kind bytes → text ≡ bytes
     → normal_result set kind bytes ≡ Ok (normal_form_of set kind text)
 normal_result-of-text set kind bytes text none same = grind arith
 
--- exports for C: two keys in order
 keys-in-order : (one other one_key other_key : Option (List ℕ)) (order : Ordering) → one ≡ one_key
     → other ≡ other_key → order_of_keys one_key other_key order ≡ order_of_keys one other order
 keys-in-order one other one_key other_key order e f = grind arith
 
--- exports for C: the order of two texts of the kind is that of their normal forms
 pub order-of-two-texts : (set : RuleSet) (kind : Kind) (one other first second : List ℕ)
     (order : Ordering) → None ≡ text_error kind one → first ≡ one → None ≡ text_error kind other
     → second ≡ other → byte_order (normal_form_of set kind first) (normal_form_of set kind second)
@@ -40,7 +35,6 @@ pub order-of-two-texts : (set : RuleSet) (kind : Kind) (one other first second :
 order-of-two-texts set kind one other first second order none same no_other same_other =
     grind (arith, keys-in-order, normal_result-of-text)
 
--- exports for C: bytes are equal in their order exactly if they are the same
 same-bytes-are-equal-in-order : (one other : List ℕ)
     → (byte_order one other ≡ Equal) ↔ (one ≡ other)
 same-bytes-are-equal-in-order one other =
@@ -58,7 +52,6 @@ same-keys (Some one) None raw raw_other = grind arith
 same-keys None (Some other) raw raw_other = grind arith
 same-keys None None raw raw_other = grind (arith, same-bytes-are-equal-in-order)
 
--- exports for C: keys are in order as one key exactly if they are one
 pub equal-keys-are-one : (kind options : ℕ) (one other : List ℕ) (order : Ordering)
     → order ≡ key_order kind options one other → (order ≡ Equal) ↔ AreOneKey kind options one other
 equal-keys-are-one kind options one other order e = grind (arith, same-keys)
@@ -76,7 +69,6 @@ pub hash-of-form : (seed : ℕ) (form same : List ℕ) (old new : Fnv) → old �
     → new.state ≡ hash_of_bytes seed same
 hash-of-form seed form same old new begun e h = grind arith
 
--- exports for C: the hash of a text of the kind is that of its normal form
 pub hash-of-text : (set : RuleSet) (kind : Kind) (bytes text : List ℕ) (seed : ℕ)
     → None ≡ text_error kind bytes → text ≡ bytes
     → hash_of_bytes seed (normal_form_of set kind text)

@@ -191,7 +191,6 @@ pub mend_link_result-is-other : (n : ℕ) (text : List ℕ)
 mend_link_result-is-other n text =
     grind (arith, of_valid_number, of_rejection_or_result, of_mending)
 
--- exports for C: if a call returns that memory is out, it is one that takes memory
 pub takes-memory-if-out-of-memory : (takes_memory : Bool) (defined : Returned) (why : Rejection)
     → why.error ≡ OutOfMemory → is_out_of_memory defined ≡ false
     → (((why ≡ rejected OutOfMemory) × IsTrue takes_memory) ⊎ (defined ≡ Err why))

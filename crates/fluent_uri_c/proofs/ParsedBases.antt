@@ -37,7 +37,6 @@ target_by-is-resolve_result n options bytes base reference is = of_choice (basic
     of_choice None = refl
     of_choice (Some is_basic) = of_base (λ k t. target_from is_basic k t reference) n bytes base is
 
--- exports for C: the same of normal targets
 pub normal_target_by-is-resolve_normalized_result : (n options : ℕ) (bytes : List ℕ) (base : Base)
     (reference : List ℕ) → IsBaseOf n bytes base
     → normal_target_by options base reference ≡ resolve_normalized_result n options bytes reference
@@ -62,7 +61,6 @@ of_preference None n bytes base target is = refl
 of_preference (Some prefers) n bytes base target is =
     of_base (λ k t. reference_from prefers k t target) n bytes base is
 
--- exports for C: the reference by a base is what relativizing from its bytes returns
 pub reference_by-is-relativize_result : (n options : ℕ) (bytes : List ℕ) (base : Base)
     (target : List ℕ) → IsBaseOf n bytes base
     → reference_by options base target ≡ relativize_result n options bytes target

@@ -8,7 +8,6 @@ use Rattle.uri_parts.proofs.Offered.{host_is_at_positions, port_follows_host, po
 use Rattle.uri_ops.proofs.Offered.{components-of-utf8-are-utf8}
 use Rattle.fluent_uri_c.specs.declared.parts.Span.{Span}
 
--- parts for C: a component at its positions is the span from start to end
 pub IsSpan-of-positions : (text : List ℕ) (begin start end : ℕ) (part : Option (List ℕ))
     → start ≡ begin → IsComponentAt text start end part
     → IsSpan text begin part (record { start = start; end = end })
@@ -22,14 +21,12 @@ pub IsSpan-of-absent : (text : List ℕ) (begin : ℕ) (part : Option (List ℕ)
 IsSpan-of-absent text begin None e = refl
 IsSpan-of-absent text begin (Some part) e = absurd (none-some _ (sym e))
 
--- parts for C: an authority at a position begins there
 start_of_authority : (part : Option (List ℕ)) (n : ℕ) (a : AuthorityPositions)
     → option_map (authority_at n) part ≡ Some a → a.start ≡ n
 start_of_authority None n a found = absurd (none-some _ found)
 start_of_authority (Some authority) n a found =
     sym (ap (λ (b : AuthorityPositions). b.start) (same_Some _ _ found))
 
--- parts for C: where an authority of a text begins is after its scheme
 pub authority-start-of-positions : (text : List ℕ) (p : Positions) (a : AuthorityPositions)
     → ArePositionsOf text p → p.authority ≡ Some a → a.start ≡ authority_start text
 authority-start-of-positions text p a at here = start_of_authority (components text).authority
@@ -48,7 +45,6 @@ within text part start end at ends i j inside =
     ∙ between_is rest i j ∙ ap (drop i) (sym (take-take j (length part) rest inside))
     ∙ sym (between_is (take (length part) rest) i j) ∙ ap (λ p. slice_range p i j) whole
 
--- parts for C: a component of no length, with its delimiter, is absent
 component-without-length-is-absent : (part : Option (List ℕ)) → delimited_length 1 part ≡ 0
     → part ≡ None
 component-without-length-is-absent None e = refl
@@ -184,13 +180,11 @@ module _ (kind : Kind) (text : List ℕ) (p : Positions) (a : AuthorityPositions
         | inr after ↦ absurd (omega (arith, after.inside, ends, host_ends))
       ])
 
--- parts for C: a span that equals that of an absent component is right for it
 pub IsSpan-of-equal-span : (text : List ℕ) (begin : ℕ) (part : Option (List ℕ)) (span : Span)
     → span ≡ absent → IsSpan text begin part absent → IsSpan text begin part span
 IsSpan-of-equal-span text begin part span e h =
     subst (λ (s : Span). IsSpan text begin part s) (sym e) h
 
--- parts for C: the parts of a text are those of an equal one
 pub AreSpansOf-of-equal-text : (text same : List ℕ) (parts : Parts) → same ≡ text
     → AreSpansOf same parts → AreSpansOf text parts
 AreSpansOf-of-equal-text text same parts e h = subst (λ t. AreSpansOf t parts) e h

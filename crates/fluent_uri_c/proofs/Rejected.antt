@@ -22,7 +22,6 @@ number_of-is-not-zero Of.MissingComponent e = omega arith
 number_of-is-not-zero Of.NameNotUtf8 e = omega arith
 number_of-is-not-zero Of.InvalidName e = omega arith
 
--- exports for C: rejected bytes have the parts of their rejection
 rejected-parts-of-some : (o : _) (why : Rejection) (parts : Parts) → Some why ≡ o
     → parts ≡ rejected_parts why → IsSomeAnd o (λ it. parts ≡ rejected_parts it)
 rejected-parts-of-some o why parts e h = rw (← e) h

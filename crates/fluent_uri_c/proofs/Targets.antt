@@ -77,20 +77,16 @@ unfolding normal_resolution normal_of
 normal_resolution-of-error set kind base bare reference error is h =
     grind (arith, resolution-of-error, is_ok_mapped, normal_of)
 
--- exports for C: if a returned rejection is that of an error,
--- memory is out or the rejection is the one defined
 pub returned-rejection-is-of-error : (returned : Returned) (why : Rejection) (error : ResolveError)
     → why ≡ resolve_rejection error → IsErrorOf returned (resolve_rejection error)
     → IsErrorOf returned why
 returned-rejection-is-of-error returned why error e h = rw e h
 
--- exports for C: what normalising returns is the normal form that the contract defines
 pub normal_result-of-normal-form : (set : RuleSet) (kind : Kind) (bytes text normal : List ℕ)
     → None ≡ text_error kind bytes → text ≡ bytes → normal ≡ normal_form_of set kind text
     → normal_result set kind bytes ≡ Ok normal
 normal_result-of-normal-form set kind bytes text normal none same is = grind arith
 
--- exports for C: a text that is its own normal form is what normalising returns
 pub normal_result-of-own-form : (set : RuleSet) (kind : Kind) (bytes text form : List ℕ)
     → None ≡ text_error kind bytes → text ≡ bytes → normal_form_of set kind text ≡ text
     → form ≡ text → normal_result set kind bytes ≡ Ok form

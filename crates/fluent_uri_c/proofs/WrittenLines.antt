@@ -13,13 +13,11 @@ cond_none : (b : Bool) (n : ℕ) → None ≡ cond b (Some n) None → b ≡ fal
 cond_none true n e = absurd (none-some n e)
 cond_none false n e = refl
 
--- lines for C: the position of the first newline that is found is that of the first newline
 pub first-newline-found : (rest : List ℕ) (k : ℕ) → Some k ≡ position is_newline rest
     → k ≡ position_or_len is_newline rest
 first-newline-found rest k e = cond_some (nat_lt (position_or_len is_newline rest) (length rest)) _
     k e
 
--- lines for C: if no newline is found, the last line is all that is left
 pub no-newline-found : (rest : List ℕ) → None ≡ position is_newline rest
     → length rest ≤ position_or_len is_newline rest
 no-newline-found rest e = grind (arith, cond_none)
@@ -52,7 +50,6 @@ two-writes-are-one out one two bytes more at end ends inside first second =
     ∙ append_assoc (take at out) bytes _
     ∙ ap (λ l. take at out ++ l) (sym (append_assoc bytes more _))
 
--- lines for C: what is written for line n is its normal form and a newline
 pub written_at-of-line : (kind options : ℕ) (input line bytes : List ℕ) (n : ℕ)
     → bytes ≡ bytes_of (result_ok (normalize_result kind options line))
     → slice_get (lines_of input) n ≡ Some line
@@ -60,13 +57,11 @@ pub written_at-of-line : (kind options : ℕ) (input line bytes : List ℕ) (n :
 written_at-of-line kind options input line bytes n made here =
     rw here (ap (λ b. b ++ newline ∷ []) made)
 
--- lines for C: the number of the error of line n is the one that normalising it returns
 pub error_number_at-of-line : (kind options : ℕ) (input line : List ℕ) (n number : ℕ)
     → number ≡ number_returned (normalize_result kind options line)
     → slice_get (lines_of input) n ≡ Some line → Some number ≡ error_number_at kind options input n
 error_number_at-of-line kind options input line n number made here = rw here (ap Some made)
 
--- lines for C: a number up to 3 is of one of the four kinds
 valid_kind : (kind : ℕ) → kind ≤ 3 → IsSome (kind_numbered kind)
 valid_kind zero h = refl
 valid_kind (suc zero) h = refl
@@ -79,13 +74,11 @@ valid_options : (options : ℕ) → (options ≡ 0) ⊎ (options ≡ 2) → IsSo
 valid_options options (inl none) = rw none refl
 valid_options options (inr rules) = rw rules refl
 
--- lines for C: before a line that is there, the lines before it are done, up to where it begins
 pub consumed-before-line : (input : List ℕ) (done start : ℕ) → done < length (lines_of input)
     → start ≤ length input → drop done (lines_of input) ≡ lines_of (drop start input)
     → HasConsumed input done start
 consumed-before-line input done start more inside left = grind arith
 
--- lines for C: after the last line all of the input is done
 pub consumed-after-last-line : (input : List ℕ) (done end : ℕ) → length (lines_of input) ≡ done
     → end ≡ length input → HasConsumed input done end
 consumed-after-last-line input done end last all = grind arith

@@ -3,7 +3,6 @@ use Rattle.fluent_uri_c.proofs.Common.{common_steps, ◌≡◌, ◌+◌, ◌≤�
 use Rattle.fluent_uri_c.specs.declared.outcome.Outcome.{Outcome}
 use Rattle.fluent_uri_c.proofs.WrittenLines.{two-writes-are-one}
 
--- exports for C: a call that writes a value leaves the result that the value's text is
 pub value-is-left : (takes_memory : Bool) (text result old new : List ℕ)
     (old_parts new_parts : List Parts) (outcome : Outcome) → text ≡ result
     → outcome ≡ outcome_of_text text → new ≡ written text old

@@ -143,12 +143,10 @@ unfolding pct-encoded
 octet-is-had h l p q =
     (37 ∷ [], h ∷ l ∷ [], refl, refl, (h ∷ [], l ∷ [], refl, hexdig-is-had h p, hexdig-is-had l q))
 
--- an element has characters and octets
 pub element-gives : (g : Abnf) → IsElement g → (t : List ℕ) → Has g t
     → IsOneChar (has_char g) t ⊎ ((has_octets g ≡ true) × IsOctet t)
 element-gives = element-has IsOctet octet-has
 
--- an element that has octets has each of them
 pub element-has-octet : (g : Abnf) → IsElement g → has_octets g ≡ true → (t : List ℕ)
     → Has pct-encoded t → Has g t
 element-has-octet (Rule name a) w e t h = element-has-octet a w e t h

@@ -94,7 +94,6 @@ uris-are-ascii : ascii_only R.URI ≡ true
 unfolding R.URI-reference
 uris-are-ascii = (and_parts (ascii_only R.URI) _ references-are-ascii).0
 
--- the bytes of a URI reference are its characters
 pub uri-characters-are-language : (t : List ℕ) → (IsTextOf uri t ↔ Has R.URI t)
 uri-characters-are-language t =
     grind (arith, ascii-text-gives, uris-are-ascii, uris-are-language, ascii-text-is-had)
@@ -108,7 +107,6 @@ uri-reference-characters-are-language t = (
       (ascii-text-is-had R.URI-reference references-are-ascii t h),
 )
 
--- each kind is the language of its start rule
 kind-is-language : (international needs : Bool) (t : List ℕ) → (IsTextOf
     (kind_by_flags international needs) t ↔ IsOf (start_rule (kind_by_flags international needs)) t)
 kind-is-language false false = uri-references-are-language

@@ -55,7 +55,6 @@ module _ (r : Rules) (kind : Kind) (w : Fit r kind) where
         (name.0, (name.1, λ octets d. v.1 (ipv4-text-is-had t octets d))),
   )
 
--- a host in brackets is an address of its rule
 pub ipv6-hosts-are-of-rule : (names : TableSet) (t : List ℕ)
     → (((segments : List ℕ) × IsHost names t (Ipv6 segments))
     ↔ ((address : List ℕ) × (t ≡ bracketed address) × IsOf IPv6address address))
@@ -83,7 +82,6 @@ pub ipv4-hosts-are-of-rule : (names : TableSet) (t : List ℕ)
     → (((octets : List ℕ) × IsHost names t (Ipv4 octets)) ↔ IsOf IPv4address t)
 ipv4-hosts-are-of-rule names t = (λ v. ipv4-text-is-had t v.0 v.1, ipv4-text-gives t)
 
--- characters of one class
 unreserved-chars : (c : ℕ) → has_char unreserved c ≡ is_unreserved c
 unfolding unreserved ALPHA DIGIT
 unreserved-chars c = grind (arith, nat_tests)

@@ -23,7 +23,6 @@ pub record PathSets (path : TableSet) : Type 0 where
   pub wide : (c : ℕ) → has_char nc c ≡ true → has_char pc c ≡ true
   pub octets : has_octets nc ≡ has_octets pc
 
--- general fact on lists: one is empty or not
 empty-or-not : (s : List ℕ) → (s ≡ []) ⊎ (0 < length s)
 empty-or-not [] = inl refl
 empty-or-not (c ∷ s) = inr (omega arith)

@@ -32,7 +32,6 @@ tokens-after-char : (c : ℕ) (t : List ℕ) → Tokens scheme-char (c ∷ t) �
 tokens-after-char c t (char p r) = r
 tokens-after-char c _ (octet o e a b r) = absurd (false≢true (sym schemes-have-no-octets ∙ o))
 
--- an ASCII byte is its own character
 chars-after-ascii : (b : ℕ) (r : List ℕ) → b < 128 → IsUtf8 (b ∷ r) → chars (b ∷ r) ≡ b ∷ chars r
 chars-after-ascii b r h u = chars_past_char (b ∷ r) r b u
     (sym (ap (λ e. e ++ r) (encode_ascii b h)))

@@ -10,7 +10,6 @@ pub record IsCut (a b : Abnf) (text : List ℕ) : Type 0 where
   pub first : IsOf a x
   pub second : IsOf b y
 
--- what has the same characters has the same texts
 pub same-text : {g h : Abnf} {text : List ℕ} → ((cs : List ℕ) → Has g cs → Has h cs) → IsOf g text
     → IsOf h text
 same-text {text = text} f l = record { utf8 = l.utf8; has = f (chars text) l.has }

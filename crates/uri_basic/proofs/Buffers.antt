@@ -7,16 +7,13 @@ use Rattle.uri_ops.proofs.Offered.{not-empty-has-length}
 equal-bytes-have-equal-lengths : (a b : List ℕ) → bytes_eq a b ≡ true → length a ≡ length b
 equal-bytes-have-equal-lengths a b e = ap length ((bytes_eq-Decides a b).0 e)
 
--- removing dot segments: a buffer is no shorter than its prefix
 prefix-is-no-longer : (prefix buffer : List ℕ) → has_prefix prefix buffer ≡ true
     → length prefix ≤ length buffer
 prefix-is-no-longer prefix buffer e = search (rules, equal-bytes-have-equal-lengths, length-take)
 
--- paths: the byte that ends a segment is `/` (47)
 segment-end-is-slash : (c : ℕ) → is_one_of (codes "/") c ≡ (c == 47)
 segment-end-is-slash c = grind (arith, nat_tests)
 
--- paths: a byte that is not `/` (47) ends no segment
 pub other-byte-ends-no-segment : (c : ℕ) → (c == 47) ≡ false → not (is_one_of (codes "/") c) ≡ true
 other-byte-ends-no-segment c e = not_from_false _ (segment-end-is-slash c ∙ e)
 
@@ -27,19 +24,16 @@ buffer-after-rootless-segment-is-shorter [] some e = absurd (false≢true (sym s
 buffer-after-rootless-segment-is-shorter (c ∷ rest) some e =
     search (rules, cond-true, other-byte-ends-no-segment, length-drop)
 
--- removing dot segments: without its first segment a buffer is shorter
 buffer-after-first-segment-is-shorter : (buffer : List ℕ) → is_empty buffer ≡ false
     → length (after_first_segment buffer) < length buffer
 buffer-after-first-segment-is-shorter buffer e =
     let some = not-empty-has-length buffer e in
     search (rules, cond_both, length-drop, buffer-after-rootless-segment-is-shorter)
 
--- removing dot segments: a prefix that is replaced by `/` and is longer shortens a buffer
 replaced-prefix-shortens : (n : ℕ) (buffer : List ℕ) → 1 < n → n ≤ length buffer
     → length (codes "/" ++ drop n buffer) < length buffer
 replaced-prefix-shortens n buffer more within = omega (arith, more, within, length-drop n buffer)
 
--- removing dot segments: each pass of the loop shortens the input buffer
 step-shortens-input : (b : Buffers) → is_empty b.input ≡ false
     → length (step b).input < length b.input
 step-shortens-input b e =
@@ -61,7 +55,6 @@ step-shortens-input b e =
     (λ h. omega (arith, equal-bytes-have-equal-lengths b.input (codes "/..") h))
     (search (rules, cond_both, buffer-after-first-segment-is-shorter)))))))
 
--- removing dot segments: passes beyond the bytes of the input buffer change nothing
 more-passes-change-nothing : (n m : ℕ) (b : Buffers) → length b.input ≤ n → length b.input ≤ m
     → run n b ≡ run m b
 unfolding run
@@ -79,7 +72,6 @@ more-passes-change-nothing (suc n) (suc m) b h k = ⊎_elim
     ∙ sym (cond-false (is_empty b.input) b (run m (step b)) e))
     (cases_Bool (is_empty b.input))
 
--- removing dot segments: the output after a pass is that before it
 pub output-after-step : (b : Buffers) → is_empty b.input ≡ false → output_of b ≡ output_of (step b)
 unfolding output_of run
 output-after-step b e = search (rules, step-shortens-input, more-passes-change-nothing, cond-false)

@@ -32,7 +32,6 @@ pub literal-dots-at-slash : (x y : List ℕ) → has_literal_dot_segment (x ++ 4
     ≡ (has_literal_dot_segment x || has_literal_dot_segment y)
 literal-dots-at-slash = passing-segment-at-slash is_literal_dot_segment
 
--- dot segments: segments that are none have no encoded dot
 dotless-segments-have-no-encoded-dot : (xs : List (List ℕ)) → AllPass is_dotless xs
     → list_any is_encoded xs ≡ false
 dotless-segments-have-no-encoded-dot [] e = refl
@@ -41,7 +40,6 @@ dotless-segments-have-no-encoded-dot (s ∷ xs) e =
     or_from _ _ (and_left (is_dot_segment s) _ (not-true _ f.0))
     (dotless-segments-have-no-encoded-dot xs f.1)
 
--- dot segments: a path without them has no encoded one
 pub dotless-path-has-no-encoded-dot : (path : List ℕ) → lacks_dot_segments path ≡ true
     → has_encoded_dot_segment path ≡ false
 dotless-path-has-no-encoded-dot path e = dotless-segments-have-no-encoded-dot (segments path) e
@@ -60,7 +58,6 @@ dotless-segments-are-not-literal (s ∷ xs) e =
     or_from _ _ (dotless-segment-is-not-literal s (not-true _ f.0))
     (dotless-segments-are-not-literal xs f.1)
 
--- dot segments: a path without them has no segment `.` or `..`
 pub dotless-path-has-no-literal-dot : (path : List ℕ) → lacks_dot_segments path ≡ true
     → has_literal_dot_segment path ≡ false
 dotless-path-has-no-literal-dot path e = dotless-segments-are-not-literal (segments path) e
@@ -84,7 +81,6 @@ encoded-dots-after-directory base way h dotless e = property-of-absolute-path-by
     (popped-segments-pass-test is_dotless (s ∷ rest) pass)) e)
     base h dotless
 
--- paths: the directory of one without dot segments is all that is up to its last `/`
 pub directory-of-dotless-path-is-up-to-last-slash : (base : List ℕ) → IsAbsolute base
     → lacks_dot_segments base ≡ true → up_to_last_slash base ≡ directory base
 unfolding slashed

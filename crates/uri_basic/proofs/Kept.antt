@@ -3,7 +3,6 @@ use Rattle.uri_basic.proofs.Common.{◌≡◌, ℕ, Bool, true, false, not, List
 use Rattle.uri_ops.proofs.Offered.{empty-text-is-set-text, is_set_text, set-text-splits, set-texts-join-at-slash, joined-segments-of-set-text-are-set-texts, is_none}
 use Rattle.uri_basic.proofs.Segments.{after-segment-keeps, kept_of, path-left-by-segments, path-left-of-path, parent-is-directory}
 
--- paths: what holds of a text with these segments
 property-of-text-with-segments : (P : List ℕ → Type 0)
     → ((s : List ℕ) (rest : List (List ℕ)) → NoSlashes (s ∷ rest) → P (s ++ slashed rest))
     → (path : List ℕ) (segs : List (List ℕ)) → slashed segs ≡ 47 ∷ path → is_none segs ≡ false
@@ -43,20 +42,16 @@ kept-segments-keep Q R test more last up end kept s (t ∷ rest) h pass =
     kept-segments-keep Q R test more last up end (after_segment kept s (s ++ codes "/")) t rest
     (after-segment-keeps Q kept s (s ++ codes "/") h (up kept h) (more kept s h p.0)) p.1
 
--- paths: the bytes of two texts pass a test that both pass
 pub bytes-of-append-pass : (p : ℕ → Bool) (x y : List ℕ) → list_all p x ≡ true → list_all p y ≡ true
     → list_all p (x ++ y) ≡ true
 bytes-of-append-pass p x y e f = list_all-append p x y ∙ and_from _ _ e f
 
--- removing dot segments: the bytes of the parent of a directory pass a test that `/` (47) and the
--- directory pass
 bytes-of-parent-pass : (p : ℕ → Bool) → p 47 ≡ true → (kept : List ℕ) → list_all p kept ≡ true
     → list_all p (parent kept) ≡ true
 unfolding parent
 bytes-of-parent-pass p slash kept e =
     search (rules, cond_both, bytes-of-append-pass, before_last_slash-passes-test, and_from)
 
--- paths: the bytes of each segment pass a test that the path's bytes pass
 bytes-of-segments-pass : (p : ℕ → Bool) (s : List ℕ) (rest : List (List ℕ))
     → list_all p (s ++ slashed rest) ≡ true → AllPass (list_all p) (s ∷ rest)
 unfolding slashed
@@ -66,8 +61,6 @@ bytes-of-segments-pass p s (t ∷ rest) e =
     and_from _ _ f.0
     (bytes-of-segments-pass p t rest (and_parts (p 47) (list_all p (t ++ slashed rest)) f.1).1)
 
--- removing dot segments: the bytes that are left of any path pass a test that `/` (47) and the path
--- pass
 bytes-without-dots-pass : (p : ℕ → Bool) → p 47 ≡ true → (path : List ℕ)
     → list_all p path ≡ true → list_all p (remove_dot_segments path) ≡ true
 bytes-without-dots-pass p slash = property-of-path-by-segments
@@ -88,7 +81,6 @@ removal-adds-no-delimiter marks slash path h =
     test-of-delimiters-gives-lacks marks (remove_dot_segments path)
     (bytes-without-dots-pass _ (ap not slash) path (lacked-delimiters-fail-test marks path h))
 
--- paths: a text with a `/` is cut at its last one
 pub text-is-cut-at-last-slash : (text : List ℕ) → has_slash text ≡ true
     → text ≡ before_last_slash text ++ 47 ∷ last_segment text
 text-is-cut-at-last-slash [] e = absurd (false≢true e)
@@ -159,7 +151,6 @@ module _ (set : TableSet) (slash : set.ascii 47 ≡ true) where
       (inl refl, empty-text-is-set-text set)
       (joined-segments-of-set-text-are-set-texts set s rest e))
 
--- paths: what is before the last `/` of a path that is empty or begins with `/` does so too
 prefix-of-rooted-path-is-rooted : (path : List ℕ) → IsAbemptyPath path
     → IsAbemptyPath (before_last_slash path)
 prefix-of-rooted-path-is-rooted [] h = inl refl

@@ -5,7 +5,6 @@ use Rattle.uri_basic.proofs.Kept.{property-of-path-by-segments, removal-by-segme
 use Rattle.uri_basic.proofs.Segments.{directory-after-segment, kept_of}
 use Rattle.uri_basic.proofs.Targets.{basic-target-has-its-components, result-by-test}
 
--- removing dot segments: before its last `/` a text has no `.` and `..`, if it has none
 no-literal-dot-before-last-slash : (t : List ℕ) → has_literal_dot_segment t ≡ false
     → has_literal_dot_segment (before_last_slash t) ≡ false
 no-literal-dot-before-last-slash t e = ⊎_elim
@@ -19,14 +18,12 @@ no-literal-dot-with-slash : (t : List ℕ) → has_literal_dot_segment t ≡ fal
     → has_literal_dot_segment (t ++ codes "/") ≡ false
 no-literal-dot-with-slash t e = literal-dots-at-slash t [] ∙ or_from _ _ e refl
 
--- removing dot segments: the parent of a directory has no `.` and `..`, if it has none
 no-literal-dot-in-parent : (kept : List ℕ) → has_literal_dot_segment kept ≡ false
     → has_literal_dot_segment (parent kept) ≡ false
 unfolding parent
 no-literal-dot-in-parent kept e =
     search (rules, cond_both, no-literal-dot-with-slash, no-literal-dot-before-last-slash)
 
--- removing dot segments: a directory and a text after it have no `.` and `..`, if both have none
 no-literal-dot-after-directory : (kept t : List ℕ) → IsDirectoryOrNothing kept
     → has_literal_dot_segment kept ≡ false → has_literal_dot_segment t ≡ false
     → has_literal_dot_segment (kept ++ t) ≡ false
@@ -43,7 +40,6 @@ no-literal-dot-in-other-segment s lacks single double =
     (segments-of-joined-segments s [] (and_from _ _ (ap not lacks) refl))
     ∙ or_from _ _ (or_from _ _ single double) refl
 
--- removing dot segments: what is kept after a segment has no `.` and `..`, if what is kept has none
 no-literal-dot-after-segment : (kept s piece : List ℕ) → has_literal_dot_segment kept ≡ false
     → (bytes_eq s (codes ".") ≡ false → bytes_eq s (codes "..") ≡ false
     → has_literal_dot_segment (kept ++ piece) ≡ false)
@@ -52,7 +48,6 @@ unfolding after_segment
 no-literal-dot-after-segment kept s piece e more =
     search (rules, cond_both, no-literal-dot-in-parent)
 
--- removing dot segments: what is kept of segments has no `.` and `..`
 no-literal-dot-is-kept : (kept s : List ℕ) (rest : List (List ℕ)) → IsDirectoryOrNothing kept
     → has_literal_dot_segment kept ≡ false → NoSlashes (s ∷ rest)
     → has_literal_dot_segment (kept_of kept s rest) ≡ false
@@ -70,7 +65,6 @@ no-literal-dot-is-kept kept s (t ∷ rest) closed e lack =
     (no-literal-dot-with-slash s (no-literal-dot-in-other-segment s g.0 single double))))
     g.1
 
--- removing dot segments: no segment `.` or `..` is left of any path
 removal-leaves-no-literal-dot : (path : List ℕ)
     → has_literal_dot_segment (remove_dot_segments path) ≡ false
 removal-leaves-no-literal-dot = property-of-path-by-segments
@@ -90,7 +84,6 @@ target-has-taken-path : (base r : Components) → takes_base_path r ≡ true
 target-has-taken-path base r takes =
     search (rules, and_parts, cond_both, both_ways, some_is_not_none)
 
--- targets: only a reference that takes the base's path leads to a target with a segment `.` or `..`
 pub target-with-literal-dot-has-base-path : (base target reference : List ℕ)
     → is_some (components base).scheme ≡ true → basic_resolution_of_texts base reference ≡ Ok target
     → has_literal_dot_segment (components target).path ≡ true

@@ -11,19 +11,16 @@ no-byte-is-slash (c ∷ text) h = or_from (c == 47) (has_slash text)
     (ne_eqb c 47 (λ e. h 0 (omega arith) e))
     (no-byte-is-slash text (λ k l e. h (suc k) (omega arith) e))
 
--- paths: no `/` is in a text from a position on if no byte from there on is one
 suffix-has-no-slash : (text : List ℕ) (i : ℕ)
     → ((k : ℕ) → i ≤ k → k < length text → get_or text k 0 ≡ 47 → ⊥)
     → has_slash (drop i text) ≡ false
 suffix-has-no-slash text i h = search (rules, no-byte-is-slash, length-drop, get_or-drop)
 
--- paths: a text that is cut at its last `/`
 up-to-last-slash-of-cut-text : (x y : List ℕ) → has_slash y ≡ false
     → up_to_last_slash (x ++ 47 ∷ y) ≡ x ++ codes "/"
 up-to-last-slash-of-cut-text x y e = cond-true _ _ _ (slash-in-suffix-is-in-append x (47 ∷ y) refl)
     ∙ ap (λ t. t ++ codes "/") (before_last_slash-of-slashless-tail x y e)
 
--- paths: a text is cut at a `/`
 cut-at-slash : (text : List ℕ) (j : ℕ) → j < length text → get_or text j 0 ≡ 47
     → text ≡ take j text ++ 47 ∷ drop (suc j) text
 cut-at-slash text j within e = cc (take-append-drop j text, drop-cons text j 0 within)
@@ -46,7 +43,6 @@ prefix-is-up-to-last-slash text i within none (inr at) =
     ∙ take_at (take j text ++ codes "/") (drop i text) i long
     ∙ sym (ap up_to_last_slash cut ∙ up-to-last-slash-of-cut-text (take j text) (drop i text) none)
 
--- paths: the last segment of a directory begins after the last `/` but one
 pub last-segment-begins-after-prefix : (d : List ℕ) (i : ℕ) → EndsInSlash d → i < length d
     → ((k : ℕ) → i ≤ k → k + 1 < length d → get_or d k 0 ≡ 47 → ⊥)
     → (i ≡ 0) ⊎ ((0 < i) × (get_or d (i - 1) 0 ≡ 47))
@@ -73,12 +69,10 @@ parent-by-prefix d n ends within before =
     ⊎_elim (search (rules, cond-true, length-append))
     (search (rules, before_last_slash-of-slashless-is-empty, cond-false)) (cases_Bool (has_slash p))
 
--- removing dot segments: where nothing is kept, nothing is removed
 pub nothing-to-pop : (text : List ℕ) (start : ℕ) → start ≡ length text
     → text ≡ take start text ++ parent (drop start text)
 nothing-to-pop text start e = search (rules, drop_all, take-append-drop, parent-of-nothing)
 
--- removing dot segments: something that is kept is a directory
 pub something-kept-is-directory : (text : List ℕ) (start : ℕ) → start ≤ length text
     → (length text ≡ start → ⊥) → IsDirectoryOrNothing (drop start text)
     → EndsInSlash (drop start text)
@@ -164,7 +158,6 @@ pub rest-after-run-lacks-slash : (path : List ℕ) (done end : ℕ)
 rest-after-run-lacks-slash path done end run none =
     search (rules, suffix-has-no-slash, not_from_true, eq-eqb)
 
--- removing dot segments: what is appended for a path is the path without its dot segments
 pub appended-path-is-without-dots : (old new whole last : List ℕ) (start : ℕ) → start ≡ length old
     → take start new ≡ take start old → IsDirectoryOrNothing (drop start new)
     → has_slash last ≡ false → ((rest : List ℕ)
@@ -185,7 +178,6 @@ whole-prefix-is-utf8 text start at whole = subst IsUtf8 (sym (sym (append-nil (t
     ∙ ap (λ t. take start text ++ t) (sym (drop_all start text (omega (arith, at))))
     ∙ take-append-drop start text)) whole
 
--- paths: a slice from a position on is all that is after it
 pub slice-to-end : (text bytes : List ℕ) (start : ℕ) → bytes ≡ text
     → take (length bytes - start) (drop start bytes) ≡ drop start text
 slice-to-end text bytes start e =

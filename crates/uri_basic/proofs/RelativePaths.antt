@@ -11,7 +11,6 @@ use Rattle.uri_basic.proofs.DotSegments.{directory-of-dotless-path-is-up-to-last
 use Rattle.uri_basic.proofs.SameRemovals.{removal-of-path-without-dots, same-removal}
 use Rattle.uri_basic.proofs.SameTargets.{base-with-empty-path-has-authority}
 
--- relativized paths: what holds of a rest, and with `../` before it, holds after n `../`
 property-of-rest-holds-after-double-dots : (P : List ℕ → Type 0)
     → ((t : List ℕ) → P t → P (codes "../" ++ t)) → (n : ℕ) (rest : List ℕ) → P rest
     → P (double_dots n ++ rest)
@@ -20,8 +19,6 @@ property-of-rest-holds-after-double-dots P up zero rest h = h
 property-of-rest-holds-after-double-dots P up (suc n) rest h =
     up (double_dots n ++ rest) (property-of-rest-holds-after-double-dots P up n rest h)
 
--- relativized paths: what holds of `.`, `..` and the rest, and with `./` or `../` before, holds of
--- each relative path to the rest
 property-of-rest-holds-of-relative-path : (P : List ℕ → Type 0) → P (codes ".") → P (codes "..")
     → ((t : List ℕ) → P t → P (codes "./" ++ t)) → ((t : List ℕ) → P t → P (codes "../" ++ t))
     → (n : ℕ) (rest : List ℕ) → P rest → P (relative_path n rest)
@@ -38,7 +35,6 @@ record IsRelativePath (way : List ℕ) : Type 0 where
   rootless : starts slash way ≡ false
   no_scheme : has_colon_in_first_segment way ≡ false
 
--- relativized paths: n `../` and `..` are relative
 double-dots-and-last-are-relative : (n : ℕ) → IsRelativePath (double_dots n ++ codes "..")
 unfolding double_dots
 double-dots-and-last-are-relative zero =
@@ -46,7 +42,6 @@ double-dots-and-last-are-relative zero =
 double-dots-and-last-are-relative (suc n) =
     record { some = refl; rootless = refl; no_scheme = refl }
 
--- relativized paths: some `../` and a rest are relative
 some-double-dots-are-relative : (n : ℕ) (rest : List ℕ) → eqb n 0 ≡ false
     → IsRelativePath (double_dots n ++ rest)
 unfolding double_dots
@@ -54,7 +49,6 @@ some-double-dots-are-relative zero rest e = absurd (true≢false e)
 some-double-dots-are-relative (suc n) rest e =
     record { some = refl; rootless = refl; no_scheme = refl }
 
--- relativized paths: each is relative
 relative-path-is-relative : (n : ℕ) (rest : List ℕ) → IsRelativePath (relative_path n rest)
 relative-path-is-relative n rest =
     cond_both (eqb n 0) _ _ IsRelativePath (search (rules, cond_both, or_parts))
@@ -62,8 +56,6 @@ relative-path-is-relative n rest =
     (λ _. double-dots-and-last-are-relative (n - 1))
     (λ _. some-double-dots-are-relative n rest e))
 
--- relativized paths: an equal first byte makes the shared prefix one byte longer, if it ends in `/`
--- (47) still
 equal-first-byte-extends-shared-prefix : (a b : ℕ) (base path : List ℕ) (n : ℕ) → a ≡ b
     → (eqb a 47 || nat_lt 0 n) ≡ true → (0 < n → IsSharedPrefix n base path)
     → IsSharedPrefix (suc n) (a ∷ base) (b ∷ path)
@@ -76,7 +68,6 @@ equal-first-byte-extends-shared-prefix a b base path (suc n) e k shared =
       closed = (a ∷ s.closed.0, ap (λ t. a ∷ t) s.closed.1);
     }
 
--- relativized paths: the prefix of the length `shared_directory_len` is shared and ends in `/`
 shared-directory-is-shared-prefix : (base path : List ℕ) → 0 < shared_directory_len base path
     → IsSharedPrefix (shared_directory_len base path) base path
 unfolding shared_directory_len
@@ -100,7 +91,6 @@ absolute-paths-share-a-directory (a ∷ base) [] h k = absurd (false≢true (eq_
 absolute-paths-share-a-directory (a ∷ base) (b ∷ path) h k =
     search (rules, eq_true_from_IsTrue, eqb-true, cond-true, and_from, eq-eqb, or_left)
 
--- relativized paths: a path is what it shares with the base's, without the last `/`, and the rest
 path-is-shared-prefix-and-rest : (n : ℕ) (base path : List ℕ) (s : IsSharedPrefix n base path)
     → path ≡ s.closed.0 ++ 47 ∷ drop n path
 path-is-shared-prefix-and-rest n base path s =
@@ -143,14 +133,11 @@ rooted-path-leads-to-path base rest true e w =
 rooted-path-leads-to-path base rest false e w =
     search (rules, removal-of-path-without-dots, dotless-path-has-no-literal-dot)
 
--- relativized paths: the path from the root, guarded, leads to the path
 path-from-root-leads-to-path : (base : Components) (path : List ℕ) → IsFinalPath path
     → LeadsByPath base path (guarded None path)
 path-from-root-leads-to-path base path w =
     search (rules, absolute-path-is-slash-and-rest, rooted-path-leads-to-path)
 
--- targets: a path without dot segments is merged after its directory, and an empty one (o: the
--- authority) after `/`
 path-is-merged-after-directory : (o : Option (List ℕ)) (path way : List ℕ)
     → (is_none o && not (starts 47 path)) ≡ false → IsAbemptyPath path
     → lacks_dot_segments path ≡ true
@@ -176,8 +163,6 @@ path-or-slash-is-dotless : (path : List ℕ) → lacks_dot_segments path ≡ tru
 path-or-slash-is-dotless [] e = refl
 path-or-slash-is-dotless (c ∷ path) e = e
 
--- relativized paths: the relative one leads from the base to the path, if the base is not opaque
--- and has no dot segment
 relative-path-leads-to-path : (base : Components) (path : List ℕ) → is_opaque base ≡ false
     → IsAbemptyPath base.path → lacks_dot_segments base.path ≡ true → IsFinalPath path
     → LeadsByPath base path (path_from_base base.path path)
@@ -219,8 +204,6 @@ relative-path-leads-to-path base path opaque rooted dotless w =
           w.dotless s;
     }
 
--- relativized paths: the one that is chosen leads from the base to the path, if the base is not
--- opaque
 pub chosen-path-leads-to-path : (prefers : Bool) (base : Components) (path : List ℕ)
     → is_opaque base ≡ false → IsAbemptyPath base.path → IsFinalPath path
     → LeadsByPath base path (shortest_or_preferred_path prefers base.path path)

@@ -13,7 +13,6 @@ use Rattle.uri_basic.proofs.DotSegments.{dotless-path-has-no-literal-dot}
 use Rattle.uri_basic.proofs.RelativePaths.{IsFinalPath, LeadsByPath, chosen-path-leads-to-path}
 use Rattle.uri_basic.proofs.SameRemovals.{removal-of-path-without-dots}
 
--- relativized references: two components that pass the test of equality are equal
 components-that-pass-test-are-equal : (p q : Option (List ℕ)) → option_eq bytes_eq p q ≡ true
     → p ≡ q
 components-that-pass-test-are-equal None None e = refl
@@ -29,7 +28,6 @@ record IsPlainTarget (t : Components) : Type 0 where
   settled : with_final_path t ≡ t
   literal : has_literal_dot_segment t.path ≡ false
 
--- targets to relativize: the guard `/.` of an absolute path is a segment `.`
 guard-is-literal-dot-segment : (path : List ℕ) → IsAbsolute path
     → has_literal_dot_segment (codes "/." ++ path) ≡ true
 guard-is-literal-dot-segment path h = subst (λ p. has_literal_dot_segment (codes "/." ++ p) ≡ true)
@@ -43,7 +41,6 @@ guarded-path-without-dots-is-the-path : (o : Option (List ℕ)) (path whole : Li
 guarded-path-without-dots-is-the-path o path whole h g literal =
     search (rules, cond_both, both_ways, guard-is-literal-dot-segment)
 
--- targets to relativize: a path that begins with `/` is its own path without dot segments
 plain-path-is-without-dots : (t : Components) → IsPlainTarget t → IsAbsolute t.path
     → Dots.remove_dot_segments t.path ≡ t.path
 plain-path-is-without-dots t w h = guarded-path-without-dots-is-the-path t.authority
@@ -55,26 +52,21 @@ plain-path-is-final : (t : Components) → IsPlainTarget t → IsAbsolute t.path
 plain-path-is-final t w h =
     search (rules, plain-path-is-without-dots, removing-dots-leaves-no-dot-segment)
 
--- general fact on options, for targets: a path is not parsed as an authority, if it is not where
--- there is none
 path-after-authority-is-not-ambiguous : (o : Option (List ℕ)) (test : Bool)
     → IfNone o (test ≡ false) → (is_none o && test) ≡ false
 path-after-authority-is-not-ambiguous None test h = h
 path-after-authority-is-not-ambiguous (Some a) test h = refl
 
--- relativized references: the text of one that has its components leads to the target, if they do
 text-of-leading-reference-leads : (base t r : Components) → IsPlainTarget t
     → IsSplitOf (recompose r) r → target base r ≡ t
     → basic_resolution base (components (recompose r)) ≡ Ok (recompose t)
 text-of-leading-reference-leads base t r w split leads =
     search (rules, only-split-is-components, cond-false, path-after-authority-is-not-ambiguous)
 
--- relativized references: the target leads to itself
 whole-target-leads-to-itself : (base t : Components) → IsPlainTarget t → target base t ≡ t
 whole-target-leads-to-itself base t w =
     cc (cond-true _ _ _ w.scheme, removal-of-path-without-dots t.path w.literal)
 
--- relativized references: a text that begins with `//` has no scheme
 authority-form-has-no-scheme : (o : Option (List ℕ)) (path : List ℕ) (q f : Option (List ℕ))
     → is_some o ≡ true
     → has_scheme (recompose (record {
@@ -92,7 +84,6 @@ authority-form-is-split : (t : Components) → IsPlainTarget t → is_some t.aut
     → IsSplitOf (recompose (record t { scheme = None })) (record t { scheme = None })
 authority-form-is-split t w some = search (rules, no_scheme, authority-form-has-no-scheme)
 
--- relativized references: one that begins with `//` leads to the target
 authority-form-leads-to-target : (base t : Components) → IsPlainTarget t
     → is_some t.authority ≡ true → base.scheme ≡ t.scheme
     → target base (record t { scheme = None }) ≡ t
@@ -107,7 +98,6 @@ pathless-form-is-split : (t : Components) (query : Option (List ℕ))
 pathless-form-is-split t query q = path-and-query-are-split t [] query
     (test-of-delimiters-gives-lacks (codes "?#") [] refl) q refl refl
 
--- relativized references: the target of one with a path, by the path that it begins with
 target-of-path-by-case : (base t : Components) (rooted : Bool) (one other : List ℕ)
     → cond rooted
     (let c : Components = record base { path = one; query = t.query; fragment = t.fragment } in c)
@@ -116,20 +106,17 @@ target-of-path-by-case : (base t : Components) (rooted : Bool) (one other : List
 target-of-path-by-case base t true one other = refl
 target-of-path-by-case base t false one other = refl
 
--- relativized references: one with a path leads to the target
 path-form-leads-to-target : (base t : Components) (way : List ℕ) → base.scheme ≡ t.scheme
     → base.authority ≡ t.authority → LeadsByPath base t.path way
     → target base (record t { scheme = None; authority = None; path = way }) ≡ t
 path-form-leads-to-target base t way s a w = search (rules, cond-false, target-of-path-by-case)
 
--- relativized references: one of a fragment alone, or empty, leads to the target
 fragment-form-leads-to-target : (base t : Components) → base.scheme ≡ t.scheme
     → base.authority ≡ t.authority → base.path ≡ t.path → base.query ≡ t.query
     → target base (record t { scheme = None; authority = None; path = []; query = None }) ≡ t
 fragment-form-leads-to-target base t s a p q =
     λ i. record t { scheme = s i; authority = a i; path = p i; query = q i }
 
--- relativized references: one that begins with `?` leads to the target
 query-form-leads-to-target : (base t : Components) → base.scheme ≡ t.scheme
     → base.authority ≡ t.authority → base.path ≡ t.path → is_some t.query ≡ true
     → target base (record t { scheme = None; authority = None; path = [] }) ≡ t
@@ -207,7 +194,6 @@ module _ (prefers : Bool) (base : List ℕ) (t : Components) (w : IsPlainTarget 
       (equal-to-true-is-IsTrue _ both.1))
       (λ _. authority-leads s)))))
 
--- targets to relativize: the settled target is plain, if it has no segment `.` or `..`
 settled-target-is-plain : (text : List ℕ) → is_some (components text).scheme ≡ true
     → has_literal_dot_segment (settled text).path ≡ false → IsPlainTarget (settled text)
 settled-target-is-plain text some literal = record {
@@ -219,7 +205,6 @@ settled-target-is-plain text some literal = record {
   literal = literal;
 }
 
--- targets to relativize: a target without dot segments is settled
 target-without-dots-is-settled : (text : List ℕ)
     → lacks_dot_segments (components text).path ≡ true → settled text ≡ components text
 target-without-dots-is-settled text dotless = ⊎_elim
@@ -228,8 +213,6 @@ target-without-dots-is-settled text dotless = ⊎_elim
     (λ h. rootless-target-is-settled (components text) h)
     (cases_Bool (starts slash (components text).path))
 
--- relativized references: by the basic algorithm they lead to settled targets without a segment
--- `.` or `..`
 pub reference-to-settled-target-leads : (prefers : Bool) (base target : List ℕ)
     → is_some (components target).scheme ≡ true
     → has_literal_dot_segment (settled target).path ≡ false
@@ -239,7 +222,6 @@ unfolding reference_to
 reference-to-settled-target-leads prefers base target some literal =
     made-reference-leads prefers base (settled target) (settled-target-is-plain target some literal)
 
--- relativized references: by the basic algorithm they lead to targets without dot segments
 pub reference-to-target-without-dots-leads : (prefers : Bool) (base target : List ℕ)
     → is_some (components target).scheme ≡ true → lacks_dot_segments (components target).path ≡ true
     → basic_resolution_of_texts base (reference_to prefers base target) ≡ Ok target

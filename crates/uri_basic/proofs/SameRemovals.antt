@@ -4,7 +4,6 @@ use Rattle.uri_ops.specs.Dots as Dots
 use Rattle.uri_basic.proofs.Kept.{property-of-path-by-segments, removal-by-segments, root-is-kept}
 use Rattle.uri_basic.proofs.Segments.{after-segment-by-test, kept_of, parent-of-directory}
 
--- dot segments: what a segment leaves of the output of `Resolver`
 segment-leaves : (out : List (List ℕ)) (s : List ℕ)
     → (step_of out (codes ".") ≡ out) × (step_of out (codes "..") ≡ pop out)
     × (is_dot_segment s ≡ false → step_of out s ≡ out ++ s ∷ [])
@@ -37,13 +36,11 @@ directory-by-segments out s lack literal =
     (cases_Bool (bytes_eq s (codes ".."))))
     (cases_Bool (bytes_eq s (codes ".")))
 
--- dot segments: the end that a last segment leaves
 end-of-segment : (s : List ℕ) → (end_of (is_dot_segment (codes ".")) ≡ [] ∷ [])
     × (end_of (is_dot_segment (codes "..")) ≡ [] ∷ [])
     × (is_dot_segment s ≡ false → end_of (is_dot_segment s) ≡ [])
 end-of-segment s = (refl, refl, λ e. ap end_of e)
 
--- dot segments: the path after a last segment is that of the segments that are left
 path-by-segments : (out : List (List ℕ)) (s : List ℕ) → NoSlashes out
     → (is_dot_segment s && not (is_literal_dot_segment s)) ≡ false
     → after_segment (slashed out ++ codes "/") s s
@@ -99,7 +96,6 @@ same-removal = property-of-absolute-path-by-segments
     (λ path. has_encoded_dot_segment path ≡ false
     → Dots.remove_dot_segments path ≡ remove_dot_segments path) same-removal-of-segments
 
--- removing dot segments: segments that are not `.` or `..` are all kept
 kept-segments-stay : (kept s : List ℕ) (rest : List (List ℕ))
     → list_any is_literal_dot_segment (s ∷ rest) ≡ false
     → kept_of kept s rest ≡ kept ++ (s ++ slashed rest)
@@ -115,7 +111,6 @@ kept-segments-stay kept s (t ∷ rest) e =
     ∙ append_assoc kept (s ++ codes "/") (t ++ slashed rest)
     ∙ ap (λ r. kept ++ r) (append_assoc s (codes "/") (t ++ slashed rest))
 
--- removing dot segments: any path without them stays
 pub removal-of-path-without-dots : (path : List ℕ) → has_literal_dot_segment path ≡ false
     → remove_dot_segments path ≡ path
 removal-of-path-without-dots = property-of-path-by-segments

@@ -4,7 +4,6 @@ use Rattle.uri_ops.proofs.Offered.{empty-text-is-nil, resolution-is-unique}
 use Rattle.uri_relative.specs.Leading.{LeadsTo, settled, without_fragment}
 use Rattle.uri_basic.proofs.SameRemovals.{removal-of-path-without-dots, same-removal}
 
--- targets: the path without its dot segments is the same if nothing deviates
 same-path-without-dots : (path : List ℕ)
     → (starts 47 path ≡ true → has_encoded_dot_segment path ≡ false)
     → (starts 47 path ≡ false → has_literal_dot_segment path ≡ false)
@@ -19,20 +18,17 @@ unguarded-path : (o : Option (List ℕ)) (path same : List ℕ) → path ≡ sam
     → (is_none o && has_authority same) ≡ false → guarded o path ≡ same
 unguarded-path o path same e clear = ap (guarded o) e ∙ cond-false _ _ _ clear
 
--- targets: the two targets are the same if their paths are, and the others of their components
 same-target : (base r d t : Components) → dotted_target base r ≡ d → target base r ≡ t
     → (path : List ℕ) → dotless_if_absolute d.path ≡ path → record d { path = path } ≡ t
     → is_ambiguous (target base r) ≡ false → target_of base r ≡ target base r
 same-target base r d t is_d is_t path same whole clear = search (rules, unguarded-path)
 
--- targets: an empty base path to merge with is after an authority, if the base is not opaque
 pub base-with-empty-path-has-authority : (o : Option (List ℕ)) (path : List ℕ)
     → (is_none o && not (starts 47 path)) ≡ false → path ≡ [] → is_some o ≡ true
 base-with-empty-path-has-authority None path e h =
     absurd (false≢true (sym e ∙ ap (λ t. not (starts 47 t)) h))
 base-with-empty-path-has-authority (Some a) path e h = refl
 
--- targets: the merged paths are the same
 same-merged-path : (base : Components) (path : List ℕ) → is_opaque base ≡ false
     → is_double_dot (last_segment base.path) ≡ false → merged base.path path ≡ merge base path
 unfolding directory
@@ -40,7 +36,6 @@ same-merged-path base path opaque last = ⊎_elim
     (search (rules, base-with-empty-path-has-authority, empty-text-is-nil, cond-true, and_from))
     (search (rules, cond-false, and_right)) (cases_Bool (is_empty base.path))
 
--- targets: where nothing deviates, the target is that of `Resolver`
 same-targets : (base r : Components) → NothingDeviates base r → target_of base r ≡ target base r
 same-targets base r n =
     let D : Components → Type 0 = λ d. starts 47 d.path ≡ true
@@ -115,7 +110,6 @@ pub same-resolutions : (base r : Components) → NothingDeviates base r
     × (basic_resolution base r ≡ Ok (recompose (target base r)))
 same-resolutions base r n = search (rules, cond-false, same-targets)
 
--- references that lead to a target: where nothing deviates, they do so by the basic algorithm too
 pub leading-reference-resolves : (base target reference : List ℕ) → LeadsTo base target reference
     → NothingDeviates (without_fragment (components base)) (components reference)
     → basic_resolution_of_texts base reference ≡ Ok (recompose (settled target))

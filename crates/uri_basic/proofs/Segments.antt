@@ -5,31 +5,26 @@ use Rattle.uri_relative.proofs.Offered.{text-with-slash-is-nonempty}
 use Rattle.uri_basic.proofs.Buffers.{output-after-step, output-of-empty-input}
 use Rattle.uri_basic.proofs.Steps.{last-segment-is-text, other-last-segment-begins-with-no-dots, other-segment-begins-with-no-dots, output-after-rooted-segment, output-after-rootless-segment, segment-ends-before-slash}
 
--- removing dot segments: the buffers after a directory
 buffers-at-directory : (p q : List ℕ)
     → buffers_at (p ++ codes "/") q ≡ record { input = 47 ∷ q; output = p }
 unfolding buffers_at
 buffers-at-directory p q = cond-false _ _ _ (text-with-slash-is-nonempty p [])
     ∙ (λ i. record { input = 47 ∷ q; output = before_last_slash-of-slashless-tail p [] refl i })
 
--- removing dot segments: the parent of a directory
 pub parent-of-directory : (p : List ℕ) → parent (p ++ codes "/") ≡ before_last_slash p ++ codes "/"
 unfolding parent
 parent-of-directory p = cond-false _ _ _ (text-with-slash-is-nonempty p [])
     ∙ ap (λ t. before_last_slash t ++ codes "/") (before_last_slash-of-slashless-tail p [] refl)
 
--- removing dot segments: nothing has no parent
 pub parent-of-nothing : parent [] ≡ []
 unfolding parent
 parent-of-nothing = refl
 
--- removing dot segments: the path that is left after a directory
 path-left-after-directory : (p q : List ℕ)
     → path_left (p ++ codes "/") q ≡ output_of (record { input = 47 ∷ q; output = p })
 unfolding path_left
 path-left-after-directory p q = ap output_of (buffers-at-directory p q)
 
--- removing dot segments: the path that is left after nothing
 path-left-after-nothing : (q : List ℕ)
     → path_left [] q ≡ output_of (record { input = q; output = [] })
 unfolding path_left buffers_at
@@ -40,7 +35,6 @@ pub path-left-of-path : (path : List ℕ) → path_left [] path ≡ remove_dot_s
 unfolding path_left buffers_at remove_dot_segments
 path-left-of-path path = refl
 
--- removing dot segments: `.` and `..` leave nothing of nothing
 nothing-left-of-dots : (q : List ℕ) → (path_left [] (codes "./" ++ q) ≡ path_left [] q)
     × (path_left [] (codes "../" ++ q) ≡ path_left [] q) × (path_left [] (codes ".") ≡ [])
     × (path_left [] (codes "..") ≡ [])
@@ -68,7 +62,6 @@ directory-left-of-dots p q = (
       ∙ output-after-slash (before_last_slash p) ∙ sym (parent-of-directory p),
 )
 
--- removing dot segments: a segment that is no dot segment is kept after nothing
 nothing-gets-other-segment : (s q : List ℕ) → has_slash s ≡ false → bytes_eq s (codes ".") ≡ false
     → bytes_eq s (codes "..") ≡ false → path_left [] (s ++ 47 ∷ q) ≡ path_left (s ++ codes "/") q
 nothing-gets-other-segment [] q lacks single double =
@@ -80,7 +73,6 @@ nothing-gets-other-segment (c ∷ s) q lacks single double =
     (other-segment-begins-with-no-dots (c ∷ s) q lacks single double) cut.0 cut.1
     ∙ sym (path-left-after-directory (c ∷ s) q)
 
--- removing dot segments: a last segment that is no dot segment is all that is left after nothing
 nothing-gets-other-last-segment : (s : List ℕ) → has_slash s ≡ false
     → bytes_eq s (codes ".") ≡ false → bytes_eq s (codes "..") ≡ false → path_left [] s ≡ s
 nothing-gets-other-last-segment [] lacks single double =
@@ -92,7 +84,6 @@ nothing-gets-other-last-segment (c ∷ s) lacks single double =
     (other-last-segment-begins-with-no-dots (c ∷ s) lacks single double) cut.0 cut.1
     ∙ output-of-empty-input (c ∷ s)
 
--- removing dot segments: a segment that is no dot segment is kept after a directory
 directory-gets-other-segment : (p s q : List ℕ) → has_slash s ≡ false
     → bytes_eq s (codes ".") ≡ false → bytes_eq s (codes "..") ≡ false
     → path_left (p ++ codes "/") (s ++ 47 ∷ q) ≡ path_left ((p ++ codes "/") ++ (s ++ codes "/")) q
@@ -103,7 +94,6 @@ directory-gets-other-segment p s q lacks single double =
     ∙ sym (path-left-after-directory (p ++ 47 ∷ s) q) ∙ ap (λ k. path_left k q)
     (append_assoc p (47 ∷ s) (codes "/") ∙ sym (append_assoc p (codes "/") (s ++ codes "/")))
 
--- removing dot segments: a last segment that is no dot segment is kept after a directory
 directory-gets-other-last-segment : (p s : List ℕ) → has_slash s ≡ false
     → bytes_eq s (codes ".") ≡ false → bytes_eq s (codes "..") ≡ false
     → path_left (p ++ codes "/") s ≡ (p ++ codes "/") ++ s
@@ -113,7 +103,6 @@ directory-gets-other-last-segment p s lacks single double =
     (other-last-segment-begins-with-no-dots s lacks single double) cut.0 cut.1
     ∙ output-of-empty-input (p ++ 47 ∷ s) ∙ sym (append_assoc p (codes "/") s)
 
--- removing dot segments: what is kept after a dot segment, and after another segment
 pub after-segment-by-test : (kept s piece : List ℕ)
     → (bytes_eq s (codes ".") ≡ true → after_segment kept s piece ≡ kept)
     × (bytes_eq s (codes "..") ≡ true → after_segment kept s piece ≡ parent kept)
@@ -122,8 +111,6 @@ pub after-segment-by-test : (kept s piece : List ℕ)
 unfolding after_segment
 after-segment-by-test kept s piece = search (rules, cond-true, bytes_eq-Decides, cond-false)
 
--- removing dot segments: what is left of a segment and the rest is what is left of the rest after
--- the segment
 pub path-left-after-segment : (kept s q : List ℕ) → IsDirectoryOrNothing kept → has_slash s ≡ false
     → path_left kept ((s ++ codes "/") ++ q) ≡ path_left (after_segment kept s (s ++ codes "/")) q
 path-left-after-segment kept s q closed lacks =
@@ -140,7 +127,6 @@ path-left-after-segment kept s q closed lacks =
     (cases_Bool (bytes_eq s (codes ".."))))
     (cases_Bool (bytes_eq s (codes ".")))
 
--- removing dot segments: what is left of a last segment is what is kept after it
 pub path-left-after-last-segment : (kept s : List ℕ) → IsDirectoryOrNothing kept
     → has_slash s ≡ false → path_left kept s ≡ after_segment kept s s
 path-left-after-last-segment kept s closed lacks =
@@ -167,13 +153,11 @@ pub after-segment-keeps : (Q : List ℕ → Type 0) (kept s piece : List ℕ) �
 unfolding after_segment
 after-segment-keeps Q kept s piece same up more = search (rules, cond_both)
 
--- removing dot segments: the parent of a directory is a directory
 pub parent-is-directory : (kept : List ℕ) → IsDirectoryOrNothing kept
     → IsDirectoryOrNothing (parent kept)
 unfolding parent
 parent-is-directory kept closed = search (rules, parent-of-directory)
 
--- removing dot segments: after a segment and its `/` a directory is kept
 pub directory-after-segment : (kept s : List ℕ) → IsDirectoryOrNothing kept
     → IsDirectoryOrNothing (after_segment kept s (s ++ codes "/"))
 directory-after-segment kept s closed = after-segment-keeps IsDirectoryOrNothing kept s
@@ -185,7 +169,6 @@ unfoldable pub kept_of : List ℕ → List ℕ → List (List ℕ) → List ℕ
 kept_of kept s [] = after_segment kept s s
 kept_of kept s (t ∷ rest) = kept_of (after_segment kept s (s ++ codes "/")) t rest
 
--- removing dot segments: what is left of a path is what is kept of its segments
 pub path-left-by-segments : (kept s : List ℕ) (rest : List (List ℕ)) → IsDirectoryOrNothing kept
     → NoSlashes (s ∷ rest) → path_left kept (s ++ slashed rest) ≡ kept_of kept s rest
 unfolding kept_of slashed

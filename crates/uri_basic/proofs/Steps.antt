@@ -20,7 +20,6 @@ first-two-tests-fail true true x e = absurd (false≢true (sym e))
 first-two-tests-fail true false x e = refl
 first-two-tests-fail false d x e = refl
 
--- dot segments: a segment that is none, with a `/` (47) after it, begins with none
 pub other-segment-begins-with-no-dots : (s q : List ℕ) → has_slash s ≡ false
     → bytes_eq s (codes ".") ≡ false → bytes_eq s (codes "..") ≡ false
     → BeginsWithNoDots (s ++ 47 ∷ q)
@@ -33,7 +32,6 @@ other-segment-begins-with-no-dots (c ∷ d ∷ []) q lacks single double =
 other-segment-begins-with-no-dots (c ∷ d ∷ e ∷ s) q lacks single double =
     search (rules, and_right, and_left, or_parts)
 
--- dot segments: a last segment that is none begins with none
 pub other-last-segment-begins-with-no-dots : (s : List ℕ) → has_slash s ≡ false
     → bytes_eq s (codes ".") ≡ false → bytes_eq s (codes "..") ≡ false → BeginsWithNoDots s
 other-last-segment-begins-with-no-dots [] lacks single double =
@@ -58,7 +56,6 @@ segment-ends-before-slash (c ∷ s) q e =
       ap (λ n. drop n ((c ∷ s) ++ 47 ∷ q)) m ∙ ih.1,
     )
 
--- paths: the last segment of a text ends with it
 pub last-segment-is-text : (s : List ℕ) → has_slash s ≡ false
     → (before_any (codes "/") s ≡ s) × (from_any (codes "/") s ≡ [])
 last-segment-is-text [] e = (refl, refl)
@@ -84,7 +81,6 @@ step-moves-rooted-segment : (text output : List ℕ) → BeginsWithNoDots text �
 step-moves-rooted-segment text output f = cond-false _ _ _ f.single_slash
     ∙ cond-false _ _ _ f.single ∙ cond-false _ _ _ f.double_slash ∙ cond-false _ _ _ f.double
 
--- removing dot segments: a buffer that begins with no `/` and no dot segment loses a segment, too
 step-moves-rootless-segment : (c : ℕ) (text output : List ℕ) → (c == 47) ≡ false
     → BeginsWithNoDots (c ∷ text)
     → step (record { input = c ∷ text; output = output })
@@ -94,7 +90,6 @@ step-moves-rootless-segment : (c : ℕ) (text output : List ℕ) → (c == 47) �
     }
 step-moves-rootless-segment c text output e f = search (rules, cond-false, and_left, or_from)
 
--- removing dot segments: the output where a buffer has a `/` before no dot segment
 pub output-after-rooted-segment : (text output segment rest : List ℕ) → BeginsWithNoDots text
     → before_any (codes "/") text ≡ segment → from_any (codes "/") text ≡ rest
     → output_of (record { input = 47 ∷ text; output = output })
@@ -102,7 +97,6 @@ pub output-after-rooted-segment : (text output segment rest : List ℕ) → Begi
 output-after-rooted-segment text output segment rest f e g =
     search (rules, output-after-step, step-moves-rooted-segment)
 
--- removing dot segments: the output where a buffer begins with no `/` and no dot segment
 pub output-after-rootless-segment : (c : ℕ) (text output segment rest : List ℕ)
     → (c == 47) ≡ false → BeginsWithNoDots (c ∷ text)
     → before_any (codes "/") (c ∷ text) ≡ segment → from_any (codes "/") (c ∷ text) ≡ rest

@@ -49,7 +49,6 @@ abbrev host_end_after : Option (List ℕ) → Option (List ℕ) → ℕ
 host_end_after scheme authority = unwrap_or (option_map (λ (a : AuthorityPositions). a.host_end)
     (option_map (authority_at (delimited_length 1 scheme + 2)) authority)) 0
 
--- targets: positions up to the host are those of scheme and authority
 places-by-prefix : (scheme authority : Option (List ℕ)) (t : Components) (places : PackedPositions)
     → HasPrefix scheme authority t → places.scheme_end ≡ unwrap_or (option_map length scheme) 0
     → places.host_start ≡ host_start_after scheme authority
@@ -81,7 +80,6 @@ pub places-of-authority : (b r : Components) (own from made : PackedPositions) (
 places-of-authority b r own from made scheme at base is s a ends starts stops =
     search (rules, length-with-delimiter-after, moved-host, places-by-prefix, prefix-of-authority)
 
--- targets: the host of a text is within it, by its scheme and authority
 host-within-parts : (scheme authority : Option (List ℕ)) (rest : List ℕ)
     → ((a : List ℕ) → authority ≡ Some a → host_end_of a ≤ length a)
     → (host_start_after scheme authority
@@ -92,7 +90,6 @@ host-within-parts scheme None rest h = (omega arith, omega arith)
 host-within-parts scheme (Some a) rest h =
     search (rules, length-append, length-with-delimiter-after)
 
--- targets: the host of a text is within it, if it is within its authority
 pub host-is-within-text : (text : List ℕ) (own : PackedPositions)
     → ((a : List ℕ) → (components text).authority ≡ Some a → host_end_of a ≤ length a)
     → own ≡ packed (positions_of (components text))
@@ -102,7 +99,6 @@ host-is-within-text text own host at =
     let in_parts = host-within-parts p.scheme p.authority (p.path ++ after_path p) host in
     search (rules, recompose-components)
 
--- targets: the query ends before the fragment, which is the last of what is after the path
 query-ends-before-fragment : (query fragment : Option (List ℕ)) (n : ℕ)
     → length (marked (codes "?") query [] ++ marked (codes "#") fragment [])
     ≡ n + length (marked (codes "#") fragment [])
@@ -130,7 +126,6 @@ written-target-is-at t places made o1 o2 o3 last to e1 e2 e3 el s hs he ps pe qe
 pub fragment-of-target : (b r : Components) → (target b r).fragment ≡ r.fragment
 fragment-of-target b r = search (rules, cond_both)
 
--- targets: the query is the reference's, if that has a path
 pub query-of-target-with-path : (b r : Components) → is_empty r.path ≡ false
     → (target b r).query ≡ r.query
 query-of-target-with-path b r some = search (rules, cond_both, both_ways)

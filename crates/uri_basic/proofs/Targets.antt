@@ -16,7 +16,6 @@ record IsSplittable (c : Components) : Type 0 where
   path : Lacks (codes "?#") c.path
   query : IfSome c.query (λ q. Lacks (codes "#") q)
 
--- removing dot segments: nothing is left of nothing
 removal-of-nothing : remove_dot_segments [] ≡ []
 unfolding remove_dot_segments output_of run
 removal-of-nothing = refl
@@ -39,13 +38,11 @@ merged-path-is-absolute : (base : Components) (path : List ℕ) → is_some base
 merged-path-is-absolute base path some h = ⊎_elim (search (rules, cond-true, and_from))
     (search (rules, cond_both, appended-absolute-path-is-absolute, up-to-last-slash-is-absolute)) h
 
--- paths: the bytes up to the last `/` pass a test that `/` (47) and all pass
 bytes-up-to-last-slash-pass : (p : ℕ → Bool) → p 47 ≡ true → (path : List ℕ)
     → list_all p path ≡ true → list_all p (up_to_last_slash path) ≡ true
 bytes-up-to-last-slash-pass p slash path e =
     search (rules, cond_both, bytes-of-append-pass, before_last_slash-passes-test, and_from)
 
--- targets: the merged path has no delimiter that neither path has
 merge-adds-no-delimiter : (base : Components) (path : List ℕ) → Lacks (codes "?#") base.path
     → Lacks (codes "?#") path → Lacks (codes "?#") (merge base path)
 merge-adds-no-delimiter base path h k = cond_both (is_some base.authority && is_empty base.path)
@@ -123,7 +120,6 @@ target-is-splittable b t base r some is_base is_reference =
               (merged-path-is-absolute base r.path (ap is_some e) h.1)),
         )
 
--- targets: a path that is not parsed as an authority, if none is before it
 unambiguous-path-is-no-authority : (o : Option (List ℕ)) (path : List ℕ)
     → (is_none o && has_authority path) ≡ false → IfNone o (has_authority path ≡ false)
 unambiguous-path-is-no-authority None path h = h
@@ -257,7 +253,6 @@ absent-authority-has-no-slashes : (o : Option (List ℕ)) (test : Bool) → is_n
 absent-authority-has-no-slashes None test e h = h
 absent-authority-has-no-slashes (Some a) test e h = absurd (false≢true e)
 
--- general fact on results, for targets: an error is the one of the test
 rejected-by-test : (test : Bool) (text : List ℕ)
     → cond test (Err PathStartsWithDoubleSlash) (Ok text) ≡ Err PathStartsWithDoubleSlash
     → test ≡ true

@@ -2,7 +2,6 @@
 use Rattle.uri_commands.proofs.Common.{Option, Some, None, Ok, Err, IfSome, Call, Flushed, IsFailedFlush, IsFailedWrite, IsInterruptedFlush, IsInterruptedWrite, Wrote}
 use Rattle.std.specs.declared.io.Error.{Error}
 
--- writers: after a write that was interrupted too often any error may be kept
 pub any-error-after-interrupted-write : (kept : Option Error) (last : Option Call)
     → IfSome last IsInterruptedWrite → IfSome last (IsFailedWrite kept)
 any-error-after-interrupted-write kept None i = tt
@@ -10,7 +9,6 @@ any-error-after-interrupted-write kept (Some (Wrote (Ok count))) i = absurd i
 any-error-after-interrupted-write kept (Some (Wrote (Err error))) i = λ final. absurd (final i)
 any-error-after-interrupted-write kept (Some (Flushed outcome)) i = absurd i
 
--- writers: after a flush that was interrupted too often any error may be kept
 pub any-error-after-interrupted-flush : (kept : Option Error) (last : Option Call)
     → IfSome last IsInterruptedFlush → IfSome last (IsFailedFlush kept)
 any-error-after-interrupted-flush kept None i = tt

@@ -48,7 +48,6 @@ bytes-of-four-and-others words a b c d least x y z w =
     bytes-of-four-and-rest (u ∷ v ∷ s ∷ []) a b c d least x y z w = absurd (omega arith)
     bytes-of-four-and-rest (u ∷ v ∷ s ∷ t ∷ rest) a b c d least x y z w = cc
 
--- commands: the bytes of four words of a command line
 pub bytes-of-four-words : {Z : Type 0} (words : List (String Z)) (a b c d : String Z)
     → 4 ≤ length words → length words < 5 → a ≡ get_or words 0 a → b ≡ get_or words 1 b
     → c ≡ get_or words 2 c → d ≡ get_or words 3 d
@@ -60,14 +59,12 @@ bytes-of-four-words (u ∷ v ∷ s ∷ []) a b c d least below x y z w = absurd 
 bytes-of-four-words (u ∷ v ∷ s ∷ t ∷ []) a b c d least below x y z w = cc
 bytes-of-four-words (u ∷ v ∷ s ∷ t ∷ p ∷ rest) a b c d least below x y z w = absurd (omega arith)
 
--- commands: the kind that a word names
 kind_named : List ℕ → KindName
 kind_named word =
     let short = eqb (length word) 3 in
     if eqb (get_or word 0 0) 117 then (if short then Uri else UriRef) else if short then Iri
     else IriRef
 
--- commands: the kind of the base that a word names
 base_named : List ℕ → BaseName
 base_named word = if eqb (get_or word 0 0) 117 then bases.Uri else bases.Iri
 
@@ -84,7 +81,6 @@ command_named words =
     Normalize Set.StandardRules (kind_named text) (get_or words 3 []) else Links Set.StandardRules
     text (get_or words 3 []) (drop 4 words)
 
--- commands: the words of a command make that command
 command_named-words_of : (a : Command) → command_named (words_of a) ≡ a
 unfolding command_named kind_named base_named
 command_named-words_of (Parse Uri s) = refl
@@ -113,11 +109,9 @@ words_of_injective : (a b : Command) → words_of a ≡ words_of b → a ≡ b
 words_of_injective a b same = sym (command_named-words_of a) ∙ ap command_named same
     ∙ command_named-words_of b
 
--- commands: those with the same words have the same output
 pub same-words-same-output : (a b : Command) → words_of a ≡ words_of b → output_of a ≡ output_of b
 same-words-same-output a b same = ap output_of (words_of_injective a b same)
 
--- commands: words of none of the five forms are no command
 words-of-no-form-are-no-command : (words : List (List ℕ)) → ¬ (AreWordsOfTextCommand words)
     → ¬ (AreWordsOfResolve words) → ¬ (AreWordsOfLinks words) → ¬ (AreWordsOfRuledNormalize words)
     → ¬ (AreWordsOfRuledLinks words) → (command : Command) → words ≡ words_of command → ⊥

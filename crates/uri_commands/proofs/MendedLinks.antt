@@ -5,7 +5,6 @@ use Rattle.uri_mend.specs.Mended.{IsMended}
 use Rattle.uri_mend.specs.Mending.{can_be_mended, mended_text}
 use Rattle.uri_mend.specs.Trimming.{trimmed_link}
 
--- links: an error that is right for a link is one of `mend`
 pub error-of-link-is-error-of-mend : {A : Type 0} (name : KindName) (kind : Kind) (text : List ℕ)
     (result : Result A CommandError) → kind_named name ≡ kind
     → IfErr result (IsErrorOfLink kind text) → IfErr result (IsErrorOfCommand (Mend name text))
@@ -21,7 +20,6 @@ error-of-link-is-error-of-mend name kind text result same is = IfErr-weaker resu
     of-each OutOfMemory is = is
     of-each OutputFailed is = absurd is
 
--- links: one that was mended can be mended
 pub mended-link-can-be-mended : {A E : Type 0} (bytes : A → List ℕ) (name : KindName) (kind : Kind)
     (text : List ℕ) (result : Result A E) → kind_named name ≡ kind
     → IfOk result (λ link. IsMended kind (trimmed_link text) (bytes link))
@@ -29,7 +27,6 @@ pub mended-link-can-be-mended : {A E : Type 0} (bytes : A → List ℕ) (name : 
 mended-link-can-be-mended bytes name kind text result same is = IfOk-weaker result _ _
     (λ link e. subst (λ k. can_be_mended k (trimmed_link text) ≡ true) (sym same) e.mendable) is
 
--- links: one that was mended has the text that is defined
 pub mended-link-has-mended-text : {A E : Type 0} (bytes : A → List ℕ) (name : KindName)
     (kind : Kind) (text : List ℕ) (result : Result A E) → kind_named name ≡ kind
     → IfOk result (λ link. IsMended kind (trimmed_link text) (bytes link))

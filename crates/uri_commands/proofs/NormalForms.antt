@@ -9,8 +9,6 @@ pub normal_form_is : (set : RuleSet) (kind : Kind) (text normal : List ℕ)
 unfolding normal_form_of
 normal_form_is set kind text normal is = is.text
 
--- commands: an error that is right for a text of which the normal form is asked for is one of
--- `normalize`
 pub error_of_normal_form_is_error_of_normalize : {A : Type 0} (set : RuleSet) (name : KindName)
     (kind : Kind) (text : List ℕ) (result : Result A CommandError) → kind_named name ≡ kind
     → IfErr result (IsErrorOfNormalForm kind text)

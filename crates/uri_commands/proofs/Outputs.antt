@@ -7,8 +7,6 @@ use Rattle.uri_mend.specs.Trimming.{trimmed_link}
 use Rattle.uri_commands.specs.declared.command.BaseName.{BaseName}
 use Rattle.uri_commands.proofs.Refusals.{if_err-of-equal-error}
 
--- commands: if the output of `parse` cannot be written, that failure is its error,
--- as the text is of its kind
 pub failed-output-is-error-of-parse : {A : Type 0} (name : KindName) (text : List ℕ)
     (result : Result A CommandError) → IsOfKind (kind_named name) text
     → IfErr result (λ why. why ≡ OutputFailed) → IfErr result (IsErrorOfCommand (Parse name text))
@@ -17,8 +15,6 @@ failed-output-is-error-of-parse name text result is given =
     if_err-of-equal-error (IsErrorOfCommand (Parse name text)) result OutputFailed given
     (lines, ap (λ b. if b then Some lines else None) is)
 
--- commands: if the output of `normalize` cannot be written, that failure is its error,
--- as the text is of its kind
 pub failed-output-is-error-of-normalize : {A : Type 0} (set : RuleSet) (name : KindName)
     (text : List ℕ) (result : Result A CommandError) → IsOfKind (kind_named name) text
     → IfErr result (λ why. why ≡ OutputFailed)
@@ -29,8 +25,6 @@ failed-output-is-error-of-normalize set name text result is given =
     if_err-of-equal-error (IsErrorOfCommand command) result OutputFailed given
     (lines, ap (λ b. if b then Some lines else None) is)
 
--- commands: if the output of `mend` cannot be written, that failure is its error,
--- as the link was mended
 pub failed-output-is-error-of-mend : {A : Type 0} (name : KindName) (text : List ℕ)
     (result : Result A CommandError) → can_be_mended (kind_named name) (trimmed_link text) ≡ true
     → IfErr result (λ why. why ≡ OutputFailed) → IfErr result (IsErrorOfCommand (Mend name text))
@@ -39,8 +33,6 @@ failed-output-is-error-of-mend name text result is given =
     if_err-of-equal-error (IsErrorOfCommand (Mend name text)) result OutputFailed given
     (lines, ap (λ b. if b then Some lines else None) is)
 
--- commands: if the output of `resolve` cannot be written, that failure is its error, as the texts
--- are of their kinds and have a target
 pub failed-output-is-error-of-resolve : {A : Type 0} (name : BaseName)
     (base reference target : List ℕ) (result : Result A CommandError)
     → IsOfKind (kind_of_base name) base → IsOfKind (kind_of_references name) reference
@@ -50,8 +42,6 @@ failed-output-is-error-of-resolve name base reference target result b r t given 
     if_err-of-equal-error (IsErrorOfCommand (Resolve name base reference)) result OutputFailed given
     (target ++ codes "\n", cc (b, r, t))
 
--- commands: if the output of `links` cannot be written, that failure is its error,
--- as the texts are of their kinds
 pub failed-output-is-error-of-links : {A : Type 0} (set : RuleSet) (base reference : List ℕ)
     (others : List (List ℕ)) (result : Result A CommandError) → IsOfKind uri base
     → are_of_kind uri_ref (reference ∷ others) ≡ true → IfErr result (λ why. why ≡ OutputFailed)

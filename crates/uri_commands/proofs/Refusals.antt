@@ -12,8 +12,6 @@ pub if_err-of-equal-error : {A B : Type 0} (P : B → Type 0) (result : Result A
 if_err-of-equal-error P (Ok a) e is p = tt
 if_err-of-equal-error P (Err x) e is p = subst P (sym is) p
 
--- commands: the error of a text, as a command returns it; `kind` is how the text was parsed and
--- `named` what the words name
 pub parse-error-is-of-text : {A B : Type 0} (P : B → Type 0) (shown : ParseError → B)
     (named kind : Kind) (text : List ℕ) (result : Result A B) (e : ParseError)
     → ((x : ParseError) → IsErrorOf named text x → P (shown x)) → named ≡ kind
@@ -21,7 +19,6 @@ pub parse-error-is-of-text : {A B : Type 0} (P : B → Type 0) (shown : ParseErr
 parse-error-is-of-text P shown named kind text result e is same error given = IfErr-of-only-error P
     result (shown e) given (is e (subst (λ k. IsErrorOf k text e) (sym same) error))
 
--- commands: the error of a text that map_err made of a parse error is the one that is returned
 pub mapped-parse-error-is-of-text : {A B C : Type 0} (P : B → Type 0) (shown : ParseError → B)
     (kind : Kind) (text : List ℕ) (parsed : Result A ParseError) (mapped : Result A B)
     (result : Result C B) (why : B) → ((e : ParseError) → IsErrorOf kind text e → P (shown e))
@@ -33,14 +30,12 @@ mapped-parse-error-is-of-text P shown kind text (Ok x) mapped result why is erro
 mapped-parse-error-is-of-text P shown kind text (Err e) mapped result why is error cases was given =
     grind (arith, IfErr-of-only-error)
 
--- commands: a text that was parsed, and its value mapped, is of its kind
 pub mapped-ok-is-of-kind : {A B E : Type 0} (kind : Kind) (text : List ℕ) (parsed : Result A E)
     (mapped : Result A B) (value : A) → (IsOk parsed ↔ IsOfKind kind text)
     → is_ok mapped ≡ is_ok parsed → mapped ≡ Ok value → IsOfKind kind text
 mapped-ok-is-of-kind kind text parsed mapped value accepts variant was =
     accepts.0 (sym variant ∙ ap is_ok was)
 
--- commands: the line of an error is written in parts
 pub error-line-in-parts : (subject text index : List ℕ) (why : CommandError)
     → subject ++ text ++ index ≡ command_error_text why
     → (codes "error: " ++ subject) ++ ((text ++ index) ++ codes "\n") ≡ error_line why

@@ -4,14 +4,12 @@ use Rattle.std.specs.Result.{result_ok}
 use Rattle.fluent_uri.specs.Components.{components}
 use Rattle.fluent_uri.specs.Target.{resolution_of}
 
--- commands: a text that is the target is the one that `resolve` prints
 target_text-of-resolution : (base reference target : List ℕ)
     → resolution_of (components base) (components reference) ≡ Ok target
     → target_text base reference ≡ Some target
 unfolding target_text
 target_text-of-resolution base reference target is = ap result_ok is
 
--- commands: a returned target is the text that `resolve` prints
 pub target_text-of-resolved : {A B : Type 0} (text_of : A → List ℕ) (base reference : List ℕ)
     (result : Result A B) → IfOk result
     (λ target. resolution_of (components base) (components reference) ≡ Ok (text_of target))

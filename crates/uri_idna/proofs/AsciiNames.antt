@@ -26,7 +26,6 @@ use Rattle.uri_idna.specs.AsciiHosts.{ascii_host, ascii_host_of, ascii_name, dns
 is_name_char : ℕ → Bool
 is_name_char c = is_ascii_lowercase c || (is_ascii_digit c || (eqb c 45 || eqb c 46))
 
--- hosts in ASCII: a byte that is written is one of these
 output-byte-is-name-char : (c : ℕ) → IsOutputByte STD3 c → is_ascii_in is_name_char c ≡ true
 unfolding is_name_char
 output-byte-is-name-char c byte =
@@ -40,7 +39,6 @@ name-char-is-unreserved : (c : ℕ) → is_name_char c ≡ true → unreserved_s
 unfolding is_name_char
 name-char-is-unreserved c e = grind (arith, nat_tests)
 
--- hosts in ASCII: a name for DNS is a text of each set that has the unreserved characters
 dns-name-is-set-text : (set : TableSet) → IsSubset unreserved_set set → LacksPercent set
     → (name made : List ℕ) → dns_name name ≡ Some made → is_set_text set made ≡ true
 unfolding is_name_char
@@ -57,7 +55,6 @@ bracket-is-excluded : (set : TableSet) → list_any set.ascii (codes "/?#[]@:") 
     → excludes set (codes "[") ≡ true
 bracket-is-excluded set ends = grind arith
 
--- hosts in ASCII: so it is a host of each kind
 dns-name-is-host : (kind : Kind) → HasComponentSets kind → (name made : List ℕ)
     → dns_name name ≡ Some made → IsHostText kind.reg_name made
 dns-name-is-host kind sets name made e =
@@ -68,11 +65,9 @@ dns-name-is-host kind sets name made e =
     (bracket-is-excluded set sets.reg_name.ends)
     made (set-text-is-utf8 set made part) (set-text-is-valid set made part)
 
--- general fact on options: two values that are equal are of equal texts
 equal-some-texts : (x y : List ℕ) → Some x ≡ Some y → x ≡ y
 equal-some-texts x y e = ap (λ o. unwrap_or o []) e
 
--- hosts in ASCII: a registered name in ASCII is a host
 ascii-name-is-host : (kind : Kind) → HasComponentSets kind → (host made : List ℕ)
     → IsHostText kind.reg_name host → ascii_name host ≡ Some made → IsHostText kind.reg_name made
 ascii-name-is-host kind sets host made h e = elim (cases_Bool (is_ascii_text (name_bytes host))) [
@@ -93,7 +88,6 @@ ascii-host-of-kind-is-host kind sets host made h IpvFuture e =
 ascii-host-of-kind-is-host kind sets host made h RegName e =
     ascii-name-is-host kind sets host made h e
 
--- hosts in ASCII: a host in ASCII is a host of the kind
 pub ascii-host-is-host : (kind : Kind) → HasComponentSets kind → (host made : List ℕ)
     → IsHostText kind.reg_name host → ascii_host host ≡ Some made → IsHostText kind.reg_name made
 ascii-host-is-host kind sets host made h e =

@@ -14,7 +14,6 @@ use Rattle.uri_idna.specs.AsciiHosts.{ascii_host}
 use Rattle.uri_idna.specs.AsciiReferences.{HasAsciiHost, IsAuthorityWithAsciiHost, IsWithAsciiHost, with_ascii_host, with_authority, with_host}
 use Rattle.uri_idna.proofs.AsciiNames.{ascii-host-is-host}
 
--- replacing a host: a host and the port after it are UTF-8
 host-before-port-is-utf8 : (host : List ℕ) (port : Option (List ℕ)) → IsUtf8 host
     → IfSome port IsUtf8 → IsUtf8 (host ++ marked (codes ":") port [])
 host-before-port-is-utf8 host None h p = IsUtf8-append host [] h (ascii-bytes-are-utf8 [] refl)
@@ -34,11 +33,9 @@ authority-of-utf8-is-utf8 (Some user) host port u h p =
     (IsUtf8-append user (codes "@") u (ascii-bytes-are-utf8 (codes "@") refl))
     (host-before-port-is-utf8 host port h p)
 
--- replacing a host: the parts of an authority with its host in ASCII
 abbrev with_ascii : List ℕ → List ℕ → AuthorityParts
 with_ascii authority host = record (authority_parts authority) { host = host }
 
--- replacing a host: an authority with its host in ASCII is one of the kind, with these parts
 authority-with-ascii-host : (kind : Kind) → HasComponentSets kind → (authority host : List ℕ)
     → IsUtf8 authority → is_authority kind authority ≡ true
     → ascii_host (authority_parts authority).host ≡ Some host
@@ -66,14 +63,12 @@ authority-with-ascii-host kind sets authority host utf8 rule e =
       authority_parts-are-unique kind.userinfo kind.reg_name apart text new utf8' grammar,
     )
 
--- replacing a host: a text that begins with `//` has no scheme
 slashes-are-no-scheme : (scheme : Option (List ℕ)) (authority rest : List ℕ)
     → IfNone scheme (has_scheme (marked [] scheme (codes ":")
     ++ (marked (codes "//") (Some authority) [] ++ rest)) ≡ false)
 slashes-are-no-scheme None authority rest = refl
 slashes-are-no-scheme (Some s) authority rest = tt
 
--- replacing a host: components with another authority of the kind are of the kind
 replaced-components-are-of-kind : (kind : Kind) (p : Components) (old new : List ℕ)
     → p.authority ≡ Some old → IsUtf8 new → is_authority kind new ≡ true → ArePartsOfKind kind p
     → ArePartsOfKind kind (with_authority p new)
@@ -165,7 +160,6 @@ module _ (kind : Kind) (sets : HasComponentSets kind) (text old host : List ℕ)
         fragment = ap (λ (c : Components). c.fragment) same;
       }
 
--- a text without an authority stays
 pub text-without-authority-stays : (text : List ℕ) → (components text).authority ≡ None
     → with_ascii_host text ≡ Some text
 text-without-authority-stays text none = grind (arith, components, recompose-components)

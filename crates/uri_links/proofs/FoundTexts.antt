@@ -121,24 +121,20 @@ module _ (nodes : List Node) (hash parent : ℕ) (right : Bool) (texts : List (L
     found-texts-stay-found,
   )
 
--- register of links: a list of length 0 is empty
 no_texts : (texts : List (List ℕ)) → 0 ≡ length texts → texts ≡ []
 no_texts [] e = refl
 no_texts (text ∷ texts) e = absurd (omega arith)
 
--- register of links: in a tree of one node its text is found
 single-text-is-found : (hash : ℕ) (text : List ℕ) (id : ℕ) → id ≡ 0
     → search_from 1 (leaf hash ∷ []) (text ∷ []) (get_or (text ∷ []) id []) 0 0 ≡ Found id
 single-text-is-found hash text id e =
     grind (arith, nat_tests, search_from-found-here, bytes_eq-Decides)
 
--- register of links: a node alone is a search tree of its text
 single-node-is-search-tree : (hash : ℕ) (text : List ℕ) → hash ≡ hash_of text
     → IsSearchTree (leaf hash ∷ []) (text ∷ [])
 single-node-is-search-tree hash text h =
     grind (arith, nat_tests, leaf-has-no-child, single-text-is-found)
 
--- register of links: a search tree to which a text is added is one of all the texts
 grown-tree-is-search-tree : (nodes : List Node) (hash parent : ℕ) (right : Bool)
     (texts : List (List ℕ)) (text : List ℕ) → IsSearchTree nodes texts
     → search nodes texts text ≡ Missing parent right → hash ≡ hash_of text
@@ -174,7 +170,6 @@ search-tree-after-adding nodes nodes_after hash parent right texts texts_after t
     (subst (IsSearchTree (with_node_added nodes hash parent right)) (sym t)
     (grown-tree-is-search-tree nodes hash parent right texts text is e h))
 
--- register of links: a search in the tree finds the position of a text
 pub search-finds-position : (nodes : List Node) (texts : List (List ℕ)) → IsSearchTree nodes texts
     → (text : List ℕ) → found_id (search nodes texts text) ≡ position (bytes_eq text) texts
 search-finds-position nodes texts is text = by_position (position (bytes_eq text) texts) refl where

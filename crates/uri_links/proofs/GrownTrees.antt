@@ -8,7 +8,6 @@ child-of-with_child : (node : Node) (side : Bool) (id : ℕ) → child (with_chi
 child-of-with_child node true id = refl
 child-of-with_child node false id = refl
 
--- register of links: putting a child on an empty side leaves the child on the other
 with_child-keeps-other-side : (node : Node) (side right : Bool) (id : ℕ) → child node right ≡ 0
     → child node side ≢ 0 → child (with_child node right id) side ≡ child node side
 with_child-keeps-other-side node true true id free some = absurd (some free)

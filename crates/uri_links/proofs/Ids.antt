@@ -10,14 +10,12 @@ use Rattle.uri_links.specs.declared.links.Outcome.TheVariants.{New, Known, Refus
 abbrev IsInRangeAfter : List (List ℕ) → Outcome × List (List ℕ) → Type 0
 IsInRangeAfter texts o = IdIsInRange o.1 o.0 × (length texts ≤ length o.1)
 
--- register of links: an id that is in range is so where there are more texts
 id-in-range-of-longer : (texts after : List (List ℕ)) (outcome : Outcome)
     → length texts ≤ length after → IdIsInRange texts outcome → IdIsInRange after outcome
 id-in-range-of-longer texts after (New id) l h = omega arith
 id-in-range-of-longer texts after (Known id) l h = omega arith
 id-in-range-of-longer texts after (Refused error) l h = tt
 
--- register of links: the outcome of looking a target up has an id in range
 outcome_of_lookup-fits : (rules : Rules) (texts : List (List ℕ)) (target : List ℕ)
     (place : Option ℕ) → index_of_meaning rules texts (meaning_under uri rules target) ≡ place
     → IsInRangeAfter texts
@@ -33,7 +31,6 @@ outcome_of_resolution-fits rules texts (Ok target) = outcome_of_lookup-fits rule
     (index_of_meaning rules texts (meaning_under uri rules target)) refl
 outcome_of_resolution-fits rules texts (Err refusal) = (tt, omega arith)
 
--- register of links: the outcome of a reference has an id in range
 outcome_of-fits : (rules : Rules) (base : List ℕ) (texts : List (List ℕ)) (reference : List ℕ)
     → IsInRangeAfter texts (outcome_of rules base texts reference)
 unfolding outcome_of
@@ -51,7 +48,6 @@ outcomes_of-removes-no-text rules base texts (reference ∷ references) =
     references in
     omega arith
 
--- register of links: the outcomes of references have ids in range
 outcomes_of-ids-in-range : (rules : Rules) (base : List ℕ) (texts references : List (List ℕ))
     → AllByRecursion (IdIsInRange (outcomes_of rules base texts references).1)
     (outcomes_of rules base texts references).0
@@ -65,7 +61,6 @@ outcomes_of-ids-in-range rules base texts (reference ∷ references) =
       outcomes_of-ids-in-range rules base first.1 references,
     )
 
--- register of links: the ids in the outcomes of references are indices into its texts
 pub ids-are-in-range : (rules : Rules) (base : List ℕ) (texts references : List (List ℕ))
     (outcomes : List Outcome) (after : List (List ℕ))
     → outcomes_of rules base texts references ≡ (outcomes, after) → All (IdIsInRange after) outcomes

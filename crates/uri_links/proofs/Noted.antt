@@ -20,7 +20,6 @@ use Rattle.uri_links.proofs.Places.{position-of-equal-tests}
 abbrev pub ComparesMeanings : Type 0
 ComparesMeanings = (m n : Meaning) → Decides (same_meaning m n) (m ≡ n)
 
--- register of links: a normal target is its own normal text
 pub normal-target-is-its-own-normal-text : (kind : Kind) (rules : Rules)
     (base reference normal : List ℕ) → IsNormalFormOfTarget kind rules base reference normal
     → normal_text (meaning_under kind rules normal) ≡ normal
@@ -77,7 +76,6 @@ unfolding outcome_of
 noted same rules base reference normal texts outcome h uris own e =
     grind (arith, index-by-text-is-index-by-meaning)
 
--- register of links: the outcome of a reference that has no target is `Refused`
 pub outcome_of-without-target : (rules : Rules) (base reference : List ℕ) (texts : List (List ℕ))
     (error : ResolveError)
     → IsErrorWithUnderflowAllowed (components base) (components reference) error

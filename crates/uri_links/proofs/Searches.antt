@@ -93,7 +93,6 @@ found-index-in-range [] texts text tree at e = absurd (cc)
 found-index-in-range (node ∷ nodes) texts text tree at e = search_from-found-in-range (node ∷ nodes)
     texts text tree (length (node ∷ nodes)) 0 0 at e (omega arith)
 
--- register of links: its search tree has as many nodes as there are texts
 pub as-many-nodes-as-texts : (nodes : List Node) (texts : List (List ℕ)) → HaveHashes nodes texts
     → length nodes ≡ length texts
 as-many-nodes-as-texts nodes texts h = grind (arith, nat_tests, length-map)
@@ -106,7 +105,6 @@ pub get_or-of-mapped : {X : Type 0} (text_of : X → List ℕ) (items : List X) 
 get_or-of-mapped text_of items id item l e = get_or-map text_of items id item [] l
     ∙ ap text_of (sym e)
 
--- register of links: the hash of a node of the search tree is that of its text
 pub node-hash-is-text-hash : (nodes : List Node) (texts : List (List ℕ)) → HaveHashes nodes texts
     → (id : ℕ) (d : Node) (e : List ℕ) → id < length nodes
     → (get_or nodes id d).hash ≡ hash_of (get_or texts id e)

@@ -7,7 +7,6 @@ abbrev with_one : Rules → List ℕ → List ℕ → List Outcome × List (List
 with_one rules base reference before = let last = outcome_of rules base before.1 reference in
     (before.0 ++ last.0 ∷ [], last.1)
 
--- register of links: the outcomes of one more reference are those before, and its own
 outcomes_of-one-more : (rules : Rules) (base : List ℕ) (texts references : List (List ℕ))
     (reference : List ℕ) → outcomes_of rules base texts (references ++ reference ∷ [])
     ≡ with_one rules base reference (outcomes_of rules base texts references)

@@ -6,34 +6,28 @@ use Rattle.std.proofs.lemmas.Str.{is_utf8-from_IsUtf8}
 use Rattle.uri_links.specs.Registered.{AreNormal, AreUris}
 use Rattle.uri_links.proofs.Places.{position-None-no-element-passes}
 
--- register of links: if it has no texts, none is there twice
 pub no-texts-are-distinct : (texts : List (List ℕ)) → texts ≡ [] → IsDistinct bytes_eq texts
 unfolding IsDistinct
 no-texts-are-distinct texts e = rw e tt
 
--- register of links: normal texts and one more are normal texts
 normal-append : (rules : Rules) (texts : List (List ℕ)) (text : List ℕ) → AreNormal rules texts
     → normal_text (meaning_under uri rules text) ≡ text → AreNormal rules (texts ++ text ∷ [])
 normal-append rules texts text h e = map-append _ texts (text ∷ []) ∙ (λ i. h i ++ e i ∷ [])
 
--- register of links: URIs and one more are URIs
 uris-append : (texts : List (List ℕ)) (text : List ℕ) → AreUris texts → IsTextOf uri text
     → AreUris (texts ++ text ∷ [])
 uris-append texts text h is = grind (arith, list_all-append, is_utf8-from_IsUtf8)
 
--- register of links: with one more URI, all its texts are URIs
 pub uris-after-adding : (texts after : List (List ℕ)) (text : List ℕ) → after ≡ texts ++ text ∷ []
     → AreUris texts → IsTextOf uri text → AreUris after
 uris-after-adding texts after text a h is = subst AreUris (sym a) (uris-append texts text h is)
 
--- register of links: with one more normal text, all its texts are normal
 pub normal-after-adding : (rules : Rules) (texts after : List (List ℕ)) (text : List ℕ)
     → after ≡ texts ++ text ∷ [] → AreNormal rules texts
     → normal_text (meaning_under uri rules text) ≡ text → AreNormal rules after
 normal-after-adding rules texts after text a h e =
     subst (AreNormal rules) (sym a) (normal-append rules texts text h e)
 
--- register of links: with a text that it lacks, its texts are distinct
 pub distinct-after-adding : (texts after : List (List ℕ)) (text : List ℕ) → after
     ≡ texts ++ text ∷ []
     → IsDistinct bytes_eq texts → position (bytes_eq text) texts ≡ None → IsDistinct bytes_eq after

@@ -12,7 +12,6 @@ prefix-of-placed-block at n out block room few =
     ∙ take-append-add (take at out) (block ++ suffix) n
     ∙ ap (λ t. take at out ++ t) (take-append-le n block suffix few)
 
--- octets: after the octets of n bytes those of m more are written
 pub octets-of-more-bytes : (n m : ℕ) (bytes out : List ℕ)
     → (out ++ print (map Octet (take n bytes))) ++ print (map Octet (take m (drop n bytes)))
     ≡ out ++ print (map Octet (take (n + m) bytes))
@@ -23,7 +22,6 @@ octets-of-more-bytes n m bytes out =
     (ap (λ l. print (map Octet l)) (take-add n m bytes) ∙ ap print (map-append Octet first second)
     ∙ print-append (map Octet first) (map Octet second)))
 
--- octets: the first octets of bytes are those of the first bytes
 octets-of-first-bytes : (n : ℕ) (bytes : List ℕ)
     → take (3 * n) (print (map Octet bytes)) ≡ print (map Octet (take n bytes))
 octets-of-first-bytes zero bytes = refl

@@ -3,7 +3,6 @@ use Rattle.uri_mend.proofs.Common.{◌≡◌, ℕ, ◌+◌, ◌-◌, ◌≤◌, 
 use Rattle.uri_pct.proofs.Offered.{nothing_is_scanned_after_valid_prefix}
 use Rattle.uri_mend.proofs.ComponentSteps.{scanned-component-is-unchanged}
 
--- progress: a run of a text that goes on
 pub run-goes-on : (text : List ℕ) (start end n : ℕ) → start ≤ end
     → take (end - start) (drop start text) ++ take n (drop end text)
     ≡ take (end + n - start) (drop start text)
@@ -14,7 +13,6 @@ run-goes-on text start end n le =
     ∙ ap (λ t. take (end - start) (drop start text) ++ take n t)
     (drop-drop (end - start) start text ∙ ap (λ k. drop k text) place))
 
--- progress: nothing is mended to nothing
 pub mended-nothing : (set : TableSet) → mended set [] ≡ []
 unfolding mended mended_from_chars
 mended-nothing set = ap (mended_from_chars set) chars-nil
@@ -33,7 +31,6 @@ nothing-is-scanned-after-scan set text end stop e =
     ap (λ k. valid_prefix set (drop k text)) e ∙ ap (valid_prefix set) (sym (drop-drop n end text))
     ∙ nothing_is_scanned_after_valid_prefix set (drop end text)
 
--- progress: what is scanned is unchanged
 pub scan-goes-on : (marks : List ℕ) (set : TableSet) → LacksPercent set → set.pct_encoded ≡ true
     → excludes set marks ≡ true → (text out whole : List ℕ) (start end stop : ℕ) → IsUtf8 text
     → IsCharBoundary text end → start ≤ end → stop ≡ end + valid_prefix set (drop end text)

@@ -6,12 +6,10 @@ use Rattle.std.proofs.lemmas.List.Sums.{prefix_len-le-length}
 use Rattle.uri_pct.proofs.Offered.{valid_prefix_ends_at_boundary, valid_prefix_is_longest, valid_prefix_is_valid}
 use Rattle.uri_mend.proofs.MendedSteps.{scanned-prefix-is-unchanged, unscanned-char-is-encoded}
 
--- general fact on texts, for components: a boundary of a text is one of its prefix
 boundary-within-prefix : (m n : ℕ) (text : List ℕ) → m ≤ length text → n ≤ m
     → IsCharBoundary text n → IsCharBoundary (take m text) n
 boundary-within-prefix m n text inside before at = grind (arith, common_steps)
 
--- general fact on texts, for components: a boundary of a prefix that ends at one is one of the text
 boundary-of-prefix : (m n : ℕ) (text : List ℕ) → IsCharBoundary text m → n ≤ m
     → IsCharBoundary (take m text) n → IsCharBoundary text n
 boundary-of-prefix m n text end before at = grind (arith, common_steps)

@@ -84,12 +84,10 @@ module _ (set : TableSet) (lacks : LacksPercent set)
       → IsLackedRun set text start (end - 1)
   run-before-percent-is-lacked some percent = grind (arith, scan-stops-at-each-of-run)
 
--- runs: a set lacks an empty run
 pub empty-run-is-lacked : (set : TableSet) (text : List ℕ) (start : ℕ) → IsCharBoundary text start
     → IsLackedRun set text start start
 empty-run-is-lacked set text start at = grind arith
 
--- runs: a run of ASCII ends at a boundary
 pub ascii-run-ends-at-boundary : (text : List ℕ) (start end : ℕ) → IsUtf8 text
     → IsCharBoundary text start → start ≤ end → end ≤ length text
     → (start < end → get_or text (end - 1) 0 < 128) → IsCharBoundary text end

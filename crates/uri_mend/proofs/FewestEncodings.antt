@@ -7,13 +7,11 @@ use Rattle.uri_mend.specs.Encodings.{decoded, DecodeAlike, IsTokenOrItsOctets, A
 use Rattle.uri_mend.proofs.MendedTokens.{tokens-of-mended-text, mended-text-decodes-alike}
 use Rattle.uri_mend.proofs.MendedReferences.{link-components-are-mendable}
 
--- fewest encodings: what a token becomes is itself or its octets
 mended-token-is-token-or-its-octets : (set : TableSet) (t : Token)
     → IsTokenOrItsOctets t (mend_token set t)
 mended-token-is-token-or-its-octets set (Char c) = grind arith
 mended-token-is-token-or-its-octets set (Octet value) = refl
 
--- fewest encodings: tokens become tokens with some characters percent-encoded
 mended-tokens-are-encoded : (set : TableSet) (ts : List Token)
     → AreEncodedAs ts (flat_map (mend_token set) ts)
 unfolding AreEncodedAs
@@ -26,7 +24,6 @@ mended-tokens-are-encoded set (t ∷ ts) = (
   ),
 )
 
--- fewest encodings: tokens before which octets stand alike are encoded alike
 octets-before-encoded-tokens : (bytes : List ℕ) (ts us : List Token) → AreEncodedAs ts us
     → AreEncodedAs (map Octet bytes ++ ts) (map Octet bytes ++ us)
 unfolding AreEncodedAs
@@ -35,20 +32,17 @@ octets-before-encoded-tokens (b ∷ bytes) ts us h =
     let rest = octets-before-encoded-tokens bytes ts us h in
     (Octet b ∷ [], (map Octet bytes ++ us, (refl, refl, rest)))
 
--- fewest encodings: an octet is in each encoding
 octet-before-encoded-tokens : (value : ℕ) (ts us first : List Token) → first ≡ Octet value ∷ []
     → AreEncodedAs ts us → AreEncodedAs (Octet value ∷ ts) (first ++ us)
 unfolding AreEncodedAs
 octet-before-encoded-tokens value ts us first e h = (first, (us, (refl, e, h)))
 
--- fewest encodings: a character that the set allows is itself or encoded
 allowed-char-before-encoded-tokens : (c : ℕ) (ts us first : List Token)
     → IsTokenOrItsOctets (Char c) first → AreEncodedAs ts us
     → AreEncodedAs (Char c ∷ ts) (first ++ us)
 unfolding AreEncodedAs
 allowed-char-before-encoded-tokens c ts us first e h = (first, (us, (refl, e, h)))
 
--- fewest encodings: one more token, of which the encoding is allowed
 one-more-token-is-encoded : (set : TableSet) (t : Token) (first ts us : List Token)
     → IsTokenOrItsOctets t first → list_all (allows_token set) first ≡ true → AreEncodedAs ts us
     → AreEncodedAs (mend_token set t ++ ts) (first ++ us)
@@ -57,7 +51,6 @@ one-more-token-is-encoded set (Octet value) first ts us h e rest =
 one-more-token-is-encoded set (Char c) first ts us h e rest =
     grind (arith, allowed-char-before-encoded-tokens, octets-before-encoded-tokens)
 
--- fewest encodings: allowed tokens that are an encoding of some are one of what these become
 allowed-encoding-encodes-mended-tokens : (set : TableSet) (ts us : List Token) → AreEncodedAs ts us
     → list_all (allows_token set) us ≡ true → AreEncodedAs (flat_map (mend_token set) ts) us
 unfolding AreEncodedAs
@@ -72,13 +65,11 @@ allowed-encoding-encodes-mended-tokens set (t ∷ ts) us h e =
     (one-more-token-is-encoded set t first (flat_map (mend_token set) ts) rest h.1.1.1 all.0
     (allowed-encoding-encodes-mended-tokens set ts rest h.1.1.2 all.1))
 
--- fewest encodings: a mended text is an encoding of the text
 mended-text-is-encoded : (set : TableSet) (text : List ℕ) → LacksPercent set → IsUtf8 text
     → AreEncodedAs (tokens text) (tokens (mended set text))
 mended-text-is-encoded set text lacks u = subst (AreEncodedAs (tokens text))
     (sym (tokens-of-mended-text set text lacks u)) (mended-tokens-are-encoded set (tokens text))
 
--- fewest encodings: each valid encoding of a text is an encoding of the mended text
 valid-encoding-encodes-mended-text : (set : TableSet) (text other : List ℕ) → LacksPercent set
     → IsUtf8 text → is_valid_for set other ≡ true → AreEncodedAs (tokens text) (tokens other)
     → AreEncodedAs (tokens (mended set text)) (tokens other)

@@ -3,7 +3,6 @@
 use Rattle.uri_mend.proofs.Common.{arith, ◌≡◌, ℕ, Bool, true, false, List, [], ◌∷◌, ◌++◌, refl, sym, ap, subst, ◌∙◌, ⊎_elim, lit<, codes, IfSome, IfNone, IsUtf8, encode_utf8_all, cases_Bool, cond-true, cond-false, IsUtf8-append, encode_ascii, components, starts, before_any, when, has_scheme, is_scheme, has_colon_in_first_segment, from_any-at-mark, before_any-at-mark, has_false_scheme, with_dot_segment, link_components}
 use Rattle.uri_parts.proofs.Offered.{colon_in_first_segment-is-at-start}
 
--- links: a text with a false scheme gets `./`
 pub false-scheme-gets-dot-segment : (text : List ℕ) → has_false_scheme text ≡ true
     → with_dot_segment text ≡ codes "./" ++ text
 unfolding with_dot_segment
@@ -30,13 +29,11 @@ with_dot_segment-is-utf8 text u = ⊎_elim
     (λ e. subst IsUtf8 (sym (no-false-scheme-gets-nothing text e)) u)
     (cases_Bool (has_false_scheme text))
 
--- links: the scheme of a text without a false scheme is one
 scheme-is-one-if-not-false : (text : List ℕ) → has_false_scheme text ≡ false
     → has_scheme text ≡ true → is_scheme (before_any (codes ":/?#") text) ≡ true
 unfolding has_false_scheme
 scheme-is-one-if-not-false text e h = grind (arith, starts)
 
--- links: a text that begins with `:` has a false scheme
 leading-colon-ends-false-scheme : (text : List ℕ) → has_false_scheme (58 ∷ text) ≡ true
 unfolding has_false_scheme
 leading-colon-ends-false-scheme text = grind (arith, starts, from_any-at-mark, before_any-at-mark)
@@ -47,7 +44,6 @@ no-false-scheme-means-no-leading-colon : (text : List ℕ) → has_false_scheme 
 no-false-scheme-means-no-leading-colon [] e = refl
 no-false-scheme-means-no-leading-colon (c ∷ text) e = grind (arith, leading-colon-ends-false-scheme)
 
--- links: the scheme that is found is one
 pub scheme-of-link-is-scheme : (text : List ℕ)
     → IfSome (link_components text).scheme (λ s. is_scheme s ≡ true)
 unfolding link_components
@@ -65,14 +61,12 @@ absent-text-has-property : (test : Bool) (text : List ℕ) (P : Type 0)
 absent-text-has-property true text P h = tt
 absent-text-has-property false text P h = h refl
 
--- links: without a scheme, an authority and a `:` at the start, the first segment has no `:`
 no-colon-in-schemeless-path : (text : List ℕ) → starts 58 text ≡ false
     → IfNone (components text).scheme (IfNone (components text).authority
     (has_colon_in_first_segment (components text).path ≡ false))
 no-colon-in-schemeless-path text first =
     grind (arith, absent-text-has-property, colon_in_first_segment-is-at-start)
 
--- links: without a scheme and an authority the first segment has no `:`
 pub no-colon-in-schemeless-link : (text : List ℕ)
     → IfNone (link_components text).scheme (IfNone (link_components text).authority
     (has_colon_in_first_segment (link_components text).path ≡ false))
@@ -83,7 +77,6 @@ no-colon-in-schemeless-link text = no-colon-in-schemeless-path (with_dot_segment
     ∙ no-false-scheme-means-no-leading-colon text e)
     (cases_Bool (has_false_scheme text)))
 
--- links: the components of a text without a false scheme are its own
 pub link-components-without-false-scheme : (text : List ℕ) → has_false_scheme text ≡ false
     → link_components text ≡ components text
 unfolding link_components

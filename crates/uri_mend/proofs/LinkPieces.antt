@@ -33,7 +33,6 @@ path-and-end-are-tail tail =
     (path-after-dot-segment tail) ∙ ap (λ e. (46 ∷ 47 ∷ before_any (codes "?#") tail) ++ end_text e)
     (end-after-dot-segment tail)) ∙ whole)
 
--- links: what is before the path, and what follows the authority, are the text
 pub text-is-cut-before-path : (text : List ℕ)
     → text ≡ before_path (components text) ++ after_authority (after_scheme text)
 unfolding end_text
@@ -45,7 +44,6 @@ text-is-cut-before-path text =
     sym (append_assoc s a tail ∙ ap (λ t. s ++ (a ++ t)) (sym (path-and-end-are-tail tail))
     ∙ recompose-components text)
 
--- links: in components without a false scheme the text is mended by its pieces
 pub text-without-false-scheme-is-mended : (text : List ℕ) → has_false_scheme text ≡ false
     → IsMendedByPieces text (before_path (link_components text)) false
     (after_authority (after_scheme text))
@@ -53,26 +51,22 @@ unfolding link_components mended_text mended_tail
 text-without-false-scheme-is-mended text e kind sets =
     grind (arith, common_steps, components, no-false-scheme-gets-nothing)
 
--- links: without a false scheme, what is before the path is that of the text itself
 pub prefix-without-false-scheme : (text : List ℕ) → has_false_scheme text ≡ false
     → before_path (link_components text) ≡ before_path (components text)
 unfolding link_components
 prefix-without-false-scheme text e =
     ap (λ t. before_path (components t)) (no-false-scheme-gets-nothing text e)
 
--- links: with a false scheme nothing is before the path
 pub prefix-with-false-scheme : (text : List ℕ) → has_false_scheme text ≡ true
     → before_path (link_components text) ≡ []
 unfolding link_components
 prefix-with-false-scheme text e =
     ap (λ t. before_path (components t)) (false-scheme-gets-dot-segment text e)
 
--- links: a `./` before what is mended is unchanged
 dot-segment-is-unchanged : (kind : Kind) → HasComponentSets kind → (path : List ℕ)
     → mended kind.path (46 ∷ 47 ∷ path) ≡ 46 ∷ 47 ∷ mended kind.path path
 dot-segment-is-unchanged kind sets path = grind (arith, allowed-ascii-before-text-is-unchanged)
 
--- links: a text with a false scheme is mended after `./`
 pub text-with-false-scheme-is-mended : (text : List ℕ) → has_false_scheme text ≡ true
     → IsMendedByPieces text [] true text
 unfolding link_components mended_text mended_tail
@@ -114,39 +108,33 @@ boundary-before-piece text before after e u =
     let P : ℕ → Type 0 = λ n. IsCharBoundary text n in
     subst P (sym size) (IsCharBoundary-at_seam text before after e u)
 
--- links: what is before the piece after the cut
 pub piece-before-cut : (text before after : List ℕ) → text ≡ before ++ after
     → take (length text - length after) text ≡ before
 piece-before-cut text before after e = grind (arith, common_steps)
 
--- links: a piece after a cut is no longer than the text
 pub piece-after-cut-is-no-longer : (text before after : List ℕ) → text ≡ before ++ after
     → length after ≤ length text
 piece-after-cut-is-no-longer text before after e =
     omega (arith, ap length e, length-append before after)
 
--- links: the path of a text without a false scheme is that of its tail
 pub path-without-false-scheme : (text : List ℕ) → has_false_scheme text ≡ false
     → IsPathMendedByPieces (link_components text).path false (after_authority (after_scheme text))
 unfolding link_components
 path-without-false-scheme text e kind sets =
     ap (λ t. mended kind.path (components t).path) (no-false-scheme-gets-nothing text e)
 
--- links: the path of a text with a false scheme is `./` and that of the text
 pub path-with-false-scheme : (text : List ℕ) → has_false_scheme text ≡ true
     → IsPathMendedByPieces (link_components text).path true text
 unfolding link_components
 path-with-false-scheme text e kind sets =
     grind (arith, false-scheme-gets-dot-segment, path-after-dot-segment, dot-segment-is-unchanged)
 
--- links: the query of a text without a false scheme is that of its tail
 pub query-without-false-scheme : (text : List ℕ) → has_false_scheme text ≡ false
     → (link_components text).query ≡ query_of_tail (after_authority (after_scheme text))
 unfolding link_components
 query-without-false-scheme text e =
     ap (λ t. (components t).query) (no-false-scheme-gets-nothing text e)
 
--- links: the query of a text with a false scheme is its own
 pub query-with-false-scheme : (text : List ℕ) → has_false_scheme text ≡ true
     → (link_components text).query ≡ query_of_tail text
 unfolding link_components

@@ -38,13 +38,11 @@ cut-at-mark-of-prefix marks (c ∷ p) s some = ⊎_elim
           ∙ ap (λ t. t ++ s) (sym (from_any-past-other marks c p m));
     }) (cases_Bool (is_one_of marks c))
 
--- prefixes: what a text with something before it begins with
 starts-of-prefix : (mark : ℕ) (p s : List ℕ) → is_some_text p ≡ true
     → starts mark (p ++ s) ≡ starts mark p
 starts-of-prefix mark [] s some = absurd (both_ways _ refl some)
 starts-of-prefix mark (c ∷ p) s some = refl
 
--- prefixes: a text of which something is from a mark on is not empty
 text-with-mark-is-some : (marks p : List ℕ) → is_some_text (from_any marks p) ≡ true
     → is_some_text p ≡ true
 text-with-mark-is-some marks [] some = some
@@ -56,7 +54,6 @@ authority-of-prefix [] s l = absurd (omega arith)
 authority-of-prefix (a ∷ []) s l = absurd (omega arith)
 authority-of-prefix (a ∷ b ∷ p) s l = refl
 
--- prefixes: a text with an authority has two bytes
 authority-has-two-bytes : (p : List ℕ) → has_authority p ≡ true → 2 ≤ length p
 authority-has-two-bytes [] e = absurd (both_ways _ refl e)
 authority-has-two-bytes (a ∷ []) e =
@@ -130,7 +127,6 @@ module _ (p s : List ℕ) (shows : ShowsPath p) where
       ∙ sym (ap (λ t. when t (before_any (codes "/?#") (drop 2 (after_scheme p)))) e))
       (cases_Bool (has_authority (after_scheme p)))
 
--- prefixes: a text with one of the marks has something from a mark on
 text-with-mark-is-cut : (marks p : List ℕ) → list_any (is_one_of marks) p ≡ true
     → is_some_text (from_any marks p) ≡ true
 text-with-mark-is-cut marks [] e = absurd (both_ways _ refl e)
@@ -145,18 +141,15 @@ text-that-starts-is-some : (mark : ℕ) (t : List ℕ) → starts mark t ≡ tru
 text-that-starts-is-some mark [] e = absurd (both_ways _ refl e)
 text-that-starts-is-some mark (c ∷ t) e = refl
 
--- prefixes: a text that is not empty has a length
 text-with-length-is-some : (t : List ℕ) → 0 < length t → is_some_text t ≡ true
 text-with-length-is-some [] l = absurd (omega arith)
 text-with-length-is-some (c ∷ t) l = refl
 
--- prefixes: a text with an authority begins with one of the marks
 authority-begins-with-mark : (p : List ℕ) → has_authority p ≡ true
     → is_some_text (from_any (codes ":/?#") p) ≡ true
 authority-begins-with-mark [] e = absurd (both_ways _ refl e)
 authority-begins-with-mark (a ∷ p) e = grind (arith, from_any-at-mark)
 
--- prefixes: where the path of a text begins
 path-starts-after-prefix : (p : List ℕ) (before : PackedPositions) → ArePackedPositionsOf p before
     → before.path_start ≡ length (before_path (components p))
 path-starts-after-prefix p before e =
@@ -170,7 +163,6 @@ length-of-tail p before e =
     ∙ sym (ap length (text-is-cut-before-path p)
     ∙ length-append (before_path (components p)) (after_authority (after_scheme p)))
 
--- prefixes: a text without a scheme has no position of one
 no-scheme-is-at-zero : (p : List ℕ) (before : PackedPositions) → ArePackedPositionsOf p before
     → has_scheme p ≡ false → before.scheme_end ≡ 0
 no-scheme-is-at-zero p before e none = ap (λ (x : PackedPositions). x.scheme_end) e
@@ -181,7 +173,6 @@ no-host-is-at-zero : (p : List ℕ) (before : PackedPositions) → ArePackedPosi
     → has_authority (after_scheme p) ≡ false → before.host_start ≡ 0
 no-host-is-at-zero p before e none = grind (arith, components)
 
--- prefixes: when a text of these positions shows where its path begins
 positions-show-path : (p : List ℕ) (before : PackedPositions) → ArePackedPositionsOf p before
     → before.path_start < length p → (before.host_start ≡ 0 → 2 ≤ length p - before.path_start)
     → (before.host_start ≡ 0 → before.scheme_end ≡ 0
@@ -220,7 +211,6 @@ positions_before scheme authority path_end query_end = with_ends_at (packed (pos
   fragment = None;
 }))) path_end query_end
 
--- prefixes: with the same ends, positions depend on the scheme and the authority alone
 positions-by-scheme-and-authority : (p q : Components) (path_end query_end : ℕ)
     → p.scheme ≡ q.scheme → p.authority ≡ q.authority
     → with_ends_at (packed (positions_of p)) path_end query_end
@@ -230,7 +220,6 @@ positions-by-scheme-and-authority p q path_end query_end scheme authority =
     ap (λ s. positions_before s p.authority path_end query_end) scheme
     ∙ ap (λ a. positions_before q.scheme a path_end query_end) authority
 
--- prefixes: the link of a text whose prefix shows where its path begins
 pub link-of-prefix : (text p s : List ℕ) (before : PackedPositions) → IsUtf8 text → text ≡ p ++ s
     → ArePackedPositionsOf p before → has_false_scheme p ≡ false → ShowsPath p
     → IsLink text (let x : Link = record {
@@ -277,7 +266,6 @@ link-of-prefix text p s before u e at none shows =
           (sym (ap (λ (x : Components). x.authority) link ∙ authority));
     }
 
--- prefixes: a text whose prefix is of the kind, and shows where its path begins, can be mended
 pub text-with-prefix-can-be-mended : (kind : Kind) (text p s : List ℕ) → text ≡ p ++ s
     → has_false_scheme p ≡ false → ShowsPath p → IsOfKind kind p → can_be_mended kind text ≡ true
 text-with-prefix-can-be-mended kind text p s e none shows h =
@@ -291,7 +279,6 @@ text-with-prefix-can-be-mended kind text p s e none shows h =
     ∙ ap (λ t. (components t).authority) e ∙ authority-of-text-is-that-of-prefix p s shows))))
     (cases_Bool (can_be_mended kind text))
 
--- prefixes: when a prefix of a text, of these positions, shows where its path begins
 pub prefix-shows-path : (text : List ℕ) (index : ℕ) (before : PackedPositions) → index ≤ length text
     → ArePackedPositionsOf (take index text) before → before.path_start < index
     → (before.host_start ≡ 0 → 2 ≤ index - before.path_start) → (before.host_start ≡ 0
@@ -303,7 +290,6 @@ prefix-shows-path text index before inside at some two mark =
     (λ h. let l = two h in omega (arith, l, size))
     (λ h e. text-with-mark-is-cut (codes ":/?#") (take index text) (mark h e))
 
--- prefixes: the link of a text that is cut before its path
 pub link-of-cut : (text prefix tail : List ℕ) (dot : Bool) (before : PackedPositions) → IsUtf8 text
     → text ≡ prefix ++ tail → IsCharBoundary text (length prefix) → (dot ≡ true → prefix ≡ [])
     → prefix ≡ before_path (link_components text) → IsMendedByPieces text prefix dot tail
@@ -342,7 +328,6 @@ link-of-cut text prefix tail dot before u whole boundary alone same pieces path 
           (ap (λ (x : Components). x.scheme) parts) (ap (λ (x : Components). x.authority) parts);
     }
 
--- general fact on options, for prefixes: what holds where something is there
 pub holds-where-some : {A : Type 0} (o : Option A) (P : Type 0) → IfSome o (λ _. P)
     → is_some o ≡ true → P
 holds-where-some None P h e = absurd (both_ways _ refl e)

@@ -3,7 +3,6 @@ use Rattle.uri_mend.proofs.Common.{common_steps, ◌≡◌, ℕ, ◌+◌, List, 
 use Rattle.uri_parts.specs.Positions.{delimited_length, positions_of}
 use Rattle.uri_mend.proofs.MendedReferences.{components-of-mended-text}
 
--- positions: the length of a component with the delimiters beside it
 length-of-delimited : (before after : List ℕ) (o : Option (List ℕ))
     → length (marked before o after) ≡ delimited_length (length before + length after) o
 length-of-delimited before after None = refl
@@ -15,7 +14,6 @@ pub length-before-path : (p : Components)
     → length (before_path p) ≡ delimited_length 1 p.scheme + delimited_length 2 p.authority
 length-before-path p = grind (arith, common_steps, length-of-delimited)
 
--- positions: where a query ends that begins after the place n
 query-end-after : (n : ℕ) (o : Option (List ℕ))
     → n + length (marked (codes "?") o []) ≡ unwrap_or (option_map (λ q. n + 1 + length q) o) n
 query-end-after n None = omega arith
@@ -30,8 +28,6 @@ ends-complete-positions : (kind : Kind) (p : Components) (path_end query_end : �
     ≡ packed (positions_of (mended_components kind p))
 ends-complete-positions kind p path_end query_end e f = grind (arith, query-end-after)
 
--- positions: those of a mended text are those of what is before its path, and where path and query
--- end
 pub positions-of-mended-text : (kind : Kind) → HasComponentSets kind
     → (text made : List ℕ) (link : Link) (path_end query_end : ℕ) → IsUtf8 text → IsLink text link
     → made ≡ mended_text kind text → path_end ≡ link.path_start

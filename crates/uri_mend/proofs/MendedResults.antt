@@ -23,17 +23,14 @@ pieces-in-order false prefix tail alone = refl
 pieces-in-order true prefix tail alone = ap (λ t. (dot_segment_if true ++ t) ++ tail) (alone refl)
     ∙ ap (λ t. t ++ (dot_segment_if true ++ tail)) (sym (alone refl))
 
--- mending: nothing is before a path that begins with the text
 nothing-before-start : (text : List ℕ) (start : ℕ) → start ≡ 0 → take start text ≡ []
 nothing-before-start text start e = ap (λ n. take n text) e
 
--- mending: a text is mended as its pieces, in this order
 pub pieces-are-mended-text : (kind : Kind) → HasComponentSets kind → (text : List ℕ) (link : Link)
     → IsLink text link → (dot_segment_if link.has_false_scheme ++ take link.path_start text)
     ++ mended_tail kind (drop link.path_start text) ≡ mended_text kind text
 pieces-are-mended-text kind sets text link h = grind (arith, pieces-in-order, nothing-before-start)
 
--- mending: what is written before a text is mended from a position on
 pub start-of-mended-text : (text out : List ℕ) (at n : ℕ) (dot : Bool)
     → take at out ≡ dot_segment_if dot
     → take at out ++ take (n - 0) (drop 0 text) ≡ dot_segment_if dot ++ take n text

@@ -20,13 +20,11 @@ pub mended-by-first-octet : (set : TableSet) (c high low : ℕ) (cs : List ℕ)
 unfolding mended_from_chars
 mended-by-first-octet set c high low cs e = cond-true _ _ _ e
 
--- mended components: the text of characters is mended as they are
 pub mended-text-of-chars : (set : TableSet) (cs : List ℕ) → all_scalars cs ≡ true
     → mended set (encode_utf8_all cs) ≡ mended_from_chars set cs
 unfolding mended
 mended-text-of-chars set cs s = ap (mended_from_chars set) (chars-encodes cs s)
 
--- mended components: the text of an octet and of characters after it
 pub octet-text-of-chars : (c high low : ℕ) (cs : List ℕ) → is_pct_encoded c high low ≡ true
     → encode_utf8_all (c ∷ high ∷ low ∷ cs) ≡ c ∷ high ∷ low ∷ encode_utf8_all cs
 unfolding is_pct_encoded
@@ -36,7 +34,6 @@ octet-text-of-chars c high low cs e = grind (arith, common_steps, hexdigit_is_as
 abbrev HasUnchangedPrefix : TableSet → List ℕ → ℕ → Type 0
 HasUnchangedPrefix set text n = mended set text ≡ take n text ++ mended set (drop n text)
 
--- mended components: of any text the empty prefix is unchanged
 empty-text-prefix-is-unchanged : (set : TableSet) (text : List ℕ) → HasUnchangedPrefix set text 0
 empty-text-prefix-is-unchanged set text = grind arith
 

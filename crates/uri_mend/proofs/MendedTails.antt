@@ -3,7 +3,6 @@ use Rattle.uri_mend.proofs.Common.{common_steps, ◌≡◌, ℕ, ◌+◌, ◌-�
 use Rattle.uri_mend.specs.declared.component.Progress.{Progress}
 use Rattle.uri_mend.proofs.ComponentProgress.{run-goes-on}
 
--- tails: a run that goes on by the character mark
 pub run-goes-on-by-mark : (text : List ℕ) (start end mark : ℕ) → start ≤ end → end < length text
     → get_or text end 0 ≡ mark
     → take (end + 1 - start) (drop start text) ≡ take (end - start) (drop start text) ++ mark ∷ []
@@ -12,7 +11,6 @@ run-goes-on-by-mark text start end mark le inside same =
     ap (take 1) (drop_more text end 0 inside) ∙ ap (λ c. c ∷ []) same in
     sym (run-goes-on text start end 1 le) ∙ ap (λ t. take (end - start) (drop start text) ++ t) one
 
--- tails: a component is mended after its mark
 pub component-is-mended-after-mark : (mark : ℕ) (marks : List ℕ) (set : TableSet)
     (out new text : List ℕ) → starts mark text ≡ true
     → new ≡ (out ++ mark ∷ []) ++ mended set (before_any marks (drop 1 text))
@@ -24,7 +22,6 @@ text-without-marks-is-whole : (text : List ℕ) → before_any [] text ≡ text
 text-without-marks-is-whole text = ap (before_any []) (sym (append-nil text))
     ∙ (cut-at-end-of-text-without-marks [] text [] (λ k d l. refl) tt).0
 
--- tails: path, query and fragment, one after the other, are the mended tail
 pub parts-are-mended-tail : (kind : Kind) (tail end rest a b c d : List ℕ)
     → end ≡ from_any (codes "?#") tail → rest ≡ after_query end
     → b ≡ a ++ mended kind.path (before_any (codes "?#") tail)
@@ -34,12 +31,10 @@ unfolding mended_tail
 parts-are-mended-tail kind tail end rest a b c d e r first second third =
     grind (arith, common_steps, starts, text-without-marks-is-whole)
 
--- tails: how long is what a text is mended to so far
 pub length-of-mended-so-far : (text out : List ℕ) (p : Progress) → IsProgress text out p
     → length (mended_so_far text out p) ≡ p.at + (p.end - p.run_start)
 length-of-mended-so-far text out p h = grind (arith, common_steps)
 
--- tails: a part of what a text is mended to ends where what is mended so far does
 pub part-ends-where-mended : (text out old part : List ℕ) (p : Progress) (end : ℕ)
     → IsProgress text out p → end ≡ p.at + (p.end - p.run_start)
     → mended_so_far text out p ≡ old ++ part → end ≡ length old + length part

@@ -12,14 +12,12 @@ fails-for-never : (test : ℕ → Bool) → ((b : ℕ) → b < 128
     → (b : ℕ) → has_bit NEVER_LOW NEVER_HIGH b ≡ true → test b ≡ false
 fails-for-never test below b bit = grind (arith, has_bit_past_ascii_is_false)
 
--- sets: no such character may be in a path
 never-is-no-path-char : (b : ℕ) → has_bit NEVER_LOW NEVER_HIGH b ≡ true → is_path_char b ≡ false
 unfolding has_bit
 never-is-no-path-char = fails-for-never is_path_char
     (λ b h. agree_below_at (λ c. has_bit NEVER_LOW NEVER_HIGH c && is_path_char c) (λ c. false) 128
     b refl h)
 
--- sets: no such character may be in a query or a fragment
 never-is-no-query-char : (b : ℕ) → has_bit NEVER_LOW NEVER_HIGH b ≡ true → is_query_char b ≡ false
 unfolding has_bit
 never-is-no-query-char = fails-for-never is_query_char
@@ -34,7 +32,6 @@ pub record HasMendedSets (kind : Kind) : Type 0 where
   pub path_marks : are_marks kind.path (codes "?#") ≡ true
   pub query_marks : are_marks kind.query (codes "#") ≡ true
 
--- sets: each of the four kinds has them, by its flags
 kind-by-flags-has-mended-sets : (international needs_scheme : Bool)
     → HasMendedSets (kind_by_flags international needs_scheme)
 unfolding has_bit

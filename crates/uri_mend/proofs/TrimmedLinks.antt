@@ -3,15 +3,12 @@ use Rattle.uri_mend.proofs.Common.{common_steps, ◌≡◌, ℕ, true, false, Li
 use Rattle.std.proofs.lemmas.Str.Ascii.{trim_ascii_is}
 use Rattle.uri_parts.proofs.Offered.{utf8_from_marks}
 
--- trimming: a text without these characters is what is before the first of them, and what is after
--- it without them
 text-without-marks-by-cut : (marks text : List ℕ) → without_any marks text
     ≡ before_any marks text ++ without_any marks (drop 1 (from_any marks text))
 text-without-marks-by-cut marks [] = refl
 text-without-marks-by-cut marks (c ∷ rest) =
     grind (arith, from_any-past-other, before_any-past-other, text-without-marks-by-cut marks rest)
 
--- trimming: a text that has none of these characters is unchanged without them
 pub text-without-marks-is-unchanged : (marks text : List ℕ)
     → list_any (is_one_of marks) text ≡ false → without_any marks text ≡ text
 text-without-marks-is-unchanged marks [] none = refl
@@ -27,7 +24,6 @@ pub text-without-marks-after-run : (marks out mid rest from all : List ℕ)
 text-without-marks-after-run marks out mid rest from all copied left whole =
     grind (arith, common_steps, text-without-marks-by-cut)
 
--- trimming: std's trimmed text is the text without outer space
 pub trimmed-text-is-without-outer-space : (text trimmed : List ℕ) → IsTrimAscii text trimmed
     → trimmed ≡ without_outer_space text
 trimmed-text-is-without-outer-space text trimmed is =

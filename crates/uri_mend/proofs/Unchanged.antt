@@ -17,20 +17,17 @@ prefix_components p = record {
   fragment = None;
 }
 
--- mending: their text is what is before the path
 pub prefix-components-are-text-before-path : (p : Components)
     → recompose (prefix_components p) ≡ before_path p
 unfolding prefix_components
 prefix-components-are-text-before-path p =
     ap (λ t. marked [] p.scheme (codes ":") ++ t) (append-nil (marked (codes "//") p.authority []))
 
--- general fact on options, for mending: an empty path may follow each authority
 empty-path-follows-authority : (o : Option (List ℕ)) (P : List ℕ → Type 0) (path : List ℕ)
     → IfSome o (λ a. P a × IsAbemptyPath path) → IfSome o (λ a. P a × IsAbemptyPath [])
 empty-path-follows-authority None P path h = tt
 empty-path-follows-authority (Some a) P path h = (h.0, inl refl)
 
--- general fact on options, for mending: what holds in any case does so without a part
 holds-without-part : {A : Type 0} (o : Option A) (P : Type 0) → P → IfNone o P
 holds-without-part None P h = h
 holds-without-part (Some a) P h = tt
@@ -74,36 +71,30 @@ prefix-is-of-kind-iff-mendable kind text u =
     (components_meet_rules kind) (only-split-is-components (recompose (prefix_components p))
     (prefix_components p) (prefix-components-are-split p m)) ∙ prefix-rules kind p m
 
--- general fact on booleans, for mending: what the rule says of a scheme that is needed
 rule-on-schemes : (s n r : Bool) → (s || (not n && r)) ≡ true → (s || not n) ≡ true
 rule-on-schemes true n r h = refl
 rule-on-schemes false n r h = (and_parts (not n) r h).0
 
--- mending: no text of a kind begins with `:`
 text-of-kind-has-no-leading-colon : (kind : Kind) (text : List ℕ) → IsOfKind kind text
     → starts 58 text ≡ false
 text-of-kind-has-no-leading-colon kind text h = grind arith
 
--- mending: the scheme of a text of a kind is one
 scheme-of-text-of-kind-is-one : (kind : Kind) (text : List ℕ) → IsOfKind kind text
     → has_scheme text ≡ true → is_scheme (before_any (codes ":/?#") text) ≡ true
 scheme-of-text-of-kind-is-one kind text h e = grind arith
 
--- mending: a text of a kind has no false scheme
 pub text-of-kind-has-no-false-scheme : (kind : Kind) (text : List ℕ) → IsOfKind kind text
     → has_false_scheme text ≡ false
 unfolding has_false_scheme
 text-of-kind-has-no-false-scheme kind text h =
     grind (arith, scheme-of-text-of-kind-is-one, text-of-kind-has-no-leading-colon, starts)
 
--- mending: the components of a text of a kind are found
 link-components-of-text-of-kind : (kind : Kind) (text : List ℕ) → IsOfKind kind text
     → link_components text ≡ components text
 unfolding link_components
 link-components-of-text-of-kind kind text h =
     ap components (no-false-scheme-gets-nothing text (text-of-kind-has-no-false-scheme kind text h))
 
--- general fact on options, for mending: a part that is valid is unchanged
 valid-part-is-unchanged : (set : TableSet) (o : Option (List ℕ)) → LacksPercent set
     → set.pct_encoded ≡ true → IfSome o (λ x. is_set_text set x ≡ true)
     → option_map (mended set) o ≡ o
@@ -111,7 +102,6 @@ valid-part-is-unchanged set None lacks octets h = refl
 valid-part-is-unchanged set (Some x) lacks octets h =
     grind (arith, valid-text-is-its-own-mended-text, set-text-is-utf8, set-text-is-valid)
 
--- general fact on records, for mending: components are equal if path, query and fragment are
 equal-ends-make-equal-components : (p : Components) {path : List ℕ}
     {query fragment : Option (List ℕ)}
     → path ≡ p.path → query ≡ p.query → fragment ≡ p.fragment
@@ -164,7 +154,6 @@ rules-of-text-of-kind : (kind : Kind) (text : List ℕ) → IsOfKind kind text
     && (is_some (components text).scheme || not kind.needs_scheme)) ≡ true
 rules-of-text-of-kind kind text h = grind (arith, rule-on-schemes)
 
--- mending: no text of the kind has the scheme and the authority of a text that cannot be mended
 pub no_text_of_kind_has_rejected_scheme_and_authority : (kind : Kind) (text other : List ℕ)
     → can_be_mended kind text ≡ false → IsOfKind kind other
     → (components other).scheme ≡ (link_components text).scheme

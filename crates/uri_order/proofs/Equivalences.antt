@@ -12,7 +12,6 @@ use Rattle.uri_ops.specs.SchemeRules.{Rules}
 use Rattle.uri_ops.proofs.Offered.{same-normal-text-same-meaning}
 use Rattle.uri_order.specs.NormalForms.{AreEquivalent, normal_form}
 
--- a text of a kind, in UTF-8, is so where it equals another text
 pub equal_text_is_of_kind : (kind : Kind) (text same : List ℕ) → text ≡ same → IsUtf8 text
     → IsOfKind kind text → IsTextOf kind same
 equal_text_is_of_kind kind text same e u k =
@@ -28,13 +27,11 @@ equivalent_if_forms_are_equal kind rules sets one other v w tested =
     let same = same-normal-text-same-meaning kind rules sets one other v w in
     (λ p. same.0 (tested.0 p), λ m. tested.1 (same.1 m))
 
--- equal texts are equal in their order
 pub equal_texts_are_equal_in_order : (one other : List ℕ) → one ≡ other
     → Equal ≡ slice_cmp nat_cmp one other
 equal_texts_are_equal_in_order one other e =
     sym (tied_itself nat_list_cmp_total one) ∙ ap (slice_cmp nat_cmp one) e
 
--- two texts are equal in their order exactly if they are equal
 pub equal_in_order_if_equal : (one other : List ℕ) (order : Ordering)
     → order ≡ slice_cmp nat_cmp one other → (order ≡ Equal) ↔ (one ≡ other)
 equal_in_order_if_equal one other order e = (

@@ -9,13 +9,11 @@ use Rattle.uri_ops.specs.FromEnd.Blocks.{IsLastBlock}
 use Rattle.uri_order.specs.HashedTexts.{hashed_blocks, hashed_text}
 use Rattle.uri_order.proofs.InStep.{short_block_is_whole_text}
 
--- hashes: a text that is shorter than a block is hashed as a whole
 pub short_text_is_hashed_whole : (text : List ℕ) → length text < 1024
     → hashed_text text ≡ fed.str text
 unfolding hashed_blocks
 short_text_is_hashed_whole text short = grind arith
 
--- hashes: the last block of a text is hashed first, if it is full
 pub full_block_is_hashed_first : (text left block : List ℕ) → text ≡ left ++ block
     → length block ≡ 1024 → hashed_text text ≡ block ∷ hashed_text left
 unfolding hashed_blocks

@@ -17,7 +17,6 @@ pub record AreReadInStep (one other left_of_one left_of_other : List ℕ) (order
   pub lengths : length end_of_one ≡ length end_of_other
   pub order_of_ends : order ≡ slice_cmp nat_cmp end_of_one end_of_other
 
--- before anything is read, the order is that of nothing
 pub nothing_read : (one other : List ℕ) → AreReadInStep one other one other Equal
 nothing_read one other = record {
   end_of_one = [];
@@ -64,7 +63,6 @@ order_of_longer_text (x ∷ xs) [] h = refl
 order_of_longer_text (x ∷ xs) (y ∷ ys) h =
     grind (arith, then_assoc, order_of_longer_text xs ys (omega arith))
 
--- a text whose last block is not full is that block
 pub short_block_is_whole_text : (start : ℕ) (text left block : List ℕ)
     → IsLastBlock 1024 text left (drop start block) → length (drop start block) + start ≡ 1024
     → 0 < start → take (1024 - start) (drop start block) ≡ text

@@ -11,13 +11,11 @@ use Rattle.uri_order.specs.NormalForms.{AreEquivalent, normal_form}
 use Rattle.uri_order.specs.TotalOrders.{IsTotalOrderBy, order_by}
 use Rattle.uri_order.proofs.Equivalences.{equal_in_order_if_equal, equivalent_if_forms_are_equal}
 
--- total orders: what is at most another is not greater
 at-most-is-not-greater : (order : Ordering) → is_le order ≡ true → is_gt order ≡ false
 at-most-is-not-greater Less e = refl
 at-most-is-not-greater Equal e = refl
 at-most-is-not-greater Greater e = absurd (false≢true e)
 
--- total orders: what is not greater is at most
 not-greater-is-at-most : (order : Ordering) → is_gt order ≡ false → is_le order ≡ true
 not-greater-is-at-most Less e = refl
 not-greater-is-at-most Equal e = refl
@@ -30,7 +28,6 @@ one-way-or-the-other order Less e = inr refl
 one-way-or-the-other order Equal e = inr refl
 one-way-or-the-other order Greater e = inl (ap is_le e)
 
--- total orders: forms are in one
 pub forms-are-in-total-order : (form : List ℕ → List ℕ) → IsTotalOrderBy form
 forms-are-in-total-order form =
     let o : IsTotalOrder (order_by form) = on_texts form in
@@ -44,7 +41,6 @@ forms-are-in-total-order form =
           (order_by form other one) (o.antisymm one other);
     }
 
--- total orders: two texts of a kind are equal in the order exactly if they are equivalent
 pub equal-in-order-if-equivalent : (kind : Kind) (rules : Rules) (one other : List ℕ)
     → HasComponentSets kind → IsTextOf kind one → IsTextOf kind other
     → (order_by (normal_form kind rules) one other ≡ Equal

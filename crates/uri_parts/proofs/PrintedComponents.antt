@@ -4,13 +4,11 @@ use Rattle.uri_pct.specs.declared.pct_enc.EStr.{EStr}
 use Rattle.uri_parts.specs.declared.component.HostOf.{HostOf}
 use Rattle.uri_parts.specs.declared.component.HostOf.TheVariants as hosts
 
--- `Debug` of an optional value that prints a text is that of the optional text
 pub debug_option-of-map : {X Y : Type 0} (text : X → Y) (shown : Y → Option (List ℕ)) (o : Option X)
     → debug_option (λ x. shown (text x)) o ≡ debug_option shown (option_map text o)
 debug_option-of-map text shown None = refl
 debug_option-of-map text shown (Some x) = refl
 
--- `Debug` of a host is that of a host of its kind and its text
 pub debug_host-of-kind : {E : _} {g : _} (r : HostOf (EStr E g)) (kind : HostKind) (text : List ℕ)
     → host_kind_of r ≡ kind → HasRegisteredName r text
     → debug_host_of (λ e. debug_str (text_of e)) r ≡ debug_host kind text

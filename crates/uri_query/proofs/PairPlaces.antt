@@ -16,7 +16,6 @@ use Rattle.uri_query.specs.Places.{value_of_pair}
 use Rattle.uri_query.proofs.Cuts.{text_after_equals-append, text_before_equals-append, text_before_equals-of-whole}
 use Rattle.uri_query.proofs.PairsAgain.{text_without_ampersand_is_one_piece}
 
--- places of pairs: a run of bytes other than this one is a text that lacks it
 run-lacks-byte : (byte : ℕ) (text : List ℕ) (start end : ℕ)
     → IsLongestRun (λ b. not (eqb b byte)) text start end
     → lacks byte (slice_range text start end) ≡ true
@@ -28,25 +27,21 @@ run-lacks-byte byte text start end run =
     (get_or-between text start end k 0 (omega (arith, h, size)))
     ∙ run.pass (start + k) (omega arith) (omega (arith, h, size))))
 
--- places of pairs: a run of bytes other than this one passes a byte that is another
 pub run-passes-other-byte : (byte : ℕ) (text : List ℕ) (start end : ℕ)
     → IsLongestRun (λ b. not (eqb b byte)) text start end → start < length text
     → eqb (get_or text start 0) byte ≡ false → start < end
 run-passes-other-byte byte text start end run inside other = grind (arith, not-false)
 
--- places of pairs: a text from a byte of it on begins with that
 text-from-place-begins-with-byte : (text : List ℕ) (at : ℕ) → at < length text
     → drop at text ≡ get_or text at 0 ∷ drop (at + 1) text
 text-from-place-begins-with-byte text at inside = grind (arith, drop-cons)
 
--- places of pairs: a text with a `=` (61) does not lack it
 text-with-equals-does-not-lack-it : (before after : List ℕ)
     → lacks 61 (before ++ 61 ∷ after) ≡ false
 text-with-equals-does-not-lack-it [] after = refl
 text-with-equals-does-not-lack-it (c ∷ cs) after =
     and_right _ _ (text-with-equals-does-not-lack-it cs after)
 
--- places of pairs: what is before the first `&` (38) is the first substring
 text-before-ampersand-is-first-piece : (piece rest : List ℕ) → lacks 38 piece ≡ true
     → slice_split (λ b. eqb b 38) (piece ++ 38 ∷ rest)
     ≡ piece ∷ slice_split (λ b. eqb b 38) rest
@@ -55,7 +50,6 @@ text-before-ampersand-is-first-piece (c ∷ cs) rest e =
     let p = and_parts (not (eqb c 38)) (lacks 38 cs) e in
     grind (arith, not-true, text-before-ampersand-is-first-piece cs rest p.1)
 
--- places of pairs: a first substring that has bytes is kept
 first-with-bytes-is-kept : (piece : List ℕ) (pieces : List (List ℕ)) → 0 < length piece
     → those_with_bytes (piece ∷ pieces) ≡ piece ∷ those_with_bytes pieces
 first-with-bytes-is-kept [] pieces h = absurd (omega (arith, h))

@@ -29,7 +29,6 @@ digit_is_no_ampersand n = grind arith
 digit_is_no_equals_sign : (n : ℕ) → eqb (digit_glyph true n) 61 ≡ false
 digit_is_no_equals_sign n = grind arith
 
--- pairs of a query: a character that data may have literally is of ASCII
 allowed_char_is_ascii : (c : ℕ) → allows data_set c ≡ true → c < 128
 unfolding allows_past_ascii
 allowed_char_is_ascii c e = ⊎_elim
@@ -74,16 +73,13 @@ module _ (d : ℕ) (percent : eqb 37 d ≡ false)
       (print (flat_map (encode_char data_set) cs))
       ∙ and_from _ _ (encoded_char_lacks c) (encoded_chars_lack cs)
 
--- pairs of a query: data has no `&` (38)
 data_has_no_ampersand : (text : List ℕ) → lacks 38 (data_text text) ≡ true
 data_has_no_ampersand text = encoded_chars_lack 38 refl digit_is_no_ampersand refl (chars text)
 
--- pairs of a query: data has no `=` (61)
 data_has_no_equals_sign : (text : List ℕ) → lacks 61 (data_text text) ≡ true
 data_has_no_equals_sign text =
     encoded_chars_lack 61 refl digit_is_no_equals_sign refl (chars text)
 
--- pairs of a query: data decodes to the text that was encoded
 data_decodes_to_its_text : (text : List ℕ) → IsUtf8 text → decode_text (data_text text) ≡ text
 data_decodes_to_its_text text u =
     let parsed : tokens (data_text text) ≡ encode_text data_set text = search calling in
@@ -91,7 +87,6 @@ data_decodes_to_its_text text u =
     ap (λ ts. lossy_text (bytes_decoded_from ts)) parsed
     ∙ ap lossy_text decoded ∙ lossy_text-is-utf8_lossy text ∙ utf8_lossy-IsUtf8 text u
 
--- pairs of a query: the text of a pair decodes to the pair
 pair_is_decoded : (name value : List ℕ) → IsUtf8 name → IsUtf8 value
     → decode_pair (pair_text (name, value)) ≡ (name, value)
 pair_is_decoded name value u v =
@@ -105,20 +100,17 @@ pair_is_decoded name value u v =
       (ap decode_text (ap text_after_equals whole ∙ after) ∙ data_decodes_to_its_text value v) i,
     )
 
--- pairs of a query: the text of a pair has no `&` (38)
 pair_has_no_ampersand : (name value : List ℕ) → lacks 38 (pair_text (name, value)) ≡ true
 pair_has_no_ampersand name value =
     list_all-append _ (data_text name ++ codes "=") (data_text value)
     ∙ and_from _ _ (list_all-append _ (data_text name) (codes "=")
     ∙ and_from _ _ (data_has_no_ampersand name) refl) (data_has_no_ampersand value)
 
--- pairs of a query: a text with a byte in it is not empty
 joined_text_is_not_empty : (before : List ℕ) (b : ℕ) (after : List ℕ)
     → is_empty ((before ++ b ∷ []) ++ after) ≡ false
 joined_text_is_not_empty [] b after = refl
 joined_text_is_not_empty (c ∷ cs) b after = refl
 
--- pairs of a query: a text without `&` (38) is one substring
 pub text_without_ampersand_is_one_piece : (text : List ℕ) → lacks 38 text ≡ true
     → slice_split (λ b. eqb b 38) text ≡ text ∷ []
 text_without_ampersand_is_one_piece [] e = refl
@@ -126,7 +118,6 @@ text_without_ampersand_is_one_piece (c ∷ cs) e =
     let p = and_parts (not (eqb c 38)) (lacks 38 cs) e in
     grind (arith, not-true, text_without_ampersand_is_one_piece cs p.1)
 
--- pairs of a query: with one more byte in the first substring, the last is the same
 first_byte_and_last_piece : (c : ℕ) (pieces : List (List ℕ)) (last : List ℕ) → 0 < length pieces
     → onto_first c (pieces ++ last ∷ []) ≡ onto_first c pieces ++ last ∷ []
 first_byte_and_last_piece c [] last h = absurd (omega (arith, h))
@@ -142,12 +133,10 @@ text_after_ampersand_is_last_piece (c ∷ cs) piece e =
     let rest = text_after_ampersand_is_last_piece cs piece e in
     grind (arith, first_byte_and_last_piece, eqb, length-slice_split)
 
--- pairs of a query: the substring of a pair is decoded to that pair alone
 piece_of_pair_is_decoded : (name value : List ℕ) → IsUtf8 name → IsUtf8 value
     → decode_nonempty_substrings (pair_text (name, value) ∷ []) ≡ (name, value) ∷ []
 piece_of_pair_is_decoded name value u v = grind (arith, joined_text_is_not_empty, pair_is_decoded)
 
--- pairs of a query: a query with one more pair has one more decoded pair
 one_more_pair_is_decoded : (text name value : List ℕ) → IsUtf8 name → IsUtf8 value
     → decode_pairs (append_pair text (name, value)) ≡ decode_pairs text ++ (name, value) ∷ []
 one_more_pair_is_decoded [] name value u v =
@@ -165,7 +154,6 @@ one_more_pair_is_decoded (c ∷ cs) name value u v =
     (filter (λ text. not (is_empty text)) (piece ∷ []))
     ∙ ap (λ pairs. decode_pairs (c ∷ cs) ++ pairs) (piece_of_pair_is_decoded name value u v)
 
--- pairs of a query: a query with more pairs has these decoded pairs too
 more_pairs_are_decoded : (text : List ℕ) (pairs : List Pair)
     → decode_pairs (query_from text (map pair_texts pairs))
     ≡ decode_pairs text ++ map pair_texts pairs
@@ -177,7 +165,6 @@ more_pairs_are_decoded text (pair ∷ pairs) =
     (IsUtf8-string_bytes pair.name) (IsUtf8-string_bytes pair.value))
     ∙ append_assoc (decode_pairs text) (pair_texts pair ∷ []) (map pair_texts pairs)
 
--- pairs of a query: the query that is made of pairs has these pairs
 pub query_of_pairs_has_these_pairs : (pairs : List Pair)
     → decode_pairs (query_text (map pair_texts pairs)) ≡ map pair_texts pairs
 query_of_pairs_has_these_pairs pairs = more_pairs_are_decoded [] pairs

@@ -20,7 +20,6 @@ pub relative_path-of-some-climbs : (n : ℕ) (rest : List ℕ) → relative_path
     ≡ cond (is_empty rest) (double_dots n ++ codes "..") (double_dots (suc n) ++ rest)
 relative_path-of-some-climbs n rest = grind (arith, nat_tests, successor-is-not-zero)
 
--- general fact on lists of segments, for relativized paths: what all pass, the first of them pass
 pub prefix-all-pass : (p : List ℕ → Bool) (xs ys : List (List ℕ)) → AllPass p (xs ++ ys)
     → AllPass p xs
 prefix-all-pass p xs ys e = (and_parts _ _ (sym (list_all-append p xs ys) ∙ e)).0
@@ -34,7 +33,6 @@ pushed-segment-joins-the-rest xs ys y = append_assoc xs (y ∷ []) ys
 abbrev pub dir : List (List ℕ) → List ℕ
 dir xs = slashed (xs ++ [] ∷ [])
 
--- relativized paths: the segment `..` takes the last segment of a directory away
 double-dot-removes-last-segment : (xs : List (List ℕ)) (y : List ℕ)
     → step_of (xs ++ y ∷ []) (codes "..") ≡ xs
 unfolding step_of next_output
@@ -66,13 +64,11 @@ remove_dot_segments-follows-dots = record {
       ∙ ap (λ s. remove_dot_segments (dir s ++ drop 1 rest)) (single-dot-keeps-segments xs);
 }
 
--- relativized paths: the segment `..` does not underflow after another (y)
 double-dot-after-segment-does-not-underflow : (xs : List (List ℕ)) (y : List ℕ)
     → underflows_at false true false (xs ++ y ∷ []) ≡ false
 unfolding underflows_at
 double-dot-after-segment-does-not-underflow xs y = pushed-segments-are-not-none xs y
 
--- relativized paths: the segment `.` does not underflow
 single-dot-does-not-underflow : (xs : List (List ℕ)) → underflows_at true false false xs ≡ false
 unfolding underflows_at
 single-dot-does-not-underflow xs = refl
@@ -93,7 +89,6 @@ underflows-follows-dots = record {
       ∙ ap (λ s. underflows (dir s ++ drop 1 rest)) (single-dot-keeps-segments xs);
 }
 
--- general fact on lists of segments, for relativized paths: equal lists have equal tails
 equal-lists-have-equal-tails : (xs ys : List (List ℕ)) → [] ∷ xs ≡ [] ∷ ys → xs ≡ ys
 equal-lists-have-equal-tails xs ys e = cc
 
@@ -122,14 +117,12 @@ pop-removes-one-segment (y ∷ []) e = refl
 pop-removes-one-segment (y ∷ z ∷ ys) e =
     let ih = pop-removes-one-segment (z ∷ ys) refl in omega arith
 
--- relativized paths: a text has as many slashes as segments but one
 pub slashes-count-segments : (text : List ℕ) → slashes text ≡ length (pop (segments text))
 slashes-count-segments text =
     let a = length-slice_split (λ c. eqb c 47) text in
     let b = pop-removes-one-segment (segments text) (segments-of-text-are-not-none text) in
     omega arith
 
--- relativized paths: a path below a directory has the directory's segments first
 pub path-below-directory-has-its-segments-first : (xs zs : List (List ℕ)) (last below : List ℕ)
     → NoSlashes xs → NoSlashes (zs ++ last ∷ []) → slashed (zs ++ last ∷ []) ≡ dir xs ++ below
     → zs ≡ xs ++ pop (segments below)
@@ -142,7 +135,6 @@ path-below-directory-has-its-segments-first xs zs last below lack_xs lack_zs e =
     sym (pop-undoes-push zs last) ∙ ap pop same ∙ pop-removes-from-last-part xs (segments below)
     (segments-of-text-are-not-none below)
 
--- general fact on lists of segments, for relativized paths: all are all but the last, and the last
 pub segments-are-all-but-last-and-last : (s : List ℕ) (rest : List (List ℕ)) → (last : List ℕ)
     × (s ∷ rest ≡ pop (s ∷ rest) ++ last ∷ [])
 unfolding pop

@@ -11,7 +11,6 @@ pub record AuthorityBeginsAfter (n : ℕ) (places : AuthorityPositions) : Type 0
   pub host_end : n ≤ places.host_end
   pub end : n ≤ places.end
 
--- relativized references: positions of an authority after a scheme of n bytes begin after its `//`
 pub authority-begins-after-scheme : (n : ℕ) (authority : Option (List ℕ))
     (places : AuthorityPositions)
     → Some places ≡ option_map (authority_at (n + 2)) authority → AuthorityBeginsAfter n places
@@ -38,19 +37,16 @@ pub authority-positions-of-components : (t : Components) (n : ℕ) (places : Aut
 authority-positions-of-components t n places m e =
     sym e ∙ ap (λ k. option_map (authority_at (k + 2)) t.authority) (sym m)
 
--- relativized references: without an authority there are no positions of one, wherever it would be
 absent-authority-has-no-positions : (n m : ℕ) (authority : Option (List ℕ))
     → None ≡ option_map (authority_at n) authority → None ≡ option_map (authority_at m) authority
 absent-authority-has-no-positions n m None e = refl
 absent-authority-has-no-positions n m (Some a) e = absurd (none-some (authority_at n a) e)
 
--- relativized references: without positions of an authority there is none
 pub no-authority-positions-no-authority : (t : Components) → (positions_of t).authority ≡ None
     → None ≡ option_map (authority_at 2) t.authority
 no-authority-positions-no-authority t e =
     absent-authority-has-no-positions (delimited_length 1 t.scheme + 2) 2 t.authority (sym e)
 
--- relativized references: the position after a scheme and its `:`
 pub scheme-end-is-scheme-length : (t : Components) (p : Positions) (end : ℕ) → p ≡ positions_of t
     → p.scheme_end ≡ Some end → end + 1 ≡ delimited_length 1 t.scheme
 scheme-end-is-scheme-length t p end at e =
@@ -61,8 +57,6 @@ scheme-end-is-scheme-length t p end at e =
     marked_at None f = absurd (none-some end (sym f))
     marked_at (Some s) f = omega (arith, same_Some _ _ f)
 
--- relativized references: the position after a scheme of n bytes (with its `:`) is before the end
--- of the query
 pub query-ends-after-scheme : (t : Components) (p : Positions) (n : ℕ) → p ≡ positions_of t
     → n ≡ delimited_length 1 t.scheme → IfSome p.query_end (λ q. n ≤ q)
 query-ends-after-scheme t p n at m =
@@ -74,13 +68,11 @@ query-ends-after-scheme t p n at m =
     after None = tt
     after (Some q) = omega (arith, m)
 
--- relativized references: without an end of a scheme there is none
 absent-scheme-end-means-no-scheme : (scheme : Option (List ℕ)) → None ≡ option_map length scheme
     → None ≡ scheme
 absent-scheme-end-means-no-scheme None e = refl
 absent-scheme-end-means-no-scheme (Some s) e = absurd (none-some (length s) e)
 
--- relativized references: without a scheme, the positions are as they are
 pub positions-of-text-without-scheme-stay : (t : Components) (p : Positions) → p ≡ positions_of t
     → p.scheme_end ≡ None → p ≡ positions_of (record t { scheme = None })
 positions-of-text-without-scheme-stay t p at e = grind (arith, absent-scheme-end-means-no-scheme)
@@ -124,13 +116,11 @@ positions-without-scheme t p n authority start end query at m a s e q =
     query_back None = refl
     query_back (Some q) = ap Some (omega (arith, m))
 
--- relativized references: a query after n bytes ends at n, its `?` and its length
 pub query-end-by-length : (n : ℕ) (query : Option (List ℕ)) → is_some query ≡ true
     → Some (n + length (marked (codes "?") query [])) ≡ option_map (λ q. n + 1 + length q) query
 query-end-by-length n None e = absurd (false≢true e)
 query-end-by-length n (Some q) e = ap Some (omega (arith, length-append q []))
 
--- relativized references: without a query there is no end of one
 pub no-query-no-query-end : (n : ℕ) (query : Option (List ℕ)) → is_some query ≡ false
     → None ≡ option_map (λ q. n + 1 + length q) query
 no-query-no-query-end n None e = refl

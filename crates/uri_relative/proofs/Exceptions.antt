@@ -10,12 +10,10 @@ nonempty-abempty-path-is-absolute : (path : List ℕ) → IsAbemptyPath path →
 nonempty-abempty-path-is-absolute path (inl e) h = absurd (both_ways _ h (ap is_empty e))
 nonempty-abempty-path-is-absolute path (inr e) h = e
 
--- relativized references: a path that begins with `/` is not empty
 path-with-slash-is-not-empty : (path : List ℕ) → starts slash path ≡ true → is_empty path ≡ true → ⊥
 path-with-slash-is-not-empty [] e h = cc
 path-with-slash-is-not-empty (c ∷ path) e h = cc
 
--- relativized references: a query that is the base's is there if the base has one
 inherited-query-is-present : (base query : Option (List ℕ)) → is_some base ≡ true
     → is_none (query_or base query) ≡ true → ⊥
 inherited-query-is-present None query e h = cc
@@ -71,7 +69,6 @@ module _ (b t o : Components) (rooted : IsAbemptyPath b.path) (w : IsPathForm b 
       (grind (arith, path-reference-does-not-empty-path, path-reference-would-not-inherit-query))
       (or_cases (is_rootless t) (has_emptied_path b t || would_inherit_query b t) e)
 
--- relativized references: to some targets, each has a scheme or an authority
 pub target_reference_needs_scheme_or_authority : (base target : List ℕ)
     → is_some (components base).scheme ≡ true → is_some (components target).scheme ≡ true
     → is_opaque (components base) ≡ false

@@ -17,7 +17,6 @@ pub record MeetsRules (kind : Kind) (t : Components) : Type 0 where
   pub query : absent_or_passes t.query (is_valid_for kind.query) ≡ true
   pub fragment : absent_or_passes t.fragment (is_valid_for kind.fragment) ≡ true
 
--- targets to relativize: components that pass the tests of a kind meet its rules, one by one
 pub components-of-kind-meet-rules : (kind : Kind) (t : Components) → components_meet_rules kind t
     ≡ true → MeetsRules kind t
 components-of-kind-meet-rules kind t e =
@@ -28,27 +27,21 @@ components-of-kind-meet-rules kind t e =
     let f = and_parts _ _ d.0 in
     record { scheme = f.0; authority = f.1; path = d.1; query = c.1; fragment = b.1 }
 
--- relativized references: components that meet the rules of a kind, and on schemes and `:`, pass
--- the tests of its references
 reference-components-meet-rules : (kind : Kind) (r : Components) → MeetsRules kind r
     → (is_some r.scheme || (is_some r.authority || not (has_colon_in_first_segment r.path))) ≡ true
     → components_meet_rules (reference_kind kind) r ≡ true
 reference-components-meet-rules kind r m needs = grind arith
 
--- relativized references: one that has neither scheme nor authority is relative
 reference-without-authority-is-relative : (base t r : Components) → r.scheme ≡ None → r.authority
     ≡ None → IsRelativeTo base t r
 reference-without-authority-is-relative base t r s a = λ _. λ _. λ _. λ _. (s, a)
 
--- lengths of relativized references: a text with a scheme and its `:` is two bytes longer at least
--- than the rest
 scheme-adds-two-bytes-at-least : (o : Option (List ℕ)) (rest : List ℕ) → is_some o ≡ true
     → IfSome o (λ s. (0 < length s) × Lacks (codes ":/?#") s)
     → 2 + length rest ≤ length (marked [] o (codes ":") ++ rest)
 scheme-adds-two-bytes-at-least None rest e h = absurd (false≢true e)
 scheme-adds-two-bytes-at-least (Some s) rest e h = grind (arith, nat_tests, length-append)
 
--- targets to relativize: what holds of a path with a guard that does not matter holds without
 property-holds-without-guard : (P : List ℕ → Type 0) (a : Option (List ℕ)) (path whole : List ℕ)
     → guarded a path ≡ whole → (P (codes "/." ++ path) → P path) → P whole → P path
 property-holds-without-guard P a path whole e back h = grind arith
@@ -61,7 +54,6 @@ path-without-guard-lacks-marks t path e h =
     (λ k. test-of-delimiters-gives-lacks (codes "?#") path
     (lacked-delimiters-fail-test (codes "?#") (codes "/." ++ path) k)) h
 
--- targets to relativize: a path that is valid with the guard `/.` is valid without
 path-after-guard-is-valid : (set : TableSet) (rest : List ℕ)
     → is_valid_for set (codes "/." ++ 47 ∷ rest) ≡ true → is_valid_for set (47 ∷ rest) ≡ true
 path-after-guard-is-valid set rest e =
@@ -70,7 +62,6 @@ path-after-guard-is-valid set rest e =
     ∙ e) in
     validity-splits-at-slash set [] rest IsUtf8-nil ∙ and_from _ _ (empty_text_is_valid set) p.1
 
--- targets to relativize: a path before a guard is added is valid, as the target's
 path-without-guard-is-valid : (set : TableSet) (t : Components) (path : List ℕ) → IsAbsolute path
     → guarded t.authority path ≡ t.path → is_valid_for set t.path ≡ true
     → is_valid_for set path ≡ true
@@ -78,8 +69,6 @@ path-without-guard-is-valid set t path absolute e h =
     property-holds-without-guard (λ p. is_valid_for set p ≡ true) t.authority path t.path e
     (grind (arith, absolute-path-is-slash-and-rest, path-after-guard-is-valid)) h
 
--- lengths of relativized references: a path (way) that is no longer than the one from the root is
--- two bytes longer than the target's at most
 path-is-at-most-two-longer-than-target : (t : Components) (path way : List ℕ)
     → guarded t.authority path ≡ t.path
     → length way ≤ length (guarded None path) → length way ≤ length t.path + 2

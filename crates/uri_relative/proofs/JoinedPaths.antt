@@ -9,14 +9,11 @@ pub target-path-stays-absolute : (a : Option (List ℕ)) (path : List ℕ) → I
 target-path-stays-absolute a path h =
     grind (arith, nat_tests, removing-dots-keeps-leading-slash, eq_true_from_IsTrue)
 
--- relativized references: a path that is joined to an absolute one is absolute
 pub path-joined-to-absolute-is-absolute : (base way : List ℕ) → IsAbemptyPath base → IsAbsolute base
     → IsAbsolute (joined_path base way)
 path-joined-to-absolute-is-absolute base way rooted h =
     grind (arith, nat_tests, equal-to-true-is-IsTrue, merged-path-is-absolute)
 
--- relativized references: a path that is not empty, and is joined to one that is empty or begins
--- with `/`, is absolute
 pub nonempty-joined-path-is-absolute : (base way : List ℕ) → IsAbemptyPath base
     → is_empty way ≡ false → IsAbsolute (joined_path base way)
 nonempty-joined-path-is-absolute base way rooted e =

@@ -23,7 +23,6 @@ dotless-text-is-target kind text t same sets e h =
       settled = done;
     })
 
--- relativized references: the text that is written of one has its components
 pub components-of-reference-text : (kind : Kind) (prefers : Bool) (base target r : Components)
     → IsReferenceTo kind prefers base target r → components (recompose r) ≡ r
 components-of-reference-text kind prefers base target r w = only-split-is-components
@@ -40,7 +39,6 @@ itself : (base t : Components) → is_some t.scheme ≡ true
     → resolution_of (without_fragment base) t ≡ Ok (recompose (with_final_path t))
 itself base t e = grind (arith, nat_tests, resolves, and-false)
 
--- relativized references: the text of one leads to the target that its components lead to
 reference-text-leads-to-target : (kind : Kind) (prefers : Bool) (base target reference : List ℕ)
     → is_some (components target).scheme ≡ true
     → IsReferenceTo kind prefers (components base) (settled target) (components reference)
@@ -85,7 +83,6 @@ settled-text-is-of-kind kind text sets e utf8 h =
     (set-text-from-utf8 kind.path c.path (components-of-utf8-are-utf8 text utf8).path m.path)) in
     grind (arith, settled-text-has-settled-components, set-text-is-valid)
 
--- relativized references: the text that is made is one, if it is the text of one's components
 pub reference-text-is-reference : (kind : Kind) (prefers : Bool) (base target r : Components)
     (made text : List ℕ) → IsReferenceTo kind prefers base target r → text ≡ recompose r
     → made ≡ text → IsReferenceTo kind prefers base target (components made)

@@ -5,13 +5,11 @@ use mir.Val.{bool_byte}
 use lib.Dec.{leb}
 use Rattle.uri_relative.proofs.Climbs.{relative_path-of-some-climbs}
 
--- lengths of relativized paths: n `../` have 3 * n bytes
 length-of-double-dots-is-threefold : (n : ℕ) → length (double_dots n) ≡ 3 * n
 unfolding double_dots
 length-of-double-dots-is-threefold zero = refl
 length-of-double-dots-is-threefold (suc n) = omega (arith, length-of-double-dots-is-threefold n)
 
--- lengths of relativized paths: n `../` and a rest
 length-of-double-dots-and-rest : (n : ℕ) (rest : List ℕ) → length (double_dots n ++ rest)
     ≡ 3 * n + length rest
 length-of-double-dots-and-rest n rest = omega
@@ -29,7 +27,6 @@ pub length-of-path-up-to-nothing : (n : ℕ) (rest : List ℕ) → is_empty rest
 length-of-path-up-to-nothing n rest e =
     grind (arith, relative_path-of-some-climbs, length-of-double-dots-and-rest)
 
--- lengths of relativized paths: an empty text has length 0
 empty-text-has-length-zero : (rest : List ℕ) → is_empty rest ≡ true → length rest ≡ 0
 empty-text-has-length-zero [] e = refl
 empty-text-has-length-zero (c ∷ rest) e = absurd (false≢true e)

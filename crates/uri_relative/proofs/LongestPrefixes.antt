@@ -25,12 +25,10 @@ counted : List ℕ → ℕ
 counted [] = 0
 counted (c ∷ text) = cond (eqb c 47) (1 + counted text) (counted text)
 
--- relativized paths: slashes, as they are counted byte by byte
 counted-is-slashes : (text : List ℕ) → counted text ≡ slashes text
 unfolding counted
 counted-is-slashes = is_count_by counted (λ c. eqb c 47) refl (λ c text. refl)
 
--- relativized paths: two texts have the slashes of both, joined
 slashes-of-joined-texts-add-up : (a b : List ℕ) → counted (a ++ b) ≡ counted a + counted b
 unfolding counted
 slashes-of-joined-texts-add-up [] b = omega arith
@@ -57,7 +55,6 @@ slash-between-adds-one-to-slashes a b =
       counted-is-slashes b,
     )
 
--- relativized paths: what is from before a `/` (47) on is split at it
 text-from-before-slash-is-split : (text : List ℕ) (last m : ℕ) → last < length text
     → get_or text last 0 ≡ 47
     → m ≤ last → drop m text ≡ drop m (take last text) ++ 47 ∷ drop (last + 1) text

@@ -22,8 +22,6 @@ colon-is-in-first-segment-alone (c ∷ s) rest e =
     cond-true _ _ _ (not_from_false _ (is_one_of-slash-is-equality c ∙ p.0)) ∙ omega arith in
     grind (arith, colon-is-in-first-segment-alone s rest p.1)
 
--- relativized paths: if a text is parsed as a path, it needs no `./`, nor does one with the same
--- first segment
 same-first-segment-needs-no-leading-dot : (s : List ℕ) (segs tail : List (List ℕ))
     → has_slash s ≡ false → is_empty (s ++ slashed segs) ≡ false
     → starts 47 (s ++ slashed segs) ≡ false → has_colon_in_first_segment (s ++ slashed segs) ≡ false
@@ -68,7 +66,6 @@ length-of-joined-segments : (d : List ℕ) (ds : List (List ℕ))
     → length (slashed (d ∷ ds)) ≡ 1 + length (d ++ slashed ds)
 length-of-joined-segments d ds = ap length (joined-segments-begin-with-slash d ds) ∙ omega arith
 
--- general fact on lists of segments, for relativized paths: equal lists have equal rests, as texts
 equal-segments-have-equal-rest : (ds es : List (List ℕ)) → ds ≡ es → drop 1 (slashed ds)
     ≡ drop 1 (slashed es)
 equal-segments-have-equal-rest ds es e = ap (λ t. drop 1 (slashed t)) e
@@ -82,7 +79,6 @@ pub record IsReachedByShortPath (output : List (List ℕ)) (x path : List ℕ) :
   pub path_is : path ≡ dir prefix ++ rest
   pub short : length (relative_path (length up) rest) ≤ length x
 
--- lengths of relativized paths: if there is some rest below a directory, no byte is spare
 no-byte-is-spare-for-some-rest : (spare : ℕ) (d : List ℕ) (ds up : List (List ℕ))
     → (spare ≡ 0) ⊎ ((d ∷ ds ≡ [] ∷ []) × (0 < length up))
     → is_empty (d ++ slashed ds) ≡ false → spare ≡ 0
@@ -108,7 +104,6 @@ room-for-leading-dot-or-not-needed s d segs ds enough free some rootless colon
 room-for-leading-dot-or-not-needed s d segs ds enough free some rootless colon
     (inr (inr (inr h))) e f = h
 
--- relativized paths: the segments that are left are a directory (of prefix) and a rest below it
 pub segments-left-are-directory-and-rest : (left prefix : List (List ℕ)) (d : List ℕ)
     (ds : List (List ℕ)) → left ≡ prefix ++ d ∷ ds → slashed left ≡ dir prefix ++ (d ++ slashed ds)
 segments-left-are-directory-and-rest left prefix d ds e =
@@ -182,8 +177,6 @@ segments-are-reached-by-short-path output segs s free some rootless colon =
     w.down s w.spare free some rootless colon w.output_is w.left_is w.few w.some w.why w.cost
     w.first
 
--- relativized paths: removing dot segments after a directory (output) leaves what its segments and
--- the path's leave
 removal-after-directory-leaves-segments : (output segs : List (List ℕ)) (s : List ℕ)
     → AllPass is_dotless output → NoSlashes output → NoSlashes (s ∷ segs)
     → remove_dot_segments (slashed (output ++ s ∷ segs)) ≡ slashed (segments_left output (s ∷ segs))
@@ -210,7 +203,6 @@ text-by-segments-is-reached-by-short-path output segs s x dotless lack e some ro
       first-segment-and-rest-lack-slashes,
     )
 
--- general fact on lists of segments, for relativized paths: some segments have a first
 pub nonempty-segments-have-first : (segs : List (List ℕ)) → is_none segs ≡ false
     → (s : List ℕ) × (rest : List (List ℕ)) × (segs ≡ s ∷ rest)
 unfolding is_none

@@ -3,7 +3,6 @@
 use Rattle.uri_relative.proofs.Common.{◌≡◌, ℕ, ◌+◌, ◌≤◌, Bool, true, false, cond, List, [], length, refl, arith, ⊎_elim, length-append, codes, Option, is_some, cases_Bool, nat_tests, Components, marked, recompose, Kind, is_empty, dotless_if_absolute, guarded, query_or, target_of, after_path, joined_path, IsReferenceFrom}
 use Rattle.uri_relative.proofs.Shrinking.{target-is-no-longer-with-final-path, length-of-recompose}
 
--- forms of references, for relativizing: one (o) with a scheme is no shorter than the target t
 pub reference-with-scheme-is-no-shorter : (kind : Kind) (b t o : Components)
     → IsReferenceFrom kind b t o → is_some o.scheme ≡ true
     → length (recompose t) ≤ length (recompose o)
@@ -65,8 +64,6 @@ reference-is-of-one-form kind b t o P l scheme authority path = ⊎_elim scheme
     (cases_Bool (is_some o.authority)))
     (cases_Bool (is_some o.scheme))
 
--- lengths of relativized references: the text after a path is its query and fragment with their
--- delimiters
 pub length-of-query-and-fragment : (c : Components) → length (after_path c)
     ≡ length (marked (codes "?") c.query []) + length (marked (codes "#") c.fragment [])
 length-of-query-and-fragment c = length-append (marked (codes "?") c.query [])

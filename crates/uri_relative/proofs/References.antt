@@ -35,7 +35,6 @@ target_of-path-form b t path way s a rooted g w =
     (eq_true_from_IsTrue _ (merged-path-is-absolute b.path way rooted)) whole) refl refl)
     (cases_Bool (starts slash way))
 
--- relativized references: one that begins with `//` leads to a target with an authority
 pub target_of-authority-form : (b t : Components) → b.scheme ≡ t.scheme → is_some t.authority ≡ true
     → with_final_path t ≡ t → target_of b (record t { scheme = None }) ≡ t
 target_of-authority-form b t s some done = grind (arith, nat_tests)
@@ -55,7 +54,6 @@ pub target_of-query-form : (b t : Components) → b.scheme ≡ t.scheme → b.au
 target_of-query-form b t s a p some done =
     grind (arith, nat_tests, equal-parts-make-equal-components)
 
--- relativized references: the whole target leads to itself
 pub target_of-whole-target : (b t : Components) → is_some t.scheme ≡ true → with_final_path t ≡ t
     → target_of b t ≡ t
 target_of-whole-target b t some done =

@@ -10,13 +10,10 @@ unfolding result_or_target_error
 outcome-without-error-has-no-fragment true opaque x y e = cc
 outcome-without-error-has-no-fragment false opaque x y e = refl
 
--- relativized references: components without a fragment stay when it is left out
 components-without-fragment-stay : (c : Components) → c.fragment ≡ None → without_fragment c ≡ c
 components-without-fragment-stay c e = ap (λ f. let b : Components = record c { fragment = f } in b)
     (sym e)
 
--- relativized references: where base and reference resolve, the base has no fragment, and the
--- result is their target
 outcome-is-target-of-base-without-fragment : (base reference target : List ℕ)
     → resolution_of_texts base reference ≡ Ok target → (is_some (components base).fragment ≡ false)
     × (recompose (target_of (components base) (components reference)) ≡ target)
@@ -43,7 +40,6 @@ resolved-target-is-settled base reference target some e =
     sym (ap components same) ∙ target-text-has-target-components base reference some in
     grind (arith, final-path-is-idempotent)
 
--- relativized references: each that leads to a target that was resolved resolves to it again
 pub reference-leads-back-to-resolved-target : (base reference target short : List ℕ)
     → is_some (components base).scheme ≡ true → resolution_of_texts base reference ≡ Ok target
     → LeadsTo base target short → resolution_of_texts base short ≡ Ok target

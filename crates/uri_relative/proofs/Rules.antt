@@ -6,7 +6,6 @@ use Rattle.uri_relative.proofs.Climbs.{remove_dot_segments-follows-dots}
 use Rattle.uri_relative.proofs.SharedLengths.{longest-shared-prefix-has-shared_directory_len}
 use Rattle.uri_relative.proofs.Ways.{guard-counts-as-no-segment}
 
--- relativized references: the path from the root is chosen for a base with dot segments
 pub path-from-root-for-base-with-dots : (prefers : Bool) (base path : List ℕ)
     → lacks_dot_segments base ≡ false
     → guarded None path ≡ shortest_or_preferred_path prefers base path
@@ -22,7 +21,6 @@ unfolding shortest_or_preferred_path
 path-from-root-if-shorter prefers base path e h =
     sym (cond-false _ _ _ (and_right _ _ (or_from prefers _ e (lt-leb _ _ h))))
 
--- relativized references: the relative path is chosen where it is no longer, or preferred
 pub relative-path-if-no-longer : (prefers : Bool) (base path : List ℕ) → lacks_dot_segments base
     ≡ true
     → (prefers ≡ false → length (path_from_base base path) ≤ length (guarded None path))
@@ -45,7 +43,6 @@ relative-path-by-longest-prefix given base path bytes others rest last double_do
     (grind (arith, longest-shared-prefix-has-shared_directory_len))
     ∙ ap (λ b. relative_from (shared_directory_len b path) b path) root
 
--- targets to relativize: a path without its guard is the target's path without dot segments
 pub unguarded-path-is-without-dots : (t : Components) (path : List ℕ) → IsUnguarded t path
     → path ≡ remove_dot_segments t.path
 unguarded-path-is-without-dots t path u =

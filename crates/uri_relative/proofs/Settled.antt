@@ -35,7 +35,6 @@ guarded-path-does-not-underflow path true h e = guard-counts-as-no-segment under
 guarded-path-does-not-underflow path false h e = ap (λ u. starts slash path && u) e
     ∙ and-false (starts slash path)
 
--- targets to relativize: an absolute path without dot segments, guarded, does not underflow
 finished-absolute-path-does-not-underflow : (a : Option (List ℕ)) (path : List ℕ) → IsAbsolute path
     → underflows_if_absolute (finish a path) ≡ false
 finished-absolute-path-does-not-underflow a path h =
@@ -119,17 +118,14 @@ path-after-authority-is-unguarded t some h done =
     ∙ guarded-dotless-path-is-the-path t h done in
     grind (arith, path-without-dots-is-unguarded, path-after-authority-gets-no-guard)
 
--- targets to relativize: without an authority (a), a path is guarded as it is for None
 guard-is-that-without-authority : (a : Option (List ℕ)) (path : List ℕ) → is_some a ≡ false
     → guarded a path ≡ guarded None path
 guard-is-that-without-authority None path e = refl
 guard-is-that-without-authority (Some a) path e = absurd (false≢true (sym e))
 
--- targets to relativize: the guard `/.` at the start of a path is a dot segment
 guard-is-dot-segment : (rest : List ℕ) → lacks_dot_segments (codes "/." ++ 47 ∷ rest) ≡ false
 guard-is-dot-segment rest = refl
 
--- targets to relativize: the guard `/.` is a dot segment
 guarded-path-has-dot-segment : (rest : List ℕ) → has_authority rest ≡ true
     → lacks_dot_segments (codes "/." ++ rest) ≡ false
 guarded-path-has-dot-segment rest e = ap (λ t. lacks_dot_segments (codes "/." ++ t))
@@ -137,7 +133,6 @@ guarded-path-has-dot-segment rest e = ap (λ t. lacks_dot_segments (codes "/." +
     (equal-to-true-is-IsTrue _ (two-slashes-begin-with-slash rest e)))
     ∙ guard-is-dot-segment (drop 1 rest)
 
--- targets to relativize: without an authority, the path with the guard `/.` is that of the rest
 path-after-guard-is-unguarded : (t : Components) (rest : List ℕ) → is_some t.authority ≡ false
     → IsAbsolute t.path → with_final_path t ≡ t → t.path ≡ codes "/." ++ rest
     → has_authority rest ≡ true → IsUnguarded t rest
@@ -163,7 +158,6 @@ path-without-guard-is-itself-unguarded t none h done other = grind (
   path-without-dots-is-unguarded,
 )
 
--- targets to relativize: a path that begins with `/.//` is a guard and a path that begins with `//`
 guarded-path-is-guard-and-path : (path : List ℕ) → is_guarded path ≡ true
     → (path ≡ codes "/." ++ drop 2 path) × (has_authority (drop 2 path) ≡ true)
 guarded-path-is-guard-and-path [] e = absurd (false≢true e)
@@ -171,12 +165,10 @@ guarded-path-is-guard-and-path (a ∷ []) e =
     absurd (false≢true (and_parts (eqb a 47 && false) false (and_parts _ false e).0).1)
 guarded-path-is-guard-and-path (a ∷ b ∷ rest) e = grind (arith, nat_tests)
 
--- targets to relativize: `/.` before `//` is a guard
 guard-before-slashes-is-guarded : (rest : List ℕ) → has_authority rest ≡ true
     → is_guarded (codes "/." ++ rest) ≡ true
 guard-before-slashes-is-guarded rest e = grind arith
 
--- targets to relativize: without an authority, a path with the guard `/.` is the rest without it
 pub path-without-guard-is-unguarded : (t : Components) → is_some t.authority ≡ false
     → IsAbsolute t.path
     → with_final_path t ≡ t → is_guarded t.path ≡ true → IsUnguarded t (drop 2 t.path)
@@ -184,14 +176,11 @@ path-without-guard-is-unguarded t none h done e =
     let g = guarded-path-is-guard-and-path t.path e in
     path-after-guard-is-unguarded t (drop 2 t.path) none h done g.0 g.1
 
--- targets to relativize: without an authority, a path that begins with no guard `/.` is its own
--- path without one
 pub path-that-needs-no-guard-is-unguarded : (t : Components) → is_some t.authority ≡ false
     → IsAbsolute t.path → with_final_path t ≡ t → is_guarded t.path ≡ false → IsUnguarded t t.path
 path-that-needs-no-guard-is-unguarded t none h done e = path-without-guard-is-itself-unguarded t
     none h done (grind (arith, false_from_ne_true, guard-before-slashes-is-guarded))
 
--- targets to relativize: a character begins after the guard `/.` of a path
 pub guard-ends-at-character : (path : List ℕ) → IsUtf8 path → is_guarded path ≡ true
     → IsCharBoundary path 2
 guard-ends-at-character path utf8 e =

@@ -39,13 +39,11 @@ shared (a ∷ base) (b ∷ path) h =
     (shared base path))
     (λ _ none. absurd (omega (arith, none))) h
 
--- relativized paths: a prefix that ends in `/`, without its first byte (a), is empty or ends in `/`
 prefix-to-slash-without-first-byte : (a : ℕ) (rest prefix : List ℕ) → a ∷ rest ≡ prefix ++ codes "/"
     → ((a ≡ 47) × (rest ≡ [])) ⊎ ((0 < length rest) × EndsInSlash rest)
 prefix-to-slash-without-first-byte a rest [] e = inl (cc, cc)
 prefix-to-slash-without-first-byte a rest (c ∷ prefix) e = grind (arith, length-append)
 
--- relativized paths: a shared prefix that ends in `/` is no longer than `shared_directory_len`
 shared-prefix-is-within-shared_directory_len : (base path : List ℕ) (m : ℕ) → m ≤ length base
     → IsSharedPrefix m base path → m ≤ shared_directory_len base path
 unfolding shared_directory_len
@@ -70,7 +68,6 @@ shared-prefix-is-within-shared_directory_len (a ∷ base) (b ∷ path) (suc m) h
     omega (arith, more (or_right _ _ (lt-ltb 0 n (omega (arith, ih, longer.0, len)))), ih))
     (prefix-to-slash-without-first-byte a (take m base) s.closed.0 s.closed.1)
 
--- relativized paths: the longest shared prefix to a `/` has the length `shared_directory_len`
 pub longest-shared-prefix-has-shared_directory_len : (base path : List ℕ) (n : ℕ) → n ≤ length base
     → IsSharedPrefix n base path → IsLongestPrefix n base path → n ≡ shared_directory_len base path
 longest-shared-prefix-has-shared_directory_len base path n h s longest =

@@ -29,14 +29,12 @@ pub record SharesDirectoryPrefix (output left segs : List (List ℕ)) : Type 0 w
 one-byte-is-no-double-dot : (c : ℕ) → is_double_dot (c ∷ []) ≡ false
 one-byte-is-no-double-dot c = simp and-false
 
--- relativized paths: the segment `..` has two bytes at least
 double-dot-segment-has-two-bytes : (s : List ℕ) → is_double_dot s ≡ true → 1 < length s
 double-dot-segment-has-two-bytes [] e = absurd (false≢true e)
 double-dot-segment-has-two-bytes (c ∷ []) e = absurd
     (false≢true (sym (one-byte-is-no-double-dot c) ∙ e))
 double-dot-segment-has-two-bytes (c ∷ d ∷ s) e = omega arith
 
--- relativized paths: a segment with bytes that stays in a directory shares all of it
 staying-segment-shares-directory-prefix : (s : List ℕ) (output : List (List ℕ)) → 0 < length s
     → SharesDirectoryPrefix output (output ++ [] ∷ []) (s ∷ [])
 staying-segment-shares-directory-prefix s output some = record {
@@ -104,7 +102,6 @@ last-segment-shares-directory-prefix false false s output one two = record {
   first = inr (inr (inl ([], refl)));
 }
 
--- relativized paths: without a segment to go up no byte is spare
 no-byte-is-spare-without-climb : (spare : ℕ) (down : List (List ℕ))
     → (spare ≡ 0) ⊎ ((down ≡ [] ∷ []) × (0 < 0)) → spare ≡ 0
 no-byte-is-spare-without-climb spare down (inl e) = e
@@ -163,7 +160,6 @@ pushed-segment-shares-directory-prefix s output left segs prefix (u ∷ us) down
       first = grind (arith, length-of-first-segment-and-rest);
     }
 
--- relativized paths: whether a byte is spare stays with one more segment to go up
 spare-byte-stays-with-one-more-climb : (spare : ℕ) (up down : List (List ℕ)) (last : List ℕ)
     → (spare ≡ 0) ⊎ ((down ≡ [] ∷ []) × (0 < length up))
     → (spare ≡ 0) ⊎ ((down ≡ [] ∷ []) × (0 < length (up ++ last ∷ [])))

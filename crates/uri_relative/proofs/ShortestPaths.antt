@@ -91,7 +91,6 @@ pub record IsLastSharedSlash (base path : List ℕ) (last : ℕ) : Type 0 where
   pub path_at : get_or path last 0 ≡ 47
   pub longest : IsLongestPrefix (last + 1) base path
 
--- relativized paths: equal texts have the same last shared slash
 pub last-shared-slash-of-equals : (bytes base others path : List ℕ) (last : ℕ) → bytes ≡ base
     → others ≡ path → IsLastSharedSlash bytes others last → IsLastSharedSlash base path last
 last-shared-slash-of-equals bytes base others path last e f w =
@@ -116,7 +115,6 @@ relative-path-is-shortest-rootless-path given base path x last same absolute dot
           w.path_at (w.longest f.len f.in_base f.in_path f.shared),
     )
 
--- relativized paths: no path with a leading `/` is shorter than the path from the root
 path-from-root-is-shortest-absolute-path : (given path x : List ℕ) → is_empty x ≡ false
     → starts slash x ≡ true → has_authority x ≡ false
     → remove_dot_segments (joined_path given x) ≡ path → length (guarded None path) ≤ length x
@@ -124,8 +122,6 @@ path-from-root-is-shortest-absolute-path given path x some rooted none leads =
     let same : dotless_if_absolute x ≡ path = grind (arith, leads) in
     omega (arith, target-path-is-no-longer None x none, ap (λ t. length (guarded None t)) same)
 
--- relativized paths: one (way) that is no longer than the relative path and the one from the root
--- is the shortest
 pub no-longer-than-both-paths-is-shortest : (given base path way : List ℕ) (last : ℕ)
     → directory base ≡ directory given → IsAbsolute base → lacks_dot_segments base ≡ true
     → IsLastSharedSlash base path last → length way ≤ length (guarded None path)

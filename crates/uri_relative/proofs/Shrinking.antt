@@ -2,13 +2,11 @@
 use Rattle.uri_relative.proofs.Common.{◌≡◌, ◌⊎◌, ℕ, ◌+◌, ◌<◌, ◌≤◌, Bool, true, false, eqb, List, [], ◌∷◌, ◌++◌, ◌||◌, length, refl, sym, ap, ◌∙◌, arith, inl, inr, ⊎_elim, length-append, codes, Option, None, Some, IfNone, is_some, both_ways, cases_Bool, false≢true, or_parts, nat_tests, Components, components, has_authority, marked, recompose, starts, components-are-split-of-text, recompose-components, equal-to-true-is-IsTrue, IsAbsolute, has_slash, is_double_dot, is_single_dot, remove_dot_segments, with_final_path, dotless_if_absolute, guarded, length-of-slashed-append-is-sum, popped-segments-are-no-longer, property-of-absolute-path-by-segments, removing-dots-lengthens-no-path, dotless_of, closing, end_of, pop, step_of, steps, next_output, NoSlashes, first-segment-and-rest-lack-slashes, remove-dots-by-segments, slashed, settled}
 use Rattle.uri_relative.proofs.Settled.{finish-keeps-rootless-path}
 
--- lengths of paths to relativize: a `/`, the first segment and the text of the others
 pub length-of-first-segment-and-rest : (s : List ℕ) (rest : List (List ℕ))
     → length (slashed (s ∷ rest)) ≡ 1 + length s + length (slashed rest)
 unfolding slashed
 length-of-first-segment-and-rest s rest = omega (arith, length-append s (slashed rest))
 
--- lengths of paths to relativize: no segments have no text
 pub no-segments-have-length-zero : length (slashed []) ≡ 0
 unfolding slashed
 no-segments-have-length-zero = refl
@@ -17,7 +15,6 @@ no-segments-have-length-zero = refl
 unfoldable pub segments_left : List (List ℕ) → List (List ℕ) → List (List ℕ)
 segments_left output segs = steps output segs ++ closing segs
 
--- lengths of paths to relativize: removing dot segments makes a path no longer
 removal-of-dots-is-no-longer : (s : List ℕ) (rest : List (List ℕ)) → NoSlashes (s ∷ rest)
     → length (slashed (segments_left [] (s ∷ rest))) ≤ length (slashed (s ∷ rest))
 unfolding segments_left dotless_of slashed
@@ -27,7 +24,6 @@ removal-of-dots-is-no-longer s rest lack = omega (
   ap length (remove-dots-by-segments (s ∷ rest) lack),
 )
 
--- lengths of paths to relativize: removing dot segments makes a list of segments no longer
 cleaned-segments-are-no-longer : (segs : List (List ℕ)) → NoSlashes segs
     → length (slashed (segments_left [] segs)) ≤ length (slashed segs)
 unfolding segments_left steps closing
@@ -57,8 +53,6 @@ last-segment-keeps-first-or-leaves-room false true s t (u ∷ output) some = inl
 last-segment-keeps-first-or-leaves-room false false s t output some = inl
     ((output ++ t ∷ []) ++ [], refl)
 
--- lengths of paths to relativize: if the first segment is kept or two bytes are gone, it is so
--- within a greater length n
 kept-first-or-room-within-greater-length : (s : List ℕ) (output segs : List (List ℕ)) (n : ℕ)
     → Keeps s output segs → length (slashed output) + length (slashed segs) ≤ n
     → ((tail : List (List ℕ)) × (segments_left output segs ≡ s ∷ tail))
@@ -202,13 +196,11 @@ guarded-path-is-no-longer-with-room : (a : Option (List ℕ)) (p q : List ℕ) �
     → (has_authority q ≡ true → length q + 2 ≤ length p) → length (guarded a q) ≤ length p
 guarded-path-is-no-longer-with-room a p q h room = grind arith
 
--- lengths of paths to relativize: a path q after an authority a needs no guard, and is no longer
 path-after-authority-is-no-longer : (a : Option (List ℕ)) (p q : List ℕ) → is_some a ≡ true
     → length q ≤ length p → length (guarded a q) ≤ length p
 path-after-authority-is-no-longer None p q e h = absurd (false≢true e)
 path-after-authority-is-no-longer (Some a) p q e h = h
 
--- lengths of targets to relativize: without an authority the path has no `//` at its start
 pub no-slashes-without-authority : (a : Option (List ℕ)) (p : List ℕ)
     → IfNone a (has_authority p ≡ false) → is_some a ≡ false → has_authority p ≡ false
 no-slashes-without-authority None p h e = h
@@ -247,7 +239,6 @@ target-is-no-longer-with-final-path c none = omega (
   length-of-recompose (with_final_path c),
 )
 
--- lengths of targets to relativize: the text of one with its dot segments removed is no longer
 pub settled-text-is-no-longer : (text : List ℕ) → length (recompose (settled text)) ≤ length text
 settled-text-is-no-longer text = omega (
   arith,

@@ -14,7 +14,6 @@ record IsRelative (way : List ℕ) : Type 0 where
   rootless : starts slash way ≡ false
   no_scheme : has_colon_in_first_segment way ≡ false
 
--- relativized paths: a rest that needs no `./` before it is a relative path
 rest-without-leading-dot-is-relative : (rest : List ℕ) → is_empty rest ≡ false
     → needs_leading_dot rest ≡ false → IsRelative rest
 rest-without-leading-dot-is-relative rest some read = grind arith
@@ -43,7 +42,6 @@ path-with-double-dots-is-relative (suc n) rest true =
 path-with-double-dots-is-relative n rest false =
     record { some = refl; rootless = refl; no_scheme = refl }
 
--- relativized paths: one that is made is relative
 relative_path-is-relative : (n : ℕ) (rest : List ℕ) → IsRelative (relative_path n rest)
 relative_path-is-relative zero rest = path-without-double-dots-is-relative rest (is_empty rest)
     (needs_leading_dot rest) refl refl
@@ -57,13 +55,10 @@ pub rootless-path-has-no-authority : (way : List ℕ) → starts slash way ≡ f
 rootless-path-has-no-authority [] e = refl
 rootless-path-has-no-authority (c ∷ way) e = ap (λ b. b && eqb (get_or way 0 0) 47) e
 
--- relativized paths: one is resolved by merging it with the base's path
 relative-path-is-merged : (base way : List ℕ) → IsRelative way → joined_path base way
     ≡ merged base way
 relative-path-is-merged base way r = cond-false _ _ _ r.some ∙ cond-false _ _ _ r.rootless
 
--- relativized paths: what holds of each form that one may have, `.` or `./` or `../` and a rest,
--- holds of each
 property-of-each-case-holds-of-relative-path : (P : List ℕ → Type 0) (rest : List ℕ) → P (codes ".")
     → P (codes "./" ++ rest) → P rest → ((n : ℕ) → P (double_dots n ++ codes ".."))
     → ((n : ℕ) → P (double_dots n ++ rest)) → (n : ℕ) → P (relative_path n rest)
@@ -149,8 +144,6 @@ module _ (set : TableSet) (w : IsComponentSet (codes "?#[]") set)
   path-from-root-is-valid-for-set path utf8 e = set-text-is-valid set _
       (guarded-set-text-is-set-text set w slash None path (set-text-from-utf8 set path utf8 e))
 
--- relativized paths: the one after the first n bytes, which base and path share, leads from the
--- base to the path
 pub relative-path-leads-to-path : (n : ℕ) (base given path : List ℕ)
     → directory base ≡ directory given → IsAbsolute base → lacks_dot_segments base ≡ true
     → IsAbsolute path → lacks_dot_segments path ≡ true → IsUtf8 path → IsSharedPrefix n base path
@@ -206,7 +199,6 @@ path-from-root-is-rooted-way given rest true e dotless = record {
 path-from-root-is-rooted-way given rest false e dotless =
     grind (arith, nat_tests, remove-dots-of-dotless, dotless-path-does-not-underflow)
 
--- relativized references: the path from the root, guarded, leads from each base (given) to the path
 pub path-from-root-leads-to-path : (given path : List ℕ) → IsAbsolute path
     → lacks_dot_segments path ≡ true → IsUtf8 path → IsPathTo given path (guarded None path)
 path-from-root-leads-to-path given path h dotless utf8 =
@@ -237,7 +229,6 @@ pub boundary-after-last-slash : (path bytes : List ℕ) (last : ℕ) → bytes �
 boundary-after-last-slash path bytes last e utf8 within at = IsCharBoundary-after_ascii path last
     utf8 (let h : last < length path = subst (λ t. last < length t) e within in h) (grind arith)
 
--- relativized paths: equal texts share the same prefix
 pub shared-prefix-of-equals : (n : ℕ) (a b p q : List ℕ) → a ≡ b → p ≡ q → IsSharedPrefix n a p
     → IsSharedPrefix n b q
 shared-prefix-of-equals n a b p q e f h = subst (λ t. IsSharedPrefix n t q) e

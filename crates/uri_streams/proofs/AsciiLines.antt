@@ -2,7 +2,6 @@
 use Rattle.uri_streams.proofs.Common.{arith, ◌≡◌, ℕ, Bool, true, false, cond, List, ◌-◌, length, take, IsTrue, IsAscii-take, ends_with_byte, strip_last, IsAscii, end_byte, has_return, line_text, IsCutLine}
 use Rattle.uri_streams.specs.declared.line_ends.Line.{Line}
 
--- lines: an ASCII line without its last byte is ASCII
 strip_last-ascii : (byte : ℕ) (xs : List ℕ) → IsAscii xs → IsAscii (strip_last byte xs)
 strip_last-ascii byte xs ascii = at (ends_with_byte byte xs)
   where
@@ -25,7 +24,6 @@ line_text-ascii is_null line ascii = at (has_return is_null line)
     at true = strip_last-ascii 13 text texts-of-ascii-kinds-are-ascii
     at false = texts-of-ascii-kinds-are-ascii
 
--- lines: one with the text that is defined is cut right, and its text is ASCII if the line is
 pub IsCutLine-of-text : (is_null : Bool) (line : Line)
     → line.text.now ≡ line_text is_null line.bytes.now
     → (IsTrue line.is_ascii → IsAscii line.bytes.now) → IsCutLine is_null line

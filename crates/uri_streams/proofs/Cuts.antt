@@ -23,7 +23,6 @@ text_length is_null line = at (has_return is_null line)
     at true = omega (arith, stripped (end_byte is_null) line, stripped 13 text)
     at false = omega (arith, stripped (end_byte is_null) line)
 
--- lines: one that is cut off at the limit is whole, or it and the whole line are too long
 line-is-whole-or-too-long : (job : Job) (limit : ℕ) (line : List ℕ) → limit ≡ job.max_line + 3
     → (take limit line ≡ line) ⊎ ((job.max_line < length (line_text job.is_null (take limit line)))
     × (job.max_line < length (line_text job.is_null line)))
@@ -46,7 +45,6 @@ line-is-whole-or-too-long job limit line e = at (nat_lt limit (length line)) ref
         )
     at false is = inl (take_all limit line (omega (arith, ltb-false limit (length line) is)))
 
--- the cut of a line that is too long for a job
 abbrev too_long_cut : Job → Cut
 too_long_cut job = cut_without_other_fields (Err (TooLong job.max_line))
 
@@ -70,13 +68,11 @@ StandsFor-of-limited-line job limit line e = ⊎_elim (λ whole. inl whole)
       line_cut-of-too-long job line long.1,
     )) (line-is-whole-or-too-long job limit line e)
 
--- lines: bytes that stand for a line are cut as the line is
 pub line_cut-if-StandsFor : (job : Job) (line whole : List ℕ) → StandsFor job line whole
     → line_cut job line ≡ line_cut job whole
 line_cut-if-StandsFor job line whole stands =
     ⊎_elim (λ same. ap (line_cut job) same) (λ long. long.0 ∙ sym long.1) stands
 
--- lines: for bytes that stand for a line the output is that of the line
 pub bytes_output-if-StandsFor : (job : Job) (known : Known) (line whole end : List ℕ)
     → StandsFor job line whole → bytes_output job known line end ≡ bytes_output job known whole end
 bytes_output-if-StandsFor job known line whole end stands = grind arith

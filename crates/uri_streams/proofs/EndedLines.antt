@@ -7,12 +7,10 @@ use Rattle.std.proofs.Math.ListN.{drop_of_length-le}
 some-if-ended : (byte : ℕ) (bs : List ℕ) → ends_with_byte byte bs ≡ true → 0 < length bs
 some-if-ended byte bs ended = ltb-true 0 (length bs) (and_parts _ _ ended).0
 
--- lines: the last byte of bytes that end with it
 last-if-ended : (byte : ℕ) (bs : List ℕ) → ends_with_byte byte bs ≡ true
     → get_or bs (length bs - 1) 0 ≡ byte
 last-if-ended byte bs ended = eqb-true _ byte (and_parts _ _ ended).1
 
--- lines: bytes that end with a byte, without it
 strip_last-of-ended : (byte : ℕ) (bs : List ℕ) → ends_with_byte byte bs ≡ true
     → strip_last byte bs ≡ take (length bs - 1) bs
 strip_last-of-ended byte bs ended = ap (λ b. cond b (take (length bs - 1) bs) bs) ended
@@ -50,7 +48,6 @@ has_return-of-ended true bs ended = refl
 has_return-of-ended false bs ended =
     grind (arith, strip_last-of-ended, ends_with_return-before-newline)
 
--- lines: the last byte of bytes, as a list
 drop-but-last : (bs : List ℕ) → 0 < length bs
     → drop (length bs - 1) bs ≡ get_or bs (length bs - 1) 0 ∷ []
 drop-but-last bs some = drop_more bs (length bs - 1) 0 (omega (arith, some))
@@ -110,7 +107,6 @@ end_of false bs ended = at (get_or bs (length bs - 1 - 1) 0 == 13) refl
         ap (λ n. drop n bs) (omega arith) ∙ last
         ∙ sym (ap (line_ending false) (has_return-of-ended false bs ended ∙ is))
 
--- a flag as a number
 flag-is-number : (b : Bool) → bool_byte b ≡ cond b 1 0
 flag-is-number true = refl
 flag-is-number false = refl
@@ -123,7 +119,6 @@ pub text-before-end : (is_null is_return : Bool) (bs : List ℕ) (before : ℕ)
     → take (length bs - 1 - bool_byte is_return) bs ≡ line_text is_null bs
 text-before-end is_null is_return bs before ended first is = grind (arith, flag-is-number, text_of)
 
--- lines: the bytes after the text of a line are what ends its output
 pub end-after-text : (is_null is_return : Bool) (bs : List ℕ) (before : ℕ)
     → ends_with_byte (end_byte is_null) bs ≡ true → before ≡ length bs - 1 - 1
     → is_return ≡ (not is_null && (get_or bs before 0 == 13)) → take

@@ -28,7 +28,6 @@ head_at {X} k n fs x ys one e =
     at (suc k) (f ∷ fs) e =
         let h = at k fs e in (ap (λ l. f ∷ l) h.0, h.1, h.2)
 
--- fields: the bytes up to the first delimiter d are the first field
 fields_of-at-first-delimiter : (d i : ℕ) (xs : List ℕ) → NoneBefore (Passes (is_byte d) xs) 0
     (length xs) i
     → Passes (is_byte d) xs i → fields_of d xs ≡ take i xs ∷ fields_of d (drop (i + 1) xs)
@@ -46,7 +45,6 @@ fields_of-at-first-delimiter d i xs none is =
         subst (λ x. eqb x d ≡ false) (sym (get_or-take i xs k 0 within))
         (false_from_ne_true (eqb (get_or xs k 0) d) (none.before k (omega arith) within)))
 
--- fields: a line without the delimiter d is its only field
 fields_of-without-delimiter : (d : ℕ) (xs : List ℕ) → Nowhere (Passes (is_byte d) xs) 0 (length xs)
     → fields_of d xs ≡ xs ∷ []
 fields_of-without-delimiter d xs none = slice_split_none (λ b. eqb b d) xs

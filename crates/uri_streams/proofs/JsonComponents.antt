@@ -11,7 +11,6 @@ abbrev named_in : Members → List (List ℕ × List ℕ)
 named_in EndOfObject = []
 named_in (Member name v members) = (encode_utf8_all name, text_in v) ∷ named_in members
 
--- lines of JSON: the members of an object
 abbrev members_in : JsonValue → Members
 members_in (Object members) = members
 members_in other = EndOfObject
@@ -39,7 +38,6 @@ find_present name [] = None
 find_present name (one ∷ others) = if bytes_eq one.0 name then first_present one.1
     (find_present name others) else find_present name others
 
--- lines of JSON: a text is found among those that are present as among all
 present-text-is-found : (name : List ℕ) (named : List (List ℕ × Option (List ℕ)))
     → find_named name (present named) ≡ find_present name named
 present-text-is-found name [] = refl
@@ -57,12 +55,10 @@ present-text-is-found name (one ∷ others) = at one.1
     at None = same (bytes_eq one.0 name) (find_named name (present others))
     at (Some text) = refl
 
--- lines of JSON: a text is the first one if there is no other
 text-without-others-is-first : (o : Option (List ℕ)) → first_present o None ≡ o
 text-without-others-is-first None = refl
 text-without-others-is-first (Some text) = refl
 
--- lines of JSON: the components, each by its name
 abbrev components_in : List (List ℕ × List ℕ) → Components
 components_in named = record {
   scheme = find_named (codes "scheme") named;
@@ -72,7 +68,6 @@ components_in named = record {
   fragment = find_named (codes "fragment") named;
 }
 
--- lines of JSON: each component is found by its name
 components-are-found-by-name : (p : Components) → components_in (present (named_components p)) ≡ p
 components-are-found-by-name p =
     grind (arith, present-text-is-found, present, text-without-others-is-first)
@@ -124,7 +119,6 @@ named-components-are-plain p h =
       h.port,
     )
 
--- lines of JSON: the components are in the value of a reference
 components-are-in-their-value : (p : Components) → HasPlainComponents p
     → components_in (named_in (members_in (components_value p))) ≡ p
 components-are-in-their-value p h =
@@ -132,13 +126,11 @@ components-are-in-their-value p h =
     (plain-texts-are-utf8 (named_components p) refl (named-components-are-plain p h)))
     ∙ components-are-found-by-name p
 
--- lines of JSON: references whose values are equal have equal components
 pub equal-objects-have-equal-components : (p q : Components) → HasPlainComponents p
     → HasPlainComponents q → components_value p ≡ components_value q → p ≡ q
 equal-objects-have-equal-components p q h k e = sym (components-are-in-their-value p h)
     ∙ ap (λ v. components_in (named_in (members_in v))) e ∙ components-are-in-their-value q k
 
--- lines of JSON: what holds of all names holds of those whose texts are present
 present-names-hold : (P : List ℕ → Type 0) (named : List (List ℕ × Option (List ℕ)))
     → AllByRecursion P (map (λ one. one.0) named)
     → AllByRecursion P (map (λ one. one.0) (present named))
@@ -150,7 +142,6 @@ present-names-hold P (one ∷ others) (p, h) = at one.1 (present-names-hold P ot
     at None more = more
     at (Some text) more = (p, more)
 
--- lines of JSON: if all names are distinct, those whose texts are present are
 present-names-are-distinct : (named : List (List ℕ × Option (List ℕ)))
     → IsDistinct bytes_eq (map (λ one. one.0) named)
     → IsDistinct bytes_eq (map (λ one. one.0) (present named))

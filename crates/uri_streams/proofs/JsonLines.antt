@@ -11,13 +11,11 @@ use Rattle.uri_streams.proofs.JsonPairs.{AreUtf8, pairs-are-json-array, equal-ar
 use Rattle.uri_streams.proofs.JsonReading.{json-text-represents-one-value}
 use Rattle.uri_streams.proofs.PlainComponents.{text-has-plain-components}
 
--- lines of JSON: that for a text of a kind is an object of its components
 pub parse-line-is-json-object : (name : KindName) (text : List ℕ) → IsTextOf (kind_named name) text
     → IsJsonTextOf (components_value (components text)) (json_of (components text))
 parse-line-is-json-object name text h =
     json_of-is-json-object (components text) (text-has-plain-components name text h)
 
--- lines of JSON: two texts whose lines represent one value are equal
 pub parse-lines-of-one-value-have-one-text : (name other : KindName) (a b : List ℕ)
     (v : JsonValue) → IsTextOf (kind_named name) a → IsTextOf (kind_named other) b
     → IsJsonTextOf v (json_of (components a)) → IsJsonTextOf v (json_of (components b)) → a ≡ b
@@ -52,25 +50,21 @@ lossy-text-is-utf8 : (bytes : List ℕ) → IsUtf8 (lossy_text bytes)
 lossy-text-is-utf8 bytes = lossy-pieces-are-utf8 (utf8_pieces bytes)
     (recursion_from_All IsOfCharacter (utf8_pieces bytes) (utf8_pieces-are-of-characters bytes))
 
--- lines of JSON: decoded pairs are UTF-8
 decoded-pairs-are-utf8 : (pieces : List (List ℕ)) → AreUtf8 (map decode_pair pieces)
 decoded-pairs-are-utf8 [] = tt
 decoded-pairs-are-utf8 (piece ∷ pieces) =
     (lossy-text-is-utf8 _, lossy-text-is-utf8 _, decoded-pairs-are-utf8 pieces)
 
--- lines of JSON: the pairs of a query are UTF-8
 pairs-of-query-are-utf8 : (query : Option (List ℕ)) → AreUtf8 (pairs_of_query query)
 pairs-of-query-are-utf8 None = tt
 pairs-of-query-are-utf8 (Some query) = decoded-pairs-are-utf8 _
 
--- lines of JSON: that for a query is an array of its pairs
 pub query-line-is-json-array : (query : Option (List ℕ))
     → IsJsonTextOf (query_value query) (query_json query)
 unfolding query_json
 query-line-is-json-array query =
     pairs-are-json-array (pairs_of_query query) (pairs-of-query-are-utf8 query)
 
--- lines of JSON: two queries whose lines represent one value have the same pairs
 pub query-lines-of-one-value-have-same-pairs : (a b : Option (List ℕ)) (v : JsonValue)
     → IsJsonTextOf v (query_json a) → IsJsonTextOf v (query_json b)
     → pairs_of_query a ≡ pairs_of_query b

@@ -18,7 +18,6 @@ record AreMembers (named : List (List ℕ × List ℕ)) (bytes : List ℕ) : Typ
   first : AreTextOf (RepresentsMembers (text_members named)) bytes
   more : AreMoreMembers named (codes "," ++ bytes)
 
--- lines of JSON: a member and then others
 member-is-text : (name text : List ℕ) (others : List (List ℕ × List ℕ)) (bytes : List ℕ)
     → IsPlain name → IsPlain text → AreMoreMembers others bytes
     → AreMembers ((name, text) ∷ others) (member name text ++ bytes)
@@ -30,7 +29,6 @@ member-is-text name text others bytes n t more =
     (plain-string-is-text text t and_then more))) in
     record { first = first; more = comma-is-structural and_then first }
 
--- lines of JSON: a member, if it is present, before others
 member_before-is-text : (name : List ℕ) (text : Option (List ℕ)) (others : List (List ℕ × List ℕ))
     (bytes : List ℕ) → IsPlain name → IsPlainIfPresent text → AreMembers others bytes
     → AreMembers (with_present name text others) (member_before name text ++ bytes)
@@ -89,7 +87,6 @@ object-regrouped : (begin s a p q f end : List ℕ)
     → begin ++ (s ++ (a ++ (p ++ (q ++ (f ++ [])))) ++ end) ≡ begin ++ s ++ a ++ p ++ q ++ f ++ end
 object-regrouped begin s a p q f end = simp (append_assoc, append-nil)
 
--- lines of JSON: the members of an authority, if it is present, before others
 authority_members-are-text : (authority : Option (List ℕ))
     (others : List (List ℕ × Option (List ℕ))) (bytes : List ℕ) → IfSome authority HasPlainAuthority
     → AreMembers (present others) bytes

@@ -7,7 +7,6 @@ abbrev pub AreUtf8 : List NameAndValue → Type 0
 AreUtf8 [] = Unit {0}
 AreUtf8 (pair ∷ pairs) = IsUtf8 pair.0 × IsUtf8 pair.1 × AreUtf8 pairs
 
--- lines of JSON: a comma
 pub comma-is-structural : AreTextOf (IsStructural (codes ",")) (codes ",")
 comma-is-structural = mark-is-structural 44 refl
 
@@ -34,7 +33,6 @@ pairs_json-are-text [] h = nothing-is-text
 pairs_json-are-text (pair ∷ pairs) (u, v, h) =
     pair_json-is-text pair u v and_then following_pairs_json-are-text pairs h
 
--- lines of JSON: pairs are an array
 pub pairs-are-json-array : (pairs : List NameAndValue) → AreUtf8 pairs
     → IsJsonTextOf (Array (pair_elements pairs)) (codes "[" ++ pairs_json pairs ++ codes "]")
 pairs-are-json-array pairs h = value-is-json-text (Array (pair_elements pairs)) _
@@ -60,7 +58,6 @@ abbrev pairs_in_elements : Elements → List NameAndValue
 pairs_in_elements EndOfArray = []
 pairs_in_elements (Element v elements) = pair_in v ∷ pairs_in_elements elements
 
--- lines of JSON: the pairs in an array
 abbrev pairs_in : JsonValue → List NameAndValue
 pairs_in (Array elements) = pairs_in_elements elements
 pairs_in other = []
@@ -72,7 +69,6 @@ pairs-are-in-their-value [] h = refl
 pairs-are-in-their-value (pair ∷ pairs) (u, v, h) =
     grind (arith, chars, text-is-in-its-value, pairs-are-in-their-value pairs h)
 
--- lines of JSON: pairs of equal values are equal
 pub equal-arrays-have-equal-pairs : (xs ys : List NameAndValue) → AreUtf8 xs → AreUtf8 ys
     → Array (pair_elements xs) ≡ Array (pair_elements ys) → xs ≡ ys
 equal-arrays-have-equal-pairs xs ys h k e =

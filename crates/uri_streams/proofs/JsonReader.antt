@@ -89,12 +89,10 @@ abbrev mutual
   steps_of_members (Member name v members) =
       suc (length name + more_steps v + steps_of_members members + 2)
 
--- reading JSON: elements take a step at least
 pub elements-take-steps : (elements : Elements) → steps_of_elements elements ≤ 0 → ⊥
 elements-take-steps EndOfArray l = omega arith
 elements-take-steps (Element v elements) l = omega arith
 
--- reading JSON: members take a step at least
 pub members-take-steps : (members : Members) → steps_of_members members ≤ 0 → ⊥
 members-take-steps EndOfObject l = omega arith
 members-take-steps (Member name v members) l = omega arith
@@ -112,7 +110,6 @@ represented-value-is-a-value (Number []) x (e, h) =
 represented-value-is-a-value (Number (c ∷ d)) x h = refl
 represented-value-is-a-value (String cs) x h = refl
 
--- reading JSON: a text that begins with a comma
 pub comma-begins-text : (x rest : List ℕ) → IsStructural (codes ",") x
     → BeginsStructural 44 (x ++ rest) rest
 comma-begins-text x rest h = structural-begins-text 44 x rest refl refl h
@@ -153,7 +150,6 @@ pub record ReadsMember (n : ℕ) (text : List ℕ) (members : Members) (rest : L
   pub member : read_named (read n) (read_more_members n) (read_characters n (drop 1 (skip text)))
       ≡ (members, rest)
 
--- reading JSON: a member is read by its name, if its value and what follows are read
 pub member-is-read : (name : List ℕ) (v : JsonValue) (members : Members) (x c y tail rest : List ℕ)
     (n : ℕ) → RepresentsString name x → IsStructural (codes ":") c → length name < n
     → read n (skip (y ++ tail)) ≡ (v, skip tail) → read_more_members n (skip tail) ≡ (members, rest)

@@ -106,7 +106,6 @@ mutual
         mark.same,
       ) r.member
 
--- reading JSON: the whole of a JSON text is read as its value
 json-text-is-read : (v : JsonValue) (text : List ℕ) (n : ℕ)
     → (IsWhitespace then RepresentsValue v then IsWhitespace) text → more_steps v < n
     → read n (skip text) ≡ (v, [])
@@ -117,7 +116,6 @@ json-text-is-read v text n (a, y, e, before, (x, b, f, h, behind)) l =
     ∙ value-is-read v x b n h (subst EndsNumber end (whitespace-ends-number b [] behind refl)) l
     ∙ ap (λ t. (v, skip t)) (sym end) ∙ ap (λ t. (v, t)) (whitespace-is-skipped b [] behind)
 
--- JSON: a text represents one value
 pub json-text-represents-one-value : (text : List ℕ) (v w : JsonValue) → IsJsonTextOf v text
     → IsJsonTextOf w text → v ≡ w
 json-text-represents-one-value text v w h k =

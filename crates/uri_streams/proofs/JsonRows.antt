@@ -1,7 +1,6 @@
 -- Some JSON texts and what they represent, and some lines of JSON, by computation.
 use Rattle.uri_streams.proofs.Common.{◌≡◌, true, false, [], ◌∷◌, refl, inl, inr, codes, map, Some, None, encode_utf8, chars, components, json_of, Array, EndOfArray, ◌then◌, IsWhitespace, IsNumber, IsOneOf, IsOptional, IsFraction, IsExponent, AreSomeDigits, IsStructural, IsUnicodeEscape, is_unescaped, escaped_by, hex_number, RepresentsCharacter, RepresentsValue, named_components, present, pairs_json}
 
--- examples of JSON: ` [ ] ` represents the empty array
 spaced-brackets-represent-empty-array :
     (IsWhitespace then RepresentsValue (Array EndOfArray) then IsWhitespace) (codes " [ ] ")
 spaced-brackets-represent-empty-array =
@@ -13,7 +12,6 @@ spaced-brackets-represent-empty-array =
     (codes "[ ", codes "] ", refl, begin, ([], codes "] ", refl, refl, finish)) in
     (codes " ", codes "[ ] ", refl, refl, (codes "[ ] ", [], refl, array, refl))
 
--- examples of JSON: `-0.5E+30` is a number
 number-with-all-parts : IsNumber (codes "-0.5E+30")
 number-with-all-parts =
     let fraction : IsFraction (codes ".5") =
@@ -51,13 +49,11 @@ escapes-of-two-characters : map escaped_by (codes "\"\\/bfnrta'u") ≡ Some 34 �
     ∷ Some 8 ∷ Some 12 ∷ Some 10 ∷ Some 13 ∷ Some 9 ∷ None ∷ None ∷ None ∷ []
 escapes-of-two-characters = refl
 
--- examples of lines: the line for `x:y?q`
 line-of-three-components : json_of (components (codes "x:y?q"))
     ≡ codes "{\"scheme\":\"x\",\"path\":\"y\",\"query\":\"q\"}"
 unfolding json_of
 line-of-three-components = refl
 
--- examples of lines: the components of `x:y?q` that are present
 three-components-are-present : present (named_components (components (codes "x:y?q")))
     ≡ (codes "scheme", codes "x") ∷ (codes "path", codes "y") ∷ (codes "query", codes "q") ∷ []
 three-components-are-present = refl

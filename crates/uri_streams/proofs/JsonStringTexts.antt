@@ -17,13 +17,11 @@ pub ◌and_then◌ : {P Q : Rule} {a b : List ℕ} → AreTextOf P a → AreText
   text = (chars a, chars b, chars-append a b p.utf8, p.text, q.text);
 }
 
--- general fact on bytes, for texts of JSON: they are ASCII if they pass its test
 ascii-by-test : (word : List ℕ) → list_all (λ b. nat_lt b 128) word ≡ true → IsAscii word
 ascii-by-test [] h = IsAscii-nil
 ascii-by-test (b ∷ word) h = let p = and_parts _ _ h in
     IsAscii-cons b word (ltb-true b 128 p.0) (ascii-by-test word p.1)
 
--- writing JSON: ASCII characters are a text as they are
 ascii-is-text : (P : Rule) (word : List ℕ) → list_all (λ b. nat_lt b 128) word ≡ true → P word
     → AreTextOf P word
 ascii-is-text P word h p = let ascii = ascii-by-test word h in record {
@@ -31,7 +29,6 @@ ascii-is-text P word h p = let ascii = ascii-by-test word h in record {
   text = subst P (sym (chars-IsAscii word ascii)) p;
 }
 
--- writing JSON: nothing
 pub nothing-is-text : AreTextOf (Is []) []
 nothing-is-text = record { utf8 = IsUtf8-nil; text = chars-nil }
 
@@ -60,18 +57,15 @@ abbrev are_digits_below : ℕ → Bool
 are_digits_below zero = true
 are_digits_below (suc n) = are_its_digits n && are_digits_below n
 
--- writing JSON: the 32 control characters have their digits
 digits-of-32-control-characters : are_digits_below 32 ≡ true
 unfolding are_its_digits hex_number
 digits-of-32-control-characters = refl
 
--- writing JSON: a control character has its digits
 digits-of-control-character : (c : ℕ) → c < 32 → are_its_digits c ≡ true
 digits-of-control-character = (Decides-below_and are_its_digits (λ c. are_its_digits c ≡ true)
     are_digits_below (λ c. (λ e. e, λ e. e)) refl (λ _. refl) 32).0
     digits-of-32-control-characters
 
--- writing JSON: the escape of a control character by its digits
 control_json-by-digits : (c : ℕ)
     → control_json c ≡ codes "\\u" ++ (48 ∷ 48 ∷ high_digit c ∷ low_digit c ∷ [])
 control_json-by-digits c = at (nat_lt c 16)
@@ -81,7 +75,6 @@ control_json-by-digits c = at (nat_lt c 16)
     at true = refl
     at false = refl
 
--- writing JSON: a control character is no surrogate
 control-character-is-no-surrogate : (c : ℕ) → c < 32 → is_in_range 0xD800 0xDFFF c ≡ false
 control-character-is-no-surrogate c l = grind (arith, nat_tests)
 
@@ -149,18 +142,15 @@ escaped_char-is-text c s = quote (c == 34) refl
     quote true e = escape 34 (eqb-true c 34 e) refl refl
     quote false e = backslash (c == 92) e refl
 
--- writing JSON: characters, each as `escaped_char` has it
 escaped-characters-are-text : (cs : List ℕ) → all_scalars cs ≡ true
     → AreTextOf (RepresentsCharacters cs) (flat_map escaped_char cs)
 escaped-characters-are-text [] h = nothing-is-text
 escaped-characters-are-text (c ∷ cs) h = let p = and_parts _ _ h in
     escaped_char-is-text c p.0 and_then escaped-characters-are-text cs p.1
 
--- writing JSON: the quote before and after a string
 quote-is-text : AreTextOf (Is (codes "\"")) (codes "\"")
 quote-is-text = ascii-is-text (Is (codes "\"")) (codes "\"") refl refl
 
--- writing JSON: the string of a text, with its characters escaped
 pub escaped-string-is-text : (text : List ℕ) → IsUtf8 text
     → AreTextOf (RepresentsString (chars text)) (codes "\"" ++ (escaped_text text ++ codes "\""))
 escaped-string-is-text text u = quote-is-text and_then
@@ -196,7 +186,6 @@ plain-string-is-text text plain =
     } in
     quote-is-text and_then (inside and_then quote-is-text)
 
--- writing JSON: bytes that represent a value are a JSON text
 pub value-is-json-text : (v : JsonValue) (bytes : List ℕ) → AreTextOf (RepresentsValue v) bytes
     → IsJsonTextOf v bytes
 value-is-json-text v bytes h = grind (arith, common_steps, chars)

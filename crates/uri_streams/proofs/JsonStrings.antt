@@ -25,17 +25,14 @@ read_characters (suc n) text =
     if get_or text 0 0 == 34 then ([], drop 1 text) else (let first = read_character text in
     let more = read_characters n first.1 in (first.0 ∷ more.0, more.1))
 
--- reading JSON: an unescaped character is neither a quote nor a backslash
 unescaped-is-no-quote-or-backslash : (c : ℕ) → is_unescaped c ≡ true
     → ((c == 34) ≡ false) × ((c == 92) ≡ false)
 unescaped-is-no-quote-or-backslash c e = (grind (arith, nat_tests), grind (arith, nat_tests))
 
--- reading JSON: what is no surrogate is no high surrogate
 other-number-is-no-high-surrogate : (c : ℕ) → is_in_range 0xD800 0xDFFF c ≡ false
     → is_high_surrogate c ≡ false
 other-number-is-no-high-surrogate c e = grind (arith, nat_tests)
 
--- reading JSON: `\u` is no escape of two characters
 u-is-no-short-escape : (mark c : ℕ) → escaped_by mark ≡ Some c → (mark == 117) ≡ false
 u-is-no-short-escape mark c e = at (mark == 117) refl
   where
@@ -68,7 +65,6 @@ record ReadsCharacter (c : ℕ) (text rest : List ℕ) : Type 0 where
   is_no_end : (get_or text 0 0 == 34) ≡ false
   character : read_character text ≡ (c, rest)
 
--- reading JSON: after `\u` a number is read, or a pair of surrogates
 numbers-are-read-after-u : (text : List ℕ) → get_or text 0 0 ≡ 92 → get_or text 1 0 ≡ 117
     → read_character text ≡ (if is_high_surrogate (escaped_number text) then
     (surrogate_pair_char (escaped_number text) (escaped_number (drop 6 text)), drop 12 text) else
@@ -76,7 +72,6 @@ numbers-are-read-after-u : (text : List ℕ) → get_or text 0 0 ≡ 92 → get_
 numbers-are-read-after-u text e f = cond-true (get_or text 0 0 == 92) _ _ (ap (λ c. c == 92) e)
     ∙ cond-true (get_or text 1 0 == 117) _ _ (ap (λ c. c == 117) f)
 
--- reading JSON: a text that represents a character is read as that character
 character-is-read : (c : ℕ) (x rest : List ℕ) → RepresentsCharacter c x
     → ReadsCharacter c (x ++ rest) rest
 character-is-read c x rest (inl (unescaped, e)) =
@@ -137,7 +132,6 @@ pub record BeginsString (cs text rest : List ℕ) : Type 0 where
   pub whole : text ≡ 34 ∷ (inside ++ 34 ∷ rest)
   pub characters : RepresentsCharacters cs inside
 
--- reading JSON: a text that represents a string begins with it
 pub string-begins-text : (cs x rest : List ℕ) → RepresentsString cs x
     → BeginsString cs (x ++ rest) rest
 string-begins-text cs x rest (quote, y, e, before, (inside, end, f, h, after)) = record {

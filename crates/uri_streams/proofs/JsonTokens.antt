@@ -7,7 +7,6 @@ abbrev pub skip : List ℕ → List ℕ
 skip [] = []
 skip (c ∷ text) = if is_whitespace c then skip text else c ∷ text
 
--- reading JSON: whitespace is skipped
 pub whitespace-is-skipped : (space text : List ℕ) → IsWhitespace space
     → skip (space ++ text) ≡ skip text
 whitespace-is-skipped [] text h = refl
@@ -22,15 +21,12 @@ is_number_character c = is_one_of (codes "0123456789+-.eE") c
 abbrev pub EndsNumber : List ℕ → Type 0
 EndsNumber text = is_number_character (get_or text 0 0) ≡ false
 
--- reading JSON: whitespace is in no number
 whitespace-is-in-no-number : (c : ℕ) → is_whitespace c ≡ true → is_number_character c ≡ false
 whitespace-is-in-no-number c e = grind (arith, nat_tests)
 
--- reading JSON: a number has no whitespace
 number-has-no-whitespace : (c : ℕ) → is_number_character c ≡ true → is_whitespace c ≡ false
 number-has-no-whitespace c e = grind (arith, nat_tests)
 
--- reading JSON: whitespace ends a number
 pub whitespace-ends-number : (space rest : List ℕ) → IsWhitespace space → EndsNumber rest
     → EndsNumber (space ++ rest)
 whitespace-ends-number [] rest h e = e
@@ -43,7 +39,6 @@ pub record BeginsStructural (mark : ℕ) (text rest : List ℕ) : Type 0 where
   pub same : skip after ≡ skip rest
   pub ends : EndsNumber text
 
--- reading JSON: a text that is a structural character begins with it
 pub structural-begins-text : (mark : ℕ) (x rest : List ℕ) → is_whitespace mark ≡ false
     → is_number_character mark ≡ false → IsStructural (mark ∷ []) x
     → BeginsStructural mark (x ++ rest) rest
@@ -73,7 +68,6 @@ abbrev pub after_number : List ℕ → List ℕ
 after_number [] = []
 after_number (c ∷ text) = if is_number_character c then after_number text else c ∷ text
 
--- reading JSON: characters of a number are read up to where it ends
 number-is-cut-at-its-end : (x rest : List ℕ) → AreOfNumbers x → EndsNumber rest
     → (read_number (x ++ rest) ≡ x) × (after_number (x ++ rest) ≡ rest)
 number-is-cut-at-its-end [] [] h e = (refl, refl)
@@ -98,7 +92,6 @@ optional-is-of-numbers : {P : Rule} → ((x : List ℕ) → P x → AreOfNumbers
 optional-is-of-numbers p x (inl e) = ap (list_all is_number_character) e
 optional-is-of-numbers p x (inr h) = p x h
 
--- reading JSON: a word with characters of numbers only
 word-is-of-numbers : (word : List ℕ) → AreOfNumbers word → (x : List ℕ) → Is word x → AreOfNumbers x
 word-is-of-numbers word h x e = ap (list_all is_number_character) e ∙ h
 
@@ -109,7 +102,6 @@ one-is-of-numbers : (marks : List ℕ)
 one-is-of-numbers marks within x (c, e, h) =
     ap (list_all is_number_character) e ∙ and_from _ _ (within c h) refl
 
--- reading JSON: digits, or nothing, have characters of numbers only
 digits-are-of-numbers : (x : List ℕ) → AreDigits x → AreOfNumbers x
 digits-are-of-numbers [] h = refl
 digits-are-of-numbers (c ∷ x) h = let p = and_parts _ _ h in
@@ -118,18 +110,15 @@ digits-are-of-numbers (c ∷ x) h = let p = and_parts _ _ h in
     digit-is-of-numbers : (c : ℕ) → is_ascii_digit c ≡ true → is_number_character c ≡ true
     digit-is-of-numbers c e = grind (arith, nat_tests)
 
--- reading JSON: one or more digits have characters of numbers only
 some-digits-are-of-numbers : (x : List ℕ) → AreSomeDigits x → AreOfNumbers x
 some-digits-are-of-numbers = then-is-of-numbers
     (one-is-of-numbers (codes "0123456789") (λ c e. grind (arith, nat_tests))) digits-are-of-numbers
 
--- reading JSON: the integer of a number has characters of numbers only
 integer-is-of-numbers : (x : List ℕ) → IsInteger x → AreOfNumbers x
 integer-is-of-numbers x (inl e) = ap (list_all is_number_character) e
 integer-is-of-numbers x (inr h) =
     grind (arith, then-is-of-numbers, one-is-of-numbers, digits-are-of-numbers)
 
--- reading JSON: a number has characters of numbers only
 number-is-of-numbers : (x : List ℕ) → IsNumber x → AreOfNumbers x
 number-is-of-numbers = then-is-of-numbers
     (optional-is-of-numbers (word-is-of-numbers (codes "-") refl)) (then-is-of-numbers
@@ -140,13 +129,11 @@ number-is-of-numbers = then-is-of-numbers
     (optional-is-of-numbers (one-is-of-numbers (codes "-+") (λ c e. grind (arith, nat_tests))))
     some-digits-are-of-numbers)))))
 
--- reading JSON: the integer of a number is not empty
 integer-is-not-empty : (x : List ℕ) → IsInteger x → 0 < length x
 integer-is-not-empty x (inl e) = omega (arith, ap length e)
 integer-is-not-empty x (inr (a, b, e, (c, f, h), k)) =
     omega (arith, ap length e, ap length f, length-append a b)
 
--- reading JSON: a number is not empty
 pub number-is-not-empty : (x : List ℕ) → IsNumber x → 0 < length x
 number-is-not-empty x (a, y, e, h, (b, z, f, i, k)) = omega (
   arith,
@@ -164,7 +151,6 @@ pub record ReadsNumber (x text rest : List ℕ) : Type 0 where
   pub number : read_number text ≡ x
   pub after : after_number text ≡ rest
 
--- reading JSON: a text that is a number is read as it
 pub number-is-read : (x rest : List ℕ) → IsNumber x → EndsNumber rest
     → ReadsNumber x (x ++ rest) rest
 number-is-read [] rest h e = absurd (omega (arith, number-is-not-empty [] h))

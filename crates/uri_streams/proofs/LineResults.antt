@@ -25,7 +25,6 @@ given_result_if : Job → Known → List ℕ → Bool → LineResult × Known
 given_result_if job known bytes is_mended = text_result job.command known
     (if is_mended then mended_link (text_kind job.command) bytes else bytes)
 
--- lines: the result of a text that is mended first is that of the bytes that it is of
 pub bytes_result-of-mended : (job : Job) (known : Known) (text bytes : List ℕ)
     → (text ≡ bytes) × IsUtf8 bytes → job.is_mended ≡ true
     → text_result job.command known (mended_link (text_kind job.command) text)
@@ -34,7 +33,6 @@ unfolding given_result_if
 bytes_result-of-mended job known text bytes is is_mended =
     grind (arith, given_result_if, bytes_result-of-utf8)
 
--- lines: the result of a text that is not mended is that of the bytes that it is of
 pub bytes_result-of-text : (job : Job) (known : Known) (text bytes : List ℕ)
     → (text ≡ bytes) × IsUtf8 bytes → job.is_mended ≡ false
     → text_result job.command known text ≡ bytes_result job known bytes

@@ -52,7 +52,6 @@ unfolding mend_result mend_result_if
 mend_result-of-error kind text e refused =
     grind (arith, error_text-is-parse_message, mend_result_if)
 
--- lines: an error of mending, but for lack of memory, is the error of the line
 pub mend_result-of-returned-error : {E : Type 0} (name : KindName) (text : List ℕ)
     (why : CommandError) (result : Result Returned E) → IsErrorOfCommand (Mend name text) why
     → is_output_failure why ≡ false
@@ -64,12 +63,10 @@ mend_result-of-returned-error name text why (Ok line_result) is written error so
     grind (arith, IsRejection-of-error, mend_result-of-error, kind_named)
 mend_result-of-returned-error name text why (Err failure) is written error some = tt
 
--- lines: what a link is mended to, if it can be mended or not
 mended_link_if : Kind → List ℕ → Bool → List ℕ
 mended_link_if kind text mendable =
     if mendable then mended_text kind (trimmed_link text) else trimmed_link text
 
--- lines: a link that is mended has the text that is defined
 pub mended_link-of-mended : (kind : Kind) (text link : List ℕ)
     → can_be_mended kind (trimmed_link text) ≡ true
     → link ≡ mended_text kind (trimmed_link text) → link ≡ mended_link kind text

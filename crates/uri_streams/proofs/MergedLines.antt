@@ -34,7 +34,6 @@ AreLines end [] = Unit {0}
 AreLines end (line ∷ lines) =
     (IsEnded end line × AreLines end lines) ⊎ (IsUnended end line × (lines ≡ []))
 
--- lines: one that is ended is the first line of what it begins
 lines_of-after-ended-line : (end : ℕ) (line ys : List ℕ) → IsEnded end line
     → lines_of end (line ++ ys) ≡ line ∷ lines_of end ys
 lines_of-after-ended-line end [] ys is = absurd is
@@ -69,7 +68,6 @@ AreLines-of-input end (x ∷ xs) = at (eqb x end) refl (AreLines-of-input end xs
     at true is rest = inl (inl (is, refl), rest)
     at false lacks rest = AreLines-prepended end x (lines_of end xs) lacks rest
 
--- lines: some of them are lines
 AreLines-filtered : (end : ℕ) (keeps : List ℕ → Bool) (lines : List (List ℕ))
     → AreLines end lines → AreLines end (filter keeps lines)
 AreLines-filtered end keeps [] are = tt

@@ -50,7 +50,6 @@ ReadsFirstLine-of-parts end limit None c all line is_return whole rest some kept
 ReadsFirstLine-of-parts end limit (Some xs) c all line is_return whole rest some kept is =
     grind (arith, common_steps)
 
--- lines: what is consumed of a buffer is consumed of the bytes that are left to read
 pub Consumes-buffered : (unknown : Bool) (buffer : List ℕ) (inner new : Option (List ℕ)) (n : ℕ)
     → n ≤ length buffer
     → DropsConsumable (cond unknown None (prepend_known buffer inner)) new (Some (length buffer)) n
@@ -108,7 +107,6 @@ IsBufferedLine-up-to end byte index buffer line b e within ends lacks =
           ∙ get_or-take (index + 1) buffer index 0 (omega arith) ∙ ends;
     }))
 
--- lines: bytes up to and including a byte end with it
 pub ends_with_byte-up-to : (end byte index : ℕ) (buffer : List ℕ) → byte ≡ end
     → index < length buffer → slice_index buffer index ≡ byte
     → ends_with_byte end (take (index + 1) buffer) ≡ true

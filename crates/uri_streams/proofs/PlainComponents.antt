@@ -36,7 +36,6 @@ other-ascii-is-unescaped c l h = other (is_one_of escaped_marks c) (is_unescaped
     other true unescaped h e = absurd (cc h)
     other false unescaped h e = e
 
--- plain components: a character past ASCII is unescaped
 past-ascii-is-unescaped : (c : ℕ) → IsScalar c → 128 ≤ c → is_unescaped c ≡ true
 past-ascii-is-unescaped c s l = grind (arith, nat_tests)
 
@@ -56,7 +55,6 @@ characters-of-plain-bytes (c ∷ cs) s h =
     (λ l. past-ascii-is-unescaped c scalars.0 l)
     (cases_lt c 128)) (characters-of-plain-bytes cs scalars.1 plain.1)
 
--- plain components: a text without the characters that JSON escapes is plain
 text-without-escaped-marks-is-plain : (text : List ℕ) → IsUtf8 text → Lacks escaped_marks text
     → IsPlain text
 text-without-escaped-marks-is-plain text u lacks = record {
@@ -71,13 +69,11 @@ record HasPlainTexts (set : TableSet) : Type 0 where
   percent : LacksPercent set
   marks : excludes set escaped_marks ≡ true
 
--- plain components: a text that is valid for such a set is plain
 valid-text-is-plain : (set : TableSet) → HasPlainTexts set → (text : List ℕ) → IsUtf8 text
     → IsValidFor set text → IsPlain text
 valid-text-is-plain set plain text u valid = text-without-escaped-marks-is-plain text u
     (valid_text_lacks_excluded_marks set escaped_marks plain.percent plain.marks text u valid)
 
--- plain components: so is one that passes the test `is_set_text`
 set-text-is-plain : (set : TableSet) → HasPlainTexts set → (text : List ℕ)
     → is_set_text set text ≡ true → IsPlain text
 set-text-is-plain set plain text e = valid-text-is-plain set plain text
@@ -116,7 +112,6 @@ plain-sets kinds.UriRef = plain-sets-by-flags false false
 plain-sets kinds.Iri = plain-sets-by-flags true true
 plain-sets kinds.IriRef = plain-sets-by-flags true false
 
--- plain components: plain texts, one after the other
 appended-texts-are-plain : (xs ys : List ℕ) → IsPlain xs → IsPlain ys → IsPlain (xs ++ ys)
 appended-texts-are-plain xs ys h k = record {
   utf8 = IsUtf8-append xs ys h.utf8 k.utf8;
@@ -128,20 +123,17 @@ appended-texts-are-plain xs ys h k = record {
 nothing-is-plain : IsPlain []
 nothing-is-plain = ascii-is-plain [] refl refl
 
--- plain components: a text, if it is present, between two plain ones
 marked-text-is-plain : (before : List ℕ) (text : Option (List ℕ)) (suffix : List ℕ)
     → IsPlain before → IsPlainIfPresent text → IsPlain suffix → IsPlain (marked before text suffix)
 marked-text-is-plain before None suffix b t s = nothing-is-plain
 marked-text-is-plain before (Some text) suffix b t s =
     appended-texts-are-plain (before ++ text) suffix (appended-texts-are-plain before text b t) s
 
--- plain components: an address in brackets is plain if the address is
 bracketed-text-is-plain : (address : List ℕ) → IsPlain address → IsPlain (bracketed address)
 bracketed-text-is-plain address h = appended-texts-are-plain (codes "[") (address ++ codes "]")
     (ascii-is-plain _ refl refl)
     (appended-texts-are-plain address (codes "]") h (ascii-is-plain _ refl refl))
 
--- plain components: a host is plain
 host-is-plain : (names : TableSet) → HasPlainTexts names → (text : List ℕ) (host : HostKind)
     → IsUtf8 text → IsHost names text host → IsPlain text
 host-is-plain names plain text (Ipv6 segments) u (address, e, groups) =
@@ -157,7 +149,6 @@ host-is-plain names plain text (Ipv4 octets) u dotted = text-without-escaped-mar
 host-is-plain names plain text RegName u (valid, other) =
     valid-text-is-plain names plain text u valid
 
--- plain components: an authority and its components are plain
 authority-is-plain : (kind : Kind) → HasPlainSets kind → (text : List ℕ) → IsUtf8 text
     → is_authority kind text ≡ true → HasPlainAuthority text
 authority-is-plain kind plain text u e =
@@ -183,7 +174,6 @@ authority-is-plain kind plain text u e =
       port = port;
     }
 
--- plain components: those of a text of a kind are plain
 pub text-has-plain-components : (name : KindName) (text : List ℕ)
     → IsTextOf (kind_named name) text → HasPlainComponents (components text)
 text-has-plain-components name text h =

@@ -11,7 +11,6 @@ use Rattle.uri_streams.specs.Outputs.{ProcessedLine, error_count, is_error, tall
 use Rattle.uri_streams.specs.Runs.{ErrorOutput, Reports, ReportsPrefix, Sees}
 use Rattle.uri_streams.specs.declared.run.Tally.{Tally}
 
--- error output: nothing is reported where it stays as it is
 pub Reports-nothing : (a : ErrorOutput) → Reports a a []
 Reports-nothing a = grind (arith, common_steps, AppendsPrefix-of-kept)
 
@@ -23,7 +22,6 @@ prefix-of-both a b c text more true is first second =
 prefix-of-both a b c text more false is first second =
     AppendsPrefix-after-Appends a.held b.held c.held text more (first.1 is) second.0
 
--- error output: a prefix of a second text is reported after the first
 pub ReportsPrefix-after-Reports : (a b c : ErrorOutput) (text more : List ℕ) → Reports a b text
     → ReportsPrefix b c more → ReportsPrefix a c (text ++ more)
 ReportsPrefix-after-Reports a b c text more first second = (
@@ -32,7 +30,6 @@ ReportsPrefix-after-Reports a b c text more first second = (
       (then'.0, Keeps-trans a.held b.held c.held so.1 then'.1),
 )
 
--- error output: if it has not failed at last, it has not failed before
 not-failed-before : (b c : ErrorOutput) (more : List ℕ) (y : Bool) → b.has_failed ≡ y
     → ReportsPrefix b c more → c.has_failed ≡ false → b.has_failed ≡ false
 not-failed-before b c more true is second fine = absurd (true≢false (sym (second.1 is).0 ∙ fine))
@@ -47,24 +44,20 @@ Reports-after-Reports a b c text more first second = (
       (first.1 (not-failed-before b c more b.has_failed refl second.0 fine)) (second.1 fine),
 )
 
--- error output: after nothing more was reported, the same was
 pub Reports-then-nothing : (a b c : ErrorOutput) (text : List ℕ) → Reports a b text
     → Reports b c [] → Reports a c text
 Reports-then-nothing a b c text first second =
     subst (Reports a c) (append-nil text) (Reports-after-Reports a b c text [] first second)
 
--- error output: a prefix of a text is one of a longer text
 pub ReportsPrefix-of-longer : (a b : ErrorOutput) (text more : List ℕ) → ReportsPrefix a b text
     → ReportsPrefix a b (text ++ more)
 ReportsPrefix-of-longer a b text more prefix =
     (AppendsPrefix-of-longer a.held b.held text more prefix.0, prefix.1)
 
--- error output: nothing is a prefix of each text
 pub ReportsPrefix-of-nothing : (a b : ErrorOutput) (text : List ℕ) → Reports a b []
     → ReportsPrefix a b text
 ReportsPrefix-of-nothing a b text nothing = ReportsPrefix-of-longer a b [] text nothing.0
 
--- observers: they see nothing at first
 pub Sees-nothing : (seen : Option (List Tally)) → Sees seen seen []
 Sees-nothing None = tt
 Sees-nothing (Some before) = ap Some (sym (append-nil before))

@@ -26,7 +26,6 @@ strip_last-append byte xs ys some =
     at true = shorter
     at false = refl
 
--- lines: what lacks a byte does not end with it
 ends_with_byte-of-lacking : (byte : ℕ) (xs : List ℕ) → All (λ x. x ≢ byte) xs
     → ends_with_byte byte xs ≡ false
 ends_with_byte-of-lacking byte xs none = at (nat_lt 0 (length xs)) refl
@@ -107,7 +106,6 @@ return_after-last-part end was done part is none ends = at (nat_lt 0 (length par
         (ap (λ l. ends_with_byte end (done ++ l)) empty ∙ ap (ends_with_byte end) (append-nil done)
         ∙ ends_with_byte-of-lacking end done none))
 
--- lines: what ends the output of a line is what ended the line
 pub output-end-is-line-end : (is_null is_return : Bool) (line : List ℕ)
     → is_return ≡ ends_with_return (end_byte is_null) line
     → line_ending is_null (not is_null && is_return) ≡ line_ending is_null (has_return is_null line)

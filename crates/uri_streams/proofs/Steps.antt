@@ -54,7 +54,6 @@ HasLine-of-read job None left_new byte line line_is end read is_return e l r end
 HasLine-of-read job (Some xs) left_new byte line line_is end read is_return e l r ends taken =
     grind (arith, StandsFor-of-limited-line, output-end-is-line-end)
 
--- lines: one that was read whole is the first line that is left
 HasLine-of-whole-line : (job : Job) (left left_new : Option (List ℕ)) (line end : List ℕ)
     → IfSome left (λ xs. line ≡ take_through (end_byte job.is_null) xs)
     × DropsThrough left left_new (end_byte job.is_null) → 0 < length line
@@ -69,7 +68,6 @@ HasLine-of-whole-line job (Some xs) left_new line end all some ends = record {
   );
 }
 
--- lines: one that is taken from the buffer is a line of the job
 pub HasLine-buffered : (job : Job) (unknown : Bool) (buffer : List ℕ)
     (inner left_new : Option (List ℕ)) (line end : List ℕ)
     → IsBufferedLine (end_byte job.is_null) buffer line → end ≡ line_end job line
@@ -231,8 +229,6 @@ IsStepOf-of-written-line job before remaining contents reported task task_new re
           same same' failures;
     }
 
--- streams: a step fails if reading its line does, and leaves what the writer held and the error
--- output
 pub StepFails-in-reading : (job : Job) (before : ℕ) (task : Task)
     (left left_new held held_new : Option (List ℕ)) (err err_new : ErrorOutput) (cause : Cause)
     → ReadsPartOfLine left left_new (end_byte job.is_null) → Keeps held held_new

@@ -61,18 +61,15 @@ module _ (job : Job) where
       (lines_of (end_byte job.is_null) (drop_through (end_byte job.is_null) xs)))
   lines_after_first-by before known xs b is = grind arith
 
--- streams: what is written or reported of one line more is after that of the others
 of-one-more-line : (f : ProcessedLine → List ℕ) (lines : List ProcessedLine) (line : ProcessedLine)
     → flat_map f (lines ++ line ∷ []) ≡ flat_map f lines ++ f line
 of-one-more-line f lines line = flat_map-append f lines (line ∷ [])
     ∙ ap (λ l. flat_map f lines ++ l) (append-nil (f line))
 
--- streams: one line more is counted if it is an error
 error_count-of-one-more-line : (lines : List ProcessedLine) (line : ProcessedLine)
     → error_count (lines ++ line ∷ []) ≡ error_count lines + (if is_error line.result then 1 else 0)
 error_count-of-one-more-line lines line = grind (arith, common_steps)
 
--- general fact on lists, for streams: after one element more, what is left is the tail
 left-after-one-more : {A : Type 0} (n : ℕ) (xs ys : List A) (y : A) → drop n xs ≡ y ∷ ys
     → drop (n + 1) xs ≡ ys
 left-after-one-more n xs ys y e = sym (drop-drop 1 n xs) ∙ ap (drop 1) e

@@ -85,7 +85,6 @@ unfolding link_result
 link_result-of-error set base known text e not_of_kind is =
     grind (arith, error_text-is-parse_message)
 
--- lines: the command that the task of a command that remembers nothing is of
 pub command-of-each : (own : LineCommand) (command : Command) (known : Known)
     → Remembers (tasks.Each own) command known → Each own ≡ command
 command-of-each own (Each other) known is = ap Each is

@@ -2,7 +2,6 @@
 use Rattle.std.proofs.Common.{◌≡◌, Bool, true, false, refl, sym}
 use Rattle.std.specs.Prelude.{◌↔◌}
 
--- general fact on booleans, for tests of a text: two that are true together are equal
 pub equal-if-true-together : (a b : Bool) → ((a ≡ true) ↔ (b ≡ true)) → a ≡ b
 equal-if-true-together true b both = sym (both.0 refl)
 equal-if-true-together false true both = both.1 refl

@@ -9,20 +9,17 @@ use Rattle.uri_commands.specs.declared.refusal.CommandError.TheVariants.{Target}
 use Rattle.uri_streams.specs.declared.line_result.LineResult.{LineResult as Returned}
 use Rattle.uri_streams.specs.declared.line_result.LineResult.TheVariants as returned
 
--- lines: the message of a text's error is the one that its rejection defines
 pub error_text-is-parse_message : (kind : Kind) (text : List ℕ) (e : ParseError)
     → refusal kind text ≡ Some e → error_text e ≡ parse_message kind text
 error_text-is-parse_message kind text e is = sym
     (ap (λ o. unwrap_or (option_map error_text o) []) is)
 
--- lines: what a command makes of a text that was parsed as the kind is the result of its line
 pub parsed_result-of-kind : (subject : List ℕ) (kind : Kind) (text : List ℕ)
     (line_result : LineResult) → ((true ≡ true) ↔ IsOfKind kind text)
     → line_result ≡ parsed_result subject kind text line_result
 parsed_result-of-kind subject kind text line_result accepts = sym (ap
     (λ b. if b then line_result else Error (subject ++ parse_message kind text)) (accepts.0 refl))
 
--- lines: the error of a text that could not be parsed as the kind is the result of its line
 pub parsed_result-of-error : (subject : List ℕ) (kind : Kind) (text : List ℕ)
     (line_result : LineResult) (e : ParseError) → ((false ≡ true) ↔ IsOfKind kind text)
     → refusal kind text ≡ Some e

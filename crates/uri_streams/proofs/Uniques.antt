@@ -27,7 +27,6 @@ or-as-cond true false = refl
 or-as-cond false true = refl
 or-as-cond false false = refl
 
--- lines: after one text more, `unique` has met it and those before
 has_met-more : (known : Known) (text other : List ℕ)
     → has_met (known ++ text ∷ []) other ≡ cond (bytes_eq text other) true (has_met known other)
 has_met-more known text other = grind (arith, common_steps, bytes_eq-sym, or-as-cond)

@@ -13,11 +13,9 @@ use Rattle.uri_ops.proofs.AsciiForms.EncodedMeanings.{schemes-are-ascii}
 abbrev ascii : List ℕ → Bool
 ascii text = list_all (λ c. ltb c 128) text
 
--- IRIs as URIs: two ASCII texts are ASCII, one after the other
 append-of-ascii-is-ascii : (x y : List ℕ) → ascii x ≡ true → ascii y ≡ true → ascii (x ++ y) ≡ true
 append-of-ascii-is-ascii x y e f = list_all-append (λ c. ltb c 128) x y ∙ and_from _ _ e f
 
--- IRIs as URIs: the two digits of an octet are ASCII
 octet-digits-are-ascii : (rest : List ℕ) → begins_with_hex_digits rest ≡ true
     → ascii (take 2 rest) ≡ true
 unfolding begins_with_hex_digits
@@ -63,13 +61,11 @@ module _ (set : TableSet) where
   text-for-ascii_set-is-ascii lacks text u e = valid-for-ascii-set-is-ascii 0 text refl
       (sym (validity_of_tokens_is_validity_of_bytes (ascii_set set) lacks text u) ∙ e)
 
--- IRIs as URIs: the digits of a port are ASCII
 port-digits-are-ascii : (text : List ℕ) → IsUtf8 text → IsValidFor digit_set text
     → ascii text ≡ true
 port-digits-are-ascii text u e = text-passing-ascii-test-is-ascii is_ascii_digit text
     (sym (valid_ascii_text is_ascii_digit refl text u) ∙ e)
 
--- IRIs as URIs: a host of a set without characters past ASCII is ASCII
 host-for-ascii_set-is-ascii : (names : TableSet) → LacksPercent names
     → (text : List ℕ) (h : HostKind) → IsUtf8 text
     → IsHost (ascii_set names) text h → ascii text ≡ true
@@ -86,7 +82,6 @@ host-for-ascii_set-is-ascii names lacks text (Ipv4 octets) u dotted = dotted-dec
 host-for-ascii_set-is-ascii names lacks text RegName u (valid, other) = text-for-ascii_set-is-ascii
     names lacks text u valid
 
--- IRIs as URIs: an ASCII component, or none, with ASCII delimiters (before, suffix) is ASCII
 delimited-ascii-component-is-ascii : (before suffix : List ℕ) (o : Option (List ℕ))
     → ascii before ≡ true
     → ascii suffix ≡ true → IfSome o (λ x. ascii x ≡ true) → ascii (marked before o suffix) ≡ true

@@ -9,7 +9,6 @@ use Rattle.uri_ops.proofs.AsciiForms.EncodedDecodings.{encoded-part-is-valid-for
 use Rattle.uri_ops.proofs.AsciiForms.EncodedPaths.{encoding-of-append-is-append, ascii-text-is-its-own-encoding, encoding-keeps-leading-delimiter}
 use Rattle.uri_ops.proofs.AsciiForms.EncodedComponents.{encoding-keeps-delimiters}
 
--- IRIs as URIs: a component's set without its characters past ASCII is a component's set
 ascii_set-is-component-set : (marks : List ℕ) (set : TableSet) → IsComponentSet marks set
     → IsComponentSet marks (ascii_set set)
 ascii_set-is-component-set marks set w = grind (arith, nat_tests)
@@ -20,7 +19,6 @@ ascii_kind-has-component-sets : (kind : Kind) → HasComponentSets kind
     → HasComponentSets (ascii_kind kind)
 ascii_kind-has-component-sets kind sets = grind (arith, nat_tests, ascii_set-is-component-set)
 
--- IRIs as URIs: a text whose bytes pass an ASCII test is ASCII
 pub text-passing-ascii-test-is-ascii : (test : ℕ → Bool) (text : List ℕ)
     → list_all (is_ascii_in test) text ≡ true → list_all (λ c. ltb c 128) text ≡ true
 text-passing-ascii-test-is-ascii test [] e = refl
@@ -29,13 +27,11 @@ text-passing-ascii-test-is-ascii test (c ∷ text) e =
     and_from _ _ (and_parts (ltb c 128) (test c) p.0).0
     (text-passing-ascii-test-is-ascii test text p.1)
 
--- IRIs as URIs: an ASCII address is ASCII in its brackets too
 pub bracketed-ascii-address-is-ascii : (address : List ℕ) → list_all (λ c. ltb c 128) address ≡ true
     → list_all (λ c. ltb c 128) (bracketed address) ≡ true
 bracketed-ascii-address-is-ascii address e = list_all-append (λ c. ltb c 128) address (codes "]")
     ∙ and_from _ _ e refl
 
--- IRIs as URIs: the characters of an IP address are ASCII
 pub address-text-is-ascii : (text : List ℕ) → is_address_text text ≡ true
     → list_all (λ c. ltb c 128) text ≡ true
 unfolding is_address_text
@@ -131,7 +127,6 @@ pub encoding-and-recomposing-authority-swap : (p : AuthorityParts)
 encoding-and-recomposing-authority-swap p =
     grind (arith, encoding-of-append-is-append, encoding-keeps-delimiters)
 
--- IRIs as URIs: encoding characters past ASCII leaves the digits of a port
 port-digits-are-unchanged-when-encoded : (text : List ℕ)
     → IsUtf8 text → IsValidFor digit_set text → encode_past_ascii text ≡ text
 port-digits-are-unchanged-when-encoded text u e = ascii-text-is-its-own-encoding text

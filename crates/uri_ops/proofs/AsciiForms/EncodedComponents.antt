@@ -31,7 +31,6 @@ pub encoding-and-recomposing-swap : (p : Components)
 encoding-and-recomposing-swap p =
     grind (arith, nat_tests, encoding-of-append-is-append, encoding-keeps-delimiters)
 
--- IRIs as URIs: a text has a scheme exactly if it does when encoded
 encoding-keeps-has_scheme : (text : List ℕ) → IsUtf8 text
     → has_scheme (encode_past_ascii text) ≡ has_scheme text
 encoding-keeps-has_scheme text u =
@@ -52,7 +51,6 @@ encoded-scheme-lacks-its-ends (Some s) u h = (
   encoding-keeps-lacked-delimiters (codes ":/?#") refl s u h.1,
 )
 
--- IRIs as URIs: a path that is empty or begins with `/` is so when encoded
 encoded-abempty-path-is-abempty : (path : List ℕ) → IsAbemptyPath path
     → IsAbemptyPath (encode_past_ascii path)
 encoded-abempty-path-is-abempty path h = ⊎_elim (λ e. inl
@@ -71,7 +69,6 @@ encoded-authority-lacks-its-ends (Some a) path u h = (
   encoded-abempty-path-is-abempty path h.1,
 )
 
--- IRIs as URIs: an encoded query, if there is one, has no `#`
 encoded-query-lacks-its-end : (o : Option (List ℕ)) → IfSome o IsUtf8 → IfSome o (λ q. Lacks
     (codes "#") q) → IfSome (option_map encode_past_ascii o) (λ q. Lacks (codes "#") q)
 encoded-query-lacks-its-end None u h = tt
@@ -84,7 +81,6 @@ absent-component-is-absent-when-encoded : (o : Option (List ℕ)) (x y : Bool)
 absent-component-is-absent-when-encoded None x y e h = e ∙ h
 absent-component-is-absent-when-encoded (Some a) x y e h = tt
 
--- IRIs as URIs: a split of a text into components, encoded, is a split of the encoded text
 encoded-text-splits-into-encoded-components : (text : List ℕ) (p : Components) → IsUtf8 text
     → AreUtf8 p → IsSplitOf text p → IsSplitOf (encode_past_ascii text) (encoded_components p)
 encoded-text-splits-into-encoded-components text p u v split = record {
@@ -99,7 +95,6 @@ encoded-text-splits-into-encoded-components text p u v split = record {
       split.no_authority;
 }
 
--- IRIs as URIs: the components of an encoded text are the components of the text, each encoded
 pub components-of-encoded-text-are-encoded : (text : List ℕ) → IsUtf8 text
     → components (encode_past_ascii text) ≡ encoded_components (components text)
 components-of-encoded-text-are-encoded text u = only-split-is-components (encode_past_ascii text)

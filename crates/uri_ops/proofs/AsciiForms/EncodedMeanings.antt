@@ -36,7 +36,6 @@ pub schemes-are-unchanged-when-encoded : (o : Option (List ℕ))
 schemes-are-unchanged-when-encoded None h = refl
 schemes-are-unchanged-when-encoded (Some s) h = ap Some (scheme-is-unchanged-when-encoded s h.0 h.1)
 
--- IRIs as URIs: encoding characters past ASCII brings no `:` into the first segment of a path
 encoding-adds-no-colon-first : (path : List ℕ) → IsUtf8 path → has_colon_in_first_segment path
     ≡ false → has_colon_in_first_segment (encode_past_ascii path) ≡ false
 encoding-adds-no-colon-first path u e =
@@ -50,7 +49,6 @@ encoding-adds-no-colon-first path u e =
         (codes ":") (encode_past_ascii s) (encoding-keeps-lacked-delimiters (codes ":") refl s v
         (test-of-delimiters-gives-lacks (codes ":") s (lacks-gives-lacks_any 58 s f))))
 
--- IRIs as URIs: an encoded component is valid for its set without characters past ASCII
 encoded-component-is-for-ascii_set : (set : TableSet)
     → set.pct_encoded ≡ true → (o : Option (List ℕ)) → IfSome o (λ x. is_set_text set x ≡ true)
     → IfSome (option_map encode_past_ascii o) (λ x. is_set_text (ascii_set set) x ≡ true)

@@ -23,7 +23,6 @@ pub encoding-of-nil-is-nil : encode_past_ascii [] ≡ []
 unfolding encode_past_ascii
 encoding-of-nil-is-nil = refl
 
--- IRIs as URIs: encoding characters past ASCII leaves an ASCII byte
 pub encoding-starts-with-ascii-byte : (b : ℕ) (x : List ℕ) → b < 128 → encode_past_ascii (b ∷ x)
     ≡ b ∷ encode_past_ascii x
 unfolding encode_past_ascii
@@ -46,7 +45,6 @@ ascii-text-is-its-own-encoding (c ∷ text) e =
     encoding-starts-with-ascii-byte c text (ltb-true c 128 p.0)
     ∙ ap (λ t. c ∷ t) (ascii-text-is-its-own-encoding text p.1)
 
--- IRIs as URIs: a text in UTF-8 is a list of bytes
 utf8-text-is-bytes : (text : List ℕ) → IsUtf8 text → list_all is_byte text ≡ true
 utf8-text-is-bytes text u = ap (list_all is_byte) (sym u.1.1) ∙ char_bytes u.0 u.1.0
   where
@@ -83,14 +81,11 @@ module _ (p : ℕ → Bool) (percent : p 37 ≡ true)
       → list_all p (encode_past_ascii text) ≡ true
   encoding-keeps-tests text u e = encoded-bytes-pass-test text (utf8-text-is-bytes text u) e
 
--- IRIs as URIs: a character that an octet may be made of is none of the delimiters that octets lack
 character-of-octets-is-no-delimiter : (marks : List ℕ) → list_all is_outside_octets marks ≡ true
     → (c : ℕ) → is_outside_octets c ≡ false → is_one_of marks c ≡ false
 character-of-octets-is-no-delimiter marks e c f = false_from_ne_true _
     (λ m. both_ways _ f (test_holds_of_each is_outside_octets marks e c m))
 
--- IRIs as URIs: a text without some delimiters lacks them after
--- its characters past ASCII are encoded too
 pub encoding-keeps-lacked-delimiters : (marks : List ℕ) → list_all is_outside_octets marks ≡ true
     → (text : List ℕ) → IsUtf8 text → Lacks marks text → Lacks marks (encode_past_ascii text)
 encoding-keeps-lacked-delimiters marks not_in_octets text u lacks = test-of-delimiters-gives-lacks
@@ -136,7 +131,6 @@ encoding-keeps-two-slashes x = grind (
   no-leading-slash-no-two-slashes,
 )
 
--- IRIs as URIs: a text that is empty or begins with a delimiter is so when encoded
 encoding-keeps-empty-or-delimited : (marks : List ℕ) → list_all is_outside_octets marks ≡ true
     → (x : List ℕ) → IsEmptyOrMarked marks x → IsEmptyOrMarked marks (encode_past_ascii x)
 encoding-keeps-empty-or-delimited marks not_in_octets [] begins = subst (IsEmptyOrMarked marks)
@@ -158,7 +152,6 @@ encoding-and-cutting-swap marks not_in_octets x u v =
     (encoding-keeps-empty-or-delimited _ not_in_octets _ cut.begins) in
     (ap (before_any marks) whole ∙ parts.0, ap (from_any marks) whole ∙ parts.1)
 
--- IRIs as URIs: a path is encoded segment by segment
 encoding-of-slashed-is-by-segment : (segs : List (List ℕ))
     → encode_past_ascii (slashed segs) ≡ slashed (map encode_past_ascii segs)
 unfolding slashed
@@ -184,7 +177,6 @@ unfolding slashed
 segments-of-utf8-path-are-utf8 s rest u = segments-of-joined-utf8-are-utf8 s rest
     (utf8_around_ascii_byte [] 47 (s ++ slashed rest) (lit< tt) u).1
 
--- IRIs as URIs: a segment is a dot segment exactly if it is when encoded
 encoding-keeps-dot-segments : (s : List ℕ) → is_utf8 s ≡ true → KeepsDots encode_past_ascii s
 encoding-keeps-dot-segments s e =
     let u = IsUtf8-from_is_utf8 s e in
@@ -195,7 +187,6 @@ encoding-keeps-dot-segments s e =
       double = double-dot-by-decoded-bytes (encode_past_ascii s) s v u same;
     }
 
--- IRIs as URIs: encoding characters past ASCII adds no slash to a segment
 encoding-adds-no-slash : (s : List ℕ) → is_utf8 s ≡ true → has_slash s ≡ false
     → has_slash (encode_past_ascii s) ≡ false
 encoding-adds-no-slash s e f = lacks_any-gives-lacks 47 (encode_past_ascii s)
@@ -203,7 +194,6 @@ encoding-adds-no-slash s e f = lacks_any-gives-lacks 47 (encode_past_ascii s)
     (encoding-keeps-lacked-delimiters (codes "/") refl s (IsUtf8-from_is_utf8 s e)
     (test-of-delimiters-gives-lacks (codes "/") s (lacks-gives-lacks_any 47 s f))))
 
--- IRIs as URIs: encoded segments have no slash
 encoded-segments-lack-slashes : (segs : List (List ℕ)) → AllPass is_utf8 segs → NoSlashes segs
     → NoSlashes (map encode_past_ascii segs)
 encoded-segments-lack-slashes [] e f = refl
@@ -213,7 +203,6 @@ encoded-segments-lack-slashes (s ∷ rest) e f =
     and_from _ _ (not_from_false _ (encoding-adds-no-slash s p.0 q.0))
     (encoded-segments-lack-slashes rest p.1 q.1)
 
--- IRIs as URIs: removing the dot segments of a path and encoding it may swap
 removing-dots-and-encoding-swap : (path : List ℕ) → IsAbsolute path → IsUtf8 path
     → remove_dot_segments (encode_past_ascii path) ≡ encode_past_ascii (remove_dot_segments path)
 removing-dots-and-encoding-swap = property-of-absolute-path-by-segments _ (λ s rest f u.
@@ -236,7 +225,6 @@ encoding-keeps-underflow = property-of-absolute-path-by-segments _ (λ s rest f 
     ∙ underflows_over-of-mapped-segments _ _ encoding-keeps-dot-segments _
     [] _ p ∙ sym (underflows-by-segments _ f))
 
--- IRIs as URIs: the directory of a path, encoded, is the directory of the encoded path
 pub directory-and-encoding-swap : (path : List ℕ) → IsAbemptyPath path → IsUtf8 path
     → directory (encode_past_ascii path) ≡ encode_past_ascii (directory path)
 unfolding directory
@@ -265,7 +253,6 @@ dotless_if_absolute-and-encoding-swap path u =
       starts,
     )
 
--- IRIs as URIs: putting the guard `/.` before a path and encoding it may swap
 pub guarding-and-encoding-swap : (authority other : Option (List ℕ)) (path : List ℕ)
     → is_absent other ≡ is_absent authority
     → guarded other (encode_past_ascii path) ≡ encode_past_ascii (guarded authority path)

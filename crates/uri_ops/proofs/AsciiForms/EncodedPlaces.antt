@@ -16,14 +16,11 @@ pub encoded-prefix-grows-by-encoded-slice : (old new bytes : List ℕ) (i j : �
 encoded-prefix-grows-by-encoded-slice old new bytes i j h o e =
     grind (arith, nat_tests, encoding-of-append-is-append, take-add i (j - i) bytes)
 
--- IRIs as URIs: a position after a prefix is in the encoded text the length of the encoded prefix
 position-encoded-after-prefix : (text before suffix : List ℕ) (n : ℕ) → text ≡ before ++ suffix
     → n ≡ length before → position_in_encoded text n ≡ length (encode_past_ascii before)
 position-encoded-after-prefix text before suffix n e k =
     ap length (ap encode_past_ascii ((λ i. take (k i) (e i)) ∙ take-append_seam before suffix))
 
--- IRIs as URIs: the positions in an authority after a prefix
--- are in the encoded text those after the encoded prefix
 authority-positions-encoded-after-prefix : (text prefix rest : List ℕ)
     (place : ℕ) (q : AuthorityParts) → text ≡ prefix ++ (recompose_authority q ++ rest)
     → place ≡ length prefix → authority_positions_in_encoded text (authority_parts_at place q)

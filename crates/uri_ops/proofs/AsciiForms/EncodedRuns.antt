@@ -4,8 +4,6 @@ use Rattle.uri_ops.proofs.AsciiForms.EncodedTokens.{octet_text}
 use Rattle.uri_ops.proofs.AsciiForms.EncodedPaths.{encoding-of-append-is-append, encoding-of-nil-is-nil, encoding-starts-with-ascii-byte, encoding-starts-with-octet}
 use Rattle.uri_ops.proofs.Paths.DotStarts.{take-one-more-byte}
 
--- IRIs as URIs: if a prefix is its own encoding, and the next byte is ASCII,
--- the prefix with it is too
 pub ascii-prefix-grows-by-byte : (bytes : List ℕ) (i : ℕ)
     → i < length bytes → get_or bytes i 0 < 128 → encode_past_ascii (take i bytes) ≡ take i bytes
     → encode_past_ascii (take (i + 1) bytes) ≡ take (i + 1) bytes
@@ -18,7 +16,6 @@ ascii-prefix-grows-by-byte bytes i h low e =
       encoding-of-nil-is-nil,
     )
 
--- IRIs as URIs: the encoding of a prefix, and an ASCII run after it, is the encoding of both
 pub encoding-grows-by-ascii-run : (bytes : List ℕ) (i n : ℕ)
     → encode_past_ascii (take n (drop i bytes)) ≡ take n (drop i bytes) → encode_past_ascii
     (take (i + n) bytes) ≡ encode_past_ascii (take i bytes) ++ take n (drop i bytes)
@@ -48,7 +45,6 @@ ascii-run-is-unchanged-when-encoded bytes (suc n) h low =
     (ascii-prefix-grows-by-byte bytes n (omega arith) (low n (omega arith))
     (ascii-run-is-unchanged-when-encoded bytes n (omega arith) (λ k l. low k (omega arith))))
 
--- IRIs as URIs: an ASCII byte adds one byte to the encoded text
 pub ascii-byte-adds-one : (bytes : List ℕ) (i : ℕ) → i < length bytes → get_or bytes i 0 < 128
     → length (encode_past_ascii (take (i + 1) bytes))
     ≡ length (encode_past_ascii (take i bytes)) + 1
@@ -62,7 +58,6 @@ ascii-byte-adds-one bytes i h low =
       encoding-of-nil-is-nil,
     )
 
--- IRIs as URIs: a byte past ASCII makes the encoded text three bytes longer
 pub byte-past-ascii-adds-three : (bytes : List ℕ) (i : ℕ)
     → i < length bytes → 128 ≤ get_or bytes i 0 → length (encode_past_ascii (take (i + 1) bytes))
     ≡ length (encode_past_ascii (take i bytes)) + 3
@@ -98,7 +93,6 @@ pushed-octet-is-encoding old mid new bytes i h high o e =
 pub nothing-pushed-is-encoding : (old : List ℕ) → old ≡ old ++ encode_past_ascii []
 nothing-pushed-is-encoding old = sym (ap (λ t. old ++ t) encoding-of-nil-is-nil ∙ append-nil old)
 
--- IRIs as URIs: a run of n bytes that begins at i ends within the bytes
 pub end-of-run-is-within-bytes : (bytes : List ℕ) (i n : ℕ)
     → i ≤ length bytes → n ≤ length (slice_from bytes i) → i + n ≤ length bytes
 end-of-run-is-within-bytes bytes i n h k = grind (arith, nat_tests, slice_from-is-drop, length-drop)

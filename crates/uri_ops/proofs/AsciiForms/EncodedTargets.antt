@@ -42,15 +42,12 @@ directory-of-utf8-is-utf8 = rooted (λ path. IsUtf8 path → IsUtf8 (directory p
     (parent-segments-pass-test is_utf8 (s ∷ rest) (segments-of-utf8-path-are-utf8 s rest u))
     (and_from _ _ (is_utf8-from_IsUtf8 [] IsUtf8-nil) refl)))))
 
--- IRIs as URIs: the query of a target, of the reference (q) or the base,
--- is encoded as that query is
 choosing-query-and-encoding-swap : (q base : Option (List ℕ))
     → cond (is_some (option_map encode_past_ascii q)) (option_map encode_past_ascii q)
     (option_map encode_past_ascii base) ≡ option_map encode_past_ascii (cond (is_some q) q base)
 choosing-query-and-encoding-swap None base = refl
 choosing-query-and-encoding-swap (Some x) base = refl
 
--- IRIs as URIs: merging two paths and encoding them may swap
 merging-and-encoding-swap : (path p : List ℕ) → IsAbemptyPath path → IsUtf8 path
     → merged (encode_past_ascii path) (encode_past_ascii p) ≡ encode_past_ascii (merged path p)
 merging-and-encoding-swap path p h u =
@@ -136,7 +133,6 @@ encoding-keeps-opaque-rejection base r = grind (
   encoding-keeps-emptiness,
 )
 
--- IRIs as URIs, targets: the path of a base with which a path is merged is empty or begins with `/`
 accepting-base-path-is-rooted : (b t : List ℕ)
     → is_opaque_rejection (components b) (components t) ≡ false → is_none (components t).scheme
     ≡ true → is_empty (components t).path ≡ false → IsAbemptyPath (components b).path
@@ -168,7 +164,6 @@ resolving-and-encoding-swap b t u v =
     (recompose (target_of (encoded_components base) (encoded_components r)))) opaque
     ∙ rejected-results-are-equal _ _ _ _ target ∙ sym (map-of-result_or_error _ _ _ _)
 
--- IRIs as URIs: encoding an absolute path doesn't change whether it underflows
 encoding-keeps-absolute-path-underflow : (path : List ℕ) → IsUtf8 path
     → (starts 47 (encode_past_ascii path) && underflows (encode_past_ascii path))
     ≡ (starts 47 path && underflows path)
@@ -209,7 +204,6 @@ target-is-target-of-encoded allowed b t target u v h = (
   λ no. encoding-keeps-target-underflow b t target u v h.0 ∙ h.1 no,
 )
 
--- general fact on results, for targets of IRIs as URIs: one that is Ok has a target
 ok-result-has-target : (r : Result (List ℕ) TargetError) → is_ok r ≡ true → (target : List ℕ)
     × (r ≡ Ok target)
 ok-result-has-target (Ok target) e = (target, refl)

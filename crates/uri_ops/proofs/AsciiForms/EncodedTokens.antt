@@ -11,7 +11,6 @@ has_two_hex_digits v =
     (is_ascii_hexdigit high && is_ascii_hexdigit low)
     && eqb (16 * digit_value high + digit_value low) v
 
--- IRIs as URIs: the digits of the `%XX` of a byte have its value
 pub byte-digits-have-its-value : (v : ℕ) → v < 256 → has_two_hex_digits v ≡ true
 byte-digits-have-its-value v h = agree_below_at has_two_hex_digits (λ _. true) 256 v refl h
 
@@ -51,18 +50,15 @@ scalar-is-below-0x110000 c s = grind (arith, nat_tests)
 unfoldable pub is_byte : ℕ → Bool
 is_byte b = ltb b 256
 
--- general fact on numbers, for IRIs as URIs: one below 256 is a byte
 number-below-256-is-byte : (b : ℕ) → b < 256 → is_byte b ≡ true
 unfolding is_byte
 number-below-256-is-byte b h = lt-ltb b 256 h
 
--- IRIs as URIs: a character in UTF-8 is a list of bytes
 pub utf8-of-character-is-bytes : (c : ℕ) → IsScalar c → list_all is_byte (encode_utf8 c) ≡ true
 unfolding encode_utf8
 utf8-of-character-is-bytes c s =
     grind (arith, nat_tests, scalar-is-below-0x110000, number-below-256-is-byte)
 
--- IRIs as URIs: bytes past ASCII are encoded as one `%XX` each
 bytes-past-ascii-encode-to-octets : (bs : List ℕ) → list_all is_no_ascii_byte bs ≡ true
     → flat_map encode_byte_past_ascii bs ≡ flat_map octet_text bs
 bytes-past-ascii-encode-to-octets [] e = refl
@@ -74,7 +70,6 @@ bytes-past-ascii-encode-to-octets (b ∷ bs) e =
     not_low : (b : ℕ) → is_no_ascii_byte b ≡ true → ltb b 128 ≡ false
     not_low b e = grind (arith, nat_tests)
 
--- IRIs as URIs: the bytes of a character are encoded as the character is
 encoding-of-character-bytes : (c : ℕ) → flat_map encode_byte_past_ascii (encode_utf8 c)
     ≡ encoded_char c
 encoding-of-character-bytes c =
@@ -85,7 +80,6 @@ encoding-of-character-bytes c =
       character-past-ascii-has-no-ascii-byte,
     )
 
--- IRIs as URIs: a text is encoded character by character
 encoding-is-character-by-character : (cs : List ℕ) → encode_past_ascii (encode_utf8_all cs)
     ≡ encoded_chars cs
 unfolding encode_past_ascii encoded_chars
@@ -93,22 +87,18 @@ encoding-is-character-by-character [] = refl
 encoding-is-character-by-character (c ∷ cs) =
     grind (arith, common_steps, encoding-of-character-bytes, encoding-is-character-by-character cs)
 
--- IRIs as URIs: the digits that an octet is written with are ASCII
 hex-digit-glyphs-are-ascii : (v : ℕ) → v < 256
     → (ltb (digit_glyph true (v / 16)) 128 && ltb (digit_glyph true (v % 16)) 128) ≡ true
 hex-digit-glyphs-are-ascii v h = grind (arith, nat_tests, agree_below_at)
 
--- IRIs as URIs: the byte is ASCII
 abbrev is_ascii_byte : ℕ → Bool
 is_ascii_byte c = ltb c 128
 
--- IRIs as URIs: the `%XX` of a byte is ASCII
 octet_text-of-byte-is-ascii : (b : ℕ) → is_byte b ≡ true → list_all is_ascii_byte (octet_text b)
     ≡ true
 unfolding is_byte
 octet_text-of-byte-is-ascii b e = grind (arith, nat_tests, hex-digit-glyphs-are-ascii)
 
--- IRIs as URIs: the `%XX` of bytes are ASCII
 octet_texts-of-bytes-are-ascii : (bs : List ℕ) → list_all is_byte bs ≡ true
     → list_all is_ascii_byte (flat_map octet_text bs) ≡ true
 octet_texts-of-bytes-are-ascii [] e = refl
@@ -117,7 +107,6 @@ octet_texts-of-bytes-are-ascii (b ∷ bs) e =
     list_all-append is_ascii_byte (octet_text b) (flat_map octet_text bs)
     ∙ and_from _ _ (octet_text-of-byte-is-ascii b p.0) (octet_texts-of-bytes-are-ascii bs p.1)
 
--- IRIs as URIs: encoded characters are ASCII
 encoded-characters-are-ascii : (cs : List ℕ) → all_scalars cs ≡ true
     → list_all is_ascii_byte (encoded_chars cs) ≡ true
 unfolding encoded_chars
@@ -131,7 +120,6 @@ encoded-characters-are-ascii (c ∷ cs) e =
     ∙ octet_texts-of-bytes-are-ascii (encode_utf8 c) (utf8-of-character-is-bytes c p.0))
     (cases_lt c 128)) (encoded-characters-are-ascii cs p.1)
 
--- IRIs as URIs: an encoded text is ASCII
 encoded-text-is-ascii : (text : List ℕ) → IsUtf8 text
     → list_all is_ascii_byte (encode_past_ascii text) ≡ true
 encoded-text-is-ascii text u =
@@ -168,7 +156,6 @@ tokens-begin-with-octets (b ∷ bs) cs e =
     ap tokens_from_chars (append_assoc (octet_text b) _ cs) ∙ tokens-begin-with-octet b _ p.0
     ∙ ap (λ ts. Octet b ∷ ts) (tokens-begin-with-octets bs cs p.1)
 
--- IRIs as URIs: a character past ASCII is encoded as a text that begins with `%` (37)
 encoded-past-ascii-begins-with-percent : (c : ℕ) (cs : List ℕ) → 128 ≤ c
     → get_or (encoded_chars (c ∷ cs)) 0 0 ≡ 37
 unfolding encoded_chars
@@ -211,19 +198,16 @@ tokens-of-encoded-character c cs s e ih = grind (
   utf8-of-character-is-bytes,
 )
 
--- IRIs as URIs, tokens: an octet is `%` (37) and two hexadecimal digits
 pct-encoded-is-percent-and-hex-digits : (c h l : ℕ) → is_pct_encoded c h l ≡ true
     → (eqb c 37 && (is_ascii_hexdigit h && is_ascii_hexdigit l)) ≡ true
 unfolding is_pct_encoded
 pct-encoded-is-percent-and-hex-digits c h l e = e
 
--- IRIs as URIs, tokens: the empty text does not begin with two hexadecimal digits
 empty-text-begins-with-no-hex-digits : (cs : List ℕ) → cs ≡ [] → begins_with_hex_digits cs ≡ false
 unfolding begins_with_hex_digits
 empty-text-begins-with-no-hex-digits [] e = refl
 empty-text-begins-with-no-hex-digits (c ∷ cs) e = cc
 
--- IRIs as URIs, tokens: a single character is not two hexadecimal digits
 one-character-is-not-two-hex-digits : (d : ℕ) → begins_with_hex_digits (d ∷ []) ≡ false
 unfolding begins_with_hex_digits
 one-character-is-not-two-hex-digits d = and_right _ _ refl
@@ -255,7 +239,6 @@ tokens-of-encoded-octet c h l rest e ih =
         let q = and_parts (is_ascii_hexdigit h) (is_ascii_hexdigit l) p.1 in
         (percent_low c p.0, hexdigit_is_ascii h q.0, hexdigit_is_ascii l q.1)
 
--- IRIs as URIs: the tokens of encoded characters are those of the characters, each encoded
 tokens-of-encoded-characters : (cs : List ℕ) → all_scalars cs ≡ true
     → tokens_from_chars (encoded_chars cs) ≡ flat_map encoded_token (tokens_from_chars cs)
 unfolding tokens_from_chars encoded_chars
@@ -273,7 +256,6 @@ tokens-of-encoded-characters (c ∷ h ∷ l ∷ rest) s =
     (λ e. tokens-of-encoded-character c (h ∷ l ∷ rest) s (chars_not_pct_encoded_begin_no_octet c h
     l rest e) (tokens-of-encoded-characters (h ∷ l ∷ rest) p.1)) (cases_Bool (is_pct_encoded c h l))
 
--- IRIs as URIs: the tokens of an encoded text are those of the text, each encoded
 pub tokens-of-encoded-text : (text : List ℕ) → IsUtf8 text
     → tokens (encode_past_ascii text) ≡ flat_map encoded_token (tokens text)
 tokens-of-encoded-text text u =
@@ -285,21 +267,18 @@ tokens-of-encoded-text text u =
     ∙ tokens-of-encoded-characters u.0 u.1.0 ∙ ap (λ cs. flat_map encoded_token
     (tokens_from_chars cs)) (sym (ap chars same ∙ chars-encodes u.0 u.1.0))
 
--- IRIs as URIs: an encoded token decodes to the bytes of the token
 encoded-token-has-same-bytes : (t : Token) → bytes_decoded_from (encoded_token t)
     ≡ bytes_of_one_token t
 encoded-token-has-same-bytes (Octet value) = refl
 encoded-token-has-same-bytes (Char c) =
     grind (arith, nat_tests, append-nil, octets_decode_to_their_bytes)
 
--- IRIs as URIs: encoded tokens decode to the bytes of the tokens
 encoded-tokens-have-same-bytes : (ts : List Token) → bytes_decoded_from (flat_map encoded_token ts)
     ≡ bytes_decoded_from ts
 encoded-tokens-have-same-bytes [] = refl
 encoded-tokens-have-same-bytes (t ∷ ts) =
     grind (arith, common_steps, encoded-token-has-same-bytes, encoded-tokens-have-same-bytes ts)
 
--- IRIs as URIs: an encoded text decodes to the same bytes as the text
 pub encoding-keeps-decoded-bytes : (text : List ℕ) → IsUtf8 text
     → bytes_decoded_from (tokens (encode_past_ascii text)) ≡ bytes_decoded_from (tokens text)
 encoding-keeps-decoded-bytes text u = ap bytes_decoded_from (tokens-of-encoded-text text u)

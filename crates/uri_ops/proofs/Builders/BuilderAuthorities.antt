@@ -25,14 +25,12 @@ pub authority-text-from-rule : (kind : Kind) (text : List ℕ)
 unfolding is_authority_text
 authority-text-from-rule kind text u e = and_from _ _ (is_utf8-from_IsUtf8 text u) e
 
--- building: an authority by the sets of encoders is one of the kind, if the sets are the kind's
 pub authority-text-from-encoders : (kind : Kind) (users names : TableSet) → users ≡ kind.userinfo
     → names ≡ kind.reg_name → (text : List ℕ) → IsUtf8 text
     → is_authority_for users names text ≡ true → is_authority_text kind text ≡ true
 authority-text-from-encoders kind users names u n text utf8 e =
     authority-text-from-rule kind text utf8 (sym (λ i. is_authority_for (u i) (n i) text) ∙ e)
 
--- building: an authority of which only the userinfo is built has the empty text as its host
 empty-text-is-host : (names : TableSet) → (h : HostKind) × IsHost names [] h
 empty-text-is-host names =
     (is_authority_for-sound names names [] (empty_is_authority names names)).host
@@ -115,7 +113,6 @@ module _ (kind : Kind) (sets : HasComponentSets kind) where
         port = valid;
       })
 
--- building: the empty text is an authority
 pub empty-text-is-authority : (kind : Kind) → is_authority_text kind [] ≡ true
 empty-text-is-authority kind = authority-text-from-rule kind [] (ascii-bytes-are-utf8 [] refl)
     (empty_is_authority kind.userinfo kind.reg_name)

@@ -3,7 +3,6 @@ use Rattle.uri_ops.proofs.Common.{common_steps, ◌≡◌, ℕ, Bool, true, fals
 use Rattle.uri_ops.proofs.Builders.BuilderSteps.{text-with-authority-is-draft, text-with-fragment-is-draft, text-with-path-is-draft, text-with-query-is-draft, text-with-scheme-is-draft}
 use Rattle.uri_ops.proofs.Builders.Drafting.{IsDraftOfParts, absent-part-has-no-length}
 
--- building: what a step adds to the draft that is taken, it adds to what the builder held
 pub step-adds-to-contents : {A : Type 0} (change : A → BuilderParts → BuilderParts) (given part : A)
     (contents taken made new : BuilderParts) → (change part contents).failed ≡ contents.failed
     → given ≡ part → taken ≡ contents → AddsUnlessFailed (change given) taken made → new ≡ made
@@ -28,8 +27,6 @@ pub valid_utf8_is_text_for_set : (set : TableSet) (x : List ℕ)
 unfolding is_text_for
 valid_utf8_is_text_for_set set x u e = and_from _ _ (is_utf8-from_IsUtf8 x u) e
 
--- building: a text that is valid for an encoder's set is valid
--- for the kind's, if the sets are equal
 pub valid-utf8-is-text-for-encoder : (own set : TableSet) → own ≡ set → (x : List ℕ) → IsUtf8 x
     → is_valid_for own x ≡ true → is_text_for set x ≡ true
 valid-utf8-is-text-for-encoder own set same x u e = valid_utf8_is_text_for_set set x u
@@ -41,8 +38,6 @@ pub scheme-rule-gives-scheme-text : (x : List ℕ) → IsUtf8 x → is_scheme x 
 unfolding is_scheme_text
 scheme-rule-gives-scheme-text x u e = and_from _ _ (is_utf8-from_IsUtf8 x u) e
 
--- building: the parts that a draft holds are those before, changed,
--- unless it is marked failed (f, g)
 pub change-of-parts-unless-failed : (change : BuilderParts → BuilderParts)
     (before after : Lengths) (text new : List ℕ) (f g : Bool) → (g ≡ false → f ≡ false)
     → (g ≡ false → parts_in after new false ≡ change (parts_in before text false))
@@ -121,7 +116,6 @@ module _ (a : Draft) (x : List ℕ) where
   draft-with-fragment lacks whole = text-with-fragment-is-draft a.lengths text (a.ok whole) x
       (absent-part-has-no-length 1 a.lengths.fragment from_fragment (lacks whole))
 
--- building: the parts of a draft b that goes on from draft a by a text are those of a, changed
 pub change-of-draft-by-appending : (change : BuilderParts → BuilderParts)
     (a b : Draft) (lengths : Lengths) (more : List ℕ) → (b.failed ≡ false → a.failed ≡ false)
     → b.lengths ≡ lengths → (b.failed ≡ false → string_bytes b.text ≡ string_bytes a.text ++ more)

@@ -11,7 +11,6 @@ abbrev pub ExtendsAuthority : Kind → (List ℕ → Bool) → (List ℕ → Boo
 ExtendsAuthority kind takes then x = (a : List ℕ) → is_authority_text kind a ≡ true → takes a ≡ true
     → (is_authority_text kind (a ++ x) ≡ true) × (then (a ++ x) ≡ true)
 
--- building: a userinfo with its `@` continues an authority that is empty
 pub userinfo-extends-authority : (kind : Kind)
     → HasComponentSets kind → (user : List ℕ) → IsUtf8 user → is_valid_for kind.userinfo user ≡ true
     → ExtendsAuthority kind is_empty lacks_host_and_port (user ++ codes "@")
@@ -27,14 +26,12 @@ host-extends-open-authority kind sets host h = λ a e t. let p = host-extends-au
     host e t h in
     (p.rule, ap (λ (q : _). is_none q.port) p.parts)
 
--- building: an authority that has no port is one with `:` and digits after it
 authority-with-port-is-authority : (kind : Kind) → HasComponentSets kind → (digits : List ℕ)
     → IsUtf8 digits → is_valid_for digit_set digits ≡ true → (a : List ℕ) → is_authority_text kind a
     ≡ true → lacks_port a ≡ true → is_authority_text kind (a ++ (codes ":" ++ digits)) ≡ true
 authority-with-port-is-authority kind sets digits u valid a e t =
     (port-extends-authority kind sets a digits e t u valid).rule
 
--- building: `:` and digits continue an authority that has no port
 pub port-extends-open-authority : (kind : Kind) → HasComponentSets kind → (digits : List ℕ)
     → is_text_for digit_set digits ≡ true
     → ExtendsAuthority kind lacks_port any_authority (codes ":" ++ digits)

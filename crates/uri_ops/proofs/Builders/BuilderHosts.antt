@@ -18,7 +18,6 @@ unfolding any_ascii
 digit-or-dot-is-ascii c (inl range) = grind (arith, nat_tests)
 digit-or-dot-is-ascii c (inr dot) = grind (arith, nat_tests)
 
--- building: the text of an IPv4 address is a host
 pub ipv4-text-is-host : (names : TableSet) (text octets : List ℕ) → IsIpv4Text text octets
     → IsHostText names text
 ipv4-text-is-host names text octets h = record {
@@ -27,7 +26,6 @@ ipv4-text-is-host names text octets h = record {
   host = (Ipv4 octets, h);
 }
 
--- building: the text of an IPv6 address in brackets is a host
 pub bracketed-ipv6-text-is-host : (names : TableSet) (text segments : List ℕ)
     → IsIpv6Text text segments → IsHostText names (bracketed text)
 bracketed-ipv6-text-is-host names text segments h = record {
@@ -53,14 +51,12 @@ valid-name-is-host names percent outside text u valid =
 decimal-digit-is-ascii-digit : (d : ℕ) → digit_value d < 10 → is_ascii_in is_ascii_digit d ≡ true
 decimal-digit-is-ascii-digit d e = let range = digit_from_value d e in grind (arith, nat_tests)
 
--- building: the decimal digits of a number are ASCII digits
 decimal-digits-are-ascii-digits : (digits : List ℕ) → AllDigits 10 digits
     → list_all (is_ascii_in is_ascii_digit) digits ≡ true
 decimal-digits-are-ascii-digits [] h = refl
 decimal-digits-are-ascii-digits (d ∷ digits) h = and_from _ _ (decimal-digit-is-ascii-digit d h.0)
     (decimal-digits-are-ascii-digits digits h.1)
 
--- building: a number in decimals is a port
 pub decimal_number_is_port : (n : ℕ) → n < 2 ^ 64 → is_text_for digit_set (decimal n) ≡ true
 decimal_number_is_port n fits =
     let part = ascii-in-test-is-set-text _ _ refl refl (λ c e. e) _

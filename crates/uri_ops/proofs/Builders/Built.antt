@@ -51,11 +51,9 @@ first_build_error scheme authority path = cond
     (cond (has_authority path) (Some PathStartsWithDoubleSlash) (cond (not (is_some scheme)
     && has_colon_in_first_segment path) (Some FirstPathSegmentContainsColon) None))
 
--- general fact on options, for a builder's error: one that is there is not None
 some-is-not-none : {A : Type 0} {x : A} → Some x ≡ None → ⊥
 some-is-not-none e = false≢true (sym (ap is_some e))
 
--- building: if a test alone decides an error (x) and there is none, the test passed
 no-error-means-test-passed : (t : Bool) (x : BuildError) → cond t None (Some x) ≡ None → t ≡ true
 no-error-means-test-passed true x e = refl
 no-error-means-test-passed false x e = absurd (some-is-not-none e)
@@ -83,7 +81,6 @@ abempty-is-empty-or-slash-first (c ∷ path) (inl e) = absurd (cons_not_nil e)
     cons_not_nil e = false≢true (ap is_empty e)
 abempty-is-empty-or-slash-first (c ∷ path) (inr t) = eq_true_from_IsTrue _ t
 
--- building: a path is accepted after the scheme and the authority if there is no error
 path-without-build-error-is-accepted : (scheme authority : Option (List ℕ)) (path : List ℕ)
     → first_build_error scheme authority path ≡ None → IsAcceptedPath scheme authority path
 unfolding first_build_error
@@ -101,7 +98,6 @@ path-without-build-error-is-accepted None None path e =
 path-without-build-error-is-accepted (Some s) None path e =
     grind (arith, nat_tests, no-error-means-no-cause)
 
--- building: if a path is accepted after the scheme and the authority there is no error
 accepted-path-has-no-build-error : (scheme authority : Option (List ℕ)) (path : List ℕ)
     → IsAcceptedPath scheme authority path → first_build_error scheme authority path ≡ None
 unfolding first_build_error
@@ -111,7 +107,6 @@ accepted-path-has-no-build-error None None path p = cond-false _ _ _ p.no_author
     ∙ cond-false _ _ _ (not-true _ p.no_colon)
 accepted-path-has-no-build-error (Some s) None path p = cond-false _ _ _ p.no_authority
 
--- building: the error of a builder's parts is the first that its path has
 refusal-is-first_build_error : (p : BuilderParts)
     → refusal p ≡ first_build_error p.scheme p.authority (unwrap_or p.path [])
 unfolding build_error_of_path first_build_error
@@ -221,7 +216,6 @@ module _ (kind : Kind) (sets : HasComponentSets kind) (p : BuilderParts)
         components = same;
       }
 
--- building: parts whose text has them as its components are accepted
 pub text-of-parts-is-accepted : (kind : Kind) (p : BuilderParts) → IsTextOfParts kind p
     → refusal p ≡ None
 text-of-parts-is-accepted kind p w =

@@ -6,7 +6,6 @@ use Rattle.uri_ops.proofs.Builders.Drafting.{meet_rules-gives-rules}
 use Rattle.uri_ops.proofs.Builders.PartRules.{in-order-parts-pass-their-test, failure-is-kept}
 use Rattle.uri_ops.proofs.Normal.WrittenPlaces.{length-with-delimiter-after, length-with-delimiter-before}
 
--- building: an authority is as long as userinfo, host and port with their delimiters
 authority-is-as-long-as-its-parts : (users names : TableSet) (a : List ℕ)
     → is_authority_for users names a ≡ true
     → length a ≡ delimited_length 1 (authority_parts a).userinfo + length (authority_parts a).host
@@ -28,12 +27,10 @@ pub host-range-from-ends : (users names : TableSet) (place : HostRange) (a : Lis
 host-range-from-ends users names place a e s t =
     grind (arith, nat_tests, authority-is-as-long-as-its-parts)
 
--- building: in an empty authority the host is from 0 to 0
 pub empty-authority-has-host-range : (place : HostRange) → place.start ≡ 0 → place.end ≡ 0
     → IsHostAt place []
 empty-authority-has-host-range place s t = record { start = s; end = t; inside = omega (arith, t) }
 
--- building: if there is an authority, the positions are those of its host
 pub host-range-of-some-authority : (place : HostRange) (o : Option (List ℕ))
     → IsHostAtIfSome place o → IfSome o (IsHostAt place)
 host-range-of-some-authority place None has = tt

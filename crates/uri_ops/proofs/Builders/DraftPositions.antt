@@ -4,32 +4,27 @@ use Rattle.uri_ops.specs.declared.build.places.HostRange.{HostRange}
 use Rattle.uri_ops.proofs.Builders.DraftHosts.{host-range-of-some-authority}
 use Rattle.uri_ops.proofs.Normal.WrittenPlaces.{length-with-delimiter-after, length-with-delimiter-before}
 
--- building: the length of a component with its delimiters, from the length of the component
 delimited_len-of-component-length : (marks : ℕ) (o : Option (List ℕ))
     → delimited_len marks (option_map length o) ≡ delimited_length marks o
 delimited_len-of-component-length marks None = refl
 delimited_len-of-component-length marks (Some x) = refl
 
--- building: the length of a path, from the length if there is one
 delimited_len-of-path-length : (o : Option (List ℕ)) → delimited_len 0 (option_map length o)
     ≡ length (unwrap_or o [])
 delimited_len-of-path-length None = refl
 delimited_len-of-path-length (Some x) = omega arith
 
--- building: the positions of an authority at place, from its length and the host's positions
 authority-positions-from-its-length : (place : ℕ) (host : HostRange) (o : Option (List ℕ))
     → IfSome o (IsHostAt host) → option_map (authority_positions_from_length place host)
     (option_map length o) ≡ option_map (authority_at place) o
 authority-positions-from-its-length place host None h = refl
 authority-positions-from-its-length place host (Some a) h = grind (arith, nat_tests)
 
--- building: the end of a query at place, from its length
 query-end-from-its-length : (place : ℕ) (o : Option (List ℕ)) → option_map (λ n. place
     + 1 + n) (option_map length o) ≡ option_map (λ q. place + 1 + length q) o
 query-end-from-its-length place None = refl
 query-end-from-its-length place (Some q) = refl
 
--- building: the positions of all parts, from their lengths and the host's positions
 positions-from-lengths-are-of-parts : (p : BuilderParts) (host : HostRange)
     → IfSome p.authority (IsHostAt host)
     → positions_from_lengths (lengths_of p) host ≡ positions_of (as_components p)
@@ -56,13 +51,11 @@ part-lengths-are-within-text p =
       length-with-delimiter-before,
     )
 
--- building: the host begins within the authority, if there is one
 host-start-is-within-authority-length : (host : HostRange) (o : Option (List ℕ))
     → IfSome o (IsHostAt host) → IfSome (option_map length o) (λ n. host.start ≤ n)
 host-start-is-within-authority-length host None h = tt
 host-start-is-within-authority-length host (Some a) h = omega (arith, h.start, h.end, h.inside)
 
--- building: the host ends within the authority, if there is one
 host-end-is-within-authority-length : (host : HostRange) (o : Option (List ℕ))
     → IfSome o (IsHostAt host) → IfSome (option_map length o) (λ n. host.end ≤ n)
 host-end-is-within-authority-length host None h = tt

@@ -11,19 +11,16 @@ after_part-skips-delimited-component before suffix marks e None rest = refl
 after_part-skips-delimited-component before suffix marks e (Some x) rest =
     grind (arith, common_steps)
 
--- building: a component after its delimiter (before) is found in the text by its length
 part_in-finds-delimited-component : (before suffix : List ℕ) (o : Option (List ℕ)) (rest : List ℕ)
     → part_in (length before) (option_map length o) (marked before o suffix ++ rest) ≡ o
 part_in-finds-delimited-component before suffix None rest = refl
 part_in-finds-delimited-component before suffix (Some x) rest =
     grind (arith, nat_tests, append_assoc, drop-append_seam, take-append_seam)
 
--- building: a path has no delimiters around it
 path-is-component-without-delimiters : (o : Option (List ℕ)) → unwrap_or o [] ≡ marked [] o []
 path-is-component-without-delimiters None = refl
 path-is-component-without-delimiters (Some x) = sym (append-nil x)
 
--- general fact on records, for a builder's parts: they are equal if each component is
 builder-parts-of-equal-components : {s1 s2 a1 a2 p1 p2 q1 q2 f1 f2 : Option (List ℕ)}
     {failed : Bool}
     → s1 ≡ s2 → a1 ≡ a2 → p1 ≡ p2 → q1 ≡ q2 → f1 ≡ f2 → (let x : BuilderParts = record {
@@ -68,13 +65,11 @@ parts_in-of-own-text p =
     (ap (part_in 1 (option_map length p.fragment)) (to_fragment ∙ sym (append-nil F))
     ∙ part_in-finds-delimited-component (codes "#") [] p.fragment [])
 
--- building: the parts that are read back by their lengths from their text are the parts
 parts-from-their-lengths-and-text : (p : BuilderParts) (lengths : Lengths) (text : List ℕ)
     → lengths ≡ lengths_of p → text ≡ parts_text p → parts_in lengths text p.failed ≡ p
 parts-from-their-lengths-and-text p lengths text n t = ap (λ l. parts_in l text p.failed) n
     ∙ ap (λ x. parts_in (lengths_of p) x p.failed) t ∙ parts_in-of-own-text p
 
--- building: the text of a builder's parts with their lengths is a draft
 text-of-parts-is-draft : (p : BuilderParts) (lengths : Lengths) (text : List ℕ) → p.failed ≡ false
     → lengths ≡ lengths_of p → text ≡ parts_text p → IsDraft lengths text
 text-of-parts-is-draft p lengths text f n t =
@@ -85,8 +80,6 @@ pub record IsDraftOfParts (p : BuilderParts) (lengths : Lengths) (text : List �
   pub draft : IsDraft lengths text
   pub parts : parts_in lengths text false ≡ p
 
--- building: a text is the draft of a builder's parts,
--- if it is their text and the lengths are theirs
 pub text-of-parts-is-their-draft : (p : BuilderParts) (lengths : Lengths) (text : List ℕ) → p.failed
     ≡ false → lengths ≡ lengths_of p → text ≡ parts_text p → IsDraftOfParts p lengths text
 text-of-parts-is-their-draft p lengths text f n t =
@@ -111,38 +104,32 @@ pub rules-give-meet_rules : (kind : Kind) (p : BuilderParts) → MeetsEachRule k
 rules-give-meet_rules kind p r = and_from _ _ r.scheme
     (and_from _ _ r.authority (and_from _ _ r.path (and_from _ _ r.query r.fragment)))
 
--- building: a part that is not there has no length
 pub absent-part-has-no-length : (mark : ℕ) (n : Option ℕ) (text : List ℕ)
     → is_none (part_in mark n text) ≡ true → n ≡ None
 absent-part-has-no-length mark None text e = refl
 absent-part-has-no-length mark (Some n) text e = absurd (false≢true e)
 
--- building: appending `//` and an authority to a scheme recomposes the two
 pub recompose-with-authority-appended : (scheme : Option (List ℕ)) (a : List ℕ)
     → recompose (components_of_parts scheme None [] None None) ++ (codes "//" ++ a)
     ≡ recompose (components_of_parts scheme (Some a) [] None None)
 recompose-with-authority-appended scheme a = grind (arith, nat_tests, append-nil)
 
--- building: appending to an authority that ends the text recomposes the longer authority
 pub recompose-with-longer-authority : (scheme : Option (List ℕ)) (a more : List ℕ)
     → recompose (components_of_parts scheme (Some a) [] None None) ++ more
     ≡ recompose (components_of_parts scheme (Some (a ++ more)) [] None None)
 recompose-with-longer-authority scheme a more = grind (arith, nat_tests, append-nil, append_assoc)
 
--- building: appending a path to scheme and authority recomposes the three
 pub recompose-with-path-appended : (scheme authority : Option (List ℕ)) (x : List ℕ)
     → recompose (components_of_parts scheme authority [] None None) ++ x
     ≡ recompose (components_of_parts scheme authority x None None)
 recompose-with-path-appended scheme authority x = grind (arith, nat_tests, append-nil, append_assoc)
 
--- building: appending `?` and a query recomposes the parts with the query
 pub recompose-with-query-appended : (scheme authority : Option (List ℕ)) (path x : List ℕ)
     → recompose (components_of_parts scheme authority path None None) ++ (codes "?" ++ x)
     ≡ recompose (components_of_parts scheme authority path (Some x) None)
 recompose-with-query-appended scheme authority path x =
     grind (arith, nat_tests, append-nil, append_assoc)
 
--- building: appending `#` and a fragment recomposes the parts with the fragment
 pub recompose-with-fragment-appended : (scheme authority query : Option (List ℕ)) (path x : List ℕ)
     → recompose (components_of_parts scheme authority path query None) ++ (codes "#" ++ x)
     ≡ recompose (components_of_parts scheme authority path query (Some x))

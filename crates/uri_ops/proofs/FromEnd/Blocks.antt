@@ -3,7 +3,6 @@ use Rattle.uri_ops.proofs.Common.{common_steps, ◌≡◌, ◌↔◌, ℕ, ◌<�
 use Rattle.std.proofs.lemmas.List.{append_cancel_right}
 use Rattle.uri_ops.specs.FromEnd.Blocks.{IsLastBlock}
 
--- texts in lower case or not: two texts, one after the other
 cased_texts_append : (lowers : Bool) (one other : List ℕ)
     → cased lowers (one ++ other) ≡ cased lowers one ++ cased lowers other
 cased_texts_append true one other = map-append to_ascii_lowercase one other
@@ -31,7 +30,6 @@ pub slash_is_read : (prefix segment before : List ℕ) (slash : ℕ) → segment
 slash_is_read prefix segment before slash none = rw none (append_assoc prefix (slash ∷ []) before
     ∙ ap (λ t. t ++ slash ∷ before) (sym (append-nil prefix)))
 
--- blocks: what is put at the end of a block that is otherwise empty is the last block
 pub bytes_at_end_are_last_block : (size start : ℕ) (text left before after : List ℕ)
     → length before ≡ size → length after ≡ size → start ≤ size → text ++ drop size before ≡ left
     ++ drop start after → (0 < start → left ≡ []) → IsLastBlock size text left (drop start after)
@@ -46,13 +44,11 @@ last_block_is_taken_off_both size text left block other rest a e = (
   λ same. a.whole ∙ ap (λ t. t ++ block) same ∙ sym e,
 )
 
--- blocks: what ends a text is read as far as there is room
 pub end_is_read : (text end left before after : List ℕ) → end ++ before ≡ left ++ after
     → (text ++ end) ++ before ≡ (text ++ left) ++ after
 end_is_read text end left before after e =
     append_assoc text end before ∙ ap (λ t. text ++ t) e ∙ sym (append_assoc text left after)
 
--- blocks: where nothing is held, the end of a text is read as far as there is room
 pub end_is_read_if_nothing_is_held : (whole held text end left before after : List ℕ)
     → whole ≡ text ++ end → held ≡ [] → end ++ before ≡ left ++ after
     → (whole ++ held) ++ before ≡ (text ++ left) ++ after

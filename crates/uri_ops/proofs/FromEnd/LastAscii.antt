@@ -8,7 +8,6 @@ use Rattle.uri_ops.proofs.FromEnd.LastTokens.{last_char_is_last_token, no_octet_
 use Rattle.uri_ops.proofs.FromEnd.NormalTokens.{last_ascii_is_written_last, last_tokens_are_written_last}
 use Rattle.uri_ops.proofs.Meanings.DecodedOctets.{leading-ascii-octet-decodes-alone}
 
--- unreserved octets: the last octet of a run is decoded by itself, if it is of ASCII
 last_ascii_byte_is_decoded_alone : (set : TableSet) (run : List ℕ) (b : ℕ) → b < 128
     → decode_run set (run ++ b ∷ []) ≡ decode_run set run ++ decode_octet (Octet b) ∷ []
 unfolding decode_after_run decode_run pieces_from
@@ -18,7 +17,6 @@ last_ascii_byte_is_decoded_alone set run b low =
     ∙ flat_map-append (decode_piece set) (utf8_pieces run) (utf8_pieces (b ∷ []))
     ∙ ap (λ ts. decode_run set run ++ ts) (leading-ascii-octet-decodes-alone set b [] low)
 
--- unreserved octets: after a run, the last octet is decoded by itself, if it is of ASCII
 last_ascii_octet_is_decoded_after_run : (set : TableSet) (run : List ℕ) (ts : List Token) (b : ℕ)
     → b < 128 → decode_after_run set run (ts ++ Octet b ∷ [])
     ≡ decode_after_run set run ts ++ decode_octet (Octet b) ∷ []
@@ -30,14 +28,12 @@ last_ascii_octet_is_decoded_after_run set run (Octet u ∷ ts) b low =
 last_ascii_octet_is_decoded_after_run set run (Char d ∷ ts) b low =
     grind (arith, common_steps, last_ascii_octet_is_decoded_after_run set [] ts b low)
 
--- unreserved octets: what an octet of ASCII is decoded to is no formatting character
 decoded_ascii_octet_is_no_formatting : (set : TableSet) (b : ℕ) → b < 128
     → encode_formatting set (decode_octet (Octet b) ∷ []) ≡ decode_octet (Octet b) ∷ []
 decoded_ascii_octet_is_no_formatting set b low =
     ⊎_elim (λ e. rw e (ascii_char_separates_encode_formatting set [] b [] low))
     (λ e. rw e refl) (cases_Bool (is_unreserved b))
 
--- normal texts: a last octet of ASCII is written last, decoded if its character is unreserved
 pub last_ascii_octet_is_written_last : (set : TableSet) (lowers : Bool) (text before : List ℕ)
     (b : ℕ) → EndsIn text before (Octet b ∷ []) → b < 128 → normal_component lowers set text
     ≡ normal_component lowers set before ++ print (lowered_if lowers (decode_octet (Octet b) ∷ []))
@@ -52,23 +48,19 @@ last_ascii_octet_is_written_last set lowers text before b ends low =
       decoded_ascii_octet_is_no_formatting,
     )
 
--- normal texts: no characters are none in any case
 no_characters_are_cased : (lowers : Bool) → cased lowers [] ≡ []
 no_characters_are_cased true = refl
 no_characters_are_cased false = refl
 
--- normal texts: the first of some characters is in the case that all are in
 first_character_is_cased : (lowers : Bool) (c : ℕ) (run : List ℕ)
     → cased lowers (c ∷ run) ≡ lowered_code_if lowers c ∷ cased lowers run
 first_character_is_cased true c run = refl
 first_character_is_cased false c run = refl
 
--- cuts of valid texts: what is after a first byte of ASCII is ASCII that is in no octet too
 ascii_suffix_without_first_byte : (before run : List ℕ) (c : ℕ) → IsAsciiSuffix (before ++ c
     ∷ run) (length before) → IsAsciiSuffix ((before ++ c ∷ []) ++ run) (length (before ++ c ∷ []))
 ascii_suffix_without_first_byte before run c h = grind (arith, common_steps)
 
--- cuts of valid texts: a first byte of ASCII that is in no octet has no `%` before it
 ascii_suffix_begins_in_no_octet : (before run : List ℕ) (c : ℕ)
     → IsAsciiSuffix (before ++ c ∷ run) (length before) → LacksPercentThird (before ++ c ∷ [])
 ascii_suffix_begins_in_no_octet before run c h n third percent = grind (arith, common_steps)
@@ -109,7 +101,6 @@ ascii_run_is_written_last set lowers before (c ∷ run) utf8 valid h =
       valid = ends.valid;
     }
 
--- normal texts: a suffix of ASCII that is in no octet is written last, but for case as it is
 pub ascii_suffix_is_written_last : (set : TableSet) (lowers : Bool) (text : List ℕ) (start : ℕ)
     → IsUtf8 (take start text) → IsValidFor widest_set text → IsAsciiSuffix text start
     → (normal_component lowers set text ≡ normal_component lowers set (take start text)
@@ -125,7 +116,6 @@ ascii_suffix_is_written_last set lowers text start utf8 valid h =
     (sym size) (subst (λ t. IsAsciiSuffix t start) (sym whole) h)) in
     (ap (normal_component lowers set) (sym whole) ∙ written.text, written.valid)
 
--- normal texts: the bytes of a suffix of ASCII that is in no octet are written last
 pub ascii_end_is_written_last : (set : TableSet) (lowers : Bool)
     (bytes text prefix : List ℕ) (start : ℕ) → bytes ≡ text → prefix ≡ take start text
     → IsUtf8 prefix → IsValidFor widest_set text → IsAsciiSuffix bytes start

@@ -1,20 +1,17 @@
 -- Whether the octets of a decodable character end tokens: at most four octets from the end say it.
 use Rattle.uri_ops.proofs.Common.{common_steps, ◌≡◌, ℕ, ◌<◌, ◌≤◌, ◌⊎◌, inl, inr, List, [], ◌∷◌, ◌++◌, length, map, set, refl, sym, ap, ◌∙◌, arith, ⊎_elim, encode_utf8, append-nil, length-append, encode_same, length-encode, len_utf8_bounds, TableSet, Token, Octet, EndInNoOctet, EndInNoDecodable, TokensEndInNoDecodable}
 
--- UTF-8: a character has from one to four bytes
 pub char_has_one_to_four_bytes : (c : ℕ) → (1 ≤ length (encode_utf8 c))
     × (length (encode_utf8 c) ≤ 4)
 char_has_one_to_four_bytes c =
     let bounds = len_utf8_bounds c in
     (omega (arith, length-encode c), omega (arith, length-encode c))
 
--- UTF-8: bytes that begin with a character and are one are that character alone
 pub first_char_is_only_char : (bytes rest : List ℕ) (c d : ℕ) → bytes ≡ encode_utf8 c ++ rest
     → bytes ≡ encode_utf8 d → (c ≡ d) × (rest ≡ [])
 first_char_is_only_char bytes rest c d e f =
     encode_same c d rest [] (sym e ∙ f ∙ sym (append-nil (encode_utf8 d)))
 
--- unreserved octets: octets are equal if their values are
 same_octets_have_same_values : (bs es : List ℕ) → map Octet bs ≡ map Octet es → bs ≡ es
 same_octets_have_same_values [] [] e = refl
 same_octets_have_same_values [] (b ∷ es) e = cc
@@ -25,7 +22,6 @@ same_octets_have_same_values (b ∷ bs) (f ∷ es) e =
     let rest : bs ≡ es = same_octets_have_same_values bs es tail in
     cc
 
--- unreserved octets: octets that end octets have the last of their values
 octets_end_octets : (before : List Token) (bs es : List ℕ)
     → map Octet bs ≡ before ++ map Octet es → (xs : List ℕ) × (bs ≡ xs ++ es)
 octets_end_octets [] bs es e = ([], same_octets_have_same_values bs es e)
@@ -39,7 +35,6 @@ octets_end_octets (t ∷ before) (b ∷ bs) es e =
 abbrev EndInOctet : List Token → Type 0
 EndInOctet ts = (before : List Token) × ((value : ℕ) × (ts ≡ before ++ Octet value ∷ []))
 
--- unreserved octets: tokens that are octets, with those after them, end in an octet
 tokens_within_octets_end_in_octet : (t : Token) (ts : List Token) (bs es : List ℕ)
     → t ∷ (ts ++ map Octet bs) ≡ map Octet es → (length bs < length es) × EndInOctet (t ∷ ts)
 tokens_within_octets_end_in_octet t ts bs [] e = cc
@@ -50,7 +45,6 @@ tokens_within_octets_end_in_octet t (u ∷ ts) bs (f ∷ es) e =
     let rest = tokens_within_octets_end_in_octet u ts bs es tail in
     (omega arith, (t ∷ rest.1.0, (rest.1.1.0, ap (λ us. t ∷ us) rest.1.1.1)))
 
--- unreserved octets: octets that end tokens and octets are among these octets, or they are more
 octets_end_octets_or_are_more : (ts before : List Token) (bs es : List ℕ)
     → ts ++ map Octet bs ≡ before ++ map Octet es
     → ((xs : List ℕ) × (bs ≡ xs ++ es)) ⊎ ((length bs < length es) × EndInOctet ts)
@@ -80,7 +74,6 @@ no_decodable_ends_with_four_octets set all ts bs same four none before c scalar 
     (λ more. let few = char_has_one_to_four_bytes c in absurd (omega arith))
     (octets_end_octets_or_are_more ts before bs (encode_utf8 c) (sym same ∙ e))
 
--- unreserved octets: no decodable character ends no bytes
 pub none_ends_no_bytes : (set : TableSet) → EndInNoDecodable set []
 none_ends_no_bytes set before c scalar decodable e =
     let some = char_has_one_to_four_bytes c in

@@ -2,12 +2,10 @@
 -- octets of a decodable character.
 use Rattle.uri_ops.proofs.Common.{common_steps, ◌≡◌, ℕ, zero, suc, ◌<◌, ◌≤◌, ◌⊎◌, inl, inr, true, false, List, [], ◌∷◌, ◌++◌, length, take, map, refl, sym, ap, ◌∙◌, cond, eqb, arith, ⊎_elim, append_assoc, Option, Some, None, flat_map, IsScalar, encode_utf8, cases_Bool, cond-false, ne_eqb, append-nil, map-append, take_all, drop_all, take-append-le, TableSet, Token, Char, Octet, Piece, WellFormed, IllFormed, ByteRange, piece_bytes, char_of, len_in_ranges, first_piece_tail_len, first_piece, following_ranges, pieces_from, utf8_pieces, IsOfCharacter, is_decodable, decode_piece, decode_run, decode_after_run, decode_tokens, encode_formatting, formatting_as_octets, first_piece_tail_is_within_rest, first_piece_has_first_bytes, pieces_from_are_pieces_after_skipped_bytes, first_piece_is_of_character, char_separates_decoded_tokens, decodable_char_octets_decode_as_char, EndInNoDecodable, TokensEndInNoDecodable}
 
--- UTF-8: no bytes fit no ranges
 no_bytes_fit : (ranges : List ByteRange) → len_in_ranges ranges [] ≡ 0
 no_bytes_fit [] = refl
 no_bytes_fit (range ∷ ranges) = refl
 
--- UTF-8: one more byte fits no further range, or all bytes fit, and it does too
 one_more_byte_fits_or_not : (ranges : List ByteRange) (xs : List ℕ) (v : ℕ)
     → (len_in_ranges ranges (xs ++ v ∷ []) ≡ len_in_ranges ranges xs)
     ⊎ ((len_in_ranges ranges (xs ++ v ∷ []) ≡ suc (length xs))
@@ -17,7 +15,6 @@ one_more_byte_fits_or_not (range ∷ ranges) [] v = grind (arith, no_bytes_fit)
 one_more_byte_fits_or_not (range ∷ ranges) (x ∷ xs) v =
     grind (arith, one_more_byte_fits_or_not ranges xs v)
 
--- UTF-8: one more byte leaves the first piece as it is
 abbrev KeepsFirstPiece : Option (List ByteRange) → ℕ → List ℕ → ℕ → Type 0
 KeepsFirstPiece row b xs v = (first_piece_tail_len row (xs ++ v ∷ []) ≡ first_piece_tail_len row xs)
     × (first_piece row b (xs ++ v ∷ []) ≡ first_piece row b xs)
@@ -50,18 +47,15 @@ one_more_byte_keeps_or_lengthens (Some ranges) b xs v = ⊎_elim (λ same.
           (take_all (len_in_ranges ranges xs) xs (omega arith)),
     )) (one_more_byte_fits_or_not ranges xs v)
 
--- UTF-8: no bytes have no pieces
 no_bytes_have_no_pieces : (k : ℕ) → pieces_from k [] ≡ []
 unfolding pieces_from
 no_bytes_have_no_pieces zero = refl
 no_bytes_have_no_pieces (suc k) = refl
 
--- UTF-8: where as many bytes are skipped as there are, no pieces are left
 no_pieces_after_all_bytes : (k : ℕ) (bytes : List ℕ) → length bytes ≤ k → pieces_from k bytes ≡ []
 no_pieces_after_all_bytes k bytes all = pieces_from_are_pieces_after_skipped_bytes k bytes
     ∙ ap utf8_pieces (drop_all k bytes all) ∙ no_bytes_have_no_pieces 0
 
--- unreserved octets: a piece that is not the bytes of a decodable character is unchanged
 undecodable_piece_is_unchanged : (set : TableSet) (p : Piece) (bytes : List ℕ) → piece_bytes p
     ≡ bytes → IsOfCharacter p → EndInNoDecodable set bytes → decode_piece set p ≡ map Octet bytes
 undecodable_piece_is_unchanged set (IllFormed own) bytes e of none = ap (map Octet) e
@@ -79,7 +73,6 @@ rest_ends_in_no_decodable set x bytes none before c scalar decodable e =
 abbrev decoded_from : TableSet → ℕ → List ℕ → List Token
 decoded_from set k bytes = flat_map (decode_piece set) (pieces_from k bytes)
 
--- unreserved octets: the octets that one more lengthens to a piece are unchanged
 lengthened_piece_is_unchanged : (set : TableSet) (x : ℕ) (xs : List ℕ) (v : ℕ)
     → LengthensFirstPiece (following_ranges x) x xs v → EndInNoDecodable set (x ∷ xs ++ v ∷ [])
     → decoded_from set 0 (x ∷ xs ++ v ∷ []) ≡ decoded_from set 0 (x ∷ xs) ++ Octet v ∷ []
@@ -126,14 +119,12 @@ last_octet_of_run_is_unchanged_from set zero (x ∷ xs) v small none =
     (λ lengthens. lengthened_piece_is_unchanged set x xs v lengthens none)
     (one_more_byte_keeps_or_lengthens row x xs v)
 
--- unreserved octets: the last octet of a run is unchanged, if no decodable character ends there
 last_octet_of_run_is_unchanged : (set : TableSet) (run : List ℕ) (v : ℕ) → EndInNoDecodable set (run
     ++ v ∷ []) → decode_run set (run ++ v ∷ []) ≡ decode_run set run ++ Octet v ∷ []
 unfolding decode_run
 last_octet_of_run_is_unchanged set run v none =
     last_octet_of_run_is_unchanged_from set 0 run v (omega arith) none
 
--- unreserved octets: a run of octets ends in no decodable character if its tokens do not
 run_ends_in_no_decodable : (set : TableSet) (run : List ℕ) (v : ℕ)
     → TokensEndInNoDecodable set (map Octet run ++ Octet v ∷ [])
     → EndInNoDecodable set (run ++ v ∷ [])
@@ -141,7 +132,6 @@ run_ends_in_no_decodable set run v none before c scalar decodable e =
     none (map Octet before) c scalar decodable (sym (map-append Octet run (v ∷ []))
     ∙ ap (map Octet) e ∙ map-append Octet before (encode_utf8 c))
 
--- unreserved octets: after a run, the last octet is unchanged, if no decodable character ends there
 last_octet_is_unchanged_after_run : (set : TableSet) (run : List ℕ) (ts : List Token) (v : ℕ)
     → TokensEndInNoDecodable set (map Octet run ++ (ts ++ Octet v ∷ []))
     → decode_after_run set run (ts ++ Octet v ∷ []) ≡ decode_after_run set run ts ++ Octet v ∷ []
@@ -163,23 +153,18 @@ last_octet_is_unchanged_after_run set run (Char d ∷ ts) v none =
 abbrev pub decoded : TableSet → List Token → List Token
 decoded set ts = encode_formatting set (decode_tokens set ts)
 
--- unreserved octets: the last octet is unchanged, if no decodable character ends there
 pub last_octet_is_unchanged : (set : TableSet) (ts : List Token) (v : ℕ)
     → TokensEndInNoDecodable set (ts ++ Octet v ∷ [])
     → decoded set (ts ++ Octet v ∷ []) ≡ decoded set ts ++ Octet v ∷ []
 last_octet_is_unchanged set ts v none =
     grind (arith, common_steps, last_octet_is_unchanged_after_run)
 
--- unreserved octets: a last character is decoded alone: it becomes octets if it is a formatting
--- character
 pub last_character_is_decoded_alone : (set : TableSet) (ts : List Token) (c : ℕ)
     → decoded set (ts ++ Char c ∷ []) ≡ decoded set ts ++ formatting_as_octets set (Char c)
 unfolding decode_after_run decode_run pieces_from
 last_character_is_decoded_alone set ts c =
     grind (arith, common_steps, char_separates_decoded_tokens)
 
--- unreserved octets: the last octets that are a decodable character become it, or are unchanged if
--- it -- is a formatting character
 pub last_decodable_is_decoded : (set : TableSet) (ts : List Token) (c : ℕ)
     → IsScalar c → is_decodable set c ≡ true → decoded set (ts ++ map Octet (encode_utf8 c))
     ≡ decoded set ts ++ formatting_as_octets set (Char c)

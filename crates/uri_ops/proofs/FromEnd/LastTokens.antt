@@ -14,14 +14,12 @@ percent_is_no_second_digit : (c d : ℕ) → is_pct_encoded c d 37 ≡ false
 unfolding is_pct_encoded
 percent_is_no_second_digit c d = and_right _ _ (and_right _ _ refl)
 
--- cuts of valid texts: a character before `%` (37) is a token by itself
 char_before_percent_is_own_token : (c : ℕ) (ds : List ℕ)
     → tokens_from_chars (c ∷ 37 ∷ ds) ≡ Char c ∷ tokens_from_chars (37 ∷ ds)
 unfolding tokens_from_chars
 char_before_percent_is_own_token c [] = refl
 char_before_percent_is_own_token c (d ∷ ds) = cond-false _ _ _ (percent_is_no_first_digit c d)
 
--- cuts of valid texts: `%` (37) separates the tokens before it from those from it on
 percent_separates_tokens_of_chars : (cs ds : List ℕ)
     → tokens_from_chars (cs ++ 37 ∷ ds) ≡ tokens_from_chars cs ++ tokens_from_chars (37 ∷ ds)
 unfolding tokens_from_chars
@@ -36,7 +34,6 @@ percent_separates_tokens_of_chars (c ∷ high ∷ low ∷ cs) ds =
       percent_separates_tokens_of_chars (high ∷ low ∷ cs) ds,
     )
 
--- cuts of valid texts: `%` (37) separates the tokens of the text before it from those from it on
 percent_separates_tokens : (before after : List ℕ) → IsUtf8 before
     → tokens (before ++ 37 ∷ after) ≡ tokens before ++ tokens (37 ∷ after)
 percent_separates_tokens before after u =
@@ -46,7 +43,6 @@ percent_separates_tokens before after u =
     ∙ percent_separates_tokens_of_chars (chars before) (chars after)
     ∙ ap (λ t. tokens before ++ tokens_from_chars t) (sym from)
 
--- cuts of valid texts: a text is valid before and from a `%` (37)
 texts_around_percent_are_valid : (before after : List ℕ) → IsUtf8 before
     → IsValidFor widest_set (before ++ 37 ∷ after)
     → IsValidFor widest_set before × IsValidFor widest_set (37 ∷ after)
@@ -54,7 +50,6 @@ unfolding is_valid_for
 texts_around_percent_are_valid before after u valid =
     grind (arith, common_steps, tokens, percent_separates_tokens)
 
--- cuts of valid texts: the last octet, where the text is cut before its `%`
 octet_from_last_percent : (text : List ℕ) (n : ℕ) → IsUtf8 text → IsValidFor widest_set text
     → n + 3 ≡ length text → get_or text n 0 ≡ 37 → IsValidFor widest_set (take n text)
     × (tokens text ≡ tokens (take n text) ++ tokens (drop n text)) × BeginsWithOctet (drop n text)
@@ -77,7 +72,6 @@ octet_from_last_percent text n u valid long percent =
           (IsUtf8-drop text n u boundary) (ap (is_valid_for widest_set) cut ∙ both.1) some first,
     )
 
--- cuts of valid texts: the empty text has no tokens
 pub empty_text_has_no_tokens : (text : List ℕ) → text ≡ [] → tokens text ≡ []
 unfolding tokens_from_chars
 empty_text_has_no_tokens text e = ap tokens e ∙ ap tokens_from_chars chars-nil
@@ -89,7 +83,6 @@ pub record EndsInOctetAt (text : List ℕ) (n : ℕ) : Type 0 where
   pub ends : EndsIn text (take n text)
       (Octet (16 * digit_value (get_or text (n + 1) 0) + digit_value (get_or text (n + 2) 0)) ∷ [])
 
--- cuts of valid texts: an octet ends a text if the third byte from the end, the n-th, is `%` (37)
 pub percent_third_from_end_begins_last_octet : (text : List ℕ) (n : ℕ) → IsUtf8 text
     → IsValidFor widest_set text → n + 3 ≡ length text → get_or text n 0 ≡ 37 → EndsInOctetAt text n
 percent_third_from_end_begins_last_octet text n u valid long percent =
@@ -121,7 +114,6 @@ record RepresentsLast (text : List ℕ) (ts : List Token) (t : Token) : Type 0 w
   tokens : Represents before ts
   token : RepresentsToken last t
 
--- tokens printed and read: a text that represents tokens represents the last after the others
 represents_last_token_last : (text : List ℕ) (ts : List Token) (t : Token)
     → Represents text (ts ++ t ∷ []) → RepresentsLast text ts t
 unfolding Represents
@@ -147,7 +139,6 @@ represents_last_token_last text (u ∷ ts) t h =
 abbrev EndsInPercentThird : List ℕ → Type 0
 EndsInPercentThird text = (n : ℕ) × ((n + 3 ≡ length text) × (get_or text n 0 ≡ 37))
 
--- cuts of valid texts: if the last token is an octet, the third byte from the end is `%` (37)
 last_octet_has_percent_third : (text : List ℕ) (ts : List Token) (value : ℕ) → IsUtf8 text
     → IsValidFor widest_set text → tokens text ≡ ts ++ Octet value ∷ [] → EndsInPercentThird text
 last_octet_has_percent_third text ts value u valid e =
@@ -164,12 +155,10 @@ last_octet_has_percent_third text ts value u valid e =
       ),
     )
 
--- cuts of valid texts: without a `%` (37) as the third byte from the end, no octet ends a text
 pub no_octet_ends_text : (text : List ℕ) → IsUtf8 text → IsValidFor widest_set text
     → LacksPercentThird text → EndInNoOctet (tokens text)
 no_octet_ends_text text u valid none ts value e = grind (arith, last_octet_has_percent_third)
 
--- cuts of valid texts: the last of these characters is a token by itself, or an octet ends them
 last_char_is_own_token_or_ends_octet : (cs : List ℕ) (c : ℕ)
     → (tokens_from_chars (cs ++ c ∷ []) ≡ tokens_from_chars cs ++ Char c ∷ []) ⊎ ((ts : List Token)
     × ((value : ℕ) × (tokens_from_chars (cs ++ c ∷ []) ≡ ts ++ Octet value ∷ [])))
@@ -203,7 +192,6 @@ last_char_is_scalar text before c u prefix joined =
     let first = cons_from_encodes one.0 [] c (one.1.1 ∙ sym (append-nil (encode_utf8 c))) in
     (and_parts _ _ (sym (ap all_scalars first.1) ∙ one.1.0)).0
 
--- cuts of valid texts: the last character of a text that no octet ends is its last token
 pub last_char_is_last_token : (text before : List ℕ) (c : ℕ) → IsUtf8 text → IsUtf8 before
     → text ≡ before ++ encode_utf8 c → IsValidFor widest_set text → EndInNoOctet (tokens text)
     → EndsIn text before (Char c ∷ [])
@@ -223,13 +211,11 @@ last_char_is_last_token text before c all u joined valid none =
     }) (λ octet. absurd (none octet.0 octet.1.0 (ap tokens_from_chars cs ∙ octet.1.1)))
     (last_char_is_own_token_or_ends_octet (chars before) c)
 
--- cuts of valid texts: what ends a text ends an equal one
 pub equal_text_ends_in_same_octet : (bytes text prefix before : List ℕ) (value same : ℕ)
     → bytes ≡ text → prefix ≡ before → value ≡ same → EndsIn bytes prefix (Octet value ∷ [])
     → EndsIn text before (Octet same ∷ [])
 equal_text_ends_in_same_octet bytes text prefix before value same e f g ends = grind (arith, tokens)
 
--- cuts of valid texts: the last byte of a text that no octet ends is its last token, if it is ASCII
 pub last_ascii_is_last_token : (bytes text before : List ℕ) (c : ℕ) → bytes ≡ text
     → before ≡ take (length bytes - 1) text → 0 < length bytes
     → c ≡ get_or bytes (length bytes - 1) 0 → c < 128 → IsUtf8 text → IsUtf8 before

@@ -3,12 +3,10 @@ use Rattle.uri_ops.proofs.Common.{arith, ◌≡◌, ℕ, Bool, true, false, List
 use Rattle.uri_ops.specs.FromEnd.Addresses.{ipv6_host_text}
 use Rattle.uri_ops.proofs.FromEnd.NormalTokens.{nothing_is_left}
 
--- normal texts: of an empty component nothing is written
 pub nothing_is_written : (lowers : Bool) (set : TableSet) → normal_component lowers set [] ≡ []
 nothing_is_written lowers set =
     sym (append-nil (normal_component lowers set [])) ∙ nothing_is_left lowers set [] [] refl refl
 
--- normal texts: two pieces that are read one after the other are what each is
 pub two_pieces : (whole first second x y : List ℕ) → whole ≡ first ++ second → first ≡ x
     → second ≡ y → whole ≡ x ++ y
 two_pieces whole first second x y e f h = e ∙ ap (λ t. t ++ second) f ∙ ap (λ t. x ++ t) h
@@ -24,15 +22,12 @@ pub second_piece_alone : (whole first second text : List ℕ) → whole ≡ firs
     → second ≡ text → whole ≡ text
 second_piece_alone whole first second text e none f = e ∙ ap (λ t. t ++ second) none ∙ f
 
--- normal texts: a text without length is empty
 pub empty_if_tested : (text : List ℕ) → eqb (length text) 0 ≡ true → text ≡ []
 empty_if_tested text e = nil_from_length text (eqb-true (length text) 0 e)
 
--- normal texts: a text with a length is not empty
 pub not_empty_if_tested : (text : List ℕ) → eqb (length text) 0 ≡ false → text ≡ [] → ⊥
 not_empty_if_tested text e none = let same = ap (λ t. eqb (length t) 0) none in cc
 
--- normal paths: under a scheme a path that begins with `/` (47) is without its dot segments
 pub normal_path_under_scheme : (set : TableSet) (scheme authority : Option (List ℕ))
     (path : List ℕ) → is_some scheme ≡ true → starts 47 path ≡ true
     → guarded authority (print (decode_unreserved set (remove_dot_segments path)))
@@ -41,7 +36,6 @@ normal_path_under_scheme set None authority path e s = cc
 normal_path_under_scheme set (Some scheme) authority path e s =
     ap (λ t. guarded authority (print (decode_unreserved set t))) (sym (cond-true _ _ _ s))
 
--- normal paths: of components, the normal text of the path is the normal path of their meaning
 pub normal_path_of_components : (kind : Kind) (ports : PortFunction) (p : Components)
     → (let m = components_meaning kind ports p in
     normal_path_text kind.path p.scheme (option_map normal_authority m.authority) p.path
@@ -73,7 +67,6 @@ host_without_address_is_lowered names host s none =
     by_value None e = refl
     by_value (Some segments) e = cc
 
--- normal hosts: an IPv6 address is the text of its numbers
 pub host_with_address_is_its_text : (names : TableSet) (host : List ℕ) → starts 91 host ≡ true
     → (ipv6_host_text (host_kind host) ≡ [] → ⊥)
     → ipv6_host_text (host_kind host) ≡ host_text (host_meaning names host (host_kind host))

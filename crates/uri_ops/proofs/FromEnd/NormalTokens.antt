@@ -7,7 +7,6 @@ use Rattle.uri_ops.proofs.FromEnd.LastOctets.{decoded, last_octet_is_unchanged, 
 use Rattle.uri_ops.proofs.FromEnd.LastTokens.{empty_text_has_no_tokens}
 use Rattle.uri_ops.proofs.FromEnd.LastDecodables.{char_has_one_to_four_bytes}
 
--- normal texts: which characters a set never has literally, as the code tests it
 pub never_literal_by_tests : (set : TableSet) (c : ℕ) → is_never_literal set c ≡ (allows set 0x200E
     && set.pct_encoded && (c == 0x200E || c == 0x200F || is_in_range 0x202A 0x202E c))
 unfolding is_never_literal is_bidi_formatting
@@ -16,39 +15,33 @@ never_literal_by_tests set c = ap (λ b. b && set.pct_encoded && (c == 0x200E
 
 pub ruleset never_literals = (never_literal_by_tests, nat_tests)
 
--- normal texts: a formatting character is written as octets
 pub never_literal_char_is_written_as_octets : (set : TableSet) (lowers : Bool) (c : ℕ)
     → is_never_literal set c ≡ true → print (lowered_if lowers (formatting_as_octets set (Char c)))
     ≡ print (map Octet (encode_utf8 c))
 never_literal_char_is_written_as_octets set lowers c e = ap (λ ts. print (lowered_if lowers ts))
     (cond-true _ _ _ e) ∙ ap print (octets-are-unchanged-when-lowered lowers (encode_utf8 c))
 
--- normal texts: any other character is written in lower case
 lowered_char_is_written : (set : TableSet) (c : ℕ) → is_never_literal set c ≡ false → print
     (lowered_if true (formatting_as_octets set (Char c))) ≡ encode_utf8 (to_ascii_lowercase c)
 lowered_char_is_written set c e = ap (λ ts. print (lowered_if true ts)) (cond-false _ _ _ e)
     ∙ append-nil (encode_utf8 (to_ascii_lowercase c))
 
--- normal texts: any other character is written as it is
 char_is_written : (set : TableSet) (c : ℕ) → is_never_literal set c ≡ false
     → print (lowered_if false (formatting_as_octets set (Char c))) ≡ encode_utf8 c
 char_is_written set c e =
     ap (λ ts. print (lowered_if false ts)) (cond-false _ _ _ e) ∙ append-nil (encode_utf8 c)
 
--- normal texts: the octets of some bytes have some text
 octets_of_bytes_have_text : (bytes : List ℕ) → 0 < length bytes
     → 0 < length (print (map Octet bytes))
 octets_of_bytes_have_text [] some = absurd (omega arith)
 octets_of_bytes_have_text (b ∷ bytes) some = omega arith
 
--- normal texts: a character that is not never literal has some text
 literal_char_has_text : (set : TableSet) (lowers : Bool) (c : ℕ) → is_never_literal set c ≡ false
     → 0 < length (print (lowered_if lowers (formatting_as_octets set (Char c))))
 literal_char_has_text set true c e =
     grind (arith, char_has_one_to_four_bytes, lowered_char_is_written)
 literal_char_has_text set false c e = grind (arith, char_has_one_to_four_bytes, char_is_written)
 
--- normal texts: a character has some text
 pub char_has_text : (set : TableSet) (lowers : Bool) (c : ℕ) (text : List ℕ)
     → text ≡ print (lowered_if lowers (formatting_as_octets set (Char c))) → 0 < length text
 char_has_text set lowers c text same =
@@ -66,7 +59,6 @@ octet_is_written : (lowers : Bool) (value : ℕ)
 octet_is_written true value = refl
 octet_is_written false value = refl
 
--- normal texts: what the last tokens of a text become is written last
 pub last_tokens_are_written_last : (set : TableSet) (lowers : Bool) (text before : List ℕ)
     (ts us : List Token) → EndsIn text before ts → decoded set (tokens before ++ ts)
     ≡ decoded set (tokens before) ++ us → normal_component lowers set text
@@ -74,7 +66,6 @@ pub last_tokens_are_written_last : (set : TableSet) (lowers : Bool) (text before
 last_tokens_are_written_last set lowers text before ts us ends e =
     grind (arith, decoded, cased_append, tokens)
 
--- normal texts: a last character is written last
 pub last_char_is_written_last : (set : TableSet) (lowers : Bool) (text before : List ℕ) (c : ℕ)
     → EndsIn text before (Char c ∷ [])
     → normal_component lowers set text ≡ normal_component lowers set before
@@ -82,7 +73,6 @@ pub last_char_is_written_last : (set : TableSet) (lowers : Bool) (text before : 
 last_char_is_written_last set lowers text before c ends = last_tokens_are_written_last set
     lowers text before (Char c ∷ []) _ ends (last_character_is_decoded_alone set (tokens before) c)
 
--- normal texts: a decodable character whose octets are last is written last
 pub last_decodable_is_written_last : (set : TableSet) (lowers : Bool) (text before : List ℕ) (c : ℕ)
     → EndsInDecodable set text before c
     → normal_component lowers set text ≡ normal_component lowers set before
@@ -96,7 +86,6 @@ last_decodable_is_written_last set lowers text before c ends =
       tokens,
     )
 
--- normal texts: a last octet is written last, if no decodable character ends there
 pub last_octet_is_written_last : (set : TableSet) (lowers : Bool) (text before : List ℕ) (value : ℕ)
     → EndsIn text before (Octet value ∷ [])
     → TokensEndInNoDecodable set (tokens text) → normal_component lowers set text
@@ -111,7 +100,6 @@ last_octet_is_written_last set lowers text before value ends none =
       octet_is_written,
     )
 
--- normal texts: of an empty component nothing is written
 empty_component_is_empty : (lowers : Bool) (set : TableSet) (text : List ℕ) → text ≡ []
     → normal_component lowers set text ≡ []
 unfolding decode_after_run decode_run pieces_from
@@ -120,20 +108,17 @@ empty_component_is_empty true set text e =
 empty_component_is_empty false set text e =
     ap (λ ts. print (lowered_if false (decoded set ts))) (empty_text_has_no_tokens text e)
 
--- normal texts: where no text is left, and nothing is held, nothing is left
 pub nothing_is_left : (lowers : Bool) (set : TableSet) (text held : List ℕ)
     → eqb (length text) 0 ≡ true → held ≡ [] → normal_component lowers set text ++ held ≡ []
 nothing_is_left lowers set text held none empty =
     grind (arith, common_steps, empty_component_is_empty)
 
--- normal texts: an ASCII character is no formatting character, in lower case if `lowers` or not
 ascii_char_is_lowered_alone : (set : TableSet) (lowers : Bool) (c : ℕ) → c < 128
     → lowered_if lowers (formatting_as_octets set (Char c)) ≡ lowered_if lowers (Char c ∷ [])
 ascii_char_is_lowered_alone set lowers c low = ap (λ ts. lowered_if lowers ts)
     (sym (append-nil (formatting_as_octets set (Char c)))
     ∙ ascii_char_separates_encode_formatting set [] c [] low)
 
--- normal texts: an ASCII character is written as its code, in lower case if `lowers`
 ascii_char_is_written : (set : TableSet) (lowers : Bool) (c : ℕ) → c < 128
     → print (lowered_if lowers (formatting_as_octets set (Char c))) ≡ lowered_code_if lowers c ∷ []
 ascii_char_is_written set true c low = ap print (ascii_char_is_lowered_alone set true c low)
@@ -142,7 +127,6 @@ ascii_char_is_written set true c low = ap print (ascii_char_is_lowered_alone set
 ascii_char_is_written set false c low = ap print (ascii_char_is_lowered_alone set false c low)
     ∙ append-nil (encode_utf8 c) ∙ encode_ascii c low
 
--- normal texts: a last ASCII character is written last, as its code
 pub last_ascii_is_written_last : (set : TableSet) (lowers : Bool) (text before held left : List ℕ)
     (c byte : ℕ) → EndsIn text before (Char c ∷ []) → c < 128 → byte ≡ lowered_code_if lowers c
     → held ≡ [] → left ≡ [] → normal_component lowers set text ++ held

@@ -20,7 +20,6 @@ text-before-slash-is-decodable : (dot : Bool) (left : List ℕ)
 text-before-slash-is-decodable true left h = (decodable-text-splits left [] h).0
 text-before-slash-is-decodable false left h = subst IsDecodableText (append-nil left) h
 
--- segments left: they decode, if the path does
 pub segments_left-are-decodable : (path : List ℕ) (dot : Bool)
     → IsAbsolute path → IsDecodableText path → remove_dot_segments path
     ≡ segments_left path ++ cond dot (codes "/") [] → IsDecodableText (segments_left path)
@@ -33,7 +32,6 @@ segments_left-are-decodable path dot h valid e =
       set-text-is-valid widest_set (remove_dot_segments path) t,
     ))
 
--- paths: the empty one decodes
 pub empty-text-is-decodable : IsDecodableText []
 empty-text-is-decodable = grind (arith, set-text-is-utf8, empty-text-is-set-text, set-text-is-valid)
 

@@ -7,7 +7,6 @@ use Rattle.uri_ops.proofs.Paths.SlashedSegments.{NoSlashes, before_last_slash-of
 use Rattle.uri_ops.proofs.Paths.DotLaws.{property-of-absolute-path-by-segments, rooted, segments-with-empty-last-lack-slashes}
 use Rattle.uri_ops.proofs.Paths.LastSlashes.{before_last_slash-of-directory}
 
--- segments left: they are what the steps over the segments leave
 segments_left-by-steps : (xs : List (List ℕ)) → NoSlashes xs
     → segments_left (slashed xs) ≡ slashed (steps [] xs)
 unfolding segments_left
@@ -36,7 +35,6 @@ with_segment-by-steps false true output s lack =
     sym (before_last_slash-of-slashed-is-popped output lack)
 with_segment-by-steps false false output s lack = slashed-of-push output s
 
--- segments left: a segment without `/` after segments without any
 pushed-segments-lack-slashes : (xs : List (List ℕ)) (s : List ℕ)
     → NoSlashes xs → has_slash s ≡ false → NoSlashes (xs ++ s ∷ [])
 pushed-segments-lack-slashes xs s lack free = appended-segments-pass-test lacks_slash xs (s ∷ [])
@@ -91,8 +89,6 @@ removing-dots-of-pushed-segment xs lack s free =
     ∙ ap (λ t. t ++ cond (is_dot_segment s) (codes "/") []) (sym (segments_left-by-steps all none)
     ∙ ap segments_left (slashed-of-push xs s))
 
--- removing dot segments: what is left of a path is the segments that are left, and a `/` if it ends
--- in a dot segment
 pub removing-dots-leaves-segments_left : (prefix : List ℕ) → IsAbemptyPath prefix
     → (s : List ℕ) → has_slash s ≡ false → remove_dot_segments (prefix ++ 47 ∷ s)
     ≡ segments_left (prefix ++ 47 ∷ s) ++ cond (is_dot_segment s) (codes "/") []
@@ -125,14 +121,12 @@ module _ (s left : List ℕ) where
   other-segment-is-taken e free (suc climbs) some =
       grind (arith, common_steps, other-segment-is-left, before_last_slash-of-append)
 
--- paths: a text that lacks `/` has none
 text-lacking-slash-has-none : (text : List ℕ) → lacks 47 text ≡ true → has_slash text ≡ false
 text-lacking-slash-has-none [] e = refl
 text-lacking-slash-has-none (c ∷ text) e =
     let p = and_parts (not (eqb c 47)) (lacks 47 text) e in
     ap (λ b. b || has_slash text) (not-true _ p.0) ∙ text-lacking-slash-has-none text p.1
 
--- paths: one that is empty or begins with `/`, and lacks `/`, is empty
 path-lacking-slash-is-empty : (path : List ℕ) → IsAbemptyPath path → lacks 47 path ≡ true
     → path ≡ []
 path-lacking-slash-is-empty [] h e = refl
@@ -167,7 +161,6 @@ cut-at-last-slash path h (Some x) found =
       shorter = omega (arith, ap length cut.0, length-append x.0.now (47 ∷ x.1.now));
     }
 
--- paths: one that begins with `/` is not empty
 pub absolute-path-is-not-empty : (path : List ℕ) → IsAbsolute path → path ≡ [] → ⊥
 absolute-path-is-not-empty path h e = false≢true (eq_true_from_IsTrue _ (subst IsAbsolute e h))
 
@@ -176,7 +169,6 @@ pub abempty-path-by-test : (path : List ℕ) → is_abempty_path path ≡ true �
 abempty-path-by-test [] e = inl refl
 abempty-path-by-test (c ∷ path) e = inr (equal-to-true-is-IsTrue _ e)
 
--- paths: one that is empty or begins with `/` passes the test
 pub abempty-path-passes-test : (path : List ℕ) → IsAbemptyPath path → is_abempty_path path ≡ true
 abempty-path-passes-test = rooted (λ path. is_abempty_path path ≡ true) refl
     (λ path h. or_right (is_empty path) _ (eq_true_from_IsTrue _ h))

@@ -10,7 +10,6 @@ use Rattle.std.proofs.lemmas.Int.Digits.{digits_value-lt}
 abbrev Fit16Bits : List ℕ → Type 0
 Fit16Bits segments = All (λ n. n < 2 ^ 16) segments
 
--- meanings of hosts: a group of an IPv6 address has 16 bits
 group-fits-16-bits : (group : List ℕ) (s : ℕ) → IsGroup group s → s < 2 ^ 16
 group-fits-16-bits group s h = grind (arith, nat_tests, digits_value-lt, pow-le-pow_right)
 
@@ -36,11 +35,9 @@ groups-fit-16-bits ipv4 lead text (s ∷ segments) (inl (group, rest, e, is_grou
 groups-fit-16-bits ipv4 lead text (s ∷ segments) (inr (last, octets, allowed, e, dotted, same)) =
     subst Fit16Bits (sym same) (ipv4-segments-fit-16-bits last octets dotted)
 
--- meanings of hosts: the groups that `::` stands for have 16 bits
 zeros-fit-16-bits : (n : ℕ) → Fit16Bits (replicate n 0)
 zeros-fit-16-bits n = All-replicate (λ n. n < 2 ^ 16) n 0 (lit< tt)
 
--- meanings of hosts: the numbers of an IPv6 address have 16 bits
 ipv6-segments-fit-16-bits : (text segments : List ℕ) → IsColonHex text segments → Fit16Bits segments
 ipv6-segments-fit-16-bits text segments (inl h) = groups-fit-16-bits true [] text segments h.0
 ipv6-segments-fit-16-bits text segments (inr h) = subst Fit16Bits (sym h.value) (All-append
@@ -49,7 +46,6 @@ ipv6-segments-fit-16-bits text segments (inr h) = subst Fit16Bits (sym h.value) 
     (groups-fit-16-bits _ [] _ _ h.head_groups) (zeros-fit-16-bits _))
     (groups-fit-16-bits _ [] _ _ h.tail_groups))
 
--- meanings of hosts: an IPv6 address has eight numbers
 ipv6-text-has-eight-segments : (text segments : List ℕ) → IsColonHex text segments
     → length segments ≡ 8
 ipv6-text-has-eight-segments text segments (inl h) = h.1

@@ -4,7 +4,6 @@ use Rattle.uri_ops.proofs.Common.{◌≡◌, ℕ, zero, suc, Bool, true, false, 
 pub use Rattle.uri_parts.proofs.Offered.{is_ascii_in, valid_ascii_text}
 use Rattle.uri_ops.proofs.Meanings.AllowedParts.{is_set_text, set-text-from-utf8}
 
--- meanings of schemes: characters that pass an ASCII test are ASCII
 ascii-in-test-is-ascii : (test : ℕ → Bool) (text : List ℕ) → list_all (is_ascii_in test) text ≡ true
     → IsAscii text
 ascii-in-test-is-ascii test [] e i = omega arith
@@ -22,7 +21,6 @@ ascii-in-test-is-utf8 test text e = IsUtf8-from_ascii text (ascii-in-test-is-asc
 any_char : ℕ → Bool
 any_char c = true
 
--- meanings of schemes: ASCII bytes pass the ASCII test that each character passes
 ascii-bytes-are-ascii-in-any_char : (text : List ℕ) → list_all (λ c. ltb c 128) text ≡ true
     → list_all (is_ascii_in any_char) text ≡ true
 unfolding any_char
@@ -30,7 +28,6 @@ ascii-bytes-are-ascii-in-any_char [] e = refl
 ascii-bytes-are-ascii-in-any_char (c ∷ text) e = let p = and_parts _ _ e in
     and_from _ _ (and_from _ true p.0 refl) (ascii-bytes-are-ascii-in-any_char text p.1)
 
--- meanings of schemes: bytes below 128 are an ASCII text
 pub ascii-bytes-are-ascii-text : (text : List ℕ) → list_all (λ c. ltb c 128) text ≡ true
     → IsAscii text
 ascii-bytes-are-ascii-text text e = ascii-in-test-is-ascii any_char text
@@ -41,7 +38,6 @@ pub ascii-bytes-are-utf8 : (text : List ℕ) → list_all (λ c. ltb c 128) text
 ascii-bytes-are-utf8 text e = ascii-in-test-is-utf8 any_char text
     (ascii-bytes-are-ascii-in-any_char text e)
 
--- meanings of schemes: ASCII characters that pass a test are valid for each set that has them all
 ascii-in-test-is-valid-for-set : (set : TableSet) (test : ℕ → Bool) → test 37 ≡ false
     → ((c : ℕ) → test c ≡ true → set.ascii c ≡ true) → (bs : List ℕ)
     → list_all (is_ascii_in test) bs ≡ true → valid_from set 0 bs ≡ true
@@ -71,7 +67,6 @@ ascii-in-test-is-set-text set test percent lacks within text e =
       ascii-in-test-is-valid-for-set,
     )
 
--- meanings of schemes: characters that pass one ASCII test pass a wider one
 pub ascii-passes-wider-test : (test wide : ℕ → Bool) → ((c : ℕ) → test c ≡ true → wide c ≡ true)
     → (text : List ℕ) → list_all (is_ascii_in test) text ≡ true
     → list_all (is_ascii_in wide) text ≡ true
@@ -82,7 +77,6 @@ ascii-passes-wider-test test wide within (c ∷ text) e =
     and_from _ _ (and_from _ _ q.0 (within c q.1))
     (ascii-passes-wider-test test wide within text p.1)
 
--- meanings of schemes: a text passes an ASCII test in lower case, if each lowered character does
 pub lowered-ascii-passes-test : (test : ℕ → Bool) → ((c : ℕ) → test c ≡ true
     → test (to_ascii_lowercase c) ≡ true) → (text : List ℕ) → list_all (is_ascii_in test) text
     ≡ true → list_all (is_ascii_in test) (str_to_ascii_lowercase text) ≡ true
@@ -99,27 +93,22 @@ pub lowering-is-idempotent : (text : List ℕ)
 lowering-is-idempotent [] = refl
 lowering-is-idempotent (c ∷ text) = cc (lowercase-lowercase c, lowering-is-idempotent text)
 
--- meanings of schemes: a character of a scheme is one in lower case
 lowered-scheme-character-is-scheme-character : (c : ℕ) → is_scheme_char c ≡ true
     → is_scheme_char (to_ascii_lowercase c) ≡ true
 lowered-scheme-character-is-scheme-character c e = grind (arith, nat_tests)
 
--- meanings of schemes: a letter in lower case is a letter
 lowered-letter-is-letter : (c : ℕ) → is_ascii_alphabetic c ≡ true
     → is_ascii_alphabetic (to_ascii_lowercase c) ≡ true
 lowered-letter-is-letter c e = grind (arith, nat_tests)
 
--- meanings of schemes: a text whose first byte is a letter has one in lower case too
 lowered-text-keeps-leading-letter : (text : List ℕ) → is_ascii_alphabetic (slice_index text 0)
     ≡ true → is_ascii_alphabetic (slice_index (str_to_ascii_lowercase text) 0) ≡ true
 lowered-text-keeps-leading-letter [] e = e
 lowered-text-keeps-leading-letter (c ∷ text) e = lowered-letter-is-letter c e
 
--- meanings of schemes: `%` (37) is not a character of a scheme
 pub percent-is-no-scheme-character : is_scheme_char 37 ≡ false
 percent-is-no-scheme-character = refl
 
--- meanings of schemes: a scheme in lower case is a scheme
 pub lowered-scheme-is-scheme : (text : List ℕ) → IsUtf8 text → is_scheme text ≡ true
     → is_scheme (str_to_ascii_lowercase text) ≡ true
 lowered-scheme-is-scheme text u e =

@@ -9,7 +9,6 @@ pub record AppendsAscii (old new : List ℕ) : Type 0 where
   pub unchanged : take (length old) new ≡ old
   pub ascii : IsAscii (drop (length old) new)
 
--- ASCII suffixes: a text is the old one and its suffix
 text-is-old-and-suffix : (old new : List ℕ) → AppendsAscii old new
     → new ≡ old ++ drop (length old) new
 text-is-old-and-suffix old new a = sym (take-append-drop (length old) new)
@@ -19,7 +18,6 @@ text-is-old-and-suffix old new a = sym (take-append-drop (length old) new)
 pub no-suffix-is-ascii : (old : List ℕ) → AppendsAscii old old
 no-suffix-is-ascii old = grind (arith, nat_tests, drop_all, take_all, IsAscii-nil)
 
--- ASCII suffixes: after more ASCII is appended, the suffix is ASCII
 pub longer-suffix-is-ascii : (old out new more : List ℕ) → AppendsAscii old out
     → new ≡ out ++ more → IsAscii more → AppendsAscii old new
 longer-suffix-is-ascii old out new more a pushed ascii =
@@ -37,7 +35,6 @@ pub ascii-suffix-keeps-utf8 : (old new : List ℕ) → IsUtf8 old → AppendsAsc
 ascii-suffix-keeps-utf8 old new utf8 a = subst IsUtf8 (sym (text-is-old-and-suffix old new a))
     (IsUtf8-append old _ utf8 (IsUtf8-from_ascii _ a.ascii))
 
--- ASCII suffixes: if a suffix and the rest complete what was before, they are the text
 pub suffix-and-rest-are-text : (old new rest text : List ℕ) → AppendsAscii old new
     → new ++ rest ≡ old ++ text → drop (length old) new ++ rest ≡ text
 suffix-and-rest-are-text old new rest text a total =
@@ -47,7 +44,6 @@ suffix-and-rest-are-text old new rest text a total =
     sym (drop-append_seam old (suffix ++ rest)) ∙ ap (drop (length old)) whole
     ∙ drop-append_seam old text
 
--- ASCII suffixes: no byte of ASCII is E2
 pub ascii-lacks-byte-E2 : (text : List ℕ) → IsAscii text → list_any (λ b. eqb b 0xE2) text ≡ false
 ascii-lacks-byte-E2 [] ascii = refl
 ascii-lacks-byte-E2 (b ∷ text) ascii =
@@ -55,12 +51,10 @@ ascii-lacks-byte-E2 (b ∷ text) ascii =
     let other : eqb b 0xE2 ≡ false = grind (arith, nat_tests) in
     rw other (ascii-lacks-byte-E2 text (λ i. ascii (suc i)))
 
--- ASCII suffixes: two hexadecimal digits are of a byte
 pub digits-are-of-byte : (high low : ℕ) → is_ascii_hexdigit high ≡ true
     → is_ascii_hexdigit low ≡ true → 16 * digit_value high + digit_value low < 256
 digits-are-of-byte high low h l = grind (arith, nat_tests)
 
--- ASCII suffixes: an unreserved character is ASCII in lower case
 lowered-unreserved-is-ascii : (lowers : Bool) (value : ℕ) → is_unreserved value ≡ true
     → lowered_code_if lowers value < 128
 lowered-unreserved-is-ascii true value e = lowercase_ascii value (unreserved_is_ascii value e)
@@ -74,18 +68,15 @@ pub unreserved-octet-is-its-code : (lowers : Bool) (value : ℕ) → is_unreserv
 unreserved-octet-is-its-code lowers value e =
     grind (arith, common_steps, lowered-unreserved-is-ascii, unreserved-octet-prints-its-code)
 
--- ASCII suffixes: the octet of any other character is written as an octet
 pub reserved-octet-is-written : (lowers : Bool) (value : ℕ) → is_unreserved value ≡ false
     → text_of_token (Octet value) ≡ print (lowered_if lowers (decode_octet (Octet value) ∷ []))
 reserved-octet-is-written true value e = rw e (sym (append-nil (text_of_token (Octet value))))
 reserved-octet-is-written false value e = rw e (sym (append-nil (text_of_token (Octet value))))
 
--- ASCII suffixes: the text of an octet is ASCII
 octet-text-is-ascii : (value : ℕ) → value < 256 → IsAscii (text_of_token (Octet value))
 octet-text-is-ascii value small = subst IsAscii (octet_entry_is_printed_octet value small)
     (IsAscii-take _ 3 (IsAscii-drop _ (value * 3) octet_table_is_ascii))
 
--- ASCII suffixes: an octet that is decoded by itself is ASCII
 pub octet-decoded-alone-is-ascii : (lowers : Bool) (value : ℕ) → value < 256
     → IsAscii (print (lowered_if lowers (decode_octet (Octet value) ∷ [])))
 octet-decoded-alone-is-ascii lowers value small = ⊎_elim

@@ -8,14 +8,12 @@ use Rattle.uri_ops.proofs.Meanings.ComponentEnds.{ends-are-excluded-from-set, fe
 use Rattle.uri_ops.proofs.Meanings.HostMeanings.{IsHostWithMeaning, normal-host-has-meaning}
 use Rattle.uri_ops.proofs.Normal.NormalComponents.{NormalAuthoritiesKeepMeaning, normal-component-is-part, normal-component-decodes-as-component, part-lacks-excluded-characters}
 
--- meanings of authorities: a set that has none of some delimiters excludes each of them
 no-delimiter-allowed-excludes-each : (set : TableSet) (marks : List ℕ)
     → list_any set.ascii marks ≡ false → list_all (λ c. not (set.ascii c)) marks ≡ true
 no-delimiter-allowed-excludes-each set [] e = refl
 no-delimiter-allowed-excludes-each set (m ∷ marks) e = let p = or_parts _ _ e in
     and_from _ _ (not_from_false _ p.0) (no-delimiter-allowed-excludes-each set marks p.1)
 
--- meanings of authorities: a set that excludes some delimiters excludes some of them
 fewer-delimiters-are-excluded-too : (set : TableSet) (all some : List ℕ)
     → list_all (is_one_of all) some ≡ true
     → list_any set.ascii all ≡ false → list_any set.ascii some ≡ false
@@ -77,7 +75,6 @@ recomposed-authority-is-utf8 : (p : AuthorityParts) → PartsUtf8 p → IsUtf8 (
 recomposed-authority-is-utf8 p u = IsUtf8-append _ _ (userinfo-with-at-sign-is-utf8 _ u.userinfo)
     (IsUtf8-append _ _ u.host (port-with-colon-is-utf8 _ u.port))
 
--- meanings of authorities: a userinfo with its `@`, if there is one, has no `/`, `?` or `#`
 userinfo-with-at-sign-lacks-authority-ends : (userinfo : Option (List ℕ))
     → IfSome userinfo (Lacks (codes "/?#")) → Lacks (codes "/?#") (marked [] userinfo (codes "@"))
 userinfo-with-at-sign-lacks-authority-ends None h = test-of-delimiters-gives-lacks
@@ -85,7 +82,6 @@ userinfo-with-at-sign-lacks-authority-ends None h = test-of-delimiters-gives-lac
 userinfo-with-at-sign-lacks-authority-ends (Some user) h = joined-texts-lack-marks (codes "/?#")
     user (codes "@") h (test-of-delimiters-gives-lacks (codes "/?#") (codes "@") refl)
 
--- meanings of authorities: a port with its `:`, if there is one, has no `/`, `?` or `#`
 port-with-colon-lacks-authority-ends : (port : Option (List ℕ)) → IfSome port (Lacks (codes "/?#"))
     → Lacks (codes "/?#") (marked (codes ":") port [])
 port-with-colon-lacks-authority-ends None h = test-of-delimiters-gives-lacks (codes "/?#") [] refl
@@ -101,7 +97,6 @@ authority-text-lacks-its-ends p user host port = joined-texts-lack-marks (codes 
     (userinfo-with-at-sign-lacks-authority-ends _ user) (joined-texts-lack-marks (codes "/?#")
     p.host (marked (codes ":") p.port []) host (port-with-colon-lacks-authority-ends p.port port))
 
--- meanings of ports: what holds of a port, if there is one, holds of the one that its meaning keeps
 port_meaning-keeps-property : (default : Option ℕ) (port : Option (List ℕ)) (P : List ℕ → Type 0)
     → IfSome port P → IfSome (port_meaning default port) P
 port_meaning-keeps-property default None P h = tt
@@ -121,7 +116,6 @@ unchanged-port-is-its-bare-meaning default digits true e = refl
 unchanged-port-is-its-bare-meaning default [] false e = cc
 unchanged-port-is-its-bare-meaning default (d ∷ digits) false e = refl
 
--- meanings of ports: the meaning of a port under a default is its own meaning without one
 port_meaning-is-its-own-bare-meaning : (default : Option ℕ) (port : Option (List ℕ))
     → port_meaning None (port_meaning default port) ≡ port_meaning default port
 port_meaning-is-its-own-bare-meaning default None = refl
@@ -224,7 +218,6 @@ module _ (kind : Kind) (sets : HasComponentSets kind) (default : Option ℕ) (a 
       (λ x v h. valid_text_lacks_excluded_marks digit_set (codes "/?#") refl refl x v h)
       normal-authority-parts-are-utf8.port normal-authority-follows-grammar.port)
 
--- meanings of authorities: an authority written from its meaning is one, and has that meaning
 pub normal-authorities-are-authorities : (kind : Kind) → HasComponentSets kind
     → NormalAuthoritiesKeepMeaning kind
 normal-authorities-are-authorities kind sets =

@@ -8,12 +8,10 @@ print-of-characters-is-their-utf8 [] = refl
 print-of-characters-is-their-utf8 (c ∷ cs) = ap (λ x. encode_utf8 c ++ x)
     (print-of-characters-is-their-utf8 cs)
 
--- meanings in lower case: the characters of a text, written as tokens, are the text
 print-of-characters-is-text : (text : List ℕ) → IsUtf8 text → print (map Char (chars text)) ≡ text
 print-of-characters-is-text text u = print-of-characters-is-their-utf8 (chars text)
     ∙ encodes-chars text u
 
--- meanings in lower case: bytes past ASCII have no letters to lower
 pub bytes-past-ascii-are-unchanged-when-lowered : (bytes : List ℕ) → ArePastAscii bytes
     → str_to_ascii_lowercase bytes ≡ bytes
 bytes-past-ascii-are-unchanged-when-lowered [] past = refl
@@ -21,7 +19,6 @@ bytes-past-ascii-are-unchanged-when-lowered (b ∷ bytes) past = ap (λ x. x ∷
     bytes) (lowercase_keeps_char_past_ascii b (All-head (λ x. 128 ≤ x) b bytes past)) ∙ ap (λ x. b
     ∷ x) (bytes-past-ascii-are-unchanged-when-lowered bytes (All-tail (λ x. 128 ≤ x) b bytes past))
 
--- meanings in lower case: bytes without ASCII are past ASCII
 bytes-without-ascii-are-past-ascii : (bytes : List ℕ) → list_all is_no_ascii_byte bytes ≡ true
     → ArePastAscii bytes
 bytes-without-ascii-are-past-ascii [] e = All-nil (λ x. 128 ≤ x)
@@ -30,7 +27,6 @@ bytes-without-ascii-are-past-ascii (b ∷ bytes) e =
     All-cons (λ x. 128 ≤ x) b bytes (leb-true 128 b p.0)
     (bytes-without-ascii-are-past-ascii bytes p.1)
 
--- meanings in lower case: a character past ASCII is unchanged in lower case
 character-past-ascii-is-unchanged-when-lowered : (c : ℕ)
     → 128 ≤ c → map to_ascii_lowercase (encode_utf8 c) ≡ encode_utf8 c
 character-past-ascii-is-unchanged-when-lowered c h =
@@ -60,23 +56,18 @@ lowering-and-utf8-swap [] = refl
 lowering-and-utf8-swap (c ∷ cs) =
     grind (arith, common_steps, lowering-and-utf8-swap-for-character, lowering-and-utf8-swap cs)
 
--- meanings in lower case: lowering literal tokens lowers their characters
 lowering-tokens-lowers-characters : (cs : List ℕ) → map lower_token (map Char cs)
     ≡ map Char (map to_ascii_lowercase cs)
 lowering-tokens-lowers-characters [] = refl
 lowering-tokens-lowers-characters (c ∷ cs) = ap (λ ts. Char (to_ascii_lowercase c) ∷ ts)
     (lowering-tokens-lowers-characters cs)
 
--- meanings in lower case: the characters of a text as lowered tokens are written as the text in
--- lower case
 print-of-lowered-characters-is-lowered : (text : List ℕ) → IsUtf8 text
     → print (map lower_token (map Char (chars text))) ≡ str_to_ascii_lowercase text
 print-of-lowered-characters-is-lowered text u = ap print (lowering-tokens-lowers-characters _)
     ∙ print-of-characters-is-their-utf8 _ ∙ lowering-and-utf8-swap _
     ∙ ap str_to_ascii_lowercase (encodes-chars _ u)
 
--- meanings in lower case: the characters of a text, in lower case if lowers, are written as the
--- text in lower case
 pub print-lowers-characters : (lowers : Bool) (text : List ℕ) → IsUtf8 text
     → print (lowered_if lowers (map Char (chars text))) ≡ lowered_text_if lowers text
 print-lowers-characters true text u = print-of-lowered-characters-is-lowered text u
@@ -96,7 +87,6 @@ lowered-scalars-are-scalars (c ∷ cs) e =
     and_from _ _ (and_parts _ true (lowered-scalar-is-scalar c (and_from _ true p.0 refl))).0
     (lowered-scalars-are-scalars cs p.1)
 
--- meanings in lower case: the characters of a text in lower case are its characters in lower case
 chars-of-lowered-text-are-lowered : (text : List ℕ) → IsUtf8 text
     → chars (str_to_ascii_lowercase text) ≡ map to_ascii_lowercase (chars text)
 chars-of-lowered-text-are-lowered text u = ap (λ x. chars (str_to_ascii_lowercase x))
@@ -117,12 +107,10 @@ lowered-text-is-utf8 text u = (
 abbrev pub AllowsDecodable : TableSet → TableSet → Type 0
 AllowsDecodable decodable set = (c : ℕ) → allows decodable c ≡ is_decodable set c
 
--- meanings in lower case: a character that is not unreserved is unchanged in lower case
 not-unreserved-is-unchanged-when-lowered : (c : ℕ) → is_unreserved c ≡ false
     → to_ascii_lowercase c ≡ c
 not-unreserved-is-unchanged-when-lowered c e = grind (arith, nat_tests)
 
--- meanings in lower case: an unreserved character is one in lower case
 lowered-unreserved-is-unreserved : (c : ℕ) → is_unreserved c ≡ true
     → is_unreserved (to_ascii_lowercase c) ≡ true
 lowered-unreserved-is-unreserved c e = grind (arith, nat_tests)

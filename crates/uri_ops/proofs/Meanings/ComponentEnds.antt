@@ -17,15 +17,12 @@ ends-are-excluded-from-set (m ∷ marks) set e f =
     and_from _ _ (and_from _ _ q.0 (and_from _ _ (not_from_false _ r.0) q.1))
     (ends-are-excluded-from-set marks set p.1 r.1)
 
--- meanings of components: a set that excludes some characters and more excludes the former
 pub fewer-characters-are-excluded-too : (some more : List ℕ) (set : TableSet)
     → excludes set (some ++ more) ≡ true → excludes set some ≡ true
 fewer-characters-are-excluded-too [] more set e = refl
 fewer-characters-are-excluded-too (m ∷ some) more set e = let p = and_parts _ _ e in
     and_from _ _ p.0 (fewer-characters-are-excluded-too some more set p.1)
 
--- recomposing meanings: in a path without `:` in its first segment, and `?` or `#` after it, `:` is
--- not the first delimiter
 path-without-colon-meets-no-colon-first : (path tail : List ℕ)
     → has_colon_in_first_segment path ≡ false
     → IsEmptyOrMarked (codes "?#") tail → starts 58 (from_any (codes ":/?#") (path ++ tail)) ≡ false

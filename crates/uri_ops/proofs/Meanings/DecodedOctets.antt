@@ -3,7 +3,6 @@ use Rattle.uri_ops.proofs.Common.{common_steps, ◌≡◌, ℕ, ◌+◌, ◌*◌
 use Rattle.uri_pct.proofs.Offered.{text_is_decoded_octet_by_octet_in_uri, encode_formatting_without_flags_keeps_tokens}
 use Rattle.uri_ops.proofs.Meanings.DecodedParts.{decode_run-of-nil-is-nil, decoded_parts-of-run}
 
--- meanings, decoded: characters before other tokens are not changed by decoding
 pub decode_tokens-after-chars : (set : TableSet) (cs : List ℕ) (us : List Token)
     → decode_tokens set (map Char cs ++ us) ≡ map Char cs ++ decode_tokens set us
 unfolding decode_after_run
@@ -11,7 +10,6 @@ decode_tokens-after-chars set [] us = refl
 decode_tokens-after-chars set (c ∷ cs) us =
     cc (decode_run-of-nil-is-nil set, decode_tokens-after-chars set cs us)
 
--- meanings, decoded: a run of octets with a character first is decoded as that and the rest
 decode_run-of-leading-character : (set : TableSet) (c : ℕ) (more : List ℕ) → IsScalar c
     → decode_run set (encode_utf8 c ++ more)
     ≡ decode_piece set (WellFormed (encode_utf8 c)) ++ decode_run set more
@@ -33,20 +31,17 @@ decode_after_run-of-leading-character set c more (Octet value ∷ ts) scalar =
 decode_after_run-of-leading-character set c more (Char d ∷ ts) scalar =
     grind (arith, nat_tests, decode_run-of-leading-character, append_assoc)
 
--- meanings, decoded: an ASCII octet is decoded exactly if its character is unreserved
 ascii-is-decodable-if-unreserved : (set : TableSet) (b : ℕ) → b < 128 → is_decodable set b
     ≡ is_unreserved b
 unfolding is_decodable
 ascii-is-decodable-if-unreserved set b low =
     grind (arith, nat_tests, false_from_ne_true, allowed_past_ascii_is_scalar, or-false)
 
--- meanings, decoded: an octet is decoded to its character if it is unreserved, else unchanged
 decode_octet-is-character-if-unreserved : (b : ℕ)
     → cond (is_unreserved b) (Char b ∷ []) (Octet b ∷ []) ≡ decode_octet (Octet b) ∷ []
 decode_octet-is-character-if-unreserved b = ⊎_elim (λ e. rw e refl) (λ e. rw e refl)
     (cases_Bool (is_unreserved b))
 
--- meanings, decoded: a piece that is an ASCII character is decoded as its octet is
 ascii-piece-decodes-as-octet : (set : TableSet) (b : ℕ) → b < 128
     → decode_piece set (WellFormed (encode_utf8 b)) ≡ decode_octet (Octet b) ∷ []
 ascii-piece-decodes-as-octet set b low =
@@ -58,7 +53,6 @@ ascii-piece-decodes-as-octet set b low =
       decode_octet-is-character-if-unreserved,
     )
 
--- meanings, decoded: an ASCII octet at the start is decoded alone
 pub leading-ascii-octet-decodes-alone : (set : TableSet) (b : ℕ) (us : List Token) → b < 128
     → decode_tokens set (Octet b ∷ us) ≡ decode_octet (Octet b) ∷ decode_tokens set us
 unfolding decode_after_run
@@ -68,7 +62,6 @@ leading-ascii-octet-decodes-alone set b us low =
     ∙ decode_after_run-of-leading-character set b [] us (low_scalar b (omega arith))
     ∙ ap (λ ts. ts ++ decode_after_run set [] us) (ascii-piece-decodes-as-octet set b low)
 
--- meanings, decoded: an octet of ASCII that is a part of a text is decoded by itself
 pub decoded-part-of-ascii-octet : (lowers : Bool) (set : TableSet) (b : ℕ) → b < 128
     → print (lowered_if lowers (decoded_parts set (map Decoded (utf8_pieces (b ∷ [])))))
     ≡ print (lowered_if lowers (decode_octet (Octet b) ∷ []))
@@ -88,8 +81,6 @@ tokens-without-past-ascii-decode-alone set text none = sym
     (encode_formatting_without_flags_keeps_tokens set (decode_tokens set (tokens text))
     (ap (λ b. b && set.pct_encoded) none.0)) ∙ text_is_decoded_octet_by_octet_in_uri set text none
 
--- meanings, decoded: an octet token at the start is decoded alone, if its byte is ASCII or the set
--- lacks characters past ASCII (alone)
 leading-octet-token-decodes-alone : (set : TableSet) (text suffix : List ℕ) (value : ℕ)
     (alone : Bool) → tokens text ≡ Octet value ∷ tokens suffix → (alone ≡ true → LacksPastAscii set)
     → (alone || ltb value 128) ≡ true → decode_tokens set (tokens text)
@@ -117,7 +108,6 @@ first-octet-token-is-decoded-alone lowers set text suffix value alone first none
 abbrev pub first_value : {text : List ℕ} → BeginsWithOctet text → ℕ
 first_value o = 16 * digit_value o.high + digit_value o.low
 
--- meanings, decoded: the same of an octet with its digits
 pub leading-octet-is-decoded-alone :
     (lowers : Bool) (set : TableSet) (text : List ℕ) (o : BeginsWithOctet text) (alone : Bool)
     → (alone ≡ true → LacksPastAscii set) → (alone || ltb (first_value o) 128) ≡ true
@@ -137,7 +127,6 @@ uppercase-digit-is-its-glyph : (h : ℕ) → is_ascii_hexdigit h ≡ true → h 
 unfolding is_glyph
 uppercase-digit-is-its-glyph h digit upper = grind (arith, nat_tests, agree_below_at)
 
--- meanings, decoded: an octet with digits in upper case is written as it is
 pub uppercase-octet-prints-itself : (high low : ℕ)
     → is_ascii_hexdigit high ≡ true → is_ascii_hexdigit low ≡ true → high < 97 → low < 97
     → text_of_token (Octet (16 * digit_value high + digit_value low)) ≡ 37 ∷ high ∷ low ∷ []

@@ -21,7 +21,6 @@ literal-prefix-decodes-to-itself lowers set prefix back u e =
       print-lowers-characters,
     )
 
--- meanings, decoded: after a prefix without `%` (37), the rest of a valid text is valid
 text-after-literal-prefix-is-valid : (prefix back : List ℕ) → IsUtf8 prefix → lacks 37 prefix ≡ true
     → IsValidFor widest_set (prefix ++ back) → IsValidFor widest_set back
 unfolding is_valid_for
@@ -58,7 +57,6 @@ lowering-of-append-is-append : (lowers : Bool) (xs ys : List ℕ)
 lowering-of-append-is-append true xs ys = map-append to_ascii_lowercase xs ys
 lowering-of-append-is-append false xs ys = refl
 
--- meanings, decoded: of a text, the empty prefix is copied
 pub empty-prefix-is-unchanged : (lowers : Bool) (set : TableSet) (text : List ℕ)
     → KeepsPrefixWhenDecoded lowers set text 0
 empty-prefix-is-unchanged true set text = refl
@@ -77,7 +75,6 @@ unchanged-prefixes-join lowers set text n m first next = grind (
   drop-drop m n text,
 )
 
--- general fact on lists, for decoding meanings: a suffix of a suffix, by the positions of the text
 suffix-of-suffix-by-positions : (text : List ℕ) (done end : ℕ) → done ≤ end
     → drop (end - done) (drop done text) ≡ drop end text
 suffix-of-suffix-by-positions text done end order = drop-drop (end - done) done text
@@ -105,13 +102,10 @@ pub unchanged-prefix-is-pushed : (lowers : Bool) (set : TableSet) (text out new 
 unchanged-prefix-is-pushed lowers set text out new whole done end order prefix pushed total =
     grind (arith, nat_tests, suffix-of-suffix-by-positions, append_assoc)
 
--- general fact on valid texts, for decoding meanings: what is valid after n and then m bytes is
--- valid after n + m
 pub suffix-of-suffix-is-valid : (text : List ℕ) (n m : ℕ)
     → IsValidFor widest_set (drop m (drop n text)) → IsValidFor widest_set (drop (n + m) text)
 suffix-of-suffix-is-valid text n m v = subst (IsValidFor widest_set) (drop-drop m n text) v
 
--- meanings, decoded: a `%` (37) at index i of a valid text begins an octet
 pub percent-in-valid-text-begins-octet : (text : List ℕ) (i : ℕ) → IsUtf8 text
     → IsCharBoundary text i → IsValidFor widest_set (drop i text) → i < length text
     → get_or text i 0 ≡ 37 → IsOctetAt text i (get_or text (i + 1) 0) (get_or text (i + 2) 0)
@@ -141,7 +135,6 @@ percent-in-valid-text-begins-octet text i u b v inside percent =
       valid = subst (IsValidFor widest_set) suffix o.valid;
     }
 
--- meanings, decoded: an octet whose first digit is below `8` (56) is of an ASCII byte
 pub octet-with-digit-below-8-is-ascii : (high low : ℕ) → is_ascii_hexdigit high ≡ true
     → is_ascii_hexdigit low ≡ true → high < 56 → 16 * digit_value high + digit_value low < 128
 octet-with-digit-below-8-is-ascii high low h l small = grind (arith, nat_tests)
@@ -179,7 +172,6 @@ pub unset-flags-lack-past-ascii : (set : TableSet) (some : Bool)
 unset-flags-lack-past-ascii set some e none = or_parts set.ucschar set.iprivate
     (sym e ∙ not-true some none)
 
--- meanings, decoded: the empty text has the empty decoded form
 pub decoded-empty-text-is-empty : (lowers : Bool) (set : TableSet) → decoded_text lowers set [] ≡ []
 unfolding tokens_from_chars chars decode_after_run
 decoded-empty-text-is-empty true set = ap (λ ts. print (map lower_token ts))

@@ -27,12 +27,10 @@ bracketed-utf8-is-utf8 address u = IsUtf8-append (codes "[") (address ++ codes "
     (ascii-bytes-are-utf8 (codes "[") refl)
     (IsUtf8-append address (codes "]") u (ascii-bytes-are-utf8 (codes "]") refl))
 
--- meanings of hosts: a character of an IP address is ASCII
 address-character-is-ascii : (c : ℕ) → is_address_char c ≡ true → ltb c 128 ≡ true
 unfolding is_address_char
 address-character-is-ascii c e = grind (arith, nat_tests)
 
--- meanings of hosts: the characters of an IP address are ASCII ones
 pub address-characters-are-ascii : (text : List ℕ) → list_all is_address_char text ≡ true
     → list_all (is_ascii_in is_address_char) text ≡ true
 address-characters-are-ascii [] e = refl
@@ -52,7 +50,6 @@ lowered-hex-digit-is-hex-digit : (c : ℕ) → is_ascii_hexdigit c ≡ true
     → is_ascii_hexdigit (to_ascii_lowercase c) ≡ true
 lowered-hex-digit-is-hex-digit c e = grind (arith, nat_tests)
 
--- meanings of hosts: a character of userinfo is one in lower case
 lowered-userinfo-character-is-userinfo-character : (c : ℕ) → is_userinfo_char c ≡ true
     → is_userinfo_char (to_ascii_lowercase c) ≡ true
 lowered-userinfo-character-is-userinfo-character c e = grind (arith, nat_tests)
@@ -62,12 +59,10 @@ lowered-v-is-v : (c : ℕ) → is_one_of (codes "vV") c ≡ true
     → is_one_of (codes "vV") (to_ascii_lowercase c) ≡ true
 lowered-v-is-v c e = grind (arith, nat_tests)
 
--- meanings of hosts: the `v` of an IPvFuture address is a character of userinfo
 v-is-userinfo-character : (c : ℕ) → is_one_of (codes "vV") c ≡ true
     → is_ascii_in is_userinfo_char c ≡ true
 v-is-userinfo-character c e = grind (arith, nat_tests)
 
--- meanings of hosts: `%` (37) is no literal character of userinfo
 percent-is-no-userinfo-character : is_userinfo_char 37 ≡ false
 percent-is-no-userinfo-character = refl
 
@@ -96,7 +91,6 @@ ipvfuture-has-ascii-parts text u h =
           is_userinfo_char percent-is-no-userinfo-character h.address apart.1) ∙ h.address_chars.1;
     }
 
--- meanings of hosts: an IPvFuture address has only characters of userinfo
 pub ipvfuture-is-userinfo-characters : (text : List ℕ) (h : IsIpvFuture text) → AsciiParts text h
     → list_all (is_ascii_in is_userinfo_char) text ≡ true
 ipvfuture-is-userinfo-characters text h w =

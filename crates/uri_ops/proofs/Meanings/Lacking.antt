@@ -7,7 +7,6 @@ use Rattle.uri_ops.proofs.Meanings.AllowedParts.{is_set_text, set-text-from-utf8
 abbrev pub lacks_any : List ℕ → List ℕ → Bool
 lacks_any marks text = list_all (λ c. not (is_one_of marks c)) text
 
--- meanings of components: a valid text has no character that the set excludes
 set-text-lacks-excluded-characters : (marks : List ℕ) (set : TableSet) → LacksPercent set
     → excludes set marks ≡ true
     → (text : List ℕ) → is_set_text set text ≡ true → lacks_any marks text ≡ true
@@ -15,7 +14,6 @@ set-text-lacks-excluded-characters marks set lacks outside text e = lacked-delim
     marks text (valid_text_lacks_excluded_marks set marks lacks outside text
     (set-text-is-utf8 set text e) (set-text-is-valid set text e))
 
--- meanings of components: the set without one of its characters
 abbrev set_without : ℕ → TableSet → TableSet
 set_without m set = record {
   ascii = λ c. not (eqb c m) && set.ascii c;
@@ -28,7 +26,6 @@ set_without m set = record {
 abbrev pub has_character : ℕ → List ℕ → Bool
 has_character m text = list_any (λ c. eqb c m) text
 
--- meanings of components: a set without the character m allows any other first byte as the set does
 set_without-allows-other-first-bytes : (m : ℕ) (set : TableSet) (b : ℕ) (rest : List ℕ)
     → eqb b m ≡ false → allows_first (set_without m set) b rest ≡ allows_first set b rest
 unfolding allows_first allows_past_ascii
@@ -55,13 +52,11 @@ text-stays-valid-for-set_without m set zero (b ∷ rest) e =
     (valid_from set 2 rest) (allows_first set b rest && t))
     (text-stays-valid-for-set_without m set (continuation_len b) rest p.1)
 
--- meanings of components: a set without a character m lacks `%` too
 set_without-lacks-percent : (m : ℕ) (set : TableSet) → LacksPercent set
     → LacksPercent (set_without m set)
 set_without-lacks-percent m set lacks = ⊎_elim (λ e. ap (λ t. not t && set.ascii 37) e)
     (λ e. ap (λ t. not t && set.ascii 37) e ∙ lacks) (cases_Bool (eqb 37 m))
 
--- meanings of components: a valid text without the character m is valid for the set without m
 text-without-character-is-for-set_without : (m : ℕ) (set : TableSet)
     → LacksPercent set → (text : List ℕ) → is_set_text set text ≡ true
     → has_character m text ≡ false → is_set_text (set_without m set) text ≡ true
@@ -76,22 +71,18 @@ text-without-character-is-for-set_without m set lacks text e f =
       set-text-is-valid,
     )
 
--- meanings of components: a set without a character m decodes a piece of bytes in the same way
 decode_piece-for-set_without : (m : ℕ) (set : TableSet) (p : Piece)
     → decode_piece (set_without m set) p ≡ decode_piece set p
 unfolding is_decodable allows_past_ascii
 decode_piece-for-set_without m set (WellFormed bytes) = refl
 decode_piece-for-set_without m set (IllFormed bytes) = refl
 
--- meanings of components: a set without a character m decodes a run of octets in the same way
 decode_run-for-set_without : (m : ℕ) (set : TableSet) (run : List ℕ)
     → decode_run (set_without m set) run ≡ decode_run set run
 unfolding decode_run
 decode_run-for-set_without m set run = ap (λ f. flat_map f (utf8_pieces run))
     (λ i p. decode_piece-for-set_without m set p i)
 
--- meanings of components: tokens after a run of octets are decoded in the same way for a set
--- without a character m
 decode_after_run-for-set_without : (m : ℕ) (set : TableSet) (run : List ℕ) (ts : List Token)
     → decode_after_run (set_without m set) run ts ≡ decode_after_run set run ts
 unfolding decode_after_run
@@ -109,21 +100,17 @@ unfolding is_never_literal
 formatting_as_octets-for-set_without m set (Char c) = refl
 formatting_as_octets-for-set_without m set (Octet value) = refl
 
--- meanings, bidirectional text: formatting characters are encoded in the same way for a set without
--- a character m
 encode_formatting-for-set_without : (m : ℕ) (set : TableSet) (ts : List Token)
     → encode_formatting (set_without m set) ts ≡ encode_formatting set ts
 encode_formatting-for-set_without m set ts = ap (λ f. flat_map f ts)
     (λ i t. formatting_as_octets-for-set_without m set t i)
 
--- meanings of components: a text has the same decoded form for a set without a character m
 print_decoded-for-set_without : (m : ℕ) (set : TableSet) (text : List ℕ)
     → print_decoded (set_without m set) text ≡ print_decoded set text
 unfolding print_decoded
 print_decoded-for-set_without m set text = ap print (encode_formatting-for-set_without m set _
     ∙ ap (encode_formatting set) (decode_after_run-for-set_without m set [] _))
 
--- meanings of components: a set without a reserved character m still has the unreserved ones
 set_without-reserved-has-unreserved : (m : ℕ) (set : TableSet) → is_unreserved m ≡ false
     → IsSubset unreserved_set set → IsSubset unreserved_set (set_without m set)
 set_without-reserved-has-unreserved m set reserved wide =
@@ -133,7 +120,6 @@ set_without-reserved-has-unreserved m set reserved wide =
 is_one_of-one-is-equality : (c m : ℕ) → is_one_of (m ∷ []) c ≡ eqb c m
 is_one_of-one-is-equality c m = grind (arith, nat_tests)
 
--- meanings of components: a text that lacks all of one delimiter lacks this character
 pub lacks_any-gives-lacks : (m : ℕ) (text : List ℕ) → lacks_any (m ∷ []) text ≡ true
     → has_character m text ≡ false
 lacks_any-gives-lacks m [] e = refl
@@ -142,7 +128,6 @@ lacks_any-gives-lacks m (c ∷ text) e =
     or_from _ _ (sym (is_one_of-one-is-equality c m) ∙ not-true _ p.0)
     (lacks_any-gives-lacks m text p.1)
 
--- meanings of components: a text that lacks a character lacks all of this one delimiter
 pub lacks-gives-lacks_any : (m : ℕ) (text : List ℕ)
     → has_character m text ≡ false → lacks_any (m ∷ []) text ≡ true
 lacks-gives-lacks_any m [] e = refl

@@ -14,7 +14,6 @@ ports scheme = cond (bytes_eq scheme (codes "http")) (Some 80)
 IsNormalOf : Kind → List ℕ → List ℕ → Type 0
 IsNormalOf kind text normal = normal_text (meaning_of kind ports text) ≡ normal
 
--- examples of meanings, by normal forms: case, octets that are unreserved, and digits in upper case
 normal-forms-of-case-and-octets :
     IsNormalOf uri_ref (codes "FOO://%55se%72@EXamp%4ce%2ecom:8042/%4b%2f?%4c%2b#%24%4d")
     (codes "foo://User@example.com:8042/K%2F?L%2B#%24M") × IsNormalOf uri
@@ -107,13 +106,11 @@ host-kind-before-and-after-decoding : (host_kind (codes "127.0.0.%31") ≡ RegNa
 unfolding host_kind ipv4_value read_ipv4 read_octet read_number
 host-kind-before-and-after-decoding = (refl, refl)
 
--- examples of meanings, of targets: base, reference, the target, and its normal form
 HasTargetWithNormalForm : List ℕ → List ℕ → List ℕ → List ℕ → Type 0
 HasTargetWithNormalForm base reference target normal =
     (resolution_of (components base) (components reference) ≡ Ok target)
     × IsNormalOf uri target normal
 
--- examples of meanings, of targets, by computation: base, reference, target and its normal form
 example-targets-have-normal-forms :
     HasTargetWithNormalForm (codes "foo:/bar/..") (codes ".") (codes "foo:/") (codes "foo:/")
     × HasTargetWithNormalForm (codes "foo:/") (codes ".//@@") (codes "foo:/.//@@")

@@ -18,8 +18,6 @@ no_defaults-gives-no-default (Some scheme) = refl
 abbrev pub with_default : Option ℕ → AuthorityMeaning → AuthorityMeaning
 with_default default a = record a { port = port_meaning default a.port }
 
--- meanings of ports: the meaning of an authority under a default port is its meaning without one,
--- with that port left out
 pub bare-authority-meaning-with_default : (kind : Kind) (default : Option ℕ) (authority : List ℕ)
     → with_default default (authority_meaning kind None authority)
     ≡ authority_meaning kind default authority
@@ -58,8 +56,6 @@ authority_meaning-from-bare-meaning kind default text authority e =
     ∙ with_default-is-idempotent default (authority_meaning kind None authority)
     ∙ bare-authority-meaning-with_default kind default authority
 
--- meanings of ports: the meaning of an authority, if there is one, is its meaning without a default
--- (other), with that port left out
 authority-meanings-are-bare-with_default : (kind : Kind) (default other : Option ℕ) → other ≡ None
     → (authority : Option (List ℕ)) → option_map (authority_meaning kind default) authority
     ≡ option_map (with_default default) (option_map (authority_meaning kind other) authority)
@@ -71,15 +67,12 @@ authority-meanings-are-bare-with_default kind default other e (Some authority) =
 with_authority : Meaning → Option AuthorityMeaning → Meaning
 with_authority m authority = record m { authority = authority }
 
--- meanings of ports: the meaning of components is theirs without default ports, less these ports
 components_meaning-is-bare-under-ports : (kind : Kind) (ports : PortFunction) (p : Components)
     → components_meaning kind ports p ≡ under ports (components_meaning kind no_defaults p)
 unfolding with_authority
 components_meaning-is-bare-under-ports kind ports p =
     grind (arith, nat_tests, authority-meanings-are-bare-with_default, no_defaults-gives-no-default)
 
--- meanings of ports: the meaning of a text under a port function is its meaning without one, with
--- these ports left out
 pub meaning_of-from-bare-meaning : (kind : Kind) (ports : PortFunction) (text : List ℕ)
     → meaning_of kind ports text ≡ under ports (bare_meaning_of kind text)
 meaning_of-from-bare-meaning kind ports text = components_meaning-is-bare-under-ports kind ports

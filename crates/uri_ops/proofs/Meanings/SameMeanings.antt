@@ -11,7 +11,6 @@ option_eq-decides-equality E d None (Some b) = (λ e. cc, λ e. cc)
 option_eq-decides-equality E d (Some a) None = (λ e. cc, λ e. cc)
 option_eq-decides-equality E d (Some a) (Some b) = Decides-like (E a b) (ap Some) (λ e. cc) (d a b)
 
--- equal meanings: comparing two tokens decides whether they are equal
 same_token-decides-equality : (a b : Token) → Decides (same_token a b) (a ≡ b)
 same_token-decides-equality (Char a) (Char b) = Decides-like _ (ap Char) (λ e. cc) (Decides-eqb a b)
 same_token-decides-equality (Octet a) (Octet b) = Decides-like _ (ap Octet) (λ e. cc)

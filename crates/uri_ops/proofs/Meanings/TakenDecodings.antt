@@ -4,14 +4,11 @@ use Rattle.uri_ops.specs.declared.normalize.decode_unreserved.Decoding.{Decoding
 use Rattle.uri_ops.proofs.Meanings.Cased.{AllowsDecodable, print-lowers-characters, octets-are-unchanged-when-lowered, decoded-pieces-are-encoded-text, bytes-past-ascii-are-unchanged-when-lowered, lowered-pieces-are-encoded-lowered-text}
 use Rattle.uri_ops.proofs.Meanings.DecodedParts.{decoded_parts-of-run, decoded_parts-are-decoded-tokens}
 
--- meanings, decoded past ASCII: a literal part of a text is written in lower case if lowers
 pub literal-part-is-lowered : (lowers : Bool) (set : TableSet) (text : List ℕ) → IsUtf8 text → print
     (lowered_if lowers (decoded_parts set (Literal text ∷ []))) ≡ lowered_text_if lowers text
 literal-part-is-lowered lowers set text u =
     grind (arith, nat_tests, append-nil, print-lowers-characters)
 
--- meanings, decoded past ASCII: characters that octets decode to are written encoded, unless the
--- set decodes them
 pub decoded-octets-past-ascii-are-encoded-text :
     (lowers : Bool) (decodable set : TableSet) (text : List ℕ)
     → AllowsDecodable decodable set → IsUtf8 text → ArePastAscii text → print (lowered_if lowers
@@ -23,7 +20,6 @@ decoded-octets-past-ascii-are-encoded-text true decodable set text same u past =
     ∙ ap print (lowered-pieces-are-encoded-lowered-text decodable set same text u) ∙ ap (λ bytes.
     print (encode_text decodable bytes)) (bytes-past-ascii-are-unchanged-when-lowered text past)
 
--- meanings, decoded past ASCII: ill-formed octets are unchanged
 pub ill-formed-octets-are-unchanged : (lowers : Bool) (set : TableSet) (bytes : List ℕ)
     → print (lowered_if lowers (decoded_parts set (Decoded (IllFormed bytes) ∷ [])))
     ≡ print (map Octet bytes)

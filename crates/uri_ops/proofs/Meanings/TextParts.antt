@@ -15,15 +15,11 @@ pub record ArePartsOfKind (kind : Kind) (p : Components) : Type 0 where
       && (is_some p.authority || not (has_colon_in_first_segment p.path))))
       ≡ true
 
--- general fact on options, for meanings of components: a component that is absent or passes a test
--- passes it, if there is one
 passing-option-passes-if-some : (o : Option (List ℕ)) (test : List ℕ → Bool)
     → absent_or_passes o test ≡ true → IfSome o (λ x. test x ≡ true)
 passing-option-passes-if-some None test e = tt
 passing-option-passes-if-some (Some x) test e = e
 
--- general fact on options, for meanings of components: a component passes the test that its
--- property implies, or is absent
 property-if-some-passes-test : (o : Option (List ℕ)) (P : List ℕ → Type 0) (test : List ℕ → Bool)
     → ((x : List ℕ) → P x → test x ≡ true) → IfSome o P → absent_or_passes o test ≡ true
 property-if-some-passes-test None P test f h = refl
@@ -49,23 +45,18 @@ optional-text-is-utf8 : (test : Bool) (text : List ℕ) → (test ≡ true → I
 optional-text-is-utf8 true text u = u refl
 optional-text-is-utf8 false text u = tt
 
--- meanings of components: the delimiters that end a scheme are ASCII
 pub scheme-ends-are-ascii : AreAscii (codes ":/?#")
 scheme-ends-are-ascii = AreAscii-by-test (codes ":/?#") refl
 
--- meanings of components: the delimiters that end an authority are ASCII
 authority-ends-are-ascii : AreAscii (codes "/?#")
 authority-ends-are-ascii = AreAscii-by-test (codes "/?#") refl
 
--- meanings of components: the delimiters that end a path are ASCII
 path-ends-are-ascii : AreAscii (codes "?#")
 path-ends-are-ascii = AreAscii-by-test (codes "?#") refl
 
--- meanings of components: the delimiter that ends a query is ASCII
 query-ends-are-ascii : AreAscii (codes "#")
 query-ends-are-ascii = AreAscii-by-test (codes "#") refl
 
--- meanings of components: what is after the query in a text is UTF-8
 text-after-query-is-utf8 : (end : List ℕ) → IsUtf8 end → IsUtf8 (after_query end)
 text-after-query-is-utf8 end u = ⊎_elim (λ e. rw e (utf8_from_marks (codes "#")
     (drop 1 end) query-ends-are-ascii (utf8_after_mark 63 (omega arith) end e u)))

@@ -25,19 +25,15 @@ code_table-entry-of-ascii : (lowers : Bool) (b : ℕ) → b < 128
 code_table-entry-of-ascii lowers b small = eqb-true _ _
     (code_table-entries-pass-test lowers b small)
 
--- meanings, decoded by a table: an entry that is ASCII is the code of an unreserved character, in
--- lower case if lowers
 pub ascii-entry-is-unreserved : (lowers : Bool) (b : ℕ) → b < 128 → get_or (code_table lowers) b 0
     < 128 → (get_or (code_table lowers) b 0 ≡ lowered_code_if lowers b) × (is_unreserved b ≡ true)
 ascii-entry-is-unreserved lowers b small ascii = grind (arith, nat_tests, code_table-entry-of-ascii)
 
--- meanings, decoded: an ASCII character is ASCII in lower case
 pub lowered-code-of-ascii-is-ascii : (lowers : Bool) (b : ℕ) → b < 128
     → lowered_code_if lowers b < 128
 lowered-code-of-ascii-is-ascii true b small = lowercase_ascii b small
 lowered-code-of-ascii-is-ascii false b small = small
 
--- meanings, decoded by a table: an entry past ASCII is of a character that is not unreserved
 pub entry-past-ascii-is-not-unreserved : (lowers : Bool) (b : ℕ)
     → b < 128 → 128 ≤ get_or (code_table lowers) b 0 → is_unreserved b ≡ false
 entry-past-ascii-is-not-unreserved lowers b small past =

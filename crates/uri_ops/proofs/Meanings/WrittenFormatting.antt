@@ -13,13 +13,11 @@ formatting-is-from-200E-to-202E c e = (grind (arith, nat_tests), grind (arith, n
 is_byte_E2 : ℕ → Bool
 is_byte_E2 b = eqb b 0xE2
 
--- meanings, bidirectional text: a formatting character has the byte E2
 formatting-character-has-byte-E2 : (c : ℕ) → is_bidi_formatting c ≡ true
     → list_any is_byte_E2 (encode_utf8 c) ≡ true
 unfolding encode_utf8 is_byte_E2
 formatting-character-has-byte-E2 c e = grind (arith, nat_tests, formatting-is-from-200E-to-202E)
 
--- meanings, bidirectional text: characters without the byte E2 are no formatting characters
 characters-without-byte-E2-are-no-formatting : (cs : List ℕ)
     → list_any is_byte_E2 (encode_utf8_all cs) ≡ false → list_any is_bidi_formatting cs ≡ false
 characters-without-byte-E2-are-no-formatting [] e = refl
@@ -29,14 +27,12 @@ characters-without-byte-E2-are-no-formatting (c ∷ cs) e =
     or_from _ _ (false_from_ne_true _ (λ h. both_ways _ p.0 (formatting-character-has-byte-E2 c h)))
     (characters-without-byte-E2-are-no-formatting cs p.1)
 
--- meanings, bidirectional text: without a byte E2 there is no formatting character
 pub no-byte-E2-no-formatting : (text : List ℕ) → IsUtf8 text
     → list_any (λ b. eqb b 0xE2) text ≡ false → list_any is_bidi_formatting (chars text) ≡ false
 unfolding is_byte_E2
 no-byte-E2-no-formatting text u e = characters-without-byte-E2-are-no-formatting (chars text)
     (ap (list_any is_byte_E2) (encodes-chars text u) ∙ e)
 
--- meanings, bidirectional text: characters without formatting characters are unchanged
 characters-without-formatting-are-unchanged : (cs : List ℕ) → list_any is_bidi_formatting cs ≡ false
     → flat_map encoded_formatting_char cs ≡ encode_utf8_all cs
 characters-without-formatting-are-unchanged [] e = refl
@@ -45,20 +41,16 @@ characters-without-formatting-are-unchanged (c ∷ cs) e =
     ap (λ x. x ++ flat_map encoded_formatting_char cs) (cond-false _ _ _ p.0)
     ∙ ap (λ x. encode_utf8 c ++ x) (characters-without-formatting-are-unchanged cs p.1)
 
--- meanings, bidirectional text: a text without formatting characters is unchanged when they are
--- encoded
 pub text-without-formatting-is-unchanged : (text : List ℕ) → IsUtf8 text
     → list_any is_bidi_formatting (chars text) ≡ false → encoded_formatting_text text ≡ text
 text-without-formatting-is-unchanged text u e =
     characters-without-formatting-are-unchanged (chars text) e ∙ encodes-chars text u
 
--- meanings, bidirectional text: the text of an octet has no formatting character
 printable-octet-has-no-formatting : (v : ℕ) → is_printable (Octet v) ≡ true
     → list_any is_bidi_formatting (chars_of_token (Octet v)) ≡ false
 printable-octet-has-no-formatting v e =
     grind (arith, nat_tests, octet_digits_are_hexadecimal, ascii_char_is_no_formatting_char)
 
--- meanings, bidirectional text: the text of a token has formatting characters encoded as the token
 printed-token-has-formatting-encoded : (set : TableSet) (t : Token)
     → (set.ucschar && set.pct_encoded) ≡ true → is_printable t ≡ true
     → flat_map encoded_formatting_char (chars_of_token t) ≡ print (formatting_as_octets set t)
@@ -68,7 +60,6 @@ printed-token-has-formatting-encoded set (Octet v) both e =
 printed-token-has-formatting-encoded set (Char c) both e =
     grind (arith, nat_tests, append-nil, never_literal_is_formatting_if_both_flags)
 
--- meanings, bidirectional text: the text of tokens has formatting characters encoded as they have
 printed-tokens-have-formatting-encoded : (set : TableSet) (ts : List Token)
     → (set.ucschar && set.pct_encoded) ≡ true → list_all is_printable ts ≡ true
     → flat_map encoded_formatting_char (flat_map chars_of_token ts)
@@ -97,7 +88,6 @@ pub formatting-encoded-after-prefix : (old more new : List ℕ) (start : ℕ) �
 formatting-encoded-after-prefix old more new start e f =
     cc (take-append_seam old more, drop-append_seam old more)
 
--- meanings, bidirectional text: encoding formatting characters and lower case, if lowers, may swap
 encoding-formatting-and-lowering-swap : (lowers : Bool) (set : TableSet) (ts : List Token)
     → encode_formatting set (lowered_if lowers ts) ≡ lowered_if lowers (encode_formatting set ts)
 encoding-formatting-and-lowering-swap true set ts = sym
@@ -126,8 +116,6 @@ pub printed-lowered-decoding-is-utf8 : (lowers : Bool) (set : TableSet) (text : 
 printed-lowered-decoding-is-utf8 lowers set text valid =
     grind (arith, nat_tests, printed_tokens_are_utf8, lowered-decoded-tokens-are-printable)
 
--- meanings, bidirectional text: percent-encoding the formatting characters of a decoded component
--- completes its normal form
 pub encoding-formatting-completes-decoding : (lowers : Bool) (set : TableSet) (text : List ℕ)
     → (set.ucschar && set.pct_encoded) ≡ true → IsValidFor widest_set text
     → encoded_formatting_text (print (lowered_if lowers (decode_tokens set (tokens text))))
@@ -153,7 +141,6 @@ second-flag-does-not-matter true false = refl
 second-flag-does-not-matter false true = refl
 second-flag-does-not-matter false false = refl
 
--- meanings, bidirectional text: a set allows a formatting character, as U+200E, if it has `ucschar`
 pub set_allows_formatting_by_ucschar : (set : TableSet) → allows set 0x200E ≡ set.ucschar
 unfolding allows_past_ascii is_ucschar is_iprivate
 set_allows_formatting_by_ucschar set = second-flag-does-not-matter set.ucschar set.iprivate

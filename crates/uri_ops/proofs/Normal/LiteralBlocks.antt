@@ -11,7 +11,6 @@ pub record MarksIndices (test : ℕ → Bool) (i w mask : ℕ) : Type 0 where
   pub lane : (k : ℕ) → k < w → is_set_bit mask k ≡ not (test (i + k))
   pub below : mask < 2 ^ w
 
--- literal blocks: a mask of sixteen indices, shifted right, marks those from i on
 pub shifted-mask-marks-later-indices : (test : ℕ → Bool) (last i mask : ℕ) → last ≤ i
     → i ≤ last + 16 → MarksIndices test last 16 mask
     → MarksIndices test i (last + 16 - i) (mask / 2 ^ (i - last))
@@ -58,7 +57,6 @@ module _ (test : ℕ → Bool) (start i w mask : ℕ) (m : MarksIndices test i w
         (λ (h : i ≤ k). index-of-clear-bit-passes k h (omega (arith, to, first-bit-is-of-block))
         (first-bit.2 (k - i) (omega (arith, h, to)))) (cases_lt k i)
 
--- literal blocks: a byte is special, or a dot after a `/`, if it is not literal at its index
 special-is-not-literal : (special slash dot : Bool) → (special || (slash && dot))
     ≡ not (not special && not (dot && slash))
 special-is-not-literal true slash dot = refl

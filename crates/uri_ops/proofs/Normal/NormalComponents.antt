@@ -27,20 +27,17 @@ pub record NormalAuthoritiesKeepMeaning (kind : Kind) : Type 0 where
 abbrev IsSchemePart : List ℕ → Type 0
 IsSchemePart s = IsUtf8 s × (is_scheme s ≡ true)
 
--- normal texts: a scheme, if there is one, is one in lower case
 lowered-scheme-part-is-scheme-part : (scheme : Option (List ℕ)) → IfSome scheme IsSchemePart
     → IfSome (option_map str_to_ascii_lowercase scheme) IsSchemePart
 lowered-scheme-part-is-scheme-part None h = tt
 lowered-scheme-part-is-scheme-part (Some s) h =
     (lowered-scheme-is-utf8 s h.0 h.1, lowered-scheme-is-scheme s h.0 h.1)
 
--- normal texts: a text whose first byte is a letter is not empty
 pub text-with-first-letter-is-not-empty : (s : List ℕ) → is_ascii_alphabetic (slice_index s 0)
     ≡ true → 0 < length s
 text-with-first-letter-is-not-empty [] e = absurd (false≢true e)
 text-with-first-letter-is-not-empty (c ∷ s) e = omega arith
 
--- normal texts: a scheme, if there is one, is not empty and has no delimiter that ends it
 scheme-part-is-not-empty-and-lacks-ends : (scheme : Option (List ℕ)) → IfSome scheme IsSchemePart
     → IfSome scheme (λ s. (0 < length s) × Lacks (codes ":/?#") s)
 scheme-part-is-not-empty-and-lacks-ends None h = tt

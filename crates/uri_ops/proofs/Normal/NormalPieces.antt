@@ -4,7 +4,6 @@ use Rattle.uri_ops.proofs.Meanings.AllowedParts.{set-text-from-utf8}
 use Rattle.uri_ops.proofs.Paths.DecodedStarts.{decoding-keeps-two-slashes, no-leading-slash-no-two-slashes}
 use Rattle.uri_ops.proofs.Paths.GuardedPaths.{path-without-two-slashes-has-no-guard}
 
--- normal paths: a decoded path begins with `//` exactly if the path does
 decoded-path-keeps-two-slashes : (set : TableSet)
     → IsComponentSet (codes "?#[]") set → (path : List ℕ) → IsUtf8 path
     → IsValidFor set path → has_authority (print (decode_unreserved set path)) ≡ has_authority path
@@ -12,7 +11,6 @@ unfolding print_decoded
 decoded-path-keeps-two-slashes set w path utf8 valid =
     grind (arith, nat_tests, decoding-keeps-two-slashes, set-text-from-utf8)
 
--- normal paths: the normal form of a path that keeps its dot segments is its decoded form
 pub path-with-dots-is-normal-when-decoded : (set : TableSet) → IsComponentSet (codes "?#[]") set
     → (scheme authority : Option (List ℕ)) (path : List ℕ) → IsUtf8 path → IsValidFor set path
     → (is_some scheme && starts 47 path) ≡ false
@@ -37,27 +35,22 @@ pushed-path-without-dots-is-normal set None authority path old new some absolute
 pushed-path-without-dots-is-normal set (Some s) authority path old new some absolute pushed =
     grind arith
 
--- general fact on options, for components of a normal text: a value mapped twice is there if it was
 pub is_some-of-mapped-twice : {A B C : Type 0} (f : A → B) (h : B → C) (o : Option A)
     → is_some (option_map h (option_map f o)) ≡ is_some o
 is_some-of-mapped-twice f h None = refl
 is_some-of-mapped-twice f h (Some x) = refl
 
--- general fact on texts, for the five components of a normal text:
--- appended one by one they are appended
 pub five-appended-texts-are-one : (old s a p q f o1 o2 o3 o4 new : List ℕ) → o1 ≡ old ++ s → o2 ≡ o1
     ++ a → o3 ≡ o2 ++ p → o4 ≡ o3 ++ q → new ≡ o4 ++ f → new ≡ old ++ (s ++ (a ++ (p ++ (q ++ f))))
 five-appended-texts-are-one old s a p q f o1 o2 o3 o4 new e1 e2 e3 e4 e5 =
     grind (arith, nat_tests, append_assoc)
 
--- normal texts: the normal path of a text is the one of its meaning
 pub normal_path-by-components : (kind : Kind) (ports : PortFunction) (text : List ℕ)
     → (let p = components text in let m = meaning_of kind ports text in
     normal_path_text kind.path p.scheme (option_map normal_authority m.authority) p.path
     ≡ normal_path m)
 normal_path-by-components kind ports text = grind (arith, nat_tests, is_some-option_map)
 
--- normal paths: beginning with `/` (47) is being absolute
 pub absolute-is-leading-slash : (path : List ℕ) → starts 47 path ≡ is_absolute path
 absolute-is-leading-slash [] = refl
 absolute-is-leading-slash (c ∷ path) = refl

@@ -12,17 +12,14 @@ literal-byte-is-unchanged alone bs k e = grind (arith, nat_tests, or_parts, not-
 hexdigit-is-literal : (h : ℕ) → is_ascii_hexdigit h ≡ true → is_literal_byte h ≡ true
 hexdigit-is-literal h e = grind (arith, nat_tests)
 
--- unchanged texts: nor is one a dot
 hexdigit-is-no-dot : (h : ℕ) → is_ascii_hexdigit h ≡ true → eqb h 46 ≡ false
 hexdigit-is-no-dot h e = grind (arith, nat_tests)
 
--- unchanged texts: at an unchanged octet a text is unchanged
 unchanged-octet-is-so-at-its-index : (alone : Bool) (bs : List ℕ) (k : ℕ) → get_or bs k 0 ≡ 37
     → is_unchanged_octet alone (get_or bs (k + 1) 0) (get_or bs (k + 2) 0) ≡ true
     → is_octet_unchanged_at alone bs k ≡ true
 unchanged-octet-is-so-at-its-index alone bs k percent e = rw (percent, e) refl
 
--- unchanged texts: the three bytes of an unchanged octet are unchanged
 octet-is-unchanged-at-each-byte : (alone : Bool) (bs : List ℕ) (i : ℕ) → get_or bs i 0 ≡ 37
     → is_unchanged_octet alone (get_or bs (i + 1) 0) (get_or bs (i + 2) 0) ≡ true → (k : ℕ) → i ≤ k
     → k < i + 3 → (is_octet_unchanged_at alone bs k ≡ true) × (eqb (get_or bs k 0) 46 ≡ false)
@@ -53,7 +50,6 @@ pub literal-index-is-unchanged : (alone : Bool) (limit : ℕ) (bs : List ℕ) (k
     → is_literal_at bs k ≡ true → is_unchanged_at alone limit bs k ≡ true
 literal-index-is-unchanged alone limit bs k e = grind (arith, literal-byte-is-unchanged)
 
--- unchanged texts: it leaves each byte of an unchanged octet
 pub each-byte-of-unchanged-octet-is-unchanged : (alone : Bool) (limit : ℕ) (bs : List ℕ) (i : ℕ)
     → get_or bs i 0 ≡ 37 → is_unchanged_octet alone (get_or bs (i + 1) 0) (get_or bs (i + 2) 0)
     ≡ true → (k : ℕ) → i ≤ k → k < i + 3 → is_unchanged_at alone limit bs k ≡ true
@@ -62,14 +58,12 @@ each-byte-of-unchanged-octet-is-unchanged alone limit bs i percent octet k from 
     and_from _ _ p.0 (or_left _ _ (not_from_false _
     (ap (λ b. b && eqb (get_or bs (k - 1) 0) 47) p.1)))
 
--- unchanged texts: it leaves a dot after a `/` with which no dot segment begins
 pub dot-that-begins-no-segment-is-unchanged : (alone : Bool) (limit : ℕ) (bs : List ℕ) (k : ℕ)
     → get_or bs k 0 ≡ 46
     → is_dot_unchanged_at limit bs k ≡ true → is_unchanged_at alone limit bs k ≡ true
 dot-that-begins-no-segment-is-unchanged alone limit bs k dot e = and_from _ _
     (literal-byte-is-unchanged alone bs k (ap is_literal_byte dot)) e
 
--- unchanged texts: digits that are unchanged at their indices are unchanged
 digits-are-unchanged-by-index : (alone : Bool) (text : List ℕ)
     → is_unchanged_octet alone (get_or text 0 0) (get_or text 1 0) ≡ true
     → keeps_digits alone text ≡ true
@@ -77,7 +71,6 @@ digits-are-unchanged-by-index alone [] e = refl
 digits-are-unchanged-by-index alone (high ∷ []) e = refl
 digits-are-unchanged-by-index alone (high ∷ low ∷ text) e = e
 
--- unchanged texts: an octet or a byte that is unchanged at its index is unchanged
 head-is-unchanged-by-index : (alone : Bool) (b : ℕ) (text : List ℕ) → is_octet_unchanged_at alone (b
     ∷ text) 0 ≡ true → (not (eqb b 0xE2) && (not (eqb b 37) || keeps_digits alone text)) ≡ true
 head-is-unchanged-by-index alone b text e =
@@ -90,7 +83,6 @@ head-is-unchanged-by-index alone b text e =
     either true octet e f = f e
     either false octet e f = refl
 
--- unchanged texts: a text is unchanged at an index as a longer one is at the next
 unchanged-at-next-index : (alone : Bool) (b : ℕ) (text : List ℕ) (k : ℕ)
     → is_octet_unchanged_at alone (b ∷ text) (suc k) ≡ is_octet_unchanged_at alone text k
 unchanged-at-next-index alone b text k =
@@ -99,7 +91,6 @@ unchanged-at-next-index alone b text k =
     λ i. not (eqb (get_or text k 0) 0xE2) && (not (eqb (get_or text k 0) 37)
     || is_unchanged_octet alone (get_or (b ∷ text) (first i) 0) (get_or (b ∷ text) (second i) 0))
 
--- unchanged texts: the octets of a text that is unchanged at each index are unchanged
 pub bytes-unchanged-by-index-are-unchanged : (alone : Bool) (bs : List ℕ) → ((k : ℕ)
     → k < length bs → is_octet_unchanged_at alone bs k ≡ true) → HasUnchangedOctets alone bs
 bytes-unchanged-by-index-are-unchanged alone [] each = refl
@@ -108,14 +99,12 @@ bytes-unchanged-by-index-are-unchanged alone (b ∷ text) each =
     (bytes-unchanged-by-index-are-unchanged alone text (λ k h.
     sym (unchanged-at-next-index alone b text k) ∙ each (suc k) (omega (arith, h))))
 
--- unchanged texts: the digits that a text begins with are unchanged in each prefix
 digits-of-prefix-are-unchanged : (alone : Bool) (xs ys : List ℕ)
     → keeps_digits alone (xs ++ ys) ≡ true → keeps_digits alone xs ≡ true
 digits-of-prefix-are-unchanged alone [] ys e = refl
 digits-of-prefix-are-unchanged alone (high ∷ []) ys e = refl
 digits-of-prefix-are-unchanged alone (high ∷ low ∷ xs) ys e = e
 
--- unchanged texts: if the octets of a text are unchanged, so are those of both halves
 pub unchanged-text-splits : (alone : Bool) (xs ys : List ℕ) → HasUnchangedOctets alone (xs ++ ys)
     → HasUnchangedOctets alone xs × HasUnchangedOctets alone ys
 unchanged-text-splits alone [] ys e = (refl, e)
@@ -133,8 +122,6 @@ unchanged-text-splits alone (b ∷ xs) ys e =
     either true long short e f = f e
     either false long short e f = refl
 
--- unchanged texts: the octets of a component are unchanged if they are with its delimiters (before,
--- suffix)
 pub delimited-component-of-unchanged-is-unchanged : (alone : Bool) (before suffix : List ℕ)
     (o : Option (List ℕ)) → HasUnchangedOctets alone (marked before o suffix) → IfSome o
     (HasUnchangedOctets alone)

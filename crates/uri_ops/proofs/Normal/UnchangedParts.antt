@@ -9,7 +9,6 @@ use Rattle.uri_ops.proofs.Meanings.DecodedPrefixes.{decoded-empty-text-is-empty,
 use Rattle.uri_ops.proofs.Meanings.WrittenFormatting.{decoding-without-formatting-is-complete, encoding-formatting-completes-decoding, no-byte-E2-no-formatting, text-without-formatting-is-unchanged}
 use Rattle.uri_ops.proofs.Normal.UnchangedBytes.{unchanged-text-lacks-byte-E2, unchanged-text-splits}
 
--- unchanged texts: an octet is decoded by itself if it is unchanged
 unchanged-octet-is-decoded-alone : (alone : Bool) (high low : ℕ) → is_unchanged_octet alone high low
     ≡ true → (alone || ltb (16 * digit_value high + digit_value low) 128) ≡ true
 unchanged-octet-is-decoded-alone alone high low e =
@@ -22,7 +21,6 @@ unchanged-octet-is-decoded-alone alone high low e =
     (ltb-true high 56 small) in
     grind (arith, nat_tests)) (or_cases alone (ltb high 56) last.0)
 
--- unchanged texts: an unchanged octet is printed with its digits
 unchanged-octet-prints-itself : (alone : Bool) (high low : ℕ) → is_unchanged_octet alone high low
     ≡ true → print (decode_octet (Octet (16 * digit_value high + digit_value low)) ∷ [])
     ≡ 37 ∷ high ∷ low ∷ []
@@ -108,7 +106,6 @@ module _ (set : TableSet) (alone : Bool) (none : alone ≡ true → LacksPastAsc
   unchanged-option-decodes-to-itself percent (Some text) u v same = ap Some
       (unchanged-text-decodes-to-itself percent text u v same)
 
--- unchanged texts: encoding formatting characters keeps characters of which none is one
 encode_formatting-keeps-literal-characters : (set : TableSet) (cs : List ℕ)
     → list_any is_bidi_formatting cs ≡ false → encode_formatting set (map Char cs) ≡ map Char cs
 unfolding is_never_literal
@@ -119,7 +116,6 @@ encode_formatting-keeps-literal-characters set (c ∷ cs) e =
     (cond-false _ _ _ (and_right (set.ucschar && set.pct_encoded) (is_bidi_formatting c) p.0))
     ∙ ap (λ us. Char c ∷ us) (encode_formatting-keeps-literal-characters set cs p.1)
 
--- unchanged texts: the decoded tokens of a text without octets are its characters
 text-without-octets-has-tokens-decoded : (set : TableSet) (text : List ℕ) → IsUtf8 text
     → lacks 37 text ≡ true → decode_tokens set (tokens text) ≡ map Char (chars text)
 unfolding tokens_from_chars chars decode_after_run
@@ -128,8 +124,6 @@ text-without-octets-has-tokens-decoded set text u e = ap (λ x. decode_tokens se
     ∙ decode_tokens-after-chars set (chars text) [] ∙ ap (λ ts. map Char (chars text)
     ++ ts) (decode_run-of-nil-is-nil set) ∙ append-nil (map Char (chars text))
 
--- unchanged texts: a text without octets and formatting characters has its characters as its
--- decoded form
 literal-text-decodes-to-characters : (set : TableSet) (text : List ℕ) → IsUtf8 text
     → lacks 37 text ≡ true → list_any (λ b. eqb b 0xE2) text ≡ false
     → decode_unreserved set text ≡ map Char (chars text)
@@ -144,8 +138,6 @@ unbracketed-host-is-of-name_kind : (host : List ℕ) → starts 91 host ≡ fals
 unfolding host_kind
 unbracketed-host-is-of-name_kind host e = cond-false _ _ _ e
 
--- unchanged texts: a name in lower case without octets and formatting characters is its own normal
--- form
 pub lower-name-is-its-normal-form : (kind : Kind) → HasComponentSets kind → (host : List ℕ)
     → IsUtf8 host → lacks 37 host ≡ true → list_any (λ b. eqb b 0xE2) host ≡ false
     → str_to_ascii_lowercase host ≡ host → starts 91 host ≡ false

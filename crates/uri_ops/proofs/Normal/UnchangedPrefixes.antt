@@ -10,7 +10,6 @@ use Rattle.uri_ops.proofs.Normal.WrittenPlaces.{length-with-delimiter-after}
 abbrev pub has_unchanged_host_bytes : List ℕ → Bool
 has_unchanged_host_bytes text = list_all is_unchanged_host_byte text
 
--- unchanged bytes: the set of the two masks has the unchanged bytes of ASCII
 unchanged-masks-have-unchanged-bytes : (b : ℕ) → has_bit UNCHANGED_LOW UNCHANGED_HIGH b ≡ true
     → is_unchanged_host_byte b ≡ true
 unfolding has_bit
@@ -20,7 +19,6 @@ unchanged-masks-have-unchanged-bytes b e =
     (λ _. true) 128 b refl (has_bit-only-ascii UNCHANGED_LOW UNCHANGED_HIGH b e) in
     sym (ap (λ x. not x || is_unchanged_host_byte b) e) ∙ agrees
 
--- unchanged bytes: a run of bytes of the set, in a window of a text, is an unchanged prefix
 pub run-of-unchanged-bytes-is-unchanged-prefix : (bytes window : List ℕ) (limit end last : ℕ)
     → window ≡ take limit bytes → end ≤ limit → end ≤ length bytes
     → IsLongestRun (has_bit UNCHANGED_LOW UNCHANGED_HIGH) window 0 last → end ≤ last
@@ -51,7 +49,6 @@ pub run-of-unchanged-bytes-is-literal : (bytes window : List ℕ) (limit end las
 run-of-unchanged-bytes-is-literal bytes window limit end last same within run over k h =
     grind (arith, common_steps, unchanged-masks-have-literal-bytes)
 
--- unchanged bytes: an unchanged text is in lower case
 pub unchanged_bytes_are_lower : (text : List ℕ) → has_unchanged_host_bytes text ≡ true
     → str_to_ascii_lowercase text ≡ text
 unchanged_bytes_are_lower [] e = refl
@@ -60,7 +57,6 @@ unchanged_bytes_are_lower (b ∷ text) e =
     let same : to_ascii_lowercase b ≡ b = let h = p.0 in grind (arith, nat_tests) in
     λ i. same i ∷ unchanged_bytes_are_lower text p.1 i
 
--- unchanged bytes: an unchanged text has no `%` (37)
 unchanged-bytes-lack-percent : (text : List ℕ) → has_unchanged_host_bytes text ≡ true
     → lacks 37 text ≡ true
 unchanged-bytes-lack-percent [] e = refl
@@ -69,13 +65,11 @@ unchanged-bytes-lack-percent (b ∷ text) e =
     let other : not (eqb b 37) ≡ true = (and_parts _ _ (and_parts _ _ p.0).1).0 in
     and_from _ _ other (unchanged-bytes-lack-percent text p.1)
 
--- unchanged bytes: an unchanged text does not begin with `[` (91)
 unchanged-bytes-begin-without-bracket : (text : List ℕ) → has_unchanged_host_bytes text ≡ true
     → starts 91 text ≡ false
 unchanged-bytes-begin-without-bracket [] e = refl
 unchanged-bytes-begin-without-bracket (b ∷ text) e = grind (arith, nat_tests, not-true)
 
--- unchanged bytes: a host whose bytes are unchanged is unchanged
 pub host_of_unchanged_bytes_is_unchanged : (host : List ℕ) → has_unchanged_host_bytes host ≡ true
     → IsUnchangedHost host
 host_of_unchanged_bytes_is_unchanged host e =
@@ -93,14 +87,12 @@ unchanged-prefix-splits : (n : ℕ) (xs ys : List ℕ)
     → (has_unchanged_host_bytes xs ≡ true) × (has_unchanged_host_bytes (take n ys) ≡ true)
 unchanged-prefix-splits n xs ys e = grind (arith, nat_tests, list_all-append, take-append-add)
 
--- unchanged bytes: a scheme is unchanged if its bytes are, with the `:` after it
 scheme-of-unchanged-bytes-is-unchanged : (scheme : Option (List ℕ))
     → has_unchanged_host_bytes (marked [] scheme (codes ":")) ≡ true → normal_scheme scheme ≡ scheme
 scheme-of-unchanged-bytes-is-unchanged None e = refl
 scheme-of-unchanged-bytes-is-unchanged (Some s) e = ap Some (unchanged_bytes_are_lower s
     (and_parts _ _ (sym (list_all-append is_unchanged_host_byte s (codes ":")) ∙ e)).0)
 
--- unchanged bytes: the bytes of a host are unchanged if those of its authority are, up to its end
 unchanged-prefix-of-authority-has-its-host : (a rest : List ℕ)
     → recompose_authority (authority_parts a) ≡ a → has_unchanged_host_bytes (take (host_end_of a)
     (a ++ rest)) ≡ true → has_unchanged_host_bytes (authority_parts a).host ≡ true
@@ -112,8 +104,6 @@ abbrev end_of_host : Option (List ℕ) → Option (List ℕ) → ℕ
 end_of_host scheme authority = unwrap_or (option_map (λ a. a.host_end)
     (option_map (authority_at (delimited_length 1 scheme + 2)) authority)) 0
 
--- unchanged bytes: the scheme and the host are unchanged if the bytes up to the end of the host
--- are
 pub unchanged-prefix-has-unchanged-scheme-and-host :
     (scheme authority : Option (List ℕ)) (rest : List ℕ) → ((a : List ℕ) → authority ≡ Some a
     → recompose_authority (authority_parts a) ≡ a) → 0 < end_of_host scheme authority
@@ -139,7 +129,6 @@ unchanged-prefix-has-unchanged-scheme-and-host scheme (Some a) rest whole some e
           (unchanged-prefix-of-authority-has-its-host a rest (whole a refl) authority),
     )
 
--- unchanged bytes: the host of these components ends in their text before the path begins
 pub host-ends-before-path : (p : Components)
     → ((a : List ℕ) → p.authority ≡ Some a → recompose_authority (authority_parts a) ≡ a)
     → (packed (positions_of p)).host_end ≤ (positions_of p).path_start

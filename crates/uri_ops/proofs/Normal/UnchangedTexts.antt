@@ -7,7 +7,6 @@ use Rattle.uri_ops.proofs.Normal.NormalTexts.{text-has-parts-of-kind}
 use Rattle.uri_ops.proofs.Normal.UnchangedBytes.{delimited-component-of-unchanged-is-unchanged, unchanged-text-lacks-byte-E2, unchanged-text-splits}
 use Rattle.uri_ops.proofs.Normal.UnchangedParts.{unchanged-text-decodes-to-itself, unchanged-option-decodes-to-itself, lower-name-is-its-normal-form}
 
--- unchanged texts: the host of an authority passes the test of hosts
 host-of-authority-is-host : (users names : TableSet) (a : List ℕ)
     → is_authority_for users names a ≡ true → is_host names (authority_parts a).host ≡ true
 unfolding is_authority_for
@@ -69,8 +68,6 @@ path-that-needs-no-guard-is-unchanged None authority path h = refl
 path-that-needs-no-guard-is-unchanged (Some s) None path h = cond-false _ _ _ h
 path-that-needs-no-guard-is-unchanged (Some s) (Some a) path h = refl
 
--- a text whose octets are unchanged is its own normal text if normalising leaves its
--- components
 pub unchanged-text-is-its-normal-text : (kind : Kind)
     → HasComponentSets kind → (alone : Bool) → (alone ≡ true → KindLacksPastAscii kind)
     → (ports : PortFunction) (text : List ℕ) → IsTextOf kind text → HasUnchangedOctets alone text

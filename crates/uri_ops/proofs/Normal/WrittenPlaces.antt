@@ -27,15 +27,11 @@ pub pushed-authority-parts-have-positions : (p : AuthorityParts) (o0 o1 o2 o3 : 
 pushed-authority-parts-have-positions p o0 o1 o2 o3 e1 e2 e3 =
     grind (arith, common_steps, length-with-delimiter-after)
 
--- positions in a normal text: the positions of an authority by its parts are those by its text, if
--- it splits into them
 pub positions-of-parts-are-of-text : (place : ℕ) (p : AuthorityParts)
     → authority_parts (recompose_authority p) ≡ p
     → authority_parts_at place p ≡ authority_at place (recompose_authority p)
 positions-of-parts-are-of-text place p cut = grind (arith, nat_tests)
 
--- positions in a normal text: the positions by the parts of the authority are those of the
--- components
 pub positions-with-parts-are-of-components : (c : Components) (parts : Option AuthorityParts)
     → option_map (authority_parts_at (delimited_length 1 c.scheme + 2)) parts
     ≡ option_map (authority_at (delimited_length 1 c.scheme + 2)) c.authority
@@ -117,7 +113,6 @@ pushed-prefix-and-path-have-positions p o0 o2 o3 start stop end query authority 
     stops ends lies queries =
     grind (arith, nat_tests, pushed-path-and-query-end-at-lengths, length-before_path-is-path_start)
 
--- general fact on options, for positions in a normal text: three functions, one after the other
 option_map-of-three-functions-splits : {A B C D : Type 0} (f : C → D) (h : B → C) (k : A → B)
     (o : Option A) → option_map (λ a. f (h (k a))) o ≡ option_map f (option_map h (option_map k o))
 option_map-of-three-functions-splits f h k None = refl

@@ -3,26 +3,22 @@ use Rattle.uri_ops.proofs.Common.{common_steps, ◌≡◌, ◌<◌, ◌-◌, ◌
 use Rattle.uri_ops.proofs.Targeting.Targets.{appended-absolute-path-is-absolute}
 use Rattle.uri_ops.proofs.Paths.LastSlashes.{before_last_slash-of-directory, text-is-empty-if-positions-are-equal, length-of-directory}
 
--- paths: a directory of one byte, `/`, has nothing before its last `/`
 pub directory-of-one-byte-is-root : (path : List ℕ) → IsDotlessDirectory path
     → eqb (length path) 1 ≡ is_empty (before_last_slash path)
 directory-of-one-byte-is-root path d = text-is-empty-if-positions-are-equal d.closed.0
     (length path) 1 (omega (arith, length-of-directory path d.closed))
     ∙ ap is_empty (sym (before_last_slash-of-directory path d.closed))
 
--- general fact on texts, for what is kept of a directory: its first n bytes are a prefix of it
 pub first-bytes-are-prefix : (text prefix : List ℕ) (n : ℕ) → prefix ≡ take n text
     → BeginsWith text prefix
 first-bytes-are-prefix text prefix n e =
     (drop n text, sym (ap (λ t. t ++ drop n text) e ∙ take-append-drop n text))
 
--- general fact on texts, for what is kept of a directory: a prefix of a prefix is one of the text
 pub prefix-of-prefix-is-prefix : (text prefix kept : List ℕ) → BeginsWith text prefix
     → BeginsWith prefix kept → BeginsWith text kept
 prefix-of-prefix-is-prefix text prefix kept (rest, e) (between, f) =
     (between ++ rest, e ∙ ap (λ t. t ++ rest) f ∙ append_assoc kept between rest)
 
--- paths: one that begins with a directory is absolute
 pub path-with-directory-at-start-is-absolute : (path kept : List ℕ) → IsDotlessDirectory kept
     → BeginsWith path kept → IsAbsolute path
 path-with-directory-at-start-is-absolute path kept d (rest, e) =
@@ -36,7 +32,6 @@ pub directory-at-start-ends-at-slash : (path kept : List ℕ)
 directory-at-start-ends-at-slash path kept d (rest, e) =
     grind (arith, common_steps, length-of-directory)
 
--- general fact on texts, for what is left of a path: a suffix of a suffix is one of the text
 pub rest-of-suffix-is-suffix : (text suffix rest : List ℕ) (n : ℕ) → rest ≡ drop n suffix
     → EndsIn text suffix → EndsIn text rest
 rest-of-suffix-is-suffix text suffix rest n e (before, f) = (
@@ -51,7 +46,6 @@ pub parent-of-directory-is-directory : (path kept rest : List ℕ) (underflowed 
     → IsDotlessDirectory (parent_directory kept)
 parent-of-directory-is-directory path kept rest underflowed h = grind arith
 
--- dot segments: a path that begins with a dot or an octet is not empty
 pub path-beginning-with-dot-is-not-empty : (path : List ℕ) → begins_with_dot path ≡ true
     → 0 < length path
 path-beginning-with-dot-is-not-empty [] e = absurd (false≢true e)

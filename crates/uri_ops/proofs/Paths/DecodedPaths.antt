@@ -78,7 +78,6 @@ slashed-set-texts-are-set-text set slash [] e = empty-text-is-set-text set
 slashed-set-texts-are-set-text set slash (s ∷ rest) e = set-texts-join-at-slash set slash [] (s
     ++ slashed rest) (empty-text-is-set-text set) (joined-set-texts-are-set-text set slash s rest e)
 
--- decoded paths: segments, all but the first after a `/`, are decoded one by one
 decoding-joined-segments-is-by-segment : (set : TableSet) (s : List ℕ) (rest : List (List ℕ))
     → AllPass (is_set_text set) (s ∷ rest) → print_decoded set (s ++ slashed rest)
     ≡ print_decoded set s ++ slashed (map (print_decoded set) rest)
@@ -96,7 +95,6 @@ pub decoding-keeps-first-slash : (set : TableSet) (y : List ℕ) → print_decod
 decoding-keeps-first-slash set y = decoding-splits-at-slash set [] y IsUtf8-nil
     ∙ ap (λ x. x ++ 47 ∷ print_decoded set y) (print_decoded-of-nil-is-nil set)
 
--- decoded paths: a path is decoded segment by segment
 decoding-slashed-segments-is-by-segment : (set : TableSet) (segs : List (List ℕ))
     → AllPass (is_set_text set) segs
     → print_decoded set (slashed segs) ≡ slashed (map (print_decoded set) segs)

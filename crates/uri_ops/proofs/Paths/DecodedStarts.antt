@@ -13,7 +13,6 @@ record FirstSegment (text : List ℕ) : Type 0 where
   pub whole : text ≡ segment ++ 47 ∷ rest
   pub lacks : has_slash segment ≡ false
 
--- paths: a text has no `/`, or a first segment and a rest after it
 text-lacks-slash-or-has-first-segment : (text : List ℕ) → (has_slash text ≡ false)
     ⊎ FirstSegment text
 text-lacks-slash-or-has-first-segment [] = inl refl
@@ -29,12 +28,10 @@ text-lacks-slash-or-has-first-segment (c ∷ text) = ⊎_elim (λ e. inr (record
   lacks = or_from _ _ e w.lacks;
 })) (text-lacks-slash-or-has-first-segment text)) (cases_Bool (eqb c 47))
 
--- dot segments: the empty text decodes to no bytes
 empty-text-decodes-to-no-bytes : bytes_decoded_from (tokens []) ≡ []
 unfolding chars tokens_from_chars
 empty-text-decodes-to-no-bytes = refl
 
--- paths: a text without `/` does not begin with it (47)
 slashless-text-begins-with-no-slash : (s : List ℕ) → has_slash s ≡ false → starts 47 s ≡ false
 slashless-text-begins-with-no-slash [] e = refl
 slashless-text-begins-with-no-slash (c ∷ s) e = (or_parts (eqb c 47) (has_slash s) e).0
@@ -60,18 +57,15 @@ pub leading-slash-splits-off : (x : List ℕ) → starts 47 x ≡ true → (y : 
 leading-slash-splits-off [] e = absurd (false≢true e)
 leading-slash-splits-off (c ∷ y) e = (y, ap (λ d. d ∷ y) (eqb-true c 47 e))
 
--- paths: a text without `/` lacks it as a delimiter
 slashless-text-lacks-slash-delimiter : (s : List ℕ) → has_slash s ≡ false → Lacks (codes "/") s
 slashless-text-lacks-slash-delimiter s e = test-of-delimiters-gives-lacks (codes "/") s
     (lacks-gives-lacks_any 47 s e)
 
--- paths: what is before the first `/` (47) is the first segment
 text-before-first-slash-is-segment : (s y : List ℕ) → has_slash s ≡ false
     → before_any (codes "/") (s ++ 47 ∷ y) ≡ s
 text-before-first-slash-is-segment s y e = (cut-at-end-of-text-without-marks (codes "/") s
     (47 ∷ y) (slashless-text-lacks-slash-delimiter s e) refl).0
 
--- paths: what is before the first `/` of a text that has none is the text
 text-before-no-slash-is-whole : (s : List ℕ) → has_slash s ≡ false → before_any (codes "/") s ≡ s
 text-before-no-slash-is-whole s e = ap (before_any (codes "/")) (sym (append-nil s))
     ∙ (cut-at-end-of-text-without-marks (codes "/") s []

@@ -20,14 +20,12 @@ pub property-of-each-dot : (P : List ℕ → Type 0) → P (codes ".") → P (co
 property-of-each-dot P one upper lower dot d = ⊎_elim (λ e. subst P (sym e) one)
     (λ f. ⊎_elim (λ e. subst P (sym e) upper) (λ e. subst P (sym e) lower) f) d.joined
 
--- dot segments: a dot, `.` or `%2E`, decodes to the byte 46
 dot-decodes-to-byte-46 : (first : List ℕ) → IsDot first → bytes_decoded_from (tokens first)
     ≡ 46 ∷ []
 unfolding chars tokens_from_chars is_pct_encoded encode_utf8
 dot-decodes-to-byte-46 = property-of-each-dot (λ first. bytes_decoded_from (tokens first) ≡ 46 ∷ [])
     refl refl refl
 
--- dot segments: two dots, each `.` or `%2E`, decode to two bytes 46
 two-dots-decode-to-bytes-46 : (first second : List ℕ) → IsDot first → IsDot second
     → bytes_decoded_from (tokens (first ++ second)) ≡ 46 ∷ 46 ∷ []
 unfolding chars tokens_from_chars is_pct_encoded encode_utf8
@@ -39,7 +37,6 @@ single-dot-segment-decodes-to-dot : (s : List ℕ) → is_single_dot s ≡ true
 single-dot-segment-decodes-to-dot s e =
     grind (arith, test-of-some-dot, tokens, equal-bytes-are-equal, dot-decodes-to-byte-46)
 
--- dot segments: the segment `..` (also with `%2E`) decodes to two bytes 46
 double-dot-segment-decodes-to-two-dots : (s : List ℕ)
     → is_double_dot s ≡ true → bytes_decoded_from (tokens s) ≡ 46 ∷ 46 ∷ []
 double-dot-segment-decodes-to-two-dots s e =
@@ -56,13 +53,11 @@ record BeginsWithDot (cs bytes : List ℕ) : Type 0 where
   whole : cs ≡ dot ++ rest
   suffix : bytes_decoded_from (tokens_from_chars rest) ≡ bytes
 
--- dot segments: a character whose first byte is 46 is `.`
 character-with-first-byte-46-is-dot : (c : ℕ) (more bytes : List ℕ)
     → encode_utf8 c ++ more ≡ 46 ∷ bytes → (c ≡ 46) × (more ≡ bytes)
 character-with-first-byte-46-is-dot c more bytes e = encode_same c 46 more bytes
     (e ∙ sym (ap (λ t. t ++ bytes) (encode_ascii 46 (omega arith))))
 
--- dot segments: the digits of an octet with the value 46 are `2` (50), and `E` (69) or `e` (101)
 hex-digits-of-46-are-2E : (h l : ℕ) → is_ascii_hexdigit h ≡ true → is_ascii_hexdigit l ≡ true
     → 16 * digit_value h + digit_value l ≡ 46 → (h ≡ 50) × ((l ≡ 69) ⊎ (l ≡ 101))
 hex-digits-of-46-are-2E h l e f g =
@@ -85,12 +80,10 @@ hex-digits-of-46-are-2E h l e f g =
             → l ≡ 101
         lower l e g k = grind (arith, nat_tests)
 
--- general fact on lists, for bytes of dots: equal lists have equal first elements and rests
 equal-lists-have-equal-heads-and-tails : (x y : ℕ) (xs ys : List ℕ) → x ∷ xs ≡ y ∷ ys → (x ≡ y)
     × (xs ≡ ys)
 equal-lists-have-equal-heads-and-tails x y xs ys e = (cc, cc)
 
--- dot segments: an octet (c, h, l) that decodes to the byte 46 is a dot
 octet-decoding-to-46-is-dot : (c h l : ℕ) (rest bytes : List ℕ) → is_pct_encoded c h l ≡ true
     → (16 * digit_value h + digit_value l) ∷ bytes_decoded_from (tokens_from_chars rest)
     ≡ 46 ∷ bytes → BeginsWithDot (c ∷ h ∷ l ∷ rest) bytes
@@ -110,7 +103,6 @@ octet-decoding-to-46-is-dot c h l rest bytes e f =
     encoded_dot c h l a b (inl k) = inl (cc)
     encoded_dot c h l a b (inr k) = inr (cc)
 
--- dot segments: a character c that decodes to the byte 46 is a dot
 character-decoding-to-46-is-dot : (c : ℕ) (rest bytes : List ℕ) → encode_utf8 c
     ++ bytes_decoded_from (tokens_from_chars rest) ≡ 46 ∷ bytes → BeginsWithDot (c ∷ rest) bytes
 character-decoding-to-46-is-dot c rest bytes e =
@@ -133,7 +125,6 @@ utf8-of-character-is-not-empty c more e = omega
 nil-is-no-cons : (b : ℕ) (bs : List ℕ) → [] ≡ b ∷ bs → ⊥
 nil-is-no-cons b bs e = cc
 
--- dot segments: characters that decode to a first byte 46 begin with a dot
 text-decoding-to-first-46-begins-with-dot : (cs bytes : List ℕ)
     → bytes_decoded_from (tokens_from_chars cs) ≡ 46 ∷ bytes → BeginsWithDot cs bytes
 unfolding tokens_from_chars
@@ -145,7 +136,6 @@ text-decoding-to-first-46-begins-with-dot (c ∷ d ∷ []) bytes e = character-d
 text-decoding-to-first-46-begins-with-dot (c ∷ h ∷ l ∷ rest) bytes e =
     grind (arith, common_steps, octet-decoding-to-46-is-dot, character-decoding-to-46-is-dot)
 
--- dot segments: characters that decode to no bytes are none
 text-decoding-to-no-bytes-has-no-characters : (cs : List ℕ)
     → bytes_decoded_from (tokens_from_chars cs) ≡ [] → cs ≡ []
 unfolding tokens_from_chars
@@ -157,19 +147,16 @@ text-decoding-to-no-bytes-has-no-characters (c ∷ d ∷ []) e = absurd
 text-decoding-to-no-bytes-has-no-characters (c ∷ h ∷ l ∷ rest) e =
     grind (arith, nil-is-no-cons, utf8-of-character-is-not-empty)
 
--- dot segments: a dot, `.` or `%2E`, is the segment `.`
 dot-is-single-dot-segment : (cs : List ℕ) → IsDot cs → is_single_dot (encode_utf8_all cs) ≡ true
 unfolding encode_utf8
 dot-is-single-dot-segment = property-of-each-dot (λ cs. is_single_dot (encode_utf8_all cs)
     ≡ true) refl refl refl
 
--- dot segments: two dots, each `.` or `%2E`, are the segment `..`
 two-dots-are-double-dot-segment : (cs ds : List ℕ) → IsDot cs → IsDot ds
     → is_double_dot (encode_utf8_all (cs ++ ds)) ≡ true
 unfolding encode_utf8
 two-dots-are-double-dot-segment cs ds d e = grind (arith, property-of-each-dot)
 
--- dot segments: characters that decode to one byte 46 are the segment `.`
 characters-decoding-to-dot-are-single-dot : (cs : List ℕ)
     → bytes_decoded_from (tokens_from_chars cs) ≡ 46 ∷ []
     → is_single_dot (encode_utf8_all cs) ≡ true
@@ -179,7 +166,6 @@ characters-decoding-to-dot-are-single-dot cs e =
     ++ t) (text-decoding-to-no-bytes-has-no-characters w.rest w.suffix) ∙ append-nil w.dot in
     ap (λ t. is_single_dot (encode_utf8_all t)) same ∙ dot-is-single-dot-segment w.dot w.is_dot
 
--- dot segments: characters that decode to two bytes 46 are the segment `..`
 characters-decoding-to-two-dots-are-double-dot : (cs : List ℕ)
     → bytes_decoded_from (tokens_from_chars cs) ≡ 46 ∷ 46 ∷ []
     → is_double_dot (encode_utf8_all cs) ≡ true
@@ -191,13 +177,11 @@ characters-decoding-to-two-dots-are-double-dot cs e =
     ap (λ t. is_double_dot (encode_utf8_all t)) (v.whole ∙ ap (λ t. v.dot ++ t) rest)
     ∙ two-dots-are-double-dot-segment v.dot w.dot v.is_dot w.is_dot
 
--- dot segments: a text that decodes to one byte 46 is the segment `.`
 text-decoding-to-dot-is-single-dot : (s : List ℕ)
     → IsUtf8 s → bytes_decoded_from (tokens s) ≡ 46 ∷ [] → is_single_dot s ≡ true
 text-decoding-to-dot-is-single-dot s u e = ap is_single_dot (sym (encodes-chars s u))
     ∙ characters-decoding-to-dot-are-single-dot (chars s) e
 
--- dot segments: a text that decodes to two bytes 46 is the segment `..`
 text-decoding-to-two-dots-is-double-dot : (s : List ℕ)
     → IsUtf8 s → bytes_decoded_from (tokens s) ≡ 46 ∷ 46 ∷ [] → is_double_dot s ≡ true
 text-decoding-to-two-dots-is-double-dot s u e = ap is_double_dot (sym (encodes-chars s u))
@@ -234,7 +218,6 @@ double-dot-by-decoded-bytes s t u v e =
       double-dot-segment-decodes-to-two-dots,
     )
 
--- dot segments: a text that decodes to no bytes is empty
 pub text-decoding-to-no-bytes-is-empty : (s : List ℕ) → IsUtf8 s → bytes_decoded_from (tokens s)
     ≡ [] → s ≡ []
 text-decoding-to-no-bytes-is-empty s u e = sym (encodes-chars s u)

@@ -55,7 +55,6 @@ pub appended-segments-lack-slashes : (segs : List (List ℕ)) (q : List ℕ) →
 appended-segments-lack-slashes segs q e = appended-segments-pass-test lacks_slash segs
     (segments q) e (segments-of-text-lack-slashes q)
 
--- dot segments: no segment has a slash, also after an empty last one is appended
 pub segments-with-empty-last-lack-slashes : (segs : List (List ℕ)) → NoSlashes segs
     → NoSlashes (segs ++ [] ∷ [])
 segments-with-empty-last-lack-slashes segs e = appended-segments-pass-test lacks_slash segs
@@ -95,7 +94,6 @@ dotless-path-does-not-underflow = property-of-absolute-path-by-segments
     (λ s rest e f. underflows-by-segments (s ∷ rest) e ∙ dotless-segments-do-not-underflow false []
     (s ∷ rest) (segments-of-dotless-path-are-dotless (s ∷ rest) e f))
 
--- paths: segments, each after a `/`, make an absolute path if there are any
 pub slashed-segments-are-absolute : (segs : List (List ℕ)) → is_none segs ≡ false
     → IsAbsolute (slashed segs)
 unfolding is_none slashed
@@ -156,7 +154,6 @@ directory-is-absolute =
       pushed-segments-are-not-none,
     )
 
--- paths: a directory ends in `/`
 pub directory-ends-in-slash : (path : List ℕ) → IsAbemptyPath path → EndsInSlash (directory path)
 unfolding directory
 directory-ends-in-slash = rooted (λ path. EndsInSlash (directory path)) ([], refl)
@@ -179,7 +176,6 @@ removing-dots-and-directory-swap = rooted
     ∙ directory-of-slashed-segments-is-parent (dotless_of (s ∷ rest)) (dotless_of-is-not-empty (s
     ∷ rest) (cons-is-not-none s rest)) (dotless_of-segments-lack-slashes (s ∷ rest) e))))
 
--- removing dot segments: those of a prefix that ends in `/` may be removed first
 pub prefix-dots-may-be-removed-first : (prefix q : List ℕ) → IsAbsolute prefix → EndsInSlash prefix
     → remove_dot_segments (prefix ++ q) ≡ remove_dot_segments (remove_dot_segments prefix ++ q)
 prefix-dots-may-be-removed-first prefix q = property-of-path-to-slash-by-segments
@@ -201,7 +197,6 @@ base-dots-may-be-removed-before-merging path q h = prefix-dots-may-be-removed-fi
     (directory path) q (directory-is-absolute path h) (directory-ends-in-slash path h)
     ∙ ap (λ t. remove_dot_segments (t ++ q)) (removing-dots-and-directory-swap path h)
 
--- paths: a directory underflows exactly if its path does
 pub directory-underflows-as-path : (path : List ℕ) → IsAbemptyPath path
     → underflows (directory path) ≡ underflows path
 unfolding underflows directory run
@@ -214,8 +209,6 @@ directory-underflows-as-path = rooted (λ path. underflows (directory path) ≡ 
     ∙ parent-underflows-as-segments false [] (s ∷ rest)
     ∙ sym (underflows-by-segments (s ∷ rest) e)))
 
--- dot segments: a directory and a path q after it underflow if the directory does, or if both do
--- after its dot segments are removed
 pub path-underflows-as-prefix-or-remainder : (prefix q : List ℕ) → IsAbsolute prefix
     → EndsInSlash prefix
     → underflows (prefix ++ q) ≡ (underflows prefix || underflows (remove_dot_segments prefix ++ q))
@@ -234,8 +227,6 @@ path-underflows-as-prefix-or-remainder prefix q = property-of-path-to-slash-by-s
     ∙ underflows-by-segments (steps [] segs ++ segments q) (appended-segments-lack-slashes
     (steps [] segs) q (segments-after-steps-lack-slashes segs e))))) prefix
 
--- merged paths: base path and reference q underflow if the base does, or if both do after the
--- base's dot segments are removed
 pub merged-path-underflows-as-base-or-remainder : (path q : List ℕ) → IsAbemptyPath path
     → underflows (directory path ++ q)
     ≡ (underflows path || underflows (directory (remove_dot_segments path) ++ q))
@@ -269,7 +260,6 @@ popped-segments-are-no-longer (s ∷ t ∷ rest) = omega (
   length-append s (slashed (t ∷ rest)),
 )
 
--- dot segments: one is not empty, so there is room for the `/` that it leaves
 dot-segment-is-not-empty : (s : List ℕ) → is_dot_segment s ≡ true → 0 < length s
 dot-segment-is-not-empty [] e = absurd (false≢true e)
 dot-segment-is-not-empty (c ∷ s) e = omega arith
@@ -313,7 +303,6 @@ segments-with-end_of-are-no-shorter : (xs : List (List ℕ)) (dot : Bool)
 segments-with-end_of-are-no-shorter xs dot = omega
     (arith, length-of-slashed-append-is-sum xs (end_of dot))
 
--- removing dot segments: the segments that are left are no longer than all were
 segments-after-steps-are-no-longer : (output segs : List (List ℕ)) → length
     (slashed (steps output segs ++ closing segs)) ≤ length (slashed output) + length (slashed segs)
 unfolding steps closing step_of

@@ -9,7 +9,6 @@ dot_len-of-leading-dot : (d : List ℕ) → IsDot d → (r : List ℕ) → dot_l
 dot_len-of-leading-dot = property-of-each-dot
     (λ d. (r : List ℕ) → dot_len (d ++ r) ≡ length d) (λ r. refl) (λ r. refl) (λ r. refl)
 
--- dot segments: a dot, `.` or `%2E`, is not empty
 dot-is-not-empty : (d : List ℕ) → IsDot d → 0 < length d
 dot-is-not-empty = property-of-each-dot (λ d. 0 < length d) (omega arith) (omega arith)
     (omega arith)
@@ -24,18 +23,15 @@ one-dot-is-single-dot-without-slash = property-of-each-dot
 IsDoubleDotWithoutSlash : List ℕ → List ℕ → Type 0
 IsDoubleDotWithoutSlash d e = (has_slash (d ++ e) ≡ false) × (is_double_dot (d ++ e) ≡ true)
 
--- dot segments: two dots are together the segment `..`, without `/`
 two-dots-are-double-dot-without-slash : (d e : List ℕ) → IsDot d → IsDot e
     → IsDoubleDotWithoutSlash d e
 unfolding IsDoubleDotWithoutSlash
 two-dots-are-double-dot-without-slash d e f g = grind (arith, property-of-each-dot)
 
--- dot segments: a text that begins with the byte 46 begins with a dot
 text-from-byte-46-begins-with-dot : (text : List ℕ) → get_or text 0 0 ≡ 46 → take 1 text ≡ codes "."
 text-from-byte-46-begins-with-dot [] e = absurd (omega (arith, e))
 text-from-byte-46-begins-with-dot (c ∷ text) e = ap (λ b. b ∷ []) e
 
--- dot segments: the three bytes `%` (37), `2` (50) and x are an octet
 first-three-bytes-are-octet : (text : List ℕ) (x : ℕ) → get_or text 0 0 ≡ 37 → get_or text 1 0 ≡ 50
     → get_or text 2 0 ≡ x → 0 < x → take 3 text ≡ 37 ∷ 50 ∷ x ∷ []
 first-three-bytes-are-octet [] x a b c some = absurd (omega (arith, a))
@@ -43,7 +39,6 @@ first-three-bytes-are-octet (p ∷ []) x a b c some = absurd (omega (arith, b))
 first-three-bytes-are-octet (p ∷ q ∷ []) x a b c some = absurd (omega (arith, c, some))
 first-three-bytes-are-octet (p ∷ q ∷ r ∷ text) x a b c some = cc
 
--- dot segments: `%2E` or `%2e` at the start is a dot
 first-three-bytes-2E-are-dot : (text : List ℕ) → (eqb (get_or text 0 0) 37
     && (eqb (get_or text 1 0) 50 && (eqb (get_or text 2 0) 69 || eqb (get_or text 2 0) 101))) ≡ true
     → IsDot (take 3 text)
@@ -54,12 +49,10 @@ prefix-of-dot_len-is-dot : (text : List ℕ) (n : ℕ) → n ≡ dot_len text �
 prefix-of-dot_len-is-dot text n is some =
     grind (arith, text-from-byte-46-begins-with-dot, first-three-bytes-2E-are-dot)
 
--- dot segments: a path that is empty or begins with `/` begins with no dot
 abempty-path-has-no-dot_len : (r : List ℕ) → IsAbemptyPath r → dot_len r ≡ 0
 abempty-path-has-no-dot_len r (inl e) = ap dot_len e
 abempty-path-has-no-dot_len r (inr h) = ap dot_len (absolute-path-is-slash-and-rest r h)
 
--- dot segments: a path that is empty or begins with `/` ends the segment before it
 abempty-path-ends-segment : (r : List ℕ) → IsAbemptyPath r → ends_segment r ≡ true
 abempty-path-ends-segment r (inl e) = ap ends_segment e
 abempty-path-ends-segment r (inr h) = ap ends_segment (absolute-path-is-slash-and-rest r h)

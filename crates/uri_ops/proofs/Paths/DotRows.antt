@@ -74,13 +74,11 @@ directories-of-example-paths : (directory [] ≡ codes "/")
 unfolding directory
 directories-of-example-paths = (refl, refl, refl, refl, refl, refl, refl, refl)
 
--- examples of paths with and without dot segments, by computation
 lacks_dot_segments-of-example-paths : (lacks_dot_segments (codes "/a/...//b.%2e") ≡ true)
     × (lacks_dot_segments (codes "/a/./b") ≡ false)
     × (lacks_dot_segments (codes "/a/b/%2e.") ≡ false) × (lacks_dot_segments (codes "/..") ≡ false)
 lacks_dot_segments-of-example-paths = (refl, refl, refl, refl)
 
--- example of dot segments: a full-width dot (U+FF0E) is no dot, as itself or as octets
 full-width-dot-is-no-dot-segment : LosesDotsTo (codes "/a/" ++ (0xEF ∷ 0xBC ∷ 0x8E
     ∷ 0xEF ∷ 0xBC ∷ 0x8E ∷ [])) (codes "/a/" ++ (0xEF ∷ 0xBC ∷ 0x8E ∷ 0xEF ∷ 0xBC ∷ 0x8E ∷ []))
     × LosesDotsTo (codes "/a/%EF%BC%8E") (codes "/a/%EF%BC%8E")

@@ -11,7 +11,6 @@ double-dot-is-not-empty : (segment : List ℕ) → is_double_dot segment ≡ tru
 double-dot-is-not-empty [] e = absurd (false≢true e)
 double-dot-is-not-empty (c ∷ rest) e = omega arith
 
--- removing dot segments: a rest or `/` is shorter than n, if the rest is, and n is above 1
 or_slash-of-shorter-is-shorter : (rest : List ℕ) (n : ℕ) → length rest < n → 1 < n
     → length (or_slash rest) < n
 or_slash-of-shorter-is-shorter [] n h one = one
@@ -33,7 +32,6 @@ drop-after-first-byte-is-shorter : (n : ℕ) (input : List ℕ) → 0 < length i
 drop-after-first-byte-is-shorter n input some = omega
     (arith, length-drop n (drop 1 input), length-drop 1 input)
 
--- removing dot segments: a segment with bytes after the first `/` makes the input longer than 1
 segment-with-bytes-has-longer-input : (n : ℕ) (input : List ℕ) → 0 < length (take n (drop 1 input))
     → 1 < length input
 segment-with-bytes-has-longer-input n input some = omega

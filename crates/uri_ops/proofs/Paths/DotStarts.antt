@@ -33,7 +33,6 @@ suffix b [] rest e = record { suffix = b; none = e }
 suffix b (c ∷ s) rest e = suffix (c == 47) s rest
     (or_parts (b && is_dot_start c) (has_dot_start_after_slash (c == 47) (s ++ rest)) e).1
 
--- dot segments: if no dot begins after a `/`, the first segment is no dot segment
 first-segment-without-dot-start-is-dotless : (s rest : List ℕ)
     → has_dot_start_after_slash true (s ++ rest) ≡ false → is_dotless s ≡ true
 unfolding has_dot_start_after_slash
@@ -41,8 +40,6 @@ first-segment-without-dot-start-is-dotless [] rest e = refl
 first-segment-without-dot-start-is-dotless (c ∷ s) rest e =
     grind (arith, segment-without-dot-start-is-dotless)
 
--- dot segments: if no dot begins after a `/`, no segment is a dot segment;
--- the Bool is whether a `/` is before the text
 segments-without-dot-start-are-dotless : (b : Bool) (segs : List (List ℕ))
     → has_dot_start_after_slash b (slashed segs) ≡ false → AllPass is_dotless segs
 unfolding has_dot_start_after_slash slashed
@@ -54,8 +51,6 @@ segments-without-dot-start-are-dotless b (s ∷ rest) e =
     and_from _ _ (first-segment-without-dot-start-is-dotless s (slashed rest) first)
     (segments-without-dot-start-are-dotless more.suffix rest more.none)
 
--- dot segments: the first segment of a path is that of its prefix,
--- if another segment begins after the prefix
 prefix-after-first-segment-is-abempty : (s : List ℕ) (rest : List (List ℕ)) (prefix back : List ℕ)
     → prefix ≡ s ++ slashed rest → has_slash s ≡ false → IsCutAtSegment prefix back
     → IsAbemptyPath (slashed rest ++ back)
@@ -65,8 +60,6 @@ prefix-after-first-segment-is-abempty s [] prefix back e free (inl none) = inl n
 prefix-after-first-segment-is-abempty s [] prefix back e free (inr ends) =
     grind (arith, common_steps, slash-in-suffix-is-in-append)
 
--- dot segments: if a path begins with no dot segment,
--- neither does a prefix that ends where a segment begins
 first-segment-of-cut-prefix-is-dotless : (path prefix back s : List ℕ) (rest : List (List ℕ))
     → path ≡ prefix ++ back → prefix ≡ s ++ slashed rest → has_slash s ≡ false
     → IsCutAtSegment prefix back → BeginsWithoutDotSegment path → is_dotless s ≡ true
@@ -81,8 +74,6 @@ first-segment-of-cut-prefix-is-dotless path prefix back s rest e f free closed h
     ∙ h (length s) (ap has_slash segment ∙ free) (subst IsAbemptyPath
     (sym suffix) (prefix-after-first-segment-is-abempty s rest prefix back f free closed)))
 
--- dot segments: a path in which no dot begins after a later `/`,
--- and whose first segment is none, has no dot segment
 path-without-dot-start-has-dotless-segments : (segs : List (List ℕ)) (text : List ℕ)
     → slashed segs ≡ 47 ∷ text → has_dot_start_after_slash false text ≡ false
     → ((s : List ℕ) (rest : List (List ℕ)) → segs ≡ s ∷ rest → is_dotless s ≡ true)
@@ -100,8 +91,6 @@ unfoldable is_after_slash : Bool → List ℕ → Bool
 is_after_slash suffix [] = suffix
 is_after_slash suffix (c ∷ rest) = is_after_slash (c == 47) rest
 
--- dot segments: no dot begins after a `/` in a text with one more byte (c),
--- unless c is `.` or `%` after a `/`
 byte-that-is-no-dot-adds-no-dot-start : (b : Bool) (t : List ℕ) (c : ℕ)
     → has_dot_start_after_slash b t ≡ false → (is_after_slash b t && is_dot_start c) ≡ false
     → has_dot_start_after_slash b (t ++ c ∷ []) ≡ false
@@ -145,8 +134,6 @@ byte-without-slash-dot-adds-no-dot-start : (bytes : List ℕ) (i : ℕ) → i + 
 byte-without-slash-dot-adds-no-dot-start bytes i within dotless e =
     grind (arith, next-byte-adds-no-dot-start, next-byte-slash-is_after_slash)
 
--- dot segments: if no dot begins after a `/` up to byte i,
--- and none in the n bytes after it, none does in all of them
 bytes-without-slash-dot-add-no-dot-start : (bytes : List ℕ) (i n : ℕ) → i + n < length bytes
     → has_dot_start_after_slash false (take (i + 1) bytes) ≡ false
     → ((k : ℕ) → k < n → has_slash_dot_at bytes (i + k) ≡ false)
@@ -163,7 +150,6 @@ bytes-without-slash-dot-add-no-dot-start bytes i (suc n) within dotless none =
       )) dotless (λ k h. none k (omega (arith, h))),
     )
 
--- dot segments: the first byte of a path begins no dot after a `/`
 first-byte-is-no-dot-start : (bytes : List ℕ) → has_dot_start_after_slash false (take 1 bytes)
     ≡ false
 unfolding has_dot_start_after_slash

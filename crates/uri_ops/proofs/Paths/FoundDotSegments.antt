@@ -6,7 +6,6 @@ use Rattle.uri_ops.proofs.Paths.Segments.{is_dotless}
 use Rattle.uri_ops.proofs.Paths.SlashedSegments.{segments-of-slashed-segments}
 use Rattle.uri_ops.proofs.Paths.TakenSegments.{absolute-path-is-slash-and-rest, segments-of-slashless-text-is-one, segments-split-at-first-slash}
 
--- dot segments: a path whose first segment is one has one
 first-dot-segment-is-in-path : (segment rest : List ℕ) → has_slash segment ≡ false
     → is_dot_segment segment ≡ true → IsAbemptyPath rest
     → lacks_dot_segments (segment ++ rest) ≡ false
@@ -19,7 +18,6 @@ first-dot-segment-is-in-path segment rest lacks dot =
       segments-split-at-first-slash,
     )
 
--- dot segments: a path that has one has it also after a directory without any
 dot-segment-after-directory-is-in-path : (kept path : List ℕ) → IsDotlessDirectory kept
     → lacks_dot_segments path ≡ false → lacks_dot_segments (kept ++ path) ≡ false
 dot-segment-after-directory-is-in-path kept path d found =
@@ -29,7 +27,6 @@ dot-segment-after-directory-is-in-path kept path d found =
     (appended-segments-lack-slashes xs path e)) ∙ list_all-append is_dotless xs (segments path)
     ∙ and_right (list_all is_dotless xs) _ found) kept d
 
--- removing dot segments, segment by segment: one that the rest begins with is in the path
 pub dot-segment-before-rest-is-in-path : (test : List ℕ → Bool) → ((s : List ℕ) → test s ≡ true
     → is_dot_segment s ≡ true) → (path rest : List ℕ) (done n : ℕ) → rest ≡ drop done path
     → 0 < length rest → RemovalState path (take done path) (drop done path) false
@@ -43,10 +40,8 @@ dot-segment-before-rest-is-in-path test is_dot path rest done n is some h first 
     ∙ first-dot-segment-is-in-path (take first.end rest)
     (drop first.end rest) first.segment (is_dot (take first.end rest) first.passes) first.suffix)
 
--- dot segments: a single dot is one
 pub single-dot-is-dot-segment : (s : List ℕ) → is_single_dot s ≡ true → is_dot_segment s ≡ true
 single-dot-is-dot-segment s e = ap (λ b. b || is_double_dot s) e
 
--- dot segments: a double dot is one
 pub double-dot-is-dot-segment : (s : List ℕ) → is_double_dot s ≡ true → is_dot_segment s ≡ true
 double-dot-is-dot-segment s e = or_right (is_single_dot s) _ e

@@ -39,7 +39,6 @@ pub removal-state-has-directory : (path kept rest : List ℕ) (underflowed : Boo
 removal-state-has-directory path kept rest underflowed h some =
     grind (arith, rest-with-bytes-is-not-nil)
 
--- general fact on texts, for what is left of a path: one whose length is not 0 has bytes
 pub rest-of-nonzero-length-has-bytes : (rest : List ℕ) → (length rest == 0) ≡ false
     → 0 < length rest
 rest-of-nonzero-length-has-bytes [] e = absurd (false≢true (sym e))
@@ -67,7 +66,6 @@ property-of-dotless-directory-by-segments P each path d =
     (λ xs e f. each xs e (prefix-of-dotless-segments-is-dotless xs
     ([] ∷ []) (segments-with-empty-last-lack-slashes xs e) f)) path d.absolute d.closed d.dotless
 
--- paths: segments that are no dot segments, each after a `/`, are a path without dot segments
 slashed-dotless-segments-lack-dot-segments : (xs : List (List ℕ))
     → NoSlashes xs → AllPass is_dotless xs → lacks_dot_segments (slashed xs) ≡ true
 slashed-dotless-segments-lack-dot-segments xs e f = ap (list_all is_dotless)
@@ -108,7 +106,6 @@ LeavesDirectoryForSegments : (List ℕ → Bool) → (List ℕ → List ℕ) →
 LeavesDirectoryForSegments test left meets_none kept = (s rest : List ℕ) → has_slash s ≡ false
     → IsAbemptyPath rest → test s ≡ true → LeavesDirectory kept s rest (left kept) (meets_none kept)
 
--- removing dot segments, segment by segment: `.` leaves the directory (kept) as it is
 single-dot-leaves-same-directory : (kept : List ℕ) → IsDotlessDirectory kept
     → LeavesDirectoryForSegments is_single_dot (λ k. k) (λ k. false) kept
 unfolding LeavesDirectoryForSegments step_of next_output underflows_at
@@ -135,12 +132,10 @@ single-dot-leaves-same-directory = property-of-dotless-directory-by-segments
           directory = slashed-dotless-segments-are-directory xs e f;
         }
 
--- dot segments: `..` is not `.`
 double-dot-is-not-single : (s : List ℕ) → is_double_dot s ≡ true → is_single_dot s ≡ false
 double-dot-is-not-single s e = ⊎_elim (λ f. absurd
     (false≢true (sym (single-dot-is-not-double s f) ∙ e))) (λ f. f) (cases_Bool (is_single_dot s))
 
--- paths: what is before the last `/` of a directory is its segments, each after a `/`
 before_last_slash-of-slashed-directory : (xs : List (List ℕ)) → NoSlashes xs
     → before_last_slash (slashed (xs ++ [] ∷ [])) ≡ slashed xs
 before_last_slash-of-slashed-directory xs e = before_last_slash-of-slashed-is-popped (xs
@@ -152,15 +147,12 @@ directory-without-segments-is-root : (xs : List (List ℕ)) → NoSlashes xs
 directory-without-segments-is-root xs e = ap is_empty (before_last_slash-of-slashed-directory xs e)
     ∙ slashed-is-empty-if-no-segments xs
 
--- paths: a directory without its last segment is its parent
 popped-segments-are-parent_directory : (xs : List (List ℕ)) → NoSlashes xs
     → slashed (pop xs ++ [] ∷ []) ≡ parent_directory (slashed (xs ++ [] ∷ []))
 popped-segments-are-parent_directory xs e = slashed-of-push (pop xs) [] ∙ ap (λ t. t
     ++ codes "/") (sym (ap before_last_slash (before_last_slash-of-slashed-directory xs e)
     ∙ before_last_slash-of-slashed-is-popped xs e))
 
--- removing dot segments, segment by segment:
--- `..` leaves the parent of the directory (kept), and underflows at `/`
 double-dot-leaves-parent-directory : (kept : List ℕ) → IsDotlessDirectory kept
     → LeavesDirectoryForSegments is_double_dot parent_directory
     (λ k. is_empty (before_last_slash k)) kept
@@ -253,7 +245,6 @@ module _ (path kept rest : List ℕ) (underflowed : Bool)
         )) closed;
       }
 
--- paths: an absolute path has a byte at least
 absolute-path-has-bytes : (path : List ℕ) → IsAbsolute path → 0 < length path
 absolute-path-has-bytes [] h = absurd (false≢true (eq_true_from_IsTrue _ h))
 absolute-path-has-bytes (c ∷ path) h = omega arith
@@ -283,7 +274,6 @@ module _ (text : List ℕ) (start : ℕ) (absolute : IsAbsolute (drop start text
   replacing-keeps-text-to-start t new e = ap (take start) e ∙ take_at
       (take start text) t start (length-take-le start text start-of-absolute-is-within-text)
 
--- general fact on slices, for paths: what is between 0 and n is the prefix of n bytes
 pub slice-from-zero-is-prefix : (text prefix : List ℕ) (n : ℕ)
     → prefix ≡ slice_range text 0 n → prefix ≡ take n text
 slice-from-zero-is-prefix text prefix n e = let same : n - 0 ≡ n = omega arith in e

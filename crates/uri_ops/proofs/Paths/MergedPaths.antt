@@ -14,18 +14,15 @@ pub merged-path-is-absolute : (path y : List ℕ) → IsAbemptyPath path
 merged-path-is-absolute path y h = appended-absolute-path-is-absolute (directory path) y
     (directory-is-absolute path h)
 
--- merged paths: dot segments of the base's path may be removed before it is merged with y
 base-dots-do-not-change-merged-path : (path y : List ℕ) → IsAbemptyPath path → remove_dot_segments
     (directory path ++ y) ≡ remove_dot_segments (directory (dotless_if_absolute path) ++ y)
 base-dots-do-not-change-merged-path path y h =
     grind (arith, directory, base-dots-may-be-removed-before-merging, eq_true_from_IsTrue)
 
--- paths: with the guard `/.` before it, a path is empty or begins with `/`, as it was
 guarded-abempty-path-is-abempty : (authority : Option (List ℕ)) (path : List ℕ) → IsAbemptyPath path
     → IsAbemptyPath (guarded authority path)
 guarded-abempty-path-is-abempty authority path h = grind (arith, is_none)
 
--- merged paths: a guard before the base's path makes no difference to the path merged with y
 base-guard-does-not-change-merged-path : (authority : Option (List ℕ)) (path y : List ℕ)
     → IsAbemptyPath path → remove_dot_segments (directory (guarded authority path) ++ y)
     ≡ remove_dot_segments (directory path ++ y)

@@ -33,7 +33,6 @@ dotless_of-leading-dot-drops-it : (s : List ℕ) (rest : List (List ℕ))
 unfolding is_none steps step_of next_output
 dotless_of-leading-dot-drops-it s rest = dotless_of-prefix-first (codes "." ∷ []) (s ∷ rest) refl
 
--- removing dot segments: the guard `/.` is removed too
 removing-dots-removes-guard : (path : List ℕ) → IsAbsolute path
     → remove_dot_segments (codes "/." ++ path) ≡ remove_dot_segments path
 unfolding slashed

@@ -48,7 +48,6 @@ abempty-path-begins-with-slash : (c : ℕ) (text : List ℕ) → IsAbemptyPath (
 abempty-path-begins-with-slash c text h = ⊎_elim (λ none. absurd (cons_is_not_nil c text none))
     (λ a. eqb-true c 47 (eq_true_from_IsTrue _ a)) h
 
--- general fact on texts, for pieces of paths: one with bytes is not empty
 pub text-with-bytes-is-not-empty : (text : List ℕ) → 0 < length text → is_empty text ≡ false
 text-with-bytes-is-not-empty [] some = absurd (omega (arith, some))
 text-with-bytes-is-not-empty (c ∷ text) some = refl

@@ -10,7 +10,6 @@ prefix-of-absolute-path-is-absolute path zero h some = absurd (omega (arith, som
 prefix-of-absolute-path-is-absolute [] (suc n) h some = h
 prefix-of-absolute-path-is-absolute (c ∷ path) (suc n) h some = h
 
--- dot segments: an absolute path does not begin with `.`, and is not empty
 pub absolute-path-begins-with-no-dot : (path : List ℕ) → IsAbsolute path
     → (begins_with_dot path ≡ false) × (0 < length path)
 absolute-path-begins-with-no-dot [] h = absurd (false≢true (eq_true_from_IsTrue _ h))

@@ -55,7 +55,6 @@ is_dotless s = not (is_dot_segment s)
 pub equal-bytes-are-equal : (a b : List ℕ) → bytes_eq a b ≡ true → a ≡ b
 equal-bytes-are-equal a b e = (bytes_eq-Decides a b).0 e
 
--- dot segments: `.` is not `..`
 pub single-dot-is-not-double : (s : List ℕ) → is_single_dot s ≡ true → is_double_dot s ≡ false
 single-dot-is-not-double s e = grind (arith, common_steps, equal-bytes-are-equal)
 
@@ -191,7 +190,6 @@ pub segments-pass-true-test : (xs : List (List ℕ)) → AllPass (λ s. true) xs
 segments-pass-true-test [] = refl
 segments-pass-true-test (s ∷ rest) = segments-pass-true-test rest
 
--- dot segments: a segment that is kept is none
 kept-segment-is-dotless : (s : List ℕ) → true ≡ true → is_dot_segment s ≡ false
     → is_dotless s ≡ true
 kept-segment-is-dotless s e f = not_from_false _ f

@@ -29,7 +29,6 @@ pub zero-mask-block-extends-slashless-suffix : (bs : List ℕ) (at mask : ℕ) �
 zero-mask-block-extends-slashless-suffix bs at mask room places none suffix =
     grind (arith, run-without-slash-extends-slashless-suffix, mask_bit_is_equality_of_byte)
 
--- general fact on numbers, for masks of lanes: one from 2 ^ j on and below 2 ^ (j + 1) has bit j
 highest-bit-is-set : (j n : ℕ) → 2 ^ j ≤ n → n < 2 ^ suc j → bit_at n j ≡ 1
 highest-bit-is-set zero n low high =
     let one : n ≡ 1 = omega (arith, low, high) in bit_at_lowest n ∙ ap (λ m. m % 2) one
@@ -54,8 +53,6 @@ highest-lane-of-mask mask some below =
       λ k h. bit_at_above mask (suc j) k top.3 (omega (arith, h, lane)),
     )
 
--- paths, sixteen bytes at a time: the last lane of a block that has a `/` (47) is the last `/`,
--- if none is after the block
 pub last-lane-of-block-is-last-slash : (bs : List ℕ) (at mask lane : ℕ) → at + 16 ≤ length bs
     → mask ≡ mask_l (map (λ b. eqb b 47) (chunk at 16 bs)) → lane < 16 → bit_at mask lane ≡ 1
     → ((k : ℕ) → lane < k → bit_at mask k ≡ 0) → has_slash (drop (at + 16) bs) ≡ false

@@ -52,7 +52,6 @@ text-splits-before-next-slash (c ∷ s) rest e =
 pub slash-in-suffix-is-in-append : (s t : List ℕ) → has_slash t ≡ true → has_slash (s ++ t) ≡ true
 slash-in-suffix-is-in-append s t e = list_any-append (λ c. eqb c 47) s t ∙ or_right _ _ e
 
--- paths: the last `/` of a text with a slash after s is the last of that text
 pub before_last_slash-of-append : (s t : List ℕ) → has_slash t ≡ true
     → before_last_slash (s ++ t) ≡ s ++ before_last_slash t
 before_last_slash-of-append [] t e = refl
@@ -98,7 +97,6 @@ no-dot-leaves-segments-as-they-are : (rest : List (List ℕ)) → rest ≡ or_em
 no-dot-leaves-segments-as-they-are [] = refl
 no-dot-leaves-segments-as-they-are (t ∷ rest) = refl
 
--- removing dot segments: the buffers by texts, after one segment, are those by segments
 buffers-after-one-segment : (single double : Bool) (s : List ℕ) (rest output : List
     (List ℕ)) (before : Bool) → NoSlashes output
     → cond single (buffers (or_slash (slashed rest)) (slashed output) before) (cond double
@@ -119,21 +117,14 @@ buffers-after-one-segment false true s rest output before e =
 buffers-after-one-segment false false s rest output before e =
     grind (arith, no-dot-leaves-segments-as-they-are, slashed-of-push)
 
--- removing dot segments: the buffers after the step of section 5.2.4 for a segment
-buffers_after_cut : List ℕ → List ℕ → List (List ℕ) → Bool → Buffers
-buffers_after_cut segment rest output before =
-    cond (is_single_dot segment) (buffers (or_slash rest) (slashed output) before)
-    (cond (is_double_dot segment) (buffers (or_slash rest) (before_last_slash (slashed output))
-    (before || is_empty (slashed output))) (buffers rest (slashed output ++ 47 ∷ segment) before))
-
 -- removing dot segments: a step of RFC 3986, section 5.2.4, takes one segment from the input
 step-takes-one-segment : (s : List ℕ) (rest output : List (List ℕ)) (before : Bool) → has_slash s
     ≡ false → NoSlashes output → step (buffers (slashed (s ∷ rest)) (slashed output) before)
     ≡ buffers (slashed (or_empty_segment (is_dot_segment s) rest))
     (slashed (step_of output s)) (underflows_at (is_single_dot s) (is_double_dot s) before output)
-unfolding slashed step_of buffers_after_cut
+unfolding slashed step_of
 step-takes-one-segment s rest output before e f =
-    grind (arith, text-splits-before-next-slash, buffers_after_cut, buffers-after-one-segment)
+    grind (arith, text-splits-before-next-slash, buffers-after-one-segment)
 
 -- removing dot segments: with an empty input, n more steps change nothing
 run-of-empty-input-is-done : (n : ℕ) (output : List ℕ) (before : Bool)
@@ -220,7 +211,6 @@ last_segment-of-append [] t e = refl
 last_segment-of-append (c ∷ s) t e = cond-true _ _ _ (slash-in-suffix-is-in-append s t e)
     ∙ last_segment-of-append s t e
 
--- general fact on texts, for directories of paths: a case of two with a common prefix
 common-prefix-leaves-cond : (b : Bool) (s x y : List ℕ) → cond b (s ++ x) (s ++ y) ≡ s ++ cond b x y
 common-prefix-leaves-cond true s x y = refl
 common-prefix-leaves-cond false s x y = refl
@@ -237,7 +227,6 @@ directory_text_of : List ℕ → List ℕ → List ℕ → List ℕ
 directory_text_of segment whole prefix = cond (is_double_dot segment) (whole ++ 47 ∷ [])
     (prefix ++ 47 ∷ [])
 
--- paths: the directory by the text is all segments but the last, and a `/`
 directory-text-of-slashed-segments : (s : List ℕ) (rest : List (List ℕ))
     → NoSlashes (s ∷ rest) → directory_text_of (last_segment (slashed (s ∷ rest))) (slashed (s
     ∷ rest)) (slashed (pop (s ∷ rest))) ≡ slashed (parent (s ∷ rest)) ++ 47 ∷ []
@@ -282,7 +271,6 @@ parent-segments-pass-test p (s ∷ []) e = passes (is_double_dot s)
 parent-segments-pass-test p (s ∷ t ∷ rest) e = let f = and_parts (p s) (list_all p (t ∷ rest)) e in
     and_from _ _ f.0 (parent-segments-pass-test p (t ∷ rest) f.1)
 
--- general fact on lists, for segments of paths: texts that are equal after a `/` are equal
 equal-lists-after-slash-have-equal-tails : (xs ys : List ℕ) → 47 ∷ xs ≡ 47 ∷ ys → xs ≡ ys
 equal-lists-after-slash-have-equal-tails xs ys e = cc
 

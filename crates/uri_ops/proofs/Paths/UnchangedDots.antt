@@ -44,7 +44,6 @@ later-dot-goes-on : (slash : Bool) (c : ℕ) (rest : List ℕ) (k : ℕ)
     → DotGoesOn slash (c ∷ rest) (suc k) → DotGoesOn (eqb c 47) rest k
 later-dot-goes-on slash c rest k each dot after = grind arith
 
--- unchanged dots: dots that go on at each index do so in the text
 dots-go-on-by-index : (slash : Bool) (text : List ℕ)
     → ((k : ℕ) → k < length text → DotGoesOn slash text k) → dots_go_on slash text ≡ true
 unfolding dots_go_on
@@ -53,12 +52,10 @@ dots-go-on-by-index slash (c ∷ rest) each = and_from _ _
     (first-dot-goes-on slash c rest (each 0 (omega arith))) (dots-go-on-by-index (eqb c 47) rest
     (λ k h. later-dot-goes-on slash c rest k (each (suc k) (omega (arith, h)))))
 
--- unchanged dots: the octet of a dot is not unchanged
 octet-of-dot-is-not-unchanged : (alone : Bool) → is_unchanged_octet alone 50 69 ≡ true → ⊥
 octet-of-dot-is-not-unchanged alone e =
     false≢true (and_parts (alone || true) false (and_parts true _ e).1).1
 
--- unchanged dots: the digits of an unchanged octet do not encode a dot
 digits-of-dot-are-not-unchanged : (alone : Bool) (high low : ℕ) → is_unchanged_octet alone high low
     ≡ true → (eqb high 50 && (eqb low 69 || eqb low 101)) ≡ false
 digits-of-dot-are-not-unchanged alone high low same =
@@ -77,7 +74,6 @@ segment-that-goes-on-is-none : (d : ℕ) (s : List ℕ) → is_one_of (codes "./
     → is_dot_segment (46 ∷ d ∷ s) ≡ false
 segment-that-goes-on-is-none d s e = grind (arith, nat_tests)
 
--- unchanged dots: the first segment of a text after a `/` is no dot segment
 first-unchanged-segment-is-none : (alone : Bool) (s : List ℕ) (segs : List (List ℕ))
     → HasUnchangedOctets alone s
     → dots_go_on true (s ++ slashed segs) ≡ true → is_dot_segment s ≡ false
@@ -101,7 +97,6 @@ first-unchanged-segment-is-none alone (c ∷ s) segs same dots = ⊎_elim (λ (d
     after-dot [] (t ∷ segs) e = absurd (false≢true e)
     after-dot (d ∷ s) segs e = segment-that-goes-on-is-none d s (not-true _ e)
 
--- unchanged dots: dots that go on in a text do so in a suffix of it
 dots-go-on-in-suffix : (slash : Bool) (s rest : List ℕ) → dots_go_on slash (s ++ rest) ≡ true
     → (b : Bool) × (dots_go_on b rest ≡ true)
 unfolding dots_go_on
@@ -109,7 +104,6 @@ dots-go-on-in-suffix slash [] rest e = (slash, e)
 dots-go-on-in-suffix slash (c ∷ s) rest e = dots-go-on-in-suffix (eqb c 47) s rest
     (and_parts (not (eqb c 46 && slash) || goes_on (s ++ rest)) _ e).1
 
--- unchanged dots: the segments of a text, each after a `/`, are no dot segments
 unchanged-segments-are-dotless : (alone slash : Bool) (segs : List (List ℕ))
     → HasUnchangedOctets alone (slashed segs) → dots_go_on slash (slashed segs) ≡ true
     → AllPass is_dotless segs
@@ -121,8 +115,6 @@ unchanged-segments-are-dotless alone slash (s ∷ segs) same dots =
     and_from _ _ (not_from_false _ (first-unchanged-segment-is-none alone s segs apart.0 dots))
     (unchanged-segments-are-dotless alone more.0 segs apart.1 more.1)
 
--- unchanged dots: a path whose octets are unchanged has no dot segment if each dot after a `/`,
--- also one before the path, goes on
 path-is-dotless-by-index : (alone : Bool) (path : List ℕ) → HasUnchangedOctets alone path
     → ((k : ℕ) → k < length path → DotGoesOn true path k) → lacks_dot_segments path ≡ true
 unfolding dots_go_on

@@ -38,7 +38,6 @@ underflow-before-stays-at-segment true double output = refl
 underflow-before-stays-at-segment false true output = refl
 underflow-before-stays-at-segment false false output = refl
 
--- dot segments: an underflow that there was stays over all segments after it
 underflow-before-stays-over-segments : (output segs : List (List ℕ))
     → underflows_over true output segs ≡ true
 unfolding underflows_over
@@ -48,7 +47,6 @@ underflow-before-stays-over-segments output (s ∷ rest) =
     (underflow-before-stays-at-segment (is_single_dot s) (is_double_dot s) output)
     ∙ underflow-before-stays-over-segments (step_of output s) rest
 
--- dot segments: segments underflow if there was an underflow before, or they do by themselves
 pub underflows_over_is_or : (before : Bool) (output segs : List (List ℕ))
     → underflows_over before output segs ≡ (before || underflows_over false output segs)
 underflows_over_is_or true output segs = underflow-before-stays-over-segments output segs
@@ -71,8 +69,6 @@ dotless-segments-do-not-underflow before output (s ∷ rest) e =
     ap (λ b. underflows_over b (step_of output s) rest) (dotless-segment-does-not-underflow before
     output s f.0) ∙ dotless-segments-do-not-underflow before (step_of output s) rest f.1
 
--- removing dot segments: some underflow if a prefix does,
--- or what is left of the prefix does with the rest after it
 pub segments-underflow-as-prefix-or-remainder : (xs ys : List (List ℕ)) → underflows_over false []
     (xs ++ ys) ≡ (underflows_over false [] xs || underflows_over false [] (steps [] xs ++ ys))
 segments-underflow-as-prefix-or-remainder xs ys =

@@ -6,7 +6,6 @@ use Rattle.uri_ops.proofs.Paths.DecodedPaths.{set-text-splits, removing-dots-and
 use Rattle.uri_ops.proofs.Paths.SlashedSegments.{slashed}
 use Rattle.uri_ops.proofs.Paths.TakenSegments.{absolute-path-is-slash-and-rest}
 
--- paths: a text of one byte that is 47 is `/`
 pub text-of-one-byte-slash-is-slash : (text : List ℕ)
     → (length text == 1 && slice_index text 0 == 47) ≡ true → text ≡ codes "/"
 text-of-one-byte-slash-is-slash [] e = absurd (false≢true e)
@@ -14,7 +13,6 @@ text-of-one-byte-slash-is-slash (c ∷ []) e = ap (λ d. d ∷ []) (eqb-true c 4
 text-of-one-byte-slash-is-slash (c ∷ d ∷ text) e = absurd (false≢true
     (sym (ne_eqb (length (c ∷ d ∷ text)) 1 (λ h. omega (arith, h))) ∙ (and_parts _ _ e).0))
 
--- decoded paths: `/` is its own decoded form
 pub slash-decodes-to-slash : (set : TableSet) → print (decode_unreserved set (codes "/"))
     ≡ codes "/"
 unfolding print_decoded

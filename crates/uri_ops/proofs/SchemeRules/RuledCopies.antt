@@ -39,7 +39,6 @@ changed-path-is-root-and-path false path added empty e = ap (λ t. t ++ path) e
 changed-path-is-root-and-path true path added empty e =
     ap (λ t. t ++ path) e ∙ ap (λ t. codes "/" ++ t) (empty refl)
 
--- copies: where a host begins and ends, packed, if its authority begins at `place`
 abbrev packed_host_start : ℕ → Option (List ℕ) → ℕ
 packed_host_start place o =
     unwrap_or (option_map (λ a. a.host_start) (option_map (authority_at place) o)) 0
@@ -86,7 +85,6 @@ module _ (drops_host adds_root : Bool) (p : Components)
         length-before_hash,
       )
 
--- rules: the authority of what a text means under them, as text
 authority-under-rules : (local : Bool) (o : Option AuthorityMeaning)
     → option_map normal_authority (option_map (authority_under local) o) ≡ cond (local && is_text
     (codes "localhost") (option_map normal_authority o)) (Some []) (option_map normal_authority o)
@@ -94,7 +92,6 @@ authority-under-rules true None = refl
 authority-under-rules false None = refl
 authority-under-rules local (Some a) = grind (arith, map-cond)
 
--- rules: the path of what a text means under them, as text
 path-under-rules : (rooted local : Bool) (o : Option AuthorityMeaning) (ts : List Token)
     → guarded (option_map normal_authority (option_map (authority_under local) o))
     (print (path_under rooted (is_some o) ts))
@@ -118,7 +115,6 @@ path-under-rules-of-scheme : (roots : List ℕ → Bool) (local : Bool) (scheme 
 path-under-rules-of-scheme roots local None o ts = refl
 path-under-rules-of-scheme roots local (Some s) o ts = path-under-rules (roots s) local o ts
 
--- rules: what they change of the components of a normal text
 changed-components-are-normal : (rules : Rules) (m : Meaning) → normal_scheme m.scheme ≡ m.scheme
     → (let p = normal_components m in normal_components (under_rules rules m)
     ≡ changed_components (has_default_host rules.locals p) (has_root_path rules.roots p) p)

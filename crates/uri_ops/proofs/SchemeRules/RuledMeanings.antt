@@ -6,18 +6,15 @@ pub map-cond : {A B : Type 0} (f : A → B) (b : Bool) (x y : A) → f (cond b x
 map-cond f true x y = refl
 map-cond f false x y = refl
 
--- general fact on booleans, for rules: both choices are the same
 choice-of-same : {A : Type 0} (b : Bool) (x : A) → cond b x x ≡ x
 choice-of-same true x = refl
 choice-of-same false x = refl
 
--- general fact on lists, for rules: a text that begins with another one is not empty
 longer-text-is-not-empty : (before rest : List ℕ) → 0 < length before
     → is_empty (before ++ rest) ≡ false
 longer-text-is-not-empty [] rest h = absurd (omega (arith, h))
 longer-text-is-not-empty (c ∷ before) rest h = refl
 
--- rules: nothing is printed of no token alone
 pub print-is-empty-without-tokens : (ts : List Token) → is_empty (print ts) ≡ has_no_token ts
 print-is-empty-without-tokens [] = refl
 print-is-empty-without-tokens (Char c ∷ ts) = longer-text-is-not-empty

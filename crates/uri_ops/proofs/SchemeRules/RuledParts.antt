@@ -3,7 +3,6 @@ use Rattle.uri_ops.proofs.Common.{arith, ◌≡◌, ℕ, Bool, true, false, List
 use Rattle.uri_ops.proofs.Normal.NormalTexts.{text-has-parts-of-kind}
 use Rattle.uri_ops.proofs.SchemeRules.RuledTexts.{ruled_components-have-meaning-under}
 
--- rules: the normal text of the components as the rules have them is that under the rules
 pub ruled_components-have-normal-text : (kind : Kind) (rules : Rules) → HasComponentSets kind
     → (text : List ℕ) → IsTextOf kind text → normal_text (components_meaning kind rules.ports
     (ruled_components kind rules (components text))) ≡ normal_text (meaning_under kind rules text)

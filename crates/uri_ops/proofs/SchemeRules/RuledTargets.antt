@@ -9,13 +9,11 @@ use Rattle.uri_ops.proofs.Targeting.Targets.{target-text-has-target-components}
 use Rattle.uri_ops.proofs.SchemeRules.RuledTexts.{components-without-scheme-are-ruled, ruled_components-have-meaning-under, normal-text-under-rules-is-text-of-kind, ruled_authority-has-meaning-under, components-of-ruled_text, path-without-authority-is-ruled, ruled-text-is-text-of-kind, ruled-text-has-meaning-under, meaning_under-normal_text}
 use Rattle.uri_ops.proofs.SchemeRules.RuledMeanings.{authority_under-if-some-is-idempotent, under_rules-is-idempotent}
 
--- general fact on booleans, for rules: what one test chooses is alike if both choices are
 choices-are-alike : {A B : Type 0} (f : A → B) (b : Bool) (x y u v : A) → f x ≡ f u → f y ≡ f v
     → f (cond b x y) ≡ f (cond b u v)
 choices-are-alike f true x y u v e h = e
 choices-are-alike f false x y u v e h = h
 
--- resolving under rules: a ruled path has the same directory, `/` for an empty one
 ruled-path-has-same-directory : (rooted after : Bool) (path : List ℕ)
     → directory (ruled_path rooted after path) ≡ directory path
 unfolding directory
@@ -25,7 +23,6 @@ ruled-path-has-same-directory false after [] = refl
 ruled-path-has-same-directory rooted after (c ∷ path) =
     ap (λ t. directory (cond t (codes "/") (c ∷ path))) (and-false (rooted && after))
 
--- resolving under rules: a ruled base is opaque if it was
 ruled-base-is-opaque-alike : (kind : Kind) (default : Option ℕ) (local rooted : Bool) (o : Option
     (List ℕ)) (path : List ℕ) → (is_none (option_map (ruled_authority kind default local) o)
     && not (starts 47 (ruled_path rooted (is_some o) path))) ≡ (is_none o && not (starts 47 path))

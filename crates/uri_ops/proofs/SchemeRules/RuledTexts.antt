@@ -11,7 +11,6 @@ use Rattle.uri_ops.proofs.Paths.DecodedStarts.{decoding-keeps-emptiness}
 use Rattle.uri_ops.proofs.Paths.PathMeanings.{path-without-dots-is-set-text, removing-dots-keeps-leading-slash}
 use Rattle.uri_ops.proofs.SchemeRules.RuledMeanings.{map-cond, print-is-empty-without-tokens, under_rules-is-idempotent}
 
--- rules: the empty authority means no host
 empty-authority-means-no-host : (kind : Kind) (default : Option ℕ)
     → authority_meaning kind default [] ≡ empty_authority
 unfolding host_kind ipv4_value read_ipv4 read_octet read_number chars tokens_from_chars
@@ -23,7 +22,6 @@ slash-means-root : (set : TableSet) → decode_unreserved set (codes "/") ≡ ro
 unfolding chars tokens_from_chars decode_after_run decode_run pieces_from
 slash-means-root set = ascii_char_separates_encode_formatting set [] 47 [] (lit< tt)
 
--- rules: a text that begins with `/` is not empty
 text-with-slash-is-not-empty : (text : List ℕ) → starts 47 text ≡ true → is_empty text ≡ false
 text-with-slash-is-not-empty [] e = absurd (false≢true e)
 text-with-slash-is-not-empty (c ∷ text) e = refl
@@ -70,7 +68,6 @@ module _ (set : TableSet) (w : IsComponentSet (codes "?#[]") set)
         slash-is-dotless,
       )
 
--- rules: a ruled authority means what the rules make of the authority's meaning
 pub ruled_authority-has-meaning-under :
     (kind : Kind) (default : Option ℕ) (local : Bool) (o : Option (List ℕ))
     → option_map (authority_meaning kind default) (option_map (ruled_authority kind default local)
@@ -94,13 +91,11 @@ pub components-without-scheme-are-ruled : (kind : Kind) (rules : Rules)
 components-without-scheme-are-ruled kind rules authority path query fragment =
     grind (arith, ruled_authority-without-rule)
 
--- rules: without an authority, so is a path
 pub path-without-authority-is-ruled : (rooted : Bool) (path : List ℕ)
     → ruled_path rooted false path ≡ path
 path-without-authority-is-ruled true path = refl
 path-without-authority-is-ruled false path = refl
 
--- rules: a ruled authority and the path after it
 ruled-authority-lacks-ends : (kind : Kind) (default : Option ℕ) (local rooted : Bool) (o : Option
     (List ℕ)) (path : List ℕ) → IfSome o (λ a. Lacks (codes "/?#") a × IsAbemptyPath path)
     → IfSome (option_map (ruled_authority kind default local) o) (λ a. Lacks (codes "/?#") a
@@ -131,7 +126,6 @@ ruled-path-has-no-authority kind default local rooted None path h =
     ap has_authority (path-without-authority-is-ruled rooted path) ∙ h
 ruled-path-has-no-authority kind default local rooted (Some a) path h = tt
 
--- rules: an authority stays one
 ruled-authority-is-of-kind : (kind : Kind) (default : Option ℕ) (local : Bool)
     (o : Option (List ℕ)) → IfSome o (λ a. IsUtf8 a × (is_authority kind a ≡ true))
     → IfSome (option_map (ruled_authority kind default local) o)

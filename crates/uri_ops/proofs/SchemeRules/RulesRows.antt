@@ -53,7 +53,6 @@ unfolding IsNormalOf default_port chars encode_utf8 digits read_ipv4 read_octet 
     Decoding.decode_after_run host_kind ipv4_value run remove_dot_segments
 normal-forms-of-local-hosts = (refl, refl, refl, refl, refl, refl, refl, refl, refl, refl)
 
--- examples of rules: a base without an authority stays opaque
 opaque-bases-stay-opaque : resolved_meaning uri standard_rules (codes "ws:") (codes "?")
     ≡ Err InvalidReferenceAgainstOpaqueBase
 opaque-bases-stay-opaque = refl

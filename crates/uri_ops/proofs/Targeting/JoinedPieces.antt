@@ -43,7 +43,6 @@ pub prefix-path-and-suffix-recompose : (t : Components) (o0 o1 o2 : List ℕ)
     ++ marked (codes "#") t.fragment []) → o2 ≡ o0 ++ recompose t
 prefix-path-and-suffix-recompose t o0 o1 o2 e1 e2 = grind (arith, nat_tests, append_assoc)
 
--- positions in a target: a query that is appended after its `?` ends where the text does
 pub pushed-query-ends-at-length : (query : Option (List ℕ)) (o3 o4 : List ℕ) (end : ℕ)
     → is_some query ≡ true → o4 ≡ o3 ++ marked (codes "?") query []
     → end ≡ length o4 → Some end ≡ option_map (λ q. length o3 + 1 + length q) query
@@ -63,7 +62,6 @@ empty-query-is-absent None text old is e = refl
 empty-query-is-absent (Some q) text old is e =
     absurd (false≢true (sym (ap is_empty is) ∙ sym (zero-length-is-empty text) ∙ e))
 
--- targets: a query with its `?` is there
 pub query-with-bytes-is-there : (query : Option (List ℕ)) (text : List ℕ)
     → text ≡ marked (codes "?") query [] → (length text == 0) ≡ false → is_some query ≡ true
 query-with-bytes-is-there None text is e = absurd (false≢true (sym e ∙ ap (λ t. length t == 0) is))

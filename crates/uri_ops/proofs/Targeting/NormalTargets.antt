@@ -79,7 +79,6 @@ pub resolution-is-unique : (r : Result (List ℕ) TargetError) (t u : List ℕ) 
     → t ≡ u
 resolution-is-unique r t u e f = cc
 
--- targets: two normal forms of the target of a base and a reference are equal
 one-normal-form-of-target : (kind : Kind) (rules : Rules) (base reference n m : List ℕ)
     → IsNormalFormOfTarget kind rules base reference n
     → IsNormalFormOfTarget kind rules base reference m → n ≡ m

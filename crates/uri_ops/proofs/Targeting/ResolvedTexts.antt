@@ -67,7 +67,6 @@ module _ (kind other : Kind) (sets : HasComponentSets kind) (needs : kind.needs_
             base_is reference_is x) error;
       }
 
--- resolving: another value with the same text is returned as well
 pub value-with-text-is-resolved : {T U : Type 0} (kind other : Kind) (allowed : Bool)
     (base reference : List ℕ) (value : T) (returned : U) (text_of : T → List ℕ)
     (text_of_returned : U → List ℕ) → text_of_returned returned ≡ text_of value

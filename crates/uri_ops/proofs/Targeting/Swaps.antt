@@ -27,7 +27,6 @@ pub merging-base-is-not-opaque : (base r : Components) → is_opaque_rejection b
 merging-base-is-not-opaque base r e s p =
     grind (arith, nat_tests, none-is-not-some, not-false, and_cases)
 
--- resolving: the path of a base that is not opaque is empty or begins with `/`
 pub base-that-is-not-opaque-has-abempty-path : (authority : Option (List ℕ)) (path : List ℕ)
     → (is_none authority && not (starts 47 path)) ≡ false
     → IfSome authority (λ a. Lacks (codes "/?#") a × IsAbemptyPath path) → IsAbemptyPath path

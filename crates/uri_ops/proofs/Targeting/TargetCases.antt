@@ -5,7 +5,6 @@ use Rattle.uri_ops.specs.Models.TargetCases.{with_authority}
 use Rattle.uri_ops.proofs.Normal.WrittenPlaces.{length-with-delimiter-after}
 use Rattle.uri_ops.proofs.Targeting.Targets.{target-text-has-target-components}
 
--- resolving: the case of a reference gives the line of the pseudocode for its target
 pub case-gives-line : (case : TargetCase) (base r : Components) → IsCaseOf r case
     → dotted_target base r ≡ target_in_case case base r
 case-gives-line WithScheme base r s = cond-true (is_some r.scheme) r _ s
@@ -15,15 +14,12 @@ case-gives-line EmptyPath base r (h, e) = grind (arith, nat_tests)
 case-gives-line AbsolutePath base r (h, e, n) = grind (arith, nat_tests)
 case-gives-line MergedPath base r (h, e, n) = grind (arith, nat_tests)
 
--- resolving: the base's scheme, and a reference with an authority alone before its path, are what
--- the target has there
 pub base-scheme-before-reference-authority : (b r : Components) (scheme before : List ℕ)
     → is_some r.scheme ≡ false → scheme ≡ marked [] b.scheme (codes ":") → before ≡ before_path r
     → scheme ++ before ≡ before_path (with_authority b r)
 base-scheme-before-reference-authority b r scheme before s e f =
     cc (None-from-is_none r.scheme (not_some_is_none r.scheme s), not_some_is_none r.scheme s)
 
--- positions in a target: a reference's authority is after the base's scheme
 pub reference-authority-after-base-scheme : (b r : Components)
     (scheme : List ℕ) (places : Option AuthorityPositions) → scheme ≡ marked [] b.scheme (codes ":")
     → places ≡ option_map (authority_at (length scheme + 2)) r.authority

@@ -11,7 +11,6 @@ use Rattle.uri_ops.proofs.Targeting.TargetCases.{case-gives-line}
 use Rattle.uri_ops.proofs.Targeting.Targets.{appended-absolute-path-is-absolute}
 use Rattle.uri_ops.proofs.Paths.DotRuns.{empty-text-is-nil}
 
--- resolving: what is up to the last `/` of a base's path is its directory
 pub prefix-with-last-slash-is-directory-of-base : (b : Components) (slash : ℕ) (prefix : List ℕ)
     → IsAbsolute b.path → IsSlashOrStart b.path 0 slash → has_slash (drop (slash + 1) b.path)
     ≡ false → is_double_dot (drop (slash + 1) b.path) ≡ false → lacks_dot_segments prefix ≡ true
@@ -31,7 +30,6 @@ prefix-with-last-slash-is-directory-of-base b slash prefix absolute place last d
       place = first-bytes-are-prefix b.path prefix (slash + 1) text;
     }
 
--- resolving: a path without dot segments after an authority is unchanged
 dotless-path-after-authority-is-unchanged : (authority : Option (List ℕ)) (path : List ℕ)
     → is_some authority ≡ true → IsAbsolute path
     → lacks_dot_segments path ≡ true → guarded authority (dotless_if_absolute path) ≡ path
@@ -44,12 +42,10 @@ dotless-path-after-authority-is-unchanged authority path some absolute dotless =
       remove-dots-of-dotless,
     )
 
--- targets: the text of a reference without scheme and authority begins with its path
 text-without-prefix-is-path-and-suffix : (r : Components) → r.scheme ≡ None → r.authority ≡ None
     → recompose r ≡ r.path ++ (marked (codes "?") r.query [] ++ marked (codes "#") r.fragment [])
 text-without-prefix-is-path-and-suffix r s a = grind (arith, nat_tests)
 
--- resolving: a base with an authority rejects no reference as opaque
 base-with-authority-rejects-no-reference : (b r : Components) → is_some b.authority ≡ true
     → is_opaque_rejection b r ≡ false
 base-with-authority-rejects-no-reference b r some = grind (arith, nat_tests, some_is_not_none)

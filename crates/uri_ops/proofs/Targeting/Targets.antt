@@ -86,7 +86,6 @@ dotless-path-lacks-its-ends path h = cond_both (starts 47 path) (remove_dot_segm
     (Lacks (codes "?#")) (λ e. removing-dots-adds-no-character (codes "?#") refl path
     (equal-to-true-is-IsTrue _ e) h) (λ e. h)
 
--- resolving: a guarded path after an authority is empty or begins with `/`
 guarded-path-after-authority-is-abempty : (authority : Option (List ℕ)) (path : List ℕ)
     → IfSome authority (λ a. Lacks (codes "/?#") a × IsAbemptyPath path)
     → IfSome authority (λ a. Lacks (codes "/?#") a × IsAbemptyPath (guarded authority path))
@@ -99,8 +98,6 @@ guarded-path-lacks-its-ends : (authority : Option (List ℕ)) (path : List ℕ)
 guarded-path-lacks-its-ends authority path h =
     grind (arith, nat_tests, cond_both, All-append, test-of-delimiters-gives-lacks)
 
--- resolving: a target without an authority has no path that
--- begins with `//`, owing to the guard `/.`
 pub guarded-path-without-authority-has-no-two-slashes : (authority : Option
     (List ℕ)) (path : List ℕ) → IfNone authority (has_authority (guarded authority path) ≡ false)
 guarded-path-without-authority-has-no-two-slashes None path = grind (arith, nat_tests, cond_both)
@@ -130,7 +127,6 @@ guarded-target-is-split-of-its-text t fits = grind (
   guarded-path-without-authority-has-no-two-slashes,
 )
 
--- resolving: parsing the text of a target splits it into the target's components
 pub target-components-are-split : (base reference : List ℕ)
     → is_some (components base).scheme ≡ true → IsSplitOf (recompose (target_of (components base)
     (components reference))) (target_of (components base) (components reference))
@@ -147,7 +143,6 @@ pub target-text-has-target-components : (base reference : List ℕ) → is_some 
 target-text-has-target-components base reference some =
     only-split-is-components _ _ (target-components-are-split base reference some)
 
--- resolving: the text of a reference that is a fragment alone is empty or begins with `#` (35)
 fragment-only-text-is-empty-or-begins-with-hash : (r : Components) → is_fragment_only r ≡ true
     → (is_empty (recompose r) || starts 35 (recompose r)) ≡ true
 fragment-only-text-is-empty-or-begins-with-hash r h =
@@ -167,7 +162,6 @@ fragment-only-text-is-empty-or-begins-with-hash r h =
     of_fragment None = refl
     of_fragment (Some x) = refl
 
--- resolving: a text that is empty or begins with `#` (35) has a fragment alone
 text-empty-or-beginning-with-hash-is-fragment-only : (text : List ℕ)
     → (is_empty text || starts 35 text) ≡ true → is_fragment_only (components text) ≡ true
 text-empty-or-beginning-with-hash-is-fragment-only [] h = refl

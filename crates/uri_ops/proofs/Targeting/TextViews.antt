@@ -6,7 +6,6 @@ use Rattle.uri_ops.proofs.Normal.NormalTexts.{text-has-parts-of-kind}
 use Rattle.uri_ops.proofs.Normal.WrittenPlaces.{length-with-delimiter-before, length-before_path-is-path_start, length-with-delimiter-after}
 use Rattle.uri_ops.proofs.Paths.LastSlashes.{cut, slash-position-is-prefix-length, prefix-through-slash-ends-in-slash}
 
--- positions in a target: a host ends within its authority
 pub host-ends-within-authority : (kind : Kind) (text : List ℕ) → IsTextOf kind text → (a : List ℕ)
     → (components text).authority ≡ Some a → host_end_of a ≤ length a
 host-ends-within-authority kind text w a e =
@@ -21,7 +20,6 @@ pub record Within (text : List ℕ) (places : AuthorityPositions) : Type 0 where
   pub host_end : places.host_end ≤ places.end
   pub end : places.end ≡ length text
 
--- positions in a target: those of an authority are within the text of scheme and authority
 authority-positions-are-within-prefix-text : (scheme authority : Option (List ℕ))
     (places : AuthorityPositions) → ((a : List ℕ) → authority ≡ Some a → host_end_of a ≤ length a)
     → Some places ≡ option_map (authority_at (delimited_length 1 scheme + 2)) authority
@@ -44,7 +42,6 @@ authority-positions-are-within-prefix-text scheme (Some a) places host e =
       end = omega (arith, n);
     })
 
--- positions in a target: those of an authority are within the text before the path
 pub authority-positions-are-in-prefix : (text : List ℕ) (p : Positions)
     (places : AuthorityPositions) → ArePositionsOf text p
     → ((a : List ℕ) → (components text).authority ≡ Some a → host_end_of a ≤ length a)
@@ -79,7 +76,6 @@ pub record HasScheme (text : List ℕ) (scheme : Option (List ℕ)) (end : ℕ) 
   pub cut : IsCharBoundary text (end + 1)
   pub holds : take (end + 1) text ≡ marked [] scheme (codes ":")
 
--- positions in a target: a text begins with its scheme, which ends at the end of it
 text-begins-with-its-scheme : (text : List ℕ) (scheme : Option (List ℕ)) (rest : List ℕ)
     → marked [] scheme (codes ":") ++ rest ≡ text → IsUtf8 text → (end : ℕ)
     → Some end ≡ option_map length scheme → HasScheme text scheme end
@@ -96,8 +92,6 @@ text-begins-with-its-scheme text (Some s) rest whole utf8 end e =
           ∙ take-append_seam (s ++ codes ":") rest;
     }
 
--- targets: after a `/` (47) in the middle of a path a character begins; the text up to it is
--- prefix, left and `/`
 position-after-inner-slash-is-boundary : (text prefix path suffix left right : List ℕ) (start slash
     : ℕ) → text ≡ prefix ++ (path ++ suffix) → start ≡ length prefix → path ≡ left ++ 47 ∷ right
     → slash ≡ length left → IsUtf8 text → IsCharBoundary text (start + slash + 1)

@@ -9,24 +9,20 @@ use Rattle.uri_ops.proofs.AsciiForms.EncodedPaths.{ascii-text-is-its-own-encodin
 use Rattle.uri_ops.proofs.TextKinds.FourKinds.{iri-has-component-sets, iri_ref-has-component-sets}
 use Rattle.uri_ops.proofs.TextKinds.WiderKinds.{text-is-of-wider-kind, ascii_kind-is-within-kind}
 
--- general fact on options, for errors of conversions: an error that is there is not None
 some-error-is-not-none : (error : ConvertError) → Some error ≡ None → ⊥
 some-error-is-not-none error e = absurd (cc e)
 
--- conversions: a text with a scheme has no error for a missing one
 text-with-scheme-misses-no-scheme : (text : List ℕ) → is_some (components text).scheme ≡ true
     → missing_scheme_error text ≡ None
 unfolding missing_scheme_error
 text-with-scheme-misses-no-scheme text e = rw e refl
 
--- conversions: a text without an error for a missing scheme has one
 no-missing_scheme_error-means-scheme : (text : List ℕ)
     → missing_scheme_error text ≡ None → is_some (components text).scheme ≡ true
 unfolding missing_scheme_error
 no-missing_scheme_error-means-scheme text e = ⊎_elim
     (λ h. h) (λ h. absurd (some-error-is-not-none _ (sym (cond-false _ _ _ h) ∙ e))) (cases_Bool _)
 
--- conversions: a text with a scheme is of the kind that needs one
 text-with-scheme-is-of-kind-with-scheme : (kind : Kind) (text : List ℕ)
     → is_some (components text).scheme ≡ true
     → IsOfKind kind text → IsOfKind (record kind { needs_scheme = true }) text
@@ -61,11 +57,9 @@ iri_ref_with_scheme_is_iri text h =
       iri_has_scheme,
     )
 
--- conversions: the byte is ASCII
 abbrev is_ascii_code : ℕ → Bool
 is_ascii_code b = not (is_past_ascii b)
 
--- conversions: the ASCII bytes at the start of an ASCII text are all
 ascii-prefix-of-ascii-text-is-whole : (text : List ℕ) → list_all (λ c. ltb c 128) text ≡ true
     → prefix_len is_ascii_code text ≡ length text
 ascii-prefix-of-ascii-text-is-whole [] e = refl
@@ -77,7 +71,6 @@ ascii-prefix-of-ascii-text-is-whole (c ∷ text) e =
     ≡ length text = ascii-prefix-of-ascii-text-is-whole text p.1 in
     omega arith
 
--- conversions: if the ASCII bytes at the start are all, the text is ASCII
 whole-ascii-prefix-means-ascii-text : (text : List ℕ) → length text ≤ prefix_len is_ascii_code text
     → list_all (λ c. ltb c 128) text ≡ true
 whole-ascii-prefix-means-ascii-text [] h = refl
@@ -87,7 +80,6 @@ whole-ascii-prefix-means-ascii-text (c ∷ text) h = ⊎_elim (λ e. let n : pre
     let n : prefix_len is_ascii_code (c ∷ text) ≡ 0 = cond-false _ _ _ (ap (λ b. not (not b)) e) in
     absurd (omega arith)) (cases_Bool (ltb c 128))
 
--- general fact on options, for conversions: the index of a character past ASCII is not None
 some-index-is-not-none : (index : ℕ) → Some index ≡ None → ⊥
 some-index-is-not-none index e = absurd (cc e)
 
@@ -110,7 +102,6 @@ no-not_ascii_error-means-ascii text e =
       whole-ascii-prefix-means-ascii-text,
     )
 
--- conversions: an ASCII text has no error for a character past ASCII
 ascii-text-has-no-not_ascii_error : (text : List ℕ) → list_all (λ c. ltb c 128) text ≡ true
     → not_ascii_error text ≡ None
 unfolding not_ascii_error first_past_ascii
@@ -132,7 +123,6 @@ module _ (kind : Kind) (sets : HasComponentSets kind) where
         (record { utf8 = u; grammar = w })),
   )
 
--- conversions: an IRI converts to a URI exactly if it is one
 pub ascii_iri_is_uri : (text : List ℕ) → IsUtf8 text → IsOfKind iri text
     → (not_ascii_error text ≡ None ↔ IsOfKind uri text)
 ascii_iri_is_uri text u h = text-of-kind-is-ascii-if-of-ascii_kind iri iri-has-component-sets text u
@@ -169,7 +159,6 @@ ascii_iri_ref_with_scheme_is_uri text u h =
       both-none-give-option_or-none,
     )
 
--- conversions: each URI is an IRI
 pub uri_is_iri : (text : List ℕ) → IsUtf8 text → IsOfKind uri text → IsOfKind iri text
 uri_is_iri text u h = (text-is-of-wider-kind uri iri iri-has-component-sets
     (ascii_kind-is-within-kind iri) text (record { utf8 = u; grammar = h })).grammar
@@ -213,7 +202,6 @@ pub encoded-iri_ref-is-uri_ref : (text encoded : List ℕ) → encoded ≡ encod
 encoded-iri_ref-is-uri_ref text encoded e u h =
     encoded-text-is-of-ascii-kind iri_ref iri_ref-has-component-sets text encoded e u h
 
--- conversions: an IRI and the URI that it is percent-encoded as are equivalent
 pub encoded-iri-is-equivalent : (text encoded : List ℕ) → encoded ≡ encode_past_ascii text
     → IsUtf8 text → IsOfKind iri text → AreEquivalent iri encoded text
 encoded-iri-is-equivalent text encoded e u h = encoded-text-is-equivalent iri iri-has-component-sets
@@ -225,7 +213,6 @@ pub encoded-iri_ref-is-equivalent : (text encoded : List ℕ) → encoded ≡ en
 encoded-iri_ref-is-equivalent text encoded e u h =
     encoded-text-is-equivalent iri_ref iri_ref-has-component-sets text encoded e u h
 
--- conversions: an IRI and its URI have the same meaning under any rules
 pub encoded-iri-has-same-meaning : (text encoded : List ℕ)
     → encoded ≡ encode_past_ascii text → IsUtf8 text → IsOfKind iri text
     → (rules : Rules) → meaning_under iri rules encoded ≡ meaning_under iri rules text

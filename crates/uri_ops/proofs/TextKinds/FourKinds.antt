@@ -1,11 +1,9 @@
 -- The sets of the four kinds.
 use Rattle.uri_ops.proofs.Common.{◌≡◌, ℕ, Bool, true, false, List, refl, sym, subst, codes, list_any, or_left, false≢true, TableSet, is_unreserved, is_reg_name_char, is_userinfo_char, is_pchar, is_path_char, is_query_char, Kind, kind_by_flags, uri, uri_ref, iri, iri_ref, IsComponentSet, HasComponentSets}
 
--- sets of the four kinds: an unreserved character may be in a registered name
 unreserved-is-reg_name-character : (c : ℕ) → is_unreserved c ≡ true → is_reg_name_char c ≡ true
 unreserved-is-reg_name-character c e = or_left _ _ e
 
--- sets of the four kinds: an unreserved character may be in userinfo
 unreserved-is-userinfo-character : (c : ℕ) → is_unreserved c ≡ true → is_userinfo_char c ≡ true
 unreserved-is-userinfo-character c e = or_left _ _ (unreserved-is-reg_name-character c e)
 
@@ -13,11 +11,9 @@ unreserved-is-userinfo-character c e = or_left _ _ (unreserved-is-reg_name-chara
 unreserved-is-pchar : (c : ℕ) → is_unreserved c ≡ true → is_pchar c ≡ true
 unreserved-is-pchar c e = or_left _ _ (unreserved-is-reg_name-character c e)
 
--- sets of the four kinds: an unreserved character may be in a path
 unreserved-is-path-character : (c : ℕ) → is_unreserved c ≡ true → is_path_char c ≡ true
 unreserved-is-path-character c e = or_left _ _ (unreserved-is-pchar c e)
 
--- sets of the four kinds: an unreserved character may be in a query
 unreserved-is-query-character : (c : ℕ) → is_unreserved c ≡ true → is_query_char c ≡ true
 unreserved-is-query-character c e = or_left _ _ (unreserved-is-pchar c e)
 
@@ -27,8 +23,6 @@ component_table : (test : ℕ → Bool) (past private : Bool) → TableSet
 component_table test past private =
     record { ascii = test; pct_encoded = true; ucschar = past; iprivate = private }
 
--- sets of the four kinds: a set by a test is a component's if it has the unreserved characters, and
--- neither `%` (37) nor the delimiters
 tested-characters-are-component-set : (marks : List ℕ) (test : ℕ → Bool) (past private : Bool)
     → ((c : ℕ) → is_unreserved c ≡ true → test c ≡ true) → test 37 ≡ false
     → list_any test marks ≡ false → IsComponentSet marks (component_table test past private)

@@ -36,7 +36,6 @@ module _ (s t : TableSet) (w : IsSubset s t) where
   set-text-is-text-of-wider-set text e = set-text-from-utf8 t text (set-text-is-utf8 s text e)
       (valid-text-is-valid-for-wider-set text (set-text-is-valid s text e))
 
--- conversions: a host is one for a greater set of names too
 host-is-host-for-wider-set : (s t : TableSet) → IsSubset s t → (text : List ℕ) (host : HostKind)
     → IsHost s text host → IsHost t text host
 host-is-host-for-wider-set s t w text (Ipv6 segments) h = h
@@ -101,12 +100,10 @@ ascii_set-is-subset-of-set set = grind arith
 pub ascii_kind-is-within-kind : (kind : Kind) → IsWithin (ascii_kind kind) kind
 ascii_kind-is-within-kind kind = grind (arith, ascii_set-is-subset-of-set)
 
--- conversions: a set is within itself
 set-is-subset-of-itself : (set : TableSet) → IsSubset set set
 set-is-subset-of-itself set =
     record { ascii = λ c e. e; pct_encoded = λ e. e; ucschar = λ e. e; iprivate = λ e. e }
 
--- conversions: a kind is a wider one than the same with a scheme needed
 pub kind-with-scheme-is-within-kind : (kind : Kind)
     → IsWithin (record kind { needs_scheme = true }) kind
 kind-with-scheme-is-within-kind kind = grind (arith, set-is-subset-of-itself)

@@ -17,16 +17,13 @@ set-excludes-marks-outside-it set (b ∷ marks) h e =
     and_from _ _ (and_from _ _ r.0 (and_from _ _ (ap not q.0) r.1))
     (set-excludes-marks-outside-it set marks p.1 q.1)
 
--- cutting authorities: a text that lacks some delimiters lacks any of these
 pub Lacks-of-fewer-marks : (some all : List ℕ) → ((c : ℕ) → is_one_of some c ≡ true
     → is_one_of all c ≡ true) → (text : List ℕ) → Lacks all text → Lacks some text
 Lacks-of-fewer-marks some all more text h k d l = grind (arith, nat_tests)
 
--- cutting authorities: the empty text lacks all delimiters
 pub empty-text-lacks-marks : (marks : List ℕ) → Lacks marks []
 empty-text-lacks-marks marks k d l = absurd (omega arith)
 
--- cutting authorities: a text without some delimiters is cut at its end
 pub cut-of-text-without-marks : (marks text : List ℕ) → Lacks marks text
     → (before_any marks text ≡ text) × (from_any marks text ≡ [])
 cut-of-text-without-marks marks text h =
@@ -35,18 +32,15 @@ cut-of-text-without-marks marks text h =
       ap (from_any marks) (sym (append-nil text)) ∙ cut.1,
     )
 
--- authorities: the text of a port with its `:`, or nothing
 port_text : Option (List ℕ) → List ℕ
 port_text port = marked (codes ":") port []
 
--- authorities: a port with its `:`, if there is one, begins with `:`
 port_text-is-empty-or-has-colon : (port : Option (List ℕ))
     → IsEmptyOrMarked (codes ":") (port_text port)
 unfolding port_text
 port_text-is-empty-or-has-colon None = tt
 port_text-is-empty-or-has-colon (Some digits) = refl
 
--- authorities: a port is what is after the `:`, if there is one
 port-is-found-in-port_text : (port : Option (List ℕ))
     → when (starts 58 (port_text port)) (drop 1 (port_text port)) ≡ port
 unfolding port_text
@@ -58,13 +52,11 @@ abbrev pub HasHostShape : List ℕ → Type 0
 HasHostShape host = ((address : List ℕ) × (host ≡ bracketed address) × Lacks (codes "]") address)
     ⊎ Lacks (codes "@:[") host
 
--- authorities: what is empty or begins with `:` does not begin with `[` (91)
 empty-or-colon-begins-with-no-bracket : (text : List ℕ) → IsEmptyOrMarked (codes ":") text
     → starts 91 text ≡ false
 empty-or-colon-begins-with-no-bracket [] b = refl
 empty-or-colon-begins-with-no-bracket (c ∷ text) b = grind (arith, nat_tests)
 
--- authorities: a host without `[` (91), and a port after it, do not begin with `[`
 unbracketed-host-begins-with-no-bracket : (host tail : List ℕ)
     → Lacks (codes "[") host → IsEmptyOrMarked (codes ":") tail → starts 91 (host ++ tail) ≡ false
 unbracketed-host-begins-with-no-bracket [] tail lacks begins = empty-or-colon-begins-with-no-bracket
@@ -72,7 +64,6 @@ unbracketed-host-begins-with-no-bracket [] tail lacks begins = empty-or-colon-be
 unbracketed-host-begins-with-no-bracket (c ∷ host) tail lacks begins =
     lacking_text_does_not_begin_with (codes "[") (c ∷ host) 91 refl lacks
 
--- authorities: parsing cuts a host where it ends, before the `:` of a port or at the end
 pub host-is-cut-where-it-ends : (host tail : List ℕ) → HasHostShape host
     → IsEmptyOrMarked (codes ":") tail
     → (leading_host (host ++ tail) ≡ host) × (after_host (host ++ tail) ≡ tail)
@@ -126,13 +117,11 @@ user_cut (Some user) rest h lacks =
       cond-true _ _ _ s ∙ ap (drop 1) from,
     )
 
--- authorities: a component that is absent or valid passes the test
 absent-or-valid-part-passes-test : (set : TableSet) (part : Option (List ℕ))
     → IfSome part (IsValidFor set) → option_map_or (is_valid_for set) part true ≡ true
 absent-or-valid-part-passes-test set None h = refl
 absent-or-valid-part-passes-test set (Some text) h = h
 
--- authorities: a component that passes the test is absent or valid
 part-that-passes-test-is-valid : (set : TableSet) (part : Option (List ℕ))
     → option_map_or (is_valid_for set) part true ≡ true → IfSome part (IsValidFor set)
 part-that-passes-test-is-valid set None e = tt
@@ -175,7 +164,6 @@ authority-parts-are-utf8 (Some user) port host u =
     let suffix = host-and-port-are-utf8 host port apart.1 in
     record { userinfo = apart.0; host = suffix.0; port = suffix.1 }
 
--- authorities: a port with its `:`, if there is one, has no `@`
 valid-port-lacks-at-sign : (port : Option (List ℕ))
     → IfSome port IsUtf8 → IfSome port (IsValidFor digit_set) → Lacks (codes "@") (port_text port)
 unfolding port_text

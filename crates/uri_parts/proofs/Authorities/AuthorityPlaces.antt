@@ -15,7 +15,6 @@ pub holds : (users names : TableSet) (text : List ℕ) → is_authority_for user
 unfolding is_authority_for
 holds users names text t = grind (arith, nat_tests, bytes_eq-Decides)
 
--- authorities, positions: a character begins at an ASCII byte c after a prefix
 boundary-before-ascii-byte : (prefix rest : List ℕ) (c : ℕ) → c < 128
     → IsCharBoundary (prefix ++ (c ∷ rest)) (length prefix)
 boundary-before-ascii-byte prefix rest c ascii =
@@ -24,11 +23,9 @@ boundary-before-ascii-byte prefix rest c ascii =
     IsCharBoundary-before_ascii (prefix ++ (c ∷ rest)) (length prefix)
     (omega (arith, length-append prefix (c ∷ rest))) at
 
--- authorities, positions: the text of a port with its `:`, or nothing
 abbrev port_text : Option (List ℕ) → List ℕ
 port_text port = marked (codes ":") port []
 
--- authorities, positions: the text of userinfo with its `@`, or nothing
 abbrev user_text : Option (List ℕ) → List ℕ
 user_text userinfo = marked [] userinfo (codes "@")
 
@@ -45,7 +42,6 @@ pub record IsBetween (text : List ℕ) (start end : ℕ) (part : List ℕ) : Typ
   pub ends : IsCharBoundary text end
   pub holds : slice_range text start end ≡ part
 
--- authorities, positions: a character begins where the host does, after userinfo and `@`
 host-begins-at-boundary-after-userinfo : (userinfo : Option (List ℕ)) (rest text : List ℕ)
     → user_text userinfo ++ rest ≡ text
     → IsUtf8 text → IsCharBoundary text (delimited_length 1 userinfo)
@@ -53,8 +49,6 @@ host-begins-at-boundary-after-userinfo None rest text whole u = IsCharBoundary-s
 host-begins-at-boundary-after-userinfo (Some user) rest text whole u =
     grind (arith, nat_tests, append_assoc, boundary_after_mark)
 
--- authorities, positions: a character begins where the host ends,
--- before the `:` of a port or at the end
 host-ends-at-boundary : (prefix : List ℕ) (port : Option (List ℕ)) (text : List ℕ)
     → prefix ++ port_text port ≡ text → IsCharBoundary text (length prefix)
 host-ends-at-boundary prefix None text whole =
@@ -62,7 +56,6 @@ host-ends-at-boundary prefix None text whole =
 host-ends-at-boundary prefix (Some digits) text whole =
     grind (arith, nat_tests, boundary-before-ascii-byte)
 
--- authorities, positions: the host is between userinfo and port
 host-is-between-userinfo-and-port : (userinfo port : Option (List ℕ)) (host text : List ℕ)
     → user_text userinfo ++ (host ++ port_text port) ≡ text → IsUtf8 text
     → IsBetween text (delimited_length 1 userinfo) (delimited_length 1 userinfo + length host) host
@@ -100,7 +93,6 @@ pub record HasUserinfoBefore (users : TableSet) (text : List ℕ) (start : ℕ)
   pub valid : IsValidFor users (take (start - 1) text)
   pub is : Some (take (start - 1) text) ≡ userinfo
 
--- authorities, positions: userinfo with its `@` is before the host, and valid for its set (users)
 user_lies : (users : TableSet) (userinfo : Option (List ℕ)) (rest text : List ℕ)
     → user_text userinfo ++ rest ≡ text → option_map_or (is_valid_for users) userinfo true ≡ true
     → 0 < delimited_length 1 userinfo
@@ -123,7 +115,6 @@ userinfo_is_before_host users names text t l =
     let w = holds users names text t in
     user_lies users p.userinfo (p.host ++ port_text p.port) text w.whole w.userinfo l
 
--- authorities: the host starts later than at 0 exactly if there is a userinfo
 pub userinfo_before_later_host : (userinfo : Option (List ℕ))
     → not (eqb (delimited_length 1 userinfo) 0) ≡ is_some userinfo
 userinfo_before_later_host None = refl
@@ -136,7 +127,6 @@ pub record HasPortAfter (text : List ℕ) (end : ℕ) (port : Option (List ℕ))
   pub valid : IsValidFor digit_set (drop (end + 1) text)
   pub is : Some (drop (end + 1) text) ≡ port
 
--- authorities, positions: where the host ends, the text does, or a valid port follows
 text-ends-or-port-follows-prefix : (prefix : List ℕ) (port : Option (List ℕ)) (text : List ℕ)
     → prefix ++ port_text port ≡ text → IsUtf8 text
     → option_map_or (is_valid_for digit_set) port true ≡ true

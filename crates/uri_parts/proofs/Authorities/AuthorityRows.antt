@@ -2,32 +2,26 @@
 use Rattle.uri_parts.proofs.Common.{◌≡◌, true, false, [], ◌∷◌, refl, codes, map, replicate, Some, None, list_any, list_all, read_ipv4, read_ipv6, read_segments, read_segment, read_number, read_octet, chars, userinfo_set, reg_name_set, tokens_from_chars, Ipv4, Ipv6, IpvFuture, RegName, host_kind, is_host, ipv4_value, ipv6_value, is_ipv_future, authority_parts, is_authority_for}
 use Rattle.uri_pct.specs.Tokens as Tokens
 
--- examples of authorities: the components of `u@h:80` are userinfo, host and port
 user_host_port : authority_parts (codes "u@h:80")
     ≡ record { userinfo = Some (codes "u"); host = codes "h"; port = Some (codes "80") }
 user_host_port = refl
 
--- examples of authorities: `@:` has empty userinfo, an empty host and an empty port
 lone-marks-give-empty-userinfo-host-and-port : authority_parts (codes "@:")
     ≡ record { userinfo = Some []; host = []; port = Some [] }
 lone-marks-give-empty-userinfo-host-and-port = refl
 
--- examples of authorities: the empty one has an empty host, without userinfo and port
 empty-authority-has-empty-host-alone : authority_parts []
     ≡ record { userinfo = None; host = []; port = None }
 empty-authority-has-empty-host-alone = refl
 
--- examples of authorities: `u:p@h` has the userinfo `u:p`
 userinfo-may-hold-colon : authority_parts (codes "u:p@h")
     ≡ record { userinfo = Some (codes "u:p"); host = codes "h"; port = None }
 userinfo-may-hold-colon = refl
 
--- examples of authorities: an IPv6 address in brackets, with an empty port after it
 parts-of-ipv6-host-with-empty-port : authority_parts (codes "[::ffff:192.0.2.1]:")
     ≡ record { userinfo = None; host = codes "[::ffff:192.0.2.1]"; port = Some [] }
 parts-of-ipv6-host-with-empty-port = refl
 
--- examples of authorities: an IPv6 address in brackets, between userinfo and a port
 parts-of-ipv6-host-after-userinfo : authority_parts (codes "u@[::1]:8")
     ≡ record { userinfo = Some (codes "u"); host = codes "[::1]"; port = Some (codes "8") }
 parts-of-ipv6-host-after-userinfo = refl

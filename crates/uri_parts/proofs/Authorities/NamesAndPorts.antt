@@ -52,8 +52,6 @@ cut_at_further_mark mark marks (b ∷ bs) = ⊎_elim (λ o.
           ∙ sym (ap (before_any marks) (from_any-past-other (mark ∷ marks) b bs a)),
     )) (cases_Bool (is_one_of (mark ∷ []) b))) (cases_Bool (is_one_of marks b))
 
--- cutting authorities: a text cut at delimiters begins
--- with another byte (mark) exactly if the text does
 pub cut-text-begins-with-same-other-byte : (mark : ℕ) (marks : List ℕ) → is_one_of marks mark
     ≡ false → (bs : List ℕ) → starts mark (before_any marks bs) ≡ starts mark bs
 cut-text-begins-with-same-other-byte mark marks none [] = refl
@@ -65,15 +63,12 @@ pub utf8_before_marks : (marks bs : List ℕ) → AreAscii marks → IsUtf8 bs
     → IsUtf8 (before_any marks bs)
 utf8_before_marks marks bs ascii u = IsUtf8-take bs _ u (first_mark_is_at_boundary marks ascii bs)
 
--- cutting authorities: a text that is empty or begins with a delimiter passes the test for it
 marked-text-is-empty-or-begins-with-any : (marks rest : List ℕ) → IsEmptyOrMarked marks rest
     → is_empty_or_begins_with_any marks rest ≡ true
 unfolding is_empty_or_begins_with_any
 marked-text-is-empty-or-begins-with-any marks [] b = refl
 marked-text-is-empty-or-begins-with-any marks (c ∷ rest) b = b
 
--- authorities, parsed: a scan by a set that excludes some
--- delimiters ends at one exactly if what is before it is valid
 scan-ends-at-mark-iff-cut-is-valid : (marks : List ℕ) (set : TableSet)
     → LacksPercent set → excludes set marks ≡ true → (bs : List ℕ) → IsUtf8 bs
     → is_empty_or_begins_with_any marks (after set bs) ≡ is_valid_for set (before_any marks bs)
@@ -86,16 +81,12 @@ scan-ends-at-mark-iff-cut-is-valid marks set lacks outside bs u =
     ∙ w.other ∙ sym (cut marks set lacks outside bs u ∙ ne_eqb _ _ w.apart))
     (scan-stops-at-first-mark-or-within marks set lacks outside bs u)
 
--- authorities, parsed: `:` (58) does not end an authority
 colon-ends-no-authority : (b : ℕ) → eqb b 58 ≡ true → is_one_of (codes "/?#") b ≡ false
 colon-ends-no-authority b e = ap (is_one_of (codes "/?#")) (eqb-true b 58 e)
 
--- authorities, parsed: `:` (58) is ASCII
 colon-is-ascii : (b : ℕ) → eqb b 58 ≡ true → b < 128
 colon-is-ascii b e = let d = eqb-true b 58 e in omega arith
 
--- authorities, parsed: digits after `:` end at a delimiter
--- exactly if what is cut out there is a port
 pub port-ends-at-mark-iff-cut-is-port : (bs : List ℕ) → IsUtf8 bs → is_empty_or_begins_with_any
     (codes "/?#") (drop (port_length bs) bs) ≡ is_empty_or_port (before_any (codes "/?#") bs)
 unfolding is_empty_or_begins_with_any port_length is_empty_or_port
@@ -143,7 +134,6 @@ pub other_byte_begins_no_port : (b : ℕ) (bs : List ℕ) → is_one_of (codes "
 unfolding is_empty_or_begins_with_any port_length
 other_byte_begins_no_port b bs o = grind (arith, nat_tests)
 
--- authorities, parsed: a port is nothing, or begins with `:`
 pub port-is-empty-or-begins-with-colon : (bs : List ℕ) → is_empty_or_port bs ≡ true
     → IsEmptyOrMarked (codes ":") bs
 unfolding is_empty_or_port
@@ -151,7 +141,6 @@ port-is-empty-or-begins-with-colon [] h = tt
 port-is-empty-or-begins-with-colon (b ∷ bs) h = ap (is_one_of (codes ":"))
     (eqb-true b 58 (and_parts _ _ h).0)
 
--- authorities, parsed: a port has no `@`
 pub port-lacks-at-sign : (bs : List ℕ) → IsUtf8 bs → is_empty_or_port bs ≡ true
     → Lacks (codes "@") bs
 unfolding is_empty_or_port

@@ -2,13 +2,10 @@
 use Rattle.uri_parts.proofs.Common.{◌≡◌, [], map, refl, Some, None, codes, str_to_ascii_lowercase, scheme_ports, default_port}
 use Rattle.uri_parts.specs.Ports.{port_number}
 
--- default ports: the names of the table are in lower case,
--- so its rows are found by a scheme in lower case
 names-of-default-ports-are-lower-case : map (λ row. str_to_ascii_lowercase row.0) scheme_ports
     ≡ map (λ row. row.0) scheme_ports
 names-of-default-ports-are-lower-case = refl
 
--- default ports: the scheme of each row has the port of the row
 each-row-gives-its-default-port : map (λ row. default_port row.0) scheme_ports
     ≡ map (λ row. Some row.1) scheme_ports
 unfolding default_port
@@ -24,14 +21,11 @@ default-port-ignores-case : default_port (str_to_ascii_lowercase (codes "COAP+TC
 unfolding default_port
 default-port-ignores-case = refl
 
--- examples of ports: leading zeros do not change the number
 leading-zeros-keep-port-number : port_number (Some (codes "00000000000000000080")) ≡ Some 80
 leading-zeros-keep-port-number = refl
 
--- examples of ports: a number may be greater than 65535
 port-number-may-pass-65535 : port_number (Some (codes "65536")) ≡ Some 65536
 port-number-may-pass-65535 = refl
 
--- examples of ports: an empty port has no number
 empty-port-has-no-number : port_number (Some []) ≡ None
 empty-port-has-no-number = refl

@@ -6,11 +6,9 @@ use Rattle.std.proofs.lemmas.Str.Parse.{IsNumeralModel, parse_digits, digit_from
 use Rattle.uri_parts.specs.Ports.{port_number, port_value, FitsPort}
 use Rattle.uri_parts.proofs.TextKinds.AsciiSets.{is_ascii_in, valid_ascii_text}
 
--- ports: an ASCII digit has a value below 10
 ascii-digit-has-value-below-ten : (d : ℕ) → is_ascii_in is_ascii_digit d ≡ true → digit_value d < 10
 ascii-digit-has-value-below-ten d e = grind (arith, nat_tests, digit_value_digit)
 
--- ports: ASCII digits are decimal digits, as std reads them
 ascii-digits-are-decimal-digits : (digits : List ℕ)
     → list_all (is_ascii_in is_ascii_digit) digits ≡ true → AllDigits 10 digits
 ascii-digits-are-decimal-digits [] e = tt
@@ -19,7 +17,6 @@ ascii-digits-are-decimal-digits (d ∷ digits) e =
     (list_all (is_ascii_in is_ascii_digit) digits) e in
     (ascii-digit-has-value-below-ten d p.0, ascii-digits-are-decimal-digits digits p.1)
 
--- ports: a text that is valid for the set of digits is decimal digits
 valid-digit-text-is-decimal-digits : (digits : List ℕ) → IsUtf8 digits → IsValidFor digit_set digits
     → AllDigits 10 digits
 valid-digit-text-is-decimal-digits digits u v =
@@ -29,7 +26,6 @@ valid-digit-text-is-decimal-digits digits u v =
 port_value-is-numeral-model : IsNumeralModel (AllDigits 10) port_value
 port_value-is-numeral-model = record { to = λ ds d. d; from = λ ds d. d; same = λ ds d. refl }
 
--- ports: a port with digits has their value as its number
 nonempty-port-has-number : (digits : List ℕ) → eqb (length digits) 0 ≡ false
     → (0 < length digits) × (port_number (Some digits) ≡ Some (port_value digits))
 nonempty-port-has-number [] e = absurd (true≢false e)

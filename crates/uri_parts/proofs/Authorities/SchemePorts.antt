@@ -13,7 +13,6 @@ row_of row = (row.0.now, row.1)
 abbrev pub is_named : List ℕ → Row → Bool
 is_named name row = str_eq_ignore_ascii_case row.0.now name
 
--- default ports: the port of the first row that fits, else of the rows after it
 port-of-chosen-row-or-later : (t : Bool) (row : Row) (found : Option Row) (port : Option ℕ)
     → option_map (λ r. r.1) found ≡ port
     → option_map (λ r. r.1) (cond t (Some row) found) ≡ cond t (Some row.1) port
@@ -27,7 +26,6 @@ port-commutes-with-row-choice : (t : Bool) (row : List ℕ × ℕ) (found : Opti
 port-commutes-with-row-choice true row found = refl
 port-commutes-with-row-choice false row found = refl
 
--- default ports: the port of the row that is found by its name is the port by that name in any case
 port-of-found-row-is-port_ignoring_case : (name : List ℕ) (rows : List Row)
     → option_map (λ r. r.1) (find (is_named name) rows) ≡ port_ignoring_case name (map row_of rows)
 unfolding port_ignoring_case
@@ -38,20 +36,17 @@ port-of-found-row-is-port_ignoring_case name (row ∷ rows) =
     ∙ sym (port-commutes-with-row-choice (is_named name row) (row_of row)
     (find (λ r. str_eq_ignore_ascii_case r.0 name) (map row_of rows)))
 
--- default ports: the port of a row that is borrowed is that of the row
 port-of-row-behind-reference : (r : Option (Bor Row))
     → option_map (λ x. x.now.1) r ≡ option_map (λ (row : Row). row.1) (option_map (λ x. x.now) r)
 port-of-row-behind-reference None = refl
 port-of-row-behind-reference (Some row) = refl
 
--- default ports: the port of the row that a search by name found
 pub found-row-gives-port-of-name : (name : List ℕ) (rows : List Row) (r : Option (Bor Row))
     → option_map (λ x. x.now) r ≡ find (is_named name) rows
     → option_map (λ x. x.now.1) r ≡ port_ignoring_case name (map (λ row. (row.0.now, row.1)) rows)
 found-row-gives-port-of-name name rows r e =
     grind (arith, nat_tests, port-of-row-behind-reference, port-of-found-row-is-port_ignoring_case)
 
--- default ports: a search that ignores case finds the port of the scheme in lower case
 pub port_ignoring_case-is-default_port : (scheme : List ℕ)
     → port_ignoring_case scheme scheme_ports ≡ default_port (str_to_ascii_lowercase scheme)
 unfolding port_ignoring_case default_port

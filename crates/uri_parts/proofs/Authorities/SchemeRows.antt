@@ -15,7 +15,6 @@ is_named name row = str_eq_ignore_ascii_case row.0 name
 abbrev begins_with : ℕ → Row → Bool
 begins_with letter row = eqb (to_ascii_lowercase (get_or row.0 0 0)) letter
 
--- default ports: a row with this name (b and bs) begins with its letter
 named-row-begins-with-letter : (b : ℕ) (bs : List ℕ) (row : List ℕ)
     → str_eq_ignore_ascii_case row (b ∷ bs) ≡ true
     → eqb (to_ascii_lowercase (get_or row 0 0)) (to_ascii_lowercase b) ≡ true
@@ -45,7 +44,6 @@ port-is-in-rows-of-letter b bs = ap (option_map (λ row. row.1))
     (λ row. named-row-begins-with-letter b bs row.0) scheme_ports)
     ∙ port_ignoring_case-is-default_port (b ∷ bs)
 
--- default ports: that of a scheme is in the rows of its first letter
 pub default-port-by-rows-of-first-letter : (scheme : List ℕ) (nth : ℕ)
     → 0 < length scheme → is_ascii_lowercase (to_ascii_lowercase (get_or scheme 0 0)) ≡ true
     → nth ≡ to_ascii_lowercase (get_or scheme 0 0) - 97 → port_ignoring_case scheme
@@ -57,12 +55,10 @@ default-port-by-rows-of-first-letter (b ∷ bs) nth long low e =
     ap (λ letter. port_ignoring_case (b ∷ bs) (rows_of_letter letter)) same
     ∙ port-is-in-rows-of-letter b bs
 
--- default ports: a table that has the rows of each letter has 26 lists
 table-has-26-letters : {X : Type 0} (rows_of : X → List Row) (table : List X)
     → map rows_of table ≡ rows_by_letter → length table ≡ 26
 table-has-26-letters rows_of table e = sym (length-map table rows_of) ∙ ap length e
 
--- default ports: in such a table the rows of a letter, which is the nth from `a` on, are the nth
 pub rows-of-letter-are-at-its-place : {X : Type 0} (rows_of : X → List Row) (table : List X)
     (nth : ℕ) (none : X) → map rows_of table ≡ rows_by_letter → nth < 26
     → rows_of (get_or table nth none) ≡ rows_of_letter (97 + nth)
@@ -75,7 +71,6 @@ rows-of-letter-are-at-its-place rows_of table nth none e small =
 abbrev begins_low : Row → Bool
 begins_low row = is_ascii_lowercase (to_ascii_lowercase (get_or row.0 0 0))
 
--- default ports: no row begins with what is no lower-case letter
 no-row-begins-with-non-letter : (letter : ℕ) (rows : List Row) → is_ascii_lowercase letter ≡ false
     → list_all begins_low rows ≡ true → filter (begins_with letter) rows ≡ []
 no-row-begins-with-non-letter letter [] upper e = refl
@@ -97,7 +92,6 @@ no-default-port-without-first-letter (b ∷ bs) upper = sym (port-is-in-rows-of-
     ∙ ap (port_ignoring_case (b ∷ bs)) (no-row-begins-with-non-letter (to_ascii_lowercase b)
     scheme_ports upper refl)
 
--- default ports: the empty scheme has none
 pub empty-scheme-has-no-default-port : (scheme : List ℕ) → length scheme ≡ 0
     → default_port (str_to_ascii_lowercase scheme) ≡ None
 unfolding default_port

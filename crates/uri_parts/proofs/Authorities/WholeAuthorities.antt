@@ -27,7 +27,6 @@ parses_whole_authority users names text = cond (starts 64 (from_any (codes "@") 
     && parses_host_and_port names (drop 1 (from_any (codes "@") text)))
     (parses_host_and_port names text)
 
--- general fact on texts, for authorities with brackets: equal ones pass the test of equality
 equal-texts-pass-bytes_eq : (xs ys : List ℕ) → xs ≡ ys → bytes_eq xs ys ≡ true
 equal-texts-pass-bytes_eq xs ys e = (bytes_eq-Decides xs ys).1 e
 
@@ -47,7 +46,6 @@ bytes_eq-ignores-common-prefix (x ∷ xs) ys zs =
 port_of : List ℕ → Option (List ℕ)
 port_of suffix = when (starts 58 suffix) (drop 1 suffix)
 
--- authorities: a suffix that is a port with its `:`, or nothing, passes the test of it
 suffix-test-is-is_empty_or_port : (suffix : List ℕ)
     → (bytes_eq (marked (codes ":") (port_of suffix) []) suffix
     && option_map_or (is_valid_for digit_set) (port_of suffix) true) ≡ is_empty_or_port suffix
@@ -56,7 +54,6 @@ suffix-test-is-is_empty_or_port [] = refl
 suffix-test-is-is_empty_or_port (b ∷ rest) =
     grind (arith, nat_tests, append-nil, equal-texts-pass-bytes_eq)
 
--- authorities: the test of the host and the port in what is after the userinfo
 host_test : TableSet → List ℕ → Bool
 host_test names rest = bytes_eq (leading_host rest
     ++ marked (codes ":") (port_of (after_host rest)) []) rest && (is_host names (leading_host rest)
@@ -69,7 +66,6 @@ and-of-three-swaps-first-two true false c = refl
 and-of-three-swaps-first-two false true c = refl
 and-of-three-swaps-first-two false false c = refl
 
--- authorities: if the host is known, the test is that of the host, and of the rest as a port
 host_test-of-known-cut : (names : TableSet) (host suffix rest : List ℕ) → host ++ suffix ≡ rest
     → leading_host rest ≡ host → after_host rest ≡ suffix →
     host_test names rest ≡ (is_host names host && is_empty_or_port suffix)
@@ -94,7 +90,6 @@ prefix-begins-with-no-mark-either : (mark : ℕ) (prefix suffix : List ℕ)
 prefix-begins-with-no-mark-either mark [] suffix e = refl
 prefix-begins-with-no-mark-either mark (b ∷ prefix) suffix e = e
 
--- authorities, parsed: the test of host and port is parsing them, for a host without `[` (91)
 host_test-parses-unbracketed-host : (names : TableSet) (rest : List ℕ) → starts 91 rest ≡ false
     → host_test names rest ≡ parses_host_and_port names rest
 unfolding parses_host_and_port
@@ -107,14 +102,12 @@ host_test-parses-unbracketed-host names rest e = grind (
   prefix-begins-with-no-mark-either,
 )
 
--- authorities, hosts: the test of one in brackets is that of the address in them
 bracketed-host-test-is-is_literal : (names : TableSet) (address : List ℕ)
     → Lacks (codes "]") address → is_host names (bracketed address) ≡ is_literal address
 unfolding is_host is_literal
 bracketed-host-test-is-is_literal names address lacks =
     grind (arith, nat_tests, literal_of-bracketed-is-address, equal-texts-pass-bytes_eq)
 
--- authorities, hosts: the one delimiter `]` is the byte 93
 closing-bracket-is-byte-93 : (c : ℕ) → is_one_of (codes "]") c ≡ true → eqb c 93 ≡ true
 closing-bracket-is-byte-93 c m = grind (arith, nat_tests)
 
@@ -141,7 +134,6 @@ suffix-without-bracket-is-empty [] b e = refl
 suffix-without-bracket-is-empty (c ∷ suffix) b e = absurd
     (both_ways _ e (closing-bracket-is-byte-93 c b))
 
--- authorities, parsed: the test of host and port is parsing them, for a host in brackets
 host_test-parses-closed-literal : (names : TableSet) (rest : List ℕ)
     → starts 93 (from_any (codes "]") rest) ≡ true
     → host_test names (91 ∷ rest) ≡ parses_host_and_port names (91 ∷ rest)
@@ -159,12 +151,10 @@ host_test-parses-closed-literal names rest e = grind (
   is_literal,
 )
 
--- authorities, hosts: a text without `]` is not one in brackets
 unclosed-text-is-not-bracketed : (rest : List ℕ) → (bracketed rest ++ []) ≡ 91 ∷ rest → ⊥
 unclosed-text-is-not-bracketed rest e = let n = ap length e in
     omega (arith, n, length-append rest (codes "]"), length-append (bracketed rest) [])
 
--- authorities, parsed: the test of host and port is parsing them, where a `[` is not closed
 host_test-parses-unclosed-literal : (names : TableSet) (rest : List ℕ)
     → starts 93 (from_any (codes "]") rest) ≡ false
     → host_test names (91 ∷ rest) ≡ parses_host_and_port names (91 ∷ rest)
@@ -188,7 +178,6 @@ host_test-parses-unclosed-literal names rest e =
     []) (91 ∷ rest) (λ d. unclosed-text-is-not-bracketed rest (sym text ∙ d)))
     ∙ sym (and_left _ _ e)
 
--- authorities, parsed: the test of host and port is parsing them from left to right
 host_test-is-parses_host_and_port : (names : TableSet) (rest : List ℕ)
     → host_test names rest ≡ parses_host_and_port names rest
 host_test-is-parses_host_and_port names [] = host_test-parses-unbracketed-host names [] refl

@@ -12,7 +12,6 @@ abbrev pub IsSuffix : List ℕ → List ℕ → Type 0
 IsSuffix suffix text =
     (length suffix ≤ length text) × (suffix ≡ drop (length text - length suffix) text)
 
--- IP addresses: what follows a prefix is a suffix
 pub text-after-prefix-is-suffix : (prefix : List ℕ) {text suffix : List ℕ} → text ≡ prefix ++ suffix
     → IsSuffix suffix text
 text-after-prefix-is-suffix prefix {text} {suffix} whole =
@@ -20,12 +19,10 @@ text-after-prefix-is-suffix prefix {text} {suffix} whole =
     let long = ap length whole in
     (omega arith, rw whole (sym (drop_at prefix suffix _ (omega arith))))
 
--- IP addresses: a suffix of what is left from a position on is one of the whole text
 pub suffix-at-position : (text suffix : List ℕ) (start : ℕ) → start ≤ length text
     → IsSuffix suffix (drop start text) → IsSuffix suffix text
 suffix-at-position text suffix start within s = grind (arith, nat_tests, length-drop, drop-drop)
 
--- parsing IPv6: each hexadecimal digit has a value below 16
 digit-of-hex-text-is-below-16 : (text : List ℕ) (i : ℕ) → AllDigits 16 text → i < length text
     → digit_value (get_or text i 0) < 16
 digit-of-hex-text-is-below-16 [] i h l = absurd (omega arith)

@@ -48,7 +48,6 @@ hex_is_ascii text all i = elim (cases_lt i (length text)) [
   | inr past ↦ rw (get_or_past text i 0 past) (omega arith)
 ]
 
--- writing IPv6: digits and dots are ASCII
 pub digits_and_dots_are_ascii : (text : List ℕ) → All IsDigitOrDot text → IsAscii text
 digits_and_dots_are_ascii text all i = elim (cases_lt i (length text)) [
   | inl inside ↦ elim (All-get_or IsDigitOrDot text i 0 inside all) [

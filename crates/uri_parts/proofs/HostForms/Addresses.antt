@@ -22,7 +22,6 @@ hex-digit-is-address-char : (c : ℕ) → digit_value c < 16 → is_address_char
 unfolding is_address_char
 hex-digit-is-address-char c h = grind (arith, nat_tests)
 
--- IP addresses: digits may be in one
 hex-digits-are-address-text : (radix : ℕ) (text : List ℕ) → radix ≤ 16 → AllDigits radix text
     → is_address_text text ≡ true
 unfolding is_address_text
@@ -30,7 +29,6 @@ hex-digits-are-address-text radix [] le h = refl
 hex-digits-are-address-text radix (c ∷ text) le h = and_from _ _
     (hex-digit-is-address-char c (omega arith)) (hex-digits-are-address-text radix text le h.1)
 
--- IP addresses: a decimal number of a byte may be in one
 decimal-byte-is-address-text : (n : ℕ) → n < 256 → is_address_text (decimal n) ≡ true
 decimal-byte-is-address-text n h = hex-digits-are-address-text 10 (decimal n) (lit≤ tt)
     (decimal_is_IsNumeral n (omega arith)).0.1
@@ -41,12 +39,10 @@ separators-are-address-text : (is_address_text (codes ".") ≡ true)
 unfolding is_address_text is_address_char
 separators-are-address-text = (refl, refl, refl)
 
--- IP addresses: the empty text has only characters of an address
 empty-text-is-address-text : is_address_text [] ≡ true
 unfolding is_address_text
 empty-text-is-address-text = refl
 
--- IP addresses: an IPv4 address has digits and `.` only
 ipv4-text-is-address-text : (text octets : List ℕ) → IsDotted text octets
     → is_address_text text ≡ true
 ipv4-text-is-address-text text octets h = grind (
@@ -93,18 +89,15 @@ address-text-lacks-other-marks marks unmarked (c ∷ text) h =
     text-after-other-byte-lacks-marks marks c text (unmarked c p.0)
     (address-text-lacks-other-marks marks unmarked text p.1)
 
--- parsing IP addresses: the first byte of an address is one that addresses have
 pub address-text-begins-with-address-char : (c : ℕ) (text : List ℕ)
     → is_address_text (c ∷ text) ≡ true → is_address_char c ≡ true
 unfolding is_address_text
 address-text-begins-with-address-char c text h = (and_parts _ _ h).0
 
--- IP addresses: if a text of length 0 is left, all was read
 text-of-length-zero-is-empty : (rest : List ℕ) → length rest ≡ 0 → rest ≡ []
 text-of-length-zero-is-empty [] e = refl
 text-of-length-zero-is-empty (c ∷ rest) e = absurd (omega arith)
 
--- IP addresses: a value that is the whole text's was read to its end
 whole-value-is-read-to-end : {A : Type 0} (read : Read A) (x : A) → whole_value read ≡ Some x → read
     ≡ Some (x, [])
 whole-value-is-read-to-end None x e = cc

@@ -90,7 +90,6 @@ module _ (set : TableSet) (lacks : LacksPercent set) (mark : ℕ) (ascii : mark 
       (both_ways _ (ap (starts mark) w.left ∙ other-byte-is-not-mark w.byte w.other) p.1))
       (scan-stops-at-first-mark-or-within (mark ∷ []) set lacks outside rest u)
 
--- parsing IP literals: an IPvFuture address with a `]` after it is parsed as one
 closed-ipvfuture-is-parsed-literal : (text tail : List ℕ) → Lacks (codes "]") text
     → is_ipv_future text ≡ true → (parses_literal (text ++ (93 ∷ tail)) ≡ true)
     × (literal_length (text ++ (93 ∷ tail)) ≡ length text + 1)

@@ -34,7 +34,6 @@ is_ipv_future-sound [] e = absurd (false≢true e)
 is_ipv_future-sound (letter ∷ rest) e =
     grind (arith, nat_tests, text-is-cut-at-first-mark, text-with-mark-is-mark-and-rest)
 
--- hosts: a character of an IP address may be in userinfo
 address-char-is-userinfo-char : (c : ℕ) → is_address_char c ≡ true → is_userinfo_char c ≡ true
 unfolding is_address_char
 address-char-is-userinfo-char c e = grind (arith, nat_tests)
@@ -68,7 +67,6 @@ text-of-unmarked-bytes-lacks-marks : (marks : List ℕ) (P : ℕ → Type 0)
     → ((c : ℕ) → P c → is_one_of marks c ≡ false) → (text : List ℕ) → All P text → Lacks marks text
 text-of-unmarked-bytes-lacks-marks marks P unmarked text h k d l = unmarked _ (h k d l)
 
--- IP addresses: the four numbers of an IPv4 address have eight bits
 four-octets-fit-eight-bits : (a b c d : ℕ) → a < 256 → b < 256 → c < 256 → d < 256 → (k : ℕ)
     → get_or (a ∷ b ∷ c ∷ d ∷ []) k 0 < 2 ^ 8
 four-octets-fit-eight-bits a b c d p q r s zero = p

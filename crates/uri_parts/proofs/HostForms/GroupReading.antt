@@ -9,7 +9,6 @@ option-is-none-if-mapped-is : {A B : Type 0} (f : A → B) (o : Option A) → op
 option-is-none-if-mapped-is f None e = refl
 option-is-none-if-mapped-is f (Some x) e = absurd (none-some (f x) (sym e))
 
--- reading IPv6: no IPv4 address begins where no `.` follows the first digits
 pub no-dot-after-digits-is-no-ipv4 : (fits : Bool) (text : List ℕ) (count : ℕ)
     → AreLeadingHexDigits text count → get_or text count 0 ≢ 46 → read_ipv4_if fits text ≡ None
 no-dot-after-digits-is-no-ipv4 false text count h other = refl
@@ -18,7 +17,6 @@ no-dot-after-digits-is-no-ipv4 true text count h other = elim (cases_lt count 5)
   | inr five ↦ five_digits_begin_no_ipv4 text count h (let most = h.most in omega arith)
 ]
 
--- reading IPv6: a colon at a position is read there
 pub colon-at-position-is-read : (s : List ℕ) (i : ℕ) → get_or s i 0 ≡ 58 → read_byte 58 (drop i s)
     ≡ Some (drop (i + 1) s)
 colon-at-position-is-read s i e = elim (cases_lt i (length s)) [
@@ -26,11 +24,9 @@ colon-at-position-is-read s i e = elim (cases_lt i (length s)) [
   | inr past ↦ cc (get_or_past s i 0 past)
 ]
 
--- reading IPv6: a colon at a position is inside the text
 pub colon-at-position-is-inside : (s : List ℕ) (i : ℕ) → get_or s i 0 ≡ 58 → i + 1 ≤ length s
 colon-at-position-is-inside s i e = grind (arith, nat_tests, get_or_past)
 
--- reading IPv6: where another byte is, no colon is read
 other-byte-at-position-is-no-colon : (s : List ℕ) (i : ℕ) → get_or s i 0 ≢ 58
     → read_byte 58 (drop i s) ≡ None
 other-byte-at-position-is-no-colon s i other = elim (cases_lt i (length s)) [
@@ -38,14 +34,12 @@ other-byte-at-position-is-no-colon s i other = elim (cases_lt i (length s)) [
   | inr past ↦ at_drop_all (read_byte 58) s i past
 ]
 
--- reading IPv6: without a colon no group follows
 no-segment-is-read-without-colon : (room : ℕ) (rest : List ℕ) → read_byte 58 rest ≡ None
     → read_segments room false rest ≡ ([], false, rest)
 unfolding read_segments
 no-segment-is-read-without-colon zero rest e = refl
 no-segment-is-read-without-colon (suc room) rest e = rw e
 
--- reading IPv6: no IPv4 address begins without a digit
 no-digits-begin-no-ipv4 : (text : List ℕ) → AreLeadingHexDigits text 0 → read_ipv4 text ≡ None
 unfolding read_ipv4 read_octet
 no-digits-begin-no-ipv4 text h = grind (arith, nat_tests, read_number_empty)
@@ -62,7 +56,6 @@ module _ (text : List ℕ) (count : ℕ) (are : AreLeadingHexDigits text count)
   no-segment-without-group =
       grind (arith, nat_tests, no_digits_are_no_segment, five_digits_are_no_segment)
 
--- reading IPv6: what follows an IPv4 address is a suffix of the text
 pub text-after-ipv4-is-suffix : (text two rest : List ℕ) → Some (two, rest) ≡ segments_of_ipv4 text
     → IsSuffix rest text
 text-after-ipv4-is-suffix text two rest e =
@@ -138,7 +131,6 @@ module _ (n i : ℕ) (text s prefix group : List ℕ) (within : i < n)
         let later : (i + 1 == 0) ≡ false = ne_eqb _ _ (omega arith) in
         rw (later, colon-at-position-is-read group count colon) refl
 
--- reading IPv6: the byte after the digits of a group, by its position and after a cut
 pub byte-after-digits-at-position : (text : List ℕ) (group count byte : ℕ)
     → byte ≡ get_or text (group + count) 0 → byte ≡ get_or (drop group text) count 0
 byte-after-digits-at-position text group count byte here = rw (get_or-drop group text count 0) here

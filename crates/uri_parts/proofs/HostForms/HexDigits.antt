@@ -12,17 +12,14 @@ abbrev are_values : ℕ → Bool
 are_values zero = true
 are_values (suc n) = is_value n && are_values n
 
--- parsing IPv6: the table's entry of a hexadecimal digit is its value, and of another byte 16
 pub table-entry-is-digit-value : (b : ℕ) → b < 256 → get_or DIGIT_VALUES.now b 0
     ≡ min (digit_value b) 16
 table-entry-is-digit-value b small = eqb-true _ _ ((Decides-below_and is_value (λ n. is_value n
     ≡ true) are_values (λ n. (λ e. e, λ e. e)) refl (λ _. refl) 256).0 refl b small)
 
--- parsing IPv6: the byte past the end of a text is no digit
 no-digit-past-end : (byte : ℕ) → byte ≡ 0 → 16 ≤ digit_value byte
 no-digit-past-end byte e = rw e (lit≤ tt)
 
--- parsing IPv6: three digits write a number below 4096
 pub three-digits-are-below-4096 : (text : List ℕ) (count value : ℕ) → BeginsNumber text count value
     → count < 4 → value < 4096
 three-digits-are-below-4096 text count value h few =

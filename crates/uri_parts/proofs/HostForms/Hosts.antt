@@ -7,7 +7,6 @@ use Rattle.uri_parts.proofs.Parsing.ScanStops.{utf8_after_ascii_byte}
 use Rattle.uri_parts.proofs.HostForms.Addresses.{is_address_char, is_address_text, ipv6-text-is-address-text, address-text-begins-with-address-char, ipv4_value-complete, ipv4_value-sound, ipv6_value-complete, ipv6_value-sound}
 use Rattle.uri_parts.proofs.HostForms.Futures.{is_ipv_future-complete, is_ipv_future-sound, ipv4-text-lacks-name-marks, ipv6-text-lacks-excluded-marks, ipvfuture-text-lacks-excluded-marks}
 
--- general fact on options, for the value of an IP address: there is one or none
 pub option-is-none-or-some : (o : Option (List ℕ)) → (o ≡ None) ⊎ ((x : List ℕ) × (o ≡ Some x))
 option-is-none-or-some None = inl refl
 option-is-none-or-some (Some x) = inr (x, refl)
@@ -18,7 +17,6 @@ version-letter-is-no-address-char : (c : ℕ) → is_one_of (codes "vV") c ≡ t
 unfolding is_address_char
 version-letter-is-no-address-char c e h = grind (arith, nat_tests)
 
--- hosts: the text of an IPvFuture address is no IPv6 address
 ipvfuture-text-is-no-ipv6 : (text : List ℕ) → IsIpvFuture text → ipv6_value text ≡ None
 ipvfuture-text-is-no-ipv6 text h = ⊎_elim (λ n. n) (λ (segments, e).
     let ok = ipv6-text-is-address-text _ segments (ipv6_value-sound text segments e) in
@@ -26,20 +24,17 @@ ipvfuture-text-is-no-ipv6 text h = ⊎_elim (λ n. n) (λ (segments, e).
     (address-text-begins-with-address-char h.letter _
     (subst (λ t. is_address_text t ≡ true) h.whole ok)))) (option-is-none-or-some (ipv6_value text))
 
--- hosts: a text that is no IPv4 address by the grammar has no value of one
 text-of-no-ipv4-has-no-ipv4-value : (text : List ℕ)
     → ((octets : List ℕ) → ¬ (IsIpv4Text text octets)) → ipv4_value text ≡ None
 text-of-no-ipv4-has-no-ipv4-value text h =
     ⊎_elim (λ n. n) (λ (octets, e). absurd (h octets (ipv4_value-sound text octets e)))
     (option-is-none-or-some (ipv4_value text))
 
--- hosts: the address in brackets is the one that was put into them
 pub literal_of-bracketed-is-address : (address : List ℕ) → Lacks (codes "]") address
     → literal_of (bracketed address) ≡ address
 literal_of-bracketed-is-address address h =
     (cut-at-end-of-text-without-marks (codes "]") address (codes "]") h refl).0
 
--- hosts: for one in brackets, its kind and the test of it depend on the address
 kind-and-test-of-bracketed-host : (names : TableSet) (address : List ℕ) → Lacks (codes "]") address
     → (host_kind (bracketed address) ≡ literal_kind (ipv6_value address))
     × (is_host names (bracketed address) ≡ (is_some (ipv6_value address) || is_ipv_future address))
@@ -91,7 +86,6 @@ is_host-sound names text t = ⊎_elim (λ s.
     (λ s. subst (IsHost names text) (sym (cond-false _ _ _ s))
     (tested-name-is-host names text (sym (cond-false _ _ _ s) ∙ t))) (cases_Bool (starts 91 text))
 
--- hosts: an IPvFuture address has no `]`
 ipv_future_set-excludes-closing-bracket : excludes ipv_future_set (codes "]") ≡ true
 ipv_future_set-excludes-closing-bracket = refl
 

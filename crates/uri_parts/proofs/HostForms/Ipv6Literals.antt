@@ -11,19 +11,16 @@ use Rattle.uri_parts.proofs.HostForms.LiteralTexts.{text-without-version-letter-
 abbrev left : List ℕ → Option (List ℕ)
 left rest = option_map (λ p. p.1) (read_ipv6 rest)
 
--- parsing IP literals: a text that begins with `]` (93) is cut there
 pub text-with-bracket-is-empty-or-marked : (text : List ℕ) → starts 93 text ≡ true
     → IsEmptyOrMarked (codes "]") text
 text-with-bracket-is-empty-or-marked [] e = absurd (false≢true e)
 text-with-bracket-is-empty-or-marked (c ∷ text) e = rw (eqb-true c 93 e) refl
 
--- parsing IPv6: `]` (93) ends the groups of an address
 closing-bracket-ends-groups : (text : List ℕ) → starts 93 text ≡ true → EndsGroups text
 closing-bracket-ends-groups [] e = absurd (false≢true e)
 closing-bracket-ends-groups (c ∷ text) e = rw (eqb-true c 93 e)
     ((lit≤ tt, omega arith), λ colon. absurd (omega arith))
 
--- parsing IPv6: what is left after an address is a suffix of the text
 pub text-after-ipv6-is-suffix : (rest suffix : List ℕ) → Some suffix ≡ left rest
     → IsSuffix suffix rest
 text-after-ipv6-is-suffix rest suffix e =
@@ -35,7 +32,6 @@ pub text-after-ipv6-at-position : (text suffix : List ℕ) (start : ℕ) → sta
 text-after-ipv6-at-position text suffix start within e = (suffix-at-position text
     suffix start within (text-after-ipv6-is-suffix (drop start text) suffix e)).1
 
--- parsing IP literals: an IPv6 address with `]` after it is parsed as one
 pub ipv6-and-bracket-are-parsed-literal : (rest suffix : List ℕ) → Some suffix ≡ left rest
     → starts 93 suffix ≡ true
     → (parses_literal rest ≡ true) × (literal_length rest + length suffix ≡ length rest + 1)
@@ -89,8 +85,6 @@ pub no_ipv6_is_no_literal : (rest : List ℕ)
 no_ipv6_is_no_literal rest no_version e = false_from_ne_true _ λ t. none-some _
     (e ∙ (literal_is_ipv6_and_bracket rest no_version t).0)
 
--- parsing IP literals: without a `v` at its start,
--- and if no `]` (93) follows the IPv6 address, it is no literal
 pub unclosed_ipv6_is_no_literal : (rest suffix : List ℕ) → (starts 118 rest || starts 86 rest)
     ≡ false → Some suffix ≡ left rest → starts 93 suffix ≡ false → parses_literal rest ≡ false
 unclosed_ipv6_is_no_literal rest suffix no_version e other =

@@ -15,7 +15,6 @@ other-byte-is-no-version-letter : (c : ℕ) → (eqb c 118 || eqb c 86) ≡ fals
     → is_one_of (codes "vV") c ≡ false
 other-byte-is-no-version-letter c e = grind (arith, nat_tests)
 
--- parsing IP literals: without a `v` at its start a text is no IPvFuture address
 pub text-without-version-letter-is-no-ipvfuture : (text : List ℕ)
     → (starts 118 text || starts 86 text) ≡ false → is_ipv_future text ≡ false
 unfolding is_ipv_future
@@ -23,7 +22,6 @@ text-without-version-letter-is-no-ipvfuture [] e = refl
 text-without-version-letter-is-no-ipvfuture (letter ∷ rest) e = and_left _ _
     (other-byte-is-no-version-letter letter e)
 
--- parsing IP literals: a digit is ASCII
 pub digit-is-ascii : (c radix : ℕ) → radix ≤ 36 → digit_value c < radix → c < 128
 digit-is-ascii c radix most h = grind (arith, nat_tests)
 

@@ -12,7 +12,6 @@ eqb-is-symmetric a b e = eq-eqb a b (sym (eqb-true b a e))
 eqb-false-is-symmetric : (a b : ℕ) → eqb b a ≡ false → eqb a b ≡ false
 eqb-false-is-symmetric a b e = ne_eqb a b (λ d. both_ways _ e (eq-eqb b a (sym d)))
 
--- parser: the one delimiter `#` is the byte 35
 one-of-hash-is-byte-35 : (b : ℕ) → is_one_of (codes "#") b ≡ eqb 35 b
 one-of-hash-is-byte-35 b = or-false _
 
@@ -26,7 +25,6 @@ other-byte-is-no-question-or-hash : (b : ℕ) → is_one_of (codes "?#") b ≡ f
     × (eqb b 35 ≡ false)
 other-byte-is-no-question-or-hash b e = (grind (arith, nat_tests), grind (arith, nat_tests))
 
--- parsing: a byte that is none of `:`, `/`, `?`, `#` is none of each two of them
 pub none-of-four-marks-is-none-of-two-pairs : (b : ℕ) → is_one_of (codes ":/?#") b ≡ false
     → (is_one_of (codes ":/") b ≡ false) × (is_one_of (codes "?#") b ≡ false)
 none-of-four-marks-is-none-of-two-pairs b e = (grind (arith, nat_tests), grind (arith, nat_tests))

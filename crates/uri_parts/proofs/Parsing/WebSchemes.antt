@@ -31,7 +31,6 @@ module _ (text : List ℕ) where
       115 _ (omega (arith, long)) s (from_byte text 5 58 _ (omega (arith, long)) colon refl))))) in
       sym (ap (valid_prefix scheme_set) same)
 
--- parsing: what is left after a scheme, its `:` and `//`
 pub text_after_scheme_and_slashes : (text : List ℕ) (end : ℕ)
     → drop (end + 3) text ≡ drop 2 (drop 1 (drop end text))
 text_after_scheme_and_slashes text end =

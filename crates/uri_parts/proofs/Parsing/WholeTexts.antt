@@ -43,7 +43,6 @@ slashes-begin-with-no-scheme (b ∷ rest) e = valid_prefix_at_mark_is_empty (cod
     scheme_set_lacks_percent scheme_set_excludes_delimiters b
     rest (ap (is_one_of (codes ":/?#")) (eqb-true b 47 (and_parts _ _ e).0))
 
--- parsing: `//` is next after no character of a scheme exactly where the text begins with it
 pub slashes-follow-no-scheme-characters : (text : List ℕ) → (eqb (valid_prefix scheme_set text) 0
     && has_authority (after scheme_set text)) ≡ has_authority text
 slashes-follow-no-scheme-characters text = grind (arith, nat_tests, slashes-begin-with-no-scheme)
@@ -54,12 +53,10 @@ pub colon_is_no_letter : (text : List ℕ) → starts 58 text ≡ true
 colon_is_no_letter [] e = absurd (false≢true e)
 colon_is_no_letter (b ∷ rest) e = ap is_ascii_alphabetic (eqb-true b 58 e)
 
--- parsing: what is after a scheme is after the first `:`, `/`, `?` or `#`, which is a `:`
 after_scheme-is-after-colon : (text : List ℕ) → has_scheme text ≡ true
     → after_scheme text ≡ drop 1 (from_any (codes ":/?#") text)
 after_scheme-is-after-colon text e = cond-true _ _ _ e
 
--- parsing: without a scheme, the whole text is after it
 after_scheme-without-scheme-is-whole : (text : List ℕ) → has_scheme text ≡ false
     → after_scheme text ≡ text
 after_scheme-without-scheme-is-whole text e = cond-false _ _ _ e
@@ -80,7 +77,6 @@ scheme_ok-holds-without-scheme : (text : List ℕ) → has_scheme text ≡ false
 unfolding scheme_ok
 scheme_ok-holds-without-scheme text e = grind (arith, nat_tests)
 
--- parsing: a scheme begins with a letter exactly if the text does
 scheme-begins-with-letter-iff-text-does : (text : List ℕ) → has_scheme text ≡ true
     → is_ascii_alphabetic (get_or (before_any (codes ":/?#") text) 0 0)
     ≡ is_ascii_alphabetic (get_or text 0 0)

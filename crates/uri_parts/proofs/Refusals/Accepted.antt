@@ -9,7 +9,6 @@ use Rattle.uri_parts.proofs.Refusals.Rooted.{scan-stops-at-stray-percent-or-goes
 use Rattle.uri_parts.proofs.Splitting.Relative.{scheme_set_lacks_percent}
 use Rattle.uri_parts.proofs.TextKinds.Separations.{SeparatesComponents}
 
--- general fact on results, for parse errors: one is a value exactly if it has no error
 pub result-is-ok-iff-no-error : {A E : Type 0} (r : Result A E) → is_ok r ≡ is_none (result_err r)
 result-is-ok-iff-no-error (Ok x) = refl
 result-is-ok-iff-no-error (Err e) = refl
@@ -46,8 +45,6 @@ step-without-error-needs-test-and-next : (b : Bool) (n : ℕ) (e : ParseError) (
 step-without-error-needs-test-and-next true n e next = refl
 step-without-error-needs-test-and-next false n e next = refl
 
--- parse errors: a scan and what is next have no error exactly if no `%` without digits stops the
--- scan, and the next has none
 scan-has-no-error-iff-no-stray-percent : (text : List ℕ) (set : TableSet) (next : ℕ
     → OptionalParseError) (i : ℕ) → is_none (scan text set i >>= next) ≡ (not (set.pct_encoded
     && is_next text 37 (scan_end text set i)) && is_none (next (scan_end text set i)))
@@ -68,7 +65,6 @@ ruleset steps = (
   drop-drop,
 )
 
--- parse errors: a text that begins with `@` (64) does not begin with a `%`
 at-sign-is-no-stray-percent : (set : TableSet) (rest : List ℕ) → starts 64 rest ≡ true
     → not (set.pct_encoded && starts 37 rest) ≡ true
 at-sign-is-no-stray-percent set rest e = not_from_false _

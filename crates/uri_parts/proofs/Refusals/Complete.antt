@@ -17,7 +17,6 @@ hex-digits-begin-with-no-colon [] tail l h = absurd (omega arith)
 hex-digits-begin-with-no-colon (d ∷ ds) tail l h = ne_eqb d 58 (λ e.
     let x : digit_value 58 < 16 = rw e at h.0 in omega arith)
 
--- parse errors: decimal digits are hexadecimal digits
 decimal-digits-are-hex-digits : (ds : List ℕ) → AllDigits 10 ds → AllDigits 16 ds
 decimal-digits-are-hex-digits [] h = tt
 decimal-digits-are-hex-digits (d ∷ ds) h =
@@ -29,7 +28,6 @@ record Stops (tail : List ℕ) : Type 0 where
   dot : starts 46 tail ≡ false
   some : is_end tail ≡ false
 
--- parse errors: `:` (58) ends a group of an IPv6 address
 colon-ends-a-group : (tail : List ℕ) → Stops (58 ∷ tail)
 unfolding is_end
 colon-ends-a-group tail = record { none = lit≤ tt; dot = refl; some = refl }
@@ -44,7 +42,6 @@ text-of-groups-ends-a-group ipv4 groups (s ∷ segments) suffix (inl (group, res
 text-of-groups-ends-a-group ipv4 groups (s ∷ segments) suffix (inr (last, octets, may, e, is, same))
     w = subst (λ t. Stops (t ++ suffix)) (sym e) (colon-ends-a-group _)
 
--- parse errors: `]` (93) ends a group of an IPv6 address
 bracket-ends-a-group : (tail : List ℕ) → Stops (93 ∷ tail)
 unfolding is_end
 bracket-ends-a-group tail = record { none = lit≤ tt; dot = refl; some = refl }

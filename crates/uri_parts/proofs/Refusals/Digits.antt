@@ -8,7 +8,6 @@ pub digits_end-passes-digit : (text : List ℕ) (radix i left more : ℕ) → i 
     → digits_end text radix more (i + 1) ≡ digits_end text radix left i
 digits_end-passes-digit text radix i left more l d e = grind (arith, nat_tests, drop_more)
 
--- parse errors: digits end where another byte is
 pub digits_end-stays-at-other-byte : (text : List ℕ) (radix most i : ℕ) → i < length text
     → is_digit (get_or text i 0) radix ≡ false → digits_end text radix most i ≡ i
 digits_end-stays-at-other-byte text radix most i l d = grind (arith, nat_tests, drop_more)
@@ -18,13 +17,11 @@ pub digits_end-stays-where-none-may-follow : (text : List ℕ) (radix most i : �
     → digits_end text radix most i ≡ i
 digits_end-stays-where-none-may-follow text radix most i e = omega arith
 
--- parse errors: digits end where the text does
 pub digits_end-stays-past-text : (text : List ℕ) (radix most i : ℕ) → length text ≤ i
     → digits_end text radix most i ≡ i
 digits_end-stays-past-text text radix most i l =
     let n = ap (digit_count radix) (drop_all i text l) in omega arith
 
--- parse errors: what is passed as digits is digits
 counted-prefix-is-digits : (radix k : ℕ) (xs : List ℕ) → k ≤ digit_count radix xs
     → AllDigits radix (take k xs)
 counted-prefix-is-digits radix zero xs h = tt
@@ -36,7 +33,6 @@ counted-prefix-is-digits radix (suc k) (x ∷ xs) h = ⊎_elim (λ d. (
 )) (λ d. absurd (let e = cond-false (is_digit x radix) (1 + digit_count radix xs) 0 d in
     omega arith)) (cases_Bool (is_digit x radix))
 
--- parse errors: up to the end of the digits there are only digits
 pub text-to-digits_end-is-digits : (text : List ℕ) (radix most i : ℕ)
     → AllDigits radix (slice_range text i (digits_end text radix most i))
 text-to-digits_end-is-digits text radix most i = counted-prefix-is-digits radix _ (drop i text)
@@ -58,7 +54,6 @@ octet-is-parsed-iff-at-most-255 bs (Ok n) h p =
 octet-is-parsed-iff-at-most-255 bs (Err e) h p =
     grind (arith, nat_tests, digits-have-no-leading-plus)
 
--- general fact on numbers, for parse errors: there are digits exactly if they end after they begin
 digits-are-some-iff-end-is-later : (i end : ℕ) → nat_lt 0 (end - i) ≡ nat_lt i end
 digits-are-some-iff-end-is-later i end = grind (arith, nat_tests)
 

@@ -10,23 +10,19 @@ use Rattle.uri_parts.proofs.Refusals.Literals.{literal-with-version-letter-scans
 abbrev pub Ends : Bool → ℕ → ScanResult → Type 0
 Ends parses end r = (e : ParseError) × (r ≡ cond parses (Ok end) (Err e))
 
--- parse errors: where a result is an error, the address has no end
 failed-result-has-no-end : (r : ScanResult) (end : ℕ) → is_ok r ≡ false → Ends false end r
 failed-result-has-no-end (Ok n) end e = absurd (false≢true (sym e))
 failed-result-has-no-end (Err x) end e = (x, refl)
 
--- general fact on results, for parse errors: two tests, one after the other, are one
 nested-tests-are-one-and : (p q : Bool) (end : ℕ) (d e : ParseError)
     → cond p (cond q (Ok end) (Err d)) (Err e) ≡ cond (p && q) (Ok end) (Err (cond p d e))
 nested-tests-are-one-and true q end d e = refl
 nested-tests-are-one-and false q end d e = refl
 
--- general fact on results, for parse errors: the same test and end give the same
 same-test-and-end-give-same-result : (p q : Bool) (m n : ℕ) (e : ParseError)
     → q ≡ p → (p ≡ true → n ≡ m) → cond p (Ok m) (Err e) ≡ cond q (Ok n) (Err e)
 same-test-and-end-give-same-result p q m n e s h = grind (arith, nat_tests)
 
--- general fact on numbers, for parse errors: a position is later exactly if something was passed
 later-position-iff-some-passed : (i n : ℕ) → nat_lt i (i + n) ≡ nat_lt 0 n
 later-position-iff-some-passed i n = grind (arith, nat_tests)
 

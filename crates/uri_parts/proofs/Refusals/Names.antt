@@ -6,7 +6,6 @@ use Rattle.uri_parts.proofs.Refusals.Rooted.{Adjoins, scan-stops-at-stray-percen
 use Rattle.uri_parts.proofs.Splitting.Cuts.{begins-with-further-mark}
 use Rattle.uri_parts.proofs.TextKinds.Separations.{SeparatesComponents}
 
--- parse errors: a digit, as of a port, is ASCII, and not `:` (58)
 digit-is-ascii-and-no-colon : (b : ℕ) (bs : List ℕ) → allows_first digit_set b bs ≡ true
     → (b < 128) × (eqb b 58 ≡ false)
 unfolding allows_first allows_past_ascii
@@ -25,7 +24,6 @@ pub valid_prefix-at-other-byte-is-zero : (b : ℕ) (bs : List ℕ) → allows_fi
 unfolding valid_prefix_from
 valid_prefix-at-other-byte-is-zero b bs e = cond-false _ _ _ e
 
--- parse errors: no `:` is among the leading digits, as of a port
 leading-digits-hold-no-colon : (bs : List ℕ) (k : ℕ)
     → k < valid_prefix digit_set bs → starts 58 (drop k bs) ≡ false
 leading-digits-hold-no-colon [] k l = absurd
@@ -44,7 +42,6 @@ record Ended (bs : List ℕ) : Type 0 where
   bracket : starts 91 bs ≡ false
   all : is_empty_or_begins_with_any (codes "@/?#") bs ≡ true
 
--- parse errors: where an authority may end, there is no delimiter within one
 end-of-authority-is-no-inner-mark : (bs : List ℕ) → is_empty_or_begins_with_any (codes "/?#") bs
     ≡ true → Ended bs
 unfolding is_empty_or_begins_with_any

@@ -32,7 +32,6 @@ bind-respects-pointwise-equality : (r : ScanResult) (f g : ℕ → OptionalParse
 bind-respects-pointwise-equality (Ok n) f g h = h n
 bind-respects-pointwise-equality (Err e) f g h = refl
 
--- parse errors: a `%` (37) that begins no octet stops the scan of each set that has octets
 stray-percent-stops-greater-set : (small great : TableSet) (bs : List ℕ) → small.pct_encoded ≡ true
     → great.pct_encoded ≡ true → valid_prefix small (37 ∷ bs) ≡ 0 → valid_prefix great (37 ∷ bs) ≡ 0
 unfolding valid_prefix_from
@@ -46,8 +45,6 @@ stray-percent-stops-every-set small great [] s g e p = absurd (false≢true p)
 stray-percent-stops-every-set small great (b ∷ bs) s g e p =
     grind (arith, nat_tests, stray-percent-stops-greater-set)
 
--- parse errors: where a scan by the smaller set stops, at none of the marks,
--- one by the greater set does
 smaller-set-stops-greater-set : (marks : List ℕ) (small great : TableSet)
     → small.pct_encoded ≡ true → great.pct_encoded ≡ true → HasAllBut marks small great
     → (b : ℕ) (rest : List ℕ) → is_one_of marks b ≡ false → valid_prefix small (b ∷ rest) ≡ 0

@@ -9,7 +9,6 @@ pub uri_ref_rows_have_their_errors : map (λ row. refusal uri_ref row.0) uri_ref
 unfolding errors_on_literals
 uri_ref_rows_have_their_errors = refl
 
--- parse errors: the stored examples of URIs have the errors that their rows say
 pub uri_rows_have_their_errors : map (λ row. refusal uri row.0) uri_rows
     ≡ map (λ row. row.1) uri_rows
 unfolding errors_on_literals

@@ -60,7 +60,6 @@ module _ (segment : TableSet) (kind : Kind) (w : SeparatesComponents segment kin
       ∙ schemeless_error-by-slashes ∙ ap (λ s. cond (has_authority text)
       (error_from_authority kind text 2) (error_from_relative_path kind text s 0)) e)
 
--- parse errors: a character of userinfo that is not `:` may be in a registered name too
 userinfo-char-but-colon-is-name-char : (c : ℕ) → is_one_of (codes ":") c ≡ false
     → is_reg_name_char c ≡ false → is_userinfo_char c ≡ false
 userinfo-char-but-colon-is-name-char c m e = grind (arith, nat_tests)
@@ -101,7 +100,6 @@ parsed_error-is-refusal kind tables segment known k s text =
     tables segment known k s) (subst Adjoins (sym k) (known-kind-adjoins kind known)) text (s
     ∙ ap first_segment_set (sym k)) ∙ ap (λ v. refusal v text) k
 
--- parse errors: the parser returns positions exactly where the text is parsed
 pub ok_exactly_if_parsed : {A : Type 0} (kind tables : Kind) (segment : TableSet)
     → kind ≡ kind_by_flags kind.path.ucschar kind.needs_scheme
     → tables ≡ kind → segment ≡ first_segment_set kind → (text : List ℕ) → IsUtf8 text

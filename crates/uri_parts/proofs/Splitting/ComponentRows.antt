@@ -28,12 +28,10 @@ rfc-3986-example-recomposes : recompose
     ≡ codes "foo://example.com/over/there?name=ferret#nose"
 rfc-3986-example-recomposes = refl
 
--- examples of splitting: the empty text is an empty path alone
 empty-text-has-empty-path-alone : components []
     ≡ record { scheme = None; authority = None; path = []; query = None; fragment = None }
 empty-text-has-empty-path-alone = refl
 
--- examples of splitting: `//h` is an authority and an empty path
 components-of-authority-alone : components (codes "//h") ≡ record {
   scheme = None;
   authority = Some (codes "h");
@@ -43,7 +41,6 @@ components-of-authority-alone : components (codes "//h") ≡ record {
 }
 components-of-authority-alone = refl
 
--- examples of splitting: `file:///a` has an empty authority
 components-of-empty-authority : components (codes "file:///a") ≡ record {
   scheme = Some (codes "file");
   authority = Some [];
@@ -53,7 +50,6 @@ components-of-empty-authority : components (codes "file:///a") ≡ record {
 }
 components-of-empty-authority = refl
 
--- examples of splitting: `?q#f` is an empty path, a query and a fragment
 components-of-query-and-fragment : components (codes "?q#f") ≡ record {
   scheme = None;
   authority = None;
@@ -63,12 +59,10 @@ components-of-query-and-fragment : components (codes "?q#f") ≡ record {
 }
 components-of-query-and-fragment = refl
 
--- examples of splitting: `?#` is an empty path, an empty query and an empty fragment
 components-of-empty-query-and-fragment : components (codes "?#")
     ≡ record { scheme = None; authority = None; path = []; query = Some []; fragment = Some [] }
 components-of-empty-query-and-fragment = refl
 
--- examples of splitting: a fragment may have `#`, `?` and `:` in it
 fragment-may-hold-marks : components (codes "#a#b?c:d") ≡ record {
   scheme = None;
   authority = None;
@@ -78,7 +72,6 @@ fragment-may-hold-marks : components (codes "#a#b?c:d") ≡ record {
 }
 fragment-may-hold-marks = refl
 
--- examples of splitting: the first `:` ends the scheme, and a second one is in the path
 first_colon_ends_the_scheme : components (codes "a:b:c") ≡ record {
   scheme = Some (codes "a");
   authority = None;
@@ -88,12 +81,10 @@ first_colon_ends_the_scheme : components (codes "a:b:c") ≡ record {
 }
 first_colon_ends_the_scheme = refl
 
--- examples of splitting: a text that begins with `:` has no scheme
 colon-at-start-begins-no-scheme : components (codes ":x")
     ≡ record { scheme = None; authority = None; path = codes ":x"; query = None; fragment = None }
 colon-at-start-begins-no-scheme = refl
 
--- examples of splitting: a `//` within a path begins no authority
 double-slash-inside-path-begins-no-authority : components (codes "/a//b") ≡ record {
   scheme = None;
   authority = None;

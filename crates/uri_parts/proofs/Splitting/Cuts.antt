@@ -54,7 +54,6 @@ pub from_any-past-other : (marks : List ℕ) (c : ℕ) (rest : List ℕ) → is_
 from_any-past-other marks c rest h = ap (λ n. drop n (c ∷ rest))
     (length_before_marks_counts_other_byte marks c rest h)
 
--- splitting: if a text lacks some delimiters, so do its first byte and the rest
 byte-and-rest-lack-marks : (marks : List ℕ) (c : ℕ) (text : List ℕ) → Lacks marks (c ∷ text)
     → (is_one_of marks c ≡ false) × Lacks marks text
 byte-and-rest-lack-marks marks c text h = (h 0 0 (omega arith), λ k d l. h (suc k) d (omega arith))

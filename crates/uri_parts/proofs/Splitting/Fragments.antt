@@ -17,7 +17,6 @@ tail-without-colon-keeps-first-colon marks prefix (c ∷ back) tail lacks begins
     ap (λ t. starts 58 (from_any marks t)) (append_assoc prefix (c ∷ back) tail) ∙ ap
     (starts 58) (cut-at-end-of-text-without-marks marks prefix (c ∷ (back ++ tail)) lacks begins).1
 
--- replacing a fragment: a fragment with its `#`, or nothing, does not begin with `:` (58)
 fragment-begins-with-no-colon : (tail : List ℕ) → IsEmptyOrMarked (codes "#") tail
     → starts 58 tail ≡ false
 fragment-begins-with-no-colon [] begins = refl
@@ -49,7 +48,6 @@ IfNone-follows-implication : (o : Option (List ℕ)) (P Q : Type 0) → (P → Q
 IfNone-follows-implication None P Q f h = f h
 IfNone-follows-implication (Some x) P Q f h = tt
 
--- replacing a fragment: the components with another fragment are a split of their own text
 other-fragment-keeps-split : (text : List ℕ) (p : Components) (fragment : Option (List ℕ))
     → IsSplitOf text p → (let q = record p { fragment = fragment } in IsSplitOf (recompose q) q)
 other-fragment-keeps-split text p fragment split =
@@ -90,7 +88,6 @@ marked-text-lacks-hash before suffix None b p e = All-nil is_other
 marked-text-lacks-hash before suffix (Some x) b p e =
     All-append is_other (before ++ x) suffix (All-append is_other before x b p) e
 
--- replacing a fragment: what is before the fragment has no `#`
 text-before-fragment-lacks-hash : (text : List ℕ) (p : Components) → IsSplitOf text p
     → Lacks (codes "#") (before_hash p)
 text-before-fragment-lacks-hash text p split =
@@ -110,7 +107,6 @@ text-before-fragment-lacks-hash text p split =
     All-append is_other _ _
     (All-append is_other _ _ (All-append is_other _ _ scheme authority) path) query
 
--- replacing a fragment: what is before the fragment is before the first `#`
 text-before-first-hash-is-before-fragment : (text : List ℕ) → before_any (codes "#") text
     ≡ before_hash (components text)
 text-before-first-hash-is-before-fragment text =
@@ -120,7 +116,6 @@ text-before-first-hash-is-before-fragment text =
     ∙ (cut-at-end-of-text-without-marks (codes "#") (before_hash c) (fragment_text c.fragment)
     (text-before-fragment-lacks-hash text c split) (IsEmptyOrMarked-fragment_text c.fragment)).0
 
--- replacing a fragment: what is before the fragment, and another one, is the text with that one
 joined-text-is-with-fragment : (text made : List ℕ) (fragment : Option (List ℕ)) → made
     ≡ before_hash (components text) ++ fragment_text fragment → IsWithFragment text fragment made
 joined-text-is-with-fragment text made fragment e =
@@ -174,7 +169,6 @@ module _ (text : List ℕ) (p : Positions) (at : ArePositionsOf text p) (mark : 
   stripped_is_without_fragment made e = joined-text-is-with-fragment text made None
       (e ∙ text-to-mark-is-before-fragment ∙ sym (append-nil _))
 
--- replacing a fragment: `#` (35) and a fragment, after a text that has none, give it that one
 pub appended_is_with_fragment : (text kept made fragment : List ℕ) → IsWithFragment text None kept
     → made ≡ kept ++ (35 ∷ fragment) → IsWithFragment text (Some fragment) made
 appended_is_with_fragment text kept made fragment w e =
@@ -198,7 +192,6 @@ of_kind kind text made fragment h valid w =
     let kept = and_parts prefix _ whole.0 in
     ap (components_meet_rules kind) w.parts ∙ and_from _ _ (and_from prefix _ kept.0 valid) whole.1
 
--- replacing a fragment: without its fragment a text is of the same kind
 pub text-without-fragment-stays-of-kind : (kind : Kind) (text made : List ℕ) → IsOfKind kind text
     → IsWithFragment text None made → IsOfKind kind made
 text-without-fragment-stays-of-kind kind text made h w = of_kind kind text made None h refl w
@@ -217,7 +210,6 @@ pub stays_of_kind_with_fragment : (set : TableSet) (text made fragment : List �
     → IsWithFragment text (Some fragment) made → StaysOfKind set text made
 stays_of_kind_with_fragment set text made fragment valid w = grind (arith, nat_tests, of_kind)
 
--- replacing a fragment: the positions of the other components stay
 pub positions_stay_with_fragment : (text made : List ℕ) (fragment : Option (List ℕ)) (p : Positions)
     → ArePositionsOf text p → IsWithFragment text fragment made → ArePositionsOf made p
 positions_stay_with_fragment text made fragment p at w = at ∙ ap positions_of (sym w.parts)

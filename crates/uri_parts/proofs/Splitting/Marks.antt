@@ -10,7 +10,6 @@ fragment_text fragment = marked (codes "#") fragment []
 abbrev pub query_text : Option (List ℕ) → Option (List ℕ) → List ℕ
 query_text query fragment = marked (codes "?") query [] ++ fragment_text fragment
 
--- recomposing: a fragment with its `#`, if there is one, begins with `#`
 pub IsEmptyOrMarked-fragment_text : (fragment : Option (List ℕ))
     → IsEmptyOrMarked (codes "#") (fragment_text fragment)
 IsEmptyOrMarked-fragment_text None = tt
@@ -23,20 +22,16 @@ IsEmptyOrMarked-query_text None fragment =
     grind (arith, nat_tests, empty-or-marked-for-more-marks, IsEmptyOrMarked-fragment_text)
 IsEmptyOrMarked-query_text (Some q) fragment = refl
 
--- recomposing: a fragment with its `#`, or nothing, does not begin with `?` (63)
 fragment-begins-with-no-question-mark : (fragment : Option (List ℕ))
     → starts 63 (fragment_text fragment) ≡ false
 fragment-begins-with-no-question-mark None = refl
 fragment-begins-with-no-question-mark (Some f) = refl
 
--- recomposing: the fragment that is found in what is after its `#` is that fragment
 pub fragment-found : (fragment : Option (List ℕ))
     → when (starts 35 (fragment_text fragment)) (drop 1 (fragment_text fragment)) ≡ fragment
 fragment-found None = refl
 fragment-found (Some f) = ap Some (append-nil f)
 
--- recomposing: the query that is found is the one that was written,
--- and the fragment is left after it
 pub query-found : (query fragment : Option (List ℕ)) → IfSome query (λ q. Lacks (codes "#") q) →
     (when (starts 63 (query_text query fragment))
     (before_any (codes "#") (drop 1 (query_text query fragment))) ≡ query)
@@ -67,11 +62,9 @@ has_authority-append (a ∷ d ∷ path) tail begins = refl
 pub cons_is_not_nil : (c : ℕ) (xs : List ℕ) → c ∷ xs ≡ [] → ⊥
 cons_is_not_nil c xs e = cc
 
--- splitting: `/` (47) ends an authority
 slash-ends-authority : (c : ℕ) → eqb c 47 ≡ true → is_one_of (codes "/?#") c ≡ true
 slash-ends-authority c e = ap (is_one_of (codes "/?#")) (eqb-true c 47 e)
 
--- recomposing: a path that is empty or begins with `/` ends an authority
 pub rooted-path-ends-authority : (path tail : List ℕ) → IsAbemptyPath path
     → IsEmptyOrMarked (codes "?#") tail → IsEmptyOrMarked (codes "/?#") (path ++ tail)
 rooted-path-ends-authority [] tail rooted begins =
@@ -99,14 +92,12 @@ authority-found (Some a) path tail some none begins =
 other-byte-is-no-colon : (c : ℕ) → is_one_of (codes ":/?#") c ≡ false → eqb c 58 ≡ false
 other-byte-is-no-colon c e = grind (arith, nat_tests)
 
--- recomposing: a scheme with its `:` (58) does not begin with `:`
 scheme-does-not-begin-with-colon : (s rest : List ℕ) → 0 < length s → Lacks (codes ":/?#") s
     → starts 58 (s ++ (58 ∷ rest)) ≡ false
 scheme-does-not-begin-with-colon [] rest h lacks = absurd (omega arith)
 scheme-does-not-begin-with-colon (c ∷ s) rest h lacks = other-byte-is-no-colon c
     (lacks 0 0 (omega arith))
 
--- recomposing: the scheme that is found is the one that was written, and the rest is left after it
 pub scheme-found : (scheme : Option (List ℕ)) (rest : List ℕ) →
     IfSome scheme (λ s. (0 < length s) × Lacks (codes ":/?#") s)
     → IfNone scheme (has_scheme (marked [] scheme (codes ":") ++ rest) ≡ false) →

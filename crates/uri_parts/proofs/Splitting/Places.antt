@@ -17,7 +17,6 @@ pub get_or-after-prefix : (before rest : List ℕ) (c : ℕ)
 get_or-after-prefix [] rest c = refl
 get_or-after-prefix (b ∷ before) rest c = get_or-after-prefix before rest c
 
--- splitting: `:`, `/`, `?` and `#` are ASCII
 component-mark-is-ascii : (c : ℕ) → is_one_of (codes ":/?#") c ≡ true → c < 128
 component-mark-is-ascii c h = grind (arith, nat_tests)
 
@@ -85,7 +84,6 @@ component-between-marks-is-slice text before part suffix c start end whole at_st
     component-before-mark-is-slice text (before ++ (c ∷ [])) part suffix start end joined n at_end
     starts begins
 
--- positions: the text of a scheme with its `:`, or nothing
 abbrev scheme_text : Option (List ℕ) → List ℕ
 scheme_text scheme = marked [] scheme (codes ":")
 
@@ -93,25 +91,21 @@ scheme_text scheme = marked [] scheme (codes ":")
 abbrev marked_authority : Option (List ℕ) → List ℕ
 marked_authority authority = marked (codes "//") authority []
 
--- positions: the length of a scheme with its `:`, or 0
 length-scheme_text : (scheme : Option (List ℕ))
     → length (scheme_text scheme) ≡ delimited_length 1 scheme
 length-scheme_text None = refl
 length-scheme_text (Some s) = omega (arith, length-append s (codes ":"))
 
--- positions: the length of an authority with its `//`, or 0
 length-marked_authority : (authority : Option (List ℕ))
     → length (marked_authority authority) ≡ delimited_length 2 authority
 length-marked_authority None = refl
 length-marked_authority (Some a) = omega (arith, length-append a [])
 
--- positions: the length of a query with its `?`, or 0
 length-query_text : (query : Option (List ℕ))
     → length (marked (codes "?") query []) ≡ delimited_length 1 query
 length-query_text None = refl
 length-query_text (Some q) = omega (arith, length-append q [])
 
--- positions: the end of a query, or of the path if there is none
 query-end-or-path-end : (path_end : ℕ) (query : Option (List ℕ)) → unwrap_or
     (option_map (λ q. path_end + 1 + length q) query) path_end ≡ path_end + delimited_length 1 query
 query-end-or-path-end path_end None = omega arith
@@ -123,7 +117,6 @@ pub fragment-mark-is-component-mark : (text : List ℕ) → IsEmptyOrMarked (cod
 fragment-mark-is-component-mark text begins =
     grind (arith, nat_tests, empty-or-marked-for-more-marks)
 
--- positions: an authority after a scheme and `//` is between its positions
 authority-after-scheme-is-slice : (text : List ℕ) (scheme : Option (List ℕ)) (a path
     suffix : List ℕ) → text ≡ scheme_text scheme ++ (marked_authority (Some a) ++ (path ++ suffix))
     → IsUtf8 text → IsAbemptyPath path → IsEmptyOrMarked (codes "?#") suffix → IsComponentAt text
@@ -140,7 +133,6 @@ authority-after-scheme-is-slice text scheme a path suffix whole utf8 rooted begi
     (omega arith) utf8 (empty-or-marked-for-more-marks (codes "/?#") (codes ":/?#")
     (path ++ suffix) (λ c e. or_right _ _ e) (rooted-path-ends-authority path suffix rooted begins))
 
--- positions: a character begins where the path does
 path-begins-at-boundary : (text : List ℕ) (scheme authority : Option (List ℕ)) (path suffix
     : List ℕ) → text ≡ scheme_text scheme ++ (marked_authority authority ++ (path ++ suffix))
     → IsUtf8 text → IfSome authority (λ a. IsAbemptyPath path) → IsEmptyOrMarked (codes "?#") suffix
@@ -152,7 +144,6 @@ path-begins-at-boundary text None None path suffix whole utf8 rooted begins =
 path-begins-at-boundary text (Some s) None path suffix whole utf8 rooted begins =
     grind (arith, nat_tests, append_assoc, boundary_after_mark)
 
--- positions: a path after a scheme and an authority is between its positions
 path-after-authority-is-slice : (text : List ℕ) (scheme authority : Option (List ℕ)) (path suffix
     : List ℕ) → text ≡ scheme_text scheme ++ (marked_authority authority ++ (path ++ suffix))
     → IsUtf8 text → IfSome authority (λ a. IsAbemptyPath path) → IsEmptyOrMarked (codes "?#") suffix
@@ -178,7 +169,6 @@ path-after-authority-is-slice text scheme authority path suffix whole utf8 roote
 abbrev pub hierarchy_text : Option (List ℕ) → Option (List ℕ) → List ℕ → List ℕ
 hierarchy_text scheme authority path = (scheme_text scheme ++ marked_authority authority) ++ path
 
--- positions: the length of a scheme, an authority and a path, with their delimiters
 length-hierarchy_text : (scheme authority : Option (List ℕ)) (path : List ℕ)
     → length (hierarchy_text scheme authority path)
     ≡ delimited_length 1 scheme + delimited_length 2 authority + length path
@@ -190,13 +180,11 @@ length-hierarchy_text scheme authority path = omega (
   length-marked_authority authority,
 )
 
--- positions: a text is its scheme, authority and path, and then what follows them
 hierarchy-append : (scheme authority : Option (List ℕ)) (path suffix : List ℕ)
     → scheme_text scheme ++ (marked_authority authority ++ (path ++ suffix))
     ≡ hierarchy_text scheme authority path ++ suffix
 hierarchy-append scheme authority path suffix = grind (arith, nat_tests, append_assoc)
 
--- positions: a query after the path and `?` is between its positions
 query-after-path-is-slice : (text hierarchy q suffix : List ℕ) → text ≡ hierarchy
     ++ (marked (codes "?") (Some q) [] ++ suffix) → IsUtf8 text → IsEmptyOrMarked (codes "#") suffix
     → IsComponentAt text (length hierarchy + 1) (length hierarchy + 1 + length q) (Some q)
@@ -221,7 +209,6 @@ fragment-after-all-else-is-slice text before f whole utf8 =
     component-between-marks-is-slice text before f [] 35
     (length before + 1) (length text) whole refl n (omega arith) utf8 tt
 
--- positions: the authority of a split is between its positions in the text
 pub authority-of-split-is-at-positions : (text : List ℕ) (scheme authority : Option
     (List ℕ)) (path : List ℕ) (query fragment : Option (List ℕ))
     → IsSplitOf text (components_of_parts scheme authority path query fragment) → IsUtf8 text
@@ -239,7 +226,6 @@ pub authority_has_abempty_path : (authority : Option (List ℕ)) (path : List �
 authority_has_abempty_path None path some = tt
 authority_has_abempty_path (Some a) path some = some.1
 
--- positions: the path of a split is between its positions in the text
 pub path-of-split-is-at-positions : (text : List ℕ) (p : Components) → IsSplitOf text p
     → IsUtf8 text
     → IsComponentAt text (positions_of p).path_start (positions_of p).path_end (Some p.path)
@@ -248,7 +234,6 @@ path-of-split-is-at-positions text p split utf8 =
     (sym split.whole) utf8 (authority_has_abempty_path p.authority p.path split.authority)
     (IsEmptyOrMarked-query_text p.query p.fragment)
 
--- positions: the query of a split is between its positions in the text
 pub query-of-split-is-at-positions : (text : List ℕ) (scheme authority : Option
     (List ℕ)) (path : List ℕ) (query fragment : Option (List ℕ))
     → IsSplitOf text (components_of_parts scheme authority path query fragment) → IsUtf8 text
@@ -282,7 +267,6 @@ length-before_hash p =
     ) in
     n ∙ sym (query-end-or-path-end path_end p.query)
 
--- recomposing: a text is what is before the fragment, and the fragment with its `#`
 pub recompose-before_hash : (p : Components)
     → recompose p ≡ before_hash p ++ fragment_text p.fragment
 recompose-before_hash p =
@@ -293,7 +277,6 @@ pub split-text-is-before-fragment-and-fragment : (text : List ℕ) (p : Componen
     → text ≡ before_hash p ++ fragment_text p.fragment
 split-text-is-before-fragment-and-fragment text p split = sym split.whole ∙ recompose-before_hash p
 
--- positions: a text is longer than what is before its fragment only if it has one
 pub longer_than_before_fragment_if_some : (text before : List ℕ) (fragment : Option (List ℕ)) → text
     ≡ before ++ fragment_text fragment → nat_lt (length before) (length text) ≡ is_some fragment
 longer_than_before_fragment_if_some text before None whole =
@@ -301,7 +284,6 @@ longer_than_before_fragment_if_some text before None whole =
 longer_than_before_fragment_if_some text before (Some f) whole = lt-ltb (length before)
     (length text) (omega (arith, ap length whole, length-append before (fragment_text (Some f))))
 
--- positions: the fragment, if there is one, is from after its `#` to the end of the text
 pub fragment-is-slice-to-end : (text before : List ℕ) (fragment : Option (List ℕ))
     → text ≡ before ++ fragment_text fragment → IsUtf8 text → length before < length text
     → IsComponentAt text (length before + 1) (length text) fragment

@@ -24,7 +24,6 @@ pub text-with-mark-is-mark-and-rest : (c : ℕ) (text : List ℕ) → starts c t
 text-with-mark-is-mark-and-rest c [] h = absurd (both_ways _ refl h)
 text-with-mark-is-mark-and-rest c (d ∷ text) h = ap (λ x. x ∷ text) (eqb-true d c h)
 
--- splitting: what begins with `//` is two slashes (47) and a rest
 text-with-authority-is-slashes-and-rest : (text : List ℕ) → has_authority text ≡ true → text
     ≡ 47 ∷ 47 ∷ drop 2 text
 text-with-authority-is-slashes-and-rest [] h = cc
@@ -32,7 +31,6 @@ text-with-authority-is-slashes-and-rest (a ∷ []) h = absurd (both_ways _ refl 
 text-with-authority-is-slashes-and-rest (a ∷ b ∷ text) h = let parts = and_parts _ _ h in
     ap (λ x. x ∷ b ∷ text) (eqb-true a 47 parts.0) ∙ ap (λ x. 47 ∷ x ∷ text) (eqb-true b 47 parts.1)
 
--- splitting: a scheme with its `:`, if there is one, and what is after it are the text
 scheme-and-rest-are-text : (text : List ℕ) → marked [] (when (has_scheme text)
     (before_any (codes ":/?#") text)) (codes ":") ++ after_scheme text ≡ text
 scheme-and-rest-are-text text = grind (
@@ -43,7 +41,6 @@ scheme-and-rest-are-text text = grind (
   text-is-cut-at-first-mark,
 )
 
--- splitting: an authority with its `//`, and what is after it, are the text; or there is none
 authority-and-rest-are-text : (rest : List ℕ) → marked (codes "//") (when (has_authority rest)
     (before_any (codes "/?#") (drop 2 rest))) [] ++ after_authority rest ≡ rest
 authority-and-rest-are-text rest = grind (
@@ -54,7 +51,6 @@ authority-and-rest-are-text rest = grind (
   text-with-authority-is-slashes-and-rest,
 )
 
--- splitting: a query with its `?`, and what is after it, are the text; or there is none
 query-and-rest-are-text : (end : List ℕ) → marked (codes "?") (when (starts 63 end)
     (before_any (codes "#") (drop 1 end))) [] ++ after_query end ≡ end
 query-and-rest-are-text end =
@@ -72,7 +68,6 @@ end-without-query-begins-with-hash : (end : List ℕ)
 end-without-query-begins-with-hash [] begins h = tt
 end-without-query-begins-with-hash (c ∷ end) begins h = grind (arith, nat_tests)
 
--- splitting: what is after a query begins with `#`, or there is nothing
 text-after-query-begins-with-hash : (end : List ℕ) → IsEmptyOrMarked (codes "?#") end
     → IsEmptyOrMarked (codes "#") (after_query end)
 text-after-query-begins-with-hash end begins =
@@ -115,7 +110,6 @@ found-scheme-is-nonempty-and-lacks-marks text = ⊎_elim (λ h.
       cut.lacks,
     )) (λ h. rw h tt) (cases_Bool (has_scheme text))
 
--- splitting: if no scheme is found, the text begins with none
 no-scheme-if-none-is-found : (text : List ℕ)
     → IfNone (components text).scheme (has_scheme text ≡ false)
 no-scheme-if-none-is-found text = ⊎_elim (λ h. rw h tt) (λ h. rw h refl)
@@ -147,7 +141,6 @@ found-authority-lacks-marks rest = ⊎_elim (λ h.
           path.lacks begins,
     )) (λ h. rw h tt) (cases_Bool (has_authority rest))
 
--- splitting: if no authority is found, the path does not begin with `//`
 no-slashes-if-no-authority-is-found : (rest : List ℕ)
     → IfNone (when (has_authority rest) (before_any (codes "/?#") (drop 2 rest)))
     (has_authority (before_any (codes "?#") (after_authority rest)) ≡ false)
@@ -156,7 +149,6 @@ no-slashes-if-no-authority-is-found rest = ⊎_elim (λ h. rw h tt) (λ h.
     rw h (sym (has_authority-append (before_any (codes "?#") rest) (from_any (codes "?#") rest)
     path.begins) ∙ ap has_authority path.whole ∙ h)) (cases_Bool (has_authority rest))
 
--- splitting: a query that is found has no `#`
 found-query-lacks-hash : (end : List ℕ)
     → IfSome (when (starts 63 end) (before_any (codes "#") (drop 1 end))) (λ q. Lacks (codes "#") q)
 found-query-lacks-hash end = ⊎_elim

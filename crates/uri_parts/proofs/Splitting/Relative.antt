@@ -6,8 +6,6 @@ use Rattle.uri_parts.proofs.TextKinds.Separations.{SeparatesComponents}
 use Rattle.uri_parts.proofs.Parsing.Accepts.{parses_end-not-at-other, none-of-four-marks-is-none-of-two-pairs}
 use Rattle.uri_parts.proofs.Splitting.Cuts.{before_any-past-other, from_any-past-other, before_any-at-mark, from_any-at-mark}
 
--- splitting, relative references: a scan by a set
--- that excludes some delimiters, and stops at one, stops at the first
 pub scan_stops_at_first_mark : (marks : List ℕ) (mark : ℕ) → is_one_of marks mark ≡ true
     → (set : TableSet) → LacksPercent set → excludes set marks ≡ true → (bs : List ℕ) → IsUtf8 bs
     → starts mark (after set bs) ≡ true → valid_prefix set bs ≡ length_before_marks marks bs
@@ -16,8 +14,6 @@ scan_stops_at_first_mark marks mark m set lacks outside bs u e = ⊎_elim (λ h.
     (ap (is_one_of marks) (eqb-true w.byte mark (sym (ap (starts mark) w.left) ∙ e)) ∙ m)))
     (scan-stops-at-first-mark-or-within marks set lacks outside bs u)
 
--- splitting, relative references: a scan by a set without `:`
--- that stops at a `:` (58) stopped before the first delimiter
 pub scan_stops_at_first_colon : (set : TableSet)
     → LacksPercent set → excludes set (codes ":/?#") ≡ true → (bs : List ℕ) → IsUtf8 bs
     → starts 58 (after set bs) ≡ true → valid_prefix set bs ≡ length_before_marks (codes ":/?#") bs
@@ -55,8 +51,6 @@ other-byte-is-none-of-four-marks : (b : ℕ) → is_one_of (codes "?#") b ≡ fa
     → is_one_of (codes "/") b ≡ false → eqb b 58 ≡ false → is_one_of (codes ":/?#") b ≡ false
 other-byte-is-none-of-four-marks b q s c = grind (arith, nat_tests)
 
--- splitting, relative references: the first segment has a `:`
--- exactly if that is the first of the four delimiters
 colon-in-first-segment-iff-colon-is-first-mark : (bs : List ℕ) → has_colon_in_first_segment
     (before_any (codes "?#") bs) ≡ starts 58 (from_any (codes ":/?#") bs)
 colon-in-first-segment-iff-colon-is-first-mark [] = refl
@@ -76,8 +70,6 @@ colon-in-first-segment-iff-colon-is-first-mark (b ∷ rest) =
     (codes ":/?#") b rest (other-byte-is-none-of-four-marks b q s c)))) (cases_Bool (eqb b 58)))
     (cases_Bool (is_one_of (codes "/") b))) (cases_Bool (is_one_of (codes "?#") b))
 
--- splitting, relative references: a text that begins
--- with `:` (58) is all from the first delimiter on
 text-with-colon-begins-at-first-mark : (bs : List ℕ) → starts 58 bs ≡ true
     → from_any (codes ":/?#") bs ≡ bs
 text-with-colon-begins-at-first-mark [] e = refl

@@ -11,7 +11,6 @@ pub equal-parts-make-equal-components : {s1 s2 a1 a2 q1 q2 f1 f2 : Option (List 
 equal-parts-make-equal-components s a p q f = λ i.
     record { scheme = s i; authority = a i; path = p i; query = q i; fragment = f i }
 
--- splitting: the components of a recomposed split are those of the split
 components-of-recomposed-split : (p : Components) → IsSplitOf (recompose p) p
     → components (recompose p) ≡ p
 components-of-recomposed-split p split = grind (

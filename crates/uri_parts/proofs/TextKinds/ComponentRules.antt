@@ -1,7 +1,6 @@
 -- The components of a text of a kind meet their rules.
 use Rattle.uri_parts.proofs.Common.{◌≡◌, ℕ, Bool, true, List, sym, ap, ◌∙◌, arith, Option, Some, nat_tests, TableSet, is_valid_for, IsValidFor, Components, components, is_authority_for, Kind, absent_or_passes, is_scheme, is_authority, IsOfKind, components_meet_rules}
 
--- general fact on options, for the rules of a kind: a component that is there passes the test
 present-part-passes-test : (part : Option (List ℕ)) (test : List ℕ → Bool) (x : List ℕ)
     → absent_or_passes part test ≡ true → part ≡ Some x → test x ≡ true
 present-part-passes-test part test x h e = sym (ap (λ o. absent_or_passes o test) e) ∙ h
@@ -14,7 +13,6 @@ record MeetsRules (kind : Kind) (p : Components) : Type 0 where
   query : absent_or_passes p.query (is_valid_for kind.query) ≡ true
   fragment : absent_or_passes p.fragment (is_valid_for kind.fragment) ≡ true
 
--- texts of a kind: components that pass the tests of a kind meet its rules
 tested-components-meet-rules : (kind : Kind) (p : Components) → components_meet_rules kind p ≡ true
     → MeetsRules kind p
 tested-components-meet-rules kind p h = grind (arith, nat_tests)
@@ -32,20 +30,17 @@ pub authority-of-text-of-kind-is-valid : (kind : Kind) (users names : TableSet) 
 authority-of-text-of-kind-is-valid kind users names text part h s t e =
     grind (arith, nat_tests, present-part-passes-test, tested-components-meet-rules)
 
--- texts of a kind: the path of one is valid for the kind's set
 pub path-of-text-of-kind-is-valid : (kind : Kind) (set : TableSet) (text : List ℕ)
     → IsOfKind kind text → set ≡ kind.path → IsValidFor set (components text).path
 path-of-text-of-kind-is-valid kind set text h s = ap (λ t. is_valid_for t (components text).path) s
     ∙ (tested-components-meet-rules kind (components text) h).path
 
--- texts of a kind: the query of one, if there is one, is valid for the kind's set
 pub query-of-text-of-kind-is-valid : (kind : Kind) (set : TableSet) (text part : List ℕ)
     → IsOfKind kind text
     → set ≡ kind.query → (components text).query ≡ Some part → IsValidFor set part
 query-of-text-of-kind-is-valid kind set text part h s e =
     grind (arith, nat_tests, present-part-passes-test, tested-components-meet-rules)
 
--- texts of a kind: the fragment of one, if there is one, is valid for the kind's set
 pub fragment-of-text-of-kind-is-valid : (kind : Kind) (set : TableSet) (text part : List ℕ)
     → IsOfKind kind text
     → set ≡ kind.fragment → (components text).fragment ≡ Some part → IsValidFor set part

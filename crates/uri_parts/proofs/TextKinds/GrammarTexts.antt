@@ -3,7 +3,6 @@ use Rattle.uri_parts.proofs.Common.{◌≡◌, ℕ, ◌<◌, ◌≤◌, true, Li
 use Rattle.uri_parts.proofs.Splitting.Cuts.{text-is-cut-at-first-mark}
 use Rattle.uri_parts.proofs.Parsing.ScanStops.{utf8_after_ascii_byte}
 
--- general fact on texts of a kind, for proofs by length: a prefix before a byte is shorter
 prefix-is-shorter-than-text : (xs : List ℕ) (c : ℕ) (ys : List ℕ)
     → length xs < length (xs ++ c ∷ ys)
 prefix-is-shorter-than-text xs c ys = omega (arith, length-append xs (c ∷ ys))

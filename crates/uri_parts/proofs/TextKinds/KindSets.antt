@@ -2,11 +2,9 @@
 use Rattle.uri_parts.proofs.Common.{◌≡◌, ℕ, Bool, true, false, refl, sym, ap, subst, arith, ◌||◌, [], ◌&&◌, not, List, codes, is_some, is_ascii_digit, chars, and_parts, nat_tests, TableSet, is_one_of, is_scheme_char, is_segment_nz_nc_char, path_set, is_path_char, is_reg_name_char, is_userinfo_char, segment_nz_nc_set, userinfo_set, reg_name_set, query_set, fragment_set, allows_past_ascii, is_valid_for, tokens_from_chars, Kind, uri, uri_ref, iri, iri_ref, IsOfKind, first_segment_set, kind_by_flags, components}
 use Rattle.uri_parts.proofs.TextKinds.Separations.{SeparatesComponents, greater-set-has-all-but-marks}
 
--- sets of a kind: a scheme's characters may be in a first segment too
 scheme-char-is-segment-char : (c : ℕ) → is_scheme_char c ≡ true → is_segment_nz_nc_char c ≡ true
 scheme-char-is-segment-char c e = grind (arith, nat_tests)
 
--- sets of a kind: a first segment's characters may be in a path too
 segment-char-is-path-char : (c : ℕ) → is_segment_nz_nc_char c ≡ true → is_path_char c ≡ true
 segment-char-is-path-char c e = grind (arith, nat_tests)
 
@@ -15,11 +13,9 @@ other-path-char-is-segment-char : (c : ℕ)
     → is_one_of (codes ":/") c ≡ false → is_segment_nz_nc_char c ≡ false → is_path_char c ≡ false
 other-path-char-is-segment-char c m e = grind (arith, nat_tests)
 
--- sets of a kind: a registered name's characters may be in userinfo too
 name-char-is-userinfo-char : (c : ℕ) → is_reg_name_char c ≡ true → is_userinfo_char c ≡ true
 name-char-is-userinfo-char c e = grind (arith, nat_tests)
 
--- sets of a kind: a digit may be in userinfo
 digit-is-userinfo-char : (c : ℕ) → is_ascii_digit c ≡ true → is_userinfo_char c ≡ true
 digit-is-userinfo-char c e = grind (arith, nat_tests)
 
@@ -132,7 +128,6 @@ pub kind-that-needs-scheme-has-one : (kind : Kind) (text : List ℕ)
     → kind.needs_scheme ≡ true → IsOfKind kind text → is_some (components text).scheme ≡ true
 kind-that-needs-scheme-has-one kind text n h = grind (arith, nat_tests, with_scheme)
 
--- texts of a kind: each is of the same kind without the need for a scheme
 text-of-kind-is-reference : (kind : Kind) (text : List ℕ) → IsOfKind kind text
     → IsOfKind (record kind { needs_scheme = false }) text
 text-of-kind-is-reference kind text h = grind (arith, nat_tests, scheme-rule-holds-without-need)

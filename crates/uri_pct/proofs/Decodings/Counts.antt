@@ -17,7 +17,6 @@ prepend_adds_at_most_one_chunk text [] = omega arith
 prepend_adds_at_most_one_chunk text (Text more ∷ ps) = omega arith
 prepend_adds_at_most_one_chunk text (Byte value ∷ ps) = omega arith
 
--- decoding, counts: a text has no more chunks than tokens
 chunks_are_no_more_than_tokens : (ts : List Token) → length (chunks_of_tokens ts) ≤ length ts
 unfolding chunks_of_tokens
 chunks_are_no_more_than_tokens [] = omega arith
@@ -25,7 +24,6 @@ chunks_are_no_more_than_tokens (Char c ∷ ts) =
     grind (arith, nat_tests, prepend_adds_at_most_one_chunk, chunks_are_no_more_than_tokens ts)
 chunks_are_no_more_than_tokens (Octet value ∷ ts) = omega (arith, chunks_are_no_more_than_tokens ts)
 
--- decoding, counts: a text has no more tokens than characters
 tokens_are_no_more_than_chars : (cs : List ℕ) → length (tokens_from_chars cs) ≤ length cs
 unfolding tokens_from_chars
 tokens_are_no_more_than_chars [] = omega arith
@@ -38,7 +36,6 @@ tokens_are_no_more_than_chars (c ∷ high ∷ low ∷ rest) = elim (is_pct_encod
       | false ↦ omega (arith, tokens_are_no_more_than_chars (high ∷ low ∷ rest))
     ]
 
--- decoding, counts: a text has no more chunks than bytes
 pub chunks_are_no_more_than_bytes : (text : List ℕ) → IsUtf8 text
     → length (chunks text) ≤ length text
 chunks_are_no_more_than_bytes text u = omega (

@@ -25,7 +25,6 @@ head_and_tail_lack_percent c cs e =
       p.1,
     )
 
--- decoding: characters have no `%` (37) if their bytes have none
 chars_lack_percent_if_bytes_do : (cs : List ℕ) → lacks 37 (encode_utf8_all cs) ≡ true
     → lacks 37 cs ≡ true
 chars_lack_percent_if_bytes_do [] e = refl
@@ -41,7 +40,6 @@ prepending_twice_joins_texts xs ys (Text more ∷ ps) = ap (λ t. Text t ∷ ps)
     (sym (append_assoc xs ys more))
 prepending_twice_joins_texts xs ys (Byte value ∷ ps) = refl
 
--- decoding: characters before other tokens are text that is put before the chunks of these
 leading_chars_are_prepended_to_chunks : (c : ℕ) (cs : List ℕ) (ts : List Token) → chunks_of_tokens
     (map Char (c ∷ cs) ++ ts) ≡ prepend_to_chunks (encode_utf8_all (c ∷ cs)) (chunks_of_tokens ts)
 unfolding chunks_of_tokens
@@ -66,7 +64,6 @@ pub record BeginsWithOctet (text : List ℕ) : Type 0 where
   pub first : tokens text ≡ Octet (16 * digit_value high + digit_value low) ∷ tokens suffix
   pub valid : IsValidFor widest_set suffix
 
--- decoding: a `%` by itself is not allowed
 literal_percent_is_not_allowed : (ts : List Token) → list_all (allows_token widest_set)
     (Char 37 ∷ ts) ≡ true → ⊥
 literal_percent_is_not_allowed ts e = false≢true e
@@ -99,7 +96,6 @@ pct_encoded_chars_begin_with_octet high low cs s e v =
       valid = grind arith;
     }
 
--- decoding: if a text from a `%` on is valid, the `%` begins an octet (the text by its characters)
 valid_chars_after_percent_give_octet : (cs : List ℕ) → all_scalars cs ≡ true
     → list_all (allows_token widest_set) (tokens_from_chars (37 ∷ cs)) ≡ true
     → BeginsWithOctet (37 ∷ encode_utf8_all cs)
@@ -113,7 +109,6 @@ valid_chars_after_percent_give_octet (high ∷ low ∷ cs) s v = ⊎_elim
     (sym (ap (list_all (allows_token widest_set)) (cond-false _ _ _ e)) ∙ v)))
     (cases_Bool (is_pct_encoded 37 high low))
 
--- decoding: if a text from a `%` on is valid, the `%` begins an octet
 valid_text_from_percent_begins_with_octet : (rest : List ℕ) → IsUtf8 rest
     → IsValidFor widest_set (37 ∷ rest) → BeginsWithOctet (37 ∷ rest)
 unfolding is_valid_for
@@ -122,7 +117,6 @@ valid_text_from_percent_begins_with_octet rest u v = subst (λ x. BeginsWithOcte
     (sym (ap (λ cs. list_all (allows_token widest_set) (tokens_from_chars cs))
     (ascii_byte_is_first_of_chars 37 rest (lit< tt))) ∙ v))
 
--- decoding: each `%` of a text that decodes begins an octet
 percent_begins_octet : (text : List ℕ) → IsUtf8 text → IsValidFor widest_set text → 0 < length text
     → get_or text 0 0 ≡ 37 → BeginsWithOctet text
 percent_begins_octet [] u v some e = absurd (omega arith)
@@ -131,18 +125,15 @@ percent_begins_octet (b ∷ rest) u v some e =
     (IsCharBoundary-after_ascii (b ∷ rest) 0 u some (omega arith)) in
     grind (arith, valid_text_from_percent_begins_with_octet)
 
--- decoding: a text before an octet is a chunk by itself
 text_before_octet_is_own_chunk : (text : List ℕ) → BeginsWithOctet text
     → IsNotJoinedByTextBefore (chunks text)
 unfolding chunks_of_tokens prepend_to_chunks
 text_before_octet_is_own_chunk text o = rw o.first (λ x. refl)
 
--- decoding: the empty text has no chunks
 pub empty_text_has_no_chunks : chunks [] ≡ []
 unfolding chunks_of_tokens tokens_from_chars chars
 empty_text_has_no_chunks = refl
 
--- decoding: a text before nothing is one chunk
 text_before_nothing_is_own_chunk : IsNotJoinedByTextBefore (chunks [])
 unfolding chunks_of_tokens prepend_to_chunks tokens_from_chars chars
 text_before_nothing_is_own_chunk x = refl
@@ -165,7 +156,6 @@ text_before_percent_is_unencoded : (text : List ℕ) → lacks 37 (take (len_bef
     ≡ true
 text_before_percent_is_unencoded text = prefix_len_bytes_pass (λ b. not (eqb b 37)) text
 
--- decoding: what is before the first `%` (37) ends at a `%`, or with the text
 percent_ends_unencoded_prefix : (text : List ℕ) → len_before_percent text < length text
     → get_or text (len_before_percent text) 0 ≡ 37
 percent_ends_unencoded_prefix text h = eqb-true _ 37
@@ -226,7 +216,6 @@ text_before_percent_is_own_chunk text n u v within there = ⊎_elim (λ h.
     (λ h. subst (λ x. IsNotJoinedByTextBefore (chunks x))
     (sym (drop_all n text h)) text_before_nothing_is_own_chunk) (cases_lt n (length text))
 
--- decoding: the text before the first `%`, if it is not empty, is the first chunk
 unencoded_prefix_is_first_chunk : (text : List ℕ) (n : ℕ) → IsUtf8 text → IsValidFor widest_set text
     → n ≡ len_before_percent text → 0 < length (take n text) → BeginsWithText text n
 unfolding is_valid_for
@@ -291,7 +280,6 @@ boundary_after_octet text u o =
     let small = hexdigit_is_ascii o.low o.low_digit in
     IsCharBoundary-after_ascii text 2 u (omega (arith, ap length o.joined)) (omega arith)
 
--- decoding: if a text begins with an octet, its first chunk is the octet's value
 pub first_chunk_is_value_of_octet : (text : List ℕ) (o : BeginsWithOctet text)
     → chunks text ≡ Byte (16 * digit_value o.high + digit_value o.low) ∷ chunks o.suffix
 unfolding chunks_of_tokens

@@ -1,7 +1,6 @@
 -- The value of each digit, entry by entry.
 use Rattle.uri_pct.proofs.Common.{◌≡◌, ℕ, zero, suc, ◌<◌, Bool, true, not, ◌&&◌, ◌||◌, eqb, ltb, get_or, refl, subst, digit_value, is_ascii_hexdigit, and_parts, eqb-true, ltb-true, Decides-below_and, DIGIT_VALUES}
 
--- decoding octets: the entry of a byte in the table of digits
 abbrev digit_table_entry : ℕ → ℕ
 digit_table_entry b = get_or DIGIT_VALUES.now b 0
 
@@ -16,7 +15,6 @@ digit_entries_match_below zero = true
 digit_entries_match_below (suc n) = (not (is_ascii_hexdigit n) || is_entry_value_of_digit n)
     && digit_entries_match_below n
 
--- decoding octets: the table's entry of a hexadecimal digit is its value
 pub hex_digit_entry_is_value : (b : ℕ) → b < 256 → is_ascii_hexdigit b ≡ true
     → (get_or DIGIT_VALUES.now b 0 ≡ digit_value b) × (get_or DIGIT_VALUES.now b 0 < 16)
 hex_digit_entry_is_value b small digit =

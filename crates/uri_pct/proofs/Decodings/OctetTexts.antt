@@ -20,7 +20,6 @@ octet_entry_is_printed_octet =
     (λ b. octet_table_entry b ≡ text_of_token (Octet b)) octet_entries_match_below
     (λ b. bytes_eq-Decides _ _) refl (λ _. refl) 256).0 refl
 
--- decoding, the table of octets: each of these bytes is ASCII
 abbrev are_all_ascii : List ℕ → Bool
 are_all_ascii [] = true
 are_all_ascii (b ∷ bs) = ltb b 128 && are_all_ascii bs

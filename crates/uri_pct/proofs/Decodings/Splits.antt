@@ -3,8 +3,6 @@ use Rattle.uri_pct.proofs.Common.{◌≡◌, eqb, Some, refl, slice_split, text_
 use Rattle.uri_pct.specs.declared.pct_enc.EStr.{EStr}
 use Rattle.uri_pct.specs.declared.split.Split.{Split}
 
--- decoding and splitting, iterators: the substrings
--- that a `Split` has left are the split of the text that is left
 pub substrings_left_are_split_of_rest : {E : _} {g : _} (s : Split E g) (e : EStr E g)
     → s.rest ≡ Some e → substrings_left s ≡ slice_split (λ b. eqb b s.delimiter) (text_of e)
 substrings_left_are_split_of_rest s e h = rw h refl

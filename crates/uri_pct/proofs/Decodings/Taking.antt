@@ -10,7 +10,6 @@ pub OnOk-from-is_ok : {T E P : Type 0} (r : Result T E) → (is_ok r ≡ true �
 OnOk-from-is_ok (Ok x) f = f refl
 OnOk-from-is_ok (Err e) f = tt
 
--- decoding: a literal part has the pieces of its text
 pub literal_part_has_utf8_pieces_of_its_text : (text : List ℕ) → pieces_of_parts (Literal text ∷ [])
     ≡ utf8_pieces text
 literal_part_has_utf8_pieces_of_its_text text = append-nil (utf8_pieces text)
@@ -25,7 +24,6 @@ appended_text_takes_lossy_text_of_parts s t ps text u pieces bytes = record {
       (sym (ap (flat_map lossy_piece) pieces ∙ lossy_text_of_utf8_is_itself text u));
 }
 
--- decoding, parts taken: what is taken of a whole text is the lossy text of its decoded bytes
 pub parts_taken_give_lossy_text : (text : List ℕ) (s t : LossyText) → IsValidFor widest_set text
     → string_bytes s.text ≡ [] → TookText s (parts text) t
     → string_bytes t.text ≡ lossy_text (bytes_decoded_from (tokens text))

@@ -10,22 +10,18 @@ use Rattle.uri_pct.proofs.Unicode.Pieces.{bytes_of_utf8_pieces_are_the_bytes}
 abbrev pub is_eight_bit : ℕ → Bool
 is_eight_bit b = ltb b 256
 
--- encoding: list elements below 256 are bytes
 pub bytes_below_256_are_eight_bit : (bytes : List ℕ) → ((i : ℕ) → get_or bytes i 0 < 256)
     → list_all is_eight_bit bytes ≡ true
 bytes_below_256_are_eight_bit [] h = refl
 bytes_below_256_are_eight_bit (b ∷ bytes) h = and_from _ _ (lt-ltb b 256 (h 0))
     (bytes_below_256_are_eight_bit bytes (λ i. h (suc i)))
 
--- encoding: a Unicode scalar value is below 0x110000
 scalar_is_below_0x110000 : (c : ℕ) → IsScalar c → c < 1114112
 scalar_is_below_0x110000 c e = grind (arith, nat_tests)
 
--- encoding: a byte that continues a character is a byte
 continuation_byte_is_eight_bit : (x : ℕ) → list_all is_eight_bit ((128 + x % 64) ∷ []) ≡ true
 continuation_byte_is_eight_bit x = and_from _ _ (lt-ltb (128 + x % 64) 256 (omega arith)) refl
 
--- encoding: two bytes that continue a character are bytes
 two_continuation_bytes_are_eight_bit : (x y : ℕ)
     → list_all is_eight_bit ((128 + x % 64) ∷ (128 + y % 64) ∷ []) ≡ true
 two_continuation_bytes_are_eight_bit x y = and_from _ _ (lt-ltb (128 + x % 64) 256 (omega arith))
@@ -67,7 +63,6 @@ encoded_char_is_printable set c lacks scalar = ⊎_elim (λ e. ap (list_all is_p
     ∙ octets_of_bytes_are_printable (encode_utf8 c) (utf8_bytes_are_eight_bit c scalar))
     (cases_Bool (allows set c))
 
--- encoding: a set with octets allows the tokens that a character is encoded as
 encoded_char_is_allowed : (set : TableSet) (c : ℕ) → set.pct_encoded ≡ true
     → list_all (allows_token set) (encode_char set c) ≡ true
 encoded_char_is_allowed set c o = ⊎_elim (λ e. ap (list_all (allows_token set)) (cond-true _ _ _ e)
@@ -89,7 +84,6 @@ pub encoded_text_is_printable : (set : TableSet) (text : List ℕ) → LacksPerc
 encoded_text_is_printable set text lacks u =
     encoded_chars_are_printable set (chars text) lacks (scalars-chars text u)
 
--- encoding: a set with octets allows the tokens that characters are encoded as
 encoded_chars_are_allowed : (set : TableSet) (cs : List ℕ) → set.pct_encoded ≡ true
     → list_all (allows_token set) (flat_map (encode_char set) cs) ≡ true
 encoded_chars_are_allowed set [] o = refl
@@ -97,7 +91,6 @@ encoded_chars_are_allowed set (c ∷ cs) o =
     list_all-append (allows_token set) (encode_char set c) (flat_map (encode_char set) cs)
     ∙ and_from _ _ (encoded_char_is_allowed set c o) (encoded_chars_are_allowed set cs o)
 
--- encoding: a set allows a text that is encoded for a subset of it
 pub encoded_text_is_allowed : (sub set : TableSet) (text : List ℕ) → IsSubset sub set
     → sub.pct_encoded ≡ true → list_all (allows_token set) (encode_text sub text) ≡ true
 encoded_text_is_allowed sub set text subset o = tokens_allowed_by_superset sub set
@@ -132,13 +125,11 @@ encoded_bytes_are_printable set bytes lacks small =
     encoded_pieces_are_printable set (utf8_pieces bytes) lacks (utf8_pieces-are-of-characters bytes)
     (ap (list_all is_eight_bit) (bytes_of_utf8_pieces_are_the_bytes bytes) ∙ small)
 
--- encoding: a set with octets allows the tokens that a piece of bytes is encoded as
 encoded_piece_is_allowed : (set : TableSet) (p : Piece) → set.pct_encoded ≡ true
     → list_all (allows_token set) (encode_piece set p) ≡ true
 encoded_piece_is_allowed set (WellFormed bytes) o = encoded_char_is_allowed set (char_of bytes) o
 encoded_piece_is_allowed set (IllFormed bytes) o = octets_are_allowed_if_pct_encoded set bytes o
 
--- encoding: a set with octets allows the tokens that pieces of bytes are encoded as
 encoded_pieces_are_allowed : (set : TableSet) (ps : List Piece) → set.pct_encoded ≡ true
     → list_all (allows_token set) (flat_map (encode_piece set) ps) ≡ true
 encoded_pieces_are_allowed set [] o = refl
@@ -146,7 +137,6 @@ encoded_pieces_are_allowed set (p ∷ ps) o =
     list_all-append (allows_token set) (encode_piece set p) (flat_map (encode_piece set) ps)
     ∙ and_from _ _ (encoded_piece_is_allowed set p o) (encoded_pieces_are_allowed set ps o)
 
--- encoding: a set allows bytes that are encoded for a subset of it
 pub encoded_bytes_are_allowed : (sub set : TableSet) (bytes : List ℕ) → IsSubset sub set
     → sub.pct_encoded ≡ true → list_all (allows_token set) (encode_bytes sub bytes) ≡ true
 encoded_bytes_are_allowed sub set bytes subset o = tokens_allowed_by_superset sub set

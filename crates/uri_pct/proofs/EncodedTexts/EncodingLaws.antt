@@ -3,12 +3,10 @@ use Rattle.uri_pct.proofs.Common.{◌≡◌, ℕ, List, ◌++◌, IsUtf8, flat_m
 use Rattle.uri_pct.proofs.EncodedTexts.EncodedTokens.{encoded_text_is_printable}
 use Rattle.uri_pct.proofs.UnreservedDecoding.Printing.{printed_tokens_parse_to_themselves}
 
--- encoding, and back: two lists of tokens, one after the other, decode to the bytes of both
 pub joined_tokens_decode_to_joined_bytes : (ts us : List Token)
     → bytes_decoded_from (ts ++ us) ≡ bytes_decoded_from ts ++ bytes_decoded_from us
 joined_tokens_decode_to_joined_bytes ts us = flat_map-append bytes_of_one_token ts us
 
--- encoding: the text that is written of encoded tokens has these tokens
 pub encoded_text_parses_to_its_tokens : (set : TableSet) (text : List ℕ) → LacksPercent set
     → IsUtf8 text → tokens (print (encode_text set text)) ≡ encode_text set text
 encoded_text_parses_to_its_tokens set text lacks u = printed_tokens_parse_to_themselves

@@ -9,7 +9,6 @@ use Rattle.uri_pct.proofs.Unicode.Pieces.{bytes_of_utf8_pieces_are_the_bytes, ta
 pub print-append : (ts us : List Token) → print (ts ++ us) ≡ print ts ++ print us
 print-append ts us = flat_map-append text_of_token ts us
 
--- encoding: a text is encoded as its first character and what is after it
 pub encode_text-by-first-char : (set : TableSet) (text rest : List ℕ) (c : ℕ) → IsUtf8 text → text
     ≡ encode_utf8 c ++ rest → encode_text set text ≡ encode_char set c ++ encode_text set rest
 encode_text-by-first-char set text rest c u e =
@@ -31,13 +30,11 @@ pub octets_decode_to_their_bytes : (bytes : List ℕ) → bytes_decoded_from (ma
 octets_decode_to_their_bytes [] = refl
 octets_decode_to_their_bytes (b ∷ bytes) = ap (λ x. b ∷ x) (octets_decode_to_their_bytes bytes)
 
--- encoding: decoding the tokens of an encoded character gives its bytes
 encoded_char_decodes_to_its_bytes : (set : TableSet) (c : ℕ)
     → bytes_decoded_from (encode_char set c) ≡ encode_utf8 c
 encoded_char_decodes_to_its_bytes set c =
     grind (arith, nat_tests, append-nil, octets_decode_to_their_bytes)
 
--- encoding: decoding the tokens of encoded characters gives their bytes
 encoded_chars_decode_to_their_bytes : (set : TableSet) (cs : List ℕ)
     → bytes_decoded_from (flat_map (encode_char set) cs) ≡ encode_utf8_all cs
 encoded_chars_decode_to_their_bytes set [] = refl
@@ -46,20 +43,17 @@ encoded_chars_decode_to_their_bytes set (c ∷ cs) = flat_map-append bytes_of_on
     ++ bytes_decoded_from (flat_map (encode_char set) cs)) (encoded_char_decodes_to_its_bytes set c)
     ∙ ap (λ x. encode_utf8 c ++ x) (encoded_chars_decode_to_their_bytes set cs)
 
--- encoding: encoded text decodes to the text
 pub encoded_text_decodes_to_itself : (set : TableSet) (text : List ℕ) → IsUtf8 text
     → bytes_decoded_from (encode_text set text) ≡ text
 encoded_text_decodes_to_itself set text u = encoded_chars_decode_to_their_bytes set (chars text)
     ∙ encodes-chars text u
 
--- encoding: decoding the tokens of an encoded piece gives its bytes
 encoded_piece_decodes_to_its_bytes : (set : TableSet) (p : Piece) → IsOfCharacter p
     → bytes_decoded_from (encode_piece set p) ≡ piece_bytes p
 encoded_piece_decodes_to_its_bytes set (WellFormed bytes) h = encoded_char_decodes_to_its_bytes set
     (char_of bytes) ∙ h.1
 encoded_piece_decodes_to_its_bytes set (IllFormed bytes) h = octets_decode_to_their_bytes bytes
 
--- encoding: decoding the tokens of encoded pieces gives their bytes
 encoded_pieces_decode_to_their_bytes : (set : TableSet) (ps : List Piece) → All IsOfCharacter ps
     → bytes_decoded_from (flat_map (encode_piece set) ps) ≡ bytes_of_pieces ps
 encoded_pieces_decode_to_their_bytes set [] h = refl
@@ -70,14 +64,12 @@ encoded_pieces_decode_to_their_bytes set (p ∷ ps) h =
     ∙ ap (λ x. piece_bytes p ++ x)
     (encoded_pieces_decode_to_their_bytes set ps (All-tail IsOfCharacter p ps h))
 
--- encoding: encoded bytes decode to the bytes
 pub encoded_bytes_decode_to_themselves : (set : TableSet) (bytes : List ℕ)
     → bytes_decoded_from (encode_bytes set bytes) ≡ bytes
 encoded_bytes_decode_to_themselves set bytes = encoded_pieces_decode_to_their_bytes set
     (utf8_pieces bytes) (utf8_pieces-are-of-characters bytes)
     ∙ bytes_of_utf8_pieces_are_the_bytes bytes
 
--- encoding: a run of a text, up to the next character, has this character (c) more
 pub slice_with_one_more_char : (text : List ℕ) (start end c : ℕ)
     → start ≤ end → drop end text ≡ encode_utf8 c ++ drop (end + len_utf8 c) text → take (end
     + len_utf8 c - start) (drop start text) ≡ take (end - start) (drop start text) ++ encode_utf8 c
@@ -92,22 +84,18 @@ slice_with_one_more_char text start end c ordered e =
     (sym (length-encode c)) ∙ take-append_seam (encode_utf8 c) (drop (end + len_utf8 c) text) in
     grind (arith, nat_tests, take_then_take_is_take_of_sum)
 
--- encoding: a new text that begins with the old one does so with more after it
 pub append_keeps_prefix : (old new more : List ℕ) → take (length old) new ≡ old
     → take (length old) (new ++ more) ≡ old
 append_keeps_prefix old new more e = grind (arith, nat_tests, length-take, take-append-le)
 
--- encoding: if a text begins with a longer one, it begins with what that begins with
 pub unchanged_prefix-transitive : (old mid new : List ℕ) → take (length old) mid ≡ old
     → take (length mid) new ≡ mid → take (length old) new ≡ old
 unchanged_prefix-transitive old mid new e f = grind (arith, nat_tests, length-take, take-take)
 
--- encoding: the empty text is encoded as the empty text
 pub empty_text_is_encoded_as_nothing : (set : TableSet) → print (encode_text set []) ≡ []
 unfolding chars
 empty_text_is_encoded_as_nothing set = refl
 
--- encoding: the pieces of characters are encoded as the characters are
 pieces_of_chars_are_encoded_as_chars : (set : TableSet) (cs : List ℕ) → all_scalars cs ≡ true
     → flat_map (encode_piece set) (map piece_of_char cs) ≡ flat_map (encode_char set) cs
 unfolding piece_of_char
@@ -154,7 +142,6 @@ encoded_bytes_after_chunk set out mid new bytes text fault rest all u pieces fir
       append_assoc,
     )
 
--- encoding: at the end of the bytes, what was appended is all
 pub encoded_bytes_at_end : (set : TableSet) (out bytes all : List ℕ) → length bytes ≡ 0
     → out ++ print (encode_bytes set bytes) ≡ all → out ≡ all
 encoded_bytes_at_end set out bytes all none whole =

@@ -47,7 +47,6 @@ lane_from_14 left k from to = lane_of_part left 49152 k
 no_lane_of_zero : (mask k : ℕ) → mask ≡ 0 → is_set_bit mask k ≡ false
 no_lane_of_zero mask k none = ap (λ n. is_set_bit n k) none ∙ ap (λ n. eqb n 1) (bit_at-zero k)
 
--- the first lane of the lower fourteen, if one of them is set
 pub first_of_lower_lanes : (left : ℕ) → left < 2 ^ 16 → (bit_and left 16383 ≡ 0 → ⊥)
     → (trailing_zeros w64 (bit_and left 16383) < 14)
     × IsFirstLane left (trailing_zeros w64 (bit_and left 16383))
@@ -68,7 +67,6 @@ first_of_lower_lanes left below some =
       },
     )
 
--- the first lane is one of the last two, if only these are set
 pub first_of_last_lanes : (left : ℕ) → left < 2 ^ 16 → bit_and left 16383 ≡ 0
     → (bit_and left 49152 ≡ 0 → ⊥) → IsFirstLane left (trailing_zeros w64 (bit_and left 49152))
 first_of_last_lanes left below none some =
@@ -85,7 +83,6 @@ first_of_last_lanes left below none some =
           ∙ ap (λ n. eqb n 1) (f.2 k h)) (cases_lt k 14);
     }
 
--- no lane is set, if none of either part is
 pub no_lane_of_both_parts : (left : ℕ) → bit_and left 16383 ≡ 0 → bit_and left 49152 ≡ 0
     → (k : ℕ) → k < 16 → is_set_bit left k ≡ false
 no_lane_of_both_parts left low high k h = ⊎_elim (λ (l : k < 14). sym (lane_below_14 left k l)

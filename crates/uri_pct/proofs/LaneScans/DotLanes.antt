@@ -3,7 +3,6 @@ use Rattle.uri_pct.proofs.Common.{◌≡◌, ℕ, ◌+◌, ◌<◌, ◌≤◌, B
 use Rattle.uri_pct.proofs.TableSets.Masks.{bit_of_bit_and, bit_of_bit_or}
 use Rattle.uri_pct.proofs.LaneScans.LaneBits.{is_set_bit, mask_bit_is_equality_of_byte, equality_mask_is_below_2_16, trailing_zeros_is_first_set_lane}
 
--- sixteen bytes at a time: the mask of the lanes from i on that equal a byte
 abbrev mask_of_lanes_equal_to : ℕ → List ℕ → ℕ → ℕ
 mask_of_lanes_equal_to byte bs i = mask_l (map (λ b. eqb b byte) (chunk i 16 bs))
 
@@ -12,7 +11,6 @@ abbrev is_slash_before_dot_or_percent : List ℕ → ℕ → Bool
 is_slash_before_dot_or_percent bs k = eqb (get_or bs k 0) 47
     && (eqb (get_or bs (k + 1) 0) 46 || eqb (get_or bs (k + 1) 0) 37)
 
--- sixteen bytes at a time: where no lane has a `/`, none has one with a dot or `%` after it
 pub no_slash_dot_where_no_slash : (bs : List ℕ) (i slashes : ℕ) → i + 16 < length bs → slashes
     ≡ mask_of_lanes_equal_to 47 bs i
     → slashes ≡ 0 → (k : ℕ) → k < 16 → is_slash_before_dot_or_percent bs (i + k) ≡ false

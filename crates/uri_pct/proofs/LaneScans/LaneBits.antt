@@ -10,7 +10,6 @@ is_set_bit n k = eqb (bit_at n k) 1
 pub bit_of_right_shift : (n s k : ℕ) → is_set_bit (n / 2 ^ s) k ≡ is_set_bit n (s + k)
 bit_of_right_shift n s k = ap (λ m. eqb (m % 2) 1) (shr-shr n s k)
 
--- sixteen bytes at a time, bits: shifting a word left by s bits makes bit k - s bit k
 pub bit_of_left_shift : (n s k : ℕ) → k < 64 → s ≤ k → is_set_bit (n * 2 ^ s % 2 ^ 64) k
     ≡ is_set_bit n (k - s)
 bit_of_left_shift n s k h l =
@@ -20,7 +19,6 @@ bit_of_left_shift n s k h l =
     * 2 ^ s) (2 ^ 64 - 1) k ∙ ap (λ m. min (bit_at (n * 2 ^ s) k) m) (bit_at_ones 64 k h)
     ∙ omega arith ∙ ap (λ m. bit_at m k) (sym z) ∙ bit_at_cat_high n s 0 k (pow_pos s) l)
 
--- sixteen bytes at a time, bits: shifting a word left by s bits clears the s low ones
 pub low_bit_of_left_shift_is_clear : (n s k : ℕ) → k < 64 → k < s
     → is_set_bit (n * 2 ^ s % 2 ^ 64) k ≡ false
 low_bit_of_left_shift_is_clear n s k h l =
@@ -31,7 +29,6 @@ low_bit_of_left_shift_is_clear n s k h l =
     ∙ bit_at_and (n * 2 ^ s) (2 ^ 64 - 1) k ∙ omega arith in
     ap (λ m. eqb m 1) e
 
--- sixteen bytes at a time: where the lane of a byte is clear, the byte passes the test
 pub clear_lane_passes_test : (test : ℕ → Bool) (bs : List ℕ) (i w mask k : ℕ)
     → MarksFailingLanes test bs i w mask
     → k < w → is_set_bit mask k ≡ false → test (get_or bs (i + k) 0) ≡ true
@@ -71,7 +68,6 @@ equality_mask_is_below_2_16 byte bs i room =
     subst (λ n. mask_l ms < 2 ^ n)
     (length-map (chunk i 16 bs) (λ b. eqb b byte) ∙ length-chunk i 16 bs room) (mask_l-lt ms)
 
--- sixteen bytes at a time: the number of trailing zeros is the first lane that is set
 pub trailing_zeros_is_first_set_lane : (mask : ℕ) → mask < 2 ^ 16 → (mask ≡ 0 → ⊥)
     → (trailing_zeros w64 mask < 16) × (bit_at mask (trailing_zeros w64 mask) ≡ 1)
     × ((k : ℕ) → k < trailing_zeros w64 mask → bit_at mask k ≡ 0)

@@ -5,7 +5,6 @@ use Rattle.std.specs.Int.Bits.{and_zero_r}
 use Rattle.std.proofs.lemmas.Grind.{get_or_default_zero}
 use Rattle.uri_pct.proofs.TableSets.Masks.{has_bit_below_64_is_bit_of_low, has_bit_from_64_is_bit_of_high, has_bit_past_ascii_is_false}
 
--- sixteen bytes at a time, bits: byte j of a number has its bits from 8 * j on
 byte_of_number_is_its_eight_bits : (n x j : ℕ) → j < n → get_or (digits_l (2 ^ 8) n x) j 0
     ≡ x / 2 ^ (8 * j) % 2 ^ 8
 byte_of_number_is_its_eight_bits zero x j h = absurd (omega arith)
@@ -15,7 +14,6 @@ byte_of_number_is_its_eight_bits (suc n) x (suc j) h =
     byte_of_number_is_its_eight_bits n (x / 2 ^ 8) j (omega arith)
     ∙ ap (λ y. y % 2 ^ 8) (shr-shr x 8 (8 * j) ∙ ap (λ k. x / 2 ^ k) e)
 
--- sixteen bytes at a time, bits: bit k of byte j of a number is its bit 8 * j + k
 bit_of_byte_is_bit_of_number : (x j k : ℕ) → k < 8 → bit_at (x / 2 ^ (8 * j) % 2 ^ 8) k
     ≡ bit_at x (8 * j + k)
 bit_of_byte_is_bit_of_number x j k h =
@@ -43,7 +41,6 @@ shifted_bit_is_zero_iff_clear (suc zero) k h = let l : 0 < 2 ^ k = pow_pos k in
     ne_eqb (1 * 2 ^ k) 0 (λ (e : 1 * 2 ^ k ≡ 0). omega arith)
 shifted_bit_is_zero_iff_clear (suc (suc b)) k h = absurd (omega arith)
 
--- sixteen bytes at a time, bits: `and` with zero is zero
 and_with_zero_is_zero : (n k : ℕ) → k ≡ 0 → eqb (bit_and n k) 0 ≡ true
 and_with_zero_is_zero n k e = rw e (ap (λ x. eqb x 0) (and_zero_r n))
 

@@ -6,7 +6,6 @@ pub record MarksFailingLanes (test : ℕ → Bool) (bs : List ℕ) (i w mask : �
   pub lane : (k : ℕ) → k < w → bit_at mask k ≡ cond (not (test (get_or bs (i + k) 0))) 1 0
   pub below : mask < 2 ^ w
 
--- sixteen bytes at a time: the mask of a load marks the lanes whose bytes fail the test
 pub load_mask_marks_failing_lanes : (test : ℕ → Bool) (bs : List ℕ) (i w : ℕ) → i + w ≤ length bs
     → MarksFailingLanes test bs i w (mask_l (map (λ b. not (test b)) (chunk i w bs)))
 load_mask_marks_failing_lanes test bs i w room =
@@ -21,7 +20,6 @@ load_mask_marks_failing_lanes test bs i w room =
       below = subst (λ n. mask_l ms < 2 ^ n) both (mask_l-lt ms);
     }
 
--- sixteen bytes at a time: the mask of a set, by two masks, marks the lanes outside it
 pub set_mask_marks_lanes_outside : (low high : ℕ) (bs : List ℕ) (i mask : ℕ) → i + 16 ≤ length bs
     → mask ≡ mask_l (map (λ b. not (has_bit low high b)) (chunk i 16 bs))
     → MarksFailingLanes (has_bit low high) bs i 16 mask
@@ -29,7 +27,6 @@ set_mask_marks_lanes_outside low high bs i mask room e =
     subst (MarksFailingLanes (has_bit low high) bs i 16) (sym e)
     (load_mask_marks_failing_lanes (has_bit low high) bs i 16 room)
 
--- sixteen bytes at a time: a mask that is shifted right marks the lanes after the first s
 shifted_mask_marks_later_lanes : (test : ℕ → Bool) (bs : List ℕ) (i w s mask : ℕ)
     → MarksFailingLanes test bs i (w + s) mask → MarksFailingLanes test bs (i + s) w (mask / 2 ^ s)
 shifted_mask_marks_later_lanes test bs i w s mask m = record {
@@ -51,16 +48,13 @@ last_load_marks_failing_lanes test bs i mask long within near m =
     (shifted_mask_marks_later_lanes test bs (length bs - 16) (length bs - i) s mask
     (subst (λ n. MarksFailingLanes test bs (length bs - 16) n mask) (sym whole) m))
 
--- sixteen bytes at a time: the bit in the mask of a lane that passes the test, or fails it
 abbrev mask_bit_of_lane : Bool → ℕ
 mask_bit_of_lane b = cond (not b) 1 0
 
--- sixteen bytes at a time: a lane whose bit in the mask is 0 passes the test
 unmarked_lane_passes : (b : Bool) → mask_bit_of_lane b ≡ 0 → b ≡ true
 unmarked_lane_passes true e = refl
 unmarked_lane_passes false e = absurd (omega arith)
 
--- sixteen bytes at a time: a lane whose bit in the mask is 1 fails the test
 marked_lane_fails : (b : Bool) → mask_bit_of_lane b ≡ 1 → b ≡ false
 marked_lane_fails true e = absurd (omega arith)
 marked_lane_fails false e = refl

@@ -67,7 +67,6 @@ module _ (test : ℕ → Bool) (bs : List ℕ) (start i : ℕ)
   characters_or_octets_up_to_end from none nor =
       linked_bytes_are_characters_or_octets (i - start) (omega arith) (grind arith)
 
--- sixteen bytes at a time: an empty run of bytes consists of characters and octets
 pub no_bytes_are_characters_or_octets : (test : ℕ → Bool) (bs : List ℕ) (start n : ℕ) → n ≡ 0
     → AreCharactersOrOctets test bs start n
 no_bytes_are_characters_or_octets test bs start n e = record {

@@ -80,13 +80,11 @@ lanes_covered_by_octets begun = bit_or (bit_or begun (begun * 2 ^ 1 % 2 ^ 64))
 abbrev pub lanes_left_uncovered : ℕ → ℕ → ℕ
 lanes_left_uncovered misses begun = bit_and misses (bit_not w64 (lanes_covered_by_octets begun))
 
--- sixteen bytes at a time: shifting the starts of octets left by s bits makes lane k - s lane k
 lane_of_shifted_starts : (begun s k : ℕ) → k < 64
     → is_set_bit (begun * 2 ^ s % 2 ^ 64) k ≡ (leb s k && is_set_bit begun (k - s))
 lane_of_shifted_starts begun s k h =
     grind (arith, nat_tests, low_bit_of_left_shift_is_clear, is_set_bit, bit_of_left_shift)
 
--- sixteen bytes at a time: a lane is left uncovered if it is a miss and in no octet
 pub uncovered_lane_is_miss_outside_octets : (misses begun k : ℕ) → begun < 2 ^ 64 → k < 64
     → is_set_bit (lanes_left_uncovered misses begun) k
     ≡ (is_set_bit misses k && not (is_lane_of_octet begun k))
@@ -101,7 +99,6 @@ uncovered_lane_is_miss_outside_octets misses begun k fits h =
     ∙ ap (λ b. (is_set_bit begun k || (leb 1 k && is_set_bit begun (k - 1))) || b)
     (lane_of_shifted_starts begun 2 k h))
 
--- sixteen bytes at a time: a lane is in no octet if none begins there or at one of the two before
 pub lane_without_origin_is_in_no_octet : (begun k : ℕ) → is_set_bit begun k ≡ false
     → ((j : ℕ) → j < k → k ≤ j + 2 → is_set_bit begun j ≡ false) → is_lane_of_octet begun k ≡ false
 lane_without_origin_is_in_no_octet begun k here before = or_from _ _
@@ -112,7 +109,6 @@ lane_without_origin_is_in_no_octet begun k here before = or_from _ _
         (λ (l : s ≤ k). and_right (leb s k) _ (before (k - s) (omega arith) (omega arith)))
         (cases_lt k s)
 
--- sixteen bytes at a time: if a lane is in no octet, none begins there or at one of the two before
 pub no_octet_begins_before_lane_outside : (begun k j : ℕ) → is_lane_of_octet begun k ≡ false
     → j ≤ k → k ≤ j + 2 → is_set_bit begun j ≡ false
 no_octet_begins_before_lane_outside begun k j e from to =
@@ -130,7 +126,6 @@ no_octet_begins_before_lane_outside begun k j e from to =
     earlier s at l f = let there : j ≡ k - s = omega arith in ap (is_set_bit begun) there
         ∙ sym (ap (λ b. b && is_set_bit begun (k - s)) (le-leb s k l)) ∙ f
 
--- sixteen bytes at a time: octets that begin before a lane outside them end before it
 pub octets_before_lane_outside_are_whole : (begun n : ℕ)
     → n ≤ 16 → ((k : ℕ) → is_set_bit begun k ≡ true → k + 3 ≤ 16) → (n < 16
     → is_lane_of_octet begun n ≡ false) → (k : ℕ) → k < n → is_set_bit begun k ≡ true → k + 3 ≤ n
@@ -140,8 +135,6 @@ octets_before_lane_outside_are_whole begun n few room ends k h o =
     (λ (l : 16 ≤ n). omega (arith, room k o, l, near)) (cases_lt n 16))
     (λ (far : k + 3 ≤ n). far) (cases_lt n (k + 3))
 
--- sixteen bytes at a time: where a lane is a miss that is no digit of an octet, one begins there or
--- it is in none
 pub miss_outside_digits_is_in_octet_that_begins_there : (misses starts k : ℕ)
     → ((j : ℕ) → bit_at starts j ≡ 1 → (bit_at misses (j + 1) ≡ 0) × (bit_at misses (j + 2) ≡ 0))
     → (is_set_bit misses k && not (is_set_bit starts k))

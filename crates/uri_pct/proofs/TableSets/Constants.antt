@@ -160,7 +160,6 @@ pub ifragment_masks_are_ifragment_set : set_of_characters FRAGMENT true true fal
 ifragment_masks_are_ifragment_set = masks_with_flags_are_set_with_flags FRAGMENT fragment_set true false
     fragment_masks_are_fragment_set
 
--- sets: what a set of characters alone allows passes the test of these
 allowed_character_passes_test : (test : ℕ → Bool) (c : ℕ)
     → allows (characters_only test) c ≡ true → test c ≡ true
 unfolding allows_past_ascii

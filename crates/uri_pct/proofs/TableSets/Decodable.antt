@@ -3,7 +3,6 @@ use Rattle.uri_pct.proofs.Common.{◌≡◌, ℕ, ◌<◌, false, sym, ap, ◌�
 use Rattle.uri_pct.proofs.ValidTexts.Allowed.{allowed_past_ascii_is_scalar}
 use Rattle.uri_pct.proofs.TableSets.Constants.{set_of_characters, unreserved_masks_are_unreserved_set, past_ascii_is_not_unreserved}
 
--- sets: an ASCII character is not allowed as one past ASCII
 ascii_is_not_allowed_past_ascii : (set : TableSet) (c : ℕ) → c < 128 → allows_past_ascii set c
     ≡ false
 ascii_is_not_allowed_past_ascii set c below = false_from_ne_true _

@@ -10,7 +10,6 @@ record FirstChar (text : List ℕ) : Type 0 where
   scalar : IsScalar code
   joined : text ≡ encode_utf8 code ++ suffix
 
--- tables, lead bytes: the empty text has no first byte
 empty_text_has_no_first_byte : (text : List ℕ) → [] ≡ text → 0 < length text → ⊥
 empty_text_has_no_first_byte text e h = let n = ap length e in omega arith
 
@@ -30,35 +29,28 @@ abbrev lead_byte : ℕ → ℕ
 lead_byte c = cond (ltb c 128) c
     (cond (ltb c 2048) (192 + c / 64) (cond (ltb c 65536) (224 + c / 4096) (240 + c / 262144)))
 
--- tables, lead bytes: the first byte of a character before others is its lead byte
 first_byte_of_char_is_lead_byte : (c : ℕ) (rest : List ℕ) → get_or (encode_utf8 c ++ rest) 0 0
     ≡ lead_byte c
 unfolding encode_utf8
 first_byte_of_char_is_lead_byte c rest = grind (arith, nat_tests)
 
--- tables, lead bytes: a lead byte past ASCII begins a character past ASCII
 lead_byte_past_ascii_is_char_past_ascii : (c : ℕ) → 128 ≤ lead_byte c → 128 ≤ c
 lead_byte_past_ascii_is_char_past_ascii c h = grind (arith, nat_tests)
 
--- tables, lead bytes: a lead byte from E0 (224) begins a character from U+0800 (2048)
 lead_byte_from_224_is_char_from_2048 : (c : ℕ) → 224 ≤ lead_byte c → 2048 ≤ c
 lead_byte_from_224_is_char_from_2048 c h = grind (arith, nat_tests)
 
--- tables, lead bytes: a lead byte past ASCII is C2 (194) at least
 lead_byte_past_ascii_is_at_least_c2 : (c : ℕ) → 128 ≤ lead_byte c → 194 ≤ lead_byte c
 lead_byte_past_ascii_is_at_least_c2 c h = grind (arith, nat_tests)
 
--- tables, lead bytes: the byte continues a character
 abbrev IsContinuationByte : ℕ → Type 0
 IsContinuationByte b = (128 ≤ b) × (b < 192)
 
--- tables, lead bytes: the second byte of a character past ASCII continues it
 second_byte_of_char_continues : (c : ℕ) (rest : List ℕ) → 128 ≤ c
     → IsContinuationByte (get_or (encode_utf8 c ++ rest) 1 0)
 unfolding encode_utf8
 second_byte_of_char_continues c rest past = (grind (arith, nat_tests), grind (arith, nat_tests))
 
--- tables, lead bytes: the third byte of a character from U+0800 (2048) continues it
 third_byte_of_char_continues : (c : ℕ) (rest : List ℕ) → 2048 ≤ c
     → IsContinuationByte (get_or (encode_utf8 c ++ rest) 2 0)
 unfolding encode_utf8
@@ -112,13 +104,11 @@ unfolding allows_past_ascii
 char_with_length_by_lead_is_allowed set c n flag told = or_left _ _
     (and_from _ _ flag (char_from_a0_to_d7ff_is_ucschar c told.from told.to))
 
--- tables, lead bytes: a byte in the range C3 to ED is from 195 to 237
 pub byte_in_lead_range_is_c3_to_ed : (b : ℕ) → is_in_range 0xC3 0xED b ≡ true → (195 ≤ b)
     × (b ≤ 237)
 byte_in_lead_range_is_c3_to_ed b e = let p =
     and_parts _ _ e in (leb-true 195 b p.0, leb-true b 237 p.1)
 
--- tables, lead bytes: a scan passes an allowed character past ASCII, of n bytes at i
 pub scan_passes_char : (set : TableSet) (bs rest : List ℕ) (i c n : ℕ) → IsUtf8 bs
     → IsCharBoundary bs i → i < length bs → 128 ≤ get_or bs i 0 → drop i bs ≡ encode_utf8 c ++ rest
     → allows_past_ascii set c ≡ true → len_utf8 c ≡ n → (valid_prefix set (drop i bs)
@@ -133,7 +123,6 @@ scan_passes_char set bs rest i c n u here inside past joined allowed size =
       IsCharBoundary-past_char bs rest i c (omega arith) (IsUtf8-drop bs i u here) joined,
     )
 
--- tables, lead bytes: where a character begins at i, the byte there is its lead byte
 byte_at_char_is_its_lead_byte : (bs rest : List ℕ) (i c : ℕ) → drop i bs ≡ encode_utf8 c ++ rest
     → get_or bs i 0 ≡ lead_byte c
 byte_at_char_is_its_lead_byte bs rest i c joined =

@@ -7,7 +7,6 @@ pub has_bit_below_64_is_bit_of_low : (low high c : ℕ) → c < 64 → has_bit l
 unfolding has_bit
 has_bit_below_64_is_bit_of_low low high c h = cond-true _ _ _ (lt-ltb c 64 h)
 
--- tables: a character from 64 to 127 is a bit of the high word
 pub has_bit_from_64_is_bit_of_high : (low high c : ℕ) → 64 ≤ c → c < 128
     → has_bit low high c ≡ eqb (bit_at high (c - 64)) 1
 unfolding has_bit
@@ -24,7 +23,6 @@ has_bit_past_ascii_is_false low high c h = cond-false _ _ _ (le-ltb c 64 (omega 
 pub has_bit-only-ascii : (low high c : ℕ) → has_bit low high c ≡ true → c < 128
 has_bit-only-ascii low high c e = grind (arith, nat_tests, has_bit_past_ascii_is_false)
 
--- tables: the bit of `%` (37) is in the low word
 pub has_bit_of_percent_is_bit_of_low : (low high : ℕ) → has_bit low high 37 ≡ eqb (bit_at low 37) 1
 unfolding has_bit
 has_bit_of_percent_is_bit_of_low low high = refl
@@ -145,7 +143,6 @@ has_bit_of_mask_difference_is_and_not low high low' high' c fits fits' = grind (
   has_bit_past_ascii_is_false,
 )
 
--- bits, for tables: the bits of a word after its bit k is set
 bit_after_one_bit_is_set : (n k i : ℕ) → k < 64
     → eqb (bit_at (bit_or n (1 * 2 ^ k % 2 ^ 64)) i) 1 ≡ (eqb (bit_at n i) 1 || eqb k i)
 bit_after_one_bit_is_set n k i within =
@@ -189,7 +186,6 @@ has_bit-zero-masks = has_bit_is_test_if_words_agree 0 0 (λ c. false)
     (λ c h. zero_word_has_no_bit 0 c refl)
     (λ c h k. zero_word_has_no_bit 0 (c - 64) refl) (λ c h. refl)
 
--- bits, for tables: one that is not 1 is 0
 pub bit_that_is_not_one_is_zero : (n i : ℕ) → eqb (bit_at n i) 1 ≡ false → bit_at n i ≡ 0
 bit_that_is_not_one_is_zero n i e = grind (arith, nat_tests, bit_at-lt)
 
@@ -199,21 +195,17 @@ number_without_set_bits_is_zero : (n : ℕ) → n < 2 ^ 64
 number_without_set_bits_is_zero n fits none = same_from_bits_below 64 n 0 fits
     (omega arith) (λ i h. bit_that_is_not_one_is_zero n i (none i h) ∙ sym (bit_at-zero i))
 
--- tables: a low word without characters is 0
 pub low_mask_without_bits_is_zero : (low high : ℕ) → low < 2 ^ 64
     → ((c : ℕ) → has_bit low high c ≡ false) → low ≡ 0
 low_mask_without_bits_is_zero low high fits none = number_without_set_bits_is_zero low fits
     (λ i h. sym (has_bit_below_64_is_bit_of_low low high i h) ∙ none i)
 
--- tables: a high word without characters is 0
 pub high_mask_without_bits_is_zero : (low high : ℕ) → high < 2 ^ 64
     → ((c : ℕ) → has_bit low high c ≡ false) → high ≡ 0
 high_mask_without_bits_is_zero low high fits none = number_without_set_bits_is_zero high fits
     (λ i h. ap (λ j. eqb (bit_at high j) 1) (omega arith) ∙ sym
     (has_bit_from_64_is_bit_of_high low high (i + 64) (omega arith) (omega arith)) ∙ none (i + 64))
 
--- tables: two words that agree with a test below 128 are the test,
--- where that is false from there on
 pub has_bit-by-agreement : (low high : ℕ) (test : ℕ → Bool)
     → agree_below (has_bit low high) test 128 ≡ true
     → ((c : ℕ) → 128 ≤ c → test c ≡ false) → (c : ℕ) → has_bit low high c ≡ test c

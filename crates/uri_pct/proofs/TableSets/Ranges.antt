@@ -2,11 +2,9 @@
 -- to 13, and above.
 use Rattle.uri_pct.proofs.Common.{◌≡◌, ℕ, zero, suc, ◌+◌, ◌*◌, ◌%◌, ◌<◌, ◌≤◌, Bool, false, leb, refl, ap, ◌∙◌, arith, ◌||◌, ⊎_elim, is_in_range, or-false, cases_lt, and_left, and_right, or_from, lt-leb, nat_tests, is_ucschar, is_iprivate}
 
--- sets, for `ucschar` and `iprivate`: a character below a range is not in it
 char_below_range_is_not_in_it : (low high c : ℕ) → c < low → is_in_range low high c ≡ false
 char_below_range_is_not_in_it low high c h = and_left (leb low c) (leb c high) (lt-leb low c h)
 
--- sets, for `ucschar` and `iprivate`: a character above a range is not in it
 char_above_range_is_not_in_it : (low high c : ℕ) → high < c → is_in_range low high c ≡ false
 char_above_range_is_not_in_it low high c h = and_right (leb low c) (leb c high) (lt-leb c high h)
 
@@ -34,12 +32,10 @@ in_planes_above_last_plane_is_false (suc n) c h =
     (in_planes_above_last_plane_is_false n c (omega arith))
     (char_above_range_is_not_in_it (65536 * (n + 1)) (65536 * (n + 1) + 65533) c (omega arith))
 
--- sets, for `ucschar`: the range of a plane n lacks its last two characters only
 range_of_plane_lacks_only_last_two : (n c : ℕ) → 65536 * n ≤ c → c < 65536 * n + 65536
     → is_in_range (65536 * n) (65536 * n + 65533) c ≡ leb (c % 65536) 65533
 range_of_plane_lacks_only_last_two n c from below = grind (arith, nat_tests)
 
--- sets, for `ucschar`: the ranges of planes 1 to n lack the last two characters of each only
 planes_lack_only_last_two_of_each : (n c : ℕ) → 65536 ≤ c → c < 65536 * (n + 1)
     → in_planes false n c ≡ leb (c % 65536) 65533
 unfolding in_planes
@@ -58,7 +54,6 @@ abbrev pub is_low_ucschar : ℕ → Bool
 is_low_ucschar c = is_in_range 0xA0 0xD7FF c || is_in_range 0xF900 0xFDCF c
     || is_in_range 0xFDF0 0xFFEF c
 
--- sets: `ucschar` is a part of planes 0 to 13, and a range in plane 14
 ucschar_is_planes_0_to_13_and_range_in_14 : (c : ℕ)
     → is_ucschar c ≡ (in_planes (is_low_ucschar c) 13 c || is_in_range 0xE1000 0xEFFFD c)
 unfolding is_ucschar in_planes
@@ -75,13 +70,11 @@ ucschar_below_plane_1_is_low_ucschar c h = ucschar_is_planes_0_to_13_and_range_i
 no_low_ucschar_from_plane_1 : (c : ℕ) → 65536 ≤ c → is_low_ucschar c ≡ false
 no_low_ucschar_from_plane_1 c h = grind (arith, nat_tests)
 
--- sets: from U+10000 on, `ucschar` is a part of planes 1 to 13, and a range in plane 14
 ucschar_from_plane_1_is_by_planes : (c : ℕ) → 65536 ≤ c
     → is_ucschar c ≡ (in_planes false 13 c || is_in_range 0xE1000 0xEFFFD c)
 ucschar_from_plane_1_is_by_planes c h = ucschar_is_planes_0_to_13_and_range_in_14 c
     ∙ ap (λ b. in_planes b 13 c || is_in_range 0xE1000 0xEFFFD c) (no_low_ucschar_from_plane_1 c h)
 
--- sets: in the planes 1 to 13 `ucschar` has all characters but the last two of each
 pub ucschar_of_planes_1_to_13_lacks_last_two : (c : ℕ) → 65536 ≤ c → c < 0xE0000 → is_ucschar c
     ≡ leb (c % 65536) 65533
 ucschar_of_planes_1_to_13_lacks_last_two c from below = ucschar_from_plane_1_is_by_planes c from
@@ -89,7 +82,6 @@ ucschar_of_planes_1_to_13_lacks_last_two c from below = ucschar_from_plane_1_is_
     (omega arith))
     ∙ or-false (in_planes false 13 c) ∙ planes_lack_only_last_two_of_each 13 c from below
 
--- sets: from plane 14 on `ucschar` has U+E1000 to U+EFFFD
 pub ucschar_from_plane_14_is_one_range : (c : ℕ) → 0xE0000 ≤ c → is_ucschar c
     ≡ is_in_range 0xE1000 0xEFFFD c
 ucschar_from_plane_14_is_one_range c h = ucschar_from_plane_1_is_by_planes c (omega arith)

@@ -84,7 +84,6 @@ empty_set_has_clear_masks low high pct_encoded ucschar iprivate fits fits' e =
     let none : (c : ℕ) → has_bit low high c ≡ false = λ c. ap (λ (r : TableSet). r.ascii c) e in
     grind (arith, nat_tests, low_mask_without_bits_is_zero, high_mask_without_bits_is_zero)
 
--- general fact on lists of bytes, for tables: a byte that equals none of a list is not one of it
 pub byte_unlike_all_is_not_one_of_them : (bytes : List ℕ) (c : ℕ) → All (λ b. b ≡ c → ⊥) bytes
     → is_one_of bytes c ≡ false
 byte_unlike_all_is_not_one_of_them bytes c h = list_any_none (λ x. eqb x c) bytes

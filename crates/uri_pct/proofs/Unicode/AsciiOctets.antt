@@ -14,13 +14,10 @@ cut_before_ascii_divides_no_piece : (run : List ℕ) (b : ℕ) → b < 128 → C
 cut_before_ascii_divides_no_piece run b small suffix = utf8_pieces_are_cut_at_non_continuation run
     (b ∷ suffix) (byte_below_80_or_from_c0_is_no_continuation b (inl small))
 
--- UTF-8: an ASCII byte at the end is a piece
 cut_after_ascii_divides_no_piece : (b : ℕ) → b < 128 → CutsNoPiece (b ∷ []) []
 cut_after_ascii_divides_no_piece b small suffix = utf8_pieces_are_cut_after_text (b ∷ []) suffix
     (ascii_byte_is_utf8 b small)
 
--- UTF-8 of decoded octets: an octet of ASCII ends the run
--- of octets before it, and its part is separate
 pub parts_from-ascii-octet : (run : List ℕ) (b : ℕ) (suffix : List Chunk) → b < 128
     → parts_from run (Byte b ∷ suffix)
     ≡ map Decoded (utf8_pieces run) ++ (map Decoded (utf8_pieces (b ∷ [])) ++ parts_from [] suffix)
@@ -30,14 +27,12 @@ parts_from-ascii-octet run b suffix small = parts_from_are_cut_where_pieces_are 
     ∙ ap (λ ps. map Decoded (utf8_pieces run) ++ ps) (parts_from_are_cut_where_pieces_are (b
     ∷ []) [] [] suffix (cut_after_ascii_divides_no_piece b small))
 
--- UTF-8 of decoded octets: a prefix of bytes past ASCII is past ASCII
 pub prefix_of_past_ascii_is_past_ascii : (prefix end bytes : List ℕ) → bytes ≡ prefix ++ end
     → ArePastAscii bytes → ArePastAscii prefix
 prefix_of_past_ascii_is_past_ascii prefix end bytes same past = All-same (λ b. 128 ≤ b) _ _
     (sym (ap (take (length prefix)) same ∙ take-append_seam prefix end))
     (All-take (λ b. 128 ≤ b) (length prefix) bytes past)
 
--- UTF-8 of decoded octets: in bytes past ASCII, each suffix is past ASCII
 pub suffix_of_past_ascii_is_past_ascii : (prefix end bytes : List ℕ) → bytes ≡ prefix ++ end
     → ArePastAscii bytes → ArePastAscii end
 suffix_of_past_ascii_is_past_ascii prefix end bytes same past = All-same (λ b. 128 ≤ b) _ _

@@ -16,7 +16,6 @@ utf8_of_char_of_three_bytes : (c : ℕ) → 0x800 ≤ c → c < 0x10000
 unfolding encode_utf8
 utf8_of_char_of_three_bytes c low high = grind (arith, nat_tests)
 
--- UTF-8: the bytes of a character from U+10000 on
 utf8_of_char_of_four_bytes : (c : ℕ) → 0x10000 ≤ c → encode_utf8 c
     ≡ (240 + c / 262144) ∷ (128 + c / 4096 % 64) ∷ (128 + c / 64 % 64) ∷ (128 + c % 64) ∷ []
 unfolding encode_utf8
@@ -27,19 +26,16 @@ abbrev BeginsPiece : ℕ → List ℕ → Type 0
 BeginsPiece c rest = utf8_pieces (encode_utf8 c ++ rest)
     ≡ WellFormed (encode_utf8 c) ∷ utf8_pieces rest
 
--- UTF-8: an ASCII character is a piece
 ascii_char_begins_piece : (c : ℕ) (rest : List ℕ) → c < 0x80 → BeginsPiece c rest
 ascii_char_begins_piece c rest high = rw (encode_ascii c high)
     (fitting_bytes_are_well_formed_first_piece c [] [] rest (no_range_follows_ascii_byte c high) tt)
 
--- UTF-8: a character of two bytes is a piece
 char_of_two_bytes_begins_piece : (c : ℕ) (rest : List ℕ) → 0x80 ≤ c → c < 0x800 → BeginsPiece c rest
 char_of_two_bytes_begins_piece c rest low high = rw (utf8_of_char_of_two_bytes c low high)
     (fitting_bytes_are_well_formed_first_piece (192 + c / 64) (continuation ∷ [])
     ((128 + c % 64) ∷ []) rest
     (following_ranges_of_c2_to_df _ (omega arith) (omega arith)) ((omega arith, omega arith), tt))
 
--- UTF-8: a character of three bytes is a piece, if the second byte fits the row of the first
 char_of_three_bytes_begins_piece : (c : ℕ) (rest : List ℕ) (second : ByteRange) → 0x800 ≤ c
     → c < 0x10000 → following_ranges (224 + c / 4096) ≡ Some (second ∷ continuation ∷ [])
     → second.0 ≤ 128 + c / 64 % 64 → 128 + c / 64 % 64 ≤ second.1 → BeginsPiece c rest
@@ -48,7 +44,6 @@ char_of_three_bytes_begins_piece c rest second low high row from byte_within_bou
     (224 + c / 4096) (second ∷ continuation ∷ []) ((128 + c / 64 % 64) ∷ (128 + c % 64) ∷ [])
     rest row ((from, byte_within_bounds), ((omega arith, omega arith), tt)))
 
--- UTF-8: a character of four bytes is a piece, if the second byte fits the row of the first
 char_of_four_bytes_begins_piece : (c : ℕ) (rest : List ℕ) (second : ByteRange) → 0x10000 ≤ c
     → following_ranges (240 + c / 262144) ≡ Some (second ∷ continuation ∷ continuation ∷ [])
     → second.0 ≤ 128 + c / 4096 % 64 → 128 + c / 4096 % 64 ≤ second.1 → BeginsPiece c rest
@@ -58,7 +53,6 @@ char_of_four_bytes_begins_piece c rest second low row from byte_within_bounds = 
     ((128 + c / 4096 % 64) ∷ (128 + c / 64 % 64) ∷ (128 + c % 64) ∷ []) rest row
     ((from, byte_within_bounds), ((omega arith, omega arith), ((omega arith, omega arith), tt))))
 
--- UTF-8: a character below the surrogates is a piece
 char_below_surrogates_begins_piece : (c : ℕ) (rest : List ℕ) → c < 0xD800 → BeginsPiece c rest
 char_below_surrogates_begins_piece c rest high = ⊎_elim (λ h. ascii_char_begins_piece c rest h)
     (λ l1. ⊎_elim (λ h. char_of_two_bytes_begins_piece c rest l1 h)
@@ -70,7 +64,6 @@ char_below_surrogates_begins_piece c rest high = ⊎_elim (λ h. ascii_char_begi
     (following_ranges_of_ed _ (omega arith)) (omega arith) (omega arith)) (cases_lt c 0xD000))
     (cases_lt c 0x1000)) (cases_lt c 0x800)) (cases_lt c 0x80)
 
--- UTF-8: a character above the surrogates is a piece
 char_above_surrogates_begins_piece : (c : ℕ) (rest : List ℕ) → 0xE000 ≤ c → c < 0x110000
     → BeginsPiece c rest
 char_above_surrogates_begins_piece c rest low high = ⊎_elim
@@ -96,7 +89,6 @@ pub byte_below_80_or_from_c0_is_no_continuation : (b : ℕ) → (b < 0x80) ⊎ (
 byte_below_80_or_from_c0_is_no_continuation b h = ⊎_elim (λ low. and_left _ _ (lt-leb 0x80 b low))
     (λ high. and_right _ _ (lt-leb b 0xBF (omega arith))) h
 
--- UTF-8: the bytes of a character do not begin with one that continues a character
 char_begins_with_no_continuation : (c : ℕ) (rest : List ℕ)
     → begins_with_continuation (encode_utf8 c ++ rest) ≡ false
 char_begins_with_no_continuation c rest =
@@ -108,7 +100,6 @@ char_begins_with_no_continuation c rest =
     (λ l3. rw (utf8_of_char_of_four_bytes c l3) (byte_below_80_or_from_c0_is_no_continuation (240
     + c / 262144) (inr (omega arith)))) (cases_lt c 0x10000)) (cases_lt c 0x800)) (cases_lt c 0x80)
 
--- UTF-8: a character separates the pieces before it from those after it
 pub char_separates_utf8_pieces : (xs : List ℕ) (c : ℕ) (ys : List ℕ) → IsScalar c → utf8_pieces (xs
     ++ (encode_utf8 c ++ ys)) ≡ utf8_pieces xs ++ WellFormed (encode_utf8 c) ∷ utf8_pieces ys
 char_separates_utf8_pieces xs c ys scalar = utf8_pieces_are_cut_at_non_continuation xs
@@ -129,7 +120,6 @@ found_row_has_property_of_all_rows b P (row ∷ rows) none all = ⊎_elim
 abbrev AreUtf8OfCharacter : List ℕ → Type 0
 AreUtf8OfCharacter bytes = (c : ℕ) × IsScalar c × (encode_utf8 c ≡ bytes)
 
--- UTF-8: if bytes fit all ranges, the first byte is in the first range and the others fit the rest
 first_byte_fits_first_range : (range : ByteRange) (ranges : List ByteRange) (text : List ℕ)
     → len_in_ranges (range ∷ ranges) text ≡ suc (length ranges) → (b : ℕ) × (rest : List ℕ) × (text
     ≡ b ∷ rest) × (range.0 ≤ b) × (b ≤ range.1) × (len_in_ranges ranges rest ≡ length ranges)
@@ -141,7 +131,6 @@ first_byte_fits_first_range range ranges (b ∷ rest) e = ⊎_elim
     (λ f. let s : 0 ≡ suc (length ranges) = sym (cond-false _ _ _ f) ∙ e in absurd (omega arith))
     (cases_Bool (is_in_byte_range range b))
 
--- UTF-8: a byte in a range is between its bounds
 byte_within_bounds : (b low high : ℕ) → is_in_byte_range (low, high) b ≡ true → (low ≤ b)
     × (b ≤ high)
 byte_within_bounds b low high e = let p = and_parts (leb low b) (leb b high) e in
@@ -152,7 +141,6 @@ abbrev FormsCharacters : ℕ → Option (List ByteRange) → Type 0
 FormsCharacters b row = (rest bytes : List ℕ) → first_piece row b rest ≡ WellFormed bytes
     → AreUtf8OfCharacter bytes
 
--- UTF-8: the bytes after the first of a well-formed piece fit all ranges that may follow it
 well_formed_piece_fits_all_ranges : (b : ℕ) (ranges : List ByteRange) (rest bytes : List ℕ)
     → first_piece (Some ranges) b rest ≡ WellFormed bytes
     → (len_in_ranges ranges rest ≡ length ranges) × (bytes ≡ b ∷ take (length ranges) rest)
@@ -161,7 +149,6 @@ well_formed_piece_fits_all_ranges b ranges rest bytes e = ⊎_elim
     ≡ WellFormed bytes = sym (cond-false _ _ _ f) ∙ e in cc)
     (cases_Bool (eqb (len_in_ranges ranges rest) (length ranges)))
 
--- UTF-8: pieces of one byte are characters
 pieces_of_one_byte_are_characters : (b : ℕ) → b ≤ 0x7F → FormsCharacters b (Some [])
 pieces_of_one_byte_are_characters b high rest bytes e =
     let ascii : b < 0x80 = omega arith in (
@@ -174,26 +161,22 @@ pieces_of_one_byte_are_characters b high rest bytes e =
 char_above_surrogates_is_scalar : (c : ℕ) → 0xE000 ≤ c → c < 0x110000 → IsScalar c
 char_above_surrogates_is_scalar c low high = grind (arith, nat_tests)
 
--- UTF-8: two bytes b, t are the character of their value c
 two_bytes_are_utf8_of_their_value : (b t c : ℕ) → c + 12416 ≡ b * 64 + t → 0xC2 ≤ b → b ≤ 0xDF
     → 0x80 ≤ t → t ≤ 0xBF → encode_utf8 c ≡ b ∷ t ∷ []
 two_bytes_are_utf8_of_their_value b t c e l h l1 h1 =
     grind (arith, nat_tests, utf8_of_char_of_two_bytes)
 
--- UTF-8: three bytes b, t, u are the character of their value c
 three_bytes_are_utf8_of_their_value : (b t u c : ℕ) → c + 925824 ≡ (b * 64 + t) * 64 + u → 0x800 ≤ c
     → c < 0x10000 → 0x80 ≤ t → t ≤ 0xBF → 0x80 ≤ u → u ≤ 0xBF → encode_utf8 c ≡ b ∷ t ∷ u ∷ []
 three_bytes_are_utf8_of_their_value b t u c e l h l1 h1 l2 h2 =
     grind (arith, nat_tests, utf8_of_char_of_three_bytes)
 
--- UTF-8: four bytes b, t, u, v are the character of their value c
 four_bytes_are_utf8_of_their_value : (b t u v c : ℕ)
     → c + 63447168 ≡ ((b * 64 + t) * 64 + u) * 64 + v → 0x10000 ≤ c → 0x80 ≤ t
     → t ≤ 0xBF → 0x80 ≤ u → u ≤ 0xBF → 0x80 ≤ v → v ≤ 0xBF → encode_utf8 c ≡ b ∷ t ∷ u ∷ v ∷ []
 four_bytes_are_utf8_of_their_value b t u v c e l l1 h1 l2 h2 l3 h3 =
     grind (arith, nat_tests, utf8_of_char_of_four_bytes)
 
--- UTF-8: pieces of two bytes are characters
 pieces_of_two_bytes_are_characters : (b : ℕ) → 0xC2 ≤ b → b ≤ 0xDF
     → FormsCharacters b (Some (continuation ∷ []))
 pieces_of_two_bytes_are_characters b low high rest bytes e =
@@ -206,7 +189,6 @@ pieces_of_two_bytes_are_characters b low high rest bytes e =
       two_bytes_are_utf8_of_their_value b f.0 c (omega arith) low high f.3 f.4 ∙ sym whole,
     )
 
--- UTF-8: pieces of three bytes are characters, if the range of the second allows no other number
 pieces_of_three_bytes_are_characters : (b : ℕ) (second : ByteRange) → 0xE0 ≤ b → 0x80 ≤ second.0
     → second.1 ≤ 0xBF → ((c t : ℕ) → second.0 ≤ t → t ≤ second.1 → (b * 64 + t) * 64 ≤ c + 925696
     → c + 925696 < (b * 64 + t) * 64 + 64 → (0x800 ≤ c) × (c < 0x10000) × IsScalar c)
@@ -226,7 +208,6 @@ pieces_of_three_bytes_are_characters b second low least most fair rest bytes e =
           b f.0 g.0 c joined h.0 h.1 (omega arith) (omega arith) g.3 g.4 ∙ sym whole,
     )
 
--- UTF-8: pieces of four bytes are characters, if the range of the second allows no other number
 pieces_of_four_bytes_are_characters : (b : ℕ) (second : ByteRange) → 0xF0 ≤ b → 0x80 ≤ second.0
     → second.1 ≤ 0xBF → ((c t : ℕ) → second.0 ≤ t → t ≤ second.1 → (b * 64 + t) * 4096
     ≤ c + 63438848 → c + 63438848 < (b * 64 + t) * 4096 + 4096 → (0x10000 ≤ c) × (c < 0x110000))
@@ -248,7 +229,6 @@ pieces_of_four_bytes_are_characters b second low least most fair rest bytes e =
           (omega arith) g.3 g.4 k.3 k.4 ∙ sym whole,
     )
 
--- UTF-8: each well-formed piece is the bytes of a character, row by row of the table
 well_formed_pieces_are_characters : (b : ℕ) → FormsCharacters b (following_ranges b)
 unfolding following_ranges
 well_formed_pieces_are_characters b = found_row_has_property_of_all_rows b
@@ -308,7 +288,6 @@ char_of_utf8_is_the_char c scalar =
     ap (λ cs. slice_index cs 0) (ap chars (sym (append-nil (encode_utf8 c)))
     ∙ chars-encodes (c ∷ []) scalars)
 
--- UTF-8: a piece that is the bytes of a character is of a character
 piece_of_utf8_char_is_of_character : (bytes : List ℕ) → AreUtf8OfCharacter bytes
     → IsOfCharacter (WellFormed bytes)
 piece_of_utf8_char_is_of_character bytes a =
@@ -322,7 +301,6 @@ first_piece_is_of_character b rest (WellFormed bytes) e = piece_of_utf8_char_is_
     (well_formed_pieces_are_characters b rest bytes e)
 first_piece_is_of_character b rest (IllFormed bytes) e = tt
 
--- UTF-8: after k bytes that are skipped, each piece is a character or ill-formed
 pieces_after_skipped_bytes_are_of_characters : (k : ℕ) (bytes : List ℕ)
     → AllByRecursion IsOfCharacter (pieces_from k bytes)
 unfolding pieces_from

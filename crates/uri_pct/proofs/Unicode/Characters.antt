@@ -26,15 +26,12 @@ lead_from_224_has_two_continuations b h l = grind (arith, nat_tests)
 lead_from_240_has_three_continuations : (b : ℕ) → 240 ≤ b → continuation_len b ≡ 3
 lead_from_240_has_three_continuations b h = grind (arith, nat_tests)
 
--- UTF-8: a byte from 128 on is not ASCII
 byte_from_128_is_no_ascii : (n : ℕ) → is_no_ascii_byte (128 + n) ≡ true
 byte_from_128_is_no_ascii n = grind (arith, nat_tests)
 
--- UTF-8: one byte from 128 on is not ASCII
 one_byte_from_128_is_no_ascii : (x : ℕ) → list_all is_no_ascii_byte ((128 + x) ∷ []) ≡ true
 one_byte_from_128_is_no_ascii x = and_from _ _ (byte_from_128_is_no_ascii x) refl
 
--- UTF-8: two bytes from 128 on are not ASCII
 two_bytes_from_128_are_no_ascii : (x y : ℕ) → list_all is_no_ascii_byte ((128 + x) ∷ (128 + y) ∷ [])
     ≡ true
 two_bytes_from_128_are_no_ascii x y = and_from _ _ (byte_from_128_is_no_ascii x)
@@ -79,7 +76,6 @@ pub char_past_ascii_begins_past_ascii : (c : ℕ) (rest : List ℕ) → 128 ≤ 
 unfolding encode_utf8
 char_past_ascii_begins_past_ascii c rest h = grind (arith, nat_tests)
 
--- UTF-8: the first character of encoded ones is the first that was encoded
 pub first_of_encoded_chars_is_first_char : (c : ℕ) (cs : List ℕ) → all_scalars (c ∷ cs) ≡ true
     → first_char (encode_utf8_all (c ∷ cs)) ≡ c
 unfolding first_char
@@ -89,7 +85,6 @@ first_of_encoded_chars_is_first_char c cs e = ap (λ xs. slice_index xs 0) (char
 pub hexdigit_is_ascii : (b : ℕ) → is_ascii_hexdigit b ≡ true → b < 128
 hexdigit_is_ascii b e = grind (arith, nat_tests)
 
--- UTF-8: the first byte of characters is a hexadecimal digit exactly if the first character is
 first_byte_is_hexdigit_iff_first_char_is : (cs : List ℕ)
     → is_ascii_hexdigit (get_or (encode_utf8_all cs) 0 0) ≡ is_ascii_hexdigit (get_or cs 0 0)
 first_byte_is_hexdigit_iff_first_char_is [] = refl

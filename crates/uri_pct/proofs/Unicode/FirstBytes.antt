@@ -9,7 +9,6 @@ FitRanges [] (b ∷ rest) = ⊥
 FitRanges (range ∷ ranges) [] = ⊥
 FitRanges (range ∷ ranges) (b ∷ rest) = ((range.0 ≤ b) × (b ≤ range.1)) × FitRanges ranges rest
 
--- UTF-8: bytes that fit ranges are as many as these
 fitting_bytes_are_as_many_as_ranges : (ranges : List ByteRange) (tail : List ℕ)
     → FitRanges ranges tail → length tail ≡ length ranges
 fitting_bytes_are_as_many_as_ranges [] [] fits = refl
@@ -18,7 +17,6 @@ fitting_bytes_are_as_many_as_ranges (range ∷ ranges) [] fits = absurd fits
 fitting_bytes_are_as_many_as_ranges (range ∷ ranges) (b ∷ tail) fits = ap suc
     (fitting_bytes_are_as_many_as_ranges ranges tail fits.1)
 
--- UTF-8: a byte between the bounds of a range is in it
 byte_between_bounds_is_in_range : (range : ByteRange) (b : ℕ) → range.0 ≤ b → b ≤ range.1
     → is_in_byte_range range b ≡ true
 byte_between_bounds_is_in_range range b low high = and_from _ _ (le-leb range.0 b low)
@@ -33,7 +31,6 @@ fitting_bytes_reach_all_ranges (range ∷ ranges) (b ∷ tail) rest fits =
     cond-true _ _ _ (byte_between_bounds_is_in_range range b fits.0.0 fits.0.1)
     ∙ ap suc (fitting_bytes_reach_all_ranges ranges tail rest fits.1)
 
--- UTF-8: a first byte and the bytes that fit its row are the first piece, a well-formed one
 pub fitting_bytes_are_well_formed_first_piece : (b : ℕ) (ranges : List ByteRange)
     (tail rest : List ℕ) → following_ranges b ≡ Some ranges → FitRanges ranges tail
     → utf8_pieces ((b ∷ tail) ++ rest) ≡ WellFormed (b ∷ tail) ∷ utf8_pieces rest
@@ -48,7 +45,6 @@ fitting_bytes_are_well_formed_first_piece b ranges tail rest row fits = grind (
   drop_at,
 )
 
--- UTF-8: an ASCII byte is a character, and no byte follows it
 pub no_range_follows_ascii_byte : (b : ℕ) → b < 0x80 → following_ranges b ≡ Some []
 unfolding following_ranges
 no_range_follows_ascii_byte b high = grind (arith, nat_tests)

@@ -35,7 +35,6 @@ len_in_ranges_is_at_most_range_count (range ∷ ranges) [] = omega arith
 len_in_ranges_is_at_most_range_count (range ∷ ranges) (b ∷ rest) =
     grind (arith, nat_tests, len_in_ranges_is_at_most_range_count ranges rest)
 
--- UTF-8: if bytes do not fit all ranges, no more of them fit these and more ranges
 longer_row_fits_no_more_bytes : (ranges more : List ByteRange) (text : List ℕ)
     → len_in_ranges ranges text < length ranges → len_in_ranges (ranges ++ more) text
     ≡ len_in_ranges ranges text
@@ -47,7 +46,6 @@ longer_row_fits_no_more_bytes (range ∷ ranges) more (b ∷ rest) h = ⊎_elim
     rw e (ap suc (longer_row_fits_no_more_bytes ranges more rest (omega arith))))
     (λ e. rw e refl) (cases_Bool (is_in_byte_range range b))
 
--- UTF-8: as many bytes fit ranges without the last, if that was not used
 row_without_unused_last_range_fits_as_many : (ranges : List ByteRange)
     (last : ByteRange) (text : List ℕ) → len_in_ranges (ranges ++ last ∷ []) text ≤ length ranges
     → len_in_ranges (ranges ++ last ∷ []) text ≡ len_in_ranges ranges text
@@ -59,7 +57,6 @@ row_without_unused_last_range_fits_as_many (range ∷ ranges) last (b ∷ rest) 
     rw e (ap suc (row_without_unused_last_range_fits_as_many ranges last rest (omega arith))))
     (λ e. rw e refl) (cases_Bool (is_in_byte_range range b))
 
--- UTF-8: the bytes after the first of an ill-formed piece do not fit all ranges that may follow it
 ill_formed_piece_misses_a_range : (b : ℕ) (ranges : List ByteRange) (rest bytes : List ℕ)
     → first_piece (Some ranges) b rest ≡ IllFormed bytes → len_in_ranges ranges rest < length ranges
 ill_formed_piece_misses_a_range b ranges rest bytes e =
@@ -83,7 +80,6 @@ ill_formed_len_is_std_len_without_row : (b : ℕ) → (b < 0xC2) ⊎ (0xF4 < b) 
 ill_formed_len_is_std_len_without_row b other rest bytes e = sym
     (invalid_len_without_lead_is_one b rest other)
 
--- ill-formed UTF-8: an ASCII byte is not ill-formed
 ill_formed_len_is_std_len_of_one_byte_row : (b : ℕ) → HasStdInvalidLen b (Some [])
 ill_formed_len_is_std_len_of_one_byte_row b rest bytes e = absurd
     (omega (arith, ill_formed_piece_misses_a_range b [] rest bytes e))
@@ -126,7 +122,6 @@ pub no_row_past_f4 : (b : ℕ) → 0xF4 < b → following_ranges b ≡ None
 unfolding following_ranges
 no_row_past_f4 b low = grind (arith, nat_tests)
 
--- ill-formed UTF-8: an ill-formed piece is as long as for std, if its first byte is below E1
 ill_formed_len_is_std_len_below_e1 : (b : ℕ) → b < 0xE1 → HasStdInvalidLen b (following_ranges b)
 ill_formed_len_is_std_len_below_e1 b high = ⊎_elim (λ h. subst (HasStdInvalidLen b)
     (sym (no_range_follows_ascii_byte b h)) (ill_formed_len_is_std_len_of_one_byte_row b))
@@ -139,7 +134,6 @@ ill_formed_len_is_std_len_below_e1 b high = ⊎_elim (λ h. subst (HasStdInvalid
     b (0xA0, 0xBF) l2 (omega arith) (grind (arith, nat_tests)) (grind (arith, nat_tests))))
     (cases_lt b 0xE0)) (cases_lt b 0xC2)) (cases_lt b 0x80)
 
--- ill-formed UTF-8: an ill-formed piece is as long as for std, if its first byte is E1 to EF
 ill_formed_len_is_std_len_from_e1_to_ef : (b : ℕ) → 0xE1 ≤ b → b < 0xF0
     → HasStdInvalidLen b (following_ranges b)
 ill_formed_len_is_std_len_from_e1_to_ef b low high =

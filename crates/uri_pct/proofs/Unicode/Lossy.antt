@@ -7,7 +7,6 @@ use Rattle.uri_pct.proofs.Unicode.IllFormedLengths.{ill_formed_len_is_std_len}
 unfoldable pub piece_of_char : ℕ → Piece
 piece_of_char c = WellFormed (encode_utf8 c)
 
--- UTF-8: the pieces of characters come before those of the rest
 pub pieces_of_chars_come_before_the_rest : (cs rest : List ℕ) → all_scalars cs ≡ true
     → utf8_pieces (encode_utf8_all cs ++ rest) ≡ map piece_of_char cs ++ utf8_pieces rest
 unfolding piece_of_char
@@ -18,19 +17,16 @@ pieces_of_chars_come_before_the_rest (c ∷ cs) rest e =
     ∙ first_char_is_first_piece c (encode_utf8_all cs ++ rest) p.0
     ∙ ap (λ ps. piece_of_char c ∷ ps) (pieces_of_chars_come_before_the_rest cs rest p.1)
 
--- UTF-8: each piece that is a character is well-formed
 pieces_of_chars_are_well_formed : (cs : List ℕ) → list_all is_well_formed (map piece_of_char cs)
     ≡ true
 unfolding piece_of_char
 pieces_of_chars_are_well_formed [] = refl
 pieces_of_chars_are_well_formed (c ∷ cs) = pieces_of_chars_are_well_formed cs
 
--- UTF-8: no bytes after pieces add none
 pieces_of_no_bytes_add_nothing : (ps : List Piece) → ps ++ utf8_pieces [] ≡ ps
 unfolding pieces_from
 pieces_of_no_bytes_add_nothing ps = append-nil ps
 
--- UTF-8: the pieces of a text are well-formed
 utf8_has_well_formed_pieces : (bytes : List ℕ) → IsUtf8 bytes
     → list_all is_well_formed (utf8_pieces bytes) ≡ true
 utf8_has_well_formed_pieces bytes u =
@@ -40,7 +36,6 @@ utf8_has_well_formed_pieces bytes u =
     ∙ pieces_of_no_bytes_add_nothing (map piece_of_char u.0) in
     ap (list_all is_well_formed) whole ∙ pieces_of_chars_are_well_formed u.0
 
--- UTF-8: well-formed pieces of characters join to a text
 well_formed_pieces_join_to_utf8 : (ps : List Piece) → All IsOfCharacter ps
     → list_all is_well_formed ps ≡ true → IsUtf8 (bytes_of_pieces ps)
 well_formed_pieces_join_to_utf8 [] h e = IsUtf8-nil
@@ -50,7 +45,6 @@ well_formed_pieces_join_to_utf8 (WellFormed bytes ∷ ps) h e =
     (well_formed_pieces_join_to_utf8 ps (All-tail IsOfCharacter (WellFormed bytes) ps h) e)
 well_formed_pieces_join_to_utf8 (IllFormed bytes ∷ ps) h e = cc
 
--- UTF-8: bytes whose pieces are well-formed are a text
 bytes_with_well_formed_pieces_are_utf8 : (bytes : List ℕ)
     → list_all is_well_formed (utf8_pieces bytes) ≡ true → IsUtf8 bytes
 bytes_with_well_formed_pieces_are_utf8 bytes e = subst IsUtf8
@@ -145,8 +139,6 @@ unfolding pieces_from
 lossy_text_of_ill_formed_piece_is_replacement b rest bytes e =
     grind (arith, nat_tests, pieces_from_are_pieces_after_skipped_bytes)
 
--- lossy UTF-8: the lossy text is that of std
--- after an ill-formed part, if it is for all shorter bytes
 lossy_text_is_utf8_lossy_after_ill_formed : (bs : List ℕ) (b : ℕ) (rest bytes : List ℕ)
     → ¬ (utf8_valid_len bs ≡ length bs) → drop (utf8_valid_len bs) bs ≡ b ∷ rest
     → first_piece (following_ranges b) b rest ≡ IllFormed bytes → ((ys : List ℕ)
@@ -187,7 +179,6 @@ lossy_text_is_utf8_lossy_of_utf8 bs whole =
     ∙ take_all (length bs) bs (omega arith)) (utf8_valid_len_prefix_is_utf8 bs) in
     lossy_text_of_utf8_is_itself bs text ∙ sym (utf8_lossy-IsUtf8 bs text)
 
--- lossy UTF-8: the lossy text is that of std, for bytes of a length below k
 lossy_text_is_utf8_lossy_below_length : (k : ℕ) (bs : List ℕ) → length bs < k → lossy_text bs
     ≡ utf8_lossy bs
 lossy_text_is_utf8_lossy_below_length zero bs h = absurd (omega arith)

@@ -6,7 +6,6 @@ use Rattle.uri_pct.proofs.Unicode.CharacterPieces.{char_separates_utf8_pieces, f
 use Rattle.uri_pct.proofs.Decodings.Decoding.{tokens_after_unencoded_prefix}
 use Rattle.uri_pct.proofs.Unicode.Runs.{no_bytes_have_no_pieces, utf8_pieces_are_cut_after_text}
 
--- UTF-8 of decoded parts: a text that is put before chunks comes before their bytes
 prepended_text_comes_before_chunk_bytes : (text : List ℕ) (ps : List Chunk)
     → flat_map chunk_bytes (prepend_to_chunks text ps) ≡ text ++ flat_map chunk_bytes ps
 unfolding prepend_to_chunks
@@ -15,7 +14,6 @@ prepended_text_comes_before_chunk_bytes text (Text more ∷ ps) = append_assoc t
     (flat_map chunk_bytes ps)
 prepended_text_comes_before_chunk_bytes text (Byte value ∷ ps) = refl
 
--- UTF-8 of decoded parts: the chunks of tokens are joined the bytes that the tokens decode to
 pub chunks_have_bytes_of_their_tokens : (ts : List Token)
     → flat_map chunk_bytes (chunks_of_tokens ts) ≡ bytes_decoded_from ts
 unfolding chunks_of_tokens
@@ -26,11 +24,9 @@ chunks_have_bytes_of_their_tokens (Char c ∷ ts) = prepended_text_comes_before_
 chunks_have_bytes_of_their_tokens (Octet value ∷ ts) = ap (λ x. value ∷ x)
     (chunks_have_bytes_of_their_tokens ts)
 
--- UTF-8 of decoded parts: the bytes that an iterator has left are those that its text decodes to
 pub bytes_left-is-decoded : (d : Decode) → bytes_left d ≡ decoded d
 bytes_left-is-decoded d = chunks_have_bytes_of_their_tokens (tokens (undecoded d))
 
--- UTF-8 of decoded parts: literal characters decode to their UTF-8
 literal_chars_decode_to_their_utf8 : (cs : List ℕ) → bytes_decoded_from (map Char cs)
     ≡ encode_utf8_all cs
 literal_chars_decode_to_their_utf8 [] = refl
@@ -46,7 +42,6 @@ unencoded_text_decodes_to_itself text u e = ap (λ x. bytes_decoded_from (tokens
     ∙ ap bytes_decoded_from (append-nil (map Char (chars text)))
     ∙ literal_chars_decode_to_their_utf8 (chars text) ∙ encodes-chars text u
 
--- UTF-8 of decoded parts: parts that are pieces of decoded bytes have these pieces
 pub decoded_parts_have_their_pieces : (ps : List Piece) → pieces_of_parts (map Decoded ps) ≡ ps
 decoded_parts_have_their_pieces [] = refl
 decoded_parts_have_their_pieces (p ∷ ps) = ap (λ x. p ∷ x) (decoded_parts_have_their_pieces ps)
@@ -77,7 +72,6 @@ pieces_of_run_before_prepended_text run text (Text more ∷ ps) u =
 pieces_of_run_before_prepended_text run text (Byte value ∷ ps) u = pieces_of_run_before_text_chunk
     run text (Byte value ∷ ps)
 
--- UTF-8: the bytes of a character are one well-formed piece
 char_is_one_well_formed_piece : (c : ℕ) → IsScalar c → utf8_pieces (encode_utf8 c)
     ≡ WellFormed (encode_utf8 c) ∷ []
 char_is_one_well_formed_piece c s = ap utf8_pieces (sym (append-nil (encode_utf8 c)))
@@ -88,7 +82,6 @@ char_is_one_well_formed_piece c s = ap utf8_pieces (sym (append-nil (encode_utf8
 pub printable_char_is_scalar : (c : ℕ) → is_printable (Char c) ≡ true → IsScalar c
 printable_char_is_scalar c e = (and_parts _ true (and_parts _ _ e).0).0
 
--- UTF-8 of decoded parts: octets (run) and tokens have the pieces of the bytes that they decode to
 parts_after_run_have_pieces_of_decoded_bytes : (run : List ℕ) (ts : List Token)
     → list_all is_printable ts ≡ true → pieces_of_parts (parts_from run (chunks_of_tokens ts))
     ≡ utf8_pieces (run ++ bytes_decoded_from ts)
@@ -109,7 +102,6 @@ parts_after_run_have_pieces_of_decoded_bytes run (Char c ∷ ts) e =
     ++ WellFormed (encode_utf8 c) ∷ x) (parts_after_run_have_pieces_of_decoded_bytes [] ts p.1)
     ∙ sym (char_separates_utf8_pieces run c (bytes_decoded_from ts) scalar)
 
--- UTF-8 of decoded parts: the parts of a text that decodes have the pieces of the decoded bytes
 pub parts_have_pieces_of_decoded_bytes : (text : List ℕ) → IsValidFor widest_set text
     → pieces_of_parts (parts text) ≡ utf8_pieces (bytes_decoded_from (tokens text))
 parts_have_pieces_of_decoded_bytes text v = parts_after_run_have_pieces_of_decoded_bytes []

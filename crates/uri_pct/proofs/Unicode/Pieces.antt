@@ -32,7 +32,6 @@ pieces_from_are_pieces_after_skipped_bytes (suc k) [] = refl
 pieces_from_are_pieces_after_skipped_bytes (suc k) (b ∷ rest) =
     pieces_from_are_pieces_after_skipped_bytes k rest
 
--- UTF-8: after k bytes that are skipped, the pieces are joined the rest
 pieces_after_skipped_bytes_join_to_the_rest : (k : ℕ) (bytes : List ℕ)
     → bytes_of_pieces (pieces_from k bytes) ≡ drop k bytes
 unfolding pieces_from
@@ -46,7 +45,6 @@ pieces_after_skipped_bytes_join_to_the_rest zero (b ∷ rest) =
     (first_piece_has_first_bytes (following_ranges b) b rest) ∙ ap (λ x. b ∷ (take n rest ++ x))
     (pieces_after_skipped_bytes_join_to_the_rest n rest) ∙ ap (λ x. b ∷ x) (take-append-drop n rest)
 
--- UTF-8: the pieces of bytes are together the bytes
 pub bytes_of_utf8_pieces_are_the_bytes : (bytes : List ℕ) → bytes_of_pieces (utf8_pieces bytes)
     ≡ bytes
 bytes_of_utf8_pieces_are_the_bytes bytes = pieces_after_skipped_bytes_join_to_the_rest 0 bytes
@@ -116,8 +114,6 @@ first_piece_is_unchanged_by_suffix None b xs ys same = refl
 first_piece_is_unchanged_by_suffix (Some ranges) b xs ys same =
     grind (arith, nat_tests, take-append-le, len_in_ranges_is_at_most_length)
 
--- UTF-8: where the first piece takes no byte of what follows,
--- the pieces are cut there if those of the rest are
 pub utf8_pieces_are_cut_after_first_if_rest_is : (x : ℕ) (xs ys : List ℕ)
     → first_piece_tail_len (following_ranges x) (xs ++ ys) ≡ first_piece_tail_len
     (following_ranges x) xs → pieces_from (first_piece_tail_len (following_ranges x) xs) (xs ++ ys)
@@ -177,7 +173,6 @@ cut_after_first_piece_keeps_it None b rest m h = refl
 cut_after_first_piece_keeps_it (Some ranges) b rest m h =
     grind (arith, nat_tests, cut_after_fitting_bytes_keeps_len_in_ranges, take-take)
 
--- general fact on lists, for pieces of UTF-8: of nothing, nothing is taken
 take_of_nothing_is_nothing : (n : ℕ) → take {A = ℕ} n [] ≡ []
 take_of_nothing_is_nothing zero = refl
 take_of_nothing_is_nothing (suc n) = refl
@@ -240,7 +235,6 @@ first_pieces_are_pieces_of_own_bytes zero (suc j) (b ∷ rest) =
 abbrev pub ArePiecesOfOwnBytes : List Piece → Type 0
 ArePiecesOfOwnBytes ps = utf8_pieces (bytes_of_pieces ps) ≡ ps
 
--- UTF-8: each piece of bytes is by itself the one piece of its bytes
 pub utf8_pieces-are-of-own-bytes : (bytes : List ℕ) → ArePiecesOfOwnBytes (utf8_pieces bytes)
 utf8_pieces-are-of-own-bytes bytes = ap utf8_pieces (bytes_of_utf8_pieces_are_the_bytes bytes)
 
@@ -253,7 +247,6 @@ prefix_of_pieces_is_of_own_bytes ps qs cut =
     sym (ap (λ x. utf8_pieces (bytes_of_pieces x)) same)
     ∙ first_pieces_are_pieces_of_own_bytes 0 (length ps) (bytes_of_pieces (ps ++ qs)) ∙ same
 
--- UTF-8: each list of pieces after the first is the pieces of its own bytes
 pieces_after_first_are_of_own_bytes : (bytes : List ℕ) (p : Piece) (ps : List Piece)
     → utf8_pieces bytes ≡ p ∷ ps → ArePiecesOfOwnBytes ps
 unfolding pieces_from

@@ -4,18 +4,15 @@ use Rattle.uri_pct.proofs.Unicode.Pieces.{pieces_from_are_pieces_after_skipped_b
 use Rattle.uri_pct.proofs.Unicode.Lossy.{piece_of_char, pieces_of_chars_come_before_the_rest, ill_formed_after_valid_prefix, utf8_valid_len_prefix_is_utf8, nonempty_bytes_have_first_byte}
 use Rattle.uri_pct.proofs.Unicode.IllFormedLengths.{ill_formed_len_is_std_len}
 
--- UTF-8: no bytes have no pieces
 pub no_bytes_have_no_pieces : utf8_pieces [] ≡ []
 unfolding pieces_from
 no_bytes_have_no_pieces = refl
 
--- UTF-8: bytes of length 0 have no pieces
 pub bytes_of_length_zero_have_no_pieces : (bytes : List ℕ) → (length bytes == 0) ≡ true
     → utf8_pieces bytes ≡ []
 bytes_of_length_zero_have_no_pieces bytes e =
     ap utf8_pieces (nil_from_length bytes (eqb-true _ 0 e)) ∙ no_bytes_have_no_pieces
 
--- UTF-8: the pieces of a text and bytes after it are those of each
 pub utf8_pieces_are_cut_after_text : (text rest : List ℕ) → IsUtf8 text
     → utf8_pieces (text ++ rest) ≡ utf8_pieces text ++ utf8_pieces rest
 utf8_pieces_are_cut_after_text text rest u =
@@ -25,7 +22,6 @@ utf8_pieces_are_cut_after_text text rest u =
     ∙ append-nil (map piece_of_char u.0) in
     grind (arith, nat_tests, pieces_of_chars_come_before_the_rest)
 
--- UTF-8: an ill-formed first piece is followed by the pieces of the rest
 ill_formed_first_piece_is_cut_off : (b : ℕ) (rest bytes : List ℕ)
     → first_piece (following_ranges b) b rest ≡ IllFormed bytes → utf8_pieces (b ∷ rest)
     ≡ IllFormed bytes ∷ utf8_pieces (drop (first_piece_tail_len (following_ranges b) rest) rest)
@@ -57,7 +53,6 @@ ill_formed_piece_follows_valid_prefix bs invalid rest suffix some long =
     ∙ ap (λ n. drop n (invalid ++ rest)) size ∙ drop-append_seam invalid rest in
     grind (arith, nat_tests, ill_formed_first_piece_is_cut_off)
 
--- ill-formed UTF-8: the pieces of one of std's chunks that has an ill-formed part (invalid)
 pieces_of_std_chunk_with_ill_formed_part : (bs valid invalid rest : List ℕ)
     → bs ≡ valid ++ (invalid ++ rest) → length valid ≡ utf8_valid_len bs
     → length invalid ≡ utf8_invalid_len (drop (utf8_valid_len bs) bs) → 0 < length invalid
@@ -71,13 +66,11 @@ pieces_of_std_chunk_with_ill_formed_part bs valid invalid rest same text_len fau
     ++ rest) (subst IsUtf8 prefix (utf8_valid_len_prefix_is_utf8 bs)) ∙ ap (λ ps. utf8_pieces valid
     ++ ps) (ill_formed_piece_follows_valid_prefix bs invalid rest suffix some fault_len)
 
--- ill-formed UTF-8: the pieces of std's last chunk, with nothing after it
 pieces_of_last_std_chunk : (bs valid rest : List ℕ) → bs ≡ valid ++ rest → length rest ≡ 0
     → utf8_pieces bs ≡ utf8_pieces valid ++ utf8_pieces rest
 pieces_of_last_std_chunk bs valid rest same last =
     grind (arith, nat_tests, nil_from_length, append-nil, no_bytes_have_no_pieces)
 
--- ill-formed UTF-8: the pieces of one of std's chunks, and those after it
 pub utf8_pieces-of-std-chunk : (bs valid invalid rest : List ℕ)
     → bs ≡ valid ++ (invalid ++ rest) → length valid ≡ utf8_valid_len bs → length invalid
     ≡ utf8_invalid_len (drop (utf8_valid_len bs) bs) → (length invalid ≡ 0 → length rest ≡ 0)

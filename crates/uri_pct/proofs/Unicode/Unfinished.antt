@@ -5,26 +5,21 @@ use Rattle.uri_pct.proofs.Unicode.Pieces.{first_piece_tail_is_within_rest, utf8_
 use Rattle.uri_pct.proofs.Unicode.FirstBytes.{no_range_follows_ascii_byte, following_ranges_of_c2_to_df}
 use Rattle.uri_pct.proofs.Unicode.IllFormedLengths.{no_row_from_80_to_c1, no_row_past_f4}
 
--- UTF-8: one byte follows a first byte from C2 to DF
 pub one_byte_follows_c2_to_df : (b : ℕ) → 0xC2 ≤ b → b ≤ 0xDF → following_byte_count b ≡ 1
 one_byte_follows_c2_to_df b low high = ap range_count (following_ranges_of_c2_to_df b low high)
 
--- UTF-8: two bytes follow E0 to EF in a character
 pub two_bytes_follow_e0_to_ef : (b : ℕ) → 0xE0 ≤ b → b ≤ 0xEF → following_byte_count b ≡ 2
 unfolding following_ranges
 two_bytes_follow_e0_to_ef b low high = grind (arith, nat_tests)
 
--- UTF-8: three bytes follow F0 to F4 in a character
 pub three_bytes_follow_f0_to_f4 : (b : ℕ) → 0xF0 ≤ b → b ≤ 0xF4 → following_byte_count b ≡ 3
 unfolding following_ranges
 three_bytes_follow_f0_to_f4 b low high = grind (arith, nat_tests)
 
--- UTF-8: below C2 no byte begins a character of several bytes
 pub no_byte_follows_below_c2 : (b : ℕ) → b < 0xC2 → following_byte_count b ≡ 0
 no_byte_follows_below_c2 b high = ⊎_elim (λ h. ap range_count (no_range_follows_ascii_byte b h))
     (λ low. ap range_count (no_row_from_80_to_c1 b low high)) (cases_lt b 0x80)
 
--- UTF-8: past F4 no byte begins a character
 pub no_byte_follows_past_f4 : (b : ℕ) → 0xF4 < b → following_byte_count b ≡ 0
 no_byte_follows_past_f4 b low = ap range_count (no_row_past_f4 b low)
 
@@ -37,7 +32,6 @@ found_row_has_at_most_three_ranges b (row ∷ rows) h =
     let p = and_parts (leb (length row.1) 3) _ h in
     grind (arith, nat_tests, leb-true, found_row_has_at_most_three_ranges b rows p.1)
 
--- UTF-8: at most three bytes follow a first one
 at_most_three_bytes_follow : (b : ℕ) → following_byte_count b ≤ 3
 unfolding following_ranges
 at_most_three_bytes_follow b = found_row_has_at_most_three_ranges b well_formed_rows refl
@@ -47,7 +41,6 @@ unfoldable pub unfinished_len_by_last_three : ℕ → ℕ → ℕ → ℕ
 unfinished_len_by_last_three third second last = cond (nat_lt 2 third) 3
     (cond (nat_lt 1 second) 2 (cond (nat_lt 0 last) 1 0))
 
--- UTF-8: the length of an unfinished end depends on the last three bytes only
 unfinished_len_is_by_last_three_bytes : (bytes : List ℕ) (n : ℕ) → length bytes ≡ suc (suc (suc n))
     → unfinished_len bytes ≡ unfinished_len_by_last_three (following_byte_count (get_or bytes n 0))
     (following_byte_count (get_or bytes (suc n) 0))
@@ -63,7 +56,6 @@ unfinished_len_is_by_last_three_bytes (a ∷ rest) (suc n) e =
     let enough : nat_lt (length rest) (following_byte_count a) ≡ false = grind (arith, nat_tests) in
     cond-false _ _ _ enough ∙ unfinished_len_is_by_last_three_bytes rest n (omega arith)
 
--- UTF-8: the length of an unfinished end, by how many bytes follow each of the last three
 pub unfinished_len_is_by_counts_of_last_three : (bytes : List ℕ) (third second last : ℕ)
     → 3 ≤ length bytes → third ≡ following_byte_count (get_or bytes (length bytes - 3) 0)
     → second ≡ following_byte_count (get_or bytes (length bytes - 2) 0)
@@ -94,13 +86,11 @@ suffix_of_enough_bytes_keeps_tail_len None xs ys h = refl
 suffix_of_enough_bytes_keeps_tail_len (Some ranges) xs ys h =
     suffix_of_enough_bytes_keeps_len_in_ranges ranges xs ys h
 
--- UTF-8: if the first byte calls for more bytes than follow it, all bytes are unfinished
 first_byte_lacking_bytes_makes_all_unfinished : (x : ℕ) (xs : List ℕ)
     → nat_lt (length xs) (following_byte_count x) ≡ true → unfinished_len (x ∷ xs) ≡ suc (length xs)
 unfolding unfinished_len
 first_byte_lacking_bytes_makes_all_unfinished x xs e = cond-true _ _ _ e
 
--- UTF-8: a first byte with as many after it as may follow is finished
 first_byte_with_enough_bytes_is_finished : (x : ℕ) (xs : List ℕ)
     → nat_lt (length xs) (following_byte_count x) ≡ false
     → unfinished_len (x ∷ xs) ≡ unfinished_len xs
@@ -140,12 +130,10 @@ unfinished_len_is_at_most_length [] = omega arith
 unfinished_len_is_at_most_length (x ∷ xs) =
     grind (arith, nat_tests, unfinished_len_is_at_most_length xs)
 
--- UTF-8: a byte that calls for others continues none
 lead_byte_is_no_continuation : (b : ℕ) → 0 < following_byte_count b
     → is_in_byte_range continuation b ≡ false
 lead_byte_is_no_continuation b some = grind (arith, nat_tests, no_byte_follows_below_c2)
 
--- UTF-8: an unfinished character does not begin with a byte that continues one
 unfinished_end_begins_with_no_continuation : (xs ys : List ℕ) → 0 < unfinished_len xs
     → begins_with_continuation (drop (length xs - unfinished_len xs) xs ++ ys) ≡ false
 unfolding unfinished_len
@@ -163,7 +151,6 @@ unfinished_end_begins_with_no_continuation (x ∷ xs) ys some = ⊎_elim
     ∙ unfinished_end_begins_with_no_continuation xs ys (omega arith))
     (cases_Bool (nat_lt (length xs) (following_byte_count x)))
 
--- UTF-8: the cut before an unfinished end, or after the bytes if there is none, divides no piece
 cut_before_unfinished_end_divides_no_piece : (bytes : List ℕ) → CutsNoPiece (take (length bytes
     - unfinished_len bytes) bytes) (drop (length bytes - unfinished_len bytes) bytes)
 cut_before_unfinished_end_divides_no_piece bytes suffix =
@@ -176,7 +163,6 @@ cut_before_unfinished_end_divides_no_piece bytes suffix =
     (unfinished_end_begins_with_no_continuation bytes suffix (omega arith)))
     (cases_lt (unfinished_len bytes) 1)
 
--- UTF-8: a cut that divides no piece of a run of octets also cuts the parts that the run decodes to
 pub parts_from_are_cut_where_pieces_are : (prefix end more : List ℕ) (suffix : List Chunk)
     → CutsNoPiece prefix end → parts_from (prefix ++ (end ++ more)) suffix
     ≡ map Decoded (utf8_pieces prefix) ++ parts_from (end ++ more) suffix
@@ -192,7 +178,6 @@ parts_from_are_cut_where_pieces_are prefix end more (Byte value ∷ chunks) part
 parts_from_are_cut_where_pieces_are prefix end more (Text text ∷ chunks) parted =
     grind (arith, nat_tests, map-append, append_assoc)
 
--- UTF-8: the parts of a run of octets, cut before its unfinished end
 pub parts_from_are_cut_before_unfinished_end : (bytes : List ℕ) (suffix : List Chunk)
     → parts_from bytes suffix ≡ map Decoded (utf8_pieces (take (length bytes - unfinished_len bytes)
     bytes)) ++ parts_from (drop (length bytes - unfinished_len bytes) bytes) suffix

@@ -2,7 +2,6 @@
 use Rattle.uri_pct.proofs.Common.{◌≡◌, ℕ, true, List, [], ◌∷◌, ◌++◌, refl, map, codes, encode_utf8, repeat, chars, replacement_bytes, TableSet, userinfo_set, reg_name_set, path_set, query_set, fragment_set, allows_past_ascii, is_ucschar, is_iprivate, tokens, tokens_from_chars, is_pct_encoded, bytes_decoded_from, print, WellFormed, IllFormed, utf8_pieces, pieces_from, following_ranges, lossy_text, decode_unreserved, decode_octet, decode_after_run, decode_run, is_decodable, is_bidi_formatting, is_never_literal, lower_token}
 use Rattle.uri_pct.proofs.UnreservedDecoding.Printing.{print_decoded}
 
--- examples of unreserved octets: the set of an IRI's component, from that of a URI's
 iri_component_set : TableSet → TableSet
 iri_component_set set = record set { ucschar = true }
 
@@ -10,12 +9,9 @@ iri_component_set set = record set { ucschar = true }
 iquery_set : TableSet
 iquery_set = record query_set { ucschar = true; iprivate = true }
 
--- examples of unreserved octets: the decoded form of a text in lower case
 decoded_lower_text : TableSet → List ℕ → List ℕ
 decoded_lower_text set text = print (map lower_token (decode_unreserved set text))
 
--- examples of unreserved octets: the components
--- of `FOO://%55se%72@EXamp%4ce%2ecom:8042/%4b%2f?%4c%2b#%24%4d`
 examples_of_decoded_uri_components : (print_decoded userinfo_set (codes "%55se%72") ≡ codes "User")
     × (decoded_lower_text reg_name_set (codes "EXamp%4ce%2ecom") ≡ codes "example.com")
     × (print_decoded path_set (codes "/%4b%2f") ≡ codes "/K%2F")
@@ -26,8 +22,6 @@ unfolding print_decoded decoded_lower_text chars encode_utf8 tokens_from_chars i
     decode_after_run decode_run is_decodable is_bidi_formatting is_never_literal allows_past_ascii
 examples_of_decoded_uri_components = (refl, refl, refl, refl, refl)
 
--- examples of unreserved octets: in a URI no octet past ASCII is decoded,
--- and each octet is decoded by itself
 octets_past_ascii_are_unchanged_in_uri : (print_decoded path_set (codes "/%c3%a9%61")
     ≡ codes "/%C3%A9a") × (map decode_octet (tokens (codes "%c3%61%41"))
     ≡ decode_unreserved path_set (codes "%c3%61%41"))
@@ -47,7 +41,6 @@ unfolding print_decoded iri_component_set chars encode_utf8 tokens_from_chars is
     decode_run is_decodable is_bidi_formatting is_never_literal allows_past_ascii is_ucschar
 char_between_octets_keeps_them_apart = (refl, refl)
 
--- example of unreserved octets: a character after 31 octets
 char_after_31_octets_is_decoded : print_decoded (iri_component_set path_set)
     (repeat 31 (codes "%61") ++ codes "%C3%A9") ≡ repeat 31 (codes "a") ++ encode_utf8 0xE9
 unfolding print_decoded iri_component_set chars encode_utf8 tokens_from_chars is_pct_encoded
@@ -95,8 +88,6 @@ unfolding print_decoded iri_component_set chars encode_utf8 tokens_from_chars is
     decode_run is_decodable is_bidi_formatting is_never_literal allows_past_ascii is_ucschar
 neighbours_of_formatting_chars_are_decoded = (refl, refl)
 
--- example of unreserved octets: the octets of U+200F, a formatting character, are unchanged
--- after 30 octets
 formatting_char_after_30_octets_is_unchanged : print_decoded (iri_component_set path_set)
     (repeat 30 (codes "%61") ++ codes "%E2%80%8F") ≡ repeat 30 (codes "a") ++ codes "%E2%80%8F"
 unfolding print_decoded iri_component_set chars encode_utf8 tokens_from_chars is_pct_encoded
@@ -104,7 +95,6 @@ unfolding print_decoded iri_component_set chars encode_utf8 tokens_from_chars is
     decode_run is_decodable is_bidi_formatting is_never_literal allows_past_ascii is_ucschar
 formatting_char_after_30_octets_is_unchanged = refl
 
--- examples of unreserved octets: only a query decodes U+E000
 private_use_is_decoded_in_query_only : (print_decoded iquery_set (codes "%EE%80%80")
     ≡ encode_utf8 0xE000)
     × (print_decoded (iri_component_set path_set) (codes "%EE%80%80") ≡ codes "%EE%80%80")
@@ -114,7 +104,6 @@ unfolding print_decoded iri_component_set iquery_set chars encode_utf8 tokens_fr
     is_ucschar is_iprivate
 private_use_is_decoded_in_query_only = (refl, refl)
 
--- examples of unreserved octets: ASCII letters alone are lowered
 only_ascii_letters_are_lowered : (decoded_lower_text (iri_component_set reg_name_set)
     (codes "R%c3%89") ≡ codes "r" ++ encode_utf8 0xC9)
     × (decoded_lower_text (iri_component_set reg_name_set) (codes "%41%c3%89")
@@ -125,7 +114,6 @@ unfolding decoded_lower_text iri_component_set chars encode_utf8 tokens_from_cha
     is_ucschar
 only_ascii_letters_are_lowered = (refl, refl)
 
--- example of unreserved octets: `%F0%90%8Cx%80`: its bytes, their pieces and their lossy text
 example_of_ill_formed_octets : (bytes_decoded_from (tokens (codes "%F0%90%8Cx%80"))
     ≡ 0xF0 ∷ 0x90 ∷ 0x8C ∷ 0x78 ∷ 0x80 ∷ []) × (utf8_pieces (0xF0 ∷ 0x90 ∷ 0x8C ∷ 0x78 ∷ 0x80 ∷ [])
     ≡ IllFormed (0xF0 ∷ 0x90 ∷ 0x8C ∷ []) ∷ WellFormed (0x78 ∷ []) ∷ IllFormed (0x80 ∷ []) ∷ [])

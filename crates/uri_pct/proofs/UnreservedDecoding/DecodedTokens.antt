@@ -10,14 +10,12 @@ use Rattle.uri_pct.proofs.UnreservedDecoding.Formatting.{never_literal_char_is_s
 use Rattle.uri_pct.proofs.UnreservedDecoding.Formatting as Formatting
 use Rattle.uri_pct.proofs.EncodedTexts.Encodings.{octets_decode_to_their_bytes}
 
--- unreserved octets: a piece of decoded bytes keeps its bytes
 decoded_piece_keeps_its_bytes : (set : TableSet) (p : Piece) → IsOfCharacter p
     → bytes_decoded_from (decode_piece set p) ≡ piece_bytes p
 decoded_piece_keeps_its_bytes set (IllFormed bytes) h = octets_decode_to_their_bytes bytes
 decoded_piece_keeps_its_bytes set (WellFormed bytes) h =
     grind (arith, nat_tests, append-nil, octets_decode_to_their_bytes)
 
--- unreserved octets: pieces of decoded bytes keep their bytes
 decoded_pieces_keep_their_bytes : (set : TableSet) (ps : List Piece) → All IsOfCharacter ps
     → bytes_decoded_from (flat_map (decode_piece set) ps) ≡ bytes_of_pieces ps
 decoded_pieces_keep_their_bytes set [] h = refl
@@ -27,14 +25,12 @@ decoded_pieces_keep_their_bytes set (p ∷ ps) h =
     (decoded_piece_keeps_its_bytes set p (All-head IsOfCharacter p ps h)) ∙ ap (λ x. piece_bytes p
     ++ x) (decoded_pieces_keep_their_bytes set ps (All-tail IsOfCharacter p ps h))
 
--- unreserved octets: a run of octets keeps its bytes when it is decoded
 decode_run_keeps_bytes : (set : TableSet) (run : List ℕ)
     → bytes_decoded_from (decode_run set run) ≡ run
 unfolding decode_run
 decode_run_keeps_bytes set run = decoded_pieces_keep_their_bytes set
     (utf8_pieces run) (utf8_pieces-are-of-characters run) ∙ bytes_of_utf8_pieces_are_the_bytes run
 
--- unreserved octets: tokens after a run of octets keep their bytes when they are decoded
 decode_after_run_keeps_bytes : (set : TableSet) (run : List ℕ) (ts : List Token)
     → bytes_decoded_from (decode_after_run set run ts) ≡ run ++ bytes_decoded_from ts
 unfolding decode_after_run
@@ -53,11 +49,9 @@ pub decode_unreserved_keeps_bytes : (set : TableSet) (text : List ℕ)
 decode_unreserved_keeps_bytes set text = encode_formatting_keeps_bytes set
     (decode_tokens set (tokens text)) ∙ decode_after_run_keeps_bytes set [] (tokens text)
 
--- unreserved octets: each decodable character passes a test of tokens
 abbrev PassesDecodable : (Token → Bool) → TableSet → Type 0
 PassesDecodable test set = (c : ℕ) → is_decodable set c ≡ true → test (Char c) ≡ true
 
--- general fact on lists of tokens, for unreserved octets: two pass a test, joined
 test_holds_of_joined_lists : (test : Token → Bool) (xs ys : List Token) → list_all test xs ≡ true
     → list_all test ys ≡ true → list_all test (xs ++ ys) ≡ true
 test_holds_of_joined_lists test xs ys e f = list_all-append test xs ys ∙ and_from _ _ e f
@@ -68,14 +62,12 @@ test_holds_of_both_lists : (test : Token → Bool) (xs ys : List Token)
 test_holds_of_both_lists test xs ys e = and_parts (list_all test xs) (list_all test ys)
     (sym (list_all-append test xs ys) ∙ e)
 
--- unreserved octets: a decoded piece passes a test that decodable characters and its octets pass
 decoded_piece_passes_test : (test : Token → Bool) (set : TableSet) (p : Piece)
     → PassesDecodable test set
     → list_all test (map Octet (piece_bytes p)) ≡ true → list_all test (decode_piece set p) ≡ true
 decoded_piece_passes_test test set (IllFormed bytes) h e = e
 decoded_piece_passes_test test set (WellFormed bytes) h e = grind (arith, nat_tests)
 
--- unreserved octets: decoded pieces pass a test that decodable characters and their octets pass
 decoded_pieces_pass_test : (test : Token → Bool) (set : TableSet) (ps : List Piece)
     → PassesDecodable test set → list_all test (map Octet (bytes_of_pieces ps)) ≡ true
     → list_all test (flat_map (decode_piece set) ps) ≡ true
@@ -88,8 +80,6 @@ decoded_pieces_pass_test test set (p ∷ ps) h e =
     (decoded_piece_passes_test test set p h parts.0)
     (decoded_pieces_pass_test test set ps h parts.1)
 
--- unreserved octets: a decoded run of octets passes a test
--- that decodable characters and its octets pass
 decoded_run_passes_test : (test : Token → Bool) (set : TableSet) (run : List ℕ)
     → PassesDecodable test set
     → list_all test (map Octet run) ≡ true → list_all test (decode_run set run) ≡ true
@@ -148,7 +138,6 @@ printed_decode_unreserved_stays_valid set text lacks wide valid =
     (valid_text_has_printable_tokens set text lacks valid))
     ∙ decode_unreserved_keeps_tokens_allowed set text wide valid
 
--- unreserved octets: a literal character separates the decoding before it from that after it
 char_separates_decoding_after_run : (set : TableSet) (run : List ℕ)
     (ts : List Token) (c : ℕ) (us : List Token) → decode_after_run set run (ts ++ Char c ∷ us)
     ≡ decode_after_run set run ts ++ Char c ∷ decode_tokens set us
@@ -165,7 +154,6 @@ pub char_separates_decoded_tokens : (set : TableSet) (ts : List Token) (c : ℕ)
     → decode_tokens set (ts ++ Char c ∷ us) ≡ decode_tokens set ts ++ Char c ∷ decode_tokens set us
 char_separates_decoded_tokens set ts c us = char_separates_decoding_after_run set [] ts c us
 
--- unreserved octets: the octets of a decodable character part a run as the character does
 decodable_char_octets_split_run : (set : TableSet) (run : List ℕ) (c : ℕ) (more : List ℕ)
     → IsScalar c → is_decodable set c ≡ true → decode_run set (run ++ (encode_utf8 c ++ more))
     ≡ decode_run set run ++ Char c ∷ decode_run set more
@@ -198,7 +186,6 @@ octets_before_tokens_lengthen_run set run [] ts = ap (λ r. decode_after_run set
 octets_before_tokens_lengthen_run set run (b ∷ more) ts = octets_before_tokens_lengthen_run set (run
     ++ b ∷ []) more ts ∙ ap (λ r. decode_after_run set r ts) (append_assoc run (b ∷ []) more)
 
--- unreserved octets: after a run, the octets of a decodable character decode to it, in any context
 decodable_char_octets_decode_as_char_after_run :
     (set : TableSet) (run : List ℕ) (ts : List Token) (c : ℕ) (us : List Token) → IsScalar c
     → is_decodable set c ≡ true → decode_after_run set run (ts ++ (map Octet (encode_utf8 c) ++ us))
@@ -221,7 +208,6 @@ pub decodable_char_octets_decode_as_char : (set : TableSet) (ts : List Token)
 decodable_char_octets_decode_as_char set ts c us scalar decodable =
     decodable_char_octets_decode_as_char_after_run set [] ts c us scalar decodable
 
--- unreserved octets: formatting characters decode to the same tokens as their octets
 pub octets_of_formatting_chars_decode_as_chars : (set : TableSet) (before ts : List Token)
     → decode_tokens set (before ++ encode_formatting set ts) ≡ decode_tokens set (before ++ ts)
 octets_of_formatting_chars_decode_as_chars set before [] = refl
@@ -239,7 +225,6 @@ octets_of_formatting_chars_decode_as_chars set before (Char c ∷ ts) = grind (
   octets_of_formatting_chars_decode_as_chars set (before ++ Char c ∷ []) ts,
 )
 
--- unreserved octets: the octets of a decodable character, written, decode as the character does
 pub printed_octets_of_decodable_char_decode_as_char :
     (set : TableSet) (before : List Token) (c : ℕ) (suffix : List Token) → IsScalar c
     → is_decodable set c ≡ true → list_all is_printable (before ++ Char c ∷ suffix) ≡ true
@@ -257,7 +242,6 @@ printed_octets_of_decodable_char_decode_as_char set before c suffix scalar decod
     ∙ ap (encode_formatting set) (decodable_char_octets_decode_as_char set before c suffix scalar
     decodable) ∙ sym (ap of (printed_tokens_parse_to_themselves (before ++ Char c ∷ suffix) e))
 
--- unreserved octets: no formatting character is literal after decoding
 pub decode_unreserved_leaves_no_literal_formatting : (set : TableSet) (text : List ℕ) → (set.ucschar
     && set.pct_encoded) ≡ true → list_any is_literal_formatting (decode_unreserved set text) ≡ false
 decode_unreserved_leaves_no_literal_formatting set text e =

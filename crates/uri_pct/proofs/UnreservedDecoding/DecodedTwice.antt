@@ -28,8 +28,6 @@ decoding_decoded_tokens_keeps_them set run (Char c ∷ ts) same =
     ap (λ x. x ++ Char c ∷ decode_after_run set [] ts) same.0
     ∙ ap (λ x. map Octet run ++ Char c ∷ x) (decoding_decoded_tokens_keeps_them set [] ts same.1)
 
--- unreserved octets: octets (more) before decoded tokens stay octets,
--- if they do as the end of the run
 octets_before_decoded_tokens_stay_decoded : (set : TableSet) (run more : List ℕ) (ts : List Token)
     → IsDecoded set (run ++ more) ts → IsDecoded set run (map Octet more ++ ts)
 octets_before_decoded_tokens_stay_decoded set run [] ts h = subst (λ r. IsDecoded set r ts)
@@ -44,14 +42,12 @@ is_undecoded : TableSet → Piece → Bool
 is_undecoded set (WellFormed bytes) = not (is_decodable set (char_of bytes))
 is_undecoded set (IllFormed bytes) = true
 
--- unreserved octets: a piece that is not decoded is unchanged
 undecodable_piece_is_unchanged : (set : TableSet) (p : Piece) → is_undecoded set p ≡ true
     → decode_piece set p ≡ map Octet (piece_bytes p)
 unfolding is_undecoded
 undecodable_piece_is_unchanged set (WellFormed bytes) e = cond-false _ _ _ (not-true _ e)
 undecodable_piece_is_unchanged set (IllFormed bytes) e = refl
 
--- unreserved octets: pieces that are not decoded are unchanged
 undecodable_pieces_are_unchanged : (set : TableSet) (ps : List Piece)
     → list_all (is_undecoded set) ps ≡ true
     → flat_map (decode_piece set) ps ≡ map Octet (bytes_of_pieces ps)
@@ -62,7 +58,6 @@ undecodable_pieces_are_unchanged set (p ∷ ps) e =
     ∙ ap (λ x. map Octet (piece_bytes p) ++ x) (undecodable_pieces_are_unchanged set ps q.1)
     ∙ sym (map-append Octet (piece_bytes p) (bytes_of_pieces ps))
 
--- unreserved octets: a run of octets is unchanged, if none of its pieces is decoded
 run_of_undecodable_pieces_is_unchanged : (set : TableSet) (ps : List Piece) → ArePiecesOfOwnBytes ps
     → list_all (is_undecoded set) ps ≡ true → IsUnchangedRun set (bytes_of_pieces ps)
 unfolding decode_run
@@ -77,7 +72,6 @@ suffix_of_pieces_is_of_own_bytes [] qs cut = cut
 suffix_of_pieces_is_of_own_bytes (p ∷ ps) qs cut = suffix_of_pieces_is_of_own_bytes ps qs
     (tail_of_pieces_is_of_own_bytes p (ps ++ qs) cut)
 
--- unreserved octets: a decoded piece ends the run of octets before it
 decoded_piece_ends_run_before_it : (set : TableSet) (done : List Piece) (p : Piece)
     (ps : List Piece) (ts : List Token)
     → is_undecoded set p ≡ false → IsUnchangedRun set (bytes_of_pieces done)
@@ -89,8 +83,6 @@ decoded_piece_ends_run_before_it set done (WellFormed bytes) ps ts e unchanged s
     subst (λ x. IsDecoded set (bytes_of_pieces done) ((x ++ flat_map (decode_piece set) ps) ++ ts))
     (sym (cond-true _ _ _ (not-false _ e))) (unchanged, suffix)
 
--- unreserved octets: the tokens of a decoded run are decoded,
--- if the pieces before it are unchanged and what follows is decoded
 decoded_run_before_decoded_tokens_is_decoded : (set : TableSet) (done ps : List Piece)
     (ts : List Token) → ArePiecesOfOwnBytes (done ++ ps) → list_all (is_undecoded set) done ≡ true
     → ((run : List ℕ) → IsUnchangedRun set run → IsDecoded set run ts)
@@ -121,7 +113,6 @@ decoded_run_before_decoded_tokens_is_decoded set done (p ∷ ps) ts cut undecode
     (suffix_of_pieces_is_of_own_bytes (done ++ p ∷ []) ps (subst ArePiecesOfOwnBytes
     (sym (append_assoc done (p ∷ []) ps)) cut)) refl suffix)) (cases_Bool (is_undecoded set p))
 
--- unreserved octets: what decoding returns is decoded
 decode_after_run_gives_decoded_tokens : (set : TableSet) (run : List ℕ) (ts : List Token)
     → IsDecoded set [] (decode_after_run set run ts)
 unfolding decode_after_run decode_run
@@ -162,7 +153,6 @@ lowered_decoded_tokens_are_decoded set run (Octet value ∷ ts) h = lowered_deco
 lowered_decoded_tokens_are_decoded set run (Char c ∷ ts) h =
     (h.0, lowered_decoded_tokens_are_decoded set [] ts h.1)
 
--- unreserved octets: decoded tokens in lower case are unchanged when they are decoded again
 pub decoding_keeps_lowered_decoded_tokens : (set : TableSet) (ts : List Token) → decode_tokens set
     (map lower_token (decode_tokens set ts)) ≡ map lower_token (decode_tokens set ts)
 decoding_keeps_lowered_decoded_tokens set ts = decoding_decoded_tokens_keeps_them set []

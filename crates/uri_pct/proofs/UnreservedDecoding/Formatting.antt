@@ -9,19 +9,15 @@ formatting_char_is_from_a0_to_d7ff : (c : ℕ) → is_bidi_formatting c ≡ true
 unfolding is_bidi_formatting
 formatting_char_is_from_a0_to_d7ff c e = grind (arith, nat_tests)
 
--- unreserved octets: a formatting character is in `ucschar`
 formatting_char_is_ucschar : (c : ℕ) → is_bidi_formatting c ≡ true → is_ucschar c ≡ true
 unfolding is_ucschar
 formatting_char_is_ucschar c e = rw (formatting_char_is_from_a0_to_d7ff c e) refl
 
--- unreserved octets: a formatting character is a Unicode scalar value past ASCII
 formatting_char_is_scalar_past_ascii : (c : ℕ) → is_bidi_formatting c ≡ true → (128 ≤ c)
     × IsScalar c
 unfolding is_bidi_formatting
 formatting_char_is_scalar_past_ascii c e = (grind (arith, nat_tests), grind (arith, nat_tests))
 
--- unreserved octets: a character is never literal in a set
--- if this has octets and `ucschar`, and it is a formatting character
 never_literal_char_is_formatting_in_set_with_flags : (set : TableSet) (c : ℕ)
     → is_never_literal set c ≡ true
     → (set.ucschar ≡ true) × ((set.pct_encoded ≡ true) × (is_bidi_formatting c ≡ true))
@@ -31,13 +27,11 @@ never_literal_char_is_formatting_in_set_with_flags set c e =
     let q = and_parts set.ucschar set.pct_encoded p.0 in
     (q.0, (q.1, p.1))
 
--- unreserved octets: a formatting character is a Unicode scalar value past ASCII
 pub never_literal_char_is_scalar_past_ascii : (set : TableSet) (c : ℕ)
     → is_never_literal set c ≡ true → (128 ≤ c) × IsScalar c
 never_literal_char_is_scalar_past_ascii set c e = formatting_char_is_scalar_past_ascii c
     (never_literal_char_is_formatting_in_set_with_flags set c e).1.1
 
--- unreserved octets: a formatting character is one that the set would decode
 pub never_literal_char_is_decodable : (set : TableSet) (c : ℕ) → is_never_literal set c ≡ true
     → is_decodable set c ≡ true
 unfolding is_decodable allows_past_ascii
@@ -72,14 +66,12 @@ and_with_false_is_false true true = refl
 and_with_false_is_false true false = refl
 and_with_false_is_false false y = refl
 
--- unreserved octets: an ASCII character is never written as octets
 ascii_char_is_unchanged : (set : TableSet) (c : ℕ) → c < 128
     → formatting_as_octets set (Char c) ≡ Char c ∷ []
 unfolding is_never_literal
 ascii_char_is_unchanged set c h = cond-false _ _ _ (ap (λ b. set.ucschar && set.pct_encoded && b)
     (ascii_char_is_no_formatting_char c h) ∙ and_with_false_is_false set.ucschar set.pct_encoded)
 
--- unreserved octets: to write a formatting character as octets keeps the decoded bytes
 formatting_as_octets_keeps_bytes : (set : TableSet) (t : Token)
     → bytes_decoded_from (formatting_as_octets set t) ≡ bytes_of_one_token t
 formatting_as_octets_keeps_bytes set (Octet value) = refl
@@ -95,8 +87,6 @@ encode_formatting_keeps_bytes set (t ∷ ts) = flat_map-append bytes_of_one_toke
     ++ bytes_decoded_from (encode_formatting set ts)) (formatting_as_octets_keeps_bytes set t)
     ∙ ap (λ x. bytes_of_one_token t ++ x) (encode_formatting_keeps_bytes set ts)
 
--- unreserved octets: a token passes a test
--- after its formatting character becomes octets, if these pass
 formatting_as_octets_passes_test : (test : Token → Bool) (set : TableSet) (t : Token)
     → ((c : ℕ) → is_never_literal set c ≡ true → list_all test (map Octet (encode_utf8 c)) ≡ true)
     → test t ≡ true → list_all test (formatting_as_octets set t) ≡ true
@@ -122,7 +112,6 @@ encode_formatting_keeps_tokens_printable set ts e = encode_formatting_passes_tes
     is_printable set ts (λ c h. octets_of_bytes_are_printable (encode_utf8 c)
     (utf8_bytes_are_eight_bit c (never_literal_char_is_scalar_past_ascii set c h).1)) e
 
--- unreserved octets: percent-encoding formatting characters leaves tokens that the set allows
 pub encode_formatting_keeps_tokens_allowed : (set : TableSet) (ts : List Token)
     → list_all (allows_token set) ts ≡ true
     → list_all (allows_token set) (encode_formatting set ts) ≡ true
@@ -169,14 +158,11 @@ pub ascii_char_separates_encode_formatting : (set : TableSet) (ts : List Token)
 ascii_char_separates_encode_formatting set ts c us low =
     grind (arith, nat_tests, flat_map-append, ascii_char_is_unchanged)
 
--- unreserved octets: octets are no literal formatting characters
 octets_are_no_literal_formatting : (bytes : List ℕ) (ts : List Token)
     → list_any is_literal_formatting (map Octet bytes ++ ts) ≡ list_any is_literal_formatting ts
 octets_are_no_literal_formatting [] ts = refl
 octets_are_no_literal_formatting (b ∷ bytes) ts = octets_are_no_literal_formatting bytes ts
 
--- unreserved octets: after percent-encoding,
--- no formatting character is literal, if the set allows octets and `ucschar`
 pub encode_formatting_leaves_no_literal_formatting : (set : TableSet) (ts : List Token)
     → (set.ucschar && set.pct_encoded) ≡ true
     → list_any is_literal_formatting (encode_formatting set ts) ≡ false

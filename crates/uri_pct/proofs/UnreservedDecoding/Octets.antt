@@ -13,11 +13,9 @@ decodable_is_unreserved_in_uri : (set : TableSet) (c : ℕ) → LacksPastAscii s
 unfolding is_decodable allows_past_ascii
 decodable_is_unreserved_in_uri set c alone = rw (alone.0, alone.1) (or-false (is_unreserved c))
 
--- unreserved octets of a URI: the token that an octet of this byte is decoded to
 decoded_octet_token : ℕ → Token
 decoded_octet_token value = decode_octet (Octet value)
 
--- unreserved octets of a URI: octets past ASCII are unchanged
 octets_past_ascii_are_unchanged : (bytes : List ℕ) → list_all (leb 128) bytes ≡ true
     → map decoded_octet_token bytes ≡ map Octet bytes
 unfolding decoded_octet_token
@@ -30,13 +28,11 @@ octets_past_ascii_are_unchanged (b ∷ rest) e =
     ap (λ t. t ∷ map decoded_octet_token rest) (cond-false _ _ _ reserved)
     ∙ ap (λ x. Octet b ∷ x) (octets_past_ascii_are_unchanged rest p.1)
 
--- unreserved octets of a URI: a byte that may follow a first one is past ASCII
 byte_in_continuation_range_is_past_ascii : (range : ByteRange) (b : ℕ)
     → is_continuation_range range ≡ true → is_in_byte_range range b ≡ true → leb 128 b ≡ true
 unfolding is_continuation_range
 byte_in_continuation_range_is_past_ascii range b inner e = grind (arith, nat_tests)
 
--- unreserved octets of a URI: bytes that may follow a first one are past ASCII
 bytes_in_continuation_ranges_are_past_ascii : (ranges : List ByteRange) (text : List ℕ)
     → list_all is_continuation_range ranges ≡ true
     → list_all (leb 128) (take (len_in_ranges ranges text) text) ≡ true
@@ -58,7 +54,6 @@ first_piece_tail_is_past_ascii None text inner = refl
 first_piece_tail_is_past_ascii (Some ranges) text inner =
     bytes_in_continuation_ranges_are_past_ascii ranges text inner
 
--- unreserved octets of a URI: a piece of bytes past ASCII is unchanged
 piece_past_ascii_is_unchanged_in_uri : (set : TableSet) (p : Piece) → LacksPastAscii set
     → IsOfCharacter p
     → list_all (leb 128) (piece_bytes p) ≡ true → decode_piece set p ≡ map Octet (piece_bytes p)
@@ -66,7 +61,6 @@ piece_past_ascii_is_unchanged_in_uri set (IllFormed bytes) alone h e = refl
 piece_past_ascii_is_unchanged_in_uri set (WellFormed bytes) alone h e =
     grind (arith, nat_tests, decodable_is_unreserved_in_uri, unreserved_is_ascii, encode_ascii)
 
--- unreserved octets of a URI: an ASCII character is decoded as its octet is
 ascii_piece_is_decoded_as_octet_in_uri : (set : TableSet) (b : ℕ) → LacksPastAscii set → b < 128
     → decode_piece set (WellFormed (b ∷ [])) ≡ decoded_octet_token b ∷ []
 unfolding decoded_octet_token
@@ -77,8 +71,6 @@ ascii_piece_is_decoded_as_octet_in_uri set b alone low =
     ∙ ap (λ t. cond t (Char b ∷ []) (Octet b ∷ [])) (decodable_is_unreserved_in_uri set b alone)
     ∙ ⊎_elim (λ e. rw e refl) (λ e. rw e refl) (cases_Bool (is_unreserved b))
 
--- unreserved octets of a URI: without characters past ASCII,
--- a piece of bytes is decoded octet by octet
 piece_is_decoded_octet_by_octet_in_uri : (set : TableSet) (b : ℕ) (rest : List ℕ)
     → LacksPastAscii set → decode_piece set (first_piece (following_ranges b) b rest)
     ≡ map decoded_octet_token (b ∷ take (first_piece_tail_len (following_ranges b) rest) rest)
@@ -110,8 +102,6 @@ pieces_are_decoded_octet_by_octet_in_uri set zero (b ∷ rest) alone =
     ∙ ap (λ x. decoded_octet_token b ∷ x) (sym (map-append decoded_octet_token
     (take n rest) (drop n rest)) ∙ ap (map decoded_octet_token) (take-append-drop n rest))
 
--- unreserved octets of a URI: without characters past ASCII,
--- a run of octets is decoded octet by octet
 run_is_decoded_octet_by_octet_in_uri : (set : TableSet) (run : List ℕ) → LacksPastAscii set
     → decode_run set run ≡ map decoded_octet_token run
 unfolding decode_run

@@ -87,7 +87,6 @@ scalars-append [] ys e f = f
 scalars-append (x ∷ xs) ys e f = let p = and_parts _ (all_scalars xs) e in
     and_from _ _ p.0 (scalars-append xs ys p.1 f)
 
--- printing tokens: the characters of tokens that can be written are scalar values
 chars_of_tokens_are_scalars : (ts : List Token) → list_all is_printable ts ≡ true
     → all_scalars (flat_map chars_of_token ts) ≡ true
 chars_of_tokens_are_scalars [] e = refl

@@ -6,7 +6,6 @@ use Rattle.uri_pct.proofs.Unicode.Characters.{hexdigit_is_ascii}
 use Rattle.uri_pct.proofs.ValidTexts.Allowed.{valid_text_has_printable_tokens}
 use Rattle.uri_pct.proofs.ValidTexts.TokenCuts.{ascii_byte_is_first_of_chars}
 
--- tokens printed and read: a character before any bytes is the first of their characters
 first_encoded_char_is_first_of_chars : (c : ℕ) (rest : List ℕ) → IsScalar c
     → chars (encode_utf8 c ++ rest) ≡ c ∷ chars rest
 first_encoded_char_is_first_of_chars c rest scalar =
@@ -21,7 +20,6 @@ unfolding tokens_from_chars is_pct_encoded
 octet_text_is_first_token high low rest h l =
     grind (arith, nat_tests, ascii_byte_is_first_of_chars, hexdigit_is_ascii)
 
--- tokens printed and read: a text that represents a token, at the start, is read as it
 text_of_represented_token_is_first_token : (t : Token) (first rest : List ℕ)
     → RepresentsToken first t → tokens (first ++ rest) ≡ t ∷ tokens rest
 text_of_represented_token_is_first_token (Char c) first rest h = ap (λ x. tokens (x ++ rest)) h.2
@@ -39,8 +37,6 @@ represented_tokens_are_tokens_of_text text (t ∷ ts) h = ap tokens h.1.1.0
     ∙ text_of_represented_token_is_first_token t h.0 h.1.0 h.1.1.1
     ∙ ap (λ r. t ∷ r) (represented_tokens_are_tokens_of_text h.1.0 ts h.1.1.2)
 
--- tokens printed and read: with a character other than `%` before it,
--- a text represents this one and its tokens
 char_before_represented_text_is_represented : (c : ℕ) (cs : List ℕ) (ts : List Token)
     → is_printable (Char c) ≡ true
     → Represents (encode_utf8_all cs) ts → Represents (encode_utf8_all (c ∷ cs)) (Char c ∷ ts)
@@ -48,7 +44,6 @@ unfolding Represents
 char_before_represented_text_is_represented c cs ts e rest =
     let p = and_parts (all_scalars (c ∷ [])) _ e in grind (arith, nat_tests, eqb-false, not-true)
 
--- tokens printed and read: with an octet before it, a text represents this one and its tokens
 octet_before_represented_text_is_represented : (c high low : ℕ) (cs : List ℕ) (ts : List Token)
     → is_pct_encoded c high low ≡ true → Represents (encode_utf8_all cs) ts → Represents
     (encode_utf8_all (c ∷ high ∷ low ∷ cs)) (Octet (16 * digit_value high + digit_value low) ∷ ts)
@@ -61,7 +56,6 @@ octet_before_represented_text_is_represented c high low cs ts e rest =
     grind (arith, nat_tests, encode_ascii, hexdigit_is_ascii) in
     (37 ∷ high ∷ low ∷ [], (X, (text, (high, (low, (digits.0, digits.1, refl, refl))), rest)))
 
--- tokens printed and read: characters represent their tokens, if these can be written
 chars_represent_their_tokens : (cs : List ℕ) → list_all is_printable (tokens_from_chars cs) ≡ true
     → Represents (encode_utf8_all cs) (tokens_from_chars cs)
 unfolding tokens_from_chars Represents
@@ -96,8 +90,6 @@ text_represents_its_printable_tokens text u e =
     subst (λ x. Represents x (tokens text)) u.1.1
     (subst (λ cs. Represents (encode_utf8_all u.0) (tokens_from_chars cs)) (sym same) joined)
 
--- tokens printed and read: a text is valid for a set
--- exactly if it represents tokens that the set allows
 pub text_is_valid_iff_it_represents_allowed_tokens : (set : TableSet) (text : List ℕ)
     → LacksPercent set → IsUtf8 text → IsValidFor set text ↔ RepresentsWithin set text
 unfolding is_valid_for

@@ -1,12 +1,10 @@
 -- If a set allows a text, its tokens and its decoded tokens are printable.
 use Rattle.uri_pct.proofs.Common.{◌≡◌, ℕ, ◌+◌, ◌*◌, ◌<◌, ◌≤◌, Bool, true, false, eqb, ltb, List, [], ◌∷◌, map, refl, ap, arith, ◌&&◌, ⊎_elim, ◌⊎◌, IsScalar, digit_value, is_ascii_hexdigit, to_ascii_lowercase, all_scalars, chars, list_all, low_scalar, cases_Bool, and_parts, and_from, or_cases, lt-ltb, not_from_false, ne_eqb, false_from_ne_true, cases_lt, lowercase-lowercase, nat_tests, TableSet, LacksPercent, IsSubset, allows, allows_past_ascii, is_ucschar, is_iprivate, is_unreserved, unreserved_set, Token, Char, Octet, tokens, tokens_from_chars, is_pct_encoded, allows_token, is_valid_for, IsValidFor, is_printable, is_decodable, lower_token}
 
--- characters of valid texts: a character of `ucschar` is a Unicode scalar value past ASCII
 ucschar_is_scalar_past_ascii : (c : ℕ) → is_ucschar c ≡ true → (128 ≤ c) × IsScalar c
 unfolding is_ucschar
 ucschar_is_scalar_past_ascii c e = (grind (arith, nat_tests), grind (arith, nat_tests))
 
--- characters of valid texts: a character of `iprivate` is a Unicode scalar value past ASCII
 iprivate_is_scalar_past_ascii : (c : ℕ) → is_iprivate c ≡ true → (128 ≤ c) × IsScalar c
 unfolding is_iprivate
 iprivate_is_scalar_past_ascii c e = (grind (arith, nat_tests), grind (arith, nat_tests))
@@ -30,7 +28,6 @@ scalar_but_percent_is_printable : (c : ℕ) → IsScalar c → eqb c 37 ≡ fals
 scalar_but_percent_is_printable c scalar e = and_from _ _ (and_from _ true scalar refl)
     (not_from_false _ e)
 
--- tokens of valid texts: a character that a set allows can be written
 pub allowed_char_is_printable : (set : TableSet) (c : ℕ) → LacksPercent set → allows set c ≡ true
     → is_printable (Char c) ≡ true
 allowed_char_is_printable set c lacks e = ⊎_elim
@@ -38,7 +35,6 @@ allowed_char_is_printable set c lacks e = ⊎_elim
     (grind (arith, nat_tests, allowed_past_ascii_is_scalar, scalar_but_percent_is_printable))
     (cases_lt c 128)
 
--- characters of valid texts: `%` (37) is not unreserved
 unreserved_char_is_not_percent : (c : ℕ) → is_unreserved c ≡ true → eqb c 37 ≡ false
 unreserved_char_is_not_percent c e = grind (arith, nat_tests)
 
@@ -52,14 +48,12 @@ decodable_char_is_printable set c e = ⊎_elim (λ u. let below = unreserved_is_
     scalar_but_percent_is_printable c h.1 (ne_eqb c 37 (λ q. omega arith)))
     (or_cases (is_unreserved c) (allows_past_ascii set c) e)
 
--- characters of valid texts: a decodable character is one of the set, if it has the unreserved ones
 pub decodable_char_is_allowed : (set : TableSet) (c : ℕ) → IsSubset unreserved_set set
     → is_decodable set c ≡ true → allows set c ≡ true
 unfolding is_decodable
 decodable_char_is_allowed set c wide e =
     grind (arith, nat_tests, unreserved_is_ascii, allowed_past_ascii_is_scalar)
 
--- tokens of valid texts: the token is a character, or an octet of a byte
 is_char_or_byte_value : Token → Bool
 is_char_or_byte_value (Char c) = true
 is_char_or_byte_value (Octet value) = ltb value 256
@@ -68,8 +62,6 @@ is_char_or_byte_value (Octet value) = ltb value 256
 pub hexdigit_value_is_below_16 : (h : ℕ) → is_ascii_hexdigit h ≡ true → digit_value h < 16
 hexdigit_value_is_below_16 h e = grind (arith, nat_tests)
 
--- tokens of valid texts: one more character before
--- two others keeps the values of the octets below 256
 octet_values_are_bytes_after_one_more_char : (c high low : ℕ) (rest : List ℕ)
     → list_all is_char_or_byte_value (tokens_from_chars rest) ≡ true
     → list_all is_char_or_byte_value (tokens_from_chars (high ∷ low ∷ rest)) ≡ true
@@ -82,7 +74,6 @@ octet_values_are_bytes_after_one_more_char c high low rest suffix next = ⊎_eli
     rw e (and_from _ _ (lt-ltb (16 * digit_value high + digit_value low) 256 (omega arith)) suffix))
     (λ e. rw e next) (cases_Bool (is_pct_encoded c high low))
 
--- tokens of valid texts: the value of each octet of a text is a byte
 octet_values_are_bytes : (cs : List ℕ) → list_all is_char_or_byte_value (tokens_from_chars cs)
     ≡ true
 unfolding tokens_from_chars is_char_or_byte_value
@@ -128,22 +119,16 @@ lowered_token_is_printable : (t : Token) → is_printable t ≡ true → is_prin
 lowered_token_is_printable (Char c) e = grind (arith, nat_tests, lowered_char_is_printable)
 lowered_token_is_printable (Octet value) e = e
 
--- characters of valid texts: a letter in lower case is unreserved, and every other character is
--- unchanged
 lowered_char_is_the_same_or_unreserved : (c : ℕ) → (to_ascii_lowercase c ≡ c)
     ⊎ (is_unreserved (to_ascii_lowercase c) ≡ true)
 lowered_char_is_the_same_or_unreserved c = grind (arith, nat_tests)
 
--- tokens of valid texts: one that a set allows is allowed
--- in lower case, if it has the unreserved characters
 lowered_token_is_allowed : (set : TableSet) (t : Token) → IsSubset unreserved_set set
     → allows_token set t ≡ true → allows_token set (lower_token t) ≡ true
 lowered_token_is_allowed set (Octet value) wide e = e
 lowered_token_is_allowed set (Char c) wide e =
     grind (arith, nat_tests, unreserved_is_ascii, lowered_char_is_the_same_or_unreserved)
 
--- general fact on lists of tokens, for valid texts:
--- if lowering a token keeps a test, lowering all tokens keeps it
 lowered_tokens_pass_kept_test : (test : Token → Bool)
     → ((t : Token) → test t ≡ true → test (lower_token t) ≡ true)
     → (ts : List Token) → list_all test ts ≡ true → list_all test (map lower_token ts) ≡ true

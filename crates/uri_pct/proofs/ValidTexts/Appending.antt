@@ -2,7 +2,6 @@
 use Rattle.uri_pct.proofs.Common.{◌≡◌, ℕ, true, false, eqb, List, [], ◌∷◌, ◌++◌, refl, sym, ap, ◌∙◌, ◌+◌, ◌*◌, ◌&&◌, ⊎_elim, chars, IsUtf8, list_all, digit_value, cases_Bool, cond-true, cond-false, and_parts, and_from, eqb-true, false≢true, false_from_ne_true, list_all-append, chars-append, TableSet, LacksPercent, allows, Token, Char, Octet, is_pct_encoded, tokens_from_chars, tokens, allows_token, is_valid_for, IsValidFor, print, is_printable}
 use Rattle.uri_pct.proofs.UnreservedDecoding.Printing.{char_but_percent_is_its_own_token, printed_tokens_are_valid_iff_allowed, printed_tokens_parse_to_themselves}
 
--- owned valid texts: a character that a table allows, and that is appended, is no `%`
 allowed_char_is_not_percent : (set : TableSet) (c : ℕ) → LacksPercent set → allows set c ≡ true
     → eqb c 37 ≡ false
 allowed_char_is_not_percent set c lacks e = false_from_ne_true _

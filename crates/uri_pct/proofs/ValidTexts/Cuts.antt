@@ -63,7 +63,6 @@ eqb_of_successors_is_eqb a b = grind (arith, nat_tests)
 zero_equals_no_successor : (b : ℕ) → eqb 0 (suc b) ≡ false
 zero_equals_no_successor b = grind (arith, nat_tests)
 
--- general fact on numbers, for cuts of valid texts: a number by cases is at most what bounds both
 cond_is_at_most_bound_of_both : (b : Bool) (x y m : ℕ) → (b ≡ true → x ≤ m) → (b ≡ false → y ≤ m)
     → cond b x y ≤ m
 cond_is_at_most_bound_of_both true x y m f g = f refl

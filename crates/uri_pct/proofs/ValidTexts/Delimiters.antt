@@ -16,8 +16,6 @@ byte_at_no_index_is_lacked d (b ∷ bs) h =
 eqb-refl : (d : ℕ) → eqb d d ≡ true
 eqb-refl d = eq-eqb d d refl
 
--- splitting at an ASCII delimiter: what `split_once` returns:
--- the text is cut at the first such byte, or lacks it
 pub split_once_cuts_at_first : (d : ℕ) (bs : List ℕ) (r : Option (Bor (List ℕ) × Bor (List ℕ)))
     → IsSplitOnceResult d bs r → d < 128
     → MatchOption r (lacks d bs ≡ true) (λ x. IsCutAtFirst d bs x.0.now x.1.now)
@@ -42,7 +40,6 @@ rsplit_once_cuts_at_last d bs (Some x) h small =
           (drop h.1 bs) (λ i l. NoCharPasses-char d (drop h.1 bs) i found.0 small l),
     )
 
--- splitting at delimiters: a split is a first piece and others
 split_has_first_piece : (p : ℕ → Bool) (xs : List ℕ)
     → (piece : List ℕ) × (pieces : List (List ℕ)) × (slice_split p xs ≡ piece ∷ pieces)
 split_has_first_piece p [] = ([], [], refl)
@@ -51,7 +48,6 @@ split_has_first_piece p (x ∷ xs) =
     ⊎_elim (λ e. ([], slice_split p xs, cond-true _ _ _ e))
     (λ e. (x ∷ f.0, f.1, cond-false _ _ _ e ∙ ap (onto_first x) f.2)) (cases_Bool (p x))
 
--- splitting at a delimiter: a byte x before the first piece is so with more pieces after
 onto_first_commutes_with_append : (x : ℕ) (piece : List ℕ) (pieces more all : List (List ℕ))
     → all ≡ piece ∷ pieces → onto_first x (all ++ more) ≡ onto_first x all ++ more
 onto_first_commutes_with_append x piece pieces more all e = rw e refl
@@ -68,7 +64,6 @@ delimiter_separates_split_pieces d (x ∷ xs) after =
     ∙ onto_first_commutes_with_append x f.0 f.1 (slice_split p after) (slice_split p xs) f.2))
     (cases_Bool (eqb x d))
 
--- splitting at a delimiter d: a text without one is its one piece
 pub text_without_delimiter_is_one_piece : (d : ℕ) (text : List ℕ) → lacks d text ≡ true
     → slice_split (λ b. eqb b d) text ≡ text ∷ []
 text_without_delimiter_is_one_piece d [] e = refl
@@ -77,15 +72,12 @@ text_without_delimiter_is_one_piece d (x ∷ xs) e =
     cond-false _ _ _ (not-true _ p.0)
     ∙ ap (onto_first x) (text_without_delimiter_is_one_piece d xs p.1)
 
--- splitting at a delimiter d: what is before the first one is the first piece
 pub split_piece_before_first_delimiter_is_first : (d : ℕ) (text piece rest : List ℕ)
     → IsCutAtFirst d text piece rest
     → slice_split (λ b. eqb b d) text ≡ piece ∷ slice_split (λ b. eqb b d) rest
 split_piece_before_first_delimiter_is_first d text piece rest cut =
     grind (arith, nat_tests, delimiter_separates_split_pieces, text_without_delimiter_is_one_piece)
 
--- splitting at a delimiter d: the pieces of a text are those of what is before the last d,
--- and what is after it (piece)
 pub split_piece_after_last_delimiter_is_last : (d : ℕ) (text rest piece : List ℕ)
     → IsCutAtLast d text rest piece
     → slice_split (λ b. eqb b d) text ≡ slice_split (λ b. eqb b d) rest ++ piece ∷ []

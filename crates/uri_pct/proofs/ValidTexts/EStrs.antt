@@ -14,7 +14,6 @@ pub superset_allows_same_past_ascii : (s t : TableSet) (c : ℕ) → IsSubset s 
 unfolding allows_past_ascii
 superset_allows_same_past_ascii s t c subset e = grind (arith, nat_tests)
 
--- valid texts: a greater set t has the characters of s
 superset_allows_same_char : (s t : TableSet) (c : ℕ) → IsSubset s t → allows s c ≡ true
     → allows t c ≡ true
 superset_allows_same_char s t c subset e = ⊎_elim (λ low. ascii_char_is_allowed_iff_in_set t c low
@@ -22,7 +21,6 @@ superset_allows_same_char s t c subset e = ⊎_elim (λ low. ascii_char_is_allow
     (λ high. char_past_ascii_is_allowed_by_flags t c high ∙ superset_allows_same_past_ascii
     s t c subset (sym (char_past_ascii_is_allowed_by_flags s c high) ∙ e)) (cases_lt c 128)
 
--- valid texts: tokens that a set s allows are allowed by a greater set t
 pub tokens_allowed_by_superset : (s t : TableSet) (ts : List Token) → IsSubset s t
     → list_all (allows_token s) ts ≡ true → list_all (allows_token t) ts ≡ true
 tokens_allowed_by_superset s t [] subset e = refl
@@ -40,7 +38,6 @@ pub valid_for_superset : (s t : TableSet) (text : List ℕ) → IsSubset s t
 unfolding is_valid_for
 valid_for_superset s t text subset e = tokens_allowed_by_superset s t (tokens text) subset e
 
--- validity: the `%XX` of a byte is valid for a set with octets
 pub printed_octet_is_valid : (set : TableSet) (byte : ℕ) → byte < 256 → set.pct_encoded ≡ true
     → is_valid_for set (text_of_token (Octet byte)) ≡ true
 printed_octet_is_valid set byte small e = printed_tokens_are_valid_iff_allowed set (Octet byte

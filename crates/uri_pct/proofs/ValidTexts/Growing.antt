@@ -19,12 +19,10 @@ grows_by_tokens set old new ts lacks u valid p a e = record {
   tokens = ap tokens e ∙ tokens_of_print_after_valid_text set lacks old ts u valid p;
 }
 
--- owned valid texts: a subset of a set without `%` lacks it too
 subset_lacks_percent : (sub set : TableSet) → IsSubset sub set → LacksPercent set → LacksPercent sub
 subset_lacks_percent sub set subset lacks =
     false_from_ne_true _ (λ p. false≢true (sym lacks ∙ subset.ascii 37 p))
 
--- owned valid texts: with encoded text after it, one is valid, and has the encoded tokens more
 pub grows_by_encoded_text : (set sub : TableSet) (old new text : List ℕ) → LacksPercent set
     → IsSubset sub set → sub.pct_encoded ≡ true → IsUtf8 old → IsUtf8 text → IsValidFor set old
     → new ≡ old ++ print (encode_text sub text) → Grows set old (encode_text sub text) new
@@ -32,7 +30,6 @@ grows_by_encoded_text set sub old new text lacks subset o u v valid e = grows_by
     (encode_text sub text) lacks u valid (encoded_text_is_printable sub text
     (subset_lacks_percent sub set subset lacks) v) (encoded_text_is_allowed sub set text subset o) e
 
--- owned valid texts: with encoded bytes after it, one is valid, and has the encoded tokens more
 pub grows_by_encoded_bytes : (set sub : TableSet) (old new bytes : List ℕ) → LacksPercent set
     → IsSubset sub set
     → sub.pct_encoded ≡ true → IsUtf8 old → list_all is_eight_bit bytes ≡ true → IsValidFor set old
@@ -50,7 +47,6 @@ grows_by_char set old new c lacks u valid a e = grows_by_tokens set old new
     (Char c ∷ []) lacks u valid (and_from _ true (allowed_char_is_printable set c lacks a) refl)
     (and_from _ true a refl) (e ∙ ap (λ x. old ++ x) (sym (append-nil (encode_utf8 c))))
 
--- owned valid texts: with a valid text after it, one is valid, and has its tokens more
 pub grows_by_valid_text : (set : TableSet) (old new text : List ℕ) → LacksPercent set → IsUtf8 old
     → IsValidFor set old → IsValidFor set text → new ≡ old ++ text → Grows set old (tokens text) new
 grows_by_valid_text set old new text lacks u valid more e = record {

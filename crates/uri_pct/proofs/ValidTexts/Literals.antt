@@ -14,7 +14,6 @@ abbrev pub is_literal_char : TableSet → ℕ → Bool
 is_literal_char set c = if nat_lt c 128 then set.ascii c else set.ucschar
     && is_in_range 0xA0 0xD7FF c
 
--- valid literals: a character that passes the test of literals is in the set
 literal_char_is_allowed : (set : TableSet) (c : ℕ) → is_literal_char set c ≡ true
     → allows set c ≡ true
 literal_char_is_allowed set c e = grind (arith, nat_tests, char_from_a0_to_d7ff_is_allowed)
@@ -29,7 +28,6 @@ are_literal_chars set (c ∷ high ∷ low ∷ rest) = if c == 37 then is_ascii_h
     && (is_ascii_hexdigit low && (set.pct_encoded && are_literal_chars set rest))
     else is_literal_char set c && are_literal_chars set (high ∷ low ∷ rest)
 
--- valid literals: characters that pass the test of literals are tokens that the set allows
 literal_chars_are_allowed_tokens : (set : TableSet) (cs : List ℕ) → are_literal_chars set cs ≡ true
     → list_all (allows_token set) (tokens_from_chars cs) ≡ true
 unfolding tokens_from_chars is_pct_encoded
@@ -56,7 +54,6 @@ abbrev pub literal_text_chars : List ℕ → List ℕ
 literal_text_chars [] = []
 literal_text_chars (b ∷ rest) = chars_after (continuation_len b) (lead_bits b) rest
 
--- valid literals: the characters that are computed of a text are its characters
 literal_text_chars_are_its_chars : (text : List ℕ) → chars text ≡ literal_text_chars text
 unfolding chars
 literal_text_chars_are_its_chars [] = refl

@@ -6,7 +6,6 @@ use Rattle.uri_pct.proofs.ValidTexts.Cuts.{valid_prefix_by_first_byte}
 use Rattle.uri_pct.proofs.ValidTexts.Validity.{ascii_first_byte_is_allowed_iff_in_set, tail_of_scalars_is_scalars}
 use Rattle.uri_pct.proofs.ValidTexts.PrefixSteps.{valid_prefix_by_first_char}
 
--- valid prefixes: the tokens of the characters are allowed
 abbrev are_allowed_chars : TableSet → List ℕ → Type 0
 are_allowed_chars set cs = list_all (allows_token set) (tokens_from_chars cs) ≡ true
 
@@ -14,7 +13,6 @@ are_allowed_chars set cs = list_all (allows_token set) (tokens_from_chars cs) �
 addition_commutes : (m n : ℕ) → m + n ≡ n + m
 addition_commutes m n = omega arith
 
--- valid prefixes: an octet before characters (cs) makes their text three bytes longer
 octet_is_three_bytes_long : (c h l : ℕ) (cs : List ℕ) → is_pct_encoded c h l ≡ true
     → length (encode_utf8_all (c ∷ h ∷ l ∷ cs)) ≡ length (encode_utf8_all cs) + 3
 unfolding is_pct_encoded
@@ -25,7 +23,6 @@ pub empty_text_has_empty_valid_prefix : (set : TableSet) → valid_prefix set []
 unfolding valid_prefix_from
 empty_text_has_empty_valid_prefix set = refl
 
--- valid prefixes: characters and one more (c) are within its length more
 chars_with_one_more_stay_within : (c : ℕ) (xs : List ℕ) {m n : ℕ} → m ≡ n + length (encode_utf8 c)
     → length (encode_utf8_all xs) ≤ n → length (encode_utf8_all (c ∷ xs)) ≤ m
 chars_with_one_more_stay_within c xs e l = grind (arith, nat_tests, length-append)
@@ -167,14 +164,12 @@ module _ (set : TableSet) (lacks : LacksPercent set) where
       (h ∷ l ∷ (xs ++ ys)) s p.0) (valid_chars_are_within_valid_prefix (h ∷ l ∷ xs) ys rest p.1))
       (cases_Bool (is_pct_encoded c h l))
 
--- valid prefixes: the first of two joined lists of scalar values is one
 first_of_joined_scalars_is_scalars : (xs ys : List ℕ) → all_scalars (xs ++ ys) ≡ true
     → all_scalars xs ≡ true
 first_of_joined_scalars_is_scalars [] ys s = refl
 first_of_joined_scalars_is_scalars (x ∷ xs) ys s = let p = and_parts _ (all_scalars (xs ++ ys)) s in
     and_from _ _ p.0 (first_of_joined_scalars_is_scalars xs ys p.1)
 
--- valid prefixes: the second of two joined lists of scalar values is one
 second_of_joined_scalars_is_scalars : (xs ys : List ℕ) → all_scalars (xs ++ ys) ≡ true
     → all_scalars ys ≡ true
 second_of_joined_scalars_is_scalars [] ys s = s

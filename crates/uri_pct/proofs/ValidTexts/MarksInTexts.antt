@@ -39,18 +39,14 @@ passes_no_mark_within_chars marks (suc k) (b ∷ rest) = not (is_one_of marks b)
 abbrev pub AreAscii : List ℕ → Type 0
 AreAscii marks = (b : ℕ) → is_one_of marks b ≡ true → b < 128
 
--- cuts of valid texts: no byte is both ASCII and past it
 ascii_byte_is_not_past_ascii : (b : ℕ) → is_no_ascii_byte b ≡ true → b < 128 → ⊥
 ascii_byte_is_not_past_ascii b h l = grind (arith, nat_tests)
 
--- cuts of valid texts: at ASCII marks, a text is never cut at a byte past ASCII
 byte_past_ascii_is_no_ascii_mark : (marks : List ℕ) → AreAscii marks → (b : ℕ)
     → is_no_ascii_byte b ≡ true → is_one_of marks b ≡ false
 byte_past_ascii_is_no_ascii_mark marks ascii b h = ⊎_elim (λ m. let l = ascii b m in absurd
     (ascii_byte_is_not_past_ascii b h l)) (λ m. m) (cases_Bool (is_one_of marks b))
 
--- cuts of valid texts: at ASCII marks,
--- a text is never cut among the bytes past ASCII of a character (more)
 bytes_past_ascii_hold_no_mark : (marks : List ℕ) → AreAscii marks → (more rest : List ℕ)
     → list_all is_no_ascii_byte more ≡ true → passes_no_mark_within_chars marks 0 rest ≡ true
     → passes_no_mark_within_chars marks (length more) (more ++ rest) ≡ true
@@ -108,8 +104,6 @@ cut_at_mark_keeps_first_char marks (suc k) c (b ∷ bs) s =
     (length_before_marks_counts_other_byte marks b bs (not-true _ p.0))
     ∙ cut_at_mark_keeps_first_char marks k (c * 64 + (b - 128)) bs p.1
 
--- cuts of valid texts: a cut at a mark that is
--- in no character leaves whether the first character is allowed
 pub cut_at_mark_keeps_whether_first_is_allowed : (set : TableSet) (marks : List ℕ)
     (b : ℕ) (bs : List ℕ) → passes_no_mark_within_chars marks (continuation_len b) bs ≡ true
     → allows_first set b (take (length_before_marks marks bs) bs) ≡ allows_first set b bs
@@ -124,7 +118,6 @@ pub skips_after_percent_begins_anew : (marks : List ℕ) (b : ℕ) (bs : List �
 skips_after_percent_begins_anew marks b bs e s =
     grind (arith, nat_tests, ascii_byte_has_no_continuation)
 
--- cuts of valid texts: the byte at which a text is cut is a mark
 byte_after_cut_is_mark : (marks bs : List ℕ) → length_before_marks marks bs < length bs
     → is_one_of marks (get_or bs (length_before_marks marks bs) 0) ≡ true
 byte_after_cut_is_mark marks bs h = not-false _

@@ -61,7 +61,6 @@ valid_prefix_stops_at_stray_percent set lacks bs i h p e = valid_prefix_by_byte_
     (and_left _ _ o) ∙ cond-false _ _ _ (percent_is_not_allowed_first set lacks _ _ (eq-eqb _ _ p)))
     (cases_Bool set.pct_encoded)
 
--- scanning: no character of a set is `%` (37)
 ascii_char_of_set_is_not_percent : (set : TableSet) → LacksPercent set → (b : ℕ) → set.ascii b
     ≡ true → eqb b 37 ≡ false
 ascii_char_of_set_is_not_percent set lacks b a = grind (arith, nat_tests)
@@ -93,18 +92,15 @@ skipped_bytes_add_their_length set [] rest = omega arith
 skipped_bytes_add_their_length set (b ∷ more) rest = let h = skipped_bytes_add_their_length set more
     rest in omega arith
 
--- scanning: a byte past ASCII is not `%` (37)
 past_ascii_is_not_percent : (n : ℕ) → 128 ≤ n → n ≡ 37 → ⊥
 past_ascii_is_not_percent n l d = omega arith
 
--- scanning: the first character of a text that begins with the bytes of c is c
 first_char_of_text_is_the_encoded : (bs rest : List ℕ) (c : ℕ) → IsUtf8 bs → bs
     ≡ encode_utf8 c ++ rest → first_char bs ≡ c
 unfolding first_char
 first_char_of_text_is_the_encoded bs rest c u e = ap (λ cs. get_or cs 0 0)
     (chars_past_char bs rest c u e)
 
--- scanning: a scan passes a first character past ASCII if the set allows it, and stops otherwise
 valid_prefix_by_first_char_past_ascii : (set : TableSet) (bs rest : List ℕ) (c : ℕ) → IsUtf8 bs
     → bs ≡ encode_utf8 c ++ rest → 128 ≤ get_or bs 0 0
     → valid_prefix set bs ≡ cond (allows_past_ascii set c) (valid_prefix set rest + len_utf8 c) 0
@@ -166,7 +162,6 @@ unscanned_percent_has_no_hex_digits set bs i h o p z = ⊎_elim (λ e. absurd (s
     (and_from _ _ o (eq-eqb _ _ p))) ∙ sym (valid_prefix_by_byte_at_index set bs i h) ∙ z)))
     (λ e. e) (cases_Bool (has_hex_digits_after bs i))
 
--- scanning: a set without the flags ucschar and iprivate allows nothing past ASCII
 no_flags_allow_nothing_past_ascii : (set : TableSet)
     → (set.ucschar || set.iprivate) ≡ false → (c : ℕ) → allows_past_ascii set c ≡ false
 unfolding allows_past_ascii

@@ -3,7 +3,6 @@ use Rattle.uri_pct.proofs.Common.{◌≡◌, ℕ, zero, suc, ◌+◌, ◌≤◌,
 use Rattle.uri_pct.proofs.ValidTexts.EStrs.{superset_allows_same_past_ascii}
 use Rattle.uri_pct.proofs.ValidTexts.Validity.{ascii_first_byte_is_allowed_iff_in_set}
 
--- general fact on lists, for scans: n + 1 bytes that are dropped are the first one and n
 drop_of_one_more_drops_first_byte : (n : ℕ) (b : ℕ) (bs : List ℕ) → drop (n + 1) (b ∷ bs)
     ≡ drop n bs
 drop_of_one_more_drops_first_byte n b bs = rw add-one refl
@@ -50,7 +49,6 @@ pub valid_prefix_is_at_most_length : (set : TableSet) (bs : List ℕ)
     → valid_prefix set bs ≤ length bs
 valid_prefix_is_at_most_length set bs = valid_prefix_from_is_at_most_length set 0 bs
 
--- scanning: a greater set allows the first character that a smaller one does
 superset_allows_same_first_char : (small great : TableSet) → IsSubset small great
     → (b : ℕ) (bs : List ℕ) → allows_first small b bs ≡ true → allows_first great b bs ≡ true
 unfolding allows_first

@@ -79,7 +79,6 @@ module _ (set : TableSet) (lacks : LacksPercent set) (pct : set.pct_encoded ≡ 
       (λ j l h. absurd (omega arith)) (subst (IsCharBoundary bs) (sym z) here) in
       (r.0 ∙ ap (λ m. m + valid_prefix set (drop m bs)) z, r.1)
 
--- scanning: a scan passes allowed characters and octets, and stops at a boundary of characters
 pub characters_and_octets_are_scanned : (set : TableSet) → LacksPercent set → set.pct_encoded ≡ true
     → ((b : ℕ) → set.ascii b ≡ true → b < 128) → (bs : List ℕ) (i n : ℕ) → i + n ≤ length bs
     → IsUtf8 bs → IsCharBoundary bs i → AreCharactersOrOctets set.ascii bs i n

@@ -32,7 +32,6 @@ octet_needs_second_hexdigit : (c d e : ℕ) → is_ascii_hexdigit e ≡ false
 unfolding is_pct_encoded
 octet_needs_second_hexdigit c d e h = and_right _ _ (and_right _ _ h)
 
--- cuts of valid texts: the character before a mark that is in no octet is a token by itself
 char_before_mark_is_own_token : (c mark : ℕ) (ds : List ℕ) → IsNeverInOctet mark
     → tokens_from_chars (c ∷ mark ∷ ds) ≡ Char c ∷ Char mark ∷ tokens_from_chars ds
 unfolding tokens_from_chars
@@ -41,7 +40,6 @@ char_before_mark_is_own_token c mark (d ∷ ds) m = cond-false _ _ _
     (octet_needs_first_hexdigit c mark d m.no_digit)
     ∙ ap (λ ts. Char c ∷ ts) (char_but_percent_is_its_own_token mark (d ∷ ds) m.no_percent)
 
--- cuts of valid texts: a mark that is in no octet separates the tokens before and after it
 mark_separates_tokens_of_chars : (cs ds : List ℕ) (mark : ℕ) → IsNeverInOctet mark
     → tokens_from_chars (cs ++ mark ∷ ds) ≡ tokens_from_chars cs ++ Char mark ∷ tokens_from_chars ds
 unfolding tokens_from_chars
@@ -56,7 +54,6 @@ mark_separates_tokens_of_chars (c ∷ high ∷ low ∷ cs) ds mark m =
     (ap (λ ts. Char c ∷ ts) (mark_separates_tokens_of_chars (high ∷ low ∷ cs) ds mark m)))
     (cases_Bool (is_pct_encoded c high low))
 
--- cuts of valid texts: the characters after an ASCII byte c come after it
 ascii_byte_comes_before_chars_of_rest : (c : ℕ) (rest : List ℕ) → chars_after 0 c rest
     ≡ c ∷ chars rest
 unfolding chars
@@ -70,7 +67,6 @@ unfolding chars
 ascii_byte_is_first_of_chars c rest h = let low = lt-ltb c 128 h in rw low
     (ascii_byte_comes_before_chars_of_rest c rest)
 
--- cuts of valid texts: a mark that is in no octet separates the tokens of the texts around it
 mark_separates_tokens_of_text : (before after : List ℕ) (mark : ℕ) → IsNeverInOctet mark
     → IsUtf8 before → tokens (before ++ mark ∷ after) ≡ tokens before ++ Char mark ∷ tokens after
 mark_separates_tokens_of_text before after mark m u =
@@ -78,7 +74,6 @@ mark_separates_tokens_of_text before after mark m u =
     ∙ ap (λ x. chars before ++ x) (ascii_byte_is_first_of_chars mark after m.ascii))
     ∙ mark_separates_tokens_of_chars (chars before) (chars after) mark m
 
--- validity: a text is valid on both sides of a mark that is in no octet
 texts_around_mark_are_valid : (set : TableSet) (before after : List ℕ) (mark : ℕ)
     → IsNeverInOctet mark → IsUtf8 before → is_valid_for set (before ++ mark ∷ after) ≡ true
     → (is_valid_for set before ≡ true) × (is_valid_for set after ≡ true)
@@ -89,7 +84,6 @@ texts_around_mark_are_valid set before after mark m u e =
     (ap (list_all (allows_token set)) (mark_separates_tokens_of_text before after mark m u)) ∙ e) in
     (both.0, (and_parts _ _ both.1).1)
 
--- cuts of valid texts: what is before an ASCII byte of a text is a text
 text_before_ascii_mark_is_utf8 : (text before after : List ℕ) (mark : ℕ) → mark < 128 → IsUtf8 text
     → text ≡ before ++ mark ∷ after → IsUtf8 before
 text_before_ascii_mark_is_utf8 text before after mark small u same =
@@ -111,7 +105,6 @@ valid_before_mark set text before after mark e same m u = (texts_around_mark_are
     before after mark m (text_before_ascii_mark_is_utf8 text before after mark m.ascii u same)
     (sym (ap (is_valid_for set) same) ∙ e)).0
 
--- validity: what is after a mark (in no octet) of a valid text is valid
 pub valid_after_mark : (set : TableSet) (text before after : List ℕ) (mark : ℕ)
     → is_valid_for set text ≡ true → text ≡ before ++ mark ∷ after → IsNeverInOctet mark
     → IsUtf8 text → is_valid_for set after ≡ true

@@ -9,7 +9,6 @@ use Rattle.uri_pct.proofs.ValidTexts.PrefixSteps.{valid_prefix_by_first_char}
 abbrev pub set_without_octets : TableSet → TableSet
 set_without_octets set = record set { pct_encoded = false }
 
--- valid prefixes: how far literal characters are unchanged, by the first character
 literal_prefix_by_first_char : (set : TableSet) (text rest : List ℕ) (c : ℕ) → IsUtf8 text
     → text ≡ encode_utf8 c ++ rest → valid_prefix (set_without_octets set) text
     ≡ cond (allows set c) (valid_prefix (set_without_octets set) rest + len_utf8 c) 0
@@ -22,7 +21,6 @@ abbrev HasUnchangedPrefix : TableSet → List ℕ → ℕ → Type 0
 HasUnchangedPrefix set text n = print (encode_text set text)
     ≡ take n text ++ print (encode_text set (drop n text))
 
--- valid prefixes: an allowed character before an unchanged prefix lengthens it
 prefix_with_allowed_char_before_is_unchanged : (set : TableSet) (c n : ℕ) (rest : List ℕ)
     → IsUtf8 (encode_utf8 c ++ rest) → allows set c ≡ true → HasUnchangedPrefix set rest n
     → HasUnchangedPrefix set (encode_utf8 c ++ rest) (n + len_utf8 c)
@@ -39,7 +37,6 @@ prefix_with_allowed_char_before_is_unchanged set c n rest u allowed unchanged =
     ++ print (encode_text set x)) (sym (drop-append-add (encode_utf8 c) rest n))
     ∙ ap (λ k. take k text ++ print (encode_text set (drop k text))) (sym size)
 
--- valid prefixes: the longest prefix of characters of the set, without octets, is unchanged
 literal_prefix_of_chars_is_unchanged : (set : TableSet) (cs : List ℕ) → all_scalars cs ≡ true
     → HasUnchangedPrefix set (encode_utf8_all cs)
     (valid_prefix (set_without_octets set) (encode_utf8_all cs))
@@ -56,14 +53,12 @@ literal_prefix_of_chars_is_unchanged set (c ∷ cs) s =
     (λ a. subst (HasUnchangedPrefix set text) (sym (first ∙ cond-false _ _ _ a)) refl)
     (cases_Bool (allows set c))
 
--- valid prefixes: what is scanned of a text by a set without octets is unchanged
 literal_prefix_of_text_is_unchanged : (set : TableSet) (text : List ℕ) → IsUtf8 text
     → HasUnchangedPrefix set text (valid_prefix (set_without_octets set) text)
 literal_prefix_of_text_is_unchanged set text u = subst
     (λ t. HasUnchangedPrefix set t (valid_prefix (set_without_octets set) t)) u.1.1
     (literal_prefix_of_chars_is_unchanged set u.0 u.1.0)
 
--- valid prefixes: the run of allowed characters from `start` on is encoded as itself
 pub allowed_run_is_encoded_as_itself : (set : TableSet) (text : List ℕ) (start end : ℕ)
     → IsUtf8 text → IsCharBoundary text start → end
     ≡ start + valid_prefix (set_without_octets set) (drop start text)
@@ -84,7 +79,6 @@ utf8_length_of_char_is_positive c = grind (arith, nat_tests, char_has_encoding, 
 sum_with_positive_is_not_zero : (n k : ℕ) → 0 < k → n + k ≡ 0 → ⊥
 sum_with_positive_is_not_zero n k h e = omega arith
 
--- valid prefixes: the character after the run of allowed characters is not allowed
 pub char_after_allowed_run_is_not_allowed : (set : TableSet) (text rest : List ℕ) (start end c : ℕ)
     → IsUtf8 text → IsCharBoundary text end → end
     ≡ start + valid_prefix (set_without_octets set) (drop start text)
@@ -104,14 +98,12 @@ char_after_allowed_run_is_not_allowed set text rest start end c u here e joined 
 printed_octets : List ℕ → List ℕ
 printed_octets bytes = print (map Octet bytes)
 
--- valid prefixes: the `%XX` of joined bytes are those of each
 octets_of_joined_bytes : (xs ys : List ℕ) → printed_octets (xs ++ ys)
     ≡ printed_octets xs ++ printed_octets ys
 unfolding printed_octets
 octets_of_joined_bytes xs ys = ap print (map-append Octet xs ys)
     ∙ print-append (map Octet xs) (map Octet ys)
 
--- valid prefixes: an empty run is encoded as its octets
 pub empty_run_is_encoded_as_octets : (set : TableSet) (text : List ℕ) (start : ℕ)
     → IsEncodedBy (λ bytes. print (map Octet bytes)) set text start start
 empty_run_is_encoded_as_octets set text start = let none : start - start
@@ -139,8 +131,6 @@ longer_run_is_encoded_as_octets set text start end next c u ordered joined place
     ∙ ap (λ k. printed_octets (take (k - start) (drop start text)) ++ print
     (encode_text set (drop k text))) (sym place)
 
--- valid prefixes: a run of characters that are encoded is not empty,
--- as its first character is not allowed
 pub disallowed_run_is_not_empty : (set : TableSet) (text : List ℕ) (start end c : ℕ) → start ≤ end
     → drop end text ≡ encode_utf8 c ++ drop (end + len_utf8 c) text → allows set c ≡ true
     → ((d : ℕ) (rest : List ℕ) → drop start text ≡ encode_utf8 d ++ rest → allows set d ≡ false)
@@ -163,7 +153,6 @@ encoded_text_after_two_runs set out mid new text all start end next kept refused
     let rest : List ℕ = print (encode_text set (drop next text)) in
     grind (arith, nat_tests, append_assoc)
 
--- valid prefixes: at the end of the text, what was appended is the whole encoded text
 pub encoded_text_at_end : (set : TableSet) (out text all : List ℕ) (done : ℕ) → length text ≤ done
     → out ++ print (encode_text set (drop done text)) ≡ all → out ≡ all
 encoded_text_at_end set out text all done past whole =

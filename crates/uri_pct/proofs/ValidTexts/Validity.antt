@@ -16,7 +16,6 @@ pub validity_by_first_byte : (set : TableSet) (b : ℕ) (rest : List ℕ) → va
 unfolding valid_from
 validity_by_first_byte set b rest = refl
 
--- validity: bytes that are skipped are not tested
 validity_skips_given_bytes : (set : TableSet) (more rest : List ℕ)
     → valid_from set (length more) (more ++ rest) ≡ valid_from set 0 rest
 unfolding valid_from
@@ -50,7 +49,6 @@ and_is_false_with_any_first : (x y z : Bool) → (y && z) ≡ false → ((x && y
 and_is_false_with_any_first true y z e = e
 and_is_false_with_any_first false y z e = refl
 
--- validity: a byte past ASCII is not `%` (37)
 past_ascii_is_not_percent : {n : ℕ} (b : ℕ) → n ≡ b → 128 ≤ n → b ≡ 37 → ⊥
 past_ascii_is_not_percent b e h d = omega arith
 
@@ -123,7 +121,6 @@ unfolding valid_from
 validity_skips_two_hexdigits set h l rest e f =
     grind (arith, nat_tests, encode_ascii, hexdigit_is_ascii)
 
--- validity: the `%` of an octet is valid if what is after the octet is
 validity_after_percent_skips_two : (set : TableSet) (c : ℕ) (cs : List ℕ) → c ≡ 37
     → begins_with_hex_digits cs ≡ true → set.pct_encoded ≡ true
     → valid_from set 0 (encode_utf8_all (c ∷ cs)) ≡ valid_from set 2 (encode_utf8_all cs)
@@ -132,7 +129,6 @@ validity_after_percent_skips_two set c cs d b o =
     ∙ validity_by_first_byte set c (encode_utf8_all cs) ∙ cond-true _ _ _ (and_from _ _
     (and_from _ _ o (ap (λ t. eqb t 37) d)) (encoded_chars_begin_with_same_hex_digits cs ∙ b))
 
--- validity: a `%` (37) is not valid for a set without octets
 stray_percent_is_not_valid : (set : TableSet) (c : ℕ) (cs : List ℕ) → LacksPercent set → c ≡ 37
     → set.pct_encoded ≡ false → valid_from set 0 (encode_utf8_all (c ∷ cs)) ≡ false
 stray_percent_is_not_valid set c cs p d o = ap (λ t. valid_from set 0 (t ++ encode_utf8_all cs))
@@ -140,7 +136,6 @@ stray_percent_is_not_valid set c cs p d o = ap (λ t. valid_from set 0 (t ++ enc
     ∙ cond-false _ _ _ (and_left _ _ (and_left _ _ o)) ∙ and_left _ _
     (ascii_first_byte_is_allowed_iff_in_set set c _ (omega arith) ∙ ap set.ascii d ∙ p)
 
--- validity: an octet is valid if the set has octets and what is after it is valid
 validity_by_first_octet : (set : TableSet) (c h l : ℕ) (cs : List ℕ) → LacksPercent set
     → is_pct_encoded c h l ≡ true → valid_from set 0 (encode_utf8_all (c ∷ h ∷ l ∷ cs))
     ≡ (set.pct_encoded && valid_from set 0 (encode_utf8_all cs))

@@ -79,7 +79,6 @@ returns-clause-query c = ap (λ (parts : Components). parts.query) (made c)
 pub returns-clause-fragment : goal.returns-clause-fragment
 returns-clause-fragment c = ap (λ (parts : Components). parts.fragment) (made c)
 
--- the error of parts that have a scheme and an authority is that of the path
 error_is_of_path : (p : BuilderParts) (scheme authority path query : List ℕ)
     → as_components p ≡ four scheme authority path query
     → refusal p ≡ build_error_of_path true true path

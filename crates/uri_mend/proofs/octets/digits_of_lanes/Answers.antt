@@ -4,7 +4,6 @@ use Rattle.std.specs.Fmt.{digit_glyph}
 use Rattle.uri_pct.proofs.Offered.{lanes_fit_swizzle, swizzle_is_lookup}
 use Rattle.uri_mend.proofs.octets.digits_of_lanes.Goals as goal
 
--- octets: the hexadecimal digits
 digits : List ℕ
 digits = 48 ∷ 49 ∷ 50 ∷ 51 ∷ 52 ∷ 53 ∷ 54 ∷ 55 ∷ 56 ∷ 57 ∷ 65 ∷ 66 ∷ 67 ∷ 68 ∷ 69 ∷ 70 ∷ []
 

@@ -7,7 +7,6 @@ read : ℕ → List ℕ → List ℕ
 read zero v = []
 read (suc n) v = get_or v 0 0 ∷ read n (drop 1 v)
 
--- general fact on lists, for octets: a list is its items, read one by one
 list-is-read : (n : ℕ) (v : List ℕ) → length v ≡ n → v ≡ read n v
 unfolding read
 list-is-read zero [] e = refl

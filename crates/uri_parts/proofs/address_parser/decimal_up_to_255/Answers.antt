@@ -2,7 +2,6 @@ use Rattle.uri_parts.proofs.Common.{◌≡◌, ℕ, ◌+◌, ◌*◌, ◌<◌, �
 use Rattle.uri_parts.proofs.address_parser.decimal_up_to_255.Goals.{else-loop-byte-test, then-loop-byte-test+in_default}
 use Rattle.uri_parts.proofs.address_parser.decimal_up_to_255.Goals as goal
 
--- one more digit
 more : (s : List ℕ) (i j value byte digit : ℕ) → i ≡ j → j < length s → AllDigits 10 (take i s)
     → value ≡ digits_value 10 (take i s) → byte ≡ get_or s j 0
     → (digit_value byte < 10) × (digit ≡ digit_value byte)

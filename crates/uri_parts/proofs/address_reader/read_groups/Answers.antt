@@ -24,7 +24,6 @@ same-for-suffix : {B : Type 0} (f : List ℕ → B) (text : List ℕ) (i : ℕ)
 same-for-suffix f text i = ap f (take_all (length text - i) (drop i text)
     (omega (arith, length-drop i text)))
 
--- an IPv4 address leaves a suffix of the text
 ipv4-leaves-suffix : (text two rest : List ℕ) (i : ℕ) → i ≤ length text →
     Some (two, rest) ≡ segments_of_ipv4 (take (length text - i) (drop i text)) → IsSuffix rest text
 ipv4-leaves-suffix text two rest i within e = suffix-at-position text rest i within

@@ -2,7 +2,6 @@ use Rattle.uri_parts.proofs.Common.{Some, None, ap, sym, subst, ◌∙◌, ◌++
 use Rattle.uri_parts.proofs.Splitting.Fragments.{appended_is_with_fragment, stays_of_kind_with_fragment, stays_of_kind_without_fragment, positions_stay_with_fragment}
 use Rattle.uri_parts.proofs.fragment.with_fragment.Goals as goal
 
--- the text that is made without a fragment, and with one
 without : (g : _) (c : goal.In_ok-push_str g)
     → IsWithFragment c.args.text.now None (string_bytes c.push_str.new.self)
 without g c = grind arith

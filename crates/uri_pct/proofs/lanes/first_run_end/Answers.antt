@@ -5,7 +5,6 @@ use Rattle.uri_pct.proofs.LaneScans.BlockOctets.{MarksFailingLanesFrom, run_goes
 use Rattle.uri_pct.proofs.lanes.first_run_end.Goals as goal
 use Rattle.uri_pct.proofs.lanes.first_run_end.Goals.{Else-mask-eq0}
 
--- the mask marks the bytes of the block outside the set
 marks : (c : Else-mask-eq0) → MarksFailingLanesFrom (has_bit c.args.low c.args.high)
     c.args.bytes.now c.args.start c.first_block_outside-block.result.0
     c.first_block_outside-block.result.1

@@ -4,7 +4,6 @@ use Rattle.uri_pct.proofs.Unicode.Pieces.{utf8_pieces_are_cut_at_non_continuatio
 use Rattle.uri_pct.proofs.Unicode.Runs.{no_bytes_have_no_pieces}
 use Rattle.uri_pct.proofs.utf8_runs.take_lone_bytes.Goals as goal
 
--- UTF-8: a byte past ASCII, with nothing after it, is no character
 lone-byte-is-no-character : (b : ℕ) → 128 ≤ b
     → first_piece (following_ranges b) b [] ≡ IllFormed (b ∷ [])
 unfolding following_ranges
@@ -24,18 +23,15 @@ first-byte-is-ill-formed (b ∷ d ∷ rest) past long high = utf8_pieces_are_cut
     ∷ []) (d ∷ rest) (byte_below_80_or_from_c0_is_no_continuation d (inr high))
     ∙ ap (λ ps. ps ++ utf8_pieces (d ∷ rest)) (lone-byte-is-ill-formed b (past 0 0 (omega arith)))
 
--- general fact on lists, for a run: a slice from the second byte on is what is dropped to
 slice-after-first-is-drop : (bytes : List ℕ) → take (length bytes - 1) (drop 1 bytes) ≡ drop 1 bytes
 slice-after-first-is-drop bytes = grind (arith, length-drop, take_all)
 
--- decoding: the parts of a run whose first byte is ill-formed by itself are that byte and the rest
 parts-after-ill-formed-byte : (bytes : List ℕ) → ArePastAscii bytes → 1 < length bytes
     → 192 ≤ get_or bytes 1 0 → (Decoded (IllFormed (take 1 bytes)) ∷ []) ++ map Decoded
     (utf8_pieces (take (length bytes - 1) (drop 1 bytes))) ≡ map Decoded (utf8_pieces bytes)
 parts-after-ill-formed-byte bytes past long high =
     grind (arith, nat_tests, slice-after-first-is-drop, first-byte-is-ill-formed)
 
--- decoding: the parts of a run of one byte are that byte, ill-formed by itself
 parts-of-lone-byte : (bytes : List ℕ)
     → ArePastAscii bytes → length bytes ≡ 1 → (Decoded (IllFormed bytes) ∷ []) ++ map Decoded
     (utf8_pieces (take (length bytes - 1) (drop 1 bytes))) ≡ map Decoded (utf8_pieces bytes)

@@ -4,12 +4,10 @@ use Rattle.uri_ops.proofs.AsciiForms.EncodedRuns.{pushed-octet-is-encoding}
 use Rattle.uri_ops.proofs.AsciiForms.EncodedPaths.{encoding-of-nil-is-nil}
 use Rattle.uri_ops.proofs.convert.encoded.push_leading_octets.Goals as goal
 
--- general fact on lists, for the octets of a run: three stores, one after the other
 three-stores : (xs : List ℕ) (n m a b c : ℕ) → m ≡ n + 3 → m ≤ length xs
     → take m (set (set (set xs n a) (n + 1) b) (n + 2) c) ≡ take n xs ++ a ∷ b ∷ c ∷ []
 three-stores xs n m a b c e inside = grind (arith, common_steps, set)
 
--- general fact on lists, for the three bytes of an octet: a list of three is its elements
 list-of-three : (xs ys : List ℕ) (a b c : ℕ) → xs ≡ ys → ys ≡ a ∷ b ∷ c ∷ []
     → get_or xs 0 0 ∷ get_or xs 1 0 ∷ get_or xs 2 0 ∷ [] ≡ ys
 list-of-three xs ys a b c same three =

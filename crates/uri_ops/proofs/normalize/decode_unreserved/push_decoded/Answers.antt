@@ -19,7 +19,6 @@ formatting-completes-decoding : (lowers : Bool) (set : TableSet) (text : List �
 formatting-completes-decoding lowers set text valid =
     grind (arith, encoding-formatting-completes-decoding, decoding-without-formatting-is-complete)
 
--- decoding: ASCII has no formatting characters
 formatting-leaves-ascii : (set : TableSet) (text : List ℕ) → IsAscii text
     → formatted set text ≡ text
 formatting-leaves-ascii set text ascii =

@@ -6,7 +6,6 @@ use Rattle.uri_ops.proofs.normalize.literal_runs.lowered.Goals as goal
 abbrev is_entry : ℕ → Bool
 is_entry b = eqb (get_or LOWERED.now b 0) (to_ascii_lowercase b)
 
--- normalising, letters lowered by a table: each entry passes the test of entries
 entry-is-lowered : (b : ℕ) → b < 256 → get_or LOWERED.now b 0 ≡ to_ascii_lowercase b
 entry-is-lowered b small = eqb-true _ _ (agree_below_at is_entry (λ _. true) 256 b refl small)
 

@@ -5,7 +5,6 @@ use Rattle.uri_ops.proofs.Meanings.UnreservedCodes.{lowered-code-of-ascii-is-asc
 use Rattle.uri_ops.proofs.normalize.short_components.push_short_bytes.Goals as goal
 use Rattle.uri_ops.proofs.normalize.short_components.push_short_bytes.Goals.{else-high-ge56-via-then-high-ge56+else-not-alone, else-high-ge56-via-else-high-ge56}
 
--- short components: an ASCII character, in lower case if lowers
 character-is-lowered-text : (lowers : Bool) (b : ℕ)
     → lowered_code_if lowers b ∷ [] ≡ lowered_text_if lowers (b ∷ [])
 character-is-lowered-text true b = refl

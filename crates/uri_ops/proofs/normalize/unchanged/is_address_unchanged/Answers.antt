@@ -16,12 +16,10 @@ colons_of-append : (xs ys : List ℕ) → colons_of (xs ++ ys) ≡ colons_of xs 
 colons_of-append [] ys = omega arith
 colons_of-append (c ∷ xs) ys = omega (arith, colons_of-append xs ys)
 
--- normal addresses: a usual digit is the one that its value is written by
 usual-digit-is-of-its-value : (p c : ℕ) → not (unusual p c) ≡ true → digit_value c < 16
     → digit_char (digit_value c) ≡ c
 usual-digit-is-of-its-value p c e h = grind (arith, nat_tests)
 
--- normal addresses: a usual digit that begins a group is not 0
 usual-first-digit-is-not-zero : (p c : ℕ) → (p == 58 || p == 91) ≡ true
     → not (unusual p c) ≡ true → digit_value c < 16 → 0 < digit_value c
 usual-first-digit-is-not-zero p c begins e h = grind (arith, nat_tests)
@@ -115,7 +113,6 @@ usual-group-is-hex p (a ∷ b ∷ c ∷ d ∷ []) s begins e h =
     )
 usual-group-is-hex p (a ∷ b ∷ c ∷ d ∷ x ∷ group) s begins e h = absurd (omega (arith, h.1))
 
--- normal addresses: a usual text has no `.`
 usual-text-has-no-dot : (p : ℕ) (xs ys : List ℕ) → usual p (xs ++ codes "." ++ ys) ≡ true → ⊥
 usual-text-has-no-dot p xs ys e = grind (arith, usual-splits)
 
@@ -244,7 +241,6 @@ elided-text-is-printed s head tail n h t k =
     cond-false _ _ _ other ∙ ap (compressed_text all) run ∙ cond-true _ _ _ (lt-ltb 1 n k)
     ∙ (λ i. groups_text (before i) ++ codes "::" ++ groups_text (after i))
 
--- normal addresses: normal groups on each side of `::` are printed so, as long as the text is usual
 normal-groups-around-zeros-are-printed : (head tail head_text tail_text : List ℕ) (n : ℕ)
     → head_text ≡ groups_text head → tail_text ≡ groups_text tail → AllPositive head
     → AllPositive tail → 1 < n → usual 91 (head_text ++ 58 ∷ 58 ∷ tail_text) ≡ true
@@ -254,7 +250,6 @@ normal-groups-around-zeros-are-printed [] tail head_text tail_text n e f h t k u
 normal-groups-around-zeros-are-printed (s ∷ head) tail head_text tail_text n e f h t k u =
     grind (arith, common_steps, elided-text-is-printed)
 
--- normal addresses: a usual address with `::`, in which six `:` are, is printed as it is
 usual-elided-text-is-printed : (text segments : List ℕ) → usual 91 text ≡ true
     → colons_of text ≤ 6 → IsElided text segments → ipv6_text segments ≡ text
 usual-elided-text-is-printed text segments u few h =
@@ -279,7 +274,6 @@ usual-elided-text-is-printed text segments u few h =
     - length h.head - length h.tail) before.same after.same before.positive after.positive
     (omega (arith, count)) (subst (λ t. usual 91 t ≡ true) spelled u) ∙ sym spelled
 
--- normal addresses: a usual address in which six `:` are is printed as it is
 usual-text-is-printed : (text segments : List ℕ) → usual 91 text ≡ true → colons_of text ≤ 6
     → IsColonHex text segments → ipv6_text segments ≡ text
 usual-text-is-printed text segments u few (inl h) =

@@ -2,7 +2,6 @@ use Rattle.uri_ops.proofs.Common.{common_steps, ◌≡◌, List, ℕ, arith, sub
 use Rattle.uri_ops.proofs.Paths.DotStarts.{prefix-to-slash-dot-ends-at-boundary, prefix-to-slash-dot-is-dotless}
 use Rattle.uri_ops.proofs.path.leading_segment.dotless_prefix_len.Goals as goal
 
--- a prefix of the bytes of a path up to a `/` before a dot is one without dot segments
 dotless-prefix-of-bytes : (bytes path : List ℕ) (n : ℕ) → bytes ≡ path
     → IsPrefixToSlashDot bytes n → BeginsWithoutDotSegment path → IsDotlessPrefix path n
 dotless-prefix-of-bytes bytes path n same prefix first =

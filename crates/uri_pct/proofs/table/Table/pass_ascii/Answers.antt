@@ -4,7 +4,6 @@ use Rattle.uri_pct.proofs.TableSets.Masks.{has_bit-only-ascii}
 use Rattle.uri_pct.proofs.TableSets.Percent.{lacks_percent}
 use Rattle.uri_pct.proofs.table.Table.pass_ascii.Goals as goal
 
--- the longest run of the set is scanned, as the bytes of the text have it
 run_is_scanned : (table : Table) (low high : ℕ) → has_bit low high ≡ (set_of table).ascii
     → (bytes text : List ℕ) → bytes ≡ text → IsUtf8 text → (start end : ℕ)
     → IsCharBoundary text start → IsLongestRun (has_bit low high) bytes start end

@@ -19,7 +19,6 @@ returns-then-not-allows_pct_encoded-clause-stop c = λ _.
     (valid_prefix_stops_at_stray_percent set (lacks_percent c.args.self.now) bs c.args.start
     (subst (λ t. c.args.start < length t) (sym same) c.requires.inside) c.if-byte-eq37.true stray)
 
--- octets
 pub scan_octets-requires-clause-octets : goal.scan_octets-requires-clause-octets
 scan_octets-requires-clause-octets c =
     sym c.allows_pct_encoded.ensures ∙ c.if-not-allows_pct_encoded.false
