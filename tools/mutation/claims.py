@@ -1,11 +1,12 @@
-"""The clauses that docs/GUARANTEES.md names, and those of them that no mutant names.
+"""The clauses that docs/GUARANTEES.md names, and the rows of which no mutant names any.
 
 A table of that page with a column `Clause` names in each row clauses of functions:
 
     `leads`, `back` of `Relativizer::relativize`; `page` of `links::page`
 
 A function without clauses before it has one clause, which has no name. A cell `the same` is that of
-the row above. A law has no body that could be wrong, so it needs no mutant.
+the row above. A row is one claim, so a mutant of one of its clauses is enough. A law has no body
+that could be wrong, so it needs no mutant.
 """
 import re
 
@@ -29,25 +30,27 @@ def cells_of(text):
             yield line, cells[column]
 
 
-def read_claims(text):
-    """The clauses that the page names, and the rows that cannot be read."""
-    found, wrong = [], []
-    for line, cell in cells_of(text):
-        for part in cell.split("; ") if cell != "the same" else []:
-            read = NAMED.fullmatch(part)
-            if not read:
-                wrong.append(line)
-            elif not read[4]:
-                names = re.findall(NAME, read[1] or f"`{ONLY_CLAUSE}`")
-                found += [Clause(re.findall(NAME, part)[-1], it) for it in names]
-    return found, wrong
+def clauses_in(cell):
+    """The clauses that a cell names, but for laws, or None if it cannot be read."""
+    found = []
+    for part in cell.split("; ") if cell != "the same" else []:
+        read = NAMED.fullmatch(part)
+        if not read:
+            return None
+        if not read[4]:
+            names = re.findall(NAME, read[1] or f"`{ONLY_CLAUSE}`")
+            found += [Clause(re.findall(NAME, part)[-1], it) for it in names]
+    return found
 
 
 def faults(root, mutants):
-    """What is wrong with the page: rows that cannot be read, and clauses that no mutant names."""
-    claims, wrong = read_claims((root / PAGE).read_text(encoding="utf-8"))
-    yield from (f"{PAGE}: the row cannot be read: {it}" for it in wrong)
+    """What is wrong with the page: rows that cannot be read, and rows that no mutant shows."""
     turned = {(it.function, clause.name) for it in mutants for clause in it.clauses}
-    for claim in dict.fromkeys(claims):
-        if not any(name == claim.name and claim.is_of(function) for function, name in turned):
-            yield f"{PAGE}: no mutant names `{claim}`"
+    for line, cell in cells_of((root / PAGE).read_text(encoding="utf-8")):
+        claims = clauses_in(cell)
+        shown = [it for it in claims or [] for function, name in turned
+                 if name == it.name and it.is_of(function)]
+        if claims is None:
+            yield f"{PAGE}: the row cannot be read: {line}"
+        elif claims and not shown:
+            yield f"{PAGE}: no mutant names a clause of the row: {line}"
