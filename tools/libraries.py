@@ -4,6 +4,7 @@ import contextlib
 import json
 import os
 import pathlib
+import re
 import tempfile
 import threading
 
@@ -52,12 +53,16 @@ class Libraries:
         return self.ready[library.name]
 
 
+# What the compiler makes of a trait, a type or a closure, and proves itself.
+MADE = re.compile(r"\+decl$|Destruct|\+Fn\w*::")
+
+
 def functions_of(crate):
-    """The functions with a contract of a library, if it is built: by the routines that it has."""
+    """The functions of a library, if it is built: by the routines that it has."""
     built = pathlib.Path(crate.folder, "out", "rlib", f"{crate.name}.rlib", "toolchain", "mir.json")
     routines = json.loads(built.read_text(encoding="utf-8")) if built.exists() else []
     names = [routine[0].removeprefix(f"{crate.name}::") for routine in routines]
-    return {it for it in names if "+" not in it}
+    return {it for it in names if not MADE.search(it)}
 
 
 def kept_of(name):
