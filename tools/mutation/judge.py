@@ -22,6 +22,8 @@ MOST = 48
 NAME = r"`([^`]+)`"
 # What is said of an answer that names what the mutant took away: it tells nothing of the goal.
 TAKEN_AWAY = re.compile(r"has no field|is not in scope|has no `|was not admitted|was rejected")
+# What is said of a file that a hole has broken.
+BROKEN = re.compile(r"\./proofs/\S+: error: expected ")
 THROUGH_ANOTHER = re.compile(r"(it calls|it passes|a call of)\b.*not proved")
 # What ends in a fact is a lemma, as `name : (n : ℕ) → n ≤ n + 1`.
 LEMMA = re.compile(r"(?:pub )?(\S+) :\s(?:.*→)?([^→]*[≡≢≤<⊥↔][^→]*|\s*(?:Is|Are|Has|All|Lacks?|If)[A-Z][^→]*)", re.S)
@@ -131,7 +133,7 @@ class Room:
 def assumed(text):
     """A file of `proofs` in which each lemma has a hole for its proof."""
     found, name = [], None
-    for part in re.split(r"\n(?=[^\s)}])", text):
+    for part in re.split(r"\n(?=[^]\s)}])", text):
         if name and part.startswith((f"{name} ", "unfolding ")):
             continue
         head = LEMMA.fullmatch(part.rstrip())
@@ -198,7 +200,7 @@ class Judge:
         if not any(it.is_of_definition for it in batch):
             self.room.assume_lemmas()
         lines = self.room.check({it.function for it in batch}, texts)
-        unread = [it for it in lines if self.rt.unread(it, texts)]
+        unread = [it for it in lines if self.rt.unread(it, texts) or BROKEN.match(it)]
         if lines[-1].startswith("only=") and not unread:
             for it in batch:
                 self.read_verdict(it, lines, batch)
