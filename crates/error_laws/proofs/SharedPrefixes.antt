@@ -61,6 +61,7 @@ pub scanned-part-is-valid : (text : List ℕ) (set : TableSet) → LacksPercent 
 scanned-part-is-valid text set lacks i a =
     search (rules, IsUtf8-take, valid_prefix_ends_at_boundary, valid_prefix_is_valid)
 
+-- error law: a scan goes on at its end if no `%` (37) is next there
 pub scan-goes-on : (text : List ℕ) (set : TableSet) (i end : ℕ) → scan_end text set i ≡ end
     → is_next text 37 end ≡ false → scan text set i ≡ Ok end
 scan-goes-on text set i end e n = cond-false _ _ _ (and_right _ _ (ap (is_next text 37) e ∙ n))

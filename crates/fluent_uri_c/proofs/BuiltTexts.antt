@@ -32,6 +32,7 @@ pub host-from-literal : (names : TableSet) (bytes : List ℕ) → IsUtf8 bytes
 unfolding is_host_text
 host-from-literal names bytes utf8 host = and_from _ _ (is_utf8-from_IsUtf8 bytes utf8) host
 
+-- building for C: a text of the characters of names that does not begin with `[` (91) is a host
 pub host-from-characters : (names : TableSet) (bytes : List ℕ) → starts 91 bytes ≡ false
     → is_text_for names bytes ≡ true → is_host_text names bytes ≡ true
 unfolding is_host_text is_text_for is_host

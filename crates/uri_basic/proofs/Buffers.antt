@@ -11,9 +11,11 @@ prefix-is-no-longer : (prefix buffer : List ℕ) → has_prefix prefix buffer �
     → length prefix ≤ length buffer
 prefix-is-no-longer prefix buffer e = search (rules, equal-bytes-have-equal-lengths, length-take)
 
+-- paths: the byte that ends a segment is `/` (47)
 segment-end-is-slash : (c : ℕ) → is_one_of (codes "/") c ≡ (c == 47)
 segment-end-is-slash c = grind (arith, nat_tests)
 
+-- paths: a byte that is not `/` (47) ends no segment
 pub other-byte-ends-no-segment : (c : ℕ) → (c == 47) ≡ false → not (is_one_of (codes "/") c) ≡ true
 other-byte-ends-no-segment c e = not_from_false _ (segment-end-is-slash c ∙ e)
 

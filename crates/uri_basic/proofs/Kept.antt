@@ -46,6 +46,8 @@ pub bytes-of-append-pass : (p : ℕ → Bool) (x y : List ℕ) → list_all p x 
     → list_all p (x ++ y) ≡ true
 bytes-of-append-pass p x y e f = list_all-append p x y ∙ and_from _ _ e f
 
+-- removing dot segments: the bytes of the parent of a directory pass a test that `/` (47) and the
+-- directory pass
 bytes-of-parent-pass : (p : ℕ → Bool) → p 47 ≡ true → (kept : List ℕ) → list_all p kept ≡ true
     → list_all p (parent kept) ≡ true
 unfolding parent
@@ -61,6 +63,8 @@ bytes-of-segments-pass p s (t ∷ rest) e =
     and_from _ _ f.0
     (bytes-of-segments-pass p t rest (and_parts (p 47) (list_all p (t ++ slashed rest)) f.1).1)
 
+-- removing dot segments: the bytes that are left of any path pass a test that `/` (47) and the path
+-- pass
 bytes-without-dots-pass : (p : ℕ → Bool) → p 47 ≡ true → (path : List ℕ)
     → list_all p path ≡ true → list_all p (remove_dot_segments path) ≡ true
 bytes-without-dots-pass p slash = property-of-path-by-segments

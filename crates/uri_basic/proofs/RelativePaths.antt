@@ -56,6 +56,8 @@ relative-path-is-relative n rest =
     (λ _. double-dots-and-last-are-relative (n - 1))
     (λ _. some-double-dots-are-relative n rest e))
 
+-- relativized paths: an equal first byte makes the shared prefix one byte longer, if it ends in `/`
+-- (47) still
 equal-first-byte-extends-shared-prefix : (a b : ℕ) (base path : List ℕ) (n : ℕ) → a ≡ b
     → (eqb a 47 || nat_lt 0 n) ≡ true → (0 < n → IsSharedPrefix n base path)
     → IsSharedPrefix (suc n) (a ∷ base) (b ∷ path)

@@ -20,6 +20,7 @@ first-two-tests-fail true true x e = absurd (false≢true (sym e))
 first-two-tests-fail true false x e = refl
 first-two-tests-fail false d x e = refl
 
+-- dot segments: a segment that is none, with a `/` (47) after it, begins with none
 pub other-segment-begins-with-no-dots : (s q : List ℕ) → has_slash s ≡ false
     → bytes_eq s (codes ".") ≡ false → bytes_eq s (codes "..") ≡ false
     → BeginsWithNoDots (s ++ 47 ∷ q)

@@ -38,6 +38,7 @@ merged-path-is-absolute : (base : Components) (path : List ℕ) → is_some base
 merged-path-is-absolute base path some h = ⊎_elim (search (rules, cond-true, and_from))
     (search (rules, cond_both, appended-absolute-path-is-absolute, up-to-last-slash-is-absolute)) h
 
+-- paths: the bytes up to the last `/` pass a test that `/` (47) and all pass
 bytes-up-to-last-slash-pass : (p : ℕ → Bool) → p 47 ≡ true → (path : List ℕ)
     → list_all p path ≡ true → list_all p (up_to_last_slash path) ≡ true
 bytes-up-to-last-slash-pass p slash path e =

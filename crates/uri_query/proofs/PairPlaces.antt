@@ -36,12 +36,14 @@ text-from-place-begins-with-byte : (text : List ℕ) (at : ℕ) → at < length 
     → drop at text ≡ get_or text at 0 ∷ drop (at + 1) text
 text-from-place-begins-with-byte text at inside = grind (arith, drop-cons)
 
+-- places of pairs: a text with a `=` (61) does not lack it
 text-with-equals-does-not-lack-it : (before after : List ℕ)
     → lacks 61 (before ++ 61 ∷ after) ≡ false
 text-with-equals-does-not-lack-it [] after = refl
 text-with-equals-does-not-lack-it (c ∷ cs) after =
     and_right _ _ (text-with-equals-does-not-lack-it cs after)
 
+-- places of pairs: what is before the first `&` (38) is the first substring
 text-before-ampersand-is-first-piece : (piece rest : List ℕ) → lacks 38 piece ≡ true
     → slice_split (λ b. eqb b 38) (piece ++ 38 ∷ rest)
     ≡ piece ∷ slice_split (λ b. eqb b 38) rest

@@ -73,9 +73,11 @@ module _ (d : ℕ) (percent : eqb 37 d ≡ false)
       (print (flat_map (encode_char data_set) cs))
       ∙ and_from _ _ (encoded_char_lacks c) (encoded_chars_lack cs)
 
+-- pairs of a query: data has no `&` (38)
 data_has_no_ampersand : (text : List ℕ) → lacks 38 (data_text text) ≡ true
 data_has_no_ampersand text = encoded_chars_lack 38 refl digit_is_no_ampersand refl (chars text)
 
+-- pairs of a query: data has no `=` (61)
 data_has_no_equals_sign : (text : List ℕ) → lacks 61 (data_text text) ≡ true
 data_has_no_equals_sign text =
     encoded_chars_lack 61 refl digit_is_no_equals_sign refl (chars text)
@@ -100,6 +102,7 @@ pair_is_decoded name value u v =
       (ap decode_text (ap text_after_equals whole ∙ after) ∙ data_decodes_to_its_text value v) i,
     )
 
+-- pairs of a query: the text of a pair has no `&` (38)
 pair_has_no_ampersand : (name value : List ℕ) → lacks 38 (pair_text (name, value)) ≡ true
 pair_has_no_ampersand name value =
     list_all-append _ (data_text name ++ codes "=") (data_text value)
@@ -111,6 +114,7 @@ joined_text_is_not_empty : (before : List ℕ) (b : ℕ) (after : List ℕ)
 joined_text_is_not_empty [] b after = refl
 joined_text_is_not_empty (c ∷ cs) b after = refl
 
+-- pairs of a query: a text without `&` (38) is one substring
 pub text_without_ampersand_is_one_piece : (text : List ℕ) → lacks 38 text ≡ true
     → slice_split (λ b. eqb b 38) text ≡ text ∷ []
 text_without_ampersand_is_one_piece [] e = refl

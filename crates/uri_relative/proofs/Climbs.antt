@@ -64,6 +64,7 @@ remove_dot_segments-follows-dots = record {
       ∙ ap (λ s. remove_dot_segments (dir s ++ drop 1 rest)) (single-dot-keeps-segments xs);
 }
 
+-- relativized paths: the segment `..` does not underflow after another (y)
 double-dot-after-segment-does-not-underflow : (xs : List (List ℕ)) (y : List ℕ)
     → underflows_at false true false (xs ++ y ∷ []) ≡ false
 unfolding underflows_at

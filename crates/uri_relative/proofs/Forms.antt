@@ -69,6 +69,8 @@ path-without-guard-is-valid set t path absolute e h =
     property-holds-without-guard (λ p. is_valid_for set p ≡ true) t.authority path t.path e
     (grind (arith, absolute-path-is-slash-and-rest, path-after-guard-is-valid)) h
 
+-- lengths of relativized references: a path (way) that is no longer than the one from the root is
+-- two bytes longer than the target's at most
 path-is-at-most-two-longer-than-target : (t : Components) (path way : List ℕ)
     → guarded t.authority path ≡ t.path
     → length way ≤ length (guarded None path) → length way ≤ length t.path + 2

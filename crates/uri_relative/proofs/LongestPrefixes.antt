@@ -55,6 +55,7 @@ slash-between-adds-one-to-slashes a b =
       counted-is-slashes b,
     )
 
+-- relativized paths: what is from before a `/` (47) on is split at it
 text-from-before-slash-is-split : (text : List ℕ) (last m : ℕ) → last < length text
     → get_or text last 0 ≡ 47
     → m ≤ last → drop m text ≡ drop m (take last text) ++ 47 ∷ drop (last + 1) text

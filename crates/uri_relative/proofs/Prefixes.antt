@@ -27,11 +27,13 @@ shared-prefix-has-same-bytes : (n i : ℕ) (a b : List ℕ) → i < n → take n
 shared-prefix-has-same-bytes n i a b h e =
     sym (get_or-take n a i 0 h) ∙ ap (λ t. get_or t i 0) e ∙ get_or-take n b i 0 h
 
+-- relativized paths: a slash (47) of the base before the end n of the shared prefix is in the path
 pub shared-prefix-has-same-slash : (base path : List ℕ) (last n : ℕ) → last < n
     → get_or base last 0 ≡ 47 → take n base ≡ take n path → get_or path last 0 ≡ 47
 shared-prefix-has-same-slash base path last n h e same = sym
     (shared-prefix-has-same-bytes n last base path h same) ∙ e
 
+-- relativized paths: the first byte of an absolute path is `/` (47)
 absolute-path-begins-with-slash-byte : (path : List ℕ) → IsAbsolute path → (get_or path 0 0 ≡ 47)
     × (0 < length path)
 absolute-path-begins-with-slash-byte path h =
@@ -44,6 +46,7 @@ absolute-paths-share-a-byte base path zero h k most =
     grind (arith, absolute-path-begins-with-slash-byte)
 absolute-paths-share-a-byte base path (suc n) h k most = omega arith
 
+-- relativized paths: the last byte of a shared prefix is `/` (47)
 prefix-to-slash-has-slash-last : (text : List ℕ) (m : ℕ) → m ≤ length text
     → EndsInSlash (take m text) → (0 < m) × (get_or text (m - 1) 0 ≡ 47)
 prefix-to-slash-has-slash-last text m h closed =
@@ -83,6 +86,7 @@ pub record IsLastSlashBefore (path : List ℕ) (end slash : ℕ) : Type 0 where
   pub is : get_or path slash 0 ≡ 47
   pub last : (k : ℕ) → slash < k → k < end → get_or path k 0 ≡ 47 → ⊥
 
+-- relativized paths: the last `/` (47) of a prefix is the last before the end of that
 pub last-slash-of-prefix-is-last-before-its-end : (path prefix : List ℕ) (end slash : ℕ)
     → prefix ≡ take end path → IsAbsolute path → 0 < end → end ≤ length path
     → IsSlashOrStart prefix 0 slash → has_slash (drop (slash + 1) prefix) ≡ false

@@ -3,6 +3,7 @@
 use Rattle.uri_relative.proofs.Common.{◌≡◌, ℕ, ◌+◌, ◌≤◌, Bool, true, false, cond, List, [], length, refl, arith, ⊎_elim, length-append, codes, Option, is_some, cases_Bool, nat_tests, Components, marked, recompose, Kind, is_empty, dotless_if_absolute, guarded, query_or, target_of, after_path, joined_path, IsReferenceFrom}
 use Rattle.uri_relative.proofs.Shrinking.{target-is-no-longer-with-final-path, length-of-recompose}
 
+-- forms of references, for relativizing: one (o) with a scheme is no shorter than the target t
 pub reference-with-scheme-is-no-shorter : (kind : Kind) (b t o : Components)
     → IsReferenceFrom kind b t o → is_some o.scheme ≡ true
     → length (recompose t) ≤ length (recompose o)

@@ -24,6 +24,7 @@ empty-path-after-authority-needs-authority : (base t : Components) → NeedsPath
 empty-path-after-authority-needs-authority base t n a opaque some e =
     grind (arith, nat_tests, empty-text-is-nil, base-has-query-that-target-lacks)
 
+-- targets to relativize: the path after an authority (a) is empty or begins with `/`
 path-after-authority-is-abempty : (a : Option (List ℕ)) (path : List ℕ) → is_some a ≡ true
     → IfSome a (λ x. Lacks (codes "/?#") x × IsAbemptyPath path) → IsAbemptyPath path
 path-after-authority-is-abempty None path e h = absurd (false≢true e)

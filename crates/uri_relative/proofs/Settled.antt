@@ -118,6 +118,7 @@ path-after-authority-is-unguarded t some h done =
     ∙ guarded-dotless-path-is-the-path t h done in
     grind (arith, path-without-dots-is-unguarded, path-after-authority-gets-no-guard)
 
+-- targets to relativize: without an authority (a), a path is guarded as it is for None
 guard-is-that-without-authority : (a : Option (List ℕ)) (path : List ℕ) → is_some a ≡ false
     → guarded a path ≡ guarded None path
 guard-is-that-without-authority None path e = refl

@@ -39,6 +39,7 @@ shared (a ∷ base) (b ∷ path) h =
     (shared base path))
     (λ _ none. absurd (omega (arith, none))) h
 
+-- relativized paths: a prefix that ends in `/`, without its first byte (a), is empty or ends in `/`
 prefix-to-slash-without-first-byte : (a : ℕ) (rest prefix : List ℕ) → a ∷ rest ≡ prefix ++ codes "/"
     → ((a ≡ 47) × (rest ≡ [])) ⊎ ((0 < length rest) × EndsInSlash rest)
 prefix-to-slash-without-first-byte a rest [] e = inl (cc, cc)

@@ -122,6 +122,8 @@ path-from-root-is-shortest-absolute-path given path x some rooted none leads =
     let same : dotless_if_absolute x ≡ path = grind (arith, leads) in
     omega (arith, target-path-is-no-longer None x none, ap (λ t. length (guarded None t)) same)
 
+-- relativized paths: one (way) that is no longer than the relative path and the one from the root
+-- is the shortest
 pub no-longer-than-both-paths-is-shortest : (given base path way : List ℕ) (last : ℕ)
     → directory base ≡ directory given → IsAbsolute base → lacks_dot_segments base ≡ true
     → IsLastSharedSlash base path last → length way ≤ length (guarded None path)

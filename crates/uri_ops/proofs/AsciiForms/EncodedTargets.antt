@@ -42,6 +42,8 @@ directory-of-utf8-is-utf8 = rooted (λ path. IsUtf8 path → IsUtf8 (directory p
     (parent-segments-pass-test is_utf8 (s ∷ rest) (segments-of-utf8-path-are-utf8 s rest u))
     (and_from _ _ (is_utf8-from_IsUtf8 [] IsUtf8-nil) refl)))))
 
+-- IRIs as URIs: the query of a target, of the reference (q) or the base,
+-- is encoded as that query is
 choosing-query-and-encoding-swap : (q base : Option (List ℕ))
     → cond (is_some (option_map encode_past_ascii q)) (option_map encode_past_ascii q)
     (option_map encode_past_ascii base) ≡ option_map encode_past_ascii (cond (is_some q) q base)

@@ -156,6 +156,7 @@ tokens-begin-with-octets (b ∷ bs) cs e =
     ap tokens_from_chars (append_assoc (octet_text b) _ cs) ∙ tokens-begin-with-octet b _ p.0
     ∙ ap (λ ts. Octet b ∷ ts) (tokens-begin-with-octets bs cs p.1)
 
+-- IRIs as URIs: a character past ASCII is encoded as a text that begins with `%` (37)
 encoded-past-ascii-begins-with-percent : (c : ℕ) (cs : List ℕ) → 128 ≤ c
     → get_or (encoded_chars (c ∷ cs)) 0 0 ≡ 37
 unfolding encoded_chars
@@ -198,6 +199,7 @@ tokens-of-encoded-character c cs s e ih = grind (
   utf8-of-character-is-bytes,
 )
 
+-- IRIs as URIs, tokens: an octet is `%` (37) and two hexadecimal digits
 pct-encoded-is-percent-and-hex-digits : (c h l : ℕ) → is_pct_encoded c h l ≡ true
     → (eqb c 37 && (is_ascii_hexdigit h && is_ascii_hexdigit l)) ≡ true
 unfolding is_pct_encoded

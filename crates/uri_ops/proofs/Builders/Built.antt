@@ -54,6 +54,7 @@ first_build_error scheme authority path = cond
 some-is-not-none : {A : Type 0} {x : A} → Some x ≡ None → ⊥
 some-is-not-none e = false≢true (sym (ap is_some e))
 
+-- building: if a test alone decides an error (x) and there is none, the test passed
 no-error-means-test-passed : (t : Bool) (x : BuildError) → cond t None (Some x) ≡ None → t ≡ true
 no-error-means-test-passed true x e = refl
 no-error-means-test-passed false x e = absurd (some-is-not-none e)

@@ -14,12 +14,14 @@ percent_is_no_second_digit : (c d : ℕ) → is_pct_encoded c d 37 ≡ false
 unfolding is_pct_encoded
 percent_is_no_second_digit c d = and_right _ _ (and_right _ _ refl)
 
+-- cuts of valid texts: a character before `%` (37) is a token by itself
 char_before_percent_is_own_token : (c : ℕ) (ds : List ℕ)
     → tokens_from_chars (c ∷ 37 ∷ ds) ≡ Char c ∷ tokens_from_chars (37 ∷ ds)
 unfolding tokens_from_chars
 char_before_percent_is_own_token c [] = refl
 char_before_percent_is_own_token c (d ∷ ds) = cond-false _ _ _ (percent_is_no_first_digit c d)
 
+-- cuts of valid texts: `%` (37) separates the tokens before it from those from it on
 percent_separates_tokens_of_chars : (cs ds : List ℕ)
     → tokens_from_chars (cs ++ 37 ∷ ds) ≡ tokens_from_chars cs ++ tokens_from_chars (37 ∷ ds)
 unfolding tokens_from_chars
@@ -34,6 +36,7 @@ percent_separates_tokens_of_chars (c ∷ high ∷ low ∷ cs) ds =
       percent_separates_tokens_of_chars (high ∷ low ∷ cs) ds,
     )
 
+-- cuts of valid texts: `%` (37) separates the tokens of the text before it from those from it on
 percent_separates_tokens : (before after : List ℕ) → IsUtf8 before
     → tokens (before ++ 37 ∷ after) ≡ tokens before ++ tokens (37 ∷ after)
 percent_separates_tokens before after u =
@@ -43,6 +46,7 @@ percent_separates_tokens before after u =
     ∙ percent_separates_tokens_of_chars (chars before) (chars after)
     ∙ ap (λ t. tokens before ++ tokens_from_chars t) (sym from)
 
+-- cuts of valid texts: a text is valid before and from a `%` (37)
 texts_around_percent_are_valid : (before after : List ℕ) → IsUtf8 before
     → IsValidFor widest_set (before ++ 37 ∷ after)
     → IsValidFor widest_set before × IsValidFor widest_set (37 ∷ after)
@@ -83,6 +87,7 @@ pub record EndsInOctetAt (text : List ℕ) (n : ℕ) : Type 0 where
   pub ends : EndsIn text (take n text)
       (Octet (16 * digit_value (get_or text (n + 1) 0) + digit_value (get_or text (n + 2) 0)) ∷ [])
 
+-- cuts of valid texts: an octet ends a text if the third byte from the end, the n-th, is `%` (37)
 pub percent_third_from_end_begins_last_octet : (text : List ℕ) (n : ℕ) → IsUtf8 text
     → IsValidFor widest_set text → n + 3 ≡ length text → get_or text n 0 ≡ 37 → EndsInOctetAt text n
 percent_third_from_end_begins_last_octet text n u valid long percent =
@@ -139,6 +144,7 @@ represents_last_token_last text (u ∷ ts) t h =
 abbrev EndsInPercentThird : List ℕ → Type 0
 EndsInPercentThird text = (n : ℕ) × ((n + 3 ≡ length text) × (get_or text n 0 ≡ 37))
 
+-- cuts of valid texts: if the last token is an octet, the third byte from the end is `%` (37)
 last_octet_has_percent_third : (text : List ℕ) (ts : List Token) (value : ℕ) → IsUtf8 text
     → IsValidFor widest_set text → tokens text ≡ ts ++ Octet value ∷ [] → EndsInPercentThird text
 last_octet_has_percent_third text ts value u valid e =
@@ -155,6 +161,7 @@ last_octet_has_percent_third text ts value u valid e =
       ),
     )
 
+-- cuts of valid texts: without a `%` (37) as the third byte from the end, no octet ends a text
 pub no_octet_ends_text : (text : List ℕ) → IsUtf8 text → IsValidFor widest_set text
     → LacksPercentThird text → EndInNoOctet (tokens text)
 no_octet_ends_text text u valid none ts value e = grind (arith, last_octet_has_percent_third)

@@ -28,6 +28,7 @@ empty_if_tested text e = nil_from_length text (eqb-true (length text) 0 e)
 pub not_empty_if_tested : (text : List ℕ) → eqb (length text) 0 ≡ false → text ≡ [] → ⊥
 not_empty_if_tested text e none = let same = ap (λ t. eqb (length t) 0) none in cc
 
+-- normal paths: under a scheme a path that begins with `/` (47) is without its dot segments
 pub normal_path_under_scheme : (set : TableSet) (scheme authority : Option (List ℕ))
     (path : List ℕ) → is_some scheme ≡ true → starts 47 path ≡ true
     → guarded authority (print (decode_unreserved set (remove_dot_segments path)))

@@ -73,11 +73,13 @@ module _ (set : TableSet) (lacks : LacksPercent set) where
   decoded-set-text-is-set-text wide text e = set-text-from-utf8 set _ (decoded-text-is-utf8 _ e)
       (printed_decode_unreserved_stays_valid set _ lacks wide (set-text-is-valid set _ e))
 
+-- meanings, by tokens: `/` (47) is no first digit of an octet
 slash-is-no-first-hex-digit : (c d : ℕ) → is_pct_encoded c 47 d ≡ false
 unfolding is_pct_encoded
 slash-is-no-first-hex-digit c d = and_right (eqb c 37) (is_ascii_hexdigit 47 && is_ascii_hexdigit d)
     refl
 
+-- meanings, by tokens: `/` (47) is no second digit of an octet
 slash-is-no-second-hex-digit : (c d : ℕ) → is_pct_encoded c d 47 ≡ false
 unfolding is_pct_encoded
 slash-is-no-second-hex-digit c d = grind (arith, nat_tests)

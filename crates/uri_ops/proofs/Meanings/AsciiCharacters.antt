@@ -106,6 +106,7 @@ lowered-text-keeps-leading-letter : (text : List ℕ) → is_ascii_alphabetic (s
 lowered-text-keeps-leading-letter [] e = e
 lowered-text-keeps-leading-letter (c ∷ text) e = lowered-letter-is-letter c e
 
+-- meanings of schemes: `%` (37) is not a character of a scheme
 pub percent-is-no-scheme-character : is_scheme_char 37 ≡ false
 percent-is-no-scheme-character = refl
 

@@ -21,6 +21,7 @@ literal-prefix-decodes-to-itself lowers set prefix back u e =
       print-lowers-characters,
     )
 
+-- meanings, decoded: after a prefix without `%` (37), the rest of a valid text is valid
 text-after-literal-prefix-is-valid : (prefix back : List ℕ) → IsUtf8 prefix → lacks 37 prefix ≡ true
     → IsValidFor widest_set (prefix ++ back) → IsValidFor widest_set back
 unfolding is_valid_for
@@ -106,6 +107,7 @@ pub suffix-of-suffix-is-valid : (text : List ℕ) (n m : ℕ)
     → IsValidFor widest_set (drop m (drop n text)) → IsValidFor widest_set (drop (n + m) text)
 suffix-of-suffix-is-valid text n m v = subst (IsValidFor widest_set) (drop-drop m n text) v
 
+-- meanings, decoded: a `%` (37) at index i of a valid text begins an octet
 pub percent-in-valid-text-begins-octet : (text : List ℕ) (i : ℕ) → IsUtf8 text
     → IsCharBoundary text i → IsValidFor widest_set (drop i text) → i < length text
     → get_or text i 0 ≡ 37 → IsOctetAt text i (get_or text (i + 1) 0) (get_or text (i + 2) 0)
@@ -135,6 +137,7 @@ percent-in-valid-text-begins-octet text i u b v inside percent =
       valid = subst (IsValidFor widest_set) suffix o.valid;
     }
 
+-- meanings, decoded: an octet whose first digit is below `8` (56) is of an ASCII byte
 pub octet-with-digit-below-8-is-ascii : (high low : ℕ) → is_ascii_hexdigit high ≡ true
     → is_ascii_hexdigit low ≡ true → high < 56 → 16 * digit_value high + digit_value low < 128
 octet-with-digit-below-8-is-ascii high low h l small = grind (arith, nat_tests)

@@ -63,6 +63,7 @@ v-is-userinfo-character : (c : ℕ) → is_one_of (codes "vV") c ≡ true
     → is_ascii_in is_userinfo_char c ≡ true
 v-is-userinfo-character c e = grind (arith, nat_tests)
 
+-- meanings of hosts: `%` (37) is no literal character of userinfo
 percent-is-no-userinfo-character : is_userinfo_char 37 ≡ false
 percent-is-no-userinfo-character = refl
 

@@ -51,6 +51,7 @@ pub normal_path-by-components : (kind : Kind) (ports : PortFunction) (text : Lis
     ≡ normal_path m)
 normal_path-by-components kind ports text = grind (arith, nat_tests, is_some-option_map)
 
+-- normal paths: beginning with `/` (47) is being absolute
 pub absolute-is-leading-slash : (path : List ℕ) → starts 47 path ≡ is_absolute path
 absolute-is-leading-slash [] = refl
 absolute-is-leading-slash (c ∷ path) = refl

@@ -57,6 +57,7 @@ unchanged_bytes_are_lower (b ∷ text) e =
     let same : to_ascii_lowercase b ≡ b = let h = p.0 in grind (arith, nat_tests) in
     λ i. same i ∷ unchanged_bytes_are_lower text p.1 i
 
+-- unchanged bytes: an unchanged text has no `%` (37)
 unchanged-bytes-lack-percent : (text : List ℕ) → has_unchanged_host_bytes text ≡ true
     → lacks 37 text ≡ true
 unchanged-bytes-lack-percent [] e = refl
@@ -65,6 +66,7 @@ unchanged-bytes-lack-percent (b ∷ text) e =
     let other : not (eqb b 37) ≡ true = (and_parts _ _ (and_parts _ _ p.0).1).0 in
     and_from _ _ other (unchanged-bytes-lack-percent text p.1)
 
+-- unchanged bytes: an unchanged text does not begin with `[` (91)
 unchanged-bytes-begin-without-bracket : (text : List ℕ) → has_unchanged_host_bytes text ≡ true
     → starts 91 text ≡ false
 unchanged-bytes-begin-without-bracket [] e = refl

@@ -32,6 +32,7 @@ empty-text-decodes-to-no-bytes : bytes_decoded_from (tokens []) ≡ []
 unfolding chars tokens_from_chars
 empty-text-decodes-to-no-bytes = refl
 
+-- paths: a text without `/` does not begin with it (47)
 slashless-text-begins-with-no-slash : (s : List ℕ) → has_slash s ≡ false → starts 47 s ≡ false
 slashless-text-begins-with-no-slash [] e = refl
 slashless-text-begins-with-no-slash (c ∷ s) e = (or_parts (eqb c 47) (has_slash s) e).0
@@ -61,6 +62,7 @@ slashless-text-lacks-slash-delimiter : (s : List ℕ) → has_slash s ≡ false 
 slashless-text-lacks-slash-delimiter s e = test-of-delimiters-gives-lacks (codes "/") s
     (lacks-gives-lacks_any 47 s e)
 
+-- paths: what is before the first `/` (47) is the first segment
 text-before-first-slash-is-segment : (s y : List ℕ) → has_slash s ≡ false
     → before_any (codes "/") (s ++ 47 ∷ y) ≡ s
 text-before-first-slash-is-segment s y e = (cut-at-end-of-text-without-marks (codes "/") s

@@ -58,6 +58,7 @@ character-with-first-byte-46-is-dot : (c : ℕ) (more bytes : List ℕ)
 character-with-first-byte-46-is-dot c more bytes e = encode_same c 46 more bytes
     (e ∙ sym (ap (λ t. t ++ bytes) (encode_ascii 46 (omega arith))))
 
+-- dot segments: the digits of an octet with the value 46 are `2` (50), and `E` (69) or `e` (101)
 hex-digits-of-46-are-2E : (h l : ℕ) → is_ascii_hexdigit h ≡ true → is_ascii_hexdigit l ≡ true
     → 16 * digit_value h + digit_value l ≡ 46 → (h ≡ 50) × ((l ≡ 69) ⊎ (l ≡ 101))
 hex-digits-of-46-are-2E h l e f g =

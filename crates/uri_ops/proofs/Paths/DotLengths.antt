@@ -32,6 +32,7 @@ text-from-byte-46-begins-with-dot : (text : List ℕ) → get_or text 0 0 ≡ 46
 text-from-byte-46-begins-with-dot [] e = absurd (omega (arith, e))
 text-from-byte-46-begins-with-dot (c ∷ text) e = ap (λ b. b ∷ []) e
 
+-- dot segments: the three bytes `%` (37), `2` (50) and x are an octet
 first-three-bytes-are-octet : (text : List ℕ) (x : ℕ) → get_or text 0 0 ≡ 37 → get_or text 1 0 ≡ 50
     → get_or text 2 0 ≡ x → 0 < x → take 3 text ≡ 37 ∷ 50 ∷ x ∷ []
 first-three-bytes-are-octet [] x a b c some = absurd (omega (arith, a))

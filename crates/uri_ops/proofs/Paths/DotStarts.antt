@@ -91,6 +91,8 @@ unfoldable is_after_slash : Bool → List ℕ → Bool
 is_after_slash suffix [] = suffix
 is_after_slash suffix (c ∷ rest) = is_after_slash (c == 47) rest
 
+-- dot segments: no dot begins after a `/` in a text with one more byte (c),
+-- unless c is `.` or `%` after a `/`
 byte-that-is-no-dot-adds-no-dot-start : (b : Bool) (t : List ℕ) (c : ℕ)
     → has_dot_start_after_slash b t ≡ false → (is_after_slash b t && is_dot_start c) ≡ false
     → has_dot_start_after_slash b (t ++ c ∷ []) ≡ false

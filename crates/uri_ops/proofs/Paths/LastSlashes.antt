@@ -38,6 +38,8 @@ before_last_slash-by-position bytes start k end same within slash none =
     ∙ ap (λ n. drop n bytes) same ∙ suffix-at-slash-begins-with-slash bytes end within slash))
     ∙ before_last_slash-of-slashless-tail (take k (drop start bytes)) (drop (end + 1) bytes) none
 
+-- paths: if the last `/` (47) is at end, what is before it is
+-- the text to start and what is before the last `/` from there
 pub prefix-to-last-slash : (bytes : List ℕ) (start end : ℕ) → start ≤ end → end < length bytes
     → get_or bytes end 0 ≡ 47 → has_slash (drop (end + 1) bytes) ≡ false
     → take end bytes ≡ take start bytes ++ before_last_slash (drop start bytes)
@@ -63,9 +65,11 @@ slashless-suffix-stays-slashless bytes start none = sym (ap has_slash (drop-drop
     fewer [] e = refl
     fewer (c ∷ ys) e = (or_parts (eqb c 47) (has_slash ys) e).1
 
+-- paths: the last segment of a text is what is after its last `/` (47)
 last_segment-after-slash : (x y : List ℕ) → has_slash y ≡ false → last_segment (x ++ 47 ∷ y) ≡ y
 last_segment-after-slash x y e = last_segment-of-append x (47 ∷ y) refl ∙ cond-false _ _ _ e
 
+-- paths: the directory ends at the last `/` (47), or after the last segment if that is `..`
 directory-by-last-slash : (x y : List ℕ) → has_slash y ≡ false
     → directory (x ++ 47 ∷ y) ≡ cond (is_double_dot y) ((x ++ 47 ∷ y) ++ codes "/") (x ++ codes "/")
 unfolding directory
@@ -159,6 +163,7 @@ before_last_slash-of-directory path d = ap before_last_slash d.1
 pub length-of-directory : (path : List ℕ) → (d : EndsInSlash path) → length path ≡ length d.0 + 1
 length-of-directory path d = ap length d.1 ∙ length-append d.0 (codes "/")
 
+-- paths: the first byte of an absolute path is `/` (47)
 absolute-path-has-slash-first : (path : List ℕ) → IsAbsolute path → get_or path 0 0 ≡ 47
 absolute-path-has-slash-first [] h = absurd (false≢true (eq_true_from_IsTrue _ h))
 absolute-path-has-slash-first (c ∷ path) h = eqb-true c 47 (eq_true_from_IsTrue _ h)
@@ -230,6 +235,7 @@ module _ (text : List ℕ) (start : ℕ) (d : IsDotlessDirectory (drop start tex
             ∙ ap (λ t. take start text ++ before_last_slash t)
             (drop_at (take start text) prefix start prefix-before-start-has-its-length)
 
+-- paths: the byte after a segment is `/` (47)
 pub byte-after-segment-is-slash : (path : List ℕ) (end : ℕ)
     → IsAbemptyPath (drop end path) → end < length path → get_or path end 0 ≡ 47
 byte-after-segment-is-slash path end h within =

@@ -106,6 +106,7 @@ LeavesDirectoryForSegments : (List ℕ → Bool) → (List ℕ → List ℕ) →
 LeavesDirectoryForSegments test left meets_none kept = (s rest : List ℕ) → has_slash s ≡ false
     → IsAbemptyPath rest → test s ≡ true → LeavesDirectory kept s rest (left kept) (meets_none kept)
 
+-- removing dot segments, segment by segment: `.` leaves the directory (kept) as it is
 single-dot-leaves-same-directory : (kept : List ℕ) → IsDotlessDirectory kept
     → LeavesDirectoryForSegments is_single_dot (λ k. k) (λ k. false) kept
 unfolding LeavesDirectoryForSegments step_of next_output underflows_at
@@ -153,6 +154,8 @@ popped-segments-are-parent_directory xs e = slashed-of-push (pop xs) [] ∙ ap (
     ++ codes "/") (sym (ap before_last_slash (before_last_slash-of-slashed-directory xs e)
     ∙ before_last_slash-of-slashed-is-popped xs e))
 
+-- removing dot segments, segment by segment:
+-- `..` leaves the parent of the directory (kept), and underflows at `/`
 double-dot-leaves-parent-directory : (kept : List ℕ) → IsDotlessDirectory kept
     → LeavesDirectoryForSegments is_double_dot parent_directory
     (λ k. is_empty (before_last_slash k)) kept

@@ -31,6 +31,7 @@ before_last_slash-passes-test p (c ∷ rest) e =
     cond_both (has_slash rest) (c ∷ before_last_slash rest) [] (λ t. list_all p t ≡ true)
     (λ h. and_from _ _ f.0 (before_last_slash-passes-test p rest f.1)) (λ h. refl)
 
+-- paths: a text with a `/` (47) after it passes a test that both pass
 text-with-last-slash-passes-test : (p : ℕ → Bool)
     → p 47 ≡ true → (text : List ℕ) → list_all p text ≡ true → list_all p (text ++ 47 ∷ []) ≡ true
 text-with-last-slash-passes-test p slash text e = list_all-append p text (47 ∷ [])

@@ -53,6 +53,8 @@ highest-lane-of-mask mask some below =
       λ k h. bit_at_above mask (suc j) k top.3 (omega (arith, h, lane)),
     )
 
+-- paths, sixteen bytes at a time: the last lane of a block that has a `/` (47) is the last `/`,
+-- if none is after the block
 pub last-lane-of-block-is-last-slash : (bs : List ℕ) (at mask lane : ℕ) → at + 16 ≤ length bs
     → mask ≡ mask_l (map (λ b. eqb b 47) (chunk at 16 bs)) → lane < 16 → bit_at mask lane ≡ 1
     → ((k : ℕ) → lane < k → bit_at mask k ≡ 0) → has_slash (drop (at + 16) bs) ≡ false

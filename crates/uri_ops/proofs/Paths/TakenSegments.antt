@@ -90,6 +90,8 @@ unfolding slashed
 segments-of-slashless-text-is-one s e = segments-of-joined-segments s []
     (slashless-segment-and-rest-lack-slashes s [] e refl)
 
+-- paths: the segments of a text with a first `/` (47) are what is before it,
+-- and those of what is after it
 pub segments-split-at-first-slash : (s r : List ℕ) → has_slash s ≡ false → segments (s ++ 47 ∷ r)
     ≡ s ∷ segments r
 segments-split-at-first-slash s r e = ap (λ t. segments (s ++ t))
@@ -205,6 +207,7 @@ slashed-of-no-segments-is-empty : slashed [] ≡ []
 unfolding slashed
 slashed-of-no-segments-is-empty = refl
 
+-- paths: what is before a `/` (47) in an absolute path is segments, each after a `/`
 prefix-before-slash-is-slashed-segments : (prefix y : List ℕ) → IsAbsolute (prefix ++ 47 ∷ y)
     → IsOfSlashedSegments prefix
 prefix-before-slash-is-slashed-segments [] y h =

@@ -143,6 +143,7 @@ pub target-text-has-target-components : (base reference : List ℕ) → is_some 
 target-text-has-target-components base reference some =
     only-split-is-components _ _ (target-components-are-split base reference some)
 
+-- resolving: the text of a reference that is a fragment alone is empty or begins with `#` (35)
 fragment-only-text-is-empty-or-begins-with-hash : (r : Components) → is_fragment_only r ≡ true
     → (is_empty (recompose r) || starts 35 (recompose r)) ≡ true
 fragment-only-text-is-empty-or-begins-with-hash r h =
@@ -162,6 +163,7 @@ fragment-only-text-is-empty-or-begins-with-hash r h =
     of_fragment None = refl
     of_fragment (Some x) = refl
 
+-- resolving: a text that is empty or begins with `#` (35) has a fragment alone
 text-empty-or-beginning-with-hash-is-fragment-only : (text : List ℕ)
     → (is_empty text || starts 35 text) ≡ true → is_fragment_only (components text) ≡ true
 text-empty-or-beginning-with-hash-is-fragment-only [] h = refl

@@ -92,6 +92,8 @@ text-begins-with-its-scheme text (Some s) rest whole utf8 end e =
           ∙ take-append_seam (s ++ codes ":") rest;
     }
 
+-- targets: after a `/` (47) in the middle of a path a character begins; the text up to it is
+-- prefix, left and `/`
 position-after-inner-slash-is-boundary : (text prefix path suffix left right : List ℕ) (start slash
     : ℕ) → text ≡ prefix ++ (path ++ suffix) → start ≡ length prefix → path ≡ left ++ 47 ∷ right
     → slash ≡ length left → IsUtf8 text → IsCharBoundary text (start + slash + 1)

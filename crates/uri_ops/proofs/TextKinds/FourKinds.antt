@@ -23,6 +23,8 @@ component_table : (test : ℕ → Bool) (past private : Bool) → TableSet
 component_table test past private =
     record { ascii = test; pct_encoded = true; ucschar = past; iprivate = private }
 
+-- sets of the four kinds: a set by a test is a component's if it has the unreserved characters, and
+-- neither `%` (37) nor the delimiters
 tested-characters-are-component-set : (marks : List ℕ) (test : ℕ → Bool) (past private : Bool)
     → ((c : ℕ) → is_unreserved c ≡ true → test c ≡ true) → test 37 ≡ false
     → list_any test marks ≡ false → IsComponentSet marks (component_table test past private)

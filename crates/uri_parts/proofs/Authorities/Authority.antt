@@ -52,11 +52,13 @@ abbrev pub HasHostShape : List ℕ → Type 0
 HasHostShape host = ((address : List ℕ) × (host ≡ bracketed address) × Lacks (codes "]") address)
     ⊎ Lacks (codes "@:[") host
 
+-- authorities: what is empty or begins with `:` does not begin with `[` (91)
 empty-or-colon-begins-with-no-bracket : (text : List ℕ) → IsEmptyOrMarked (codes ":") text
     → starts 91 text ≡ false
 empty-or-colon-begins-with-no-bracket [] b = refl
 empty-or-colon-begins-with-no-bracket (c ∷ text) b = grind (arith, nat_tests)
 
+-- authorities: a host without `[` (91), and a port after it, do not begin with `[`
 unbracketed-host-begins-with-no-bracket : (host tail : List ℕ)
     → Lacks (codes "[") host → IsEmptyOrMarked (codes ":") tail → starts 91 (host ++ tail) ≡ false
 unbracketed-host-begins-with-no-bracket [] tail lacks begins = empty-or-colon-begins-with-no-bracket

@@ -30,6 +30,7 @@ pub record IsClosed (rest : List ℕ) : Type 0 where
   pub short : before_any (codes "]/?#") rest ≡ address
   pub long : from_any (codes "]/?#") rest ≡ 93 ∷ tail
 
+-- authorities, brackets: if `]` (93) comes before `/`, `?` and `#`, the brackets are closed there
 pub bracket-before-marks-closes-literal : (rest : List ℕ) → starts 93 (from_any (codes "]/?#") rest)
     ≡ true → IsClosed rest
 bracket-before-marks-closes-literal rest e =
@@ -52,6 +53,7 @@ bracket-before-marks-closes-literal rest e =
       long = long;
     }
 
+-- authorities, brackets: what is parsed as an IP literal has its `]` (93) before `/`, `?` and `#`
 pub parsed-literal-has-closing-bracket : (rest : List ℕ) → IsUtf8 rest → parses_literal rest ≡ true
     → starts 93 (from_any (codes "]/?#") rest) ≡ true
 unfolding parses_literal is_literal

@@ -52,6 +52,8 @@ cut_at_further_mark mark marks (b ∷ bs) = ⊎_elim (λ o.
           ∙ sym (ap (before_any marks) (from_any-past-other (mark ∷ marks) b bs a)),
     )) (cases_Bool (is_one_of (mark ∷ []) b))) (cases_Bool (is_one_of marks b))
 
+-- cutting authorities: a text cut at delimiters begins
+-- with another byte (mark) exactly if the text does
 pub cut-text-begins-with-same-other-byte : (mark : ℕ) (marks : List ℕ) → is_one_of marks mark
     ≡ false → (bs : List ℕ) → starts mark (before_any marks bs) ≡ starts mark bs
 cut-text-begins-with-same-other-byte mark marks none [] = refl
@@ -81,9 +83,11 @@ scan-ends-at-mark-iff-cut-is-valid marks set lacks outside bs u =
     ∙ w.other ∙ sym (cut marks set lacks outside bs u ∙ ne_eqb _ _ w.apart))
     (scan-stops-at-first-mark-or-within marks set lacks outside bs u)
 
+-- authorities, parsed: `:` (58) does not end an authority
 colon-ends-no-authority : (b : ℕ) → eqb b 58 ≡ true → is_one_of (codes "/?#") b ≡ false
 colon-ends-no-authority b e = ap (is_one_of (codes "/?#")) (eqb-true b 58 e)
 
+-- authorities, parsed: `:` (58) is ASCII
 colon-is-ascii : (b : ℕ) → eqb b 58 ≡ true → b < 128
 colon-is-ascii b e = let d = eqb-true b 58 e in omega arith
 

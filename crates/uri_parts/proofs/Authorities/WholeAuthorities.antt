@@ -90,6 +90,7 @@ prefix-begins-with-no-mark-either : (mark : ℕ) (prefix suffix : List ℕ)
 prefix-begins-with-no-mark-either mark [] suffix e = refl
 prefix-begins-with-no-mark-either mark (b ∷ prefix) suffix e = e
 
+-- authorities, parsed: the test of host and port is parsing them, for a host without `[` (91)
 host_test-parses-unbracketed-host : (names : TableSet) (rest : List ℕ) → starts 91 rest ≡ false
     → host_test names rest ≡ parses_host_and_port names rest
 unfolding parses_host_and_port

@@ -11,11 +11,13 @@ use Rattle.uri_parts.proofs.HostForms.LiteralTexts.{text-without-version-letter-
 abbrev left : List ℕ → Option (List ℕ)
 left rest = option_map (λ p. p.1) (read_ipv6 rest)
 
+-- parsing IP literals: a text that begins with `]` (93) is cut there
 pub text-with-bracket-is-empty-or-marked : (text : List ℕ) → starts 93 text ≡ true
     → IsEmptyOrMarked (codes "]") text
 text-with-bracket-is-empty-or-marked [] e = absurd (false≢true e)
 text-with-bracket-is-empty-or-marked (c ∷ text) e = rw (eqb-true c 93 e) refl
 
+-- parsing IPv6: `]` (93) ends the groups of an address
 closing-bracket-ends-groups : (text : List ℕ) → starts 93 text ≡ true → EndsGroups text
 closing-bracket-ends-groups [] e = absurd (false≢true e)
 closing-bracket-ends-groups (c ∷ text) e = rw (eqb-true c 93 e)
@@ -85,6 +87,8 @@ pub no_ipv6_is_no_literal : (rest : List ℕ)
 no_ipv6_is_no_literal rest no_version e = false_from_ne_true _ λ t. none-some _
     (e ∙ (literal_is_ipv6_and_bracket rest no_version t).0)
 
+-- parsing IP literals: without a `v` at its start,
+-- and if no `]` (93) follows the IPv6 address, it is no literal
 pub unclosed_ipv6_is_no_literal : (rest suffix : List ℕ) → (starts 118 rest || starts 86 rest)
     ≡ false → Some suffix ≡ left rest → starts 93 suffix ≡ false → parses_literal rest ≡ false
 unclosed_ipv6_is_no_literal rest suffix no_version e other =

@@ -1,10 +1,12 @@
 -- The error of an address in brackets is one in the whole text.
 use Rattle.uri_parts.proofs.Common.{◌≡◌, ℕ, ◌+◌, Bool, true, false, not, cond, List, [], ◌∷◌, drop, get_or, Option, Some, None, subst, arith, IsCharBoundary, get_or-drop, Ok, Err, codes, ⊤, eqb-true, false≢true, nat_tests, ParseError, TableSet, is_one_of, hexdig_set, ipv_future_set, starts, IsErrorIn, IsErrorKindAt, unexpected, closed, literal, cannot_begin_ipv6, ScanResult, scan_to_mark}
 
+-- IP literals, their errors: a text that begins with a byte (mark) has it first
 first-byte-is-mark : (mark : ℕ) (text : List ℕ) → starts mark text ≡ true → get_or text 0 0 ≡ mark
 first-byte-is-mark mark [] e = absurd (false≢true e)
 first-byte-is-mark mark (c ∷ text) e = eqb-true c mark e
 
+-- IP literals, their errors: if what is left begins with a byte (mark), this is the byte at place
 byte-at-position-is-mark : (mark place : ℕ) (text : List ℕ) → starts mark (drop place text) ≡ true
     → get_or text place 0 ≡ mark
 byte-at-position-is-mark mark place text e =

@@ -7,6 +7,7 @@ pub starts_at_position : (mark i : ℕ) (text : List ℕ)
     → starts mark (drop i text) ≡ (ltb i (length text) && eqb (get_or text i 0) mark)
 starts_at_position mark i text = grind (arith, nat_tests, drop_more, drop_all)
 
+-- parsing: a `%` (37) at which a scan ends, at n, begins no octet
 pub stray_percent_ends_scan : (set : TableSet) (text : List ℕ) (i n : ℕ) → set.pct_encoded ≡ true
     → n ≡ i + valid_prefix set (drop i text) → n < length text → get_or text n 0 ≡ 37
     → IsStrayPercent text n
@@ -26,6 +27,7 @@ text_ends_where_position_is_length i text l = ⊎_elim (λ h. ap is_end (drop_mo
     ∙ sym (ne_eqb i (length text) (λ e. omega arith))) (λ h. ap is_end (drop_all i text h)
     ∙ sym (eq-eqb i (length text) (omega arith))) (cases_lt i (length text))
 
+-- parsing: an authority ends at `/` (47), `?` (63) or `#` (35)
 authority-ends-at-slash-question-or-hash : (b : ℕ) → is_one_of (codes "/?#") b
     ≡ ((eqb b 47 || eqb b 63) || eqb b 35)
 authority-ends-at-slash-question-or-hash b = grind (arith, nat_tests)
@@ -36,6 +38,7 @@ unfolding is_empty_or_begins_with_any
 authority_may_end_at_end i text h = ap (is_empty_or_begins_with_any (codes "/?#"))
     (drop_all i text h)
 
+-- parsing: an authority may end at `/` (47), `?` (63) or `#` (35)
 pub authority_may_end_at_byte : (i : ℕ) (text : List ℕ) → i < length text
     → is_empty_or_begins_with_any (codes "/?#") (drop i text)
     ≡ ((eqb (get_or text i 0) 47 || eqb (get_or text i 0) 63) || eqb (get_or text i 0) 35)
@@ -43,6 +46,7 @@ unfolding is_empty_or_begins_with_any
 authority_may_end_at_byte i text h = ap (is_empty_or_begins_with_any (codes "/?#"))
     (drop_more text i 0 h) ∙ authority-ends-at-slash-question-or-hash (get_or text i 0)
 
+-- parsing: an authority may end where `/` (47) is next
 pub authority_may_end_at_slash : (rest : List ℕ) → starts 47 rest ≡ true
     → is_empty_or_begins_with_any (codes "/?#") rest ≡ true
 unfolding is_empty_or_begins_with_any
@@ -50,6 +54,7 @@ authority_may_end_at_slash [] e = refl
 authority_may_end_at_slash (b ∷ rest) e = authority-ends-at-slash-question-or-hash b
     ∙ ap (λ t. (t || eqb b 63) || eqb b 35) e
 
+-- parsing: what ends an authority is no colon (58)
 mark-after-authority-is-no-colon : (b : ℕ) → is_one_of (codes "/?#") b ≡ true → eqb b 58 ≡ false
 mark-after-authority-is-no-colon b e = grind (arith, nat_tests)
 

@@ -65,6 +65,7 @@ ruleset steps = (
   drop-drop,
 )
 
+-- parse errors: a text that begins with `@` (64) does not begin with a `%`
 at-sign-is-no-stray-percent : (set : TableSet) (rest : List ℕ) → starts 64 rest ≡ true
     → not (set.pct_encoded && starts 37 rest) ≡ true
 at-sign-is-no-stray-percent set rest e = not_from_false _

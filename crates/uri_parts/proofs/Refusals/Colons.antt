@@ -1,6 +1,7 @@
 -- The last `:` before a position.
 use Rattle.uri_parts.proofs.Common.{◌≡◌, ℕ, zero, suc, ◌+◌, ◌-◌, ◌<◌, ◌≤◌, true, false, List, length, get_or, drop, ap, ◌∙◌, arith, ⊎_elim, ◌⊎◌, inl, inr, add-one, add-zero, cases_Bool, cond-true, cond-false, eq-eqb, ne_eqb, drop_more, nat_tests, starts, last_colon}
 
+-- parse errors: a `:` (58) at i begins what is left there
 colon-byte-begins-suffix : (text : List ℕ) (i : ℕ) → i < length text → get_or text i 0 ≡ 58
     → starts 58 (drop i text) ≡ true
 colon-byte-begins-suffix text i l e = ap (starts 58) (drop_more text i 0 l) ∙ eq-eqb _ 58 e
@@ -10,6 +11,7 @@ other-byte-begins-no-colon : (text : List ℕ) (i : ℕ) → i < length text →
     → starts 58 (drop i text) ≡ false
 other-byte-begins-no-colon text i l e = ap (starts 58) (drop_more text i 0 l) ∙ ne_eqb _ 58 e
 
+-- parse errors: the last `:` (58) before n + 1 is at n, if one is there
 last_colon-is-colon-just-before : (text : List ℕ) (n : ℕ) → n < length text → get_or text n 0 ≡ 58
     → last_colon text (suc n) ≡ n
 unfolding last_colon
@@ -28,6 +30,7 @@ last_colon-at-colon text zero n l k e c = absurd (omega arith)
 last_colon-at-colon text (suc i) n l k e c =
     grind (arith, nat_tests, last_colon-is-colon-just-before)
 
+-- parse errors: another byte than `:` (58) leaves the last `:` before it where it was
 pub last_colon-stays-past-other-byte : (text : List ℕ) (i n : ℕ) → 0 < i → i ≤ length text
     → n ≡ i - 1 → (get_or text n 0 ≡ 58 → ⊥) → last_colon text i ≡ last_colon text n
 last_colon-stays-past-other-byte text zero n l k e c = absurd (omega arith)
@@ -45,11 +48,13 @@ last_colon_is_below_position text (suc (suc i)) l = ⊎_elim
     (let h = last_colon_is_below_position text (suc i) (omega arith) in omega arith))
     (cases_Bool (starts 58 (drop (suc i) text)))
 
+-- parse errors: after a `:` (58) at n, the last one is at n
 pub last_colon-after-colon-is-that-colon : (text : List ℕ) (n : ℕ) → starts 58 (drop n text) ≡ true
     → last_colon text (n + 1) ≡ n
 unfolding last_colon
 last_colon-after-colon-is-that-colon text n e = ap (last_colon text) (add-one n) ∙ cond-true _ _ _ e
 
+-- parse errors: after k bytes without a `:` (58), the last one is that before them
 pub last_colon-without-colons-after : (text : List ℕ) (n k : ℕ) → ((j : ℕ)
     → j < k → starts 58 (drop (n + j) text) ≡ false) → last_colon text (n + k) ≡ last_colon text n
 unfolding last_colon

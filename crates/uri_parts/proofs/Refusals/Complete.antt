@@ -28,6 +28,7 @@ record Stops (tail : List ℕ) : Type 0 where
   dot : starts 46 tail ≡ false
   some : is_end tail ≡ false
 
+-- parse errors: `:` (58) ends a group of an IPv6 address
 colon-ends-a-group : (tail : List ℕ) → Stops (58 ∷ tail)
 unfolding is_end
 colon-ends-a-group tail = record { none = lit≤ tt; dot = refl; some = refl }
@@ -42,6 +43,7 @@ text-of-groups-ends-a-group ipv4 groups (s ∷ segments) suffix (inl (group, res
 text-of-groups-ends-a-group ipv4 groups (s ∷ segments) suffix (inr (last, octets, may, e, is, same))
     w = subst (λ t. Stops (t ++ suffix)) (sym e) (colon-ends-a-group _)
 
+-- parse errors: `]` (93) ends a group of an IPv6 address
 bracket-ends-a-group : (tail : List ℕ) → Stops (93 ∷ tail)
 unfolding is_end
 bracket-ends-a-group tail = record { none = lit≤ tt; dot = refl; some = refl }

@@ -34,6 +34,7 @@ pub text-with-bracket-is-nonempty : (xs : List ℕ) → starts 93 xs ≡ true �
 text-with-bracket-is-nonempty [] e = absurd (false≢true e)
 text-with-bracket-is-nonempty (x ∷ xs) e = omega arith
 
+-- parse errors: an IPv6 address and `]` (93) after it are parsed as a literal
 ipv6-text-and-bracket-are-parsed : (rest prefix suffix segments : List ℕ) → rest ≡ prefix ++ suffix
     → IsColonHex prefix segments → starts 93 suffix ≡ true → parses_literal rest ≡ true
 unfolding is_literal parses_literal
@@ -104,6 +105,7 @@ module _ (text : List ℕ) (i : ℕ) where
       ∙ unparsed-literal-is-not-closed (ipv6_end text i) refl none)
       (cases_Bool (cannot_begin_ipv6 text i))
 
+-- parse errors: an IPv6 address with `]` (93) after it is a literal that ends after this
 pub literal-ends-after-read-ipv6 : (text suffix : List ℕ) (i : ℕ)
     → Some suffix ≡ option_map (λ p. p.1) (read_ipv6 (drop i text)) → starts 93 suffix ≡ true
     → literal text i ≡ Ok (length text - length suffix + 1)

@@ -6,6 +6,7 @@ use Rattle.uri_parts.proofs.Refusals.Rooted.{Adjoins, scan-stops-at-stray-percen
 use Rattle.uri_parts.proofs.Splitting.Cuts.{begins-with-further-mark}
 use Rattle.uri_parts.proofs.TextKinds.Separations.{SeparatesComponents}
 
+-- parse errors: a digit, as of a port, is ASCII, and not `:` (58)
 digit-is-ascii-and-no-colon : (b : ℕ) (bs : List ℕ) → allows_first digit_set b bs ≡ true
     → (b < 128) × (eqb b 58 ≡ false)
 unfolding allows_first allows_past_ascii

@@ -32,6 +32,7 @@ bind-respects-pointwise-equality : (r : ScanResult) (f g : ℕ → OptionalParse
 bind-respects-pointwise-equality (Ok n) f g h = h n
 bind-respects-pointwise-equality (Err e) f g h = refl
 
+-- parse errors: a `%` (37) that begins no octet stops the scan of each set that has octets
 stray-percent-stops-greater-set : (small great : TableSet) (bs : List ℕ) → small.pct_encoded ≡ true
     → great.pct_encoded ≡ true → valid_prefix small (37 ∷ bs) ≡ 0 → valid_prefix great (37 ∷ bs) ≡ 0
 unfolding valid_prefix_from

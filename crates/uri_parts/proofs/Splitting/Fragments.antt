@@ -17,6 +17,7 @@ tail-without-colon-keeps-first-colon marks prefix (c ∷ back) tail lacks begins
     ap (λ t. starts 58 (from_any marks t)) (append_assoc prefix (c ∷ back) tail) ∙ ap
     (starts 58) (cut-at-end-of-text-without-marks marks prefix (c ∷ (back ++ tail)) lacks begins).1
 
+-- replacing a fragment: a fragment with its `#`, or nothing, does not begin with `:` (58)
 fragment-begins-with-no-colon : (tail : List ℕ) → IsEmptyOrMarked (codes "#") tail
     → starts 58 tail ≡ false
 fragment-begins-with-no-colon [] begins = refl
@@ -169,6 +170,7 @@ module _ (text : List ℕ) (p : Positions) (at : ArePositionsOf text p) (mark : 
   stripped_is_without_fragment made e = joined-text-is-with-fragment text made None
       (e ∙ text-to-mark-is-before-fragment ∙ sym (append-nil _))
 
+-- replacing a fragment: `#` (35) and a fragment, after a text that has none, give it that one
 pub appended_is_with_fragment : (text kept made fragment : List ℕ) → IsWithFragment text None kept
     → made ≡ kept ++ (35 ∷ fragment) → IsWithFragment text (Some fragment) made
 appended_is_with_fragment text kept made fragment w e =

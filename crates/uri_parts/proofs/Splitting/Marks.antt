@@ -22,6 +22,7 @@ IsEmptyOrMarked-query_text None fragment =
     grind (arith, nat_tests, empty-or-marked-for-more-marks, IsEmptyOrMarked-fragment_text)
 IsEmptyOrMarked-query_text (Some q) fragment = refl
 
+-- recomposing: a fragment with its `#`, or nothing, does not begin with `?` (63)
 fragment-begins-with-no-question-mark : (fragment : Option (List ℕ))
     → starts 63 (fragment_text fragment) ≡ false
 fragment-begins-with-no-question-mark None = refl
@@ -62,6 +63,7 @@ has_authority-append (a ∷ d ∷ path) tail begins = refl
 pub cons_is_not_nil : (c : ℕ) (xs : List ℕ) → c ∷ xs ≡ [] → ⊥
 cons_is_not_nil c xs e = cc
 
+-- splitting: `/` (47) ends an authority
 slash-ends-authority : (c : ℕ) → eqb c 47 ≡ true → is_one_of (codes "/?#") c ≡ true
 slash-ends-authority c e = ap (is_one_of (codes "/?#")) (eqb-true c 47 e)
 
@@ -92,6 +94,7 @@ authority-found (Some a) path tail some none begins =
 other-byte-is-no-colon : (c : ℕ) → is_one_of (codes ":/?#") c ≡ false → eqb c 58 ≡ false
 other-byte-is-no-colon c e = grind (arith, nat_tests)
 
+-- recomposing: a scheme with its `:` (58) does not begin with `:`
 scheme-does-not-begin-with-colon : (s rest : List ℕ) → 0 < length s → Lacks (codes ":/?#") s
     → starts 58 (s ++ (58 ∷ rest)) ≡ false
 scheme-does-not-begin-with-colon [] rest h lacks = absurd (omega arith)

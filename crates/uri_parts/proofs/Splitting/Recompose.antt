@@ -24,6 +24,7 @@ pub text-with-mark-is-mark-and-rest : (c : ℕ) (text : List ℕ) → starts c t
 text-with-mark-is-mark-and-rest c [] h = absurd (both_ways _ refl h)
 text-with-mark-is-mark-and-rest c (d ∷ text) h = ap (λ x. x ∷ text) (eqb-true d c h)
 
+-- splitting: what begins with `//` is two slashes (47) and a rest
 text-with-authority-is-slashes-and-rest : (text : List ℕ) → has_authority text ≡ true → text
     ≡ 47 ∷ 47 ∷ drop 2 text
 text-with-authority-is-slashes-and-rest [] h = cc

@@ -14,6 +14,8 @@ scan_stops_at_first_mark marks mark m set lacks outside bs u e = ⊎_elim (λ h.
     (ap (is_one_of marks) (eqb-true w.byte mark (sym (ap (starts mark) w.left) ∙ e)) ∙ m)))
     (scan-stops-at-first-mark-or-within marks set lacks outside bs u)
 
+-- splitting, relative references: a scan by a set without `:`
+-- that stops at a `:` (58) stopped before the first delimiter
 pub scan_stops_at_first_colon : (set : TableSet)
     → LacksPercent set → excludes set (codes ":/?#") ≡ true → (bs : List ℕ) → IsUtf8 bs
     → starts 58 (after set bs) ≡ true → valid_prefix set bs ≡ length_before_marks (codes ":/?#") bs
@@ -70,6 +72,8 @@ colon-in-first-segment-iff-colon-is-first-mark (b ∷ rest) =
     (codes ":/?#") b rest (other-byte-is-none-of-four-marks b q s c)))) (cases_Bool (eqb b 58)))
     (cases_Bool (is_one_of (codes "/") b))) (cases_Bool (is_one_of (codes "?#") b))
 
+-- splitting, relative references: a text that begins
+-- with `:` (58) is all from the first delimiter on
 text-with-colon-begins-at-first-mark : (bs : List ℕ) → starts 58 bs ≡ true
     → from_any (codes ":/?#") bs ≡ bs
 text-with-colon-begins-at-first-mark [] e = refl

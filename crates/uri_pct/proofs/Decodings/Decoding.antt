@@ -25,6 +25,7 @@ head_and_tail_lack_percent c cs e =
       p.1,
     )
 
+-- decoding: characters have no `%` (37) if their bytes have none
 chars_lack_percent_if_bytes_do : (cs : List ℕ) → lacks 37 (encode_utf8_all cs) ≡ true
     → lacks 37 cs ≡ true
 chars_lack_percent_if_bytes_do [] e = refl
@@ -156,6 +157,7 @@ text_before_percent_is_unencoded : (text : List ℕ) → lacks 37 (take (len_bef
     ≡ true
 text_before_percent_is_unencoded text = prefix_len_bytes_pass (λ b. not (eqb b 37)) text
 
+-- decoding: what is before the first `%` (37) ends at a `%`, or with the text
 percent_ends_unencoded_prefix : (text : List ℕ) → len_before_percent text < length text
     → get_or text (len_before_percent text) 0 ≡ 37
 percent_ends_unencoded_prefix text h = eqb-true _ 37

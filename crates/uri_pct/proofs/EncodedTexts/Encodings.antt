@@ -70,6 +70,7 @@ encoded_bytes_decode_to_themselves set bytes = encoded_pieces_decode_to_their_by
     (utf8_pieces bytes) (utf8_pieces-are-of-characters bytes)
     ∙ bytes_of_utf8_pieces_are_the_bytes bytes
 
+-- encoding: a run of a text, up to the next character, has this character (c) more
 pub slice_with_one_more_char : (text : List ℕ) (start end c : ℕ)
     → start ≤ end → drop end text ≡ encode_utf8 c ++ drop (end + len_utf8 c) text → take (end
     + len_utf8 c - start) (drop start text) ≡ take (end - start) (drop start text) ++ encode_utf8 c

@@ -37,9 +37,11 @@ first_byte_of_char_is_lead_byte c rest = grind (arith, nat_tests)
 lead_byte_past_ascii_is_char_past_ascii : (c : ℕ) → 128 ≤ lead_byte c → 128 ≤ c
 lead_byte_past_ascii_is_char_past_ascii c h = grind (arith, nat_tests)
 
+-- tables, lead bytes: a lead byte from E0 (224) begins a character from U+0800 (2048)
 lead_byte_from_224_is_char_from_2048 : (c : ℕ) → 224 ≤ lead_byte c → 2048 ≤ c
 lead_byte_from_224_is_char_from_2048 c h = grind (arith, nat_tests)
 
+-- tables, lead bytes: a lead byte past ASCII is C2 (194) at least
 lead_byte_past_ascii_is_at_least_c2 : (c : ℕ) → 128 ≤ lead_byte c → 194 ≤ lead_byte c
 lead_byte_past_ascii_is_at_least_c2 c h = grind (arith, nat_tests)
 

@@ -23,6 +23,7 @@ has_bit_past_ascii_is_false low high c h = cond-false _ _ _ (le-ltb c 64 (omega 
 pub has_bit-only-ascii : (low high c : ℕ) → has_bit low high c ≡ true → c < 128
 has_bit-only-ascii low high c e = grind (arith, nat_tests, has_bit_past_ascii_is_false)
 
+-- tables: the bit of `%` (37) is in the low word
 pub has_bit_of_percent_is_bit_of_low : (low high : ℕ) → has_bit low high 37 ≡ eqb (bit_at low 37) 1
 unfolding has_bit
 has_bit_of_percent_is_bit_of_low low high = refl

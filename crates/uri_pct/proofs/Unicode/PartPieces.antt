@@ -82,6 +82,7 @@ char_is_one_well_formed_piece c s = ap utf8_pieces (sym (append-nil (encode_utf8
 pub printable_char_is_scalar : (c : ℕ) → is_printable (Char c) ≡ true → IsScalar c
 printable_char_is_scalar c e = (and_parts _ true (and_parts _ _ e).0).0
 
+-- UTF-8 of decoded parts: octets (run) and tokens have the pieces of the bytes that they decode to
 parts_after_run_have_pieces_of_decoded_bytes : (run : List ℕ) (ts : List Token)
     → list_all is_printable ts ≡ true → pieces_of_parts (parts_from run (chunks_of_tokens ts))
     ≡ utf8_pieces (run ++ bytes_decoded_from ts)

@@ -28,6 +28,8 @@ decoding_decoded_tokens_keeps_them set run (Char c ∷ ts) same =
     ap (λ x. x ++ Char c ∷ decode_after_run set [] ts) same.0
     ∙ ap (λ x. map Octet run ++ Char c ∷ x) (decoding_decoded_tokens_keeps_them set [] ts same.1)
 
+-- unreserved octets: octets (more) before decoded tokens stay octets,
+-- if they do as the end of the run
 octets_before_decoded_tokens_stay_decoded : (set : TableSet) (run more : List ℕ) (ts : List Token)
     → IsDecoded set (run ++ more) ts → IsDecoded set run (map Octet more ++ ts)
 octets_before_decoded_tokens_stay_decoded set run [] ts h = subst (λ r. IsDecoded set r ts)

@@ -35,6 +35,7 @@ allowed_char_is_printable set c lacks e = ⊎_elim
     (grind (arith, nat_tests, allowed_past_ascii_is_scalar, scalar_but_percent_is_printable))
     (cases_lt c 128)
 
+-- characters of valid texts: `%` (37) is not unreserved
 unreserved_char_is_not_percent : (c : ℕ) → is_unreserved c ≡ true → eqb c 37 ≡ false
 unreserved_char_is_not_percent c e = grind (arith, nat_tests)
 

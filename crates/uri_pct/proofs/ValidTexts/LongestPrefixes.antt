@@ -13,6 +13,7 @@ are_allowed_chars set cs = list_all (allows_token set) (tokens_from_chars cs) �
 addition_commutes : (m n : ℕ) → m + n ≡ n + m
 addition_commutes m n = omega arith
 
+-- valid prefixes: an octet before characters (cs) makes their text three bytes longer
 octet_is_three_bytes_long : (c h l : ℕ) (cs : List ℕ) → is_pct_encoded c h l ≡ true
     → length (encode_utf8_all (c ∷ h ∷ l ∷ cs)) ≡ length (encode_utf8_all cs) + 3
 unfolding is_pct_encoded
@@ -23,6 +24,7 @@ pub empty_text_has_empty_valid_prefix : (set : TableSet) → valid_prefix set []
 unfolding valid_prefix_from
 empty_text_has_empty_valid_prefix set = refl
 
+-- valid prefixes: characters and one more (c) are within its length more
 chars_with_one_more_stay_within : (c : ℕ) (xs : List ℕ) {m n : ℕ} → m ≡ n + length (encode_utf8 c)
     → length (encode_utf8_all xs) ≤ n → length (encode_utf8_all (c ∷ xs)) ≤ m
 chars_with_one_more_stay_within c xs e l = grind (arith, nat_tests, length-append)

@@ -47,6 +47,8 @@ byte_past_ascii_is_no_ascii_mark : (marks : List ℕ) → AreAscii marks → (b 
 byte_past_ascii_is_no_ascii_mark marks ascii b h = ⊎_elim (λ m. let l = ascii b m in absurd
     (ascii_byte_is_not_past_ascii b h l)) (λ m. m) (cases_Bool (is_one_of marks b))
 
+-- cuts of valid texts: at ASCII marks,
+-- a text is never cut among the bytes past ASCII of a character (more)
 bytes_past_ascii_hold_no_mark : (marks : List ℕ) → AreAscii marks → (more rest : List ℕ)
     → list_all is_no_ascii_byte more ≡ true → passes_no_mark_within_chars marks 0 rest ≡ true
     → passes_no_mark_within_chars marks (length more) (more ++ rest) ≡ true

@@ -61,6 +61,7 @@ valid_prefix_stops_at_stray_percent set lacks bs i h p e = valid_prefix_by_byte_
     (and_left _ _ o) ∙ cond-false _ _ _ (percent_is_not_allowed_first set lacks _ _ (eq-eqb _ _ p)))
     (cases_Bool set.pct_encoded)
 
+-- scanning: no character of a set is `%` (37)
 ascii_char_of_set_is_not_percent : (set : TableSet) → LacksPercent set → (b : ℕ) → set.ascii b
     ≡ true → eqb b 37 ≡ false
 ascii_char_of_set_is_not_percent set lacks b a = grind (arith, nat_tests)
@@ -92,6 +93,7 @@ skipped_bytes_add_their_length set [] rest = omega arith
 skipped_bytes_add_their_length set (b ∷ more) rest = let h = skipped_bytes_add_their_length set more
     rest in omega arith
 
+-- scanning: a byte past ASCII is not `%` (37)
 past_ascii_is_not_percent : (n : ℕ) → 128 ≤ n → n ≡ 37 → ⊥
 past_ascii_is_not_percent n l d = omega arith
 

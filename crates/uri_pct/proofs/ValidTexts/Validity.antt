@@ -49,6 +49,7 @@ and_is_false_with_any_first : (x y z : Bool) → (y && z) ≡ false → ((x && y
 and_is_false_with_any_first true y z e = e
 and_is_false_with_any_first false y z e = refl
 
+-- validity: a byte past ASCII is not `%` (37)
 past_ascii_is_not_percent : {n : ℕ} (b : ℕ) → n ≡ b → 128 ≤ n → b ≡ 37 → ⊥
 past_ascii_is_not_percent b e h d = omega arith
 
@@ -129,6 +130,7 @@ validity_after_percent_skips_two set c cs d b o =
     ∙ validity_by_first_byte set c (encode_utf8_all cs) ∙ cond-true _ _ _ (and_from _ _
     (and_from _ _ o (ap (λ t. eqb t 37) d)) (encoded_chars_begin_with_same_hex_digits cs ∙ b))
 
+-- validity: a `%` (37) is not valid for a set without octets
 stray_percent_is_not_valid : (set : TableSet) (c : ℕ) (cs : List ℕ) → LacksPercent set → c ≡ 37
     → set.pct_encoded ≡ false → valid_from set 0 (encode_utf8_all (c ∷ cs)) ≡ false
 stray_percent_is_not_valid set c cs p d o = ap (λ t. valid_from set 0 (t ++ encode_utf8_all cs))

@@ -25,6 +25,7 @@ none_at_slash set lacks outside (b ∷ rest) e = record {
   colon = ap (λ c. starts 58 (c ∷ rest)) (eqb-true b 47 e);
 }
 
+-- before `/` (47) there is no first segment, in each of the kinds
 none_of_kind_at_slash : (kind : Kind) → kind ≡ kind_by_flags kind.path.ucschar kind.needs_scheme
     → (rest : List ℕ) → starts 47 rest ≡ true → HasNoSegment (first_segment_set kind) rest
 none_of_kind_at_slash kind known rest e =
