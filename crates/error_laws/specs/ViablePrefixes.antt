@@ -4,12 +4,8 @@
 use Rattle.std.specs.Prelude.{ℕ, ◌+◌, ◌==◌, Bool, false, not, ◌&&◌, ◌||◌, nat_lt, List, ◌++◌, length, drop, codes, slice_index, Ok, Err, if◌then◌else◌}
 use Rattle.std.specs.Char.{is_ascii_alphabetic}
 use Rattle.std.specs.Option.{option_map_or}
-use Rattle.uri_pct.specs.Delimiters.{at_sign, colon, left_bracket, percent_sign, slash}
-use Rattle.uri_pct.specs.Sets.{digit_set, scheme_set}
-use Rattle.uri_parts.specs.Components.{has_authority}
-use Rattle.uri_parts.specs.Grammar.{Kind, IsTextOf}
-use Rattle.uri_parts.specs.LiteralErrors.{ipv6_end, literal}
-use Rattle.uri_parts.specs.Scanning.{ScanResult, is_next, is_at_end, scan_end}
+use Rattle.uri_pct.specs.Prelude.{at_sign, colon, digit_set, left_bracket, percent_sign, scheme_set, slash}
+use Rattle.uri_parts.specs.Prelude.{IsTextOf, Kind, ScanResult, has_authority, ipv6_end, is_at_end, is_next, literal, scan_end}
 
 -- the prefix before an error begins some text of the kind: it is one with something appended
 abbrev pub IsViablePrefix : Kind → List ℕ → Type 0

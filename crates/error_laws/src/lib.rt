@@ -4,9 +4,7 @@
 ghost use Rattle.std.specs.Prelude.{◌≡◌, ℕ, List, false, true, map, take, Some};
 ghost use Rattle.std.specs.Str.{IsUtf8};
 ghost use Rattle.uri_parts.specs.declared.error.ParseError.{ParseError};
-ghost use Rattle.uri_parts.specs.Errors.{error_index};
-ghost use Rattle.uri_parts.specs.Grammar.{uri, uri_ref, iri, iri_ref};
-ghost use Rattle.uri_parts.specs.Refusals.{refusal};
+ghost use Rattle.uri_parts.specs.Prelude.{error_index, iri, iri_ref, refusal, uri, uri_ref};
 ghost use Rattle.error_laws.specs.ViablePrefixes.{IsViablePrefix, has_late_error};
 ghost use Rattle.error_laws.specs.ViablePrefixRows.{late_error_rows};
 

@@ -2,8 +2,7 @@
 use Rattle.std.specs.Prelude.{ℕ, List, Option, None}
 use Rattle.std.specs.Fmt.{debug_option, debug_str}
 use Rattle.std.specs.Option.{option_map_or}
-use Rattle.uri_parts.specs.Components.{components}
-use Rattle.uri_parts.specs.Printing.{debug_reference}
+use Rattle.uri_parts.specs.Prelude.{components, debug_reference}
 
 -- `Debug` of a reference that has a scheme, under the name of its type
 abbrev pub debug_with_scheme : List ℕ → List ℕ → Option (List ℕ)

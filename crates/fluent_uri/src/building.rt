@@ -1,7 +1,6 @@
 //! Builders of the four kinds, and the empty reference (RFC 3986, sections 4.4 and 5.3).
 ghost use Rattle.std.specs.Prelude.{◌≡◌};
-ghost use Rattle.uri_ops.specs.BuilderParts.{no_parts};
-ghost use Rattle.uri_ops.specs.BuilderStates.{contents_of, parts_in_state};
+ghost use Rattle.uri_ops.specs.Prelude.{contents_of, no_parts, parts_in_state};
 
 use crate::reference::Reference;
 use crate::roles::RefKind;

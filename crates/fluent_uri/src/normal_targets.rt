@@ -1,9 +1,7 @@
 //! The law of targets of normal forms.
 ghost use Rattle.std.specs.Prelude.{◌≡◌, ◌↔◌, ℕ, List, Some};
 ghost use Rattle.uri_parts.specs.Components.{components};
-ghost use Rattle.uri_ops.specs.Normalizers.{IsNormalForm, scheme_rules_of};
-ghost use Rattle.uri_ops.specs.NormalTargets.{resolved_meaning};
-ghost use Rattle.uri_ops.specs.Resolving.{IsErrorWithUnderflowAllowed};
+ghost use Rattle.uri_ops.specs.Prelude.{IsErrorWithUnderflowAllowed, IsNormalForm, resolved_meaning, scheme_rules_of};
 ghost use Rattle.uri_ops.specs.declared.resolve.error.ResolveError.{ResolveError};
 ghost use Rattle.fluent_uri.specs.References.{reference_text};
 ghost use Rattle.fluent_uri.specs.Targets.{target_of_texts};

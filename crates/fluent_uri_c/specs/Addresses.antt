@@ -1,9 +1,7 @@
 -- The address that the host of a text is: RFC 3986, section 3.2.2.
 use Rattle.std.specs.Prelude.{ℕ, List, [], Option, Some, None, Ok}
 use Rattle.std.specs.Net.Addr.{octets_of}
-use Rattle.fluent_uri.specs.Authority.{authority_parts}
-use Rattle.fluent_uri.specs.Components.{components}
-use Rattle.fluent_uri.specs.Grammar.{Kind}
+use Rattle.fluent_uri.specs.Prelude.{Kind, authority_parts, components}
 use Rattle.fluent_uri.specs.Hosts as Hosts
 use Rattle.fluent_uri_c.specs.Kinds.{kind_numbered}
 use Rattle.fluent_uri_c.specs.Results.{Returned, rejection_or_result, text_error, with_valid_number}

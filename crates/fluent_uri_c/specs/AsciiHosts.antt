@@ -2,9 +2,7 @@
 use Rattle.std.specs.Prelude.{ℕ, ◌&&◌, Bool, false, not, List, [], Option, is_none, ok_or, option_map, unwrap_or, if◌then◌else◌}
 use Rattle.std.specs.Option.{option_map_or}
 use Rattle.std.specs.Str.{is_utf8}
-use Rattle.fluent_uri.specs.Components.{components}
-use Rattle.fluent_uri.specs.Encoded.{encode_past_ascii}
-use Rattle.fluent_uri.specs.Grammar.{Kind}
+use Rattle.fluent_uri.specs.Prelude.{Kind, components, encode_past_ascii}
 use Rattle.uri_parts.specs.Connecting.{name_bytes}
 use Rattle.uri_idna.specs.declared.error.AsciiHostError.{AsciiHostError}
 use Rattle.uri_idna.specs.declared.error.AsciiHostError.TheVariants as Ascii

@@ -1,7 +1,6 @@
 -- A base that a call for C has parsed: RFC 3986, section 5.1.
 use Rattle.std.specs.Prelude.{◌≡◌, ℕ, List, Some, None, Err}
-use Rattle.fluent_uri.specs.Grammar.{Kind, iri, uri}
-use Rattle.fluent_uri.specs.References.{reference_text}
+use Rattle.fluent_uri.specs.Prelude.{Kind, iri, reference_text, uri}
 use Rattle.fluent_uri_c.specs.declared.bases.Base.{Base}
 use Rattle.fluent_uri_c.specs.declared.bases.Base.TheVariants.{Iri, Rejected, Uri}
 use Rattle.fluent_uri_c.specs.Kinds.{base_numbered}

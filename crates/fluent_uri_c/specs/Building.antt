@@ -2,15 +2,10 @@
 use Rattle.std.specs.Prelude.{◌≡◌, ℕ, ◌-◌, ◌^◌, ◌==◌, ◌&&◌, ◌||◌, Bool, true, List, [], length, nat_le, Option, Some, None, Ok, IfSome, is_none, is_some, option_map, slice_index, slice_range, unwrap_or, if◌then◌else◌}
 use Rattle.std.specs.Char.{is_ascii_alphabetic}
 use Rattle.std.specs.Str.{is_utf8}
-use Rattle.fluent_uri.specs.Authority.{AuthorityParts, authority_parts, recompose_authority}
-use Rattle.fluent_uri.specs.Components.{Components, components, recompose, starts}
-use Rattle.fluent_uri.specs.Grammar.{IsOfKind, Kind, absent_or_passes}
-use Rattle.fluent_uri.specs.Hosts.{is_host}
-use Rattle.fluent_uri.specs.Sets.{TableSet, digit_set, scheme_set}
+use Rattle.fluent_uri.specs.Prelude.{AuthorityParts, Components, IsOfKind, Kind, TableSet, absent_or_passes, authority_parts, components, digit_set, is_host, recompose, recompose_authority, scheme_set, starts}
 use Rattle.uri_ops.specs.declared.build.error.BuildError.{BuildError}
 use Rattle.uri_ops.specs.declared.build.error.BuildError.TheVariants as Build
-use Rattle.uri_ops.specs.BuilderParts.{is_authority_text, is_scheme_text, is_text_for}
-use Rattle.uri_ops.specs.Built.{build_error_of_path}
+use Rattle.uri_ops.specs.Prelude.{build_error_of_path, is_authority_text, is_scheme_text, is_text_for}
 use Rattle.uri_pct.specs.Delimiters.{left_bracket}
 use Rattle.fluent_uri_c.specs.declared.building.ComponentSpans.{ComponentSpans}
 use Rattle.fluent_uri_c.specs.declared.errors.Error.{Error}

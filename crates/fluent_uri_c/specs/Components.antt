@@ -1,8 +1,6 @@
 -- The components by the numbers of the header: RFC 3986, section 3.
 use Rattle.std.specs.Prelude.{ℕ, List, ◌==◌, Option, Some, None, is_none, option_and_then, if◌then◌else◌}
-use Rattle.fluent_uri.specs.Authority.{authority_parts}
-use Rattle.fluent_uri.specs.Components.{components}
-use Rattle.fluent_uri.specs.Grammar.{Kind}
+use Rattle.fluent_uri.specs.Prelude.{Kind, authority_parts, components}
 use Rattle.fluent_uri_c.specs.Spans.{parse_error}
 
 -- the component of an authority with a number of the C header, or the whole authority (sections

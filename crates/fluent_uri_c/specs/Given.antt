@@ -1,7 +1,6 @@
 -- The components of a reference to build, as the texts that hold them: RFC 3986, section 3.
 use Rattle.std.specs.Prelude.{option_copied, option_map}
-use Rattle.fluent_uri.specs.Authority.{AuthorityParts, recompose_authority}
-use Rattle.fluent_uri.specs.Components.{Components}
+use Rattle.fluent_uri.specs.Prelude.{AuthorityParts, Components, recompose_authority}
 use Rattle.fluent_uri_c.specs.declared.building.AuthorityTexts.{AuthorityTexts}
 use Rattle.fluent_uri_c.specs.declared.building.Texts.{Texts}
 

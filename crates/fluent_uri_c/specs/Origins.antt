@@ -2,12 +2,9 @@
 use Rattle.std.specs.Prelude.{ℕ, ◌++◌, ◌==◌, ◌&&◌, Bool, true, List, [], codes, decimal, length, nat_lt, Option, Some, None, Ok, is_some, option_map, if◌then◌else◌}
 use Rattle.std.specs.Option.{option_map_or}
 use Rattle.std.specs.Str.{str_to_ascii_lowercase}
-use Rattle.fluent_uri.specs.Authority.{AuthorityParts, authority_parts}
-use Rattle.fluent_uri.specs.Components.{components, marked}
-use Rattle.fluent_uri.specs.Grammar.{Kind, uri, uri_ref}
+use Rattle.fluent_uri.specs.Prelude.{AuthorityParts, Kind, authority_parts, components, marked, uri, uri_ref}
 use Rattle.uri_ops.specs.declared.scheme_rules.RuleSet.TheVariants as Set
-use Rattle.uri_parts.specs.Ports.{port_number}
-use Rattle.uri_parts.specs.SchemePorts.{default_port}
+use Rattle.uri_parts.specs.Prelude.{default_port, port_number}
 use Rattle.fluent_uri_c.specs.Results.{Returned, normal_form_of, rejection_or_result, text_error, with_valid_number}
 
 -- whether the number of a port is below 65536, if there is one

@@ -3,22 +3,11 @@ use Rattle.std.specs.Prelude.{◌≡◌, ◌⊎◌, ℕ, ◌^◌, Bool, false, t
 use Rattle.std.specs.Str.{IsUtf8}
 use Rattle.std.specs.Result.{is_ok, result_map_both}
 use Rattle.std.specs.Str.Lossy.{utf8_valid_len}
-use Rattle.fluent_uri.specs.Components.{components}
-use Rattle.fluent_uri.specs.Encoded.{encode_past_ascii}
-use Rattle.fluent_uri.specs.Encoding.{encode_bytes}
-use Rattle.fluent_uri.specs.Grammar.{Kind, IsTextOf}
-use Rattle.fluent_uri.specs.Normal.{normal_text}
-use Rattle.fluent_uri.specs.NormalTargets.{reference_kind}
-use Rattle.fluent_uri.specs.Refusals.{refusal}
-use Rattle.fluent_uri.specs.Sets.{TableSet}
+use Rattle.fluent_uri.specs.Prelude.{IsTextOf, Kind, TableSet, bytes_decoded_from, components, encode_bytes, encode_past_ascii, normal_text, print, reference_kind, refusal, tokens}
 use Rattle.fluent_uri.specs.Target as Target
-use Rattle.fluent_uri.specs.Tokens.{print, bytes_decoded_from, tokens}
-use Rattle.uri_ops.specs.RuleSets.{rules_of_set}
-use Rattle.uri_ops.specs.SchemeRules.{meaning_under}
+use Rattle.uri_ops.specs.Prelude.{meaning_under, rules_of_set}
 use Rattle.uri_ops.specs.declared.scheme_rules.RuleSet.{RuleSet}
-use Rattle.uri_parts.specs.Errors.{unexpected}
-use Rattle.uri_parts.specs.Refusals.{OptionalParseError, ◌>>=◌}
-use Rattle.uri_parts.specs.Scanning.{is_at_end, scan}
+use Rattle.uri_parts.specs.Prelude.{OptionalParseError, is_at_end, scan, unexpected, ◌>>=◌}
 use Rattle.uri_relative.specs.Leading.{without_fragment}
 use Rattle.uri_basic.specs.Target as Basic
 use Rattle.fluent_uri_c.specs.declared.errors.Error.TheVariants as Of

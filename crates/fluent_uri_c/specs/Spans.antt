@@ -1,8 +1,6 @@
 -- Where the components of a text are, as the caller learns it: RFC 3986, section 3.
 use Rattle.std.specs.Prelude.{◌≡◌, ◌≢◌, ◌↔◌, ℕ, ◌≤◌, ◌+◌, ◌-◌, ◌^◌, List, Option, Some, None, length, slice_range, option_and_then, option_map, IsSomeAnd}
-use Rattle.fluent_uri.specs.Authority.{authority_parts}
-use Rattle.fluent_uri.specs.Components.{components}
-use Rattle.fluent_uri.specs.Grammar.{Kind}
+use Rattle.fluent_uri.specs.Prelude.{Kind, authority_parts, components}
 use Rattle.fluent_uri.specs.Hosts as Hosts
 use Rattle.uri_parts.specs.Positions.{before_fragment, delimited_length, positions_of}
 use Rattle.fluent_uri_c.specs.declared.errors.Error.TheVariants.{InvalidArgument}

@@ -1,9 +1,6 @@
 //! Hosts in ASCII, as DNS has them (RFC 3987, section 3.1; UTS 46, section 4.2).
 ghost use Rattle.std.specs.Prelude.{◌≡◌, IfOk, IsSomeAnd, is_none, option_map};
-ghost use Rattle.fluent_uri.specs.AuthorityTexts.{authority_text};
-ghost use Rattle.fluent_uri.specs.Cows.{cow_text};
-ghost use Rattle.fluent_uri.specs.Grammar.{iri, iri_ref};
-ghost use Rattle.fluent_uri.specs.References.{reference_text};
+ghost use Rattle.fluent_uri.specs.Prelude.{authority_text, cow_text, iri, iri_ref, reference_text};
 ghost use Rattle.uri_idna.specs.AsciiReferences.{HasAsciiHost, with_ascii_host};
 ghost use Rattle.fluent_uri_c.specs.AsciiHosts.{ascii_host_of_kind, ascii_host_or_error, ascii_host_result, ascii_host_takes_memory, ascii_uri_of_kind, ascii_uri_result, ascii_uri_takes_memory, host_or_empty, takes_memory_for_host, takes_memory_for_host_of_kind};
 ghost use Rattle.fluent_uri_c.specs.Outcomes.{LeavesTextOrDenied};

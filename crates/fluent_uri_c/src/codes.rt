@@ -1,8 +1,7 @@
 //! Percent-encoding and decoding (RFC 3986, section 2.1).
 ghost use Rattle.std.specs.Prelude.{◌≡◌, IfOk, IsTrue, string_bytes};
 ghost use Rattle.std.specs.Result.{result_err};
-ghost use Rattle.fluent_uri.specs.Cows.{cow_items};
-ghost use Rattle.fluent_uri.specs.EncodedTexts.{text_of};
+ghost use Rattle.fluent_uri.specs.Prelude.{cow_items, text_of};
 ghost use Rattle.fluent_uri_c.specs.Results.{IsReturnedAs, component_error, decode_result, decoded_result, encode_result, encoded_as_result};
 
 use crate::errors::{Error, Rejection};

@@ -1,7 +1,6 @@
 //! The batch that writes a component of each text.
 ghost use Rattle.std.specs.Prelude.{◌≡◌, Some, option_copied};
-ghost use Rattle.fluent_uri.specs.AuthorityTexts.{authority_text};
-ghost use Rattle.fluent_uri.specs.References.{reference_text};
+ghost use Rattle.fluent_uri.specs.Prelude.{authority_text, reference_text};
 ghost use Rattle.fluent_uri_c.specs.Columns.{LeavesColumn, buffers, column32, column64};
 ghost use Rattle.fluent_uri_c.specs.Components.{authority_component, component_numbered, component_result};
 ghost use Rattle.fluent_uri_c.specs.Kinds.{kind_numbered};

@@ -1,8 +1,6 @@
 //! The host of a text as an address, and ports as numbers (RFC 3986, sections 3.2.2 and 3.2.3).
 ghost use Rattle.std.specs.Prelude.{◌≡◌, Some, false, option_map};
-ghost use Rattle.fluent_uri.specs.AuthorityTexts.{authority_text};
-ghost use Rattle.fluent_uri.specs.Components.{components};
-ghost use Rattle.fluent_uri.specs.References.{reference_text};
+ghost use Rattle.fluent_uri.specs.Prelude.{authority_text, components, reference_text};
 ghost use Rattle.fluent_uri_c.specs.Addresses.{address_octets, host_address_of, host_address_result};
 ghost use Rattle.fluent_uri_c.specs.Kinds.{kind_numbered};
 ghost use Rattle.fluent_uri_c.specs.Outcomes.{LeavesTextOrDenied, outcome_of_text, written};

@@ -1,13 +1,7 @@
 //! Where the components of a text are.
 ghost use Rattle.std.specs.Prelude.{◌≡◌, IsTrue, None, Some, is_some, true};
-ghost use Rattle.fluent_uri.specs.Authority.{authority_parts};
-ghost use Rattle.fluent_uri.specs.AuthorityTexts.{authority_text};
-ghost use Rattle.fluent_uri.specs.Components.{components};
-ghost use Rattle.fluent_uri.specs.Grammar.{IsOfKind};
-ghost use Rattle.fluent_uri.specs.Hosts.{RegName, host_kind};
-ghost use Rattle.fluent_uri.specs.References.{reference_text};
-ghost use Rattle.uri_parts.specs.CoreTexts.{core_text};
-ghost use Rattle.uri_parts.specs.Positions.{ArePositionsOf};
+ghost use Rattle.fluent_uri.specs.Prelude.{IsOfKind, RegName, authority_parts, authority_text, components, host_kind, reference_text};
+ghost use Rattle.uri_parts.specs.Prelude.{ArePositionsOf, core_text};
 ghost use Rattle.fluent_uri_c.specs.Kinds.{kind_numbered};
 ghost use Rattle.fluent_uri_c.specs.Spans.{ArePartsOf, AreSpansOf, IsSpan, absent, authority_host_number, host_number, rejected_parts, authority_start, fragment_start, host_of, host_start, path_start, port_of, port_start, query_start, userinfo_of};
 ghost use Rattle.fluent_uri_c.specs.Values.{ArePartsOfResult, HasPartsFirst};

@@ -3,13 +3,8 @@ ghost use Rattle.std.specs.Prelude.{◌≡◌, ◌&&◌, ◌||◌, IfOk, IfSome,
 ghost use Rattle.std.specs.Char.{is_ascii_alphabetic};
 ghost use Rattle.std.specs.Result.{result_err};
 ghost use Rattle.uri_ops.specs.BuilderParts.{is_text_for};
-ghost use Rattle.uri_parts.specs.Components.{starts};
-ghost use Rattle.uri_parts.specs.Scanning.{is_next};
-ghost use Rattle.uri_parts.specs.Hosts.{ipv6_value, is_future_address, is_host, is_ipv_future};
-ghost use Rattle.uri_pct.specs.Delimiters.{left_bracket, percent_sign};
-ghost use Rattle.uri_pct.specs.Sets.{LacksPercent, TableSet, hexdig_set, scheme_set};
-ghost use Rattle.uri_pct.specs.Tables.{set_of};
-ghost use Rattle.uri_pct.specs.Tokens.{is_valid_for};
+ghost use Rattle.uri_parts.specs.Prelude.{ipv6_value, is_future_address, is_host, is_ipv_future, is_next, starts};
+ghost use Rattle.uri_pct.specs.Prelude.{LacksPercent, TableSet, hexdig_set, is_valid_for, left_bracket, percent_sign, scheme_set, set_of};
 ghost use Rattle.fluent_uri_c.specs.Results.{component_error};
 
 use crate::errors::{Error, Rejection};

@@ -1,9 +1,7 @@
 //! Builders that are handed a closure.
 #![tactic(auto)]
 
-ghost use Rattle.fluent_uri.specs.BuilderParts.{AddsOrFails, with_host};
-ghost use Rattle.fluent_uri.specs.BuilderStates.{contents_of, parts_in_state};
-ghost use Rattle.fluent_uri.specs.HostParts.{ip_host};
+ghost use Rattle.fluent_uri.specs.Prelude.{AddsOrFails, contents_of, ip_host, parts_in_state, with_host};
 
 use fluent_uri::UriRef;
 use fluent_uri::build::state::{AuthorityStart, HostEnd};

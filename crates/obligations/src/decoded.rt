@@ -2,8 +2,7 @@
 #![tactic(auto)]
 
 ghost use Rattle.std.specs.Prelude.{◌≡◌, IfOk};
-ghost use Rattle.fluent_uri.specs.Cows.{cow_items, cow_text};
-ghost use Rattle.fluent_uri.specs.Decodes.{decoded};
+ghost use Rattle.fluent_uri.specs.Prelude.{cow_items, cow_text, decoded};
 
 use fluent_uri::pct_enc::{CowSlice, CowStr, Decode, DecodeError, DecodedChunk};
 use std::alloc::{AllocError, Global};

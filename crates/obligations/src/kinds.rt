@@ -3,14 +3,7 @@
 
 ghost use Rattle.std.specs.Prelude.{◌≡◌, ◌↔◌, ◌∷◌, IfErr, IfOk, IsOk, Ok, Some, [], option_map, string_bytes};
 ghost use Rattle.std.specs.Result.{result_err};
-ghost use Rattle.fluent_uri.specs.Components.{components};
-ghost use Rattle.fluent_uri.specs.Grammar.{IsOfKind, iri, iri_ref, uri, uri_ref};
-ghost use Rattle.fluent_uri.specs.Iris.{iri_ref_text, iri_text};
-ghost use Rattle.fluent_uri.specs.Prelude.{reference_text};
-ghost use Rattle.fluent_uri.specs.Refusals.{refusal};
-ghost use Rattle.fluent_uri.specs.Schemes.{scheme_text};
-ghost use Rattle.fluent_uri.specs.Target.{resolution_of_texts};
-ghost use Rattle.fluent_uri.specs.Uris.{uri_ref_text, uri_text};
+ghost use Rattle.fluent_uri.specs.Prelude.{IsOfKind, components, iri, iri_ref, iri_ref_text, iri_text, reference_text, refusal, resolution_of_texts, scheme_text, uri, uri_ref, uri_ref_text, uri_text};
 
 use fluent_uri::build::BuildError;
 use fluent_uri::component::{Authority, Host, HostOf, IAuthority, IHost, Scheme};

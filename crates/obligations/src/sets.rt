@@ -2,8 +2,7 @@
 #![tactic(auto)]
 
 ghost use Rattle.std.specs.Prelude.{◌≡◌, ◌↔◌, IsTrue};
-ghost use Rattle.fluent_uri.specs.Sets.{IsSubset, difference, union};
-ghost use Rattle.fluent_uri.specs.Tables.{set_of};
+ghost use Rattle.fluent_uri.specs.Prelude.{IsSubset, difference, set_of, union};
 
 use fluent_uri::pct_enc::{Table, table};
 

@@ -3,9 +3,7 @@
 
 ghost use Rattle.std.specs.Prelude.{◌≡◌, ◌↔◌, IfSome, IsSome, IsTrue};
 ghost use Rattle.std.specs.List.{list_all};
-ghost use Rattle.fluent_uri.specs.Masks.{is_unencoded_ascii};
-ghost use Rattle.fluent_uri.specs.Sets.{is_one_of, characters_only};
-ghost use Rattle.fluent_uri.specs.Tables.{set_of};
+ghost use Rattle.fluent_uri.specs.Prelude.{characters_only, is_one_of, is_unencoded_ascii, set_of};
 
 use fluent_uri::pct_enc::Table;
 

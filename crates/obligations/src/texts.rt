@@ -2,8 +2,7 @@
 #![tactic(auto)]
 
 ghost use Rattle.std.specs.Prelude.{◌≡◌, []};
-ghost use Rattle.fluent_uri.specs.AuthorityTexts.{authority_text};
-ghost use Rattle.fluent_uri.specs.EncodedTexts.{text_of};
+ghost use Rattle.fluent_uri.specs.Prelude.{authority_text, text_of};
 
 use fluent_uri::component::{Authority, Scheme};
 use fluent_uri::pct_enc::EStr;

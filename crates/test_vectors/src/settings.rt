@@ -14,8 +14,7 @@ impl SchemeRules for RowPort<'_> {
     ghost use Rattle.std.specs.Prelude.{◌==◌, Some, None, true, if◌then◌else◌};
     ghost use Rattle.std.specs.Cmp.Lexicographic.{pointwise};
     ghost use Rattle.std.specs.Option.{option_map_or};
-    ghost use Rattle.fluent_uri.specs.SchemeRules.{only_ports};
-    ghost use Rattle.fluent_uri.specs.Schemes.{lowered_scheme};
+    ghost use Rattle.fluent_uri.specs.Prelude.{lowered_scheme, only_ports};
 
     ghost rules_of = { λ row. only_ports (λ scheme.
         if option_map_or (λ one. pointwise ◌==◌ (lowered_scheme one) scheme) row.scheme true

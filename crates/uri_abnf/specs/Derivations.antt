@@ -1,9 +1,7 @@
 -- The components that a text has by the rules of the ABNF: RFC 3986, sections 3 and 4, and
 -- RFC 3987, section 2.2.
 use Rattle.std.specs.Prelude.{◌≡◌, ℕ, List, Option, Some, None, IfSome, if◌then◌else◌}
-use Rattle.uri_parts.specs.Authority.{AuthorityParts, recompose_authority}
-use Rattle.uri_parts.specs.Components.{Components, recompose}
-use Rattle.uri_parts.specs.Grammar.{Kind}
+use Rattle.uri_parts.specs.Prelude.{AuthorityParts, Components, Kind, recompose, recompose_authority}
 use Rattle.uri_abnf.specs.Abnf.{Abnf, ◌∣◌, IsOf}
 use Rattle.uri_abnf.specs.Rfc3986 as Rfc3986
 use Rattle.uri_abnf.specs.Rfc3987 as Rfc3987

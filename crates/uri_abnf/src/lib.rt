@@ -7,13 +7,8 @@
 
 ghost use Rattle.std.specs.Prelude.{◌≡◌, ◌↔◌, ℕ, List, [], ◌∷◌, None, true, false, map};
 ghost use Rattle.std.specs.Str.{IsUtf8};
-ghost use Rattle.uri_pct.specs.DecodeUnreserved.{is_decodable};
-ghost use Rattle.uri_pct.specs.Sets.{TableSet, digit_set, is_unreserved};
-ghost use Rattle.uri_pct.specs.Tokens.{IsValidFor};
-ghost use Rattle.uri_parts.specs.Authority.{AuthorityParts, authority_parts};
-ghost use Rattle.uri_parts.specs.Components.{Components, components};
-ghost use Rattle.uri_parts.specs.Grammar.{Kind, IsOfKind, IsTextOf, is_authority, is_scheme, uri, uri_ref, iri, iri_ref};
-ghost use Rattle.uri_parts.specs.Hosts.{IsHost, Ipv4, Ipv6, IpvFuture, RegName, bracketed};
+ghost use Rattle.uri_pct.specs.Prelude.{IsValidFor, TableSet, digit_set, is_decodable, is_unreserved};
+ghost use Rattle.uri_parts.specs.Prelude.{AuthorityParts, Components, Ipv4, Ipv6, IpvFuture, IsHost, IsOfKind, IsTextOf, Kind, RegName, authority_parts, bracketed, components, iri, iri_ref, is_authority, is_scheme, uri, uri_ref};
 ghost use Rattle.uri_abnf.specs.Abnf.{Has, IsOf};
 ghost use Rattle.uri_abnf.specs.Derivations.{IsAuthorityDerived, IsDerived, start_rule, uri_rules, iri_rules};
 ghost use Rattle.uri_abnf.specs.Printed as Printed;

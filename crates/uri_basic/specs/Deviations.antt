@@ -3,8 +3,7 @@ use Rattle.std.specs.Prelude.{◌≡◌, ℕ, Bool, true, false, not, ◌&&◌, 
 use Rattle.std.specs.List.{list_any}
 use Rattle.uri_pct.specs.Delimiters.{slash}
 use Rattle.uri_parts.specs.Components.{Components, starts}
-use Rattle.uri_ops.specs.Dots.{is_dot_segment, is_double_dot, is_empty, lacks_dot_segments, last_segment, segments}
-use Rattle.uri_ops.specs.Target.{dotted_target, is_opaque_rejection}
+use Rattle.uri_ops.specs.Prelude.{dotted_target, is_dot_segment, is_double_dot, is_empty, is_opaque_rejection, lacks_dot_segments, last_segment, segments}
 use Rattle.uri_basic.specs.Target.{is_ambiguous, target}
 
 -- whether a segment is `.` or `..`, not percent-encoded (section 3.3)

@@ -1,8 +1,6 @@
 //! Resolving references by the basic algorithm (RFC 3986, section 5.2).
 ghost use Rattle.std.specs.Prelude.{◌≡◌, IfErr, IfOk, Ok, string_bytes};
-ghost use Rattle.uri_parts.specs.Components.{components};
-ghost use Rattle.uri_parts.specs.Grammar.{IsTextOf};
-ghost use Rattle.uri_parts.specs.PackedPositions.{ArePackedPositionsOf};
+ghost use Rattle.uri_parts.specs.Prelude.{ArePackedPositionsOf, IsTextOf, components};
 ghost use Rattle.uri_basic.specs.Resolving.{IsBasicError, base_of};
 ghost use Rattle.uri_basic.specs.Target.{basic_resolution_of_texts};
 

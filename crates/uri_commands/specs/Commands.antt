@@ -3,9 +3,7 @@ use Rattle.std.specs.Prelude.{◌≡◌, ◌⊎◌, Bool, ℕ, ◌&&◌, List, [
 use Rattle.std.specs.Io.KnownBytes.{Appends}
 use Rattle.std.specs.List.{list_all}
 use Rattle.std.specs.Result.{result_ok}
-use Rattle.fluent_uri.specs.Components.{components}
-use Rattle.fluent_uri.specs.Grammar.{Kind, uri, uri_ref, iri, iri_ref, is_of_kind}
-use Rattle.fluent_uri.specs.Target.{resolution_of}
+use Rattle.fluent_uri.specs.Prelude.{Kind, components, iri, iri_ref, is_of_kind, resolution_of, uri, uri_ref}
 use Rattle.fluent_uri.specs.declared.normalize.RuleSet.{RuleSet}
 use Rattle.fluent_uri.specs.declared.normalize.RuleSet.TheVariants as Set
 use Rattle.uri_commands.specs.Kinds.{kind_named, normal_form_of, word_of_kind}

@@ -1,9 +1,6 @@
 -- The four kinds by their names on a command line.
 use Rattle.std.specs.Prelude.{ℕ, List, codes}
-use Rattle.fluent_uri.specs.Grammar.{Kind, uri, uri_ref, iri, iri_ref}
-use Rattle.fluent_uri.specs.Normal.{normal_text}
-use Rattle.fluent_uri.specs.RuleSets.{rules_of_set}
-use Rattle.fluent_uri.specs.SchemeRules.{meaning_under}
+use Rattle.fluent_uri.specs.Prelude.{Kind, iri, iri_ref, meaning_under, normal_text, rules_of_set, uri, uri_ref}
 use Rattle.fluent_uri.specs.declared.normalize.RuleSet.{RuleSet}
 use Rattle.uri_commands.specs.declared.kinds.KindName.{KindName}
 use Rattle.uri_commands.specs.declared.kinds.KindName.TheVariants.{Uri, UriRef, Iri, IriRef}

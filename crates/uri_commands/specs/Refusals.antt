@@ -1,9 +1,6 @@
 -- Why a command fails, and the line that says so.
 use Rattle.std.specs.Prelude.{◌≡◌, ℕ, List, ◌∷◌, ◌++◌, codes, Some, true, slice_get, take}
-use Rattle.fluent_uri.specs.Components.{components}
-use Rattle.fluent_uri.specs.Grammar.{Kind, IsOfKind, uri, uri_ref}
-use Rattle.fluent_uri.specs.Refusals.{refusal}
-use Rattle.fluent_uri.specs.Resolving.{IsErrorWithUnderflowAllowed}
+use Rattle.fluent_uri.specs.Prelude.{IsErrorWithUnderflowAllowed, IsOfKind, Kind, components, refusal, uri, uri_ref}
 use Rattle.uri_commands.specs.Commands.{Command, Parse, Normalize, Mend, Resolve, Links, are_of_kind, kind_of_base, kind_of_references, output_of}
 use Rattle.uri_commands.specs.Kinds.{kind_named}
 use Rattle.uri_mend.specs.Refusing.{IsLinkErrorOf}

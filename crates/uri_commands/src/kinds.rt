@@ -1,7 +1,6 @@
 //! The four kinds by their names on a command line.
 ghost use Rattle.std.specs.Prelude.{◌≡◌, ◌↔◌, ◌≢◌, IfErr, IfOk, IsOk, MatchOption};
-ghost use Rattle.fluent_uri.specs.Grammar.{IsOfKind};
-ghost use Rattle.fluent_uri.specs.Iris.{iri_ref_text};
+ghost use Rattle.fluent_uri.specs.Prelude.{IsOfKind, iri_ref_text};
 ghost use Rattle.uri_commands.specs.Kinds as spec;
 ghost use Rattle.uri_commands.specs.Kinds.{word_of_kind};
 ghost use Rattle.uri_commands.specs.Refusals.{IsErrorOf};

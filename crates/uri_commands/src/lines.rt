@@ -22,8 +22,7 @@ pub struct Texts<'a> {
 
 impl<'a> From<IriRef<&'a str>> for Texts<'a> {
     ghost use Rattle.std.specs.Prelude.{◌≡◌};
-    ghost use Rattle.fluent_uri.specs.Components.{components};
-    ghost use Rattle.fluent_uri.specs.Iris.{iri_ref_text};
+    ghost use Rattle.fluent_uri.specs.Prelude.{components, iri_ref_text};
     ghost use Rattle.uri_commands.specs.Texts.{components_in};
 
     ghost from_gives = { λ reference texts.

@@ -2,8 +2,7 @@
 //! against a base.
 ghost use Rattle.std.specs.Prelude.{◌≡◌, ◌<◌, ◌∷◌, ◌++◌, ◌||◌, ℕ, List, IfOk, IfErr, IsTrue, length, map, not, true, false, codes};
 ghost use Rattle.std.specs.Io.KnownBytes.{Appends};
-ghost use Rattle.fluent_uri.specs.Grammar.{IsOfKind, uri, uri_ref};
-ghost use Rattle.fluent_uri.specs.Uris.{uri_ref_text};
+ghost use Rattle.fluent_uri.specs.Prelude.{IsOfKind, uri, uri_ref, uri_ref_text};
 ghost use Rattle.uri_links.specs.OutcomesInWords.{IdIsInRange};
 ghost use Rattle.uri_links.specs.Registers.{texts_of};
 ghost use Rattle.uri_commands.specs.Commands.{Links, are_of_kind, texts};

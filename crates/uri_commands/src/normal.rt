@@ -1,7 +1,6 @@
 //! The command `normalize KIND TEXT` (RFC 3986, section 6.2).
 ghost use Rattle.std.specs.Prelude.{◌≡◌, false, IfOk, IfErr, string_bytes};
-ghost use Rattle.fluent_uri.specs.Grammar.{IsOfKind};
-ghost use Rattle.fluent_uri.specs.References.{reference_text};
+ghost use Rattle.fluent_uri.specs.Prelude.{IsOfKind, reference_text};
 ghost use Rattle.uri_commands.specs.Commands.{Normalize};
 ghost use Rattle.uri_commands.specs.Ends.{has_output_failed};
 ghost use Rattle.uri_commands.specs.Kinds.{kind_named, normal_form_of};

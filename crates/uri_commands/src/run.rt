@@ -9,8 +9,7 @@ ghost use Rattle.uri_commands.specs.Refusals.{IsErrorOf, IsErrorOfCommand, error
 ghost use Rattle.uri_commands.specs.Texts.{components_in};
 ghost use Rattle.uri_commands.specs.declared.refusal.CommandError.{CommandError};
 ghost use Rattle.uri_commands.specs.declared.refusal.CommandError.TheVariants.{OutputFailed};
-ghost use Rattle.fluent_uri.specs.Components.{components};
-ghost use Rattle.fluent_uri.specs.Grammar.{IsOfKind};
+ghost use Rattle.fluent_uri.specs.Prelude.{IsOfKind, components};
 
 use crate::command::{BaseName, Command};
 use crate::kinds::{KindName, parse_as_iri_ref};

@@ -1,9 +1,6 @@
 //! The command `resolve uri|iri BASE REF` (RFC 3986, section 5.2).
 ghost use Rattle.std.specs.Prelude.{◌≡◌, false, IfOk, IfErr, Some, string_bytes};
-ghost use Rattle.fluent_uri.specs.Components.{components};
-ghost use Rattle.fluent_uri.specs.Grammar.{IsOfKind};
-ghost use Rattle.fluent_uri.specs.Resolving.{IsErrorWithUnderflowAllowed};
-ghost use Rattle.fluent_uri.specs.References.{reference_text};
+ghost use Rattle.fluent_uri.specs.Prelude.{IsErrorWithUnderflowAllowed, IsOfKind, components, reference_text};
 ghost use Rattle.uri_commands.specs.Commands.{Resolve, kind_of_base, kind_of_references, target_text};
 ghost use Rattle.uri_commands.specs.Ends.{has_output_failed};
 ghost use Rattle.uri_commands.specs.Refusals.{IsErrorOfCommand};

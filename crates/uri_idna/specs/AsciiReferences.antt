@@ -1,7 +1,6 @@
 -- References with their hosts in ASCII: RFC 3987, section 3.1.
 use Rattle.std.specs.Prelude.{◌≡◌, ℕ, List, Option, Some, None, IsSomeAnd, option_map, ⊤}
-use Rattle.uri_parts.specs.Authority.{authority_parts, recompose_authority}
-use Rattle.uri_parts.specs.Components.{Components, components, recompose}
+use Rattle.uri_parts.specs.Prelude.{Components, authority_parts, components, recompose, recompose_authority}
 use Rattle.uri_idna.specs.declared.error.AsciiHostError.{AsciiHostError}
 use Rattle.uri_idna.specs.declared.error.AsciiHostError.TheVariants.{OutOfMemory}
 use Rattle.uri_idna.specs.AsciiHosts.{IsAsciiHostError, ascii_host}

@@ -1,10 +1,7 @@
 //! The host of an authority in ASCII (UTS 46, section 4.2; RFC 3987, section 3.1).
 ghost use Rattle.std.specs.Prelude.{◌≡◌, IfErr, IfOk, IsOkAnd, IsTrue, Some, string_bytes};
-ghost use Rattle.uri_pct.specs.Cows.{IsBorrowedText, cow_text};
-ghost use Rattle.uri_pct.specs.EncodedTexts.{text_of};
-ghost use Rattle.uri_pct.specs.Texts.{is_unencoded};
-ghost use Rattle.uri_parts.specs.Authority.{authority_parts};
-ghost use Rattle.uri_parts.specs.AuthorityTexts.{authority_text};
+ghost use Rattle.uri_pct.specs.Prelude.{IsBorrowedText, cow_text, is_unencoded, text_of};
+ghost use Rattle.uri_parts.specs.Prelude.{authority_parts, authority_text};
 ghost use Rattle.uri_idna.specs.AsciiHosts.{IsAsciiHostError, IsAsciiNameError, IsDnsNameError, ascii_host, ascii_name, dns_name, is_ascii_text, is_unencoded_ascii};
 
 use crate::error::AsciiHostError;

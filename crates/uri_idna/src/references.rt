@@ -1,10 +1,7 @@
 //! References with their hosts in ASCII (RFC 3987, section 3.1).
 ghost use Rattle.std.specs.Prelude.{◌≡◌, [], IfErr, IfOk, IsSomeAnd, None, OnOk, Some, codes, option_copied, option_map, string_bytes};
 ghost use Rattle.uri_pct.specs.Texts.{Pushes};
-ghost use Rattle.uri_parts.specs.Authority.{authority_parts};
-ghost use Rattle.uri_parts.specs.AuthorityTexts.{authority_text};
-ghost use Rattle.uri_parts.specs.Components.{components, marked, recompose};
-ghost use Rattle.uri_parts.specs.CoreTexts.{core_text};
+ghost use Rattle.uri_parts.specs.Prelude.{authority_parts, authority_text, components, core_text, marked, recompose};
 ghost use Rattle.uri_ops.specs.Encoded.{encode_past_ascii};
 ghost use Rattle.fluent_uri.specs.References.{reference_text};
 ghost use Rattle.uri_idna.specs.AsciiHosts.{ascii_host};

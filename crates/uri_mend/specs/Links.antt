@@ -1,8 +1,7 @@
 -- Steps of mending: where the path of a text begins, and what is before it. No RFC has this.
 use Rattle.std.specs.Prelude.{◌≡◌, ℕ, List, drop, take, true}
 use Rattle.std.specs.Str.{IsCharBoundary}
-use Rattle.uri_parts.specs.PackedPositions.{packed}
-use Rattle.uri_parts.specs.Positions.{positions_of}
+use Rattle.uri_parts.specs.Prelude.{packed, positions_of}
 use Rattle.uri_parts.specs.declared.packed_positions.PackedPositions.{PackedPositions}
 use Rattle.uri_ops.specs.Models.Places.{before_path}
 use Rattle.uri_mend.specs.Mending.{link_components}

@@ -1,7 +1,6 @@
 -- What the reference that a text is mended to has: RFC 3986, sections 2.1, 4.2 and 5.3.
 use Rattle.std.specs.Prelude.{◌≡◌, ◌+◌, ◌*◌, ℕ, List, None, false, true, length}
-use Rattle.uri_parts.specs.Components.{components}
-use Rattle.uri_parts.specs.Grammar.{Kind, IsOfKind, IsTextOf}
+use Rattle.uri_parts.specs.Prelude.{IsOfKind, IsTextOf, Kind, components}
 use Rattle.uri_mend.specs.Encodings.{AreComponentsEncodedAs, DecodeAlike}
 use Rattle.uri_mend.specs.Lengths.{lacked_in_components}
 use Rattle.uri_mend.specs.Mending.{can_be_mended, has_false_scheme, link_components, mended_components, mended_text, with_dot_segment}

@@ -3,11 +3,7 @@ use Rattle.std.specs.Prelude.{◌≡◌, ◌-◌, ◌<◌, ◌≤◌, ◌&&◌, 
 use Rattle.std.specs.Char.{is_ascii_hexdigit}
 use Rattle.std.specs.List.{list_all}
 use Rattle.std.specs.Str.{IsCharBoundary}
-use Rattle.uri_pct.specs.Delimiters.{percent_sign}
-use Rattle.uri_pct.specs.Masks.{has_bit}
-use Rattle.uri_pct.specs.Prefixes.{valid_prefix}
-use Rattle.uri_pct.specs.Sets.{TableSet, is_one_of}
-use Rattle.uri_pct.specs.Tokens.{Octet, print}
+use Rattle.uri_pct.specs.Prelude.{Octet, TableSet, has_bit, is_one_of, percent_sign, print, valid_prefix}
 use Rattle.uri_parts.specs.Components.{before_any, from_any}
 use Rattle.uri_mend.specs.declared.component.Progress.{Progress}
 use Rattle.uri_mend.specs.declared.component.TheConstants.{NEVER_HIGH, NEVER_LOW}

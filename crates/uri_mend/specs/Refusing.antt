@@ -1,8 +1,7 @@
 -- Why a text is not mended.
 use Rattle.std.specs.Prelude.{◌≡◌, ◌⊎◌, ℕ, List, true, false, Some}
 use Rattle.std.specs.List.{list_any}
-use Rattle.uri_parts.specs.Grammar.{Kind}
-use Rattle.uri_parts.specs.Refusals.{refusal}
+use Rattle.uri_parts.specs.Prelude.{Kind, refusal}
 use Rattle.uri_mend.specs.Mending.{can_be_mended}
 use Rattle.uri_pct.specs.Sets.{is_one_of}
 use Rattle.uri_mend.specs.Trimming.{tab_and_newlines, trimmed_link, without_outer_space}

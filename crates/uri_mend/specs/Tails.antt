@@ -1,10 +1,8 @@
 -- Steps of mending: what follows an authority. No RFC has this.
 use Rattle.std.specs.Prelude.{◌≡◌, ℕ, Bool, List, [], ◌∷◌, ◌++◌, codes, drop, option_map, Option, if◌then◌else◌}
-use Rattle.uri_pct.specs.Delimiters.{number_sign, question_mark}
-use Rattle.uri_parts.specs.Components.{after_query, before_any, from_any, marked, starts, when}
-use Rattle.uri_parts.specs.Grammar.{Kind}
+use Rattle.uri_pct.specs.Prelude.{TableSet, number_sign, question_mark}
+use Rattle.uri_parts.specs.Prelude.{Kind, after_query, before_any, from_any, marked, starts, when}
 use Rattle.uri_ops.specs.ComponentSets.{HasComponentSets}
-use Rattle.uri_pct.specs.Sets.{TableSet}
 use Rattle.uri_mend.specs.MendedParts.{mended}
 use Rattle.uri_mend.specs.Mending.{mended_text}
 

@@ -1,11 +1,7 @@
 //! Components, mended (RFC 3986, sections 2.1 and 2.4).
 ghost use Rattle.std.specs.Prelude.{◌≡◌, ◌+◌, ◌-◌, ◌<◌, ◌≤◌, ◌&&◌, ◌||◌, ◌++◌, ℕ, [], IfOk, drop, false, length, map, nat_lt, not, slice_index, take, true};
 ghost use Rattle.std.specs.Str.{IsCharBoundary};
-ghost use Rattle.uri_pct.specs.Masks.{has_bit};
-ghost use Rattle.uri_pct.specs.Prefixes.{valid_prefix};
-ghost use Rattle.uri_pct.specs.Sets.{allows, is_one_of};
-ghost use Rattle.uri_pct.specs.Tables.{set_of};
-ghost use Rattle.uri_pct.specs.Tokens.{Octet, print, text_of_token};
+ghost use Rattle.uri_pct.specs.Prelude.{Octet, allows, has_bit, is_one_of, print, set_of, text_of_token, valid_prefix};
 ghost use Rattle.uri_parts.specs.Components.{before_any, from_any};
 ghost use Rattle.uri_mend.specs.MendedParts.{mended};
 ghost use Rattle.uri_mend.specs.Progress.{IsEncodedBetween, IsLackedRun, IsProgress, are_marks, is_never, mended_so_far};

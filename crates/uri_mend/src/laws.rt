@@ -2,10 +2,8 @@
 ghost use Rattle.std.specs.Prelude.{◌≡◌, List, false, option_map, ℕ};
 ghost use Rattle.std.specs.List.{flat_map};
 ghost use Rattle.std.specs.Str.{IsUtf8};
-ghost use Rattle.uri_pct.specs.Tokens.{tokens};
-ghost use Rattle.uri_pct.specs.Sets.{LacksPercent, TableSet};
-ghost use Rattle.uri_parts.specs.Components.{components};
-ghost use Rattle.uri_parts.specs.Grammar.{IsOfKind, Kind};
+ghost use Rattle.uri_pct.specs.Prelude.{LacksPercent, TableSet, tokens};
+ghost use Rattle.uri_parts.specs.Prelude.{IsOfKind, Kind, components};
 ghost use Rattle.uri_ops.specs.Encoded.{ascii_kind, encode_past_ascii};
 ghost use Rattle.uri_mend.specs.MendedParts.{mend_token, mended};
 ghost use Rattle.uri_mend.specs.Mending.{can_be_mended, link_components, mended_text};

@@ -3,9 +3,7 @@ ghost use Rattle.std.specs.Prelude.{◌≡◌, ◌++◌, ◌-◌, ◌<◌, ◌�
 ghost use Rattle.std.specs.List.{list_any};
 ghost use Rattle.std.specs.Str.{IsCharBoundary};
 ghost use Rattle.uri_pct.specs.Sets.{is_one_of};
-ghost use Rattle.uri_parts.specs.Components.{after_authority, after_scheme};
-ghost use Rattle.uri_parts.specs.Grammar.{IsOfKind, Kind};
-ghost use Rattle.uri_parts.specs.PackedPositions.{ArePackedPositionsOf};
+ghost use Rattle.uri_parts.specs.Prelude.{ArePackedPositionsOf, IsOfKind, Kind, after_authority, after_scheme};
 ghost use Rattle.uri_ops.specs.Models.Places.{before_path};
 ghost use Rattle.uri_mend.specs.Links.{IsLink};
 ghost use Rattle.uri_mend.specs.Mending.{can_be_mended, has_false_scheme, link_components};

@@ -1,12 +1,7 @@
 //! The reference that a text is mended to (RFC 3986, sections 4.2 and 5.3).
 ghost use Rattle.std.specs.Prelude.{◌≡◌, ◌↔◌, ◌≤◌, ◌+◌, IfErr, IfOk, IfSome, IsOk, IsOkAnd, Some, codes, drop, is_some, length, string_bytes, take, true};
 ghost use Rattle.std.specs.Str.{IsCharBoundary, IsUtf8};
-ghost use Rattle.uri_parts.specs.Components.{from_any};
-ghost use Rattle.uri_parts.specs.CoreTexts.{core_text};
-ghost use Rattle.uri_parts.specs.Errors.{IsErrorIn};
-ghost use Rattle.uri_parts.specs.Grammar.{IsOfKind, is_of_kind};
-ghost use Rattle.uri_parts.specs.PackedPositions.{ArePackedPositionsOf};
-ghost use Rattle.uri_parts.specs.Refusals.{refusal};
+ghost use Rattle.uri_parts.specs.Prelude.{ArePackedPositionsOf, IsErrorIn, IsOfKind, core_text, from_any, is_of_kind, refusal};
 ghost use Rattle.fluent_uri.specs.References.{held_text, reference_text};
 ghost use Rattle.uri_mend.specs.declared.error.MendError.TheVariants.{OutOfMemory};
 ghost use Rattle.uri_mend.specs.Links.{IsLink};

@@ -1,9 +1,7 @@
 //! The white space around and within the links of pages, dropped as the HTML standard has it.
 ghost use Rattle.std.specs.Prelude.{◌≡◌, IfOk, IsOk, OnOk, false};
 ghost use Rattle.std.specs.List.{list_any};
-ghost use Rattle.uri_pct.specs.Cows.{IsBorrowedText, cow_text};
-ghost use Rattle.uri_pct.specs.Sets.{is_one_of};
-ghost use Rattle.uri_pct.specs.Texts.{Pushes};
+ghost use Rattle.uri_pct.specs.Prelude.{IsBorrowedText, Pushes, cow_text, is_one_of};
 ghost use Rattle.uri_mend.specs.Trimming.{tab_and_newlines, trimmed_link, without_any, without_outer_space};
 
 use fluent_uri::pct_enc::CowStr;

@@ -2,11 +2,8 @@
 use Rattle.std.specs.Prelude.{◌≡◌, ◌==◌, ◌&&◌, ℕ, Bool, true, false, List, [], ◌++◌, Option, Some, None, codes, is_none, option_map, unwrap_or, if◌then◌else◌}
 use Rattle.std.specs.Fmt.{decimal}
 use Rattle.std.specs.Str.{is_utf8}
-use Rattle.uri_pct.specs.Sets.{TableSet}
-use Rattle.uri_pct.specs.Tokens.{is_valid_for}
-use Rattle.uri_parts.specs.Authority.{authority_parts}
-use Rattle.uri_parts.specs.Components.{Components, recompose}
-use Rattle.uri_parts.specs.Grammar.{Kind, absent_or_passes, is_authority, is_scheme}
+use Rattle.uri_pct.specs.Prelude.{TableSet, is_valid_for}
+use Rattle.uri_parts.specs.Prelude.{Components, Kind, absent_or_passes, authority_parts, is_authority, is_scheme, recompose}
 use Rattle.uri_ops.specs.Dots.{is_empty}
 
 -- the parts that a builder holds so far, each perhaps absent, and whether the builder is marked

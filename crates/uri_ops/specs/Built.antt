@@ -1,8 +1,7 @@
 -- What is rejected of the parts of a builder: RFC 3986, sections 3.3 and 4.2.
 use Rattle.std.specs.Prelude.{◌≡◌, ◌&&◌, ◌||◌, not, ℕ, Bool, List, [], Option, Some, None, is_some, unwrap_or, if◌then◌else◌}
 use Rattle.uri_parts.specs.Components as Components
-use Rattle.uri_parts.specs.Components.{components, starts}
-use Rattle.uri_parts.specs.Grammar.{IsOfKind, Kind, has_colon_in_first_segment}
+use Rattle.uri_parts.specs.Prelude.{IsOfKind, Kind, components, has_colon_in_first_segment, starts}
 use Rattle.uri_ops.specs.declared.build.error.BuildError.{BuildError}
 use Rattle.uri_ops.specs.declared.build.error.BuildError.TheVariants.{FirstPathSegmentContainsColon, NonemptyRootlessPath, PathStartsWithDoubleSlash}
 use Rattle.uri_ops.specs.BuilderParts.{BuilderParts, as_components, parts_text}

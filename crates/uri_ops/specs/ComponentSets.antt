@@ -2,8 +2,7 @@
 -- and 3, and RFC 3987, section 2.2.
 use Rattle.std.specs.Prelude.{◌≡◌, true, false, List, ℕ, codes}
 use Rattle.std.specs.List.{list_any}
-use Rattle.uri_pct.specs.Delimiters.{slash}
-use Rattle.uri_pct.specs.Sets.{TableSet, LacksPercent, IsSubset, unreserved_set}
+use Rattle.uri_pct.specs.Prelude.{IsSubset, LacksPercent, TableSet, slash, unreserved_set}
 use Rattle.uri_parts.specs.Grammar.{Kind}
 
 -- what laws of normal forms ask of a component's set: it has the unreserved characters and

@@ -4,8 +4,7 @@ use Rattle.std.specs.Prelude.{◌≡◌, ◌↔◌, ℕ, Bool, not, nat_lt, List
 use Rattle.std.specs.List.{position}
 use Rattle.std.specs.Option.{option_or}
 use Rattle.std.specs.Result.{result_err}
-use Rattle.uri_parts.specs.Components.{components}
-use Rattle.uri_parts.specs.Grammar.{Kind, IsOfKind}
+use Rattle.uri_parts.specs.Prelude.{IsOfKind, Kind, components}
 use Rattle.uri_ops.specs.declared.convert.ConvertError.{ConvertError}
 use Rattle.uri_ops.specs.declared.convert.ConvertError.TheVariants.{NoScheme, NotAscii}
 

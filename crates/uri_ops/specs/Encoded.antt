@@ -1,8 +1,7 @@
 -- Texts and kinds without characters past ASCII: RFC 3987, section 3.1.
 use Rattle.std.specs.Prelude.{◌≡◌, ℕ, nat_lt, List, [], ◌∷◌, false, if◌then◌else◌}
 use Rattle.std.specs.List.{flat_map}
-use Rattle.uri_pct.specs.Sets.{TableSet}
-use Rattle.uri_pct.specs.Tokens.{Octet, text_of_token}
+use Rattle.uri_pct.specs.Prelude.{Octet, TableSet, text_of_token}
 use Rattle.uri_parts.specs.Grammar.{Kind}
 use Rattle.uri_ops.specs.Meaning.{bare_meaning_of}
 

@@ -3,8 +3,7 @@ use Rattle.std.specs.Prelude.{ℕ, List}
 use Rattle.std.specs.Str.{IsUtf8}
 use Rattle.uri_pct.specs.Sets.{TableSet}
 use Rattle.std.specs.Net.Text.{ipv4_text, ipv6_text}
-use Rattle.uri_parts.specs.Addresses.{ipv4_octets, ipv6_segments}
-use Rattle.uri_parts.specs.Hosts.{HostKind, IsHost, bracketed}
+use Rattle.uri_parts.specs.Prelude.{HostKind, IsHost, bracketed, ipv4_octets, ipv6_segments}
 use Rattle.uri_parts.specs.declared.net.IpAddr.{IpAddr}
 use Rattle.uri_parts.specs.declared.net.IpAddr.TheVariants.{V4, V6}
 

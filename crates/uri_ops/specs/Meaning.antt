@@ -3,16 +3,9 @@
 use Rattle.std.specs.Prelude.{ℕ, ◌&&◌, ◌||◌, List, map, Option, Some, None, is_some, option_map, if◌then◌else◌}
 use Rattle.std.specs.Option.{option_and_then}
 use Rattle.std.specs.Str.{str_to_ascii_lowercase}
-use Rattle.uri_pct.specs.Sets.{TableSet}
-use Rattle.uri_pct.specs.Tokens.{Token}
-use Rattle.uri_pct.specs.DecodeUnreserved.{decode_unreserved, lower_token}
-use Rattle.uri_parts.specs.Components.{Components, starts, components}
-use Rattle.uri_parts.specs.Hosts.{HostKind, Ipv4, Ipv6, IpvFuture, RegName, host_kind}
-use Rattle.uri_parts.specs.Authority.{authority_parts}
-use Rattle.uri_parts.specs.Grammar.{Kind}
+use Rattle.uri_pct.specs.Prelude.{TableSet, Token, decode_unreserved, lower_token, slash}
+use Rattle.uri_parts.specs.Prelude.{Components, HostKind, Ipv4, Ipv6, IpvFuture, Kind, PortFunction, RegName, authority_parts, components, host_kind, is_default, no_defaults, starts}
 use Rattle.uri_ops.specs.Dots.{is_empty, remove_dot_segments}
-use Rattle.uri_parts.specs.Ports.{PortFunction, no_defaults, is_default}
-use Rattle.uri_pct.specs.Delimiters.{slash}
 
 -- what a host means: the numbers of an IPv6 address, the text of an address of a later version, or
 -- the characters and octets of a name

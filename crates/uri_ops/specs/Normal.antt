@@ -3,15 +3,8 @@ use Rattle.std.specs.Prelude.{ℕ, List, [], codes, Option, is_some, option_map,
 use Rattle.std.specs.Net.Text.{ipv6_text}
 use Rattle.std.specs.Str.{str_to_ascii_lowercase}
 use Rattle.std.specs.Option.{option_and_then}
-use Rattle.uri_pct.specs.DecodeUnreserved.{decode_unreserved}
-use Rattle.uri_pct.specs.Sets.{TableSet}
-use Rattle.uri_pct.specs.Tokens.{print}
-use Rattle.uri_pct.specs.Delimiters.{slash}
-use Rattle.uri_parts.specs.Components.{Components, marked, recompose, starts}
-use Rattle.uri_parts.specs.Grammar.{Kind}
-use Rattle.uri_parts.specs.Hosts.{bracketed}
-use Rattle.uri_parts.specs.Authority.{AuthorityParts, recompose_authority}
-use Rattle.uri_parts.specs.Ports.{PortFunction}
+use Rattle.uri_pct.specs.Prelude.{TableSet, decode_unreserved, print, slash}
+use Rattle.uri_parts.specs.Prelude.{AuthorityParts, Components, Kind, PortFunction, bracketed, marked, recompose, recompose_authority, starts}
 use Rattle.uri_ops.specs.Target.{guarded}
 use Rattle.uri_ops.specs.Meaning.{HostMeaning, Address, FutureAddress, Name, AuthorityMeaning, Meaning, authority_meaning, dotless_path}
 use Rattle.uri_ops.specs.Dots.{underflows}

@@ -1,8 +1,7 @@
 -- Resolving and normalising in one: RFC 3986, sections 5.2, 6.2.2 and 6.2.3.
 use Rattle.std.specs.Prelude.{ℕ, Bool, List, Result, false, ◌≡◌, true, Ok, Err, is_ok}
 use Rattle.std.specs.Result.{result_map_both}
-use Rattle.uri_parts.specs.Grammar.{Kind, IsTextOf}
-use Rattle.uri_parts.specs.Components.{Components, components}
+use Rattle.uri_parts.specs.Prelude.{Components, IsTextOf, Kind, components}
 use Rattle.uri_ops.specs.Target.{TargetError, resolution_of_texts, BaseWithFragment, InvalidReferenceAgainstOpaqueBase, resolution_of}
 use Rattle.uri_ops.specs.Meaning.{Meaning}
 use Rattle.uri_ops.specs.Normalizers.{IsNormalForm}

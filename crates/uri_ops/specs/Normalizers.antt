@@ -1,7 +1,6 @@
 -- What a normaliser holds, returns and rejects: RFC 3986, sections 6.2.2 and 6.2.3.
 use Rattle.std.specs.Prelude.{◌≡◌, ◌↔◌, ℕ, Bool, List}
-use Rattle.uri_parts.specs.Components.{components}
-use Rattle.uri_parts.specs.Grammar.{Kind, IsTextOf}
+use Rattle.uri_parts.specs.Prelude.{IsTextOf, Kind, components}
 use Rattle.uri_ops.specs.Normal.{normal_text, path_underflows}
 use Rattle.uri_ops.specs.SchemeRules.{Rules, meaning_under}
 use Rattle.uri_ops.specs.declared.normalize.Normalizer.{Normalizer}

@@ -1,7 +1,6 @@
 -- What resolving returns: RFC 3986, section 5.2; RFC 3987, section 3.1.
 use Rattle.std.specs.Prelude.{ℕ, Bool, List, Result, IfErr, IfOk}
-use Rattle.uri_parts.specs.Grammar.{Kind}
-use Rattle.uri_parts.specs.Components.{components}
+use Rattle.uri_parts.specs.Prelude.{Kind, components}
 use Rattle.uri_ops.specs.NormalTargets.{IsErrorOfMeanings, IsTargetOfMeanings}
 use Rattle.uri_ops.specs.Resolving.{IsErrorFor, IsErrorForEncoded, IsTarget, IsTargetOfEncoded}
 use Rattle.uri_ops.specs.declared.resolve.error.ResolveError.{ResolveError}

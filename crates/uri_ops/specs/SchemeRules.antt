@@ -1,10 +1,7 @@
 -- What a text means under the rules of its scheme: RFC 3986, section 6.2.3.
 use Rattle.std.specs.Prelude.{ℕ, Bool, true, false, ◌&&◌, List, [], ◌∷◌, codes, bytes_eq, Option, Some, None, is_some, option_map, if◌then◌else◌}
-use Rattle.uri_pct.specs.Delimiters.{slash}
-use Rattle.uri_pct.specs.Tokens.{Token, Char}
-use Rattle.uri_parts.specs.Grammar.{Kind}
-use Rattle.uri_parts.specs.Ports.{PortFunction}
-use Rattle.uri_parts.specs.SchemePorts.{default_port}
+use Rattle.uri_pct.specs.Prelude.{Char, Token, slash}
+use Rattle.uri_parts.specs.Prelude.{Kind, PortFunction, default_port}
 use Rattle.uri_ops.specs.Meaning.{Name, AuthorityMeaning, Meaning, meaning_of}
 use Rattle.uri_ops.specs.Normal.{normal_authority}
 

@@ -1,15 +1,8 @@
 //! Laws of the definitions that contracts cite, each the contract of a function that does nothing.
 ghost use Rattle.std.specs.Prelude.{◌≡◌, ◌↔◌, ◌≤◌, ◌++◌, ◌||◌, ℕ, List, [], true, false, length, is_some};
 ghost use Rattle.std.specs.Str.{IsUtf8};
-ghost use Rattle.uri_pct.specs.Delimiters.{number_sign};
-ghost use Rattle.uri_pct.specs.Sets.{TableSet, LacksPercent, IsSubset, unreserved_set};
-ghost use Rattle.uri_pct.specs.Tokens.{print, IsValidFor};
-ghost use Rattle.uri_pct.specs.DecodeUnreserved.{decode_unreserved};
-ghost use Rattle.uri_parts.specs.Authority.{AuthorityParts, IsAuthorityFor, authority_parts};
-ghost use Rattle.uri_parts.specs.Components.{IsAbemptyPath, IsSplitOf, starts, components, recompose};
-ghost use Rattle.uri_parts.specs.Grammar.{IsOfKind, iri, iri_ref, uri, uri_ref};
-ghost use Rattle.uri_parts.specs.GrammarInWords.{IsInGrammar};
-ghost use Rattle.uri_parts.specs.Hosts.{HostKind, IsHost, host_kind};
+ghost use Rattle.uri_pct.specs.Prelude.{IsSubset, IsValidFor, LacksPercent, TableSet, decode_unreserved, number_sign, print, unreserved_set};
+ghost use Rattle.uri_parts.specs.Prelude.{AuthorityParts, HostKind, IsAbemptyPath, IsAuthorityFor, IsHost, IsInGrammar, IsOfKind, IsSplitOf, authority_parts, components, host_kind, iri, iri_ref, recompose, starts, uri, uri_ref};
 ghost use Rattle.uri_ops.specs.Dots.{is_empty, remove_dot_segments, underflows, directory, lacks_dot_segments, buffers_after_removal, IsAbsolute, EndsInSlash};
 ghost use Rattle.uri_ops.specs.Target.{is_fragment_only, target_of};
 

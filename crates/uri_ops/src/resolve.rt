@@ -1,7 +1,6 @@
 //! Resolving references against a base (RFC 3986, section 5).
 ghost use Rattle.std.specs.Prelude.{◌≡◌, ◌++◌, IfErr, IfOk, IfSome, Ok, string_bytes, true};
-ghost use Rattle.uri_parts.specs.Grammar.{IsTextOf};
-ghost use Rattle.uri_parts.specs.PackedPositions.{ArePackedPositionsOf};
+ghost use Rattle.uri_parts.specs.Prelude.{ArePackedPositionsOf, IsTextOf};
 ghost use Rattle.uri_ops.specs.Normalizers.{scheme_rules_of};
 ghost use Rattle.uri_ops.specs.NormalTargets.{IsNormalTarget, IsNormalTargetError};
 ghost use Rattle.uri_ops.specs.Resolved.{IsResolved};

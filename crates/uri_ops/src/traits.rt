@@ -1,8 +1,6 @@
 //! What the four kinds have in common.
 ghost use Rattle.std.specs.Prelude.{◌≡◌, false, option_map, string_bytes};
-ghost use Rattle.uri_parts.specs.CoreTexts.{core_text};
-ghost use Rattle.uri_parts.specs.Grammar.{IsOfKind};
-ghost use Rattle.uri_parts.specs.PackedPositions.{ArePackedPositionsOf};
+ghost use Rattle.uri_parts.specs.Prelude.{ArePackedPositionsOf, IsOfKind, core_text};
 
 use uri_parts::component::{Authority, Scheme};
 use uri_parts::core_text::Core;
@@ -22,9 +20,7 @@ pub trait RiMaybeRef {
     ghost use Rattle.uri_parts.specs.Grammar as grammar;
     ghost use Rattle.uri_ops.specs.ComponentSets.{HasComponentSets};
     ghost use Rattle.uri_pct.specs.EncodedTexts.{text_of};
-    ghost use Rattle.uri_parts.specs.AuthorityTexts.{authority_text};
-    ghost use Rattle.uri_parts.specs.Components.{components};
-    ghost use Rattle.uri_parts.specs.Schemes.{scheme_text};
+    ghost use Rattle.uri_parts.specs.Prelude.{authority_text, components, scheme_text};
 
     /// The kind over a text of its own.
     type Owned: Drop;

@@ -2,8 +2,7 @@
 -- 6.2.3.
 use Rattle.std.specs.Prelude.{◌≡◌, ℕ, List}
 use Rattle.uri_parts.specs.Grammar.{Kind}
-use Rattle.uri_ops.specs.Normal.{normal_text}
-use Rattle.uri_ops.specs.SchemeRules.{Rules, meaning_under}
+use Rattle.uri_ops.specs.Prelude.{Rules, meaning_under, normal_text}
 
 -- the normal form of a text of the kind under the rules of schemes: the text that normalising it by
 -- them writes

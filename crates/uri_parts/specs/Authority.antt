@@ -2,11 +2,9 @@
 use Rattle.std.specs.Prelude.{◌≡◌, ℕ, Bool, true, false, ◌&&◌, List, [], ◌++◌, drop, codes, bytes_eq, Option, IfSome, if◌then◌else◌}
 use Rattle.std.specs.List.{list_any}
 use Rattle.std.specs.Option.{option_map_or}
-use Rattle.uri_pct.specs.Sets.{TableSet, LacksPercent, digit_set}
-use Rattle.uri_pct.specs.Tokens.{IsValidFor, is_valid_for}
+use Rattle.uri_pct.specs.Prelude.{IsValidFor, LacksPercent, TableSet, at_sign, colon, digit_set, is_valid_for, left_bracket}
 use Rattle.uri_parts.specs.Components.{marked, starts, before_any, from_any, when}
 use Rattle.uri_parts.specs.Hosts.{HostKind, IsHost, is_host}
-use Rattle.uri_pct.specs.Delimiters.{at_sign, colon, left_bracket}
 
 -- the components of an authority, without their delimiters; userinfo and port may be absent
 -- (RFC 3986, section 3.2)

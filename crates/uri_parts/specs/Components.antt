@@ -1,8 +1,7 @@
 -- The five components of any text: RFC 3986, appendix B; and their text: section 5.3.
 use Rattle.std.specs.Prelude.{◌≡◌, ℕ, ◌<◌, Bool, true, false, not, ◌&&◌, ◌⊎◌, ◌==◌, List, [], ◌∷◌, ◌++◌, length, take, drop, slice_index, codes, All, IsTrue, Option, Some, None, IfSome, IfNone, if◌then◌else◌}
 use Rattle.std.specs.List.{prefix_len}
-use Rattle.uri_pct.specs.Sets.{is_one_of}
-use Rattle.uri_pct.specs.Delimiters.{colon, number_sign, question_mark, slash}
+use Rattle.uri_pct.specs.Prelude.{colon, is_one_of, number_sign, question_mark, slash}
 
 -- the five components of a text, without their delimiters; all but the path may be absent
 -- (RFC 3986, section 3)

@@ -1,8 +1,6 @@
 -- Where an authority is to be reached: RFC 3986, sections 3.2.2 and 3.2.3.
 use Rattle.std.specs.Prelude.{◌≡◌, ℕ, List, IsTrue, IsUtf8, ⊤, Result, Err, MatchResult, IsOkAnd}
-use Rattle.uri_pct.specs.Cows.{cow_text, IsBorrowedText}
-use Rattle.uri_pct.specs.Texts.{is_unencoded}
-use Rattle.uri_pct.specs.Tokens.{tokens, bytes_decoded_from}
+use Rattle.uri_pct.specs.Prelude.{IsBorrowedText, bytes_decoded_from, cow_text, is_unencoded, tokens}
 use Rattle.uri_parts.specs.declared.connect.SocketTarget.{SocketTarget}
 use Rattle.uri_parts.specs.declared.connect.SocketTarget.TheVariants as Of
 use Rattle.uri_parts.specs.declared.connect.SocketError.{SocketError}

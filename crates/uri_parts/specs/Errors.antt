@@ -2,11 +2,10 @@
 -- with which error.
 use Rattle.std.specs.Prelude.{◌≡◌, ℕ, ◌<◌, ◌-◌, List, ⊤, slice_index}
 use Rattle.std.specs.Str.{IsCharBoundary}
-use Rattle.uri_pct.specs.Texts.{IsStrayPercent}
+use Rattle.uri_pct.specs.Prelude.{IsStrayPercent, left_bracket}
 use Rattle.uri_parts.specs.declared.error.ParseError.{ParseError}
 use Rattle.uri_parts.specs.declared.error.ParseErrorKind.{ParseErrorKind}
 use Rattle.uri_parts.specs.declared.error.ParseErrorKind.TheVariants.{InvalidPctEncodedOctet, UnexpectedChar, InvalidIpv6Addr}
-use Rattle.uri_pct.specs.Delimiters.{left_bracket}
 
 -- the index of a parse error: a byte offset in the text
 abbrev pub error_index : ParseError → ℕ

@@ -3,9 +3,7 @@ use Rattle.std.specs.Prelude.{◌≡◌, ◌==◌, ℕ, Bool, true, false, not, 
 use Rattle.std.specs.List.{list_any}
 use Rattle.std.specs.Char.{is_ascii_alphabetic}
 use Rattle.std.specs.Str.{IsUtf8}
-use Rattle.uri_pct.specs.Sets.{TableSet, scheme_set, userinfo_set, reg_name_set, path_set, query_set, fragment_set, iuserinfo_set, ireg_name_set, ipath_set, iquery_set, ifragment_set, segment_nz_nc_set, isegment_nz_nc_set}
-use Rattle.uri_pct.specs.Tokens.{is_valid_for}
-use Rattle.uri_pct.specs.Delimiters.{colon}
+use Rattle.uri_pct.specs.Prelude.{TableSet, colon, fragment_set, ifragment_set, ipath_set, iquery_set, ireg_name_set, is_valid_for, isegment_nz_nc_set, iuserinfo_set, path_set, query_set, reg_name_set, scheme_set, segment_nz_nc_set, userinfo_set}
 use Rattle.uri_parts.specs.Authority.{is_authority_for}
 use Rattle.uri_parts.specs.Components.{Components, components, before_any}
 

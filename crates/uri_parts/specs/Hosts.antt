@@ -2,10 +2,8 @@
 use Rattle.std.specs.Prelude.{◌≡◌, ℕ, ◌<◌, Bool, true, false, ◌&&◌, ◌||◌, List, [], ◌∷◌, ◌++◌, length, drop, codes, bytes_eq, nat_lt, Option, Some, None, is_some, if◌then◌else◌}
 use Rattle.std.specs.Net.Grammar.{IsColonHex, IsDotted}
 use Rattle.std.specs.Net.Reader.{whole_value, read_ipv4, read_ipv6}
-use Rattle.uri_pct.specs.Sets.{TableSet, is_one_of, hexdig_set, ipv_future_set}
-use Rattle.uri_pct.specs.Tokens.{IsValidFor, is_valid_for}
+use Rattle.uri_pct.specs.Prelude.{IsValidFor, TableSet, full_stop, hexdig_set, ipv_future_set, is_one_of, is_valid_for, left_bracket}
 use Rattle.uri_parts.specs.Components.{starts, before_any, from_any}
-use Rattle.uri_pct.specs.Delimiters.{full_stop, left_bracket}
 
 -- the four kinds of hosts; an address has its numbers (RFC 3986, section 3.2.2)
 pub data HostKind : Type 0 where

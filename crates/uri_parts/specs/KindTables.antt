@@ -1,6 +1,5 @@
 -- The kind that the tables of the code represent: RFC 3986, section 3, and RFC 3987, section 2.2.
-use Rattle.uri_pct.specs.Sets.{TableSet}
-use Rattle.uri_pct.specs.Tables.{set_of}
+use Rattle.uri_pct.specs.Prelude.{TableSet, set_of}
 use Rattle.uri_parts.specs.Grammar.{Kind}
 use Rattle.uri_parts.specs.declared.kind_tables.KindTables.{KindTables}
 

@@ -21,3 +21,4 @@ pub mod AuthorityTexts
 pub mod Ports
 pub mod Printing
 pub mod Grammar
+pub mod Prelude

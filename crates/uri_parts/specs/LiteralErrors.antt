@@ -3,8 +3,7 @@
 use Rattle.std.specs.Prelude.{ℕ, zero, suc, ◌+◌, ◌-◌, ◌==◌, min, Bool, true, false, not, ◌&&◌, ◌||◌, List, drop, codes, nat_lt, nat_le, slice_index, slice_range, Option, Some, None, Ok, Err, option_and_then, if◌then◌else◌}
 use Rattle.std.specs.Str.Parse.{digits_value}
 use Rattle.std.specs.Net.Reader.{digit_count, digit_zero}
-use Rattle.uri_pct.specs.Delimiters.{colon, full_stop, right_bracket}
-use Rattle.uri_pct.specs.Sets.{is_one_of, hexdig_set, ipv_future_set}
+use Rattle.uri_pct.specs.Prelude.{colon, full_stop, hexdig_set, ipv_future_set, is_one_of, right_bracket}
 use Rattle.uri_parts.specs.Errors.{malformed_ipv6, unexpected}
 use Rattle.uri_parts.specs.Scanning.{ScanResult, is_next, is_at_end, scan_to_mark}
 

@@ -1,8 +1,6 @@
 -- How a text is scanned from an index on, and where what is there ends: no RFC has this.
 use Rattle.std.specs.Prelude.{ℕ, ◌+◌, Bool, ◌&&◌, List, drop, nat_lt, Result, Ok, Err, if◌then◌else◌}
-use Rattle.uri_pct.specs.Delimiters.{percent_sign}
-use Rattle.uri_pct.specs.Prefixes.{valid_prefix}
-use Rattle.uri_pct.specs.Sets.{TableSet}
+use Rattle.uri_pct.specs.Prelude.{TableSet, percent_sign, valid_prefix}
 use Rattle.uri_parts.specs.Components.{starts, is_end}
 use Rattle.uri_parts.specs.Errors.{stray_percent, unexpected}
 use Rattle.uri_parts.specs.declared.error.ParseError.{ParseError}

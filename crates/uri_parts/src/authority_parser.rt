@@ -4,8 +4,7 @@
 //! distinguish the two, nor to find where and why an authority is rejected.
 ghost use Rattle.std.specs.Prelude.{◌≡◌, ◌≤◌, ◌+◌, drop, length, true, IfErr, IfOk, IfSome, OnOk, Some, Ok, IfNone, IsTrue, ◌<◌, false};
 ghost use Rattle.std.specs.Str.{IsCharBoundary};
-ghost use Rattle.uri_pct.specs.Delimiters.{left_bracket};
-ghost use Rattle.uri_pct.specs.Prefixes.{valid_prefix};
+ghost use Rattle.uri_pct.specs.Prelude.{left_bracket, valid_prefix};
 ghost use Rattle.uri_parts.specs.Models.AuthorityParsing.{port_length, name_and_port_length, name_ends_authority, host_end, host_and_port_length, further_userinfo_length};
 ghost use Rattle.std.specs.Option.{option_or};
 ghost use Rattle.std.specs.Result.{result_err};

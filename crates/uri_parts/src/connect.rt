@@ -1,8 +1,6 @@
 //! Where an authority is to be reached (RFC 3986, sections 3.2.2 and 3.2.3).
 ghost use Rattle.std.specs.Prelude.{◌≡◌, IsTrue, IfOk, IfErr, IsOkAnd, IsUtf8, Err, unwrap_or};
-ghost use Rattle.uri_pct.specs.Cows.{cow_text, IsBorrowedText};
-ghost use Rattle.uri_pct.specs.EncodedTexts.{text_of};
-ghost use Rattle.uri_pct.specs.Texts.{is_unencoded};
+ghost use Rattle.uri_pct.specs.Prelude.{IsBorrowedText, cow_text, is_unencoded, text_of};
 ghost use Rattle.uri_parts.specs.Authority.{authority_parts};
 ghost use Rattle.uri_parts.specs.Connecting.{IsTargetResultFor, IsBorrowedTarget, IsNameError, name_bytes};
 ghost use Rattle.uri_parts.specs.Hosts.{host_kind};

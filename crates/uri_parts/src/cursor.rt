@@ -31,8 +31,7 @@ impl<'a> Clone for Cursor<'a> {
 impl<'a> Copy for Cursor<'a> {}
 
 impl<'a> Cursor<'a> {
-    ghost use Rattle.uri_pct.specs.Tables.{set_of};
-    ghost use Rattle.uri_pct.specs.Prefixes.{valid_prefix, after};
+    ghost use Rattle.uri_pct.specs.Prelude.{after, set_of, valid_prefix};
     ghost use Rattle.uri_parts.specs.Models.AuthorityParsing.{is_empty_or_begins_with_any};
     ghost use Rattle.uri_parts.specs.Components.{starts, has_authority, is_end};
     ghost use Rattle.uri_parts.specs.Errors.{unexpected, IsErrorIn};

@@ -2,11 +2,9 @@
 ghost use Rattle.std.specs.Prelude.{◌≡◌, ◌≤◌, ◌<◌, ◌+◌, ◌++◌, ◌∷◌, IfOk, IsOk, OnErr, OnOk, None, length, take, option_map, string_bytes};
 ghost use Rattle.std.specs.Str.{IsCharBoundary};
 ghost use Rattle.std.specs.String.{string_capacity};
-ghost use Rattle.uri_pct.specs.Delimiters.{number_sign};
-ghost use Rattle.uri_pct.specs.Texts.{Pushes};
+ghost use Rattle.uri_pct.specs.Prelude.{Pushes, number_sign, text_of};
 ghost use Rattle.uri_parts.specs.Fragments.{IsWithFragment, StaysOfKind};
 ghost use Rattle.uri_parts.specs.Positions.{ArePositionsOf};
-ghost use Rattle.uri_pct.specs.EncodedTexts.{text_of};
 
 use crate::positions::Positions;
 use std::alloc::{AllocError, Global};

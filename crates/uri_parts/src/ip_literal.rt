@@ -5,9 +5,7 @@ ghost use Rattle.uri_parts.specs.Components.{is_end, starts};
 ghost use Rattle.uri_parts.specs.LiteralErrors.{digits_end as digits_end_at, octet_end as octet_end_at, ipv4_end as ipv4_end_at, literal, groups_from, after_elision, ipv6_end as ipv6_end_at, cannot_begin_ipv6 as is_no_ipv6_at};
 ghost use Rattle.uri_parts.specs.Scanning.{scan_to_mark};
 ghost use Rattle.std.specs.Str.{IsCharBoundary};
-ghost use Rattle.uri_pct.specs.Tables.{set_of};
-ghost use Rattle.uri_pct.specs.Delimiters.{full_stop, right_bracket};
-ghost use Rattle.uri_pct.specs.Sets.{hexdig_set, ipv_future_set};
+ghost use Rattle.uri_pct.specs.Prelude.{full_stop, hexdig_set, ipv_future_set, right_bracket, set_of};
 ghost use Rattle.uri_parts.specs.Models.LiteralGroups.{groups_of_end, EndsAtBoundary};
 ghost use Rattle.uri_parts.specs.Models.Literals.{LacksVersionLetter};
 

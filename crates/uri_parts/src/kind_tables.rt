@@ -1,7 +1,6 @@
 //! The tables of a kind.
 ghost use Rattle.std.specs.Prelude.{◌≡◌};
-ghost use Rattle.uri_pct.specs.Sets.{segment_nz_nc_set, isegment_nz_nc_set};
-ghost use Rattle.uri_pct.specs.Tables.{set_of};
+ghost use Rattle.uri_pct.specs.Prelude.{isegment_nz_nc_set, segment_nz_nc_set, set_of};
 ghost use Rattle.uri_parts.specs.Grammar.{uri_ref, iri_ref};
 ghost use Rattle.uri_parts.specs.KindTables.{kind_of};
 

@@ -16,3 +16,4 @@ pub mod Decodes
 pub mod Texts
 pub mod DecodeUnreserved
 pub mod Representation
+pub mod Prelude

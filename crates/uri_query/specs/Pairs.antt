@@ -1,11 +1,7 @@
 -- A query as pairs of decoded texts, and pairs as a query: RFC 3986, sections 2.1 and 3.4.
 use Rattle.std.specs.Prelude.{ℕ, not, ◌==◌, List, [], ◌∷◌, ◌++◌, codes, filter, map, string_bytes, if◌then◌else◌}
 use Rattle.std.specs.List.{slice_split}
-use Rattle.fluent_uri.specs.Dots.{is_empty}
-use Rattle.fluent_uri.specs.Encoding.{encode_text}
-use Rattle.fluent_uri.specs.Pieces.{lossy_text}
-use Rattle.fluent_uri.specs.Sets.{data_set}
-use Rattle.fluent_uri.specs.Tokens.{print, bytes_decoded_from, tokens}
+use Rattle.fluent_uri.specs.Prelude.{bytes_decoded_from, data_set, encode_text, is_empty, lossy_text, print, tokens}
 use Rattle.uri_query.specs.declared.pairs.Pair.{Pair}
 
 -- the byte `&`, which separates the pairs of a query

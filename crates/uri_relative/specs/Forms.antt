@@ -1,15 +1,9 @@
 -- The forms of references: RFC 3986, section 4.2.
 use Rattle.std.specs.Prelude.{◌≡◌, ◌≢◌, ◌≤◌, ℕ, Bool, true, false, List, [], ◌++◌, codes, length, None, ◌==◌, ◌&&◌, if◌then◌else◌, is_none, is_some, slice_index}
 use Rattle.uri_pct.specs.Delimiters.{full_stop, slash}
-use Rattle.uri_parts.specs.Components.{Components, IsSplitOf, marked, recompose, starts}
-use Rattle.uri_parts.specs.Grammar.{Kind, components_meet_rules}
-use Rattle.uri_parts.specs.Positions.{positions_of}
+use Rattle.uri_parts.specs.Prelude.{Components, IsSplitOf, Kind, components_meet_rules, marked, positions_of, recompose, starts}
 use Rattle.uri_parts.specs.declared.positions.Positions.{Positions}
-use Rattle.uri_ops.specs.ComponentSets.{HasComponentSets}
-use Rattle.uri_ops.specs.Dots.{IsAbsolute, lacks_dot_segments}
-use Rattle.uri_ops.specs.NormalTargets.{reference_kind}
-use Rattle.uri_ops.specs.Resolving.{with_final_path}
-use Rattle.uri_ops.specs.Target.{guarded, is_opaque, is_opaque_rejection, target_of, target_underflows}
+use Rattle.uri_ops.specs.Prelude.{HasComponentSets, IsAbsolute, guarded, is_opaque, is_opaque_rejection, lacks_dot_segments, reference_kind, target_of, target_underflows, with_final_path}
 use Rattle.uri_relative.specs.Leading.{IsRelativeTo}
 use Rattle.uri_relative.specs.Shortest.{Shortest}
 

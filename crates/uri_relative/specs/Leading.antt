@@ -2,9 +2,7 @@
 use Rattle.std.specs.Prelude.{◌≡◌, ◌≢◌, ◌≤◌, ℕ, Bool, false, not, ◌&&◌, ◌||◌, List, length, None, Ok, is_some, is_none}
 use Rattle.uri_pct.specs.Delimiters.{slash}
 use Rattle.uri_parts.specs.Components.{Components, components, recompose, starts}
-use Rattle.uri_ops.specs.Dots.{is_empty}
-use Rattle.uri_ops.specs.Resolving.{with_final_path}
-use Rattle.uri_ops.specs.Target.{is_opaque, resolution_of, resolution_of_texts, target_underflows}
+use Rattle.uri_ops.specs.Prelude.{is_empty, is_opaque, resolution_of, resolution_of_texts, target_underflows, with_final_path}
 
 -- the components of the base that a reference leads from: without its fragment, of which a base is
 -- stripped before use (section 5.1)

@@ -1,14 +1,9 @@
 -- A path that leads from a directory to a path: the inverse of RFC 3986, sections 5.2.3 and 5.2.4.
 use Rattle.std.specs.Prelude.{◌≡◌, ◌≤◌, ℕ, zero, suc, Bool, true, false, ◌==◌, ◌||◌, ◌-◌, List, [], ◌++◌, take, drop, codes, if◌then◌else◌, length}
 use Rattle.std.specs.List.{count_by}
-use Rattle.uri_pct.specs.Delimiters.{slash}
-use Rattle.uri_pct.specs.Sets.{TableSet}
-use Rattle.uri_pct.specs.Tokens.{is_valid_for}
-use Rattle.uri_parts.specs.Components.{Lacks, starts, has_authority}
-use Rattle.uri_parts.specs.Grammar.{has_colon_in_first_segment}
-use Rattle.uri_ops.specs.ComponentSets.{IsComponentSet}
-use Rattle.uri_ops.specs.Dots.{is_empty, EndsInSlash, remove_dot_segments, underflows}
-use Rattle.uri_ops.specs.Target.{merged}
+use Rattle.uri_pct.specs.Prelude.{TableSet, is_valid_for, slash}
+use Rattle.uri_parts.specs.Prelude.{Lacks, has_authority, has_colon_in_first_segment, starts}
+use Rattle.uri_ops.specs.Prelude.{EndsInSlash, IsComponentSet, is_empty, merged, remove_dot_segments, underflows}
 
 -- how many `/` are in a text: in the rest of a base's path, how many `../` a relative path begins
 -- with

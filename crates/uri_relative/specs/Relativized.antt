@@ -1,7 +1,6 @@
 -- What a relativizer returns: the inverse of RFC 3986, section 5.2.
 use Rattle.std.specs.Prelude.{◌≡◌, ℕ, Bool, false, List}
-use Rattle.uri_parts.specs.Components.{components}
-use Rattle.uri_parts.specs.Grammar.{Kind}
+use Rattle.uri_parts.specs.Prelude.{Kind, components}
 use Rattle.uri_relative.specs.Leading.{IsNoLonger, IsRelativeTo, LeadsBackToTarget, LeadsTo, settled}
 use Rattle.uri_relative.specs.Rule.{reference_to}
 use Rattle.uri_relative.specs.Shortest.{IsShortest}

@@ -4,8 +4,7 @@ use Rattle.std.specs.Prelude.{ℕ, suc, Bool, not, ◌&&◌, ◌||◌, ◌==◌,
 use Rattle.std.specs.Option.{option_eq}
 use Rattle.uri_pct.specs.Delimiters.{slash}
 use Rattle.uri_parts.specs.Components.{Components, components, recompose, starts}
-use Rattle.uri_ops.specs.Dots.{lacks_dot_segments, or_slash, remove_dot_segments}
-use Rattle.uri_ops.specs.Target.{guarded, is_opaque}
+use Rattle.uri_ops.specs.Prelude.{guarded, is_opaque, lacks_dot_segments, or_slash, remove_dot_segments}
 use Rattle.uri_relative.specs.Forms.{from_authority}
 use Rattle.uri_relative.specs.Leading.{settled}
 use Rattle.uri_relative.specs.Relative.{relative_from}

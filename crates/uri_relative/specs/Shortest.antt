@@ -1,10 +1,7 @@
 -- That no reference to a target is shorter: RFC 3986, sections 4.2 and 5.2.
 use Rattle.std.specs.Prelude.{◌≡◌, ◌≤◌, ℕ, true, false, List, length, Ok}
-use Rattle.uri_parts.specs.Components.{Components, IsSplitOf, components, has_authority, recompose}
-use Rattle.uri_parts.specs.Grammar.{IsOfKind, Kind, components_meet_rules, has_colon_in_first_segment}
-use Rattle.uri_ops.specs.Dots.{is_empty, lacks_dot_segments, remove_dot_segments}
-use Rattle.uri_ops.specs.NormalTargets.{reference_kind}
-use Rattle.uri_ops.specs.Target.{is_opaque_rejection, resolution_of, target_of}
+use Rattle.uri_parts.specs.Prelude.{Components, IsOfKind, IsSplitOf, Kind, components, components_meet_rules, has_authority, has_colon_in_first_segment, recompose}
+use Rattle.uri_ops.specs.Prelude.{is_empty, is_opaque_rejection, lacks_dot_segments, reference_kind, remove_dot_segments, resolution_of, target_of}
 use Rattle.uri_relative.specs.Leading.{without_fragment, settled}
 use Rattle.uri_relative.specs.Relative.{joined_path}
 

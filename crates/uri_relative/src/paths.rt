@@ -1,11 +1,8 @@
 //! Paths that lead from a base's path to another (RFC 3986, sections 4.2 and 5.2.3).
 ghost use Rattle.std.specs.Prelude.{◌≡◌, ◌<◌, ◌≤◌, ◌+◌, ℕ, List, None, OnOk, ◌^◌, false, length, slice_index, take, true};
-ghost use Rattle.uri_pct.specs.Delimiters.{slash};
-ghost use Rattle.uri_pct.specs.Texts.{Pushes};
-ghost use Rattle.uri_parts.specs.Components.{IsAbemptyPath};
-ghost use Rattle.uri_parts.specs.Grammar.{has_colon_in_first_segment};
-ghost use Rattle.uri_ops.specs.Dots.{IsAbsolute, is_empty, lacks_dot_segments};
-ghost use Rattle.uri_ops.specs.Target.{guarded};
+ghost use Rattle.uri_pct.specs.Prelude.{Pushes, slash};
+ghost use Rattle.uri_parts.specs.Prelude.{IsAbemptyPath, has_colon_in_first_segment};
+ghost use Rattle.uri_ops.specs.Prelude.{IsAbsolute, guarded, is_empty, lacks_dot_segments};
 ghost use Rattle.uri_relative.specs.Relative.{IsLongestPrefix, IsPathTo, IsSharedPrefix, double_dots as double_dots_text, needs_leading_dot, relative_path, slashes};
 ghost use Rattle.uri_relative.specs.Rule.{shortest_or_preferred_path};
 ghost use Rattle.uri_relative.specs.Shortest.{IsShortestPath};

@@ -1,8 +1,7 @@
 //! The positions of a reference that is a suffix of a target's text, or a path before one (RFC
 //! 3986, section 4.2).
 ghost use Rattle.std.specs.Prelude.{◌≡◌, ◌≤◌, ◌+◌, ◌-◌, ◌^◌, ℕ, List, [], IfSome, None, length, option_map};
-ghost use Rattle.uri_parts.specs.Components.{Components};
-ghost use Rattle.uri_parts.specs.Positions.{authority_at, delimited_length, positions_of};
+ghost use Rattle.uri_parts.specs.Prelude.{Components, authority_at, delimited_length, positions_of};
 ghost use Rattle.uri_ops.specs.Resolving.{components_of};
 
 use uri_ops::resolve::text_view::TextView;

@@ -1,9 +1,7 @@
 //! The text of a reference that leads from a base to a target (RFC 3986, sections 4.2 and 5.2).
 ghost use Rattle.std.specs.Prelude.{◌≡◌, Bool, IfOk, IfSome, IsNone, OnOk, false, true};
-ghost use Rattle.uri_pct.specs.Delimiters.{slash};
-ghost use Rattle.uri_pct.specs.Texts.{Pushes};
-ghost use Rattle.uri_parts.specs.Components.{Components, recompose, starts};
-ghost use Rattle.uri_parts.specs.Positions.{positions_of};
+ghost use Rattle.uri_pct.specs.Prelude.{Pushes, slash};
+ghost use Rattle.uri_parts.specs.Prelude.{Components, positions_of, recompose, starts};
 ghost use Rattle.uri_ops.specs.Resolving.{components_of, with_final_path};
 ghost use Rattle.uri_relative.specs.Forms.{IsReferenceOfEachKind, IsTextOfReference, IsUnguarded, NeedsPath, NeedsRelativePath, is_guarded};
 ghost use Rattle.uri_relative.specs.Rule.{reference_components};

@@ -1,11 +1,7 @@
 //! References that lead from a base to a target (RFC 3986, sections 4.2 and 5.2).
 ghost use Rattle.std.specs.Prelude.{◌≡◌, IfOk, false, string_bytes, true};
-ghost use Rattle.uri_parts.specs.Components.{components, recompose};
-ghost use Rattle.uri_parts.specs.CoreTexts.{core_text};
-ghost use Rattle.uri_parts.specs.Grammar.{Kind};
-ghost use Rattle.uri_parts.specs.Positions.{ArePositionsOf};
-ghost use Rattle.uri_ops.specs.Dots.{IsAbsolute};
-ghost use Rattle.uri_ops.specs.Resolving.{components_of, with_final_path};
+ghost use Rattle.uri_parts.specs.Prelude.{ArePositionsOf, Kind, components, core_text, recompose};
+ghost use Rattle.uri_ops.specs.Prelude.{IsAbsolute, components_of, with_final_path};
 ghost use Rattle.uri_relative.specs.Forms.{IsDotlessTargetOf, IsReferenceTo};
 ghost use Rattle.uri_relative.specs.Leading.{settled};
 ghost use Rattle.uri_relative.specs.Rule.{reference_components};

@@ -2,13 +2,9 @@
 use Rattle.std.specs.Prelude.{◌≡◌, ◌<◌, ◌-◌, ◌⊎◌, ℕ, Bool, true, false, List, [], ◌∷◌, not, ◌&&◌, ◌||◌, ◌==◌, codes, nat_lt, Option, Some, None, option_map, unwrap_or, if◌then◌else◌}
 use Rattle.std.specs.Borrow.{Bor}
 use Rattle.std.specs.declared.hash.RandomState.{RandomState}
-use Rattle.uri_pct.specs.Delimiters.{colon, percent_sign, slash}
-use Rattle.uri_pct.specs.Sets.{allows, query_set, reserved_set, unreserved_set}
+use Rattle.uri_pct.specs.Prelude.{allows, colon, percent_sign, query_set, reserved_set, slash, unreserved_set}
 use Rattle.uri_parts.specs.Fragments.{IsWithFragment}
-use Rattle.fluent_uri.specs.Grammar.{Kind, iri, uri}
-use Rattle.fluent_uri.specs.Refusals.{refusal}
-use Rattle.fluent_uri.specs.Uris.{uri_text}
-use Rattle.fluent_uri.specs.Iris.{iri_text}
+use Rattle.fluent_uri.specs.Prelude.{Kind, iri, iri_text, refusal, uri, uri_text}
 use Rattle.fluent_uri.specs.declared.ParseError.{ParseError}
 use Rattle.fluent_uri.specs.declared.normalize.RuleSet.{RuleSet}
 use Rattle.fluent_uri.specs.declared.normalize.RuleSet.TheVariants as Set

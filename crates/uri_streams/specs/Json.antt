@@ -1,9 +1,7 @@
 -- The line of JSON that tells what a reference consists of (RFC 8259): an object whose members are
 -- texts. A text of a kind has no character that JSON escapes.
 use Rattle.std.specs.Prelude.{ℕ, List, [], ◌++◌, codes, Option, Some, None}
-use Rattle.fluent_uri.specs.Authority.{authority_parts}
-use Rattle.fluent_uri.specs.Components.{Components}
-use Rattle.fluent_uri.specs.Hosts.{HostKind, Ipv4, Ipv6, IpvFuture, RegName, host_kind}
+use Rattle.fluent_uri.specs.Prelude.{Components, HostKind, Ipv4, Ipv6, IpvFuture, RegName, authority_parts, host_kind}
 
 -- a member of a JSON object, by its name and its text: `"name":"text"` (RFC 8259, section 4)
 abbrev pub member : List ℕ → List ℕ → List ℕ

@@ -2,9 +2,7 @@
 use Rattle.std.specs.Prelude.{ℕ, List, [], ◌∷◌, codes, Option, Some, None, option_map, option_and_then}
 use Rattle.std.specs.Str.{chars}
 use Rattle.uri_query.specs.Pairs.{NameAndValue}
-use Rattle.fluent_uri.specs.Authority.{authority_parts}
-use Rattle.fluent_uri.specs.Components.{Components}
-use Rattle.fluent_uri.specs.Hosts.{host_kind}
+use Rattle.fluent_uri.specs.Prelude.{Components, authority_parts, host_kind}
 use Rattle.uri_streams.specs.Json.{host_word}
 use Rattle.uri_streams.specs.JsonTexts.{JsonValue, Array, Object, String, Elements, EndOfArray, Element, Members, EndOfObject, Member}
 use Rattle.uri_streams.specs.Queries.{pairs_of_query}

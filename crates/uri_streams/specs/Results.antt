@@ -1,11 +1,6 @@
 -- The result of the text of a line under a command, whatever the other lines are.
 use Rattle.std.specs.Prelude.{ℕ, List, [], ◌++◌, codes, Bool, not, Result, Ok, Err, unwrap_or, option_map, if◌then◌else◌}
-use Rattle.fluent_uri.specs.Components.{components}
-use Rattle.fluent_uri.specs.Grammar.{Kind, uri, uri_ref, iri, iri_ref, is_of_kind}
-use Rattle.fluent_uri.specs.Iris.{iri_text}
-use Rattle.fluent_uri.specs.Refusals.{refusal}
-use Rattle.fluent_uri.specs.Target.{TargetError, BaseWithFragment, InvalidReferenceAgainstOpaqueBase, resolution_of}
-use Rattle.fluent_uri.specs.Uris.{uri_text}
+use Rattle.fluent_uri.specs.Prelude.{BaseWithFragment, InvalidReferenceAgainstOpaqueBase, Kind, TargetError, components, iri, iri_ref, iri_text, is_of_kind, refusal, resolution_of, uri, uri_ref, uri_text}
 use Rattle.fluent_uri.specs.declared.normalize.RuleSet.{RuleSet}
 use Rattle.fluent_uri.specs.declared.resolve.ResolveError.TheVariants as resolve_errors
 use Rattle.uri_basic.specs.Target.{BasicTargetError, PathStartsWithDoubleSlash, basic_resolution_of_texts}

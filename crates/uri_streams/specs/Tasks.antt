@@ -4,12 +4,10 @@ use Rattle.std.specs.HashSet.{contains_text}
 use Rattle.std.specs.List.{list_any}
 use Rattle.std.specs.Str.{is_utf8}
 use Rattle.std.specs.Str.Lossy.{utf8_valid_len}
-use Rattle.fluent_uri.specs.Grammar.{Kind, uri_ref, is_of_kind}
-use Rattle.fluent_uri.specs.Uris.{uri_text}
+use Rattle.fluent_uri.specs.Prelude.{Kind, is_of_kind, rules_of_set, uri_ref, uri_text}
 use Rattle.uri_commands.specs.Links.{text_at}
 use Rattle.uri_commands.specs.MendedLinks.{mended_link}
 use Rattle.uri_commands.specs.Messages.{resolve_error_text}
-use Rattle.fluent_uri.specs.RuleSets.{rules_of_set}
 use Rattle.fluent_uri.specs.declared.normalize.RuleSet.{RuleSet}
 use Rattle.uri_links.specs.Outcomes.{outcome_of}
 use Rattle.uri_links.specs.Registers.{target_rules, texts_of}

@@ -1,10 +1,6 @@
 //! What a reference consists of, as a line of JSON.
 ghost use Rattle.std.specs.Prelude.{◌≡◌, ◌++◌, IfOk, OnOk, Some, codes, option_map, string_bytes};
-ghost use Rattle.fluent_uri.specs.Authority.{authority_parts};
-ghost use Rattle.fluent_uri.specs.AuthorityTexts.{authority_text, host_kind_of};
-ghost use Rattle.fluent_uri.specs.Components.{components};
-ghost use Rattle.fluent_uri.specs.Hosts.{host_kind};
-ghost use Rattle.fluent_uri.specs.Iris.{iri_ref_text};
+ghost use Rattle.fluent_uri.specs.Prelude.{authority_parts, authority_text, components, host_kind, host_kind_of, iri_ref_text};
 ghost use Rattle.uri_streams.specs.Json as spec;
 ghost use Rattle.uri_streams.specs.Json.{authority_members, host_members, json_of, member, member_after, member_before, authority_component_members};
 

@@ -2,8 +2,7 @@
 //! law.
 ghost use Rattle.std.specs.Prelude.{◌≡◌, List, Option, bytes_eq, map, ℕ};
 ghost use Rattle.std.specs.List.{IsDistinct};
-ghost use Rattle.fluent_uri.specs.Components.{Components, components};
-ghost use Rattle.fluent_uri.specs.Grammar.{IsTextOf};
+ghost use Rattle.fluent_uri.specs.Prelude.{Components, IsTextOf, components};
 ghost use Rattle.uri_streams.specs.Json.{json_of};
 ghost use Rattle.uri_streams.specs.JsonTexts.{IsJsonTextOf, JsonValue};
 ghost use Rattle.uri_streams.specs.JsonValues.{components_value, named_components, present, query_value};

@@ -1,12 +1,11 @@
 //! A command with what it remembers of earlier lines.
 ghost use Rattle.std.specs.Prelude.{◌≡◌, [], ℕ, List, IfOk, IsTrue, string_bytes};
 ghost use Rattle.std.specs.Str.{IsAscii};
-ghost use Rattle.fluent_uri.specs.Uris.{uri_ref_text, uri_text};
+ghost use Rattle.fluent_uri.specs.Prelude.{rules_of_set, uri_ref_text, uri_text};
 ghost use Rattle.uri_commands.specs.Links.{text_at};
 ghost use Rattle.uri_commands.specs.MendedLinks.{mended_link};
 ghost use Rattle.uri_links.specs.Outcomes.{outcome_of};
 ghost use Rattle.uri_links.specs.Registers.{target_rules, texts_of};
-ghost use Rattle.fluent_uri.specs.RuleSets.{rules_of_set};
 ghost use Rattle.fluent_uri.specs.declared.normalize.RuleSet.{RuleSet};
 ghost use Rattle.uri_commands.specs.Kinds.{kind_named};
 ghost use Rattle.uri_streams.specs.Results.{Text};

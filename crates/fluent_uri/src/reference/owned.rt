@@ -2,12 +2,7 @@
 ghost use Rattle.std.specs.Prelude.{◌↔◌, ◌≡◌, IfErr, IfOk, IsOk, MatchResult, None, OnErr, OnOk, Some, option_map, string_bytes};
 ghost use Rattle.std.specs.Result.{result_err};
 ghost use Rattle.uri_pct.specs.EncodedTexts.{text_of};
-ghost use Rattle.uri_parts.specs.AuthorityTexts.{authority_text};
-ghost use Rattle.uri_parts.specs.Components.{components};
-ghost use Rattle.uri_parts.specs.Errors.{IsErrorIn};
-ghost use Rattle.uri_parts.specs.Fragments.{IsWithFragment};
-ghost use Rattle.uri_parts.specs.Grammar.{IsOfKind};
-ghost use Rattle.uri_parts.specs.Refusals.{refusal};
+ghost use Rattle.uri_parts.specs.Prelude.{IsErrorIn, IsOfKind, IsWithFragment, authority_text, components, refusal};
 ghost use Rattle.fluent_uri.specs.References.{held_text, reference_text};
 
 use crate::reference::Reference;

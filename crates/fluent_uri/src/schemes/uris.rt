@@ -1,8 +1,7 @@
 //! The scheme of a `Uri`, which has one (RFC 3986, section 3), and of a `UriRef`, which may have
 //! one (section 4.1).
 ghost use Rattle.std.specs.Prelude.{◌≡◌, Some, codes, is_some, option_map};
-ghost use Rattle.uri_parts.specs.Components.{components};
-ghost use Rattle.uri_parts.specs.Schemes.{scheme_text};
+ghost use Rattle.uri_parts.specs.Prelude.{components, scheme_text};
 ghost use Rattle.fluent_uri.specs.PrintedReferences.{debug_with_optional_scheme, debug_with_scheme};
 ghost use Rattle.fluent_uri.specs.References.{reference_text};
 

@@ -4,8 +4,7 @@ ghost use Rattle.std.specs.BTreeMap.{get_by};
 ghost use Rattle.std.specs.Cmp.Lexicographic.{slice_cmp};
 ghost use Rattle.std.specs.Net.Text.{ipv4_text, ipv6_text};
 ghost use Rattle.std.specs.Ordering.{is_le, is_lt, nat_cmp};
-ghost use Rattle.fluent_uri.specs.Addresses.{ipv4_octets, ipv6_segments};
-ghost use Rattle.fluent_uri.specs.Hosts.{Ipv4, Ipv6, bracketed, host_kind};
+ghost use Rattle.fluent_uri.specs.Prelude.{Ipv4, Ipv6, bracketed, host_kind, ipv4_octets, ipv6_segments};
 
 use fluent_uri::laws;
 use fluent_uri::net::{IpAddr, Ipv4Addr, Ipv6Addr};

@@ -1,12 +1,6 @@
 //! Normal forms and targets by the rules of schemes (RFC 3986, section 6.2.3).
 ghost use Rattle.std.specs.Prelude.{◌≡◌};
-ghost use Rattle.fluent_uri.specs.Grammar.{uri};
-ghost use Rattle.fluent_uri.specs.Meaning.{meaning_of};
-ghost use Rattle.fluent_uri.specs.Normal.{normal_text};
-ghost use Rattle.fluent_uri.specs.SchemePorts.{default_port};
-ghost use Rattle.fluent_uri.specs.SchemeRules.{default_rules, meaning_under};
-ghost use Rattle.fluent_uri.specs.StandardRules.{standard_rules};
-ghost use Rattle.fluent_uri.specs.Uris.{uri_text};
+ghost use Rattle.fluent_uri.specs.Prelude.{default_port, default_rules, meaning_of, meaning_under, normal_text, standard_rules, uri, uri_text};
 
 use fluent_uri::{Uri, laws};
 

@@ -1,13 +1,6 @@
 //! IRIs, and the URIs that they are converted to (RFC 3987, section 3.1).
 ghost use Rattle.std.specs.Prelude.{◌≡◌, IfOk, true};
-ghost use Rattle.fluent_uri.specs.Components.{components};
-ghost use Rattle.fluent_uri.specs.Encoded.{encode_past_ascii};
-ghost use Rattle.fluent_uri.specs.Grammar.{iri};
-ghost use Rattle.fluent_uri.specs.Normalizers.{IsNormalForm};
-ghost use Rattle.fluent_uri.specs.SchemeRules.{default_rules};
-ghost use Rattle.fluent_uri.specs.Iris.{iri_ref_text, iri_text};
-ghost use Rattle.fluent_uri.specs.Resolving.{IsTarget};
-ghost use Rattle.fluent_uri.specs.Uris.{uri_text};
+ghost use Rattle.fluent_uri.specs.Prelude.{IsNormalForm, IsTarget, components, default_rules, encode_past_ascii, iri, iri_ref_text, iri_text, uri_text};
 
 use fluent_uri::resolve::{ResolveError, Resolver};
 use fluent_uri::{Iri, IriRef, Uri};

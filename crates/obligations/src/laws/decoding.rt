@@ -1,9 +1,7 @@
 //! Percent-encoded texts of which some items are taken (RFC 3986, section 2.1).
 ghost use Rattle.std.specs.Prelude.{◌≡◌, IfOk, drop};
 ghost use Rattle.std.specs.List.{flat_map};
-ghost use Rattle.fluent_uri.specs.Chunks.{chunk_bytes, chunks};
-ghost use Rattle.fluent_uri.specs.Cows.{cow_items};
-ghost use Rattle.fluent_uri.specs.EncodedTexts.{text_of};
+ghost use Rattle.fluent_uri.specs.Prelude.{chunk_bytes, chunks, cow_items, text_of};
 
 use fluent_uri::pct_enc::encoder::Path;
 use fluent_uri::pct_enc::{CowSlice, EStr};

@@ -1,7 +1,6 @@
 //! Paths from which dot segments are removed (RFC 3986, section 5.2.4).
 ghost use Rattle.std.specs.Prelude.{◌≡◌, ◌≤◌, ◌+◌, ◌++◌, [], false, length, true};
-ghost use Rattle.fluent_uri.specs.Components.{IsAbemptyPath};
-ghost use Rattle.fluent_uri.specs.Dots.{EndsInSlash, IsAbsolute, directory, lacks_dot_segments, remove_dot_segments, run};
+ghost use Rattle.fluent_uri.specs.Prelude.{EndsInSlash, IsAbemptyPath, IsAbsolute, directory, lacks_dot_segments, remove_dot_segments, run};
 
 use fluent_uri::laws;
 

@@ -1,13 +1,6 @@
 //! Texts that mean the same, and what is resolved against them (RFC 3986, sections 5.2 and 6.2.2).
 ghost use Rattle.std.specs.Prelude.{◌≡◌, Ok};
-ghost use Rattle.fluent_uri.specs.Encoded.{encode_past_ascii};
-ghost use Rattle.fluent_uri.specs.Grammar.{IsTextOf, iri, uri};
-ghost use Rattle.fluent_uri.specs.Iris.{iri_ref_text, iri_text};
-ghost use Rattle.fluent_uri.specs.Meaning.{bare_meaning_of};
-ghost use Rattle.fluent_uri.specs.NormalTargets.{resolved_meaning};
-ghost use Rattle.fluent_uri.specs.SchemeRules.{Rules, default_rules, meaning_under};
-ghost use Rattle.fluent_uri.specs.Target.{resolution_of_texts};
-ghost use Rattle.fluent_uri.specs.Uris.{uri_ref_text, uri_text};
+ghost use Rattle.fluent_uri.specs.Prelude.{IsTextOf, Rules, bare_meaning_of, default_rules, encode_past_ascii, iri, iri_ref_text, iri_text, meaning_under, resolution_of_texts, resolved_meaning, uri, uri_ref_text, uri_text};
 
 use fluent_uri::{Iri, IriRef, Uri, UriRef, laws};
 

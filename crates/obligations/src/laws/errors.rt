@@ -1,8 +1,6 @@
 //! The index of a parse error (`docs/PARSE_ERRORS.md`).
 ghost use Rattle.std.specs.Prelude.{◌≡◌, IfErr, false, take, true};
-ghost use Rattle.fluent_uri.specs.Errors.{error_index};
-ghost use Rattle.fluent_uri.specs.Grammar.{uri};
-ghost use Rattle.fluent_uri.specs.ViablePrefixes.{IsViablePrefix, has_late_error};
+ghost use Rattle.fluent_uri.specs.Prelude.{IsViablePrefix, error_index, has_late_error, uri};
 
 use fluent_uri::{ParseError, Uri, laws};
 

@@ -1,8 +1,6 @@
 //! The texts of the kinds, in the words of the RFCs (RFC 3986, section 3; RFC 3987, section 2.2).
 ghost use Rattle.std.specs.Prelude.{◌↔◌, IfOk, IsOk};
-ghost use Rattle.fluent_uri.specs.ComponentSets.{IsWithin};
-ghost use Rattle.fluent_uri.specs.Grammar.{IsTextOf, Kind, iri, iri_ref};
-ghost use Rattle.fluent_uri.specs.GrammarInWords.{IsInGrammar};
+ghost use Rattle.fluent_uri.specs.Prelude.{IsInGrammar, IsTextOf, IsWithin, Kind, iri, iri_ref};
 ghost use Rattle.uri_abnf.specs.Abnf.{IsOf};
 ghost use Rattle.uri_abnf.specs.Derivations.{start_rule};
 

@@ -1,7 +1,6 @@
 //! Lines of JSON (RFC 8259), as `urilines` writes them.
 ghost use Rattle.std.specs.Prelude.{◌≡◌, Option, List, ℕ};
-ghost use Rattle.fluent_uri.specs.Components.{components};
-ghost use Rattle.fluent_uri.specs.Grammar.{IsTextOf};
+ghost use Rattle.fluent_uri.specs.Prelude.{IsTextOf, components};
 ghost use Rattle.uri_commands.specs.Kinds.{kind_named};
 ghost use Rattle.uri_streams.specs.Json.{json_of};
 ghost use Rattle.uri_streams.specs.JsonTexts.{IsJsonTextOf, JsonValue};

@@ -1,12 +1,7 @@
 //! Texts that are mended (RFC 3986, sections 2.1 and 4.2).
 ghost use Rattle.std.specs.Prelude.{◌≡◌, ℕ, List, option_map, true};
 ghost use Rattle.std.specs.List.{flat_map};
-ghost use Rattle.fluent_uri.specs.Components.{components};
-ghost use Rattle.fluent_uri.specs.Encoded.{ascii_kind, encode_past_ascii};
-ghost use Rattle.fluent_uri.specs.Grammar.{IsOfKind, iri_ref, uri_ref};
-ghost use Rattle.fluent_uri.specs.Sets.{path_set};
-ghost use Rattle.fluent_uri.specs.Tokens.{tokens};
-ghost use Rattle.fluent_uri.specs.Uris.{uri_ref_text};
+ghost use Rattle.fluent_uri.specs.Prelude.{IsOfKind, ascii_kind, components, encode_past_ascii, iri_ref, path_set, tokens, uri_ref, uri_ref_text};
 ghost use Rattle.uri_mend.specs.MendedParts.{mend_token, mended};
 ghost use Rattle.uri_mend.specs.Mending.{link_components, mended_text};
 

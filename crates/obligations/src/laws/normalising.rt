@@ -1,12 +1,6 @@
 //! Normal forms (RFC 3986, section 6.2.2).
 ghost use Rattle.std.specs.Prelude.{◌≡◌, IfOk, true};
-ghost use Rattle.fluent_uri.specs.ComponentSets.{HasComponentSets};
-ghost use Rattle.fluent_uri.specs.Grammar.{IsTextOf, Kind, iri};
-ghost use Rattle.fluent_uri.specs.Iris.{iri_text};
-ghost use Rattle.fluent_uri.specs.Normal.{normal_text};
-ghost use Rattle.fluent_uri.specs.Normalizers.{IsNormalForm};
-ghost use Rattle.fluent_uri.specs.SameMeanings.{same_meaning};
-ghost use Rattle.fluent_uri.specs.SchemeRules.{Rules, default_rules, meaning_under};
+ghost use Rattle.fluent_uri.specs.Prelude.{HasComponentSets, IsNormalForm, IsTextOf, Kind, Rules, default_rules, iri, iri_text, meaning_under, normal_text, same_meaning};
 
 use fluent_uri::{Iri, laws};
 use std::alloc::{AllocError, Global};

@@ -2,11 +2,7 @@
 ghost use Rattle.std.specs.Prelude.{◌≡◌, ◌∷◌, ◌/◌, ◌%◌, IfOk, false, true};
 ghost use Rattle.std.specs.Fmt.{digit_glyph};
 ghost use Rattle.std.specs.Str.Lossy.{utf8_lossy};
-ghost use Rattle.fluent_uri.specs.Cows.{cow_text};
-ghost use Rattle.fluent_uri.specs.Decodes.{decoded};
-ghost use Rattle.fluent_uri.specs.EncodedTexts.{text_of};
-ghost use Rattle.fluent_uri.specs.Pieces.{bytes_of_pieces, utf8_pieces};
-ghost use Rattle.fluent_uri.specs.Tokens.{print, tokens};
+ghost use Rattle.fluent_uri.specs.Prelude.{bytes_of_pieces, cow_text, decoded, print, text_of, tokens, utf8_pieces};
 
 use fluent_uri::laws;
 use fluent_uri::pct_enc::encoder::Path;

@@ -1,8 +1,6 @@
 //! The order of normal forms (RFC 3986, sections 6.2.2 and 6.2.3).
 ghost use Rattle.std.specs.Prelude.{◌≡◌, ◌↔◌, true};
-ghost use Rattle.fluent_uri.specs.Grammar.{uri};
-ghost use Rattle.fluent_uri.specs.Uris.{uri_text};
-ghost use Rattle.fluent_uri.specs.StandardRules.{standard_rules};
+ghost use Rattle.fluent_uri.specs.Prelude.{standard_rules, uri, uri_text};
 ghost use Rattle.uri_order.specs.NormalForms.{AreEquivalent, normal_form};
 ghost use Rattle.uri_order.specs.TotalOrders.{IsTotalOrderBy};
 

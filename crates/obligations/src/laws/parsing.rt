@@ -1,10 +1,7 @@
 //! Parsing (RFC 3986, section 4.1), and the errors of texts (`docs/PARSE_ERRORS.md`).
 ghost use Rattle.std.specs.Prelude.{◌≡◌, ◌≤◌, ℕ, is_none, take};
 ghost use Rattle.std.specs.Str.{IsCharBoundary};
-ghost use Rattle.fluent_uri.specs.Prefixes.{valid_prefix};
-ghost use Rattle.fluent_uri.specs.Refusals.{refusal};
-ghost use Rattle.fluent_uri.specs.Sets.{path_set};
-ghost use Rattle.fluent_uri.specs.Tokens.{IsValidFor};
+ghost use Rattle.fluent_uri.specs.Prelude.{IsValidFor, path_set, refusal, valid_prefix};
 
 use fluent_uri::kind::Kind;
 use fluent_uri::{Reference, laws};

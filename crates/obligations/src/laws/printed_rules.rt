@@ -1,14 +1,7 @@
 //! The rules that the RFCs print (RFC 3986, appendix A; RFC 3987, section 2.2), and what callers
 //! read by them.
 ghost use Rattle.std.specs.Prelude.{◌≡◌, ◌↔◌, ◌∷◌, ℕ, List, [], false, map, true};
-ghost use Rattle.fluent_uri.specs.Authority.{authority_parts};
-ghost use Rattle.fluent_uri.specs.Components.{components};
-ghost use Rattle.fluent_uri.specs.DecodeUnreserved.{is_decodable};
-ghost use Rattle.fluent_uri.specs.Grammar.{uri};
-ghost use Rattle.fluent_uri.specs.Hosts.{IsHost, Ipv4};
-ghost use Rattle.fluent_uri.specs.Iris.{iri_text};
-ghost use Rattle.fluent_uri.specs.Sets.{path_set};
-ghost use Rattle.fluent_uri.specs.Uris.{uri_text};
+ghost use Rattle.fluent_uri.specs.Prelude.{Ipv4, IsHost, authority_parts, components, iri_text, is_decodable, path_set, uri, uri_text};
 ghost use Rattle.uri_abnf.specs.Abnf.{Has, IsOf};
 ghost use Rattle.uri_abnf.specs.Derivations.{IsAuthorityDerived, IsDerived, uri_rules};
 ghost use Rattle.uri_abnf.specs.Printed as Printed;

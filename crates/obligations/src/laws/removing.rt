@@ -1,11 +1,6 @@
 //! Dot segments (RFC 3986, section 5.2.4).
 ghost use Rattle.std.specs.Prelude.{◌≡◌, ◌++◌};
-ghost use Rattle.fluent_uri.specs.Components.{IsAbemptyPath};
-ghost use Rattle.fluent_uri.specs.Dots.{IsAbsolute, directory, remove_dot_segments};
-ghost use Rattle.fluent_uri.specs.EncodedTexts.{text_of};
-ghost use Rattle.fluent_uri.specs.DecodeUnreserved.{decode_unreserved};
-ghost use Rattle.fluent_uri.specs.Sets.{ipath_set};
-ghost use Rattle.fluent_uri.specs.Tokens.{print};
+ghost use Rattle.fluent_uri.specs.Prelude.{IsAbemptyPath, IsAbsolute, decode_unreserved, directory, ipath_set, print, remove_dot_segments, text_of};
 
 use fluent_uri::laws;
 use fluent_uri::pct_enc::EStr;

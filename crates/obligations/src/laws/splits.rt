@@ -1,11 +1,6 @@
 //! The components of a text, and of an authority (RFC 3986, sections 3 and 3.2, and appendix B).
 ghost use Rattle.std.specs.Prelude.{◌≡◌, codes};
-ghost use Rattle.fluent_uri.specs.Authority.{AuthorityParts, IsAuthorityFor};
-ghost use Rattle.fluent_uri.specs.AuthorityTexts.{authority_text};
-ghost use Rattle.fluent_uri.specs.Components.{Components, IsSplitOf, Lacks, components};
-ghost use Rattle.fluent_uri.specs.EncodedTexts.{text_of};
-ghost use Rattle.fluent_uri.specs.Grammar.{uri};
-ghost use Rattle.fluent_uri.specs.Uris.{uri_ref_text};
+ghost use Rattle.fluent_uri.specs.Prelude.{AuthorityParts, Components, IsAuthorityFor, IsSplitOf, Lacks, authority_text, components, text_of, uri, uri_ref_text};
 
 use fluent_uri::component::Authority;
 use fluent_uri::pct_enc::EStr;

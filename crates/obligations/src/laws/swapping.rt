@@ -1,10 +1,6 @@
 //! Resolving and normalising, in either order (RFC 3986, sections 5.2 and 6.2.2).
 ghost use Rattle.std.specs.Prelude.{◌≡◌, IfOk};
-ghost use Rattle.fluent_uri.specs.Grammar.{iri};
-ghost use Rattle.fluent_uri.specs.Iris.{iri_ref_text, iri_text};
-ghost use Rattle.fluent_uri.specs.NormalTargets.{IsNormalFormOfTarget};
-ghost use Rattle.fluent_uri.specs.SchemeRules.{default_rules};
-ghost use Rattle.fluent_uri.specs.Uris.{uri_text};
+ghost use Rattle.fluent_uri.specs.Prelude.{IsNormalFormOfTarget, default_rules, iri, iri_ref_text, iri_text, uri_text};
 
 use fluent_uri::laws::normal_forms_have_equivalent_targets;
 use fluent_uri::normalize::Normalizer;

@@ -1,10 +1,6 @@
 //! Percent-encoded texts, and their unreserved decoding (RFC 3986, sections 2.1 and 6.2.2.2).
 ghost use Rattle.std.specs.Prelude.{◌≡◌, ◌∷◌, [], List, codes, map};
-ghost use Rattle.fluent_uri.specs.EncodedTexts.{text_of};
-ghost use Rattle.fluent_uri.specs.DecodeUnreserved.{decode_unreserved, decode_octet};
-ghost use Rattle.fluent_uri.specs.Sets.{path_set};
-ghost use Rattle.fluent_uri.specs.Representation.{RepresentsWithin, Represents};
-ghost use Rattle.fluent_uri.specs.Tokens.{Char, Octet, Token, tokens};
+ghost use Rattle.fluent_uri.specs.Prelude.{Char, Octet, Represents, RepresentsWithin, Token, decode_octet, decode_unreserved, path_set, text_of, tokens};
 
 use fluent_uri::laws;
 use fluent_uri::pct_enc::EStr;

@@ -1,8 +1,6 @@
 -- Parts of a text that the code copies whole, and where they are.
 use Rattle.std.specs.Prelude.{◌≡◌, ℕ, List, [], ◌++◌, codes}
-use Rattle.uri_parts.specs.Components.{Components, marked}
-use Rattle.uri_parts.specs.PackedPositions.{packed}
-use Rattle.uri_parts.specs.Positions.{positions_of}
+use Rattle.uri_parts.specs.Prelude.{Components, marked, packed, positions_of}
 use Rattle.uri_parts.specs.declared.packed_positions.PackedPositions.{PackedPositions}
 
 -- what a base or a reference has after its path: query and fragment, with their delimiters

@@ -1,8 +1,7 @@
 -- The IPv6 address of an authority, where it has one: RFC 3986, section 3.2.2.
 use Rattle.std.specs.Prelude.{ℕ, List, [], Option, Some, None}
 use Rattle.std.specs.Net.Text.{ipv6_text}
-use Rattle.uri_parts.specs.Authority.{authority_parts}
-use Rattle.uri_parts.specs.Hosts.{HostKind, Ipv4, Ipv6, IpvFuture, RegName, bracketed, host_kind}
+use Rattle.uri_parts.specs.Prelude.{HostKind, Ipv4, Ipv6, IpvFuture, RegName, authority_parts, bracketed, host_kind}
 
 -- the normal text of a host of the kind if it is an IPv6 address, and else nothing
 abbrev pub ipv6_host_text : HostKind → List ℕ

@@ -2,11 +2,7 @@
 -- 6.2.2.2; RFC 3987, section 5.3.2.3.
 use Rattle.std.specs.Prelude.{◌≡◌, ◌≢◌, ◌≤◌, ◌<◌, ℕ, ◌+◌, true, List, [], ◌∷◌, ◌++◌, length, map, slice_index}
 use Rattle.std.specs.Char.{IsScalar, encode_utf8}
-use Rattle.uri_pct.specs.Sets.{TableSet}
-use Rattle.uri_pct.specs.Chunks.{widest_set}
-use Rattle.uri_pct.specs.Delimiters.{percent_sign}
-use Rattle.uri_pct.specs.Tokens.{Token, Octet, tokens, IsValidFor}
-use Rattle.uri_pct.specs.DecodeUnreserved.{is_decodable}
+use Rattle.uri_pct.specs.Prelude.{IsValidFor, Octet, TableSet, Token, is_decodable, percent_sign, tokens, widest_set}
 
 -- the tokens of the text are those of the text before, which is valid too, and then these
 pub record EndsIn (text before : List ℕ) (ts : List Token) : Type 0 where

@@ -7,12 +7,7 @@ use Rattle.std.specs.Char.{digit_value, is_ascii_hexdigit, to_ascii_lowercase}
 use Rattle.std.specs.Str.{IsCharBoundary, chars, str_to_ascii_lowercase}
 use Rattle.std.proofs.lemmas.List.{append-nil, map-append}
 use Rattle.std.proofs.lemmas.List.Concat.{flat_map-append}
-use Rattle.uri_pct.specs.Chunks.{widest_set}
-use Rattle.uri_pct.specs.Parts.{Part, Literal, Decoded}
-use Rattle.uri_pct.specs.DecodeUnreserved.{decode_piece, decode_tokens, lower_token}
-use Rattle.uri_pct.specs.Sets.{TableSet}
-use Rattle.uri_pct.specs.Tables.{set_of}
-use Rattle.uri_pct.specs.Tokens.{IsValidFor, Token, Char, Octet, text_of_token, tokens, print}
+use Rattle.uri_pct.specs.Prelude.{Char, Decoded, IsValidFor, Literal, Octet, Part, TableSet, Token, decode_piece, decode_tokens, lower_token, print, set_of, text_of_token, tokens, widest_set}
 use Rattle.uri_ops.specs.declared.normalize.decode_unreserved.Decoding.{Decoding}
 
 -- the tokens that normalising makes of a part of a component: a literal text, or octets that are

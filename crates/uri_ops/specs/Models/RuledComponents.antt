@@ -2,8 +2,7 @@
 use Rattle.std.specs.Prelude.{ℕ, Bool, false, ◌&&◌, List, [], codes, bytes_eq, Option, Some, None, is_some, option_map, if◌then◌else◌}
 use Rattle.std.specs.Option.{option_and_then}
 use Rattle.std.specs.Str.{str_to_ascii_lowercase}
-use Rattle.uri_parts.specs.Components.{Components, components, recompose}
-use Rattle.uri_parts.specs.Grammar.{Kind}
+use Rattle.uri_parts.specs.Prelude.{Components, Kind, components, recompose}
 use Rattle.uri_ops.specs.Dots.{is_empty}
 use Rattle.uri_ops.specs.Meaning.{authority_meaning}
 use Rattle.uri_ops.specs.Normal.{normal_scheme}

@@ -1,8 +1,6 @@
 -- Targets that are a prefix of the base and a suffix of the reference: RFC 3986, section 5.2.2.
 use Rattle.std.specs.Prelude.{Bool, ◌≡◌, true, false, List, ◌++◌, ℕ, is_some}
-use Rattle.uri_parts.specs.Components.{Components, recompose}
-use Rattle.uri_parts.specs.PackedPositions.{packed}
-use Rattle.uri_parts.specs.Positions.{positions_of}
+use Rattle.uri_parts.specs.Prelude.{Components, packed, positions_of, recompose}
 use Rattle.uri_ops.specs.Dots.{directory}
 use Rattle.uri_ops.specs.Models.Directories.{BeginsWith, IsDotlessDirectory}
 use Rattle.uri_ops.specs.Models.Places.{before_path}

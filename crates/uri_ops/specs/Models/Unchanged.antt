@@ -2,15 +2,8 @@
 use Rattle.std.specs.Prelude.{◌≡◌, ◌||◌, ◌&&◌, ◌==◌, ◌≤◌, ◌<◌, ◌+◌, ◌-◌, ◌*◌, ℕ, Bool, true, false, not, nat_le, nat_lt, codes, length, is_some, List, [], ◌∷◌, Option, IfSome, slice_index}
 use Rattle.std.specs.Char.{digit_value, is_ascii_hexdigit, is_ascii_uppercase}
 use Rattle.std.specs.Str.{str_to_ascii_lowercase}
-use Rattle.uri_pct.specs.DecodeUnreserved.{LacksPastAscii}
-use Rattle.uri_pct.specs.Delimiters.{full_stop, left_bracket, percent_sign, slash}
-use Rattle.uri_pct.specs.Sets.{TableSet, is_one_of, is_unreserved}
-use Rattle.uri_pct.specs.Texts.{lacks}
-use Rattle.uri_parts.specs.Authority.{authority_parts}
-use Rattle.uri_parts.specs.Components.{Components, components, starts}
-use Rattle.uri_parts.specs.Grammar.{Kind}
-use Rattle.uri_parts.specs.Hosts.{host_kind, is_host}
-use Rattle.uri_parts.specs.Positions.{positions_of}
+use Rattle.uri_pct.specs.Prelude.{LacksPastAscii, TableSet, full_stop, is_one_of, is_unreserved, lacks, left_bracket, percent_sign, slash}
+use Rattle.uri_parts.specs.Prelude.{Components, Kind, authority_parts, components, host_kind, is_host, positions_of, starts}
 use Rattle.uri_ops.specs.Meaning.{dotless_path, host_meaning, port_meaning}
 use Rattle.uri_ops.specs.Normal.{host_text, normal_scheme, path_underflows}
 

@@ -2,9 +2,7 @@
 use Rattle.std.specs.Prelude.{ℕ, ◌+◌, length, Option, option_map}
 use Rattle.uri_parts.specs.declared.positions.AuthorityPositions.{AuthorityPositions}
 use Rattle.uri_parts.specs.declared.positions.Positions.{Positions}
-use Rattle.uri_parts.specs.Authority.{AuthorityParts, recompose_authority}
-use Rattle.uri_parts.specs.Components.{Components}
-use Rattle.uri_parts.specs.Positions.{delimited_length, positions_of}
+use Rattle.uri_parts.specs.Prelude.{AuthorityParts, Components, delimited_length, positions_of, recompose_authority}
 
 -- the positions of an authority's components, where it begins at the position `place` of a text, as
 -- a normal one, that is written

@@ -1,7 +1,6 @@
 //! The steps of a builder, each of which lengthens its text.
 ghost use Rattle.std.specs.Prelude.{◌≡◌, ◌+◌, ◌-◌, ◌≤◌, IfSome, false, option_map, true, string_bytes};
-ghost use Rattle.uri_pct.specs.Sets.{digit_set};
-ghost use Rattle.uri_pct.specs.Texts.{Pushes};
+ghost use Rattle.uri_pct.specs.Prelude.{Pushes, digit_set};
 ghost use Rattle.uri_ops.specs.BuilderParts.{is_text_for};
 ghost use Rattle.uri_ops.specs.HostParts.{IsHostText};
 

@@ -1,9 +1,7 @@
 //! The text that a builder writes, with the lengths of its parts (RFC 3986, section 5.3).
 ghost use Rattle.std.specs.Prelude.{◌≡◌, ◌+◌, ◌++◌, ◌≤◌, IfSome, [], false, is_none, length, unwrap_or, true, string_bytes};
-ghost use Rattle.uri_pct.specs.Sets.{digit_set};
-ghost use Rattle.uri_pct.specs.Texts.{Pushes};
-ghost use Rattle.uri_parts.specs.Grammar.{has_colon_in_first_segment};
-ghost use Rattle.uri_parts.specs.Positions.{positions_of};
+ghost use Rattle.uri_pct.specs.Prelude.{Pushes, digit_set};
+ghost use Rattle.uri_parts.specs.Prelude.{has_colon_in_first_segment, positions_of};
 ghost use Rattle.uri_ops.specs.BuilderParts.{AddsUnlessFailed, as_components, is_text_for, no_parts, with_authority, with_fragment, with_host, with_path, with_port, with_query, with_scheme, with_userinfo};
 ghost use Rattle.uri_ops.specs.Built.{build_error_of_path};
 ghost use Rattle.uri_ops.specs.Drafts.{IsDraft, after_part};

@@ -55,8 +55,7 @@ impl<E: Encoder> WithEncoder<E> for Ipv4Addr {
 /// Written in brackets, by RFC 5952.
 impl AsHost for Ipv6Addr {
     ghost use Rattle.std.specs.Net.Text.{ipv6_text};
-    ghost use Rattle.uri_parts.specs.Addresses.{ipv6_segments};
-    ghost use Rattle.uri_parts.specs.Hosts.{bracketed};
+    ghost use Rattle.uri_parts.specs.Prelude.{bracketed, ipv6_segments};
 
     ghost host_text = { λ address. bracketed (ipv6_text (ipv6_segments address)) };
 }

@@ -3,8 +3,7 @@
 ghost use Rattle.std.specs.Prelude.{◌≡◌, ℕ, List};
 ghost use Rattle.std.specs.Result.{result_map_both};
 ghost use Rattle.std.specs.Str.{IsUtf8};
-ghost use Rattle.uri_parts.specs.Components.{components};
-ghost use Rattle.uri_parts.specs.Grammar.{Kind, iri, iri_ref, uri, uri_ref, IsTextOf};
+ghost use Rattle.uri_parts.specs.Prelude.{IsTextOf, Kind, components, iri, iri_ref, uri, uri_ref};
 ghost use Rattle.uri_ops.specs.ComponentSets.{HasComponentSets, IsWithin};
 ghost use Rattle.uri_ops.specs.Encoded.{ascii_kind, encode_past_ascii};
 ghost use Rattle.uri_ops.specs.Meaning.{bare_meaning_of};

@@ -1,12 +1,11 @@
 //! Laws of meanings and normal texts, each the contract of a function that does nothing.
 ghost use Rattle.std.specs.Prelude.{◌≡◌, ◌↔◌, ℕ, List, true};
-ghost use Rattle.uri_parts.specs.Grammar.{Kind, iri, iri_ref, uri, uri_ref, IsTextOf};
+ghost use Rattle.uri_parts.specs.Prelude.{IsTextOf, Kind, PortFunction, iri, iri_ref, uri, uri_ref};
 ghost use Rattle.uri_ops.specs.ComponentSets.{HasComponentSets};
 ghost use Rattle.uri_ops.specs.Meaning.{Meaning, bare_meaning_of, meaning_of, under};
 ghost use Rattle.uri_ops.specs.Normal.{normal_text};
 ghost use Rattle.uri_ops.specs.SameMeanings.{same_meaning};
 ghost use Rattle.uri_ops.specs.SchemeRules.{Rules, meaning_under, only_ports, under_rules};
-ghost use Rattle.uri_parts.specs.Ports.{PortFunction};
 
 /// The sets of the four kinds have what the laws of normal forms ask of a kind's (RFC 3986,
 /// sections 2.2, 2.3 and 3, and RFC 3987, section 2.2).

@@ -1,12 +1,7 @@
 //! Decoding of unreserved octets in components (RFC 3986, sections 6.2.2.1 and 6.2.2.2; RFC 3987,
 //! sections 4.1 and 5.3.2.3).
 ghost use Rattle.std.specs.Prelude.{◌≡◌, ◌&&◌, OnOk};
-ghost use Rattle.uri_pct.specs.Chunks.{widest_set};
-ghost use Rattle.uri_pct.specs.EncodedTexts.{text_of};
-ghost use Rattle.uri_pct.specs.DecodeUnreserved.{decode_unreserved, decode_tokens};
-ghost use Rattle.uri_pct.specs.Tables.{set_of};
-ghost use Rattle.uri_pct.specs.Tokens.{tokens, print, IsValidFor};
-ghost use Rattle.uri_pct.specs.Texts.{Pushes};
+ghost use Rattle.uri_pct.specs.Prelude.{IsValidFor, Pushes, decode_tokens, decode_unreserved, print, set_of, text_of, tokens, widest_set};
 ghost use Rattle.uri_ops.specs.Models.Decodings.{lowered_if};
 
 use crate::normalize::formatting::encode_formatting;

@@ -1,11 +1,7 @@
 //! Paths whose octets are decoded while their dot segments are removed (RFC 3986, sections 5.2.4
 //! and 6.2.2.3).
 ghost use Rattle.std.specs.Prelude.{◌≡◌, ◌==◌, ◌&&◌, IfOk, OnOk, codes, length, slice_index, true};
-ghost use Rattle.uri_pct.specs.Delimiters.{slash};
-ghost use Rattle.uri_pct.specs.DecodeUnreserved.{decode_unreserved};
-ghost use Rattle.uri_pct.specs.Tables.{set_of};
-ghost use Rattle.uri_pct.specs.Tokens.{IsValidFor, print};
-ghost use Rattle.uri_pct.specs.Texts.{Pushes};
+ghost use Rattle.uri_pct.specs.Prelude.{IsValidFor, Pushes, decode_unreserved, print, set_of, slash};
 ghost use Rattle.uri_ops.specs.ComponentSets.{IsComponentSet};
 ghost use Rattle.uri_ops.specs.Dots.{IsAbsolute, remove_dot_segments, underflows};
 
@@ -31,9 +27,7 @@ struct Decoded<'t> {
 impl SegmentMode for Decoded<'_> {
     ghost use Rattle.std.specs.Prelude.{◌&&◌};
     ghost use Rattle.std.specs.Str.{is_utf8};
-    ghost use Rattle.uri_pct.specs.DecodeUnreserved.{decode_unreserved};
-    ghost use Rattle.uri_pct.specs.Tables.{set_of};
-    ghost use Rattle.uri_pct.specs.Tokens.{is_valid_for, print};
+    ghost use Rattle.uri_pct.specs.Prelude.{decode_unreserved, is_valid_for, print, set_of};
 
     ghost pushed_text = { λ mode text. print (decode_unreserved (set_of mode.table.now) text) };
 

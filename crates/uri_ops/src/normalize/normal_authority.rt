@@ -1,13 +1,7 @@
 //! Authorities in normal form (RFC 3986, sections 6.2.2 and 6.2.3; RFC 3987, section 5.3.2).
 ghost use Rattle.std.specs.Prelude.{◌≡◌, ◌+◌, [], IfOk, IfSome, OnOk, codes, length, option_map, string_bytes, true};
-ghost use Rattle.uri_pct.specs.Delimiters.{left_bracket};
-ghost use Rattle.uri_pct.specs.Texts.{Pushes};
-ghost use Rattle.uri_parts.specs.Authority.{authority_parts};
-ghost use Rattle.uri_parts.specs.AuthorityTexts.{authority_text};
-ghost use Rattle.uri_parts.specs.Components.{marked, starts};
-ghost use Rattle.uri_parts.specs.Grammar.{Kind};
-ghost use Rattle.uri_parts.specs.Hosts.{host_kind};
-ghost use Rattle.uri_parts.specs.Schemes.{scheme_text};
+ghost use Rattle.uri_pct.specs.Prelude.{Pushes, left_bracket};
+ghost use Rattle.uri_parts.specs.Prelude.{Kind, authority_parts, authority_text, host_kind, marked, scheme_text, starts};
 ghost use Rattle.uri_ops.specs.Meaning.{authority_meaning, host_meaning, port_meaning};
 ghost use Rattle.uri_ops.specs.Normal.{host_text, normal_part, normal_parts, default_port_of, normal_authority_with_delimiter};
 ghost use Rattle.uri_ops.specs.Models.Unchanged.{IsUnchangedPort};

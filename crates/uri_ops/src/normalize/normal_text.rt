@@ -1,13 +1,7 @@
 //! The normal text of a value (RFC 3986, section 6.2.2; RFC 3987, section 5.3.2).
 ghost use Rattle.std.specs.Prelude.{◌≡◌, ◌+◌, ◌<◌, ◌∷◌, ℕ, List, Option, [], IfOk, OnOk, codes, is_some, length, option_map, string_bytes, true};
-ghost use Rattle.uri_pct.specs.Delimiters.{slash};
-ghost use Rattle.uri_pct.specs.EncodedTexts.{text_of};
-ghost use Rattle.uri_pct.specs.Texts.{Pushes};
-ghost use Rattle.uri_parts.specs.Components.{marked};
-ghost use Rattle.uri_parts.specs.CoreTexts.{core_text};
-ghost use Rattle.uri_parts.specs.Grammar.{Kind};
-ghost use Rattle.uri_parts.specs.PackedPositions.{ArePackedPositionsOf};
-ghost use Rattle.uri_parts.specs.Schemes.{scheme_text};
+ghost use Rattle.uri_pct.specs.Prelude.{Pushes, slash, text_of};
+ghost use Rattle.uri_parts.specs.Prelude.{ArePackedPositionsOf, Kind, core_text, marked, scheme_text};
 ghost use Rattle.uri_ops.specs.ComponentSets.{HasComponentSets, IsComponentSet};
 ghost use Rattle.uri_ops.specs.Dots.{underflows};
 ghost use Rattle.uri_ops.specs.Normal.{normal_part, normal_scheme, normal_path_text, path_underflows};

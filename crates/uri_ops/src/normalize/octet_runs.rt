@@ -2,9 +2,7 @@
 //! 6.2.2.2).
 ghost use Rattle.std.specs.Prelude.{◌≡◌, ◌≤◌, ◌+◌, ◌*◌, ◌++◌, IfOk, drop, length, string_bytes, take};
 ghost use Rattle.std.specs.Str.{IsAscii, IsCharBoundary};
-ghost use Rattle.uri_pct.specs.Chunks.{widest_set};
-ghost use Rattle.uri_pct.specs.Sets.{TableSet};
-ghost use Rattle.uri_pct.specs.Tokens.{IsValidFor};
+ghost use Rattle.uri_pct.specs.Prelude.{IsValidFor, TableSet, widest_set};
 ghost use Rattle.uri_ops.specs.Models.Decodings.{decoded_text};
 
 use crate::normalize::literal_runs::push_short_str;

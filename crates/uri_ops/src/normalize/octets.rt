@@ -2,12 +2,7 @@
 ghost use Rattle.std.specs.Prelude.{◌≡◌, ◌<◌, ◌&&◌, ◌∷◌, ◌+◌, ◌*◌, ℕ, [], Bool, IsTrue, MatchOption, OnOk, drop, false, if◌then◌else◌, length, nat_lt, slice_index, true};
 ghost use Rattle.std.specs.Char.{digit_value, is_ascii_hexdigit};
 ghost use Rattle.std.specs.Str.{IsCharBoundary};
-ghost use Rattle.uri_pct.specs.Chunks.{widest_set};
-ghost use Rattle.uri_pct.specs.DecodeUnreserved.{decode_octet};
-ghost use Rattle.uri_pct.specs.Delimiters.{percent_sign};
-ghost use Rattle.uri_pct.specs.Sets.{is_unreserved};
-ghost use Rattle.uri_pct.specs.Tokens.{IsValidFor, Octet, print};
-ghost use Rattle.uri_pct.specs.Texts.{Pushes};
+ghost use Rattle.uri_pct.specs.Prelude.{IsValidFor, Octet, Pushes, decode_octet, is_unreserved, percent_sign, print, widest_set};
 ghost use Rattle.uri_ops.specs.Models.Decodings.{IsOctetAt, lowered_if, lowered_code_if};
 ghost use Rattle.uri_ops.specs.declared.normalize.octets.TheConstants.{LOWERED_CODES, UNRESERVED_CODES};
 

@@ -1,10 +1,7 @@
 //! Copies of texts that are normal but for what the rules of their scheme change (RFC 3986, section
 //! 6.2.3).
 ghost use Rattle.std.specs.Prelude.{◌≡◌, IfOk, Some, [], codes, false, if◌then◌else◌, string_bytes, true};
-ghost use Rattle.uri_parts.specs.Components.{components, recompose};
-ghost use Rattle.uri_parts.specs.CoreTexts.{core_text};
-ghost use Rattle.uri_parts.specs.PackedPositions.{ArePackedPositionsOf, packed};
-ghost use Rattle.uri_parts.specs.Positions.{positions_of};
+ghost use Rattle.uri_parts.specs.Prelude.{ArePackedPositionsOf, components, core_text, packed, positions_of, recompose};
 ghost use Rattle.uri_ops.specs.ComponentSets.{HasComponentSets};
 ghost use Rattle.uri_ops.specs.Models.Places.{before_path};
 ghost use Rattle.uri_ops.specs.Models.RuledComponents.{changed_components, has_default_host, has_root_path};

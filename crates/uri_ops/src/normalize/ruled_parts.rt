@@ -2,11 +2,7 @@
 //! 6.2.3).
 ghost use Rattle.std.specs.Prelude.{◌≡◌, ◌&&◌, option_map};
 ghost use Rattle.uri_pct.specs.EncodedTexts.{text_of};
-ghost use Rattle.uri_parts.specs.AuthorityTexts.{authority_text};
-ghost use Rattle.uri_parts.specs.Components.{components};
-ghost use Rattle.uri_parts.specs.CoreTexts.{core_text};
-ghost use Rattle.uri_parts.specs.Grammar.{Kind};
-ghost use Rattle.uri_parts.specs.Schemes.{scheme_text};
+ghost use Rattle.uri_parts.specs.Prelude.{Kind, authority_text, components, core_text, scheme_text};
 ghost use Rattle.uri_ops.specs.ComponentSets.{HasComponentSets};
 ghost use Rattle.uri_ops.specs.Meaning.{authority_meaning};
 ghost use Rattle.uri_ops.specs.Models.RuledComponents.{has_default_host, has_root_path, ruled_components};

@@ -2,10 +2,7 @@
 ghost use Rattle.std.specs.Prelude.{◌≡◌, ◌+◌, ◌*◌, ◌≤◌, ◌++◌, ◌∷◌, [], Bool, IsTrue, drop, false, length, string_bytes, take, true, vec_capacity, vec_len};
 ghost use Rattle.std.specs.Char.{digit_value, is_ascii_hexdigit};
 ghost use Rattle.std.specs.Str.{IsAscii, IsCharBoundary};
-ghost use Rattle.uri_pct.specs.Chunks.{widest_set};
-ghost use Rattle.uri_pct.specs.DecodeUnreserved.{LacksPastAscii, decode_octet};
-ghost use Rattle.uri_pct.specs.Sets.{TableSet, is_unreserved};
-ghost use Rattle.uri_pct.specs.Tokens.{IsValidFor, Octet, print};
+ghost use Rattle.uri_pct.specs.Prelude.{IsValidFor, LacksPastAscii, Octet, TableSet, decode_octet, is_unreserved, print, widest_set};
 ghost use Rattle.uri_ops.specs.Models.Decodings.{decoded_text, lowered_if};
 
 use crate::normalize::literal_runs::lowered_code_if;

@@ -3,11 +3,8 @@ ghost use Rattle.std.specs.Prelude.{◌≡◌, ◌↔◌, ◌≤◌, ◌<◌, �
 ghost use Rattle.std.specs.Char.{is_ascii_uppercase};
 ghost use Rattle.std.specs.List.{list_all};
 ghost use Rattle.std.specs.Str.{str_to_ascii_lowercase};
-ghost use Rattle.uri_pct.specs.Delimiters.{left_bracket};
-ghost use Rattle.uri_pct.specs.Sets.{TableSet, is_one_of};
-ghost use Rattle.uri_parts.specs.Hosts.{host_kind, is_host};
-ghost use Rattle.uri_parts.specs.Components.{starts};
-ghost use Rattle.uri_parts.specs.CoreTexts.{core_text};
+ghost use Rattle.uri_pct.specs.Prelude.{TableSet, is_one_of, left_bracket};
+ghost use Rattle.uri_parts.specs.Prelude.{core_text, host_kind, is_host, starts};
 ghost use Rattle.uri_ops.specs.Models.Unchanged.{IsUnchangedHost, IsUnchangedPrefix, KindLacksPastAscii, is_literal_byte, is_unchanged_host_byte};
 ghost use Rattle.uri_ops.specs.Meaning.{host_meaning, meaning_of};
 ghost use Rattle.uri_ops.specs.Normal.{host_text, normal_text};

@@ -1,10 +1,7 @@
 //! The last token of a component, as normalising decodes it (RFC 3986, section 6.2.2.2; RFC 3987,
 //! section 5.3.2.3).
 ghost use Rattle.std.specs.Prelude.{◌≡◌, ◌≢◌, ◌+◌, ◌≤◌, ◌<◌, ◌∷◌, ℕ, [], IfSome, MatchOption, false, length, slice_index, true};
-ghost use Rattle.uri_pct.specs.Chunks.{widest_set};
-ghost use Rattle.uri_pct.specs.Delimiters.{percent_sign};
-ghost use Rattle.uri_pct.specs.Tables.{set_of};
-ghost use Rattle.uri_pct.specs.Tokens.{Char, Octet, tokens, IsValidFor};
+ghost use Rattle.uri_pct.specs.Prelude.{Char, IsValidFor, Octet, percent_sign, set_of, tokens, widest_set};
 ghost use Rattle.uri_ops.specs.FromEnd.LastTokens.{AreDecodable, AreNoDecodable, EndInNoOctet, EndsIn, EndsInDecodable, IsAsciiSuffix, LacksPercentThird, TokensEndInNoDecodable};
 
 use std::str;

@@ -2,12 +2,7 @@
 //! section 5.3.2).
 ghost use Rattle.std.specs.Prelude.{◌≡◌, ◌≤◌, [], codes, option_map, take, true};
 ghost use Rattle.uri_pct.specs.EncodedTexts.{text_of};
-ghost use Rattle.uri_parts.specs.Authority.{authority_parts};
-ghost use Rattle.uri_parts.specs.AuthorityTexts.{authority_text};
-ghost use Rattle.uri_parts.specs.Components.{marked};
-ghost use Rattle.uri_parts.specs.Grammar.{Kind};
-ghost use Rattle.uri_parts.specs.Hosts.{host_kind};
-ghost use Rattle.uri_parts.specs.Schemes.{scheme_text};
+ghost use Rattle.uri_parts.specs.Prelude.{Kind, authority_parts, authority_text, host_kind, marked, scheme_text};
 ghost use Rattle.uri_ops.specs.Meaning.{host_meaning, port_meaning};
 ghost use Rattle.uri_ops.specs.Normal.{default_port_of, host_text, normal_part, normal_authority_with_delimiter};
 ghost use Rattle.uri_ops.specs.FromEnd.Addresses.{ipv6_host_of, ipv6_host_text};

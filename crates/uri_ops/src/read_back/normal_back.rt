@@ -2,10 +2,7 @@
 //! 5.3.2).
 ghost use Rattle.std.specs.Prelude.{◌≡◌, [], codes, option_map};
 ghost use Rattle.uri_pct.specs.EncodedTexts.{text_of};
-ghost use Rattle.uri_parts.specs.AuthorityTexts.{authority_text};
-ghost use Rattle.uri_parts.specs.Components.{components, marked};
-ghost use Rattle.uri_parts.specs.CoreTexts.{core_text};
-ghost use Rattle.uri_parts.specs.Schemes.{scheme_text};
+ghost use Rattle.uri_parts.specs.Prelude.{authority_text, components, core_text, marked, scheme_text};
 ghost use Rattle.uri_ops.specs.ComponentSets.{HasComponentSets};
 ghost use Rattle.uri_ops.specs.Meaning.{components_meaning};
 ghost use Rattle.uri_ops.specs.Normal.{normal_scheme, normal_text};

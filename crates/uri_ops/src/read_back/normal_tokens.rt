@@ -1,10 +1,7 @@
 //! The normal text of the last token of a component (RFC 3986, sections 6.2.2.1 and 6.2.2.2; RFC
 //! 3987, sections 4.1 and 5.3.2.3).
 ghost use Rattle.std.specs.Prelude.{◌≡◌, ◌<◌, ◌++◌, ◌∷◌, [], length};
-ghost use Rattle.uri_pct.specs.Chunks.{widest_set};
-ghost use Rattle.uri_pct.specs.DecodeUnreserved.{decode_octet, formatting_as_octets, is_never_literal};
-ghost use Rattle.uri_pct.specs.Tables.{set_of};
-ghost use Rattle.uri_pct.specs.Tokens.{Char, Octet, print, IsValidFor};
+ghost use Rattle.uri_pct.specs.Prelude.{Char, IsValidFor, Octet, decode_octet, formatting_as_octets, is_never_literal, print, set_of, widest_set};
 ghost use Rattle.uri_ops.specs.Models.Decodings.{lowered_if};
 ghost use Rattle.uri_ops.specs.FromEnd.Held.{held_text};
 ghost use Rattle.uri_ops.specs.FromEnd.NormalComponents.{normal_component};

@@ -1,9 +1,7 @@
 //! A component of a normal text, read from its end (RFC 3986, section 6.2.2.2; RFC 3987, sections
 //! 4.1 and 5.3.2.3).
 ghost use Rattle.std.specs.Prelude.{◌≡◌, ◌≤◌, ◌<◌, ◌++◌, ◌∷◌, [], IfSome, None, drop, length};
-ghost use Rattle.uri_pct.specs.Chunks.{widest_set};
-ghost use Rattle.uri_pct.specs.Tables.{set_of};
-ghost use Rattle.uri_pct.specs.Tokens.{IsValidFor};
+ghost use Rattle.uri_pct.specs.Prelude.{IsValidFor, set_of, widest_set};
 
 use crate::normalize::literal_runs::lowered_code_if;
 use crate::read_back::held::Held;

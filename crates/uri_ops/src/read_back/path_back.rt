@@ -1,9 +1,7 @@
 //! The path of a normal form, read from its end (RFC 3986, sections 6.2.2.2 and 6.2.2.3).
 ghost use Rattle.std.specs.Prelude.{◌≡◌, [], false, true, if◌then◌else◌};
 ghost use Rattle.std.specs.Str.{is_utf8};
-ghost use Rattle.uri_pct.specs.Chunks.{widest_set};
-ghost use Rattle.uri_pct.specs.Tables.{set_of};
-ghost use Rattle.uri_pct.specs.Tokens.{IsValidFor};
+ghost use Rattle.uri_pct.specs.Prelude.{IsValidFor, set_of, widest_set};
 ghost use Rattle.uri_ops.specs.Dots.{IsAbsolute, remove_dot_segments};
 ghost use Rattle.uri_ops.specs.FromEnd.NormalComponents.{normal_component};
 ghost use Rattle.uri_ops.specs.FromEnd.SegmentsLeft.{is_abempty_path, segments_left};

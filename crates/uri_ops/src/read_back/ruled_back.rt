@@ -1,9 +1,7 @@
 //! The normal text of a value under the rules of its scheme, read from its end (RFC 3986, section
 //! 6.2.3).
 ghost use Rattle.std.specs.Prelude.{◌≡◌, ◌↔◌, option_map, true};
-ghost use Rattle.uri_parts.specs.AuthorityTexts.{authority_text};
-ghost use Rattle.uri_parts.specs.Components.{components};
-ghost use Rattle.uri_parts.specs.CoreTexts.{core_text};
+ghost use Rattle.uri_parts.specs.Prelude.{authority_text, components, core_text};
 ghost use Rattle.uri_ops.specs.FromEnd.Addresses.{ipv6_host_of};
 ghost use Rattle.uri_ops.specs.Models.RuledComponents.{ruled_components};
 ghost use Rattle.uri_ops.specs.Normal.{normal_text};

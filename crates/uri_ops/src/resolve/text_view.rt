@@ -2,11 +2,7 @@
 //! 3986, section 5.3).
 ghost use Rattle.std.specs.Prelude.{◌≡◌, ◌≤◌, ◌+◌, ◌++◌, ℕ, List, [], codes, length, Some, None, is_some, option_map};
 ghost use Rattle.std.specs.Str.{IsUtf8};
-ghost use Rattle.uri_parts.specs.Components.{components, marked};
-ghost use Rattle.uri_parts.specs.CoreTexts.{core_text};
-ghost use Rattle.uri_parts.specs.Grammar.{IsOfKind};
-ghost use Rattle.uri_parts.specs.PackedPositions.{ArePackedPositionsOf, packed};
-ghost use Rattle.uri_parts.specs.Positions.{ArePositionsOf, authority_at, host_end_of, positions_of};
+ghost use Rattle.uri_parts.specs.Prelude.{ArePackedPositionsOf, ArePositionsOf, IsOfKind, authority_at, components, core_text, host_end_of, marked, packed, positions_of};
 
 use crate::traits::RiMaybeRef;
 use uri_parts::core_text::Core;

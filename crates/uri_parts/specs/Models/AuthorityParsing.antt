@@ -1,13 +1,11 @@
 -- What the parser takes of an authority, as functions of the text that is left: RFC 3986, section
 -- 3.2.
 use Rattle.std.specs.Prelude.{ℕ, ◌+◌, Bool, true, List, [], ◌∷◌, drop, codes, if◌then◌else◌}
-use Rattle.uri_pct.specs.Sets.{digit_set, is_one_of}
-use Rattle.uri_pct.specs.Prefixes.{valid_prefix, after}
+use Rattle.uri_pct.specs.Prelude.{after, at_sign, colon, digit_set, is_one_of, left_bracket, valid_prefix}
 use Rattle.uri_parts.specs.Components.{starts}
 use Rattle.uri_parts.specs.Grammar.{Kind}
 use Rattle.uri_parts.specs.Models.Literals.{literal_length}
 use Rattle.uri_parts.specs.declared.positions.AuthorityPositions.{AuthorityPositions}
-use Rattle.uri_pct.specs.Delimiters.{at_sign, colon, left_bracket}
 
 -- the text begins with one of the characters marks, or is empty
 unfoldable pub is_empty_or_begins_with_any : List ℕ → List ℕ → Bool

@@ -1,8 +1,7 @@
 -- Why the parser rejects a text, on the way that it goes: no RFC has this.
 use Rattle.std.specs.Prelude.{ℕ, ◌+◌, ◌&&◌, ◌==◌, nat_lt, List, drop, codes, slice_index, Some, if◌then◌else◌}
 use Rattle.std.specs.Char.{is_ascii_alphabetic}
-use Rattle.uri_pct.specs.Sets.{TableSet, scheme_set}
-use Rattle.uri_pct.specs.Delimiters.{at_sign, colon, left_bracket}
+use Rattle.uri_pct.specs.Prelude.{TableSet, at_sign, colon, left_bracket, scheme_set}
 use Rattle.uri_parts.specs.Components.{has_authority}
 use Rattle.uri_parts.specs.Errors.{unexpected}
 use Rattle.uri_parts.specs.LiteralErrors.{literal}

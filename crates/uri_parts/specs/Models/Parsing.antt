@@ -1,14 +1,12 @@
 -- Where the parser finds the components, as functions of the text that is left: RFC 3986, sections
 -- 3 and 4.1.
 use Rattle.std.specs.Prelude.{ℕ, ◌+◌, ◌&&◌, ◌==◌, List, drop, Option, Some, None, if◌then◌else◌}
-use Rattle.uri_pct.specs.Sets.{TableSet, scheme_set}
-use Rattle.uri_pct.specs.Prefixes.{valid_prefix, after}
+use Rattle.uri_pct.specs.Prelude.{TableSet, after, colon, question_mark, scheme_set, valid_prefix}
 use Rattle.uri_parts.specs.Models.AuthorityParsing.{found_authority_length, found_authority}
 use Rattle.uri_parts.specs.Components.{starts, has_authority}
 use Rattle.uri_parts.specs.Grammar.{Kind}
 use Rattle.uri_parts.specs.declared.positions.Positions.{Positions}
 use Rattle.uri_parts.specs.declared.positions.AuthorityPositions.{AuthorityPositions}
-use Rattle.uri_pct.specs.Delimiters.{colon, question_mark}
 
 -- where the query ends if the text rest, which is at the position place, begins with `?`, or `None`
 -- if it does not
