@@ -1,6 +1,7 @@
 //! Builders of the four kinds, and the empty reference (RFC 3986, sections 4.4 and 5.3).
-ghost use Rattle.std.specs.Prelude.{◌≡◌};
+ghost use Rattle.std.specs.Prelude.{◌≡◌, []};
 ghost use Rattle.uri_ops.specs.Prelude.{contents_of, no_parts, parts_in_state};
+ghost use Rattle.fluent_uri.specs.References.{reference_text};
 
 use crate::reference::Reference;
 use crate::roles::RefKind;
@@ -86,9 +87,6 @@ impl Reference<IriRefKind, String> {
 
 #[tactic(auto, using(uri_parts::proofs::TextKinds::KindSets::empty_is_reference))]
 impl<'a, K: RefKind> Default for Reference<K, &'a str> {
-    ghost use Rattle.std.specs.Prelude.{[]};
-    ghost use Rattle.fluent_uri.specs.References.{reference_text};
-
     ghost is_default = { λ value. reference_text value ≡ [] };
 
     /// Returns the empty text, a same-document reference (RFC 3986, section 4.4).

@@ -1,8 +1,12 @@
 //! `Reference`: a text of one of the four kinds (RFC 3986, sections 3 and 4.1; RFC 3987, section
 //! 2.2).
-ghost use Rattle.std.specs.Prelude.{◌≡◌, Some, string_bytes};
+ghost use Rattle.std.specs.Prelude.{◌≡◌, Some, string_bytes, ⊤, refl};
 ghost use Rattle.std.specs.Str.{IsUtf8};
 ghost use Rattle.uri_parts.specs.Grammar.{IsOfKind};
+ghost use Rattle.uri_ops.proofs.Offered.{one-of-four-kinds-has-sets};
+ghost use Rattle.uri_parts.specs.CoreTexts.{core_text};
+ghost use Rattle.fluent_uri.specs.Parses.{Parses, ParsesOwned};
+ghost use Rattle.std.specs.Fmt.{styled_text};
 
 mod borrowed;
 mod owned;
@@ -27,8 +31,6 @@ pub struct Reference<K: Kind, T: AsStr> {
 }
 
 impl<K: Kind, T: AsStr + Copy> Clone for Reference<K, T> {
-    ghost use Rattle.std.specs.Prelude.{⊤};
-
     ghost is_clone = { λ value copy. copy ≡ value };
 
     ghost is_infallible = { λ _. ⊤ };
@@ -44,8 +46,6 @@ impl<K: Kind, T: AsStr + Copy> Clone for Reference<K, T> {
 impl<K: Kind, T: AsStr + Copy> Copy for Reference<K, T> {}
 
 impl<K: Kind, T: AsStr> RiMaybeRef for Reference<K, T> {
-    ghost use Rattle.std.specs.Prelude.{refl};
-    ghost use Rattle.uri_ops.proofs.Offered.{one-of-four-kinds-has-sets};
     ghost use Rattle.fluent_uri.specs.References.{reference_text};
 
     type Owned = Reference<K, String>;
@@ -91,15 +91,12 @@ impl<K: Kind, T: AsStr> RiMaybeRef for Reference<K, T> {
 }
 
 impl<K: Kind, T: AsStr> WithOwned for Reference<K, T> {
-    ghost use Rattle.std.specs.Prelude.{refl};
-
     ghost owned_kind = { refl };
 
     ghost owned_text_is_text = { λ _. refl };
 }
 
 impl<K: Kind, T: AsStr> Reference<K, T> {
-    ghost use Rattle.uri_parts.specs.CoreTexts.{core_text};
     ghost use Rattle.fluent_uri.specs.References.{held_text, reference_text};
 
     /// Returns the reference that has this text and these positions.
@@ -124,7 +121,6 @@ impl<K: Kind, T: AsStr> Reference<K, T> {
 }
 
 impl<'a, K: Kind> TryFrom<&'a str> for Reference<K, &'a str> {
-    ghost use Rattle.fluent_uri.specs.Parses.{Parses};
     ghost use Rattle.fluent_uri.specs.References.{reference_text};
 
     type Error = ParseError;
@@ -138,7 +134,6 @@ impl<'a, K: Kind> TryFrom<&'a str> for Reference<K, &'a str> {
 }
 
 impl<K: Kind> TryFrom<String> for Reference<K, String> {
-    ghost use Rattle.fluent_uri.specs.Parses.{ParsesOwned};
     ghost use Rattle.fluent_uri.specs.References.{reference_text};
 
     type Error = (ParseError, String);
@@ -164,7 +159,6 @@ impl<K: Kind> From<Reference<K, String>> for String {
 }
 
 impl<K: Kind, T: AsStr> fmt::Display for Reference<K, T> {
-    ghost use Rattle.std.specs.Fmt.{styled_text};
     ghost use Rattle.fluent_uri.specs.References.{reference_text};
 
     ghost output = { λ value. Some (reference_text value) };

@@ -2,7 +2,7 @@
 ghost use Rattle.std.specs.Prelude.{◌≡◌, IfOk, IsSomeAnd, is_none, option_map};
 ghost use Rattle.fluent_uri.specs.Prelude.{authority_text, cow_text, iri, iri_ref, reference_text};
 ghost use Rattle.uri_idna.specs.AsciiReferences.{HasAsciiHost, with_ascii_host};
-ghost use Rattle.fluent_uri_c.specs.AsciiHosts.{ascii_host_of_kind, ascii_host_or_error, ascii_host_result, ascii_host_takes_memory, ascii_uri_of_kind, ascii_uri_result, ascii_uri_takes_memory, host_or_empty, takes_memory_for_host, takes_memory_for_host_of_kind};
+ghost use Rattle.fluent_uri_c.specs.AsciiHosts.{ascii_host_of_kind, ascii_host_or_error, ascii_host_result, ascii_host_takes_memory, ascii_uri_of_kind, ascii_uri_result, ascii_uri_takes_memory, host_or_empty, takes_memory_for_host, takes_memory_for_host_of_kind, ascii_host_rejection};
 ghost use Rattle.fluent_uri_c.specs.Outcomes.{LeavesTextOrDenied};
 ghost use Rattle.fluent_uri_c.specs.Results.{IsReturnedOrDenied, text_error};
 ghost use Rattle.fluent_uri_c.specs.Values.{LeavesValueOrDenied};
@@ -19,8 +19,6 @@ use uri_idna::{AsciiHostError, ascii_host, to_uri_with_ascii_host, with_ascii_ho
 use uri_parts::kind::{IriKind, IriRefKind, Kind, UriKind, UriRefKind};
 
 impl From<AsciiHostError> for Rejection {
-    ghost use Rattle.fluent_uri_c.specs.AsciiHosts.{ascii_host_rejection};
-
     ghost from_gives = { λ error why. why ≡ ascii_host_rejection error };
 
     /// Returns the rejection, by a number of the header, for an error of a host.

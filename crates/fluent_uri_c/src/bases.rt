@@ -1,4 +1,6 @@
 //! A base of references, which a batch parses once.
+ghost use Rattle.fluent_uri.specs.References.{reference_text};
+ghost use Rattle.fluent_uri_c.specs.Results.{IsReturnedAs, IsTargetReturned};
 use crate::errors::{Error, Rejection};
 use crate::numbered::{is_basic, prefers_relative_path, rule_set};
 use crate::texts::{self, parsed};
@@ -15,9 +17,7 @@ pub enum Base<'a> {
 }
 
 impl<'a> Base<'a> {
-    ghost use Rattle.fluent_uri.specs.References.{reference_text};
     ghost use Rattle.fluent_uri_c.specs.Bases.{IsBaseOf, normal_target_by, reference_by, target_by};
-    ghost use Rattle.fluent_uri_c.specs.Results.{IsReturnedAs, IsTargetReturned};
 
     /// Parses bytes as a base of the kind with this number of the header.
     pub fn parse(kind: u32, bytes: &'a [u8]) -> Base<'a>

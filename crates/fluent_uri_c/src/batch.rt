@@ -1,7 +1,9 @@
 //! What a batch does with the texts of a column.
-ghost use Rattle.std.specs.Prelude.{◌≡◌, ◌+◌, ◌-◌, ◌*◌, ◌/◌, ◌^◌, ◌<◌, ◌≤◌, ◌++◌, length, drop, take, IfErr, IfOk, None, OnOk, Some, option_map, slice_set};
+ghost use Rattle.std.specs.Prelude.{◌≡◌, ◌+◌, ◌-◌, ◌*◌, ◌/◌, ◌^◌, ◌<◌, ◌≤◌, ◌++◌, length, drop, take, IfErr, IfOk, None, OnOk, Some, option_map, slice_set, IsTrue};
 ghost use Rattle.fluent_uri_c.specs.Columns.{HasDoneTexts, LeavesColumn, SaysFullIfFull, buffers, bytes_of, column_of, call_result_bytes};
 ghost use Rattle.fluent_uri_c.specs.Full.{IsFull, ends_buffer, valid_buffer};
+ghost use Rattle.fluent_uri_c.specs.NormalForms.{normal_form_text};
+ghost use Rattle.fluent_uri_c.specs.SingleCalls.{SingleCall};
 
 use crate::columns::{Offset, is_possible_column, mark, text_at};
 use crate::normal_forms::NormalForm;
@@ -19,8 +21,6 @@ pub enum CallResult<'a> {
 }
 
 impl<'a> CallResult<'a> {
-    ghost use Rattle.fluent_uri_c.specs.NormalForms.{normal_form_text};
-
     /// Returns a normal form as the result of a call.
     pub fn of_normal_form(form: NormalForm<'a>) -> CallResult<'a>
         ensures { call_result_bytes result ≡ normal_form_text form.entry }
@@ -35,9 +35,7 @@ impl<'a> CallResult<'a> {
 /// A call on one text, which a batch makes for each text of a column. One that takes memory has the
 /// allocator, and one that has a base has parsed it, as `is_ready` says.
 pub trait Call {
-    ghost use Rattle.std.specs.Prelude.{◌≡◌, IfErr, IfOk, IsTrue, option_map};
     ghost use Rattle.fluent_uri_c.specs.Columns.{call_result_bytes};
-    ghost use Rattle.fluent_uri_c.specs.SingleCalls.{SingleCall};
 
     ghost definition: { Self → SingleCall };
 

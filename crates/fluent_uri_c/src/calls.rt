@@ -5,6 +5,7 @@ ghost use Rattle.fluent_uri.specs.References.{reference_text};
 ghost use Rattle.fluent_uri_c.specs.Columns.{LeavesColumn, buffers, column32, column64, call_result_bytes};
 ghost use Rattle.fluent_uri_c.specs.Results.{IsReturnedOrDenied, Returned, is_out_of_memory};
 ghost use Rattle.fluent_uri_c.specs.SingleCalls.{converting, normalizing, resolving, resolving_normalized};
+ghost use Rattle.fluent_uri_c.specs.Bases.{IsBaseOf};
 
 use crate::bases::Base;
 use crate::batch::{Call, CallResult, column};
@@ -95,8 +96,6 @@ struct Resolve<'a> {
 }
 
 impl<'b> Call for Resolve<'b> {
-    ghost use Rattle.fluent_uri_c.specs.Bases.{IsBaseOf};
-
     ghost definition = { λ call. resolving call.kind call.options call.bytes.now };
 
     ghost is_ready = { λ call. IsBaseOf call.kind call.bytes.now call.base };
@@ -126,8 +125,6 @@ struct ResolveNormalized<'a> {
 }
 
 impl<'b> Call for ResolveNormalized<'b> {
-    ghost use Rattle.fluent_uri_c.specs.Bases.{IsBaseOf};
-
     ghost definition = { λ call. resolving_normalized call.kind call.options call.bytes.now };
 
     ghost is_ready = { λ call. IsBaseOf call.kind call.bytes.now call.base };

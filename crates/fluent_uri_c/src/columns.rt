@@ -1,5 +1,5 @@
 //! Columns of texts as data and offsets, as data engines hold them.
-ghost use Rattle.std.specs.Prelude.{◌≡◌, ◌≢◌, ◌/◌, ◌<◌, ◌≤◌, length, IfSome, IfNone, option_copied, ℕ, ◌&&◌, nat_lt};
+ghost use Rattle.std.specs.Prelude.{◌≡◌, ◌≢◌, ◌/◌, ◌<◌, ◌≤◌, length, IfSome, IfNone, option_copied, ℕ, ◌&&◌, nat_lt, ◌^◌};
 ghost use Rattle.fluent_uri_c.specs.Columns.{bit_of, number_of_bool, text_at};
 ghost use Rattle.fluent_uri_c.specs.Results.{is_possible_length};
 
@@ -7,8 +7,6 @@ use crate::texts::is_possible_length;
 
 /// An offset of a column: one of 32 bits or of 64.
 pub trait Offset: Copy {
-    ghost use Rattle.std.specs.Prelude.{◌≡◌, ◌<◌, ◌≤◌, ◌^◌, ℕ, IfNone, IfSome};
-
     ghost value: { Self → ℕ };
 
     ghost limit: { ℕ };
@@ -30,8 +28,6 @@ pub trait Offset: Copy {
 }
 
 impl Offset for u32 {
-    ghost use Rattle.std.specs.Prelude.{◌^◌};
-
     ghost value = { λ offset. offset };
 
     ghost limit = { 2 ^ 31 };
@@ -57,8 +53,6 @@ impl Offset for u32 {
 }
 
 impl Offset for u64 {
-    ghost use Rattle.std.specs.Prelude.{◌^◌};
-
     ghost value = { λ offset. offset };
 
     ghost limit = { 2 ^ 63 };

@@ -9,6 +9,7 @@ ghost use Rattle.fluent_uri_c.specs.Relatives.{relativize_result};
 ghost use Rattle.fluent_uri_c.specs.Results.{if_possible_lengths};
 ghost use Rattle.fluent_uri_c.specs.SingleCalls.{relativizing};
 ghost use Rattle.fluent_uri_c.specs.Values.{LeavesValue};
+ghost use Rattle.fluent_uri_c.specs.Bases.{IsBaseOf};
 
 use crate::bases::Base;
 use crate::batch::{Call, CallResult, column};
@@ -83,8 +84,6 @@ struct Relativize<'a> {
 }
 
 impl<'b> Call for Relativize<'b> {
-    ghost use Rattle.fluent_uri_c.specs.Bases.{IsBaseOf};
-
     ghost definition = { λ call. relativizing call.kind call.options call.bytes.now };
 
     ghost is_ready = { λ call. IsBaseOf call.kind call.bytes.now call.base };

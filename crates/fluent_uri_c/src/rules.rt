@@ -1,11 +1,13 @@
 //! The rules of the components of a reference (RFC 3986, section 3): which bytes are one.
-ghost use Rattle.std.specs.Prelude.{◌≡◌, ◌&&◌, ◌||◌, IfOk, IfSome, drop, is_some, length, nat_lt, slice_index, true};
+ghost use Rattle.std.specs.Prelude.{◌≡◌, ◌&&◌, ◌||◌, IfOk, IfSome, drop, is_some, length, nat_lt, slice_index, true, ℕ, Bool, List, Option};
 ghost use Rattle.std.specs.Char.{is_ascii_alphabetic};
 ghost use Rattle.std.specs.Result.{result_err};
-ghost use Rattle.uri_ops.specs.BuilderParts.{is_text_for};
+ghost use Rattle.uri_ops.specs.BuilderParts.{is_text_for, is_scheme_text};
 ghost use Rattle.uri_parts.specs.Prelude.{ipv6_value, is_future_address, is_host, is_ipv_future, is_next, starts};
 ghost use Rattle.uri_pct.specs.Prelude.{LacksPercent, TableSet, hexdig_set, is_valid_for, left_bracket, percent_sign, scheme_set, set_of};
 ghost use Rattle.fluent_uri_c.specs.Results.{component_error};
+ghost use Rattle.fluent_uri_c.specs.declared.errors.Rejection.{Rejection};
+ghost use Rattle.fluent_uri_c.specs.Building.{scheme_error, host_error, is_host_text};
 
 use crate::errors::{Error, Rejection};
 use crate::texts::utf8_text;
@@ -17,10 +19,6 @@ use uri_pct::table::{HEXDIG, IPV_FUTURE, SCHEME, Table};
 
 /// The rule of a component.
 pub trait Rule {
-    ghost use Rattle.std.specs.Prelude.{◌≡◌, ℕ, Bool, List, Option, IfOk, true};
-    ghost use Rattle.std.specs.Result.{result_err};
-    ghost use Rattle.fluent_uri_c.specs.declared.errors.Rejection.{Rejection};
-
     ghost error: { List ℕ → Option Rejection };
 
     ghost test: { List ℕ → Bool };
@@ -73,9 +71,6 @@ pub fn read_characters<'a>(table: &Table, bytes: &'a [u8]) -> Result<&'a str, Re
 }
 
 impl<E: Encoder> Rule for Characters<E> {
-    ghost use Rattle.uri_ops.specs.BuilderParts.{is_text_for};
-    ghost use Rattle.fluent_uri_c.specs.Results.{component_error};
-
     ghost error = { component_error E.set };
 
     ghost test = { is_text_for E.set };
@@ -108,9 +103,6 @@ fn begins_with_letter(bytes: &[u8]) -> bool
 pub struct SchemeRule;
 
 impl Rule for SchemeRule {
-    ghost use Rattle.uri_ops.specs.BuilderParts.{is_scheme_text};
-    ghost use Rattle.fluent_uri_c.specs.Building.{scheme_error};
-
     ghost error = { scheme_error };
 
     ghost test = { is_scheme_text };
@@ -204,8 +196,6 @@ pub struct HostRule<E: Encoder> {
 }
 
 impl<E: Encoder> Rule for HostRule<E> {
-    ghost use Rattle.fluent_uri_c.specs.Building.{host_error, is_host_text};
-
     ghost error = { host_error E.set };
 
     ghost test = { is_host_text E.set };

@@ -39,7 +39,6 @@ pub enum Misprint {
 }
 
 impl From<AllocError> for Misprint {
-    ghost use Rattle.std.specs.Prelude.{◌≡◌};
     ghost use Rattle.integration_tests.specs.declared.comparison.Misprint.TheVariants.{OutOfMemory};
 
     ghost from_gives = { λ _ misprint. misprint ≡ OutOfMemory };

@@ -1,4 +1,9 @@
 //! Rules of schemes that a row gives.
+ghost use Rattle.std.specs.Prelude.{◌==◌, Some, None, true, if◌then◌else◌};
+ghost use Rattle.std.specs.Cmp.Lexicographic.{pointwise};
+ghost use Rattle.std.specs.Option.{option_map_or};
+ghost use Rattle.fluent_uri.specs.Prelude.{lowered_scheme, only_ports};
+ghost use Rattle.fluent_uri.specs.SchemeRules.{rules_with};
 
 use fluent_uri::component::Scheme;
 use fluent_uri::normalize::SchemeRules;
@@ -11,11 +16,6 @@ pub(crate) struct RowPort<'a> {
 }
 
 impl SchemeRules for RowPort<'_> {
-    ghost use Rattle.std.specs.Prelude.{◌==◌, Some, None, true, if◌then◌else◌};
-    ghost use Rattle.std.specs.Cmp.Lexicographic.{pointwise};
-    ghost use Rattle.std.specs.Option.{option_map_or};
-    ghost use Rattle.fluent_uri.specs.Prelude.{lowered_scheme, only_ports};
-
     ghost rules_of = { λ row. only_ports (λ scheme.
         if option_map_or (λ one. pointwise ◌==◌ (lowered_scheme one) scheme) row.scheme true
         then Some row.port else None) };
@@ -45,9 +45,6 @@ impl SchemeRules for RowPort<'_> {
 pub(crate) struct EveryScheme;
 
 impl SchemeRules for EveryScheme {
-    ghost use Rattle.std.specs.Prelude.{true, None};
-    ghost use Rattle.fluent_uri.specs.SchemeRules.{rules_with};
-
     ghost rules_of = { λ _. rules_with (λ _. None) (λ _. true) (λ _. true) };
 
     /// Returns `None`.

@@ -3,6 +3,7 @@ ghost use Rattle.std.specs.Prelude.{◌≡◌, ◌||◌, IsTrue, not, option_map
 ghost use Rattle.std.specs.Io.KnownBytes.{Appends};
 ghost use Rattle.uri_commands.specs.Lines.{line, optional_line, component_lines};
 ghost use Rattle.uri_commands.specs.Texts.{components_in};
+ghost use Rattle.fluent_uri.specs.Prelude.{components, iri_ref_text};
 
 use crate::sink::{Sink, put_both};
 use fluent_uri::IriRef;
@@ -21,8 +22,6 @@ pub struct Texts<'a> {
 }
 
 impl<'a> From<IriRef<&'a str>> for Texts<'a> {
-    ghost use Rattle.std.specs.Prelude.{◌≡◌};
-    ghost use Rattle.fluent_uri.specs.Prelude.{components, iri_ref_text};
     ghost use Rattle.uri_commands.specs.Texts.{components_in};
 
     ghost from_gives = { λ reference texts.

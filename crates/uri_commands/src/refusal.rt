@@ -1,5 +1,5 @@
 //! Why a command fails, and the line that says so.
-ghost use Rattle.std.specs.Prelude.{◌≡◌, ◌||◌, ◌++◌, IsTrue, codes, not};
+ghost use Rattle.std.specs.Prelude.{◌≡◌, ◌||◌, ◌++◌, IsTrue, codes, not, Some};
 ghost use Rattle.std.specs.Io.KnownBytes.{Appends};
 ghost use Rattle.uri_commands.specs.Prefixes.{AppendsPrefix};
 ghost use Rattle.uri_commands.specs.Messages.{error_kind_text, error_text, index_text, message_text, resolve_error_text};
@@ -135,7 +135,6 @@ fn put_index<E: io::Write>(err: &mut Sink<E>, index: usize) -> bool
 
 /// Prints the text of the error, without `error: ` before it.
 impl Display for CommandError {
-    ghost use Rattle.std.specs.Prelude.{Some};
     ghost use Rattle.uri_commands.specs.Refusals.{command_error_text};
 
     ghost output = { λ why. Some (command_error_text why) };
@@ -182,7 +181,6 @@ pub(crate) fn resolve_message(error: ResolveError) -> &'static str
 }
 
 impl From<ParseError> for CommandError {
-    ghost use Rattle.std.specs.Prelude.{◌≡◌};
     ghost use Rattle.uri_commands.specs.declared.refusal.CommandError.TheVariants.{Text};
 
     ghost from_gives = { λ error refusal. refusal ≡ Text error };
@@ -194,7 +192,6 @@ impl From<ParseError> for CommandError {
 }
 
 impl From<AllocError> for CommandError {
-    ghost use Rattle.std.specs.Prelude.{◌≡◌};
     ghost use Rattle.uri_commands.specs.declared.refusal.CommandError.TheVariants.{OutOfMemory};
 
     ghost from_gives = { λ _ refusal. refusal ≡ OutOfMemory };
@@ -206,7 +203,6 @@ impl From<AllocError> for CommandError {
 }
 
 impl From<ResolveError> for CommandError {
-    ghost use Rattle.std.specs.Prelude.{◌≡◌};
     ghost use Rattle.uri_commands.specs.declared.refusal.CommandError.TheVariants.{Target};
 
     ghost from_gives = { λ error refusal. refusal ≡ Target error };

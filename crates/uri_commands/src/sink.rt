@@ -9,9 +9,6 @@ use std::io::{self, ErrorKind, Write};
 
 /// A writer of which contracts know the last call. Each writer is one.
 pub trait Traced: Write {
-    ghost use Rattle.std.specs.Prelude.{None, Option};
-    ghost use Rattle.uri_commands.specs.Sinks.{Call};
-
     /// The last call, with what it returned, if it is known.
     ghost last_call: { Self → Option Call } = { λ _. None };
 

@@ -55,7 +55,6 @@ pub enum NormalizeError {
 }
 
 impl From<AllocError> for NormalizeError {
-    ghost use Rattle.uri_ops.specs.SchemeRules.{default_rules};
     ghost use Rattle.uri_ops.specs.declared.normalize.NormalizeError.TheVariants.{OutOfMemory};
 
     ghost from_gives = { λ _ error. error ≡ OutOfMemory };

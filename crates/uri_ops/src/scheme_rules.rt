@@ -2,6 +2,9 @@
 ghost use Rattle.std.specs.Prelude.{◌≡◌};
 ghost use Rattle.std.specs.List.{list_any};
 ghost use Rattle.std.specs.Str.{str_eq_ignore_ascii_case};
+ghost use Rattle.uri_parts.specs.Schemes.{lowered_scheme};
+ghost use Rattle.uri_ops.specs.SchemeRules.{Rules, default_rules};
+ghost use Rattle.uri_ops.specs.StandardRules.{standard_rules};
 
 use uri_parts::component::Scheme;
 
@@ -14,10 +17,6 @@ use uri_parts::component::Scheme;
 /// With `DefaultPorts`, `http://a:80` is normalised to `http://a`. With `StandardRules` it is
 /// normalised to `http://a/`, and `file://localhost/a` to `file:///a`.
 pub trait SchemeRules: Drop {
-    ghost use Rattle.std.specs.Prelude.{◌≡◌};
-    ghost use Rattle.uri_parts.specs.Schemes.{lowered_scheme};
-    ghost use Rattle.uri_ops.specs.SchemeRules.{Rules};
-
     ghost rules_of: { Self → Rules };
 
     /// Returns the default port of the scheme, if it has one.
@@ -47,8 +46,6 @@ pub trait SchemeRules: Drop {
 pub struct DefaultPorts;
 
 impl SchemeRules for DefaultPorts {
-    ghost use Rattle.uri_ops.specs.SchemeRules.{default_rules};
-
     ghost rules_of = { λ _. default_rules };
 
     /// Returns the port that `Scheme::default_port` returns.
@@ -108,8 +105,6 @@ fn is_one_of(text: &str, list: &[&str]) -> bool
 }
 
 impl SchemeRules for StandardRules {
-    ghost use Rattle.uri_ops.specs.StandardRules.{standard_rules};
-
     ghost rules_of = { λ _. standard_rules };
 
     /// Returns the port that `Scheme::default_port` returns.

@@ -1,6 +1,8 @@
 //! What the four kinds have in common.
-ghost use Rattle.std.specs.Prelude.{◌≡◌, false, option_map, string_bytes};
-ghost use Rattle.uri_parts.specs.Prelude.{ArePackedPositionsOf, IsOfKind, core_text};
+ghost use Rattle.std.specs.Prelude.{◌≡◌, false, option_map, string_bytes, ℕ, List, true};
+ghost use Rattle.uri_parts.specs.Prelude.{ArePackedPositionsOf, IsOfKind, core_text, authority_text, components, scheme_text};
+ghost use Rattle.uri_ops.specs.ComponentSets.{HasComponentSets};
+ghost use Rattle.uri_pct.specs.EncodedTexts.{text_of};
 
 use uri_parts::component::{Authority, Scheme};
 use uri_parts::core_text::Core;
@@ -16,12 +18,7 @@ use uri_pct::pct_enc::EStr;
 ///
 /// A function over `R: RiMaybeRef` takes a `Uri<&str>` as well as an `IriRef<String>`.
 pub trait RiMaybeRef {
-    ghost use Rattle.std.specs.Prelude.{ℕ, List};
     ghost use Rattle.uri_parts.specs.Grammar as grammar;
-    ghost use Rattle.uri_ops.specs.ComponentSets.{HasComponentSets};
-    ghost use Rattle.uri_pct.specs.EncodedTexts.{text_of};
-    ghost use Rattle.uri_parts.specs.Prelude.{authority_text, components, scheme_text};
-
     /// The kind over a text of its own.
     type Owned: Drop;
 
@@ -153,8 +150,6 @@ where
 ///
 /// `Uri<&str>` and `Iri<String>` are such kinds, and `UriRef<&str>` is none.
 pub trait Ri: RiMaybeRef {
-    ghost use Rattle.std.specs.Prelude.{true};
-
     ghost needs_scheme: { Self.kind.needs_scheme ≡ true };
 }
 
@@ -162,8 +157,6 @@ pub trait Ri: RiMaybeRef {
 ///
 /// `UriRef<&str>` is resolved against `Uri<String>`, and `IriRef<&str>` is not.
 pub trait RefOf<B: Ri>: RiMaybeRef {
-    ghost use Rattle.std.specs.Prelude.{false};
-
     ghost same_tables: { Self.kind ≡ record B.kind { needs_scheme = false } };
 }
 

@@ -1,8 +1,10 @@
 //! The components of a reference that are more than percent-encoded texts.
-ghost use Rattle.std.specs.Prelude.{◌≡◌, [], is_some, option_map, true};
+ghost use Rattle.std.specs.Prelude.{◌≡◌, [], is_some, option_map, true, ⊤, Some};
 ghost use Rattle.uri_parts.specs.Authority.{authority_parts, is_authority_for};
 ghost use Rattle.uri_parts.specs.Hosts.{host_kind};
 ghost use Rattle.uri_parts.specs.Positions.{host_start_of, host_end_of};
+ghost use Rattle.uri_pct.specs.EncodedTexts.{text_of};
+ghost use Rattle.std.specs.Fmt.{styled_text};
 
 pub use crate::connect::{SocketError, SocketTarget};
 use crate::net::{Ipv4Addr, Ipv6Addr};
@@ -30,8 +32,6 @@ pub struct Authority<'a, U: Encoder = Userinfo, R: Encoder = RegName> {
 }
 
 impl<'a, U: Encoder, R: Encoder> Clone for Authority<'a, U, R> {
-    ghost use Rattle.std.specs.Prelude.{⊤};
-
     ghost is_clone = { λ value copy. copy ≡ value };
 
     ghost is_infallible = { λ _. ⊤ };
@@ -45,7 +45,6 @@ impl<'a, U: Encoder, R: Encoder> Clone for Authority<'a, U, R> {
 impl<'a, U: Encoder, R: Encoder> Copy for Authority<'a, U, R> {}
 
 impl<'a, U: Encoder, R: Encoder> Authority<'a, U, R> {
-    ghost use Rattle.uri_pct.specs.EncodedTexts.{text_of};
     ghost use Rattle.uri_parts.specs.AuthorityTexts.{authority_text, host_kind_of, HasRegisteredName};
 
     /// Returns the text as an authority whose host is at these positions, which the caller knows to
@@ -180,8 +179,6 @@ impl<'a, U: Encoder, R: Encoder> Authority<'a, U, R> {
 }
 
 impl<'a, U: Encoder, R: Encoder> fmt::Display for Authority<'a, U, R> {
-    ghost use Rattle.std.specs.Prelude.{Some};
-    ghost use Rattle.std.specs.Fmt.{styled_text};
     ghost use Rattle.uri_parts.specs.AuthorityTexts.{authority_text};
 
     ghost output = { λ a. Some (authority_text a) };

@@ -6,6 +6,7 @@ ghost use Rattle.uri_parts.specs.Connecting.{IsTargetResultFor, IsBorrowedTarget
 ghost use Rattle.uri_parts.specs.Hosts.{host_kind};
 ghost use Rattle.uri_parts.specs.Ports.{port_number, FitsPort};
 ghost use Rattle.uri_parts.specs.declared.connect.SocketError.TheVariants.{InvalidPort};
+ghost use Rattle.uri_parts.specs.AuthorityTexts.{authority_text};
 
 use crate::component::{Authority, HostOf};
 use crate::net::{Ipv4Addr, Ipv6Addr};
@@ -49,8 +50,6 @@ pub enum SocketError {
 }
 
 impl<'a, U: Encoder, R: Encoder> Authority<'a, U, R> {
-    ghost use Rattle.uri_parts.specs.AuthorityTexts.{authority_text};
-
     /// Returns where to connect to: the host's address or decoded name, and the port. If the port
     /// is absent or empty, it is the given one. No name is looked up. If the host has no `%`, no
     /// memory is taken and the name is `CowStr::Borrowed`.

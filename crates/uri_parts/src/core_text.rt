@@ -1,5 +1,5 @@
 //! A text of a kind with the positions of its components: what every value of a kind holds.
-ghost use Rattle.std.specs.Prelude.{◌≡◌, ◌↔◌, [], IfErr, IfOk, IsOk, MatchResult, None, Some, is_some, option_map, true};
+ghost use Rattle.std.specs.Prelude.{◌≡◌, ◌↔◌, [], IfErr, IfOk, IsOk, MatchResult, None, Some, is_some, option_map, true, ⊤};
 ghost use Rattle.std.specs.Result.{result_err};
 ghost use Rattle.std.specs.Str.{IsUtf8};
 ghost use Rattle.uri_parts.specs.Components.{components};
@@ -9,6 +9,9 @@ ghost use Rattle.uri_parts.specs.Fragments.{IsWithFragment};
 ghost use Rattle.uri_parts.specs.Grammar.{IsOfKind};
 ghost use Rattle.uri_parts.specs.PackedPositions.{ArePackedPositionsOf};
 ghost use Rattle.uri_parts.specs.Positions.{ArePositionsOf};
+ghost use Rattle.uri_pct.specs.EncodedTexts.{text_of};
+ghost use Rattle.uri_parts.specs.Schemes.{scheme_text};
+ghost use Rattle.uri_parts.specs.AuthorityTexts.{authority_text};
 
 mod comparing;
 mod owned;
@@ -48,8 +51,6 @@ pub struct Core<K: Kind, T: AsStr> {
 }
 
 impl<K: Kind, T: AsStr + Copy> Clone for Core<K, T> {
-    ghost use Rattle.std.specs.Prelude.{⊤};
-
     ghost is_clone = { λ value copy. copy ≡ value };
 
     ghost is_infallible = { λ _. ⊤ };
@@ -134,9 +135,6 @@ impl<K: Kind, T: AsStr> Core<K, T> {
 
 #[tactic(auto, using(crate::proofs::TextKinds::ComponentRules::parts_valid))]
 impl<'a, K: Kind> Core<K, &'a str> {
-    ghost use Rattle.uri_pct.specs.EncodedTexts.{text_of};
-    ghost use Rattle.uri_parts.specs.Schemes.{scheme_text};
-    ghost use Rattle.uri_parts.specs.AuthorityTexts.{authority_text};
     ghost use Rattle.uri_parts.specs.CoreTexts.{core_text};
 
     /// Returns the text.

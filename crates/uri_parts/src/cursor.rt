@@ -1,7 +1,13 @@
 //! A position in a text.
-ghost use Rattle.std.specs.Prelude.{◌≡◌, ◌<◌, ◌+◌, ◌==◌, ℕ, Ok, drop, codes, OnOk, IfErr, IfOk, IsTrue, false, if◌then◌else◌};
+ghost use Rattle.std.specs.Prelude.{◌≡◌, ◌<◌, ◌+◌, ◌==◌, ℕ, Ok, drop, codes, OnOk, IfErr, IfOk, IsTrue, false, if◌then◌else◌, ⊤};
 ghost use Rattle.std.specs.Result.{result_err};
 ghost use Rattle.std.specs.Str.{IsCharBoundary};
+ghost use Rattle.uri_pct.specs.Prelude.{after, set_of, valid_prefix};
+ghost use Rattle.uri_parts.specs.Models.AuthorityParsing.{is_empty_or_begins_with_any};
+ghost use Rattle.uri_parts.specs.Components.{starts, has_authority, is_end};
+ghost use Rattle.uri_parts.specs.Errors.{unexpected, IsErrorIn};
+ghost use Rattle.uri_parts.specs.Grammar.{first_segment_set};
+ghost use Rattle.uri_parts.specs.Scanning.{scan};
 
 use crate::error::{ParseError, ParseErrorKind};
 use crate::kind::Kind;
@@ -16,8 +22,6 @@ pub struct Cursor<'a> {
 }
 
 impl<'a> Clone for Cursor<'a> {
-    ghost use Rattle.std.specs.Prelude.{⊤};
-
     ghost is_clone = { λ value copy. copy ≡ value };
 
     ghost is_infallible = { λ _. ⊤ };
@@ -31,12 +35,6 @@ impl<'a> Clone for Cursor<'a> {
 impl<'a> Copy for Cursor<'a> {}
 
 impl<'a> Cursor<'a> {
-    ghost use Rattle.uri_pct.specs.Prelude.{after, set_of, valid_prefix};
-    ghost use Rattle.uri_parts.specs.Models.AuthorityParsing.{is_empty_or_begins_with_any};
-    ghost use Rattle.uri_parts.specs.Components.{starts, has_authority, is_end};
-    ghost use Rattle.uri_parts.specs.Errors.{unexpected, IsErrorIn};
-    ghost use Rattle.uri_parts.specs.Grammar.{first_segment_set};
-    ghost use Rattle.uri_parts.specs.Scanning.{scan};
     ghost use Rattle.uri_parts.specs.Models.Cursors.{text_after_cursor, cursor_text, cursor_position};
 
     /// Returns a cursor at the beginning of the text.

@@ -1,6 +1,7 @@
 //! The kinds of references, as types.
-ghost use Rattle.std.specs.Prelude.{◌≡◌};
+ghost use Rattle.std.specs.Prelude.{◌≡◌, refl};
 ghost use Rattle.uri_parts.specs.KindTables.{kind_of, segment_nz_nc_of};
+ghost use Rattle.uri_parts.specs.Grammar.{first_segment_set, kind_by_flags, uri, uri_ref, iri, iri_ref};
 
 use crate::kind_tables::{KindTables, iri_tables, uri_tables};
 use uri_pct::encoder::{
@@ -25,8 +26,6 @@ use uri_pct::encoder::{
 /// ```
 pub trait Kind {
     ghost use Rattle.uri_parts.specs.Grammar as grammar;
-    ghost use Rattle.uri_parts.specs.Grammar.{first_segment_set, kind_by_flags};
-
     /// The encoder of userinfo.
     type UserinfoE: Encoder;
 
@@ -70,9 +69,6 @@ pub trait Kind {
 pub struct UriKind;
 
 impl Kind for UriKind {
-    ghost use Rattle.std.specs.Prelude.{refl};
-    ghost use Rattle.uri_parts.specs.Grammar.{uri};
-
     type UserinfoE = Userinfo;
 
     type RegNameE = RegName;
@@ -110,9 +106,6 @@ impl Kind for UriKind {
 pub struct UriRefKind;
 
 impl Kind for UriRefKind {
-    ghost use Rattle.std.specs.Prelude.{refl};
-    ghost use Rattle.uri_parts.specs.Grammar.{uri_ref};
-
     type UserinfoE = Userinfo;
 
     type RegNameE = RegName;
@@ -150,9 +143,6 @@ impl Kind for UriRefKind {
 pub struct IriKind;
 
 impl Kind for IriKind {
-    ghost use Rattle.std.specs.Prelude.{refl};
-    ghost use Rattle.uri_parts.specs.Grammar.{iri};
-
     type UserinfoE = IUserinfo;
 
     type RegNameE = IRegName;
@@ -190,9 +180,6 @@ impl Kind for IriKind {
 pub struct IriRefKind;
 
 impl Kind for IriRefKind {
-    ghost use Rattle.std.specs.Prelude.{refl};
-    ghost use Rattle.uri_parts.specs.Grammar.{iri_ref};
-
     type UserinfoE = IUserinfo;
 
     type RegNameE = IRegName;

@@ -5,14 +5,13 @@ ghost use Rattle.std.specs.Str.Parse.{error_kind};
 ghost use Rattle.std.specs.declared.num.IntErrorKind.TheVariants.{PosOverflow};
 ghost use Rattle.uri_parts.specs.Authority.{authority_parts};
 ghost use Rattle.uri_parts.specs.Ports.{port_number, FitsPort};
+ghost use Rattle.uri_parts.specs.AuthorityTexts.{authority_text};
 
 use crate::component::Authority;
 use std::num::ParseIntError;
 use uri_pct::encoder::Encoder;
 
 impl<'a, U: Encoder, R: Encoder> Authority<'a, U, R> {
-    ghost use Rattle.uri_parts.specs.AuthorityTexts.{authority_text};
-
     /// Returns the port as a number (RFC 3986, section 3.2.3), or `None` if it is absent or empty.
     /// Leading zeros make no difference.
     ///

@@ -1,7 +1,12 @@
 //! Schemes (RFC 3986, section 3.1).
-ghost use Rattle.std.specs.Prelude.{◌≡◌, ◌==◌, ◌↔◌, IsSome, IfSome, true};
+ghost use Rattle.std.specs.Prelude.{◌≡◌, ◌==◌, ◌↔◌, IsSome, IfSome, true, Some};
 ghost use Rattle.uri_parts.specs.Grammar.{is_scheme};
 ghost use Rattle.uri_parts.specs.SchemePorts.{default_port};
+ghost use Rattle.std.specs.Fmt.{styled_text, debug_str};
+ghost use Rattle.std.proofs.Common.{rules};
+ghost use Rattle.std.specs.Cmp.Rules.{comparing, hashing};
+ghost use Rattle.std.specs.Ordering.{on};
+ghost use Rattle.std.specs.Cmp.Lexicographic.{pointwise};
 
 use crate::default_ports;
 use std::fmt;
@@ -106,8 +111,6 @@ impl<'a> Scheme<'a> {
 }
 
 impl<'a> fmt::Display for Scheme<'a> {
-    ghost use Rattle.std.specs.Prelude.{Some};
-    ghost use Rattle.std.specs.Fmt.{styled_text};
     ghost use Rattle.uri_parts.specs.Schemes.{scheme_text};
 
     ghost output = { λ s. Some (scheme_text s) };
@@ -121,7 +124,6 @@ impl<'a> fmt::Display for Scheme<'a> {
 }
 
 impl<'a> fmt::Debug for Scheme<'a> {
-    ghost use Rattle.std.specs.Fmt.{debug_str};
     ghost use Rattle.uri_parts.specs.Schemes.{scheme_text};
 
     ghost debug_output = { λ s. debug_str (scheme_text s) };
@@ -133,10 +135,6 @@ impl<'a> fmt::Debug for Scheme<'a> {
 }
 
 impl<'a> PartialEq for Scheme<'a> {
-    ghost use Rattle.std.proofs.Common.{rules};
-    ghost use Rattle.std.specs.Cmp.Rules.{comparing};
-    ghost use Rattle.std.specs.Ordering.{on};
-    ghost use Rattle.std.specs.Cmp.Lexicographic.{pointwise};
     ghost use Rattle.uri_parts.specs.Schemes.{lowered_scheme};
 
     ghost eq = { on lowered_scheme (pointwise ◌==◌) };
@@ -150,16 +148,11 @@ impl<'a> PartialEq for Scheme<'a> {
 }
 
 impl<'a> Eq for Scheme<'a> {
-    ghost use Rattle.std.proofs.Common.{rules};
-    ghost use Rattle.std.specs.Cmp.Rules.{comparing};
-
     ghost laws = { Prim.search (comparing, rules) };
 }
 
 impl<'a> Hash for Scheme<'a> {
-    ghost use Rattle.std.proofs.Common.{rules};
     ghost use Rattle.std.specs.Hash as fed;
-    ghost use Rattle.std.specs.Cmp.Rules.{comparing, hashing};
     ghost use Rattle.uri_parts.specs.Schemes.{lowered_scheme};
 
     ghost hash_input = { λ s. fed.slice fed.u8 (lowered_scheme s) };

@@ -1,5 +1,6 @@
 //! Text or bytes that are borrowed where they can be.
-ghost use Rattle.std.specs.Prelude.{◌≡◌, IfOk, OnErr, string_bytes};
+ghost use Rattle.std.specs.Prelude.{◌≡◌, IfOk, OnErr, string_bytes, Some};
+ghost use Rattle.std.specs.Fmt.{styled_text};
 
 use std::alloc::{AllocError, Global};
 use std::fmt;
@@ -62,8 +63,6 @@ impl<'a> CowStr<'a> {
 }
 
 impl<'a> fmt::Display for CowStr<'a> {
-    ghost use Rattle.std.specs.Prelude.{Some};
-    ghost use Rattle.std.specs.Fmt.{styled_text};
     ghost use Rattle.uri_pct.specs.Cows.{cow_text};
 
     ghost output = { λ text. Some (cow_text text) };

@@ -1,10 +1,13 @@
 //! Decoding of percent-encoded texts (RFC 3986, section 2.1).
-ghost use Rattle.std.specs.Prelude.{◌≡◌, ◌<◌, ◌^◌, ◌==◌, IsTrue, IfOk, IsOkAnd, length};
+ghost use Rattle.std.specs.Prelude.{◌≡◌, ◌<◌, ◌^◌, ◌==◌, IsTrue, IfOk, IsOkAnd, length, ⊤};
 ghost use Rattle.std.specs.List.{position_or_len};
 ghost use Rattle.uri_pct.specs.Chunks.{widest_set};
 ghost use Rattle.uri_pct.specs.Delimiters.{percent_sign};
 ghost use Rattle.uri_pct.specs.Texts.{is_unencoded};
 ghost use Rattle.uri_pct.specs.Tokens.{IsValidFor};
+ghost use Rattle.uri_pct.specs.Cows.{cow_items, AreBorrowedItems};
+ghost use Rattle.std.specs.Iterator.{YieldsFirstBy, item_count};
+ghost use Rattle.uri_pct.specs.EncodedTexts.{text_of};
 
 use crate::cow::{CowSlice, CowStr, DecodeError};
 use crate::encoder::Encoder;
@@ -45,7 +48,6 @@ pub fn unencoded_len(text: &str) -> usize
 }
 
 impl<'a> Decode<'a> {
-    ghost use Rattle.uri_pct.specs.Cows.{cow_items, AreBorrowedItems};
     ghost use Rattle.uri_pct.specs.Decodes.{undecoded, decoded, bytes_left};
 
     /// Returns a decoder of the text, of which nothing is decoded yet.
@@ -110,7 +112,6 @@ impl<'a> Decode<'a> {
 }
 
 impl<'a> Clone for Decode<'a> {
-    ghost use Rattle.std.specs.Prelude.{⊤};
     ghost use Rattle.uri_pct.specs.Decodes.{undecoded};
 
     ghost is_clone = { λ value copy. undecoded copy ≡ undecoded value };
@@ -124,7 +125,6 @@ impl<'a> Clone for Decode<'a> {
 }
 
 impl<'a> Iterator for Decode<'a> {
-    ghost use Rattle.std.specs.Iterator.{YieldsFirstBy, item_count};
     ghost use Rattle.uri_pct.specs.Decodes.{chunk_of, chunks_left};
 
     type Item = DecodedChunk<'a>;
@@ -155,7 +155,6 @@ impl<'a> FusedIterator for Decode<'a> {}
 
 impl<'a, E: Encoder> EStr<'a, E> {
     ghost use Rattle.uri_pct.specs.Decodes.{undecoded, chunks_left};
-    ghost use Rattle.uri_pct.specs.EncodedTexts.{text_of};
 
     /// Returns the parts of the text, each decoded when it is asked for (RFC 3986, section 2.1).
     /// Their number fits `usize`, so `count` may be called.

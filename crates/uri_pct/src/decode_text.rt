@@ -3,6 +3,7 @@ ghost use Rattle.std.specs.Prelude.{◌≡◌, IsTrue, IfOk, IfErr, IsOk, IsOkAn
 ghost use Rattle.uri_pct.specs.Cows.{cow_text, IsBorrowedText, IsDecodeErrorOf};
 ghost use Rattle.uri_pct.specs.Pieces.{lossy_text};
 ghost use Rattle.uri_pct.specs.Texts.{is_unencoded};
+ghost use Rattle.uri_pct.specs.Decodes.{undecoded, decoded, bytes_left};
 
 use crate::cow::{CowStr, DecodeError};
 use crate::decode::Decode;
@@ -46,8 +47,6 @@ impl TakeParts for LossyText {
 }
 
 impl<'a> Decode<'a> {
-    ghost use Rattle.uri_pct.specs.Decodes.{undecoded, decoded, bytes_left};
-
     /// Returns the remaining text, decoded. If no `%` is left, it is borrowed. Its bytes are those
     /// of the remaining items. `+` is not decoded to a space.
     ///

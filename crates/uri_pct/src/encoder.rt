@@ -1,5 +1,7 @@
 //! The encoders of the components of URIs and IRIs: which characters and octets each consists of.
 ghost use Rattle.std.specs.Prelude.{◌≡◌, refl};
+ghost use Rattle.uri_pct.specs.Sets.{LacksPercent, TableSet, userinfo_set, reg_name_set, digit_set, path_set, query_set, fragment_set, iuserinfo_set, ireg_name_set, ipath_set, iquery_set, ifragment_set, data_set, idata_set};
+ghost use Rattle.uri_pct.specs.Tables.{set_of};
 
 use crate::table::{self, Table};
 
@@ -11,9 +13,6 @@ use crate::table::{self, Table};
 ///
 /// `Query::table()` allows `a` and `?`, and not `#`.
 pub trait Encoder {
-    ghost use Rattle.uri_pct.specs.Sets.{LacksPercent, TableSet};
-    ghost use Rattle.uri_pct.specs.Tables.{set_of};
-
     ghost set: { TableSet };
 
     /// Returns the table of the characters and octets that the encoder allows.
@@ -35,8 +34,6 @@ pub trait PathEncoder: Encoder {}
 pub struct Userinfo;
 
 impl Encoder for Userinfo {
-    ghost use Rattle.uri_pct.specs.Sets.{userinfo_set};
-
     ghost set = { userinfo_set };
 
     /// Returns the table of the encoder `Userinfo`.
@@ -55,8 +52,6 @@ impl Encoder for Userinfo {
 pub struct RegName;
 
 impl Encoder for RegName {
-    ghost use Rattle.uri_pct.specs.Sets.{reg_name_set};
-
     ghost set = { reg_name_set };
 
     /// Returns the table of the encoder `RegName`.
@@ -75,8 +70,6 @@ impl Encoder for RegName {
 pub struct Port;
 
 impl Encoder for Port {
-    ghost use Rattle.uri_pct.specs.Sets.{digit_set};
-
     ghost set = { digit_set };
 
     /// Returns the table of the encoder `Port`.
@@ -95,8 +88,6 @@ impl Encoder for Port {
 pub struct Path;
 
 impl Encoder for Path {
-    ghost use Rattle.uri_pct.specs.Sets.{path_set};
-
     ghost set = { path_set };
 
     /// Returns the table of the encoder `Path`.
@@ -117,8 +108,6 @@ impl PathEncoder for Path {}
 pub struct Query;
 
 impl Encoder for Query {
-    ghost use Rattle.uri_pct.specs.Sets.{query_set};
-
     ghost set = { query_set };
 
     /// Returns the table of the encoder `Query`.
@@ -137,8 +126,6 @@ impl Encoder for Query {
 pub struct Fragment;
 
 impl Encoder for Fragment {
-    ghost use Rattle.uri_pct.specs.Sets.{fragment_set};
-
     ghost set = { fragment_set };
 
     /// Returns the table of the encoder `Fragment`.
@@ -157,8 +144,6 @@ impl Encoder for Fragment {
 pub struct IUserinfo;
 
 impl Encoder for IUserinfo {
-    ghost use Rattle.uri_pct.specs.Sets.{iuserinfo_set};
-
     ghost set = { iuserinfo_set };
 
     /// Returns the table of the encoder `IUserinfo`.
@@ -177,8 +162,6 @@ impl Encoder for IUserinfo {
 pub struct IRegName;
 
 impl Encoder for IRegName {
-    ghost use Rattle.uri_pct.specs.Sets.{ireg_name_set};
-
     ghost set = { ireg_name_set };
 
     /// Returns the table of the encoder `IRegName`.
@@ -197,8 +180,6 @@ impl Encoder for IRegName {
 pub struct IPath;
 
 impl Encoder for IPath {
-    ghost use Rattle.uri_pct.specs.Sets.{ipath_set};
-
     ghost set = { ipath_set };
 
     /// Returns the table of the encoder `IPath`.
@@ -219,8 +200,6 @@ impl PathEncoder for IPath {}
 pub struct IQuery;
 
 impl Encoder for IQuery {
-    ghost use Rattle.uri_pct.specs.Sets.{iquery_set};
-
     ghost set = { iquery_set };
 
     /// Returns the table of the encoder `IQuery`.
@@ -239,8 +218,6 @@ impl Encoder for IQuery {
 pub struct IFragment;
 
 impl Encoder for IFragment {
-    ghost use Rattle.uri_pct.specs.Sets.{ifragment_set};
-
     ghost set = { ifragment_set };
 
     /// Returns the table of the encoder `IFragment`.
@@ -260,8 +237,6 @@ impl Encoder for IFragment {
 pub struct Data;
 
 impl Encoder for Data {
-    ghost use Rattle.uri_pct.specs.Sets.{data_set};
-
     ghost set = { data_set };
 
     /// Returns the table of the encoder `Data`.
@@ -281,8 +256,6 @@ impl Encoder for Data {
 pub struct IData;
 
 impl Encoder for IData {
-    ghost use Rattle.uri_pct.specs.Sets.{idata_set};
-
     ghost set = { idata_set };
 
     /// Returns the table of the encoder `IData`.

@@ -11,6 +11,7 @@ ghost use Rattle.uri_pct.specs.EncodedTexts.{text_of};
 ghost use Rattle.uri_pct.specs.Encoding.{encode_text, encode_bytes};
 ghost use Rattle.uri_pct.specs.Sets.{IsSubset, LacksPercent, allows};
 ghost use Rattle.uri_pct.specs.Tokens.{Char, tokens, print, is_valid_for, IsValidFor};
+ghost use Rattle.std.proofs.Common.{rules};
 
 use crate::encode::{append_bytes, append_text};
 use crate::encoder::Encoder;
@@ -316,7 +317,6 @@ impl<E: Encoder> fmt::Debug for EString<E> {
 }
 
 impl<E: Encoder> PartialEq for EString<E> {
-    ghost use Rattle.std.proofs.Common.{rules};
     ghost use Rattle.uri_pct.specs.EStrings.{owned_text};
 
     ghost eq = { on owned_text (pointwise ◌==◌) };
@@ -330,13 +330,10 @@ impl<E: Encoder> PartialEq for EString<E> {
 }
 
 impl<E: Encoder> Eq for EString<E> {
-    ghost use Rattle.std.proofs.Common.{rules};
-
     ghost laws = { Prim.search (comparing, rules) };
 }
 
 impl<E: Encoder> Ord for EString<E> {
-    ghost use Rattle.std.proofs.Common.{rules};
     ghost use Rattle.uri_pct.specs.EStrings.{owned_text};
 
     ghost cmp = { on owned_text (slice_cmp nat_cmp) };
@@ -354,7 +351,6 @@ impl<E: Encoder> Ord for EString<E> {
 }
 
 impl<E: Encoder> PartialOrd for EString<E> {
-    ghost use Rattle.std.proofs.Common.{rules};
     ghost use Rattle.uri_pct.specs.EStrings.{owned_text};
 
     ghost partial_cmp = { as_partial_cmp (on owned_text (slice_cmp nat_cmp)) };
@@ -369,7 +365,6 @@ impl<E: Encoder> PartialOrd for EString<E> {
 }
 
 impl<E: Encoder> Hash for EString<E> {
-    ghost use Rattle.std.proofs.Common.{rules};
     ghost use Rattle.uri_pct.specs.EStrings.{owned_text};
 
     ghost hash_input = { λ e. fed.str (owned_text e) };

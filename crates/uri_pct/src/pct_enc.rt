@@ -1,8 +1,14 @@
 //! Texts that are percent-encoded over an encoder's set (RFC 3986, section 2.1).
-ghost use Rattle.std.specs.Prelude.{◌≡◌, ◌==◌, ◌↔◌, IsSome, IfSome, IsTrue, true, length, not};
+ghost use Rattle.std.specs.Prelude.{◌≡◌, ◌==◌, ◌↔◌, IsSome, IfSome, IsTrue, true, length, not, ⊤, [], Some};
 ghost use Rattle.uri_pct.specs.Sets.{IsSubset};
 ghost use Rattle.uri_pct.specs.Tokens.{Octet, text_of_token, is_valid_for, IsValidFor};
 ghost use Rattle.uri_pct.specs.Texts.{is_unencoded, is_absolute};
+ghost use Rattle.std.specs.Fmt.{styled_text, debug_str};
+ghost use Rattle.std.proofs.Common.{rules};
+ghost use Rattle.std.specs.Cmp.Rules.{comparing, hashing};
+ghost use Rattle.std.specs.Ordering.{on, nat_cmp, as_partial_cmp};
+ghost use Rattle.std.specs.Cmp.Lexicographic.{pointwise, slice_cmp};
+ghost use Rattle.std.specs.Cmp.{partial_order_from_own_ties};
 
 pub use crate::cow::{CowSlice, CowStr, DecodeError};
 pub use crate::decode::{Decode, DecodedChunk};
@@ -34,8 +40,6 @@ pub struct EStr<'a, E: Encoder> {
 }
 
 impl<'a, E: Encoder> Clone for EStr<'a, E> {
-    ghost use Rattle.std.specs.Prelude.{⊤};
-
     ghost is_clone = { λ e copy. copy ≡ e };
 
     ghost is_infallible = { λ _. ⊤ };
@@ -220,7 +224,6 @@ impl<'a, E: PathEncoder> EStr<'a, E> {
 
 #[tactic(auto, using(crate::proofs::ValidTexts::EStrs::empty_text_is_valid))]
 impl<'a, E: Encoder> Default for EStr<'a, E> {
-    ghost use Rattle.std.specs.Prelude.{[]};
     ghost use Rattle.uri_pct.specs.EncodedTexts.{text_of};
 
     ghost is_default = { λ e. text_of e ≡ [] };
@@ -232,8 +235,6 @@ impl<'a, E: Encoder> Default for EStr<'a, E> {
 }
 
 impl<'a, E: Encoder> fmt::Display for EStr<'a, E> {
-    ghost use Rattle.std.specs.Prelude.{Some};
-    ghost use Rattle.std.specs.Fmt.{styled_text};
     ghost use Rattle.uri_pct.specs.EncodedTexts.{text_of};
 
     ghost output = { λ e. Some (text_of e) };
@@ -247,7 +248,6 @@ impl<'a, E: Encoder> fmt::Display for EStr<'a, E> {
 }
 
 impl<'a, E: Encoder> fmt::Debug for EStr<'a, E> {
-    ghost use Rattle.std.specs.Fmt.{debug_str};
     ghost use Rattle.uri_pct.specs.EncodedTexts.{text_of};
 
     ghost debug_output = { λ e. debug_str (text_of e) };
@@ -259,10 +259,6 @@ impl<'a, E: Encoder> fmt::Debug for EStr<'a, E> {
 }
 
 impl<'a, E: Encoder> PartialEq for EStr<'a, E> {
-    ghost use Rattle.std.proofs.Common.{rules};
-    ghost use Rattle.std.specs.Cmp.Rules.{comparing};
-    ghost use Rattle.std.specs.Ordering.{on};
-    ghost use Rattle.std.specs.Cmp.Lexicographic.{pointwise};
     ghost use Rattle.uri_pct.specs.EncodedTexts.{text_of};
 
     ghost eq = { on text_of (pointwise ◌==◌) };
@@ -276,17 +272,10 @@ impl<'a, E: Encoder> PartialEq for EStr<'a, E> {
 }
 
 impl<'a, E: Encoder> Eq for EStr<'a, E> {
-    ghost use Rattle.std.proofs.Common.{rules};
-    ghost use Rattle.std.specs.Cmp.Rules.{comparing};
-
     ghost laws = { Prim.search (comparing, rules) };
 }
 
 impl<'a, E: Encoder> Ord for EStr<'a, E> {
-    ghost use Rattle.std.proofs.Common.{rules};
-    ghost use Rattle.std.specs.Cmp.Rules.{comparing};
-    ghost use Rattle.std.specs.Ordering.{on, nat_cmp};
-    ghost use Rattle.std.specs.Cmp.Lexicographic.{slice_cmp};
     ghost use Rattle.uri_pct.specs.EncodedTexts.{text_of};
 
     ghost cmp = { on text_of (slice_cmp nat_cmp) };
@@ -304,11 +293,6 @@ impl<'a, E: Encoder> Ord for EStr<'a, E> {
 }
 
 impl<'a, E: Encoder> PartialOrd for EStr<'a, E> {
-    ghost use Rattle.std.proofs.Common.{rules};
-    ghost use Rattle.std.specs.Cmp.Rules.{comparing};
-    ghost use Rattle.std.specs.Cmp.{partial_order_from_own_ties};
-    ghost use Rattle.std.specs.Ordering.{on, nat_cmp, as_partial_cmp};
-    ghost use Rattle.std.specs.Cmp.Lexicographic.{slice_cmp};
     ghost use Rattle.uri_pct.specs.EncodedTexts.{text_of};
 
     ghost partial_cmp = { as_partial_cmp (on text_of (slice_cmp nat_cmp)) };
@@ -323,9 +307,7 @@ impl<'a, E: Encoder> PartialOrd for EStr<'a, E> {
 }
 
 impl<'a, E: Encoder> Hash for EStr<'a, E> {
-    ghost use Rattle.std.proofs.Common.{rules};
     ghost use Rattle.std.specs.Hash as fed;
-    ghost use Rattle.std.specs.Cmp.Rules.{comparing, hashing};
     ghost use Rattle.uri_pct.specs.EncodedTexts.{text_of};
 
     ghost hash_input = { λ e. fed.str (text_of e) };

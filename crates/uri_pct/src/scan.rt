@@ -2,11 +2,11 @@
 ghost use Rattle.std.specs.Prelude.{◌≡◌, ◌<◌, ◌≤◌, ◌+◌, IsTrue, false, true, length, drop, slice_index};
 ghost use Rattle.std.specs.Str.{IsCharBoundary};
 ghost use Rattle.uri_pct.specs.Delimiters.{percent_sign};
-ghost use Rattle.uri_pct.specs.Masks.{has_bit as has_bit_of};
+ghost use Rattle.uri_pct.specs.Masks.{has_bit as has_bit_of, has_bit};
 ghost use Rattle.uri_pct.specs.Models.ByteRuns.{IsLongestRun, is_char_byte};
 ghost use Rattle.uri_pct.specs.Prefixes.{valid_prefix};
 ghost use Rattle.uri_pct.specs.Texts.{has_hex_digits_after};
-ghost use Rattle.uri_pct.specs.Tables.{set_of as set_of_table};
+ghost use Rattle.uri_pct.specs.Tables.{set_of as set_of_table, set_of};
 ghost use Rattle.uri_pct.specs.Tokens.{is_valid_for};
 
 use crate::encoded_runs::encoded_run_end;
@@ -62,9 +62,6 @@ fn pass_chars(table: &Table, text: &str, start: usize) -> usize
 }
 
 impl Table {
-    ghost use Rattle.uri_pct.specs.Tables.{set_of};
-    ghost use Rattle.uri_pct.specs.Masks.{has_bit};
-
     /// Returns where the run of ASCII characters ends that begins at `start` and that the table
     /// allows, both as byte offsets. It is faster in a short text if the table is a constant.
     #[inline(always)]

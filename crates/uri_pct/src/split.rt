@@ -1,9 +1,10 @@
 //! Texts cut at delimiters (RFC 3986, section 2.2).
-ghost use Rattle.std.specs.Prelude.{◌≡◌, ◌==◌, IsTrue, IfSome, MatchOption, true, drop, is_some, length, ◌<◌, ◌^◌};
+ghost use Rattle.std.specs.Prelude.{◌≡◌, ◌==◌, IsTrue, IfSome, MatchOption, true, drop, is_some, length, ◌<◌, ◌^◌, ⊤};
 ghost use Rattle.std.specs.List.{slice_split, join_with_byte, AllPass};
 ghost use Rattle.uri_pct.specs.Delimiters.{slash};
 ghost use Rattle.uri_pct.specs.Sets.{is_reserved};
 ghost use Rattle.uri_pct.specs.Texts.{lacks, is_absolute, IsCutAtFirst, IsCutAtLast};
+ghost use Rattle.std.specs.Iterator.{YieldsFirstBy, item_count, YieldsLastBy};
 
 use crate::encoder::{Encoder, PathEncoder};
 use crate::pct_enc::EStr;
@@ -22,7 +23,6 @@ pub struct Split<'a, E: Encoder> {
 }
 
 impl<'a, E: Encoder> Clone for Split<'a, E> {
-    ghost use Rattle.std.specs.Prelude.{⊤};
     ghost use Rattle.uri_pct.specs.EncodedTexts.{substrings_left};
 
     ghost is_clone = { λ value copy. substrings_left copy ≡ substrings_left value };
@@ -39,7 +39,6 @@ impl<'a, E: Encoder> Clone for Split<'a, E> {
 }
 
 impl<'a, E: Encoder> Iterator for Split<'a, E> {
-    ghost use Rattle.std.specs.Iterator.{YieldsFirstBy, item_count};
     ghost use Rattle.uri_pct.specs.EncodedTexts.{text_of, substrings_left};
 
     type Item = EStr<'a, E>;
@@ -65,7 +64,6 @@ impl<'a, E: Encoder> Iterator for Split<'a, E> {
 }
 
 impl<'a, E: Encoder> DoubleEndedIterator for Split<'a, E> {
-    ghost use Rattle.std.specs.Iterator.{YieldsLastBy};
     ghost use Rattle.uri_pct.specs.EncodedTexts.{text_of, substrings_left};
 
     ghost next_back_gives = { YieldsLastBy text_of substrings_left };

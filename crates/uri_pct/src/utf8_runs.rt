@@ -2,7 +2,7 @@
 ghost use Rattle.std.specs.Prelude.{◌≡◌, ◌<◌, IfOk, OnOk, IsTrue, List, [], ◌∷◌, ◌++◌, length, map};
 ghost use Rattle.std.specs.Str.{IsUtf8};
 ghost use Rattle.uri_pct.specs.Chunks.{Chunk, Byte};
-ghost use Rattle.uri_pct.specs.Decodes.{chunk_of};
+ghost use Rattle.uri_pct.specs.Decodes.{chunk_of, undecoded};
 ghost use Rattle.uri_pct.specs.Models.Windows.{window_bytes};
 ghost use Rattle.uri_pct.specs.Parts.{Part, Literal, Decoded, parts, parts_from, ill_formed_piece_if_any, ArePastAscii};
 ghost use Rattle.uri_pct.specs.Pieces.{IllFormed, utf8_pieces};
@@ -215,8 +215,6 @@ fn take_decoded_chunk<T: TakeParts>(
 }
 
 impl<'a> Decode<'a> {
-    ghost use Rattle.uri_pct.specs.Decodes.{undecoded};
-
     /// Passes the remaining parts of the text to the taker, in order. Only the taker causes errors.
     #[doc(hidden)]
     pub fn take_parts<T: TakeParts>(self, taker: &mut T) -> Result<(), AllocError>

@@ -1,5 +1,5 @@
 //! The inverse of resolving (RFC 3986, section 5.2).
-ghost use Rattle.std.specs.Prelude.{◌≡◌, IfOk, false};
+ghost use Rattle.std.specs.Prelude.{◌≡◌, IfOk, false, refl};
 ghost use Rattle.fluent_uri.specs.References.{reference_text};
 ghost use Rattle.uri_relative.specs.Relativized.{IsRelativized};
 
@@ -128,8 +128,6 @@ pub trait Relativize<K: BaseKind>: RiMaybeRef {
 }
 
 impl<K: BaseKind, B: AsStr> Relativize<K> for Reference<K, B> {
-    ghost use Rattle.std.specs.Prelude.{refl};
-
     /// Returns a reference that leads from this one to the target.
     fn relativize<T: AsStr>(
         &self,

@@ -89,7 +89,6 @@ pub enum CommandLineError {
 }
 
 impl Display for CommandLineError {
-    ghost use Rattle.std.specs.Prelude.{Some};
     ghost use Rattle.uri_streams.specs.CommandLines.{command_line_message};
 
     ghost output = { λ error. Some (command_line_message error) };

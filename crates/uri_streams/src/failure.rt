@@ -1,4 +1,5 @@
 //! Why a run ended before the end of its input.
+ghost use Rattle.std.specs.Prelude.{◌≡◌};
 
 use std::alloc::AllocError;
 use std::io;
@@ -15,7 +16,6 @@ pub enum Failure {
 }
 
 impl From<AllocError> for Failure {
-    ghost use Rattle.std.specs.Prelude.{◌≡◌};
     ghost use Rattle.uri_streams.specs.declared.failure.Failure.TheVariants.{OutOfMemory};
 
     ghost from_gives = { λ _ failure. failure ≡ OutOfMemory };
@@ -38,7 +38,6 @@ pub(crate) enum Cause {
 }
 
 impl From<AllocError> for Cause {
-    ghost use Rattle.std.specs.Prelude.{◌≡◌};
     ghost use Rattle.uri_streams.specs.declared.failure.Cause.TheVariants.{OutOfMemory};
 
     ghost from_gives = { λ _ cause. cause ≡ OutOfMemory };

@@ -1,4 +1,5 @@
 //! Why a line is an error.
+ghost use Rattle.std.specs.Prelude.{Some};
 
 use fluent_uri::ParseError;
 use std::fmt::{self, Display};
@@ -16,7 +17,6 @@ pub(crate) enum NoText {
 }
 
 impl Display for NoText {
-    ghost use Rattle.std.specs.Prelude.{Some};
     ghost use Rattle.uri_streams.specs.Fields.{no_text_message};
 
     ghost output = { λ why. Some (no_text_message why) };
@@ -46,7 +46,6 @@ pub(crate) enum LineError {
 
 /// Prints the message of the error of a line, without the `error: ` before it.
 impl Display for LineError {
-    ghost use Rattle.std.specs.Prelude.{Some};
     ghost use Rattle.uri_streams.specs.Returned.{line_error_message};
 
     ghost output = { λ fault. Some (line_error_message fault) };

@@ -30,7 +30,6 @@ pub struct Tally {
 
 /// An observer of a run, which sees its tally after each line.
 pub trait Watch {
-    ghost use Rattle.std.specs.Prelude.{◌∷◌, [], List, None, Option};
     ghost use Rattle.uri_streams.specs.Runs.{Sees};
     ghost use Rattle.uri_streams.specs.declared.run.Tally.{Tally};
 

@@ -3,7 +3,7 @@ ghost use Rattle.std.specs.Prelude.{◌≡◌, ◌+◌, ◌++◌, ◌≤◌, IfS
 ghost use Rattle.uri_pct.specs.Prelude.{Pushes, digit_set};
 ghost use Rattle.uri_parts.specs.Prelude.{has_colon_in_first_segment, positions_of};
 ghost use Rattle.uri_ops.specs.BuilderParts.{AddsUnlessFailed, as_components, is_text_for, no_parts, with_authority, with_fragment, with_host, with_path, with_port, with_query, with_scheme, with_userinfo};
-ghost use Rattle.uri_ops.specs.Built.{build_error_of_path};
+ghost use Rattle.uri_ops.specs.Built.{build_error_of_path, refusal};
 ghost use Rattle.uri_ops.specs.Drafts.{IsDraft, after_part};
 ghost use Rattle.uri_ops.specs.HostParts.{IsHostText};
 
@@ -32,7 +32,6 @@ pub struct Draft {
 
 impl Draft {
     ghost use Rattle.uri_ops.specs.Builders.{any_authority, draft_parts, ends_in_authority, lacks_query_and_fragment, lacks_all, lacks_authority, lacks_path};
-    ghost use Rattle.uri_ops.specs.Built.{refusal};
     ghost use Rattle.uri_ops.specs.Models.DraftPlaces.{HasRightHostRange};
 
     /// Returns a builder's draft that holds nothing.

@@ -1,6 +1,14 @@
 //! Hosts and ports as a builder takes them (RFC 3986, sections 3.2.2 and 3.2.3).
-ghost use Rattle.std.specs.Prelude.{◌≡◌, OnOk, true};
+ghost use Rattle.std.specs.Prelude.{◌≡◌, OnOk, true, ℕ, List};
 ghost use Rattle.uri_pct.specs.Texts.{Pushes};
+ghost use Rattle.uri_ops.specs.HostParts.{IsHostText, ip_host};
+ghost use Rattle.std.specs.Net.Text.{ipv4_text, ipv6_text};
+ghost use Rattle.uri_parts.specs.Addresses.{ipv4_octets};
+ghost use Rattle.uri_parts.specs.Prelude.{bracketed, ipv6_segments};
+ghost use Rattle.uri_pct.specs.EncodedTexts.{text_of};
+ghost use Rattle.uri_pct.specs.Sets.{digit_set};
+ghost use Rattle.uri_ops.specs.BuilderParts.{is_text_for};
+ghost use Rattle.std.specs.Fmt.{decimal};
 
 use std::alloc::AllocError;
 use std::fmt::Write;
@@ -16,8 +24,6 @@ use uri_pct::pct_enc::EStr;
 ///
 /// `Ipv6Addr::LOCALHOST` is such a host, which is written `[::1]`.
 pub trait AsHost: Drop {
-    ghost use Rattle.std.specs.Prelude.{ℕ, List};
-
     ghost host_text: { Self → List ℕ };
 }
 
@@ -27,8 +33,6 @@ pub trait AsHost: Drop {
 /// `EStr::<RegName>::new_or_panic("example.com")` is a host of URIs, and `Ipv4Addr::LOCALHOST` of
 /// URIs and IRIs.
 pub trait WithEncoder<E: Encoder>: AsHost {
-    ghost use Rattle.uri_ops.specs.HostParts.{IsHostText};
-
     /// Appends the host, as it is in an authority.
     #[doc(hidden)]
     fn push_host(&self, out: &mut String) -> Result<(), AllocError>
@@ -38,9 +42,6 @@ pub trait WithEncoder<E: Encoder>: AsHost {
 
 /// Written as four decimal numbers.
 impl AsHost for Ipv4Addr {
-    ghost use Rattle.std.specs.Net.Text.{ipv4_text};
-    ghost use Rattle.uri_parts.specs.Addresses.{ipv4_octets};
-
     ghost host_text = { λ address. ipv4_text (ipv4_octets address) };
 }
 
@@ -54,9 +55,6 @@ impl<E: Encoder> WithEncoder<E> for Ipv4Addr {
 
 /// Written in brackets, by RFC 5952.
 impl AsHost for Ipv6Addr {
-    ghost use Rattle.std.specs.Net.Text.{ipv6_text};
-    ghost use Rattle.uri_parts.specs.Prelude.{bracketed, ipv6_segments};
-
     ghost host_text = { λ address. bracketed (ipv6_text (ipv6_segments address)) };
 }
 
@@ -70,8 +68,6 @@ impl<E: Encoder> WithEncoder<E> for Ipv6Addr {
 
 /// Written as the address in it.
 impl AsHost for IpAddr {
-    ghost use Rattle.uri_ops.specs.HostParts.{ip_host};
-
     ghost host_text = { ip_host };
 }
 
@@ -87,8 +83,6 @@ impl<E: Encoder> WithEncoder<E> for IpAddr {
 
 /// Written as it is.
 impl AsHost for EStr<'_, RegName> {
-    ghost use Rattle.uri_pct.specs.EncodedTexts.{text_of};
-
     ghost host_text = { λ name. text_of name };
 }
 
@@ -101,8 +95,6 @@ impl WithEncoder<RegName> for EStr<'_, RegName> {
 
 /// Written as it is.
 impl AsHost for EStr<'_, IRegName> {
-    ghost use Rattle.uri_pct.specs.EncodedTexts.{text_of};
-
     ghost host_text = { λ name. text_of name };
 }
 
@@ -119,10 +111,6 @@ impl WithEncoder<IRegName> for EStr<'_, IRegName> {
 ///
 /// The number 8042 is such a port, which is written `8042`.
 pub trait AsPort: Drop {
-    ghost use Rattle.std.specs.Prelude.{ℕ, List};
-    ghost use Rattle.uri_pct.specs.Sets.{digit_set};
-    ghost use Rattle.uri_ops.specs.BuilderParts.{is_text_for};
-
     ghost port_digits: { Self → List ℕ };
 
     /// Appends the port's digits.
@@ -135,8 +123,6 @@ pub trait AsPort: Drop {
 /// Written in decimal.
 #[tactic(auto, using(crate::proofs::Builders::BuilderHosts::decimal_number_is_port))]
 impl AsPort for u16 {
-    ghost use Rattle.std.specs.Fmt.{decimal};
-
     ghost port_digits = { decimal };
 
     /// Appends the port in decimal.
@@ -149,8 +135,6 @@ impl AsPort for u16 {
 /// Written as they are.
 #[tactic(auto, using(crate::proofs::Builders::BuilderDrafts::valid_utf8_is_text_for_set))]
 impl AsPort for EStr<'_, Port> {
-    ghost use Rattle.uri_pct.specs.EncodedTexts.{text_of};
-
     ghost port_digits = { λ digits. text_of digits };
 
     /// Appends the port's digits as they are.

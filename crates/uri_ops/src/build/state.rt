@@ -1,7 +1,7 @@
 //! The states of a builder (RFC 3986, section 3), and what it holds in each.
-ghost use Rattle.std.specs.Prelude.{◌≡◌, true};
-ghost use Rattle.uri_ops.specs.BuilderParts.{MeetsOrFailed};
-ghost use Rattle.uri_ops.specs.Builders.{draft_parts, is_at_end, is_before_authority, is_before_fragment, is_before_host, is_before_path, is_before_port, is_before_query, is_before_userinfo, is_fresh, is_fresh_reference, is_in_authority};
+ghost use Rattle.std.specs.Prelude.{◌≡◌, true, Bool};
+ghost use Rattle.uri_ops.specs.BuilderParts.{MeetsOrFailed, BuilderParts};
+ghost use Rattle.uri_ops.specs.Builders.{draft_parts, is_at_end, is_before_authority, is_before_fragment, is_before_host, is_before_path, is_before_port, is_before_query, is_before_userinfo, is_fresh, is_fresh_reference, is_in_authority, HoldsAlsoIn};
 ghost use Rattle.uri_ops.specs.Models.DraftPlaces.{HasRightHostRange};
 
 use crate::build::draft::Draft;
@@ -12,9 +12,6 @@ use std::marker::PhantomData;
 ///
 /// A builder after `scheme` is a `Builder<R, SchemeEnd>`.
 pub trait State {
-    ghost use Rattle.std.specs.Prelude.{Bool};
-    ghost use Rattle.uri_ops.specs.BuilderParts.{BuilderParts};
-
     ghost place: { Bool → BuilderParts → Bool };
 
     ghost before: { Bool → BuilderParts → Bool };
@@ -34,8 +31,6 @@ pub trait StateOf<R: RiMaybeRef>: State {
 ///
 /// `SchemeEnd` is a `To<PathEnd>`: `path` may be called after `scheme`.
 pub trait To<T: State>: State {
-    ghost use Rattle.uri_ops.specs.Builders.{HoldsAlsoIn};
-
     ghost passes: { HoldsAlsoIn Self.place T.before };
 }
 
@@ -43,8 +38,6 @@ pub trait To<T: State>: State {
 ///
 /// `Start` is an `AdvanceTo<SchemeEnd>`: of a reference the scheme may be left out by `advance`.
 pub trait AdvanceTo<T: State>: State {
-    ghost use Rattle.uri_ops.specs.Builders.{HoldsAlsoIn};
-
     ghost passes: { HoldsAlsoIn Self.place T.place };
 }
 
@@ -52,8 +45,6 @@ pub trait AdvanceTo<T: State>: State {
 ///
 /// `SchemeEnd` is such a state, and what `authority_with` begins is in `AuthorityStart`.
 pub trait BeginsAuthority: To<AuthorityStart> {
-    ghost use Rattle.uri_ops.specs.Builders.{HoldsAlsoIn, is_before_userinfo};
-
     /// The state of the builder that the closure is called with, which is `AuthorityStart`.
     type Begun: State;
 
@@ -243,11 +234,6 @@ impl<R: RiMaybeRef> StateOf<R> for End {
 /// What a builder of an `R` holds in the state `S`.
 #[doc(hidden)]
 pub trait BuilderContents<R: RiMaybeRef, S: State>: Drop {
-    ghost use Rattle.std.specs.Prelude.{true};
-    ghost use Rattle.uri_ops.specs.BuilderParts.{BuilderParts, MeetsOrFailed};
-    ghost use Rattle.uri_ops.specs.Builders.{draft_parts};
-    ghost use Rattle.uri_ops.specs.Models.DraftPlaces.{HasRightHostRange};
-
     ghost parts: { Self → BuilderParts };
 
     /// Returns the draft that the builder holds.

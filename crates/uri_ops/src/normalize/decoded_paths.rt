@@ -1,9 +1,10 @@
 //! Paths whose octets are decoded while their dot segments are removed (RFC 3986, sections 5.2.4
 //! and 6.2.2.3).
 ghost use Rattle.std.specs.Prelude.{◌≡◌, ◌==◌, ◌&&◌, IfOk, OnOk, codes, length, slice_index, true};
-ghost use Rattle.uri_pct.specs.Prelude.{IsValidFor, Pushes, decode_unreserved, print, set_of, slash};
+ghost use Rattle.uri_pct.specs.Prelude.{IsValidFor, Pushes, decode_unreserved, print, set_of, slash, is_valid_for};
 ghost use Rattle.uri_ops.specs.ComponentSets.{IsComponentSet};
 ghost use Rattle.uri_ops.specs.Dots.{IsAbsolute, remove_dot_segments, underflows};
+ghost use Rattle.std.specs.Str.{is_utf8};
 
 use crate::normalize::decode_unreserved::push_decoded;
 use crate::path::dot_segments::{has_dot_segments, push_segments};
@@ -25,10 +26,6 @@ struct Decoded<'t> {
 }
 
 impl SegmentMode for Decoded<'_> {
-    ghost use Rattle.std.specs.Prelude.{◌&&◌};
-    ghost use Rattle.std.specs.Str.{is_utf8};
-    ghost use Rattle.uri_pct.specs.Prelude.{decode_unreserved, is_valid_for, print, set_of};
-
     ghost pushed_text = { λ mode text. print (decode_unreserved (set_of mode.table.now) text) };
 
     ghost takes = { λ mode text. is_utf8 text && is_valid_for (set_of mode.table.now) text };

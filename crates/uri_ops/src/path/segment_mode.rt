@@ -1,12 +1,11 @@
 //! How the segments of a path are appended while its dot segments are removed.
+ghost use Rattle.std.specs.Prelude.{◌≡◌, ℕ, List, Bool, OnOk, true};
+ghost use Rattle.uri_pct.specs.Texts.{Pushes};
 
 use std::alloc::AllocError;
 
 /// How segments of a path are appended: as they are, or changed.
 pub(crate) trait SegmentMode: Copy + Drop {
-    ghost use Rattle.std.specs.Prelude.{◌≡◌, ℕ, List, Bool, OnOk, true};
-    ghost use Rattle.uri_pct.specs.Texts.{Pushes};
-
     ghost pushed_text: { Self → List ℕ → List ℕ };
 
     ghost takes: { Self → List ℕ → Bool };
@@ -22,8 +21,6 @@ pub(crate) trait SegmentMode: Copy + Drop {
 pub(crate) struct Copied;
 
 impl SegmentMode for Copied {
-    ghost use Rattle.std.specs.Prelude.{true};
-
     ghost pushed_text = { λ _ text. text };
 
     ghost takes = { λ _ _. true };

@@ -2,6 +2,8 @@
 //! 4.1 and 5.3.2.3).
 ghost use Rattle.std.specs.Prelude.{◌≡◌, ◌≤◌, ◌<◌, ◌++◌, ◌∷◌, [], IfSome, None, drop, length};
 ghost use Rattle.uri_pct.specs.Prelude.{IsValidFor, set_of, widest_set};
+ghost use Rattle.uri_ops.specs.FromEnd.Held.{held_text};
+ghost use Rattle.uri_ops.specs.FromEnd.NormalComponents.{normal_component};
 
 use crate::normalize::literal_runs::lowered_code_if;
 use crate::read_back::held::Held;
@@ -23,8 +25,6 @@ pub struct OctetsBack<'a> {
 }
 
 impl<'a> OctetsBack<'a> {
-    ghost use Rattle.uri_ops.specs.FromEnd.Held.{held_text};
-    ghost use Rattle.uri_ops.specs.FromEnd.NormalComponents.{normal_component};
     ghost use Rattle.uri_ops.specs.FromEnd.OctetsBack.{octets_unread};
 
     /// Returns the normal text of a component, to read from its end, with its letters in lower case

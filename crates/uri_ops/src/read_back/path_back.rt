@@ -5,6 +5,7 @@ ghost use Rattle.uri_pct.specs.Prelude.{IsValidFor, set_of, widest_set};
 ghost use Rattle.uri_ops.specs.Dots.{IsAbsolute, remove_dot_segments};
 ghost use Rattle.uri_ops.specs.FromEnd.NormalComponents.{normal_component};
 ghost use Rattle.uri_ops.specs.FromEnd.SegmentsLeft.{is_abempty_path, segments_left};
+ghost use Rattle.uri_ops.specs.FromEnd.OctetsBack.{octets_unread};
 
 use crate::path::dot_segments::has_dot_segments;
 use crate::read_back::octets_back::OctetsBack;
@@ -29,7 +30,6 @@ pub struct PathBack<'a> {
 }
 
 impl<'a> PathBack<'a> {
-    ghost use Rattle.uri_ops.specs.FromEnd.OctetsBack.{octets_unread};
     ghost use Rattle.uri_ops.specs.FromEnd.PathBack.{path_unread};
 
     /// Returns a path to read with its dot segments.

@@ -1,8 +1,11 @@
 //! A text with the positions of its components, and the substrings that a target takes from it (RFC
 //! 3986, section 5.3).
-ghost use Rattle.std.specs.Prelude.{◌≡◌, ◌≤◌, ◌+◌, ◌++◌, ℕ, List, [], codes, length, Some, None, is_some, option_map};
+ghost use Rattle.std.specs.Prelude.{◌≡◌, ◌≤◌, ◌+◌, ◌++◌, ℕ, List, [], codes, length, Some, None, is_some, option_map, take};
 ghost use Rattle.std.specs.Str.{IsUtf8};
 ghost use Rattle.uri_parts.specs.Prelude.{ArePackedPositionsOf, ArePositionsOf, IsOfKind, authority_at, components, core_text, host_end_of, marked, packed, positions_of};
+ghost use Rattle.uri_ops.specs.Dots.{IsAbsolute};
+ghost use Rattle.uri_ops.specs.Models.Directories.{EndsIn};
+ghost use Rattle.uri_ops.specs.Models.Places.{IsSlashOrStart, before_path};
 
 use crate::traits::RiMaybeRef;
 use uri_parts::core_text::Core;
@@ -21,10 +24,6 @@ pub struct TextView<'a> {
 }
 
 impl<'a> TextView<'a> {
-    ghost use Rattle.std.specs.Prelude.{take};
-    ghost use Rattle.uri_ops.specs.Dots.{IsAbsolute};
-    ghost use Rattle.uri_ops.specs.Models.Directories.{EndsIn};
-    ghost use Rattle.uri_ops.specs.Models.Places.{IsSlashOrStart, before_path};
     ghost use Rattle.uri_ops.specs.Resolving.{components_of};
 
     /// Returns the text of a base or a reference, with the positions of its components.

@@ -8,6 +8,7 @@ ghost use Rattle.std.specs.Hash as fed;
 ghost use Rattle.std.specs.Ordering.{as_partial_cmp, nat_cmp, on};
 ghost use Rattle.uri_parts.specs.CoreTexts.{core_text};
 ghost use Rattle.uri_parts.specs.Printing.{debug_reference};
+ghost use Rattle.std.proofs.Common.{rules};
 
 use crate::core_text::Core;
 use crate::kind::Kind;
@@ -18,8 +19,6 @@ use std::fmt;
 use std::hash::{Hash, Hasher};
 
 impl<K: Kind, T: AsStr> PartialEq for Core<K, T> {
-    ghost use Rattle.std.proofs.Common.{rules};
-
     ghost eq = { on core_text (pointwise ◌==◌) };
 
     ghost laws = { Prim.search (comparing, rules) };
@@ -31,14 +30,10 @@ impl<K: Kind, T: AsStr> PartialEq for Core<K, T> {
 }
 
 impl<K: Kind, T: AsStr> Eq for Core<K, T> {
-    ghost use Rattle.std.proofs.Common.{rules};
-
     ghost laws = { Prim.search (comparing, rules) };
 }
 
 impl<K: Kind, T: AsStr> Ord for Core<K, T> {
-    ghost use Rattle.std.proofs.Common.{rules};
-
     ghost cmp = { on core_text (slice_cmp nat_cmp) };
 
     ghost total = { Prim.search (comparing, rules) };
@@ -54,8 +49,6 @@ impl<K: Kind, T: AsStr> Ord for Core<K, T> {
 }
 
 impl<K: Kind, T: AsStr> PartialOrd for Core<K, T> {
-    ghost use Rattle.std.proofs.Common.{rules};
-
     ghost partial_cmp = { as_partial_cmp (on core_text (slice_cmp nat_cmp)) };
 
     ghost laws = { partial_order_from_own_ties (Prim.search (comparing, rules))
@@ -68,8 +61,6 @@ impl<K: Kind, T: AsStr> PartialOrd for Core<K, T> {
 }
 
 impl<K: Kind, T: AsStr> Hash for Core<K, T> {
-    ghost use Rattle.std.proofs.Common.{rules};
-
     ghost hash_input = { λ core. fed.str (core_text core) };
 
     ghost respects_eq = { Prim.search (hashing, rules) };
