@@ -1,5 +1,5 @@
 -- What proofs import from std and from `specs/`: the modules that three files or more use.
-pub use Rattle.std.proofs.Common.{ℕ, ◌+◌, ◌*◌, ◌≤◌, Bool, true, false, cond, List, [], ◌∷◌, length, ap, arith, IsUtf8, ◌≡◌, suc, ◌<◌, ◌≢◌, eqb, not, ◌++◌, get_or, take, drop, map, refl, sym, ◌∙◌, subst, ⊎_elim, append_assoc, lit<, add-zero, IsCharBoundary, length-drop, zero, ◌&&◌, ◌||◌, ltb, ◌/◌, ◌%◌, IsAscii, bytes_eq, Some, string_bytes, Result, Ok, Err, OnOk, is_ok, codes, ◌-◌, length-take, rules, option_map, Option, None, IsTrue, IfSome, is_some, is_none, ◌^◌, leb, w64, bit_and, nat_le, bit_or, min, replicate, w8, Fits, T, pow_mono, max, slice_index_or, inl, ◌⊎◌, inr, lit≤, slice_index, take_at, drop_at, unwrap_or, ◌↔◌, take_all, zero-add, ◌==◌, length-append, nat_lt, MatchOption, Bor, OnErr, if◌then◌else◌, length-take-le, add-one, String, Vec, Global}
+pub use Rattle.std.proofs.Common.{ℕ, ◌+◌, ◌*◌, ◌≤◌, Bool, true, false, cond, List, [], ◌∷◌, length, ap, arith, IsUtf8, ◌≡◌, suc, ◌<◌, ◌≢◌, eqb, not, ◌++◌, get_or, take, drop, map, refl, sym, ◌∙◌, subst, ⊎_elim, append_assoc, lit<, add-zero, IsCharBoundary, length-drop, zero, ◌&&◌, ◌||◌, ltb, ◌/◌, ◌%◌, IsAscii, bytes_eq, Some, string_bytes, Result, Ok, Err, OnOk, is_ok, codes, ◌-◌, length-take, rules, option_map, Option, None, IsTrue, IfSome, is_some, is_none, ◌^◌, leb, w64, bit_and, nat_le, bit_or, min, replicate, w8, Fits, T, pow_mono, slice_index_or, inl, ◌⊎◌, inr, lit≤, slice_index, take_at, drop_at, unwrap_or, ◌↔◌, take_all, zero-add, ◌==◌, length-append, nat_lt, MatchOption, Bor, OnErr, if◌then◌else◌, length-take-le, add-one, String, Vec, Global}
 pub use Rattle.std.proofs.Math.Bool.{and-true, or-false}
 pub use Rattle.std.proofs.Math.ListN.{get_or-map}
 pub use Rattle.std.proofs.Math.Seq.{take-append_seam, drop-append_seam, get_or-append_seam, take-append-add, drop-append-add}
@@ -15,8 +15,8 @@ pub use Rattle.std.proofs.lemmas.Nat.{and_le_l, shr-shr, and_mask, pow_pos, shr_
 pub use Rattle.std.proofs.lemmas.Nat.Bits.{bit_at-zero, bit_at_above, bit_at_ones, bit_at-lt, bit_at_and, bit_at_cat_high, bit_at_cat_low, bit_at-trailing_zeros, and_pow, shr_and_one, bit_at_or, bit_at_not, bit_at_set_same, bit_at_set_other, same_from_bits_below}
 pub use Rattle.std.proofs.lemmas.Result.{on_ok_weaker}
 pub use Rattle.std.proofs.lemmas.Simd.{bit_mask_l, mask_l-lt, get_or-chunk, length-chunk, swz_l, SwzOk, SwzOk-from_Each1, Each1-from_get_or, Each1-get_or, length-swz_l, get_or-swz_l, zip2_of_maps, bitmask_splat, map-map, zip2_splat}
-pub use Rattle.std.proofs.lemmas.Str.{encodes-chars, length-le-encodes, chars-append, chars-encodes, encode_ascii, scalars-chars, IsUtf8-take, IsUtf8-drop, IsCharBoundary-after_ascii, chars_past_char, length-encode, IsCharBoundary-past_char, drop_past_char, IsUtf8-from_ascii, IsUtf8-append, IsUtf8-nil, IsUtf8-encode, IsUtf8-from_is_utf8, is_utf8-from_IsUtf8, utf8_valid_len_le, utf8_lossy_step, utf8_lossy-IsUtf8, encodes-append, chars-nil, IsCharBoundary-at_seam, IsCharBoundary-before_ascii, len_utf8_ascii, IsCharBoundary-from_take, IsUtf8-string_bytes, IsCharBoundary-start, IsCharBoundary-from_ascii}
-pub use Rattle.std.proofs.lemmas.Str.Ascii.{IsAscii-from_all, IsAscii-nil, IsAscii-push, lowercase_ascii, lowercase-lowercase}
+pub use Rattle.std.proofs.lemmas.Str.{encodes-chars, length-le-encodes, chars-append, chars-encodes, encode_ascii, scalars-chars, IsUtf8-take, IsUtf8-drop, IsCharBoundary-after_ascii, chars_past_char, length-encode, IsCharBoundary-past_char, drop_past_char, IsUtf8-from_ascii, IsUtf8-append, IsUtf8-nil, IsUtf8-encode, IsUtf8-from_is_utf8, is_utf8-from_IsUtf8, utf8_valid_len_le, utf8_lossy_step, utf8_lossy-IsUtf8, encodes-append, chars-nil, IsCharBoundary-at_seam, IsCharBoundary-before_ascii, IsCharBoundary-from_take, IsUtf8-string_bytes, IsCharBoundary-start, IsCharBoundary-from_ascii}
+pub use Rattle.std.proofs.lemmas.Str.Ascii.{IsAscii-from_all, IsAscii-nil, IsAscii-push, lowercase-lowercase}
 pub use Rattle.std.specs.Char.{digit_value, is_ascii_hexdigit, IsScalar, len_utf8, is_ascii_alphabetic, is_ascii_digit, to_ascii_lowercase}
 unfoldable pub use Rattle.std.specs.Char.{encode_utf8}
 pub use Rattle.std.specs.Int.{bit_at, trailing_zeros, bit_not, is_in_range}

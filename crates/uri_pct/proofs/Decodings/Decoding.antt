@@ -1,5 +1,6 @@
 -- The parts of a text that is decoded: what is before a `%`, and the octet that it begins.
-use Rattle.uri_pct.proofs.Common.{◌≡◌, ℕ, suc, ◌+◌, ◌*◌, ◌<◌, ◌≤◌, ◌≢◌, Bool, true, false, eqb, not, List, [], ◌∷◌, ◌++◌, length, get_or, take, drop, map, refl, sym, ap, ◌∙◌, subst, arith, ⊎_elim, append_assoc, lit<, add-zero, list_all, position_or_len, prefix_len, encode_utf8, digit_value, is_ascii_hexdigit, chars, encode_utf8_all, all_scalars, IsUtf8, IsCharBoundary, cases_Bool, cases_lt, cond-true, cond-false, and_parts, and_from, eqb-true, eqb-false, ne_eqb, not-true, not-false, not_from_false, false≢true, false_from_ne_true, append-nil, take-append-drop, drop_all, length-drop, get_or-drop, list_all-append, prefix_len-le-length, prefix_len_stops, chars-append, chars-encodes, encode_ascii, encodes-chars, scalars-chars, IsUtf8-take, IsUtf8-drop, IsCharBoundary-after_ascii, TableSet, LacksPercent, IsSubset, lacks, Token, Char, Octet, is_pct_encoded, tokens_from_chars, tokens, allows_token, is_valid_for, IsValidFor, Chunk, Text, Byte, prepend_to_chunks, chunks_of_tokens, chunks, widest_set}
+use Rattle.std.proofs.lemmas.Grind.{common_steps}
+use Rattle.uri_pct.proofs.Common.{◌≡◌, ℕ, suc, ◌+◌, ◌*◌, ◌<◌, ◌≤◌, ◌≢◌, Bool, true, false, eqb, not, List, [], ◌∷◌, ◌++◌, length, get_or, take, drop, map, refl, sym, ap, ◌∙◌, subst, arith, ⊎_elim, append_assoc, lit<, add-zero, list_all, position_or_len, prefix_len, encode_utf8, digit_value, is_ascii_hexdigit, chars, encode_utf8_all, all_scalars, IsUtf8, IsCharBoundary, cases_Bool, cases_lt, cond-true, cond-false, and_parts, and_from, eqb-true, eqb-false, ne_eqb, not-true, not-false, not_from_false, false≢true, append-nil, take-append-drop, drop_all, length-drop, get_or-drop, list_all-append, prefix_len-le-length, prefix_len_stops, chars-append, chars-encodes, encode_ascii, encodes-chars, scalars-chars, IsUtf8-take, IsUtf8-drop, IsCharBoundary-after_ascii, TableSet, LacksPercent, IsSubset, lacks, Token, Char, Octet, is_pct_encoded, tokens_from_chars, tokens, allows_token, is_valid_for, IsValidFor, Chunk, Text, Byte, prepend_to_chunks, chunks_of_tokens, chunks, widest_set}
 use Rattle.uri_pct.proofs.UnreservedDecoding.Printing.{char_but_percent_is_its_own_token}
 use Rattle.uri_pct.proofs.ValidTexts.TokenCuts.{ascii_byte_is_first_of_chars}
 use Rattle.uri_pct.proofs.Unicode.Characters.{hexdigit_is_ascii}
@@ -17,13 +18,7 @@ chars_without_percent_are_tokens (c ∷ cs) ds e =
 head_and_tail_lack_percent : (c : ℕ) (cs : List ℕ) → lacks 37 (encode_utf8_all (c ∷ cs)) ≡ true
     → (eqb c 37 ≡ false) × (lacks 37 (encode_utf8_all cs) ≡ true)
 head_and_tail_lack_percent c cs e =
-    let p = and_parts _ _
-    (sym (list_all-append (λ b. not (eqb b 37)) (encode_utf8 c) (encode_utf8_all cs)) ∙ e) in (
-      false_from_ne_true _ (λ q. let d = eqb-true c 37 q in
-          let one : encode_utf8 37 ≡ 37 ∷ [] = encode_ascii 37 (omega arith) in
-          false≢true (sym (ap (lacks 37) one) ∙ ap (λ x. lacks 37 (encode_utf8 x)) (sym d) ∙ p.0)),
-      p.1,
-    )
+    grind (arith, common_steps, list_all-append, eqb-true, false≢true, lacks)
 
 -- decoding: characters have no `%` (37) if their bytes have none
 chars_lack_percent_if_bytes_do : (cs : List ℕ) → lacks 37 (encode_utf8_all cs) ≡ true
@@ -170,18 +165,7 @@ len_before_percent_is_at_most_length text = prefix_len-le-length (λ b. not (eqb
 -- decoding: a character begins, or the text ends, at its first `%`
 pub first_percent_is_at_boundary : (text : List ℕ) → IsCharBoundary text (len_before_percent text)
 first_percent_is_at_boundary text =
-    let p = len_before_percent text in
     grind (arith, percent_ends_unencoded_prefix, len_before_percent_is_at_most_length)
-
--- decoding: the text before the first `%` is not empty, unless the text begins with `%`
-unencoded_prefix_is_nonempty : (text : List ℕ) → 0 < length text → get_or text 0 0 ≢ 37
-    → 0 < length (take (len_before_percent text) text)
-unencoded_prefix_is_nonempty [] some other = absurd (omega arith)
-unencoded_prefix_is_nonempty (b ∷ rest) some other =
-    let e : not (eqb b 37) ≡ true = not_from_false _ (ne_eqb b 37 other) in
-    let next : len_before_percent (b ∷ rest) ≡ suc (len_before_percent rest) = cond-true _ _ _ e
-    ∙ omega arith in
-    rw next (omega arith)
 
 -- decoding: characters before other tokens, by their bytes, are put before the chunks of these
 unencoded_prefix_is_prepended_to_chunks : (cs prefix : List ℕ) (ts : List Token)
@@ -189,8 +173,7 @@ unencoded_prefix_is_prepended_to_chunks : (cs prefix : List ℕ) (ts : List Toke
     → chunks_of_tokens (map Char cs ++ ts) ≡ prepend_to_chunks prefix (chunks_of_tokens ts)
 unencoded_prefix_is_prepended_to_chunks [] prefix ts e some = absurd (omega (arith, ap length e))
 unencoded_prefix_is_prepended_to_chunks (c ∷ cs) prefix ts e some =
-    leading_chars_are_prepended_to_chunks c cs ts
-    ∙ ap (λ x. prepend_to_chunks x (chunks_of_tokens ts)) e
+    grind (arith, leading_chars_are_prepended_to_chunks)
 
 -- decoding: the tokens of a text whose prefix has no `%` (37) are its characters,
 -- and those of what follows
@@ -243,12 +226,6 @@ unencoded_prefix_is_first_chunk text n u v e some =
       text_before_percent_is_own_chunk,
     )
 
--- decoding: if a text does not begin with `%`, its first chunk ends at the first `%`
-text_chunk_ends_at_percent : (text : List ℕ) (n : ℕ) → IsUtf8 text → IsValidFor widest_set text
-    → 0 < length text → get_or text 0 0 ≢ 37 → n ≡ len_before_percent text → BeginsWithText text n
-text_chunk_ends_at_percent text n u v some other e = unencoded_prefix_is_first_chunk text n u v e
-    (subst (λ k. 0 < length (take k text)) (sym e) (unencoded_prefix_is_nonempty text some other))
-
 -- general fact on texts, for decoding: a length that is not 0 is above 0
 nonzero_length_is_positive : (bytes : List ℕ) → eqb (length bytes) 0 ≡ false → 0 < length bytes
 nonzero_length_is_positive bytes e = omega (arith, eqb-false (length bytes) 0 e)
@@ -257,22 +234,15 @@ nonzero_length_is_positive bytes e = omega (arith, eqb-false (length bytes) 0 e)
 pub bytes_from_percent_begin_with_octet : (bytes text : List ℕ) → bytes ≡ text → IsUtf8 bytes
     → IsValidFor widest_set text → eqb (length bytes) 0 ≡ false → get_or bytes 0 0 ≡ 37
     → BeginsWithOctet text
-bytes_from_percent_begin_with_octet bytes text same u v some e = percent_begins_octet text
-    (subst IsUtf8 same u) v (subst (λ x. 0 < length x) same (nonzero_length_is_positive bytes some))
-    (ap (λ x. get_or x 0 0) (sym same) ∙ e)
+bytes_from_percent_begin_with_octet bytes text same u v some e =
+    grind (arith, percent_begins_octet, nonzero_length_is_positive)
 
 -- decoding: if a text that decodes does not begin with `%`, its first chunk ends at the first `%`
 pub bytes_begin_with_text_up_to_percent : (bytes text : List ℕ) (n : ℕ) → bytes ≡ text
     → IsUtf8 bytes → IsValidFor widest_set text → eqb (length bytes) 0 ≡ false → get_or bytes 0 0
     ≢ 37 → n ≡ position_or_len (λ b. eqb b 37) bytes → BeginsWithText text n × IsCharBoundary text n
 bytes_begin_with_text_up_to_percent bytes text n same u v some other e =
-    let place : n ≡ position_or_len (λ b. eqb b 37) text = e
-    ∙ ap (position_or_len (λ b. eqb b 37)) same in (
-      text_chunk_ends_at_percent text n (subst IsUtf8 same u) v
-          (subst (λ x. 0 < length x) same (nonzero_length_is_positive bytes some))
-          (λ h. other (ap (λ x. get_or x 0 0) same ∙ h)) place,
-      subst (IsCharBoundary text) (sym place) (first_percent_is_at_boundary text),
-    )
+    grind (arith, common_steps, unencoded_prefix_is_first_chunk, first_percent_is_at_boundary)
 
 -- decoding: after an octet at the start of a text a character begins
 pub boundary_after_octet : (text : List ℕ) → IsUtf8 text → BeginsWithOctet text
@@ -289,10 +259,4 @@ first_chunk_is_value_of_octet text o = ap chunks_of_tokens o.first
 
 -- decoding: each set without `%` is a subset of the largest one, for which a text decodes
 pub every_set_is_subset_of_widest : (set : TableSet) → LacksPercent set → IsSubset set widest_set
-every_set_is_subset_of_widest set lacks = record {
-  ascii = λ c e. not_from_false _
-      (ne_eqb c 37 (λ d. false≢true (sym lacks ∙ ap set.ascii (sym d) ∙ e)));
-  pct_encoded = λ _. refl;
-  ucschar = λ _. refl;
-  iprivate = λ _. refl;
-}
+every_set_is_subset_of_widest set lacks = grind (arith, not_from_false, ne_eqb, false≢true)

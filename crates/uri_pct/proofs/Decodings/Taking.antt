@@ -1,9 +1,11 @@
 -- What is taken where text is appended.
-use Rattle.uri_pct.proofs.Common.{◌≡◌, ℕ, true, List, [], ◌∷◌, ◌++◌, refl, sym, ap, ◌∙◌, string_bytes, Result, Ok, Err, flat_map, OnOk, is_ok, IsUtf8, append-nil, Part, Literal, pieces_of_parts, parts, lossy_piece, utf8_pieces, lossy_text, widest_set, tokens, bytes_decoded_from, IsValidFor}
+use Rattle.uri_pct.proofs.ValidTexts.Allowed.{valid_text_has_printable_tokens}
+use Rattle.uri_pct.proofs.Unicode.PartPieces.{parts_after_run_have_pieces_of_decoded_bytes}
+use native.Mathlib.Omega.{arith}
+use Rattle.uri_pct.proofs.Common.{◌≡◌, ℕ, true, List, [], ◌∷◌, ◌++◌, refl, string_bytes, Result, Ok, Err, OnOk, is_ok, IsUtf8, append-nil, Part, Literal, pieces_of_parts, parts, utf8_pieces, lossy_text, widest_set, tokens, bytes_decoded_from, IsValidFor}
 use Rattle.uri_pct.specs.Models.TakenBytes.{TookText}
 use Rattle.uri_pct.specs.declared.decode_text.LossyText.{LossyText}
 use Rattle.uri_pct.proofs.Unicode.Lossy.{lossy_text_of_utf8_is_itself}
-use Rattle.uri_pct.proofs.Unicode.PartPieces.{parts_have_pieces_of_decoded_bytes}
 
 -- general fact on results, for decoding: what holds if a call succeeds holds if it returned Ok
 pub OnOk-from-is_ok : {T E P : Type 0} (r : Result T E) → (is_ok r ≡ true → P) → OnOk r P
@@ -19,14 +21,11 @@ literal_part_has_utf8_pieces_of_its_text text = append-nil (utf8_pieces text)
 pub appended_text_takes_lossy_text_of_parts : (s t : LossyText) (ps : List Part) (text : List ℕ)
     → IsUtf8 text → pieces_of_parts ps ≡ utf8_pieces text
     → string_bytes t.text ≡ string_bytes s.text ++ text → TookText s ps t
-appended_text_takes_lossy_text_of_parts s t ps text u pieces bytes = record {
-  text = bytes ∙ ap (λ x. string_bytes s.text ++ x)
-      (sym (ap (flat_map lossy_piece) pieces ∙ lossy_text_of_utf8_is_itself text u));
-}
+appended_text_takes_lossy_text_of_parts s t ps text u pieces bytes =
+    grind (arith, lossy_text_of_utf8_is_itself)
 
 pub parts_taken_give_lossy_text : (text : List ℕ) (s t : LossyText) → IsValidFor widest_set text
     → string_bytes s.text ≡ [] → TookText s (parts text) t
     → string_bytes t.text ≡ lossy_text (bytes_decoded_from (tokens text))
 parts_taken_give_lossy_text text s t v none took =
-    took.text ∙ ap (λ x. x ++ flat_map lossy_piece (pieces_of_parts (parts text))) none
-    ∙ ap (flat_map lossy_piece) (parts_have_pieces_of_decoded_bytes text v)
+    grind (arith, parts_after_run_have_pieces_of_decoded_bytes, valid_text_has_printable_tokens)

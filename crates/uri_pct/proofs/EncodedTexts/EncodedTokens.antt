@@ -1,7 +1,6 @@
 -- The tokens of encoded texts and bytes: `tokens` inverts `print` on them, and a set with octets
 -- allows them.
 use Rattle.uri_pct.proofs.Common.{◌≡◌, ℕ, suc, ◌+◌, ◌%◌, ◌<◌, Bool, true, ltb, List, [], ◌∷◌, get_or, map, refl, sym, ap, ◌∙◌, arith, ⊎_elim, list_all, flat_map, All, IsScalar, encode_utf8, chars, IsUtf8, all_scalars, cases_Bool, cond-true, cond-false, and_parts, and_from, lt-ltb, nat_tests, list_all-append, All-head, All-tail, encode_ascii, scalars-chars, TableSet, LacksPercent, IsSubset, allows, Octet, allows_token, Piece, WellFormed, IllFormed, IsOfCharacter, char_of, piece_bytes, bytes_of_pieces, utf8_pieces, encode_char, encode_text, encode_piece, encode_bytes, is_printable}
-use Rattle.uri_pct.proofs.ValidTexts.Allowed.{allowed_char_is_printable}
 use Rattle.uri_pct.proofs.Unicode.CharacterPieces.{utf8_pieces-are-of-characters}
 use Rattle.uri_pct.proofs.ValidTexts.EStrs.{tokens_allowed_by_superset}
 use Rattle.uri_pct.proofs.Unicode.Pieces.{bytes_of_utf8_pieces_are_the_bytes}
@@ -57,11 +56,8 @@ octets_are_allowed_if_pct_encoded set (b ∷ bytes) o = and_from _ _ o
 -- encoding: a character is encoded as tokens that can be written
 pub encoded_char_is_printable : (set : TableSet) (c : ℕ) → LacksPercent set → IsScalar c
     → list_all is_printable (encode_char set c) ≡ true
-encoded_char_is_printable set c lacks scalar = ⊎_elim (λ e. ap (list_all is_printable)
-    (cond-true _ _ _ e) ∙ and_from _ true (allowed_char_is_printable set c lacks e) refl)
-    (λ e. ap (list_all is_printable) (cond-false _ _ _ e)
-    ∙ octets_of_bytes_are_printable (encode_utf8 c) (utf8_bytes_are_eight_bit c scalar))
-    (cases_Bool (allows set c))
+encoded_char_is_printable set c lacks scalar =
+    grind (arith, octets_of_bytes_are_printable, utf8_bytes_are_eight_bit)
 
 encoded_char_is_allowed : (set : TableSet) (c : ℕ) → set.pct_encoded ≡ true
     → list_all (allows_token set) (encode_char set c) ≡ true
@@ -88,8 +84,7 @@ encoded_chars_are_allowed : (set : TableSet) (cs : List ℕ) → set.pct_encoded
     → list_all (allows_token set) (flat_map (encode_char set) cs) ≡ true
 encoded_chars_are_allowed set [] o = refl
 encoded_chars_are_allowed set (c ∷ cs) o =
-    list_all-append (allows_token set) (encode_char set c) (flat_map (encode_char set) cs)
-    ∙ and_from _ _ (encoded_char_is_allowed set c o) (encoded_chars_are_allowed set cs o)
+    grind (arith, encoded_chars_are_allowed set cs o, list_all-append, encoded_char_is_allowed)
 
 pub encoded_text_is_allowed : (sub set : TableSet) (text : List ℕ) → IsSubset sub set
     → sub.pct_encoded ≡ true → list_all (allows_token set) (encode_text sub text) ≡ true
@@ -134,8 +129,7 @@ encoded_pieces_are_allowed : (set : TableSet) (ps : List Piece) → set.pct_enco
     → list_all (allows_token set) (flat_map (encode_piece set) ps) ≡ true
 encoded_pieces_are_allowed set [] o = refl
 encoded_pieces_are_allowed set (p ∷ ps) o =
-    list_all-append (allows_token set) (encode_piece set p) (flat_map (encode_piece set) ps)
-    ∙ and_from _ _ (encoded_piece_is_allowed set p o) (encoded_pieces_are_allowed set ps o)
+    grind (arith, encoded_pieces_are_allowed set ps o, list_all-append, encoded_piece_is_allowed)
 
 pub encoded_bytes_are_allowed : (sub set : TableSet) (bytes : List ℕ) → IsSubset sub set
     → sub.pct_encoded ≡ true → list_all (allows_token set) (encode_bytes sub bytes) ≡ true

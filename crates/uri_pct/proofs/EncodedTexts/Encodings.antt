@@ -1,5 +1,5 @@
 -- The tokens that texts and bytes are encoded as.
-use Rattle.uri_pct.proofs.Common.{◌≡◌, ℕ, ◌+◌, ◌-◌, ◌≤◌, true, false, List, [], ◌∷◌, ◌++◌, length, take, drop, map, refl, sym, ap, ◌∙◌, arith, append_assoc, flat_map, All, encode_utf8, len_utf8, chars, encode_utf8_all, all_scalars, IsUtf8, take-append_seam, cond-true, cond-false, and_parts, append-nil, drop-drop, length-take, take-append-le, take-take, nil_from_length, flat_map-append, All-head, All-tail, chars_past_char, encodes-chars, scalars-chars, length-encode, TableSet, allows, Token, Octet, bytes_decoded_from, bytes_of_one_token, text_of_token, print, Piece, WellFormed, IllFormed, IsOfCharacter, char_of, piece_bytes, bytes_of_pieces, utf8_pieces, encode_char, encode_text, encode_piece, encode_bytes, ill_formed_piece_if_any, nat_tests}
+use Rattle.uri_pct.proofs.Common.{◌≡◌, ℕ, ◌+◌, ◌-◌, ◌≤◌, true, false, List, [], ◌∷◌, ◌++◌, length, take, drop, map, refl, sym, ap, ◌∙◌, arith, append_assoc, flat_map, All, encode_utf8, len_utf8, chars, encode_utf8_all, all_scalars, IsUtf8, take-append_seam, cond-true, cond-false, and_parts, append-nil, drop-drop, length-take, take-append-le, take-take, nil_from_length, flat_map-append, All-head, All-tail, chars_past_char, encodes-chars, scalars-chars, length-encode, TableSet, allows, Token, Octet, bytes_decoded_from, bytes_of_one_token, text_of_token, print, Piece, IsOfCharacter, bytes_of_pieces, utf8_pieces, encode_char, encode_text, encode_piece, encode_bytes, ill_formed_piece_if_any, nat_tests}
 use Rattle.uri_pct.proofs.Unicode.CharacterPieces.{utf8_pieces-are-of-characters, char_of_utf8_is_the_char}
 use Rattle.uri_pct.proofs.Unicode.Lossy.{piece_of_char, pieces_of_chars_come_before_the_rest}
 use Rattle.uri_pct.proofs.Unicode.Runs.{no_bytes_have_no_pieces}
@@ -48,21 +48,11 @@ pub encoded_text_decodes_to_itself : (set : TableSet) (text : List ℕ) → IsUt
 encoded_text_decodes_to_itself set text u = encoded_chars_decode_to_their_bytes set (chars text)
     ∙ encodes-chars text u
 
-encoded_piece_decodes_to_its_bytes : (set : TableSet) (p : Piece) → IsOfCharacter p
-    → bytes_decoded_from (encode_piece set p) ≡ piece_bytes p
-encoded_piece_decodes_to_its_bytes set (WellFormed bytes) h = encoded_char_decodes_to_its_bytes set
-    (char_of bytes) ∙ h.1
-encoded_piece_decodes_to_its_bytes set (IllFormed bytes) h = octets_decode_to_their_bytes bytes
-
 encoded_pieces_decode_to_their_bytes : (set : TableSet) (ps : List Piece) → All IsOfCharacter ps
     → bytes_decoded_from (flat_map (encode_piece set) ps) ≡ bytes_of_pieces ps
 encoded_pieces_decode_to_their_bytes set [] h = refl
 encoded_pieces_decode_to_their_bytes set (p ∷ ps) h =
-    flat_map-append bytes_of_one_token (encode_piece set p) (flat_map (encode_piece set) ps)
-    ∙ ap (λ x. x ++ bytes_decoded_from (flat_map (encode_piece set) ps))
-    (encoded_piece_decodes_to_its_bytes set p (All-head IsOfCharacter p ps h))
-    ∙ ap (λ x. piece_bytes p ++ x)
-    (encoded_pieces_decode_to_their_bytes set ps (All-tail IsOfCharacter p ps h))
+    grind (arith, encoded_pieces_decode_to_their_bytes set ps (All-tail IsOfCharacter p ps h), flat_map-append, octets_decode_to_their_bytes, All-head)
 
 pub encoded_bytes_decode_to_themselves : (set : TableSet) (bytes : List ℕ)
     → bytes_decoded_from (encode_bytes set bytes) ≡ bytes
@@ -119,12 +109,6 @@ pieces_of_text_are_encoded_as_text set text u =
     ∙ append-nil (map piece_of_char (chars text)))
     ∙ pieces_of_chars_are_encoded_as_chars set (chars text) (scalars-chars text u)
 
--- encoding: bytes that are not UTF-8 are encoded as octets
-ill_formed_piece_is_encoded_as_octets : (set : TableSet) (bytes : List ℕ)
-    → flat_map (encode_piece set) (ill_formed_piece_if_any bytes) ≡ map Octet bytes
-ill_formed_piece_is_encoded_as_octets set [] = refl
-ill_formed_piece_is_encoded_as_octets set (b ∷ bytes) = append-nil (map Octet (b ∷ bytes))
-
 -- encoding: after a chunk and its ill-formed part (fault),
 -- what is left to append are the bytes after them
 pub encoded_bytes_after_chunk : (set : TableSet) (out mid new bytes text fault rest all : List ℕ)
@@ -133,15 +117,7 @@ pub encoded_bytes_after_chunk : (set : TableSet) (out mid new bytes text fault r
     → mid ≡ out ++ print (encode_text set text) → new ≡ mid ++ print (map Octet fault)
     → out ++ print (encode_bytes set bytes) ≡ all → new ++ print (encode_bytes set rest) ≡ all
 encoded_bytes_after_chunk set out mid new bytes text fault rest all u pieces first then whole =
-    grind (
-      arith,
-      nat_tests,
-      flat_map-append,
-      pieces_of_text_are_encoded_as_text,
-      ill_formed_piece_is_encoded_as_octets,
-      print-append,
-      append_assoc,
-    )
+    grind (arith, flat_map-append, pieces_of_text_are_encoded_as_text, append_assoc)
 
 pub encoded_bytes_at_end : (set : TableSet) (out bytes all : List ℕ) → length bytes ≡ 0
     → out ++ print (encode_bytes set bytes) ≡ all → out ≡ all

@@ -1,4 +1,5 @@
 -- The first byte from a start on that fails a test, by the mask of its block, and octets after it.
+use Rattle.std.proofs.lemmas.Grind.{common_steps}
 use Rattle.uri_pct.proofs.Common.{◌≡◌, ℕ, ◌+◌, ◌-◌, ◌^◌, ◌<◌, ◌≤◌, Bool, true, false, not, eqb, leb, List, length, get_or, refl, sym, ap, subst, ◌∙◌, arith, w64, bit_and, ◌&&◌, ⊎_elim, bit_at, trailing_zeros, is_ascii_hexdigit, and-true, and_le_l, bit_at-zero, bit_at_above, bit_at_ones, cases_lt, cases_Bool, both_ways, eq-eqb, eqb-true, and_parts, and_from, and_right, not-true, leb-true, le-leb, has_hex_digits_after, AreCharactersOrOctets, IsLongestRun, is_lane_of_octet, nat_tests}
 use Rattle.uri_pct.proofs.TableSets.Masks.{bit_of_bit_and, bit_that_is_not_one_is_zero}
 use Rattle.uri_pct.proofs.LaneScans.LaneBits.{is_set_bit, trailing_zeros_is_first_set_lane}
@@ -70,18 +71,7 @@ first_of_lower_lanes left below some =
 pub first_of_last_lanes : (left : ℕ) → left < 2 ^ 16 → bit_and left 16383 ≡ 0
     → (bit_and left 49152 ≡ 0 → ⊥) → IsFirstLane left (trailing_zeros w64 (bit_and left 49152))
 first_of_last_lanes left below none some =
-    let high = bit_and left 49152 in
-    let f = trailing_zeros_is_first_set_lane high
-    (omega (arith, below, and_le_l left 49152)) some in
-    record {
-      within = f.0;
-      set = (and_parts _ _ (sym (bit_of_bit_and left 49152 (trailing_zeros w64 high))
-          ∙ eq-eqb _ _ f.1)).0;
-      before = λ k h. ⊎_elim (λ (l : k < 14). sym (lane_below_14 left k l)
-          ∙ no_lane_of_zero (bit_and left 16383) k none)
-          (λ (l : 14 ≤ k). sym (lane_from_14 left k l (omega (arith, h, f.0)))
-          ∙ ap (λ n. eqb n 1) (f.2 k h)) (cases_lt k 14);
-    }
+    grind (arith, common_steps, trailing_zeros_is_first_set_lane)
 
 pub no_lane_of_both_parts : (left : ℕ) → bit_and left 16383 ≡ 0 → bit_and left 49152 ≡ 0
     → (k : ℕ) → k < 16 → is_set_bit left k ≡ false
@@ -124,12 +114,8 @@ module _ (test : ℕ → Bool) (bs : List ℕ) (start i mask : ℕ)
   -- or where the text ends, if none is and the block is the last
   pub run_goes_on_to_end : mask ≡ 0 → i + 16 ≡ length bs → start ≤ length bs
       → IsLongestRun test bs start (length bs)
-  run_goes_on_to_end none last within = record {
-    from = within;
-    within = omega arith;
-    pass = grind (arith, nat_tests, bytes_before_lane_pass, bit_at-zero);
-    stop = λ h. absurd (omega arith);
-  }
+  run_goes_on_to_end none last within =
+      grind (arith, nat_tests, bytes_before_lane_pass, bit_at-zero)
 
   -- the digits of an octet pass a test that all digits pass
   pub digits_of_octet_are_unmarked : ((c : ℕ) → is_ascii_hexdigit c ≡ true → test c ≡ true)

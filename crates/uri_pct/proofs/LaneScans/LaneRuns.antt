@@ -1,5 +1,6 @@
 -- From the mask of a load to the bytes under it.
-use Rattle.uri_pct.proofs.Common.{◌≡◌, ℕ, ◌+◌, ◌-◌, ◌/◌, ◌%◌, ◌^◌, ◌<◌, ◌≤◌, Bool, true, false, not, cond, List, map, length, get_or, refl, sym, ap, subst, ◌∙◌, arith, w64, pow_mono, bit_at, trailing_zeros, mask_l, chunk, shr-shr, shr_below, bit_at-zero, bit_at_above, bit_at-trailing_zeros, bit_mask_l, mask_l-lt, get_or-chunk, length-chunk, get_or_default, length-map, get_or-map, has_bit, IsLongestRun, nat_tests}
+use Rattle.std.proofs.lemmas.Grind.{common_steps}
+use Rattle.uri_pct.proofs.Common.{◌≡◌, ℕ, ◌+◌, ◌-◌, ◌/◌, ◌%◌, ◌^◌, ◌<◌, ◌≤◌, Bool, true, false, not, cond, List, map, length, get_or, refl, sym, ap, subst, ◌∙◌, arith, w64, pow_mono, bit_at, trailing_zeros, mask_l, chunk, shr-shr, shr_below, bit_at-zero, bit_at_above, bit_at-trailing_zeros, bit_mask_l, mask_l-lt, has_bit, IsLongestRun, nat_tests}
 
 -- sixteen bytes at a time: bit k of the mask is set where the byte at i + k fails, for w bytes
 pub record MarksFailingLanes (test : ℕ → Bool) (bs : List ℕ) (i w mask : ℕ) : Type 0 where
@@ -8,17 +9,7 @@ pub record MarksFailingLanes (test : ℕ → Bool) (bs : List ℕ) (i w mask : �
 
 pub load_mask_marks_failing_lanes : (test : ℕ → Bool) (bs : List ℕ) (i w : ℕ) → i + w ≤ length bs
     → MarksFailingLanes test bs i w (mask_l (map (λ b. not (test b)) (chunk i w bs)))
-load_mask_marks_failing_lanes test bs i w room =
-    let v = chunk i w bs in
-    let ms = map (λ b. not (test b)) v in
-    let long : length v ≡ w = length-chunk i w bs room in
-    let both : length ms ≡ w = length-map v (λ b. not (test b)) ∙ long in
-    record {
-      lane = λ k h. bit_mask_l ms k ∙ ap (λ b. cond b 1 0) (get_or_default ms k false
-          (not (test 0)) (omega (arith, both)) ∙ get_or-map (λ b. not (test b)) v k 0
-          ∙ ap (λ b. not (test b)) (get_or-chunk i w bs k 0 h));
-      below = subst (λ n. mask_l ms < 2 ^ n) both (mask_l-lt ms);
-    }
+load_mask_marks_failing_lanes test bs i w room = grind (arith, common_steps, bit_mask_l, mask_l-lt)
 
 pub set_mask_marks_lanes_outside : (low high : ℕ) (bs : List ℕ) (i mask : ℕ) → i + 16 ≤ length bs
     → mask ≡ mask_l (map (λ b. not (has_bit low high b)) (chunk i 16 bs))

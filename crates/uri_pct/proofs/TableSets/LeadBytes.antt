@@ -1,7 +1,7 @@
 -- First bytes that decide membership: each character from U+00C0 to U+D7FF is in `ucschar`.
-use Rattle.uri_pct.proofs.Common.{◌≡◌, ℕ, ◌+◌, ◌/◌, ◌<◌, ◌≤◌, true, cond, ltb, List, [], ◌∷◌, ◌++◌, length, get_or, drop, refl, sym, ap, subst, ◌∙◌, arith, get_or-drop, length-drop, encode_utf8, len_utf8, IsScalar, is_in_range, encode_utf8_all, all_scalars, IsUtf8, IsCharBoundary, cond-true, and_parts, and_from, or_left, leb-true, nat_tests, IsUtf8-drop, IsCharBoundary-past_char, drop_past_char, TableSet, allows_past_ascii, is_ucschar, valid_prefix}
+use Rattle.uri_pct.proofs.Common.{◌≡◌, ℕ, ◌+◌, ◌/◌, ◌<◌, ◌≤◌, true, cond, ltb, List, [], ◌∷◌, ◌++◌, length, get_or, drop, sym, ap, subst, ◌∙◌, arith, get_or-drop, length-drop, encode_utf8, len_utf8, IsScalar, is_in_range, encode_utf8_all, all_scalars, IsUtf8, IsCharBoundary, cond-true, and_parts, and_from, or_left, leb-true, nat_tests, IsUtf8-drop, IsCharBoundary-past_char, drop_past_char, TableSet, allows_past_ascii, is_ucschar, valid_prefix}
 use Rattle.uri_pct.proofs.ValidTexts.PrefixSteps.{valid_prefix_by_char_past_ascii_at_index}
-use Rattle.uri_pct.proofs.TableSets.Ranges.{is_low_ucschar, ucschar_below_plane_1_is_low_ucschar}
+use Rattle.uri_pct.proofs.TableSets.Ranges.{ucschar_below_plane_1_is_low_ucschar}
 
 -- tables, lead bytes: the character that begins a text
 record FirstChar (text : List ℕ) : Type 0 where
@@ -10,19 +10,11 @@ record FirstChar (text : List ℕ) : Type 0 where
   scalar : IsScalar code
   joined : text ≡ encode_utf8 code ++ suffix
 
-empty_text_has_no_first_byte : (text : List ℕ) → [] ≡ text → 0 < length text → ⊥
-empty_text_has_no_first_byte text e h = let n = ap length e in omega arith
-
 -- tables, lead bytes: a text that is not empty begins with a character
 nonempty_text_has_first_char : (text cs : List ℕ)
     → all_scalars cs ≡ true → encode_utf8_all cs ≡ text → 0 < length text → FirstChar text
-nonempty_text_has_first_char text [] s e h = absurd (empty_text_has_no_first_byte text e h)
-nonempty_text_has_first_char text (c ∷ cs) s e h = record {
-  code = c;
-  suffix = encode_utf8_all cs;
-  scalar = (and_parts _ (all_scalars cs) s).0;
-  joined = sym e;
-}
+nonempty_text_has_first_char text [] s e h = grind arith
+nonempty_text_has_first_char text (c ∷ cs) s e h = grind arith
 
 -- tables, lead bytes: the first byte of a character in UTF-8
 abbrev lead_byte : ℕ → ℕ
@@ -68,35 +60,18 @@ record HasLengthByLead (c n : ℕ) : Type 0 where
 -- to DF (223) begins a character of two bytes, from U+00C0
 lead_from_195_to_223_has_two_bytes : (c : ℕ) → 195 ≤ lead_byte c → lead_byte c < 224
     → HasLengthByLead c 2
-lead_from_195_to_223_has_two_bytes c h l = record {
-  from = grind (arith, nat_tests);
-  to = grind (arith, nat_tests);
-  size = grind (arith, nat_tests);
-}
+lead_from_195_to_223_has_two_bytes c h l = grind (arith, nat_tests)
 
 -- tables, lead bytes: a lead byte from E0 (224)
 -- to ED (237) begins a character of three bytes, up to U+D7FF
 lead_from_224_to_237_has_three_bytes : (c : ℕ) → IsScalar c → 224 ≤ lead_byte c → lead_byte c ≤ 237
     → HasLengthByLead c 3
-lead_from_224_to_237_has_three_bytes c s h l = record {
-  from = grind (arith, nat_tests);
-  to = grind (arith, nat_tests);
-  size = grind (arith, nat_tests);
-}
-
--- tables, lead bytes: a number from U+00A0 to U+D7FF is in this range of `ucschar`
-char_from_a0_to_d7ff_is_in_range : (c : ℕ) → 160 ≤ c → c ≤ 55295 → is_in_range 0xA0 0xD7FF c ≡ true
-char_from_a0_to_d7ff_is_in_range c from to = grind (arith, nat_tests)
-
--- tables, lead bytes: this range is within the part of `ucschar` below U+10000
-char_in_first_range_is_low_ucschar : (c : ℕ) → is_in_range 0xA0 0xD7FF c ≡ true
-    → is_low_ucschar c ≡ true
-char_in_first_range_is_low_ucschar c e = rw e refl
+lead_from_224_to_237_has_three_bytes c s h l = grind (arith, nat_tests)
 
 -- tables, lead bytes: a character from U+00A0 to U+D7FF is in `ucschar`
 char_from_a0_to_d7ff_is_ucschar : (c : ℕ) → 160 ≤ c → c ≤ 55295 → is_ucschar c ≡ true
-char_from_a0_to_d7ff_is_ucschar c from to = ucschar_below_plane_1_is_low_ucschar c (omega arith)
-    ∙ char_in_first_range_is_low_ucschar c (char_from_a0_to_d7ff_is_in_range c from to)
+char_from_a0_to_d7ff_is_ucschar c from to =
+    grind (arith, ucschar_below_plane_1_is_low_ucschar, nat_tests)
 
 -- tables, lead bytes: a set with `ucschar` has each
 -- character whose lead byte tells its length n here
@@ -135,9 +110,7 @@ byte_at_char_is_its_lead_byte bs rest i c joined =
 module _ (set : TableSet) (bs : List ℕ) (i : ℕ) (u : IsUtf8 bs) (here : IsCharBoundary bs i)
     (inside : i < length bs) (flag : set.ucschar ≡ true) where
   first_char : FirstChar (drop i bs)
-  first_char =
-      let v = IsUtf8-drop bs i u here in
-      nonempty_text_has_first_char (drop i bs) v.0 v.1.0 v.1.1 (omega (arith, length-drop i bs))
+  first_char = grind (arith, IsUtf8-drop, here, nonempty_text_has_first_char, length-drop)
 
   byte_is_lead_byte : get_or bs i 0 ≡ lead_byte first_char.code
   byte_is_lead_byte =

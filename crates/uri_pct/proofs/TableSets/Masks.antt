@@ -1,5 +1,5 @@
 -- Two words as a set of ASCII characters.
-use Rattle.uri_pct.proofs.Common.{◌≡◌, ℕ, ◌+◌, ◌-◌, ◌*◌, ◌/◌, ◌%◌, ◌^◌, ◌<◌, ◌≤◌, min, max, Bool, true, false, not, eqb, ltb, List, refl, sym, ap, ◌∙◌, arith, bit_and, bit_or, ◌&&◌, ◌||◌, ⊎_elim, w64, slice_index_or, bit_at, bit_not, or-false, and_mask, shr_and_one, bit_at-zero, bit_at-lt, bit_at_or, bit_at_and, bit_at_not, bit_at_set_same, bit_at_set_other, same_from_bits_below, cases_lt, cases_eq, cond-true, cond-false, lt-ltb, le-ltb, eq-eqb, ne_eqb, or_from, or_right, and_left, and_parts, agree_below, agree_below_at, nat_tests, has_bit}
+use Rattle.uri_pct.proofs.Common.{◌≡◌, ℕ, ◌+◌, ◌-◌, ◌*◌, ◌/◌, ◌%◌, ◌^◌, ◌<◌, ◌≤◌, min, Bool, true, false, not, eqb, ltb, List, refl, sym, ap, ◌∙◌, arith, bit_and, bit_or, ◌&&◌, ◌||◌, ⊎_elim, w64, slice_index_or, bit_at, bit_not, or-false, and_mask, shr_and_one, bit_at-zero, bit_at-lt, bit_at_or, bit_at_and, bit_at_not, bit_at_set_same, bit_at_set_other, same_from_bits_below, cases_lt, cases_eq, cond-true, cond-false, lt-ltb, le-ltb, eq-eqb, ne_eqb, or_from, or_right, agree_below, agree_below_at, nat_tests, has_bit}
 
 -- tables: below 64 the low word decides whether a character is in the set
 pub has_bit_below_64_is_bit_of_low : (low high c : ℕ) → c < 64 → has_bit low high c
@@ -67,22 +67,8 @@ has_bit_is_test_if_words_agree : (low high : ℕ) (f : ℕ → Bool)
     → ((c : ℕ) → c < 64 → eqb (bit_at low c) 1 ≡ f c)
     → ((c : ℕ) → 64 ≤ c → c < 128 → eqb (bit_at high (c - 64)) 1 ≡ f c)
     → ((c : ℕ) → 128 ≤ c → f c ≡ false) → (c : ℕ) → has_bit low high c ≡ f c
-has_bit_is_test_if_words_agree low high f first second third c = grind (
-  arith,
-  nat_tests,
-  has_bit_below_64_is_bit_of_low,
-  has_bit_from_64_is_bit_of_high,
-  has_bit_past_ascii_is_false,
-)
-
--- general fact on booleans, for joining tables
-binary_function_of_equals_is_equal : (f : Bool → Bool → Bool) {a a' b b' : Bool} → a ≡ a' → b ≡ b'
-    → f a b ≡ f a' b'
-binary_function_of_equals_is_equal f p q = λ i. f (p i) (q i)
-
--- bits, for unions of tables: the greater of two bits is `or`
-max_of_bits_is_or : (x y : ℕ) → x < 2 → y < 2 → eqb (max x y) 1 ≡ (eqb x 1 || eqb y 1)
-max_of_bits_is_or x y p q = grind (arith, nat_tests)
+has_bit_is_test_if_words_agree low high f first second third c =
+    grind (arith, has_bit_below_64_is_bit_of_low, has_bit_from_64_is_bit_of_high, has_bit_past_ascii_is_false)
 
 -- bits, for differences of tables: the smaller of a bit and another's complement is `and not`
 min_with_complement_is_and_not : (x y : ℕ) → x < 2 → y < 2 → eqb (min x (1 - y)) 1
@@ -92,18 +78,12 @@ min_with_complement_is_and_not x y p q = grind (arith, nat_tests)
 -- bits, for unions of tables: a bit of `or` is in one of both words
 pub bit_of_bit_or : (a b i : ℕ)
     → eqb (bit_at (bit_or a b) i) 1 ≡ (eqb (bit_at a i) 1 || eqb (bit_at b i) 1)
-bit_of_bit_or a b i = ap (λ n. eqb n 1) (bit_at_or a b i)
-    ∙ max_of_bits_is_or (bit_at a i) (bit_at b i) (bit_at-lt a i) (bit_at-lt b i)
-
--- bits, for tables: the smaller of two bits is `and`
-min_of_bits_is_and : (x y : ℕ) → x < 2 → y < 2 → eqb (min x y) 1 ≡ (eqb x 1 && eqb y 1)
-min_of_bits_is_and x y p q = grind (arith, nat_tests)
+bit_of_bit_or a b i = grind (arith, bit_at_or, nat_tests, bit_at-lt)
 
 -- bits, for tables: a bit of `and` is in both words
 pub bit_of_bit_and : (a b i : ℕ)
     → eqb (bit_at (bit_and a b) i) 1 ≡ (eqb (bit_at a i) 1 && eqb (bit_at b i) 1)
-bit_of_bit_and a b i = ap (λ n. eqb n 1) (bit_at_and a b i)
-    ∙ min_of_bits_is_and (bit_at a i) (bit_at b i) (bit_at-lt a i) (bit_at-lt b i)
+bit_of_bit_and a b i = grind (arith, bit_at_and, nat_tests, bit_at-lt)
 
 -- bits, for differences of tables: a bit of `and not` is in the first word alone
 pub bit_of_bit_and_not : (a b i : ℕ) → b < 2 ^ 64 → i < 64 → eqb
@@ -115,34 +95,16 @@ bit_of_bit_and_not a b i fits within = ap (λ n. eqb n 1) (bit_at_and a (bit_not
 -- tables: the union of two pairs of words has the characters of both
 pub has_bit_of_joined_masks_is_or : (low high low' high' c : ℕ)
     → has_bit (bit_or low low') (bit_or high high') c ≡ (has_bit low high c || has_bit low' high' c)
-has_bit_of_joined_masks_is_or low high low' high' = grind (
-  arith,
-  nat_tests,
-  has_bit_is_test_if_words_agree,
-  bit_or,
-  bit_of_bit_or,
-  binary_function_of_equals_is_equal,
-  has_bit_below_64_is_bit_of_low,
-  has_bit_from_64_is_bit_of_high,
-  has_bit_past_ascii_is_false,
-)
+has_bit_of_joined_masks_is_or low high low' high' =
+    grind (arith, bit_of_bit_or, has_bit_below_64_is_bit_of_low, has_bit_from_64_is_bit_of_high, has_bit_past_ascii_is_false)
 
 -- tables: the difference of two pairs of words has the characters
 -- of the first that the second lacks
 pub has_bit_of_mask_difference_is_and_not : (low high low' high' c : ℕ) → low' < 2 ^ 64
     → high' < 2 ^ 64 → has_bit (bit_and low (bit_not w64 low')) (bit_and high (bit_not w64 high')) c
     ≡ (has_bit low high c && not (has_bit low' high' c))
-has_bit_of_mask_difference_is_and_not low high low' high' c fits fits' = grind (
-  arith,
-  nat_tests,
-  has_bit_is_test_if_words_agree,
-  bit_and,
-  bit_of_bit_and_not,
-  binary_function_of_equals_is_equal,
-  has_bit_below_64_is_bit_of_low,
-  has_bit_from_64_is_bit_of_high,
-  has_bit_past_ascii_is_false,
-)
+has_bit_of_mask_difference_is_and_not low high low' high' c fits fits' =
+    grind (arith, bit_of_bit_and_not, has_bit_below_64_is_bit_of_low, has_bit_from_64_is_bit_of_high, has_bit_past_ascii_is_false)
 
 bit_after_one_bit_is_set : (n k i : ℕ) → k < 64
     → eqb (bit_at (bit_or n (1 * 2 ^ k % 2 ^ 64)) i) 1 ≡ (eqb (bit_at n i) 1 || eqb k i)
@@ -165,21 +127,11 @@ has_bit_after_low_bit_is_set low high k c within =
     (λ c h. or_from (has_bit low high c) (eqb k c)
     (has_bit_past_ascii_is_false low high c h) (ne_eqb k c (λ (e : k ≡ c). omega arith))) c
 
--- general fact on numbers, for the high word of a table
-equality_is_kept_by_subtracting_64 : (k c : ℕ) → 64 ≤ k → 64 ≤ c → eqb (k - 64) (c - 64) ≡ eqb k c
-equality_is_kept_by_subtracting_64 k c p q = grind (arith, nat_tests)
-
 -- tables: setting a bit of the high word adds the character k
 pub has_bit_after_high_bit_is_set : (low high k c : ℕ) → 64 ≤ k → k < 128
     → has_bit low (bit_or high (1 * 2 ^ (k - 64) % 2 ^ 64)) c ≡ (has_bit low high c || eqb k c)
-has_bit_after_high_bit_is_set low high k c from within = has_bit_is_test_if_words_agree low
-    (bit_or high (1 * 2 ^ (k - 64) % 2 ^ 64)) (λ c. has_bit low high c || eqb k c)
-    (grind (arith, nat_tests, has_bit_below_64_is_bit_of_low, or-false))
-    (λ c h j. bit_after_one_bit_is_set high (k - 64) (c - 64) (omega arith)
-    ∙ binary_function_of_equals_is_equal (λ a b. a || b) (sym (has_bit_from_64_is_bit_of_high low
-    high c h j)) (equality_is_kept_by_subtracting_64 k c from h))
-    (λ c h. or_from (has_bit low high c) (eqb k c)
-    (has_bit_past_ascii_is_false low high c h) (ne_eqb k c (λ (e : k ≡ c). omega arith))) c
+has_bit_after_high_bit_is_set low high k c from within =
+    grind (arith, has_bit_below_64_is_bit_of_low, bit_after_one_bit_is_set, has_bit_from_64_is_bit_of_high, has_bit_past_ascii_is_false)
 
 -- tables: two words that are zero have no character
 pub has_bit-zero-masks : (c : ℕ) → has_bit 0 0 c ≡ false
@@ -225,12 +177,4 @@ has_bit-full-masks c = has_bit-by-agreement 0xFFFFFFFFFFFFFFFF 0xFFFFFFFFFFFFFFF
 pub has_bit_of_words_with_all_bits : (low high low' high' c : ℕ) → bit_and low low' ≡ low'
     → bit_and high high' ≡ high' → has_bit low' high' c ≡ true → has_bit low high c ≡ true
 has_bit_of_words_with_all_bits low high low' high' c lows highs e =
-    (and_parts _ _ (sym (has_bit_is_test_if_words_agree (bit_and low low')
-    (bit_and high high') (λ c. has_bit low high c && has_bit low' high' c)
-    (λ c h. bit_of_bit_and low low' c ∙ sym (binary_function_of_equals_is_equal (λ a b. a && b)
-    (has_bit_below_64_is_bit_of_low low high c h) (has_bit_below_64_is_bit_of_low low' high' c h)))
-    (λ c h k. bit_of_bit_and high high' (c - 64) ∙ sym (binary_function_of_equals_is_equal (λ a b. a
-    && b) (has_bit_from_64_is_bit_of_high low high c h k)
-    (has_bit_from_64_is_bit_of_high low' high' c h k))) (λ c h. and_left
-    (has_bit low high c) (has_bit low' high' c) (has_bit_past_ascii_is_false low high c h)) c)
-    ∙ ap (λ w. has_bit w (bit_and high high') c) lows ∙ ap (λ w. has_bit low' w c) highs ∙ e)).0
+    grind (arith, bit_of_bit_and, has_bit_below_64_is_bit_of_low, has_bit_from_64_is_bit_of_high, has_bit_past_ascii_is_false)

@@ -61,26 +61,18 @@ ucschar_is_planes_0_to_13_and_range_in_14 c = refl
 
 -- sets: `ucschar` below U+10000, as the code tests it (RFC 3987, section 2.2)
 pub ucschar_below_plane_1_is_low_ucschar : (c : ℕ) → c < 65536 → is_ucschar c ≡ is_low_ucschar c
-ucschar_below_plane_1_is_low_ucschar c h = ucschar_is_planes_0_to_13_and_range_in_14 c
-    ∙ ap (λ b. in_planes (is_low_ucschar c) 13 c || b) (char_below_range_is_not_in_it 0xE1000
-    0xEFFFD c (omega arith)) ∙ or-false (in_planes (is_low_ucschar c) 13 c)
-    ∙ in_planes_below_plane_1_is_the_others (is_low_ucschar c) 13 c h
-
--- sets: the part of `ucschar` below U+10000 has nothing from there on
-no_low_ucschar_from_plane_1 : (c : ℕ) → 65536 ≤ c → is_low_ucschar c ≡ false
-no_low_ucschar_from_plane_1 c h = grind (arith, nat_tests)
+ucschar_below_plane_1_is_low_ucschar c h =
+    grind (arith, ucschar_is_planes_0_to_13_and_range_in_14, in_planes_below_plane_1_is_the_others)
 
 ucschar_from_plane_1_is_by_planes : (c : ℕ) → 65536 ≤ c
     → is_ucschar c ≡ (in_planes false 13 c || is_in_range 0xE1000 0xEFFFD c)
-ucschar_from_plane_1_is_by_planes c h = ucschar_is_planes_0_to_13_and_range_in_14 c
-    ∙ ap (λ b. in_planes b 13 c || is_in_range 0xE1000 0xEFFFD c) (no_low_ucschar_from_plane_1 c h)
+ucschar_from_plane_1_is_by_planes c h =
+    grind (arith, ucschar_is_planes_0_to_13_and_range_in_14, nat_tests)
 
 pub ucschar_of_planes_1_to_13_lacks_last_two : (c : ℕ) → 65536 ≤ c → c < 0xE0000 → is_ucschar c
     ≡ leb (c % 65536) 65533
-ucschar_of_planes_1_to_13_lacks_last_two c from below = ucschar_from_plane_1_is_by_planes c from
-    ∙ ap (λ b. in_planes false 13 c || b) (char_below_range_is_not_in_it 0xE1000 0xEFFFD c
-    (omega arith))
-    ∙ or-false (in_planes false 13 c) ∙ planes_lack_only_last_two_of_each 13 c from below
+ucschar_of_planes_1_to_13_lacks_last_two c from below =
+    grind (arith, ucschar_from_plane_1_is_by_planes, planes_lack_only_last_two_of_each)
 
 pub ucschar_from_plane_14_is_one_range : (c : ℕ) → 0xE0000 ≤ c → is_ucschar c
     ≡ is_in_range 0xE1000 0xEFFFD c

@@ -1,6 +1,6 @@
 -- Sets as two masks and three flags.
-use Rattle.uri_pct.proofs.Common.{◌≡◌, ℕ, ◌+◌, ◌^◌, ◌<◌, ◌≤◌, Bool, true, false, not, eqb, refl, sym, ap, arith, bit_or, ◌&&◌, ◌||◌, All, List, get_or, and_le_l, and_le_r, and_parts, or_parts, not-true, eqb-true, ne_eqb, list_any_none, AllPass-from_list_all, list_all, TableSet, difference, IsSubset, is_one_of, has_bit, is_unencoded_ascii, empty_set, nat_tests}
-use Rattle.std.specs.Int.Bits.{bit_and, or_add_and}
+use Rattle.uri_pct.proofs.Common.{◌≡◌, ℕ, ◌^◌, ◌<◌, Bool, true, false, not, eqb, refl, sym, ap, arith, bit_or, ◌&&◌, ◌||◌, All, List, get_or, and_le_r, ne_eqb, list_any_none, AllPass-from_list_all, list_all, TableSet, difference, IsSubset, is_one_of, has_bit, is_unencoded_ascii, empty_set, nat_tests}
+use Rattle.std.specs.Int.Bits.{or_add_and}
 use Rattle.uri_pct.proofs.TableSets.Masks.{has_bit-zero-masks, low_mask_without_bits_is_zero, high_mask_without_bits_is_zero}
 
 -- tables: the set of the characters that pass a test, with three flags
@@ -42,13 +42,7 @@ subset_if_difference_is_empty s t e = record {
 
 -- tables: a set within another has nothing that the other lacks
 pub difference_from_superset_is_empty : (s t : TableSet) → IsSubset s t → difference s t ≡ empty_set
-difference_from_superset_is_empty s t h = λ i. record {
-  ascii = λ c. and_not_is_false_if_first_implies_second (s.ascii c) (t.ascii c) (h.ascii c) i;
-  pct_encoded = and_not_is_false_if_first_implies_second s.pct_encoded t.pct_encoded
-      h.pct_encoded i;
-  ucschar = and_not_is_false_if_first_implies_second s.ucschar t.ucschar h.ucschar i;
-  iprivate = and_not_is_false_if_first_implies_second s.iprivate t.iprivate h.iprivate i;
-}
+difference_from_superset_is_empty s t h = grind (arith, and_not_is_false_if_first_implies_second)
 
 -- tables: no bit of the two words and none of the three flags is set
 abbrev pub is_clear : ℕ → ℕ → Bool → Bool → Bool → Bool
@@ -64,17 +58,7 @@ pub clear_masks_are_empty_set : (low high : ℕ) (pct_encoded ucschar iprivate :
     → is_clear low high pct_encoded ucschar iprivate ≡ true
     → set_of_masks low high pct_encoded ucschar iprivate ≡ empty_set
 clear_masks_are_empty_set low high pct_encoded ucschar iprivate h =
-    let parts = and_parts (eqb (bit_or low high) 0) (not (pct_encoded || ucschar || iprivate)) h in
-    let none : bit_or low high ≡ 0 = eqb-true (bit_or low high) 0 parts.0 in
-    let total : bit_or low high + bit_and low high ≡ low + high = or_add_and low high in
-    let below : bit_and low high ≤ low = and_le_l low high in
-    let below' : bit_and low high ≤ high = and_le_r low high in
-    let no_low : low ≡ 0 = omega arith in
-    let no_high : high ≡ 0 = omega arith in
-    let flags = or_parts (pct_encoded || ucschar) iprivate
-    (not-true (pct_encoded || ucschar || iprivate) parts.1) in
-    let first_flags = or_parts pct_encoded ucschar flags.0 in
-    grind (arith, nat_tests, has_bit-zero-masks)
+    grind (arith, or_add_and, and_le_r, has_bit-zero-masks)
 
 -- tables: if the set of a table is empty, its two words are zero and it has no flag
 pub empty_set_has_clear_masks : (low high : ℕ) (pct_encoded ucschar iprivate : Bool) → low < 2 ^ 64

@@ -1,6 +1,7 @@
 -- The bytes of a character are a well-formed piece in any context, and each well-formed piece is
 -- the bytes of a character.
-use Rattle.uri_pct.proofs.Common.{◌≡◌, ℕ, zero, suc, ◌+◌, ◌-◌, ◌*◌, ◌/◌, ◌%◌, ◌<◌, ◌≤◌, ◌⊎◌, true, false, eqb, leb, List, [], ◌∷◌, ◌++◌, length, take, refl, sym, ap, ◌∙◌, arith, ⊎_elim, Option, Some, None, option_map, subst, inl, inr, lit≤, slice_index, chars, append-nil, find, All, AllByRecursion, encode_utf8, IsScalar, scalar_cases, low_scalar, All-from_recursion, encode_ascii, chars-encodes, cases_Bool, cond-true, cond-false, and_parts, and_left, and_right, leb-true, lt-leb, and_from, cases_lt, nat_tests, Piece, WellFormed, IllFormed, ByteRange, Row, is_in_byte_range, continuation, well_formed_rows, begins_with_continuation, char_of, IsOfCharacter, following_ranges, len_in_ranges, first_piece_tail_len, first_piece, pieces_from, utf8_pieces}
+use Rattle.std.proofs.lemmas.Grind.{common_steps}
+use Rattle.uri_pct.proofs.Common.{◌≡◌, ℕ, zero, suc, ◌+◌, ◌-◌, ◌*◌, ◌/◌, ◌%◌, ◌<◌, ◌≤◌, ◌⊎◌, true, false, leb, List, [], ◌∷◌, ◌++◌, length, take, refl, sym, ap, ◌∙◌, arith, ⊎_elim, Option, Some, None, option_map, lit≤, slice_index, chars, append-nil, find, All, AllByRecursion, encode_utf8, IsScalar, scalar_cases, low_scalar, All-from_recursion, encode_ascii, chars-encodes, cases_Bool, cond-true, cond-false, and_parts, and_left, and_right, leb-true, lt-leb, and_from, cases_lt, nat_tests, Piece, WellFormed, IllFormed, ByteRange, Row, is_in_byte_range, continuation, well_formed_rows, char_of, IsOfCharacter, following_ranges, len_in_ranges, first_piece_tail_len, first_piece, pieces_from, utf8_pieces}
 use Rattle.uri_pct.proofs.Unicode.Pieces.{utf8_pieces_are_cut_at_non_continuation}
 use Rattle.uri_pct.proofs.Unicode.FirstBytes.{fitting_bytes_are_well_formed_first_piece, no_range_follows_ascii_byte, following_ranges_of_c2_to_df, following_ranges_of_e0, following_ranges_of_e1_to_ec, following_ranges_of_ed, following_ranges_of_ee_to_ef, following_ranges_of_f0, following_ranges_of_f1_to_f3, following_ranges_of_f4}
 
@@ -89,22 +90,10 @@ pub byte_below_80_or_from_c0_is_no_continuation : (b : ℕ) → (b < 0x80) ⊎ (
 byte_below_80_or_from_c0_is_no_continuation b h = ⊎_elim (λ low. and_left _ _ (lt-leb 0x80 b low))
     (λ high. and_right _ _ (lt-leb b 0xBF (omega arith))) h
 
-char_begins_with_no_continuation : (c : ℕ) (rest : List ℕ)
-    → begins_with_continuation (encode_utf8 c ++ rest) ≡ false
-char_begins_with_no_continuation c rest =
-    ⊎_elim (λ h. rw (encode_ascii c h) (byte_below_80_or_from_c0_is_no_continuation c (inl h)))
-    (λ l1. ⊎_elim (λ h. rw (utf8_of_char_of_two_bytes c l1 h)
-    (byte_below_80_or_from_c0_is_no_continuation (192 + c / 64) (inr (omega arith))))
-    (λ l2. ⊎_elim (λ h. rw (utf8_of_char_of_three_bytes c l2 h)
-    (byte_below_80_or_from_c0_is_no_continuation (224 + c / 4096) (inr (omega arith))))
-    (λ l3. rw (utf8_of_char_of_four_bytes c l3) (byte_below_80_or_from_c0_is_no_continuation (240
-    + c / 262144) (inr (omega arith)))) (cases_lt c 0x10000)) (cases_lt c 0x800)) (cases_lt c 0x80)
-
 pub char_separates_utf8_pieces : (xs : List ℕ) (c : ℕ) (ys : List ℕ) → IsScalar c → utf8_pieces (xs
     ++ (encode_utf8 c ++ ys)) ≡ utf8_pieces xs ++ WellFormed (encode_utf8 c) ∷ utf8_pieces ys
-char_separates_utf8_pieces xs c ys scalar = utf8_pieces_are_cut_at_non_continuation xs
-    (encode_utf8 c ++ ys) (char_begins_with_no_continuation c ys)
-    ∙ ap (λ ps. utf8_pieces xs ++ ps) (first_char_is_first_piece c ys scalar)
+char_separates_utf8_pieces xs c ys scalar =
+    grind (arith, common_steps, utf8_pieces_are_cut_at_non_continuation, utf8_of_char_of_two_bytes, utf8_of_char_of_three_bytes, utf8_of_char_of_four_bytes, first_char_is_first_piece)
 
 -- UTF-8: what holds of each row of the table of first bytes holds of the row of a first byte
 found_row_has_property_of_all_rows : (b : ℕ) (P : Option (List ByteRange) → Type 0)
@@ -112,9 +101,8 @@ found_row_has_property_of_all_rows : (b : ℕ) (P : Option (List ByteRange) → 
     → AllByRecursion (λ (row : Row). is_in_byte_range row.0 b ≡ true → P (Some row.1)) rows
     → P (option_map (λ (row : Row). row.1) (find (λ (row : Row). is_in_byte_range row.0 b) rows))
 found_row_has_property_of_all_rows b P [] none all = none
-found_row_has_property_of_all_rows b P (row ∷ rows) none all = ⊎_elim
-    (λ e. rw e (all.0 e)) (λ e. rw e (found_row_has_property_of_all_rows b P rows none all.1))
-    (cases_Bool (is_in_byte_range row.0 b))
+found_row_has_property_of_all_rows b P (row ∷ rows) none all =
+    grind (arith, found_row_has_property_of_all_rows b P rows none all.1, cases_Bool)
 
 -- UTF-8: the bytes are those of a character
 abbrev AreUtf8OfCharacter : List ℕ → Type 0
@@ -144,10 +132,8 @@ FormsCharacters b row = (rest bytes : List ℕ) → first_piece row b rest ≡ W
 well_formed_piece_fits_all_ranges : (b : ℕ) (ranges : List ByteRange) (rest bytes : List ℕ)
     → first_piece (Some ranges) b rest ≡ WellFormed bytes
     → (len_in_ranges ranges rest ≡ length ranges) × (bytes ≡ b ∷ take (length ranges) rest)
-well_formed_piece_fits_all_ranges b ranges rest bytes e = ⊎_elim
-    (grind (arith, nat_tests)) (λ f. let g : IllFormed (b ∷ take (len_in_ranges ranges rest) rest)
-    ≡ WellFormed bytes = sym (cond-false _ _ _ f) ∙ e in cc)
-    (cases_Bool (eqb (len_in_ranges ranges rest) (length ranges)))
+well_formed_piece_fits_all_ranges b ranges rest bytes e =
+    grind (arith, nat_tests, cond-false, cases_Bool)
 
 pieces_of_one_byte_are_characters : (b : ℕ) → b ≤ 0x7F → FormsCharacters b (Some [])
 pieces_of_one_byte_are_characters b high rest bytes e =
@@ -288,17 +274,11 @@ char_of_utf8_is_the_char c scalar =
     ap (λ cs. slice_index cs 0) (ap chars (sym (append-nil (encode_utf8 c)))
     ∙ chars-encodes (c ∷ []) scalars)
 
-piece_of_utf8_char_is_of_character : (bytes : List ℕ) → AreUtf8OfCharacter bytes
-    → IsOfCharacter (WellFormed bytes)
-piece_of_utf8_char_is_of_character bytes a =
-    let same : char_of bytes ≡ a.0 = ap char_of (sym a.2) ∙ char_of_utf8_is_the_char a.0 a.1 in
-    (subst IsScalar (sym same) a.1, ap encode_utf8 same ∙ a.2)
-
 -- UTF-8: the first piece of bytes, which begins with b, is a character or ill-formed
 pub first_piece_is_of_character : (b : ℕ) (rest : List ℕ) (p : Piece)
     → first_piece (following_ranges b) b rest ≡ p → IsOfCharacter p
-first_piece_is_of_character b rest (WellFormed bytes) e = piece_of_utf8_char_is_of_character bytes
-    (well_formed_pieces_are_characters b rest bytes e)
+first_piece_is_of_character b rest (WellFormed bytes) e =
+    grind (arith, char_of_utf8_is_the_char, well_formed_pieces_are_characters)
 first_piece_is_of_character b rest (IllFormed bytes) e = tt
 
 pieces_after_skipped_bytes_are_of_characters : (k : ℕ) (bytes : List ℕ)

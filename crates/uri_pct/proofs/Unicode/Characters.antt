@@ -1,4 +1,5 @@
 -- The bytes of one character in UTF-8.
+use Rattle.std.proofs.lemmas.Grind.{common_steps}
 use Rattle.uri_pct.proofs.Common.{◌≡◌, ℕ, ◌+◌, ◌/◌, ◌%◌, ◌<◌, ◌≤◌, Bool, true, List, [], ◌∷◌, ◌++◌, length, get_or, refl, sym, ap, ◌∙◌, arith, ◌&&◌, ⊎_elim, slice_index, nat_le, list_all, is_ascii_hexdigit, encode_utf8, encode_utf8_all, all_scalars, continuation_len, chars-encodes, encode_ascii, cases_lt, cond-true, cond-false, and_left, and_from, lt-ltb, le-ltb, nat_tests, begins_with_hex_digits, first_char}
 use Rattle.uri_pct.proofs.TableSets.Constants.{past_ascii_is_no_hexdigit}
 
@@ -88,9 +89,8 @@ hexdigit_is_ascii b e = grind (arith, nat_tests)
 first_byte_is_hexdigit_iff_first_char_is : (cs : List ℕ)
     → is_ascii_hexdigit (get_or (encode_utf8_all cs) 0 0) ≡ is_ascii_hexdigit (get_or cs 0 0)
 first_byte_is_hexdigit_iff_first_char_is [] = refl
-first_byte_is_hexdigit_iff_first_char_is (c ∷ cs) = ⊎_elim (λ h. rw (encode_ascii c h) refl)
-    (λ h. past_ascii_is_no_hexdigit _ (char_past_ascii_begins_past_ascii c (encode_utf8_all cs) h)
-    ∙ sym (past_ascii_is_no_hexdigit c h)) (cases_lt c 128)
+first_byte_is_hexdigit_iff_first_char_is (c ∷ cs) =
+    grind (arith, common_steps, past_ascii_is_no_hexdigit, char_past_ascii_begins_past_ascii)
 
 -- UTF-8: characters begin with two hexadecimal digits exactly if their bytes do
 pub encoded_chars_begin_with_same_hex_digits : (cs : List ℕ)

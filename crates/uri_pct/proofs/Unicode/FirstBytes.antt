@@ -1,5 +1,5 @@
 -- Which bytes may follow a first byte, row by row: Unicode, table 3-7.
-use Rattle.uri_pct.proofs.Common.{◌≡◌, ℕ, suc, ◌<◌, ◌≤◌, true, List, [], ◌∷◌, ◌++◌, length, refl, ap, ◌∙◌, arith, Some, take_at, drop_at, cond-true, le-leb, and_from, nat_tests, WellFormed, ByteRange, is_in_byte_range, continuation, following_ranges, len_in_ranges, pieces_from, utf8_pieces}
+use Rattle.uri_pct.proofs.Common.{◌≡◌, ℕ, suc, ◌<◌, ◌≤◌, List, [], ◌∷◌, ◌++◌, length, refl, ap, arith, Some, take_at, drop_at, nat_tests, WellFormed, ByteRange, continuation, following_ranges, len_in_ranges, pieces_from, utf8_pieces}
 use Rattle.uri_pct.proofs.Unicode.Pieces.{pieces_from_are_pieces_after_skipped_bytes}
 
 -- UTF-8: the bytes fit a row of the table, whatever follows them
@@ -17,19 +17,13 @@ fitting_bytes_are_as_many_as_ranges (range ∷ ranges) [] fits = absurd fits
 fitting_bytes_are_as_many_as_ranges (range ∷ ranges) (b ∷ tail) fits = ap suc
     (fitting_bytes_are_as_many_as_ranges ranges tail fits.1)
 
-byte_between_bounds_is_in_range : (range : ByteRange) (b : ℕ) → range.0 ≤ b → b ≤ range.1
-    → is_in_byte_range range b ≡ true
-byte_between_bounds_is_in_range range b low high = and_from _ _ (le-leb range.0 b low)
-    (le-leb b range.1 high)
-
 -- UTF-8: bytes that fit ranges fit all of them, whatever follows
 fitting_bytes_reach_all_ranges : (ranges : List ByteRange) (tail rest : List ℕ)
     → FitRanges ranges tail → len_in_ranges ranges (tail ++ rest) ≡ length ranges
 fitting_bytes_reach_all_ranges [] tail rest fits = refl
 fitting_bytes_reach_all_ranges (range ∷ ranges) [] rest fits = absurd fits
 fitting_bytes_reach_all_ranges (range ∷ ranges) (b ∷ tail) rest fits =
-    cond-true _ _ _ (byte_between_bounds_is_in_range range b fits.0.0 fits.0.1)
-    ∙ ap suc (fitting_bytes_reach_all_ranges ranges tail rest fits.1)
+    grind (arith, fitting_bytes_reach_all_ranges ranges tail rest fits.1)
 
 pub fitting_bytes_are_well_formed_first_piece : (b : ℕ) (ranges : List ByteRange)
     (tail rest : List ℕ) → following_ranges b ≡ Some ranges → FitRanges ranges tail

@@ -134,19 +134,6 @@ ill_formed_len_is_std_len_below_e1 b high = ⊎_elim (λ h. subst (HasStdInvalid
     b (0xA0, 0xBF) l2 (omega arith) (grind (arith, nat_tests)) (grind (arith, nat_tests))))
     (cases_lt b 0xE0)) (cases_lt b 0xC2)) (cases_lt b 0x80)
 
-ill_formed_len_is_std_len_from_e1_to_ef : (b : ℕ) → 0xE1 ≤ b → b < 0xF0
-    → HasStdInvalidLen b (following_ranges b)
-ill_formed_len_is_std_len_from_e1_to_ef b low high =
-    ⊎_elim (λ h. subst (HasStdInvalidLen b) (sym (following_ranges_of_e1_to_ec b low (omega arith)))
-    (ill_formed_len_is_std_len_of_three_byte_row b continuation
-    (omega arith) (omega arith) (grind (arith, nat_tests)) (grind (arith, nat_tests))))
-    (λ l1. ⊎_elim (λ h. subst (HasStdInvalidLen b)
-    (sym (following_ranges_of_ed b (omega arith))) (ill_formed_len_is_std_len_of_three_byte_row b
-    (0x80, 0x9F) (omega arith) (omega arith) (grind (arith, nat_tests)) (grind (arith, nat_tests))))
-    (λ l2. subst (HasStdInvalidLen b) (sym (following_ranges_of_ee_to_ef b l2 (omega arith)))
-    (ill_formed_len_is_std_len_of_three_byte_row b continuation (omega arith) (omega arith)
-    (grind (arith, nat_tests)) (grind (arith, nat_tests)))) (cases_lt b 0xEE)) (cases_lt b 0xED)
-
 -- ill-formed UTF-8: an ill-formed piece is as long as for std, if its first byte is F0 or greater
 ill_formed_len_is_std_len_from_f0 : (b : ℕ) → 0xF0 ≤ b → HasStdInvalidLen b (following_ranges b)
 ill_formed_len_is_std_len_from_f0 b low = ⊎_elim (λ h. subst (HasStdInvalidLen b)
@@ -163,6 +150,5 @@ ill_formed_len_is_std_len_from_f0 b low = ⊎_elim (λ h. subst (HasStdInvalidLe
 
 -- ill-formed UTF-8: an ill-formed piece is as long as the part that std replaces
 pub ill_formed_len_is_std_len : (b : ℕ) → HasStdInvalidLen b (following_ranges b)
-ill_formed_len_is_std_len b = ⊎_elim (λ h. ill_formed_len_is_std_len_below_e1 b h)
-    (λ l1. ⊎_elim (λ h. ill_formed_len_is_std_len_from_e1_to_ef b l1 h)
-    (λ l2. ill_formed_len_is_std_len_from_f0 b l2) (cases_lt b 0xF0)) (cases_lt b 0xE1)
+ill_formed_len_is_std_len b =
+    grind (arith, ill_formed_len_is_std_len_below_e1, following_ranges_of_e1_to_ec, ill_formed_len_is_std_len_of_three_byte_row, nat_tests, following_ranges_of_ed, following_ranges_of_ee_to_ef, ill_formed_len_is_std_len_from_f0)

@@ -1,7 +1,6 @@
 -- The pieces of a text's parts are those of the bytes that it decodes to.
-use Rattle.uri_pct.proofs.Common.{◌≡◌, ℕ, true, List, [], ◌∷◌, ◌++◌, map, refl, sym, ap, ◌∙◌, append_assoc, arith, append-nil, list_all, flat_map, encode_utf8, IsScalar, chars, encode_utf8_all, IsUtf8, and_parts, flat_map-append, IsUtf8-encode, encodes-chars, Chunk, Text, Byte, prepend_to_chunks, chunks_of_tokens, chunk_bytes, widest_set, undecoded, decoded, bytes_left, Decoded, parts_from, parts, pieces_of_parts, Piece, WellFormed, utf8_pieces, is_unencoded, Token, Char, Octet, tokens_from_chars, tokens, bytes_decoded_from, IsValidFor, is_printable, nat_tests}
+use Rattle.uri_pct.proofs.Common.{◌≡◌, ℕ, true, List, [], ◌∷◌, ◌++◌, map, refl, sym, ap, ◌∙◌, append_assoc, arith, append-nil, list_all, flat_map, encode_utf8, IsScalar, chars, encode_utf8_all, IsUtf8, and_parts, flat_map-append, IsUtf8-encode, encodes-chars, Chunk, Text, Byte, prepend_to_chunks, chunks_of_tokens, chunk_bytes, undecoded, decoded, bytes_left, Decoded, parts_from, pieces_of_parts, Piece, WellFormed, utf8_pieces, is_unencoded, Token, Char, Octet, tokens_from_chars, tokens, bytes_decoded_from, is_printable, nat_tests}
 use Rattle.uri_pct.specs.declared.decode.Decode.{Decode}
-use Rattle.uri_pct.proofs.ValidTexts.Allowed.{valid_text_has_printable_tokens}
 use Rattle.uri_pct.proofs.Unicode.CharacterPieces.{char_separates_utf8_pieces, first_char_is_first_piece}
 use Rattle.uri_pct.proofs.Decodings.Decoding.{tokens_after_unencoded_prefix}
 use Rattle.uri_pct.proofs.Unicode.Runs.{no_bytes_have_no_pieces, utf8_pieces_are_cut_after_text}
@@ -83,7 +82,7 @@ pub printable_char_is_scalar : (c : ℕ) → is_printable (Char c) ≡ true → 
 printable_char_is_scalar c e = (and_parts _ true (and_parts _ _ e).0).0
 
 -- UTF-8 of decoded parts: octets (run) and tokens have the pieces of the bytes that they decode to
-parts_after_run_have_pieces_of_decoded_bytes : (run : List ℕ) (ts : List Token)
+pub parts_after_run_have_pieces_of_decoded_bytes : (run : List ℕ) (ts : List Token)
     → list_all is_printable ts ≡ true → pieces_of_parts (parts_from run (chunks_of_tokens ts))
     ≡ utf8_pieces (run ++ bytes_decoded_from ts)
 unfolding chunks_of_tokens parts_from
@@ -102,8 +101,3 @@ parts_after_run_have_pieces_of_decoded_bytes run (Char c ∷ ts) e =
     (char_is_one_well_formed_piece c scalar) ∙ ap (λ x. utf8_pieces run
     ++ WellFormed (encode_utf8 c) ∷ x) (parts_after_run_have_pieces_of_decoded_bytes [] ts p.1)
     ∙ sym (char_separates_utf8_pieces run c (bytes_decoded_from ts) scalar)
-
-pub parts_have_pieces_of_decoded_bytes : (text : List ℕ) → IsValidFor widest_set text
-    → pieces_of_parts (parts text) ≡ utf8_pieces (bytes_decoded_from (tokens text))
-parts_have_pieces_of_decoded_bytes text v = parts_after_run_have_pieces_of_decoded_bytes []
-    (tokens text) (valid_text_has_printable_tokens widest_set text refl v)

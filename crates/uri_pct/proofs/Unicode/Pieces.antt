@@ -89,8 +89,7 @@ fitting_stops_at_non_continuation : (ranges : List ByteRange) (xs ys : List ℕ)
 fitting_stops_at_non_continuation [] xs ys inner out = refl
 fitting_stops_at_non_continuation (range ∷ ranges) [] [] inner out = refl
 fitting_stops_at_non_continuation (range ∷ ranges) [] (b ∷ ys) inner out =
-    cond-false _ _ _ (non_continuation_is_in_no_continuation_range range b
-    (and_parts (is_continuation_range range) _ inner).0 out)
+    grind (arith, cond-false, non_continuation_is_in_no_continuation_range)
 fitting_stops_at_non_continuation (range ∷ ranges) (x ∷ xs) ys inner out = ap
     (λ n. cond (is_in_byte_range range x) (suc n) 0) (fitting_stops_at_non_continuation ranges xs ys
     (and_parts (is_continuation_range range) _ inner).1 out)

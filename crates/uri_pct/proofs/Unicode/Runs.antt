@@ -66,17 +66,11 @@ pieces_of_std_chunk_with_ill_formed_part bs valid invalid rest same text_len fau
     ++ rest) (subst IsUtf8 prefix (utf8_valid_len_prefix_is_utf8 bs)) ∙ ap (λ ps. utf8_pieces valid
     ++ ps) (ill_formed_piece_follows_valid_prefix bs invalid rest suffix some fault_len)
 
-pieces_of_last_std_chunk : (bs valid rest : List ℕ) → bs ≡ valid ++ rest → length rest ≡ 0
-    → utf8_pieces bs ≡ utf8_pieces valid ++ utf8_pieces rest
-pieces_of_last_std_chunk bs valid rest same last =
-    grind (arith, nat_tests, nil_from_length, append-nil, no_bytes_have_no_pieces)
-
 pub utf8_pieces-of-std-chunk : (bs valid invalid rest : List ℕ)
     → bs ≡ valid ++ (invalid ++ rest) → length valid ≡ utf8_valid_len bs → length invalid
     ≡ utf8_invalid_len (drop (utf8_valid_len bs) bs) → (length invalid ≡ 0 → length rest ≡ 0)
     → utf8_pieces bs ≡ (utf8_pieces valid ++ ill_formed_piece_if_any invalid) ++ utf8_pieces rest
 utf8_pieces-of-std-chunk bs valid [] rest same text_len fault_len last =
-    pieces_of_last_std_chunk bs valid rest same (last refl)
-    ∙ ap (λ ps. ps ++ utf8_pieces rest) (sym (append-nil (utf8_pieces valid)))
+    grind (arith, nat_tests, nil_from_length, append-nil, no_bytes_have_no_pieces)
 utf8_pieces-of-std-chunk bs valid (b ∷ bytes) rest same text_len fault_len last =
     grind (arith, nat_tests, pieces_of_std_chunk_with_ill_formed_part, append_assoc)

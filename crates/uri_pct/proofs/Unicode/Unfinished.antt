@@ -1,6 +1,6 @@
 -- If bytes do not end in an unfinished character, their pieces are the same whatever follows. So
 -- are the pieces of the bytes before an unfinished end.
-use Rattle.uri_pct.proofs.Common.{◌≡◌, ℕ, zero, suc, ◌-◌, ◌<◌, ◌≤◌, true, false, cond, leb, nat_lt, List, [], ◌∷◌, ◌++◌, length, take, drop, get_or, map, refl, sym, ap, ◌∙◌, append_assoc, arith, ⊎_elim, Option, Some, None, option_map, list_all, find, append-nil, map-append, take_all, drop_all, take-append-drop, cases_Bool, cond-true, cond-false, and_parts, leb-true, cases_lt, nat_tests, Chunk, Text, Byte, Decoded, parts_from, ByteRange, Row, is_in_byte_range, continuation, well_formed_rows, begins_with_continuation, following_ranges, len_in_ranges, first_piece_tail_len, pieces_from, utf8_pieces, range_count, following_byte_count, unfinished_len, CutsNoPiece}
+use Rattle.uri_pct.proofs.Common.{◌≡◌, ℕ, zero, suc, ◌-◌, ◌<◌, ◌≤◌, true, false, cond, leb, nat_lt, List, [], ◌∷◌, ◌++◌, length, take, drop, get_or, map, refl, sym, ap, ◌∙◌, append_assoc, arith, ⊎_elim, Option, Some, None, option_map, list_all, find, append-nil, map-append, take_all, take-append-drop, cases_Bool, cond-true, cond-false, and_parts, leb-true, cases_lt, nat_tests, Chunk, Text, Byte, Decoded, parts_from, ByteRange, Row, is_in_byte_range, continuation, well_formed_rows, begins_with_continuation, following_ranges, len_in_ranges, first_piece_tail_len, pieces_from, utf8_pieces, range_count, following_byte_count, unfinished_len, CutsNoPiece}
 use Rattle.uri_pct.proofs.Unicode.Pieces.{first_piece_tail_is_within_rest, utf8_pieces_are_cut_after_first_if_rest_is, utf8_pieces_are_cut_at_non_continuation}
 use Rattle.uri_pct.proofs.Unicode.FirstBytes.{no_range_follows_ascii_byte, following_ranges_of_c2_to_df}
 use Rattle.uri_pct.proofs.Unicode.IllFormedLengths.{no_row_from_80_to_c1, no_row_past_f4}
@@ -74,8 +74,7 @@ suffix_of_enough_bytes_keeps_len_in_ranges : (ranges : List ByteRange) (xs ys : 
 suffix_of_enough_bytes_keeps_len_in_ranges [] xs ys h = refl
 suffix_of_enough_bytes_keeps_len_in_ranges (range ∷ ranges) [] ys h = absurd (omega arith)
 suffix_of_enough_bytes_keeps_len_in_ranges (range ∷ ranges) (x ∷ xs) ys h =
-    ap (λ n. cond (is_in_byte_range range x) (suc n) 0)
-    (suffix_of_enough_bytes_keeps_len_in_ranges ranges xs ys (omega arith))
+    grind (arith, suffix_of_enough_bytes_keeps_len_in_ranges ranges xs ys (omega arith))
 
 -- UTF-8: with as many bytes as may follow,
 -- the first piece ends in the same place whatever is after them
@@ -154,14 +153,7 @@ unfinished_end_begins_with_no_continuation (x ∷ xs) ys some = ⊎_elim
 cut_before_unfinished_end_divides_no_piece : (bytes : List ℕ) → CutsNoPiece (take (length bytes
     - unfinished_len bytes) bytes) (drop (length bytes - unfinished_len bytes) bytes)
 cut_before_unfinished_end_divides_no_piece bytes suffix =
-    let n = length bytes - unfinished_len bytes in
-    ⊎_elim (λ few. let none : unfinished_len bytes ≡ 0 = omega arith in
-    let prefix : take n bytes ≡ bytes = take_all n bytes (omega arith) in
-    let end : drop n bytes ≡ [] = drop_all n bytes (omega arith) in
-    rw (prefix, end) (pieces_from_are_cut_after_finished_bytes 0 bytes suffix (omega arith) none))
-    (λ some. utf8_pieces_are_cut_at_non_continuation (take n bytes) (drop n bytes ++ suffix)
-    (unfinished_end_begins_with_no_continuation bytes suffix (omega arith)))
-    (cases_lt (unfinished_len bytes) 1)
+    grind (arith, take_all, pieces_from_are_cut_after_finished_bytes, utf8_pieces_are_cut_at_non_continuation, unfinished_end_begins_with_no_continuation)
 
 pub parts_from_are_cut_where_pieces_are : (prefix end more : List ℕ) (suffix : List Chunk)
     → CutsNoPiece prefix end → parts_from (prefix ++ (end ++ more)) suffix

@@ -10,20 +10,11 @@ use Rattle.uri_pct.proofs.UnreservedDecoding.Formatting.{never_literal_char_is_s
 use Rattle.uri_pct.proofs.UnreservedDecoding.Formatting as Formatting
 use Rattle.uri_pct.proofs.EncodedTexts.Encodings.{octets_decode_to_their_bytes}
 
-decoded_piece_keeps_its_bytes : (set : TableSet) (p : Piece) → IsOfCharacter p
-    → bytes_decoded_from (decode_piece set p) ≡ piece_bytes p
-decoded_piece_keeps_its_bytes set (IllFormed bytes) h = octets_decode_to_their_bytes bytes
-decoded_piece_keeps_its_bytes set (WellFormed bytes) h =
-    grind (arith, nat_tests, append-nil, octets_decode_to_their_bytes)
-
 decoded_pieces_keep_their_bytes : (set : TableSet) (ps : List Piece) → All IsOfCharacter ps
     → bytes_decoded_from (flat_map (decode_piece set) ps) ≡ bytes_of_pieces ps
 decoded_pieces_keep_their_bytes set [] h = refl
 decoded_pieces_keep_their_bytes set (p ∷ ps) h =
-    flat_map-append bytes_of_one_token (decode_piece set p) (flat_map (decode_piece set) ps)
-    ∙ ap (λ x. x ++ bytes_decoded_from (flat_map (decode_piece set) ps))
-    (decoded_piece_keeps_its_bytes set p (All-head IsOfCharacter p ps h)) ∙ ap (λ x. piece_bytes p
-    ++ x) (decoded_pieces_keep_their_bytes set ps (All-tail IsOfCharacter p ps h))
+    grind (arith, decoded_pieces_keep_their_bytes set ps (All-tail IsOfCharacter p ps h), flat_map-append, octets_decode_to_their_bytes, All-head)
 
 decode_run_keeps_bytes : (set : TableSet) (run : List ℕ)
     → bytes_decoded_from (decode_run set run) ≡ run
@@ -215,15 +206,8 @@ octets_of_formatting_chars_decode_as_chars set before (Octet value ∷ ts) =
     ap (decode_tokens set) (sym (append_assoc before (Octet value ∷ []) (encode_formatting set ts)))
     ∙ octets_of_formatting_chars_decode_as_chars set (before ++ Octet value ∷ []) ts
     ∙ ap (decode_tokens set) (append_assoc before (Octet value ∷ []) ts)
-octets_of_formatting_chars_decode_as_chars set before (Char c ∷ ts) = grind (
-  arith,
-  nat_tests,
-  append_assoc,
-  decodable_char_octets_decode_as_char,
-  never_literal_char_is_scalar_past_ascii,
-  never_literal_char_is_decodable,
-  octets_of_formatting_chars_decode_as_chars set (before ++ Char c ∷ []) ts,
-)
+octets_of_formatting_chars_decode_as_chars set before (Char c ∷ ts) =
+    grind (arith, append_assoc, decodable_char_octets_decode_as_char, never_literal_char_is_scalar_past_ascii, never_literal_char_is_decodable, octets_of_formatting_chars_decode_as_chars set (before ++ Char c ∷ []) ts)
 
 pub printed_octets_of_decodable_char_decode_as_char :
     (set : TableSet) (before : List Token) (c : ℕ) (suffix : List Token) → IsScalar c
@@ -231,16 +215,7 @@ pub printed_octets_of_decodable_char_decode_as_char :
     → decode_unreserved set (print (before ++ (map Octet (encode_utf8 c) ++ suffix)))
     ≡ decode_unreserved set (print (before ++ Char c ∷ suffix))
 printed_octets_of_decodable_char_decode_as_char set before c suffix scalar decodable e =
-    let octets = map Octet (encode_utf8 c) in
-    let of : List Token → List Token = λ ts. encode_formatting set (decode_tokens set ts) in
-    let p = test_holds_of_both_lists is_printable before (Char c ∷ suffix) e in
-    let joined = test_holds_of_joined_lists is_printable octets suffix
-    (octets_of_bytes_are_printable (encode_utf8 c) (utf8_bytes_are_eight_bit c scalar))
-    (and_parts (is_printable (Char c)) _ p.1).1 in
-    ap of (printed_tokens_parse_to_themselves (before ++ (octets ++ suffix))
-    (test_holds_of_joined_lists is_printable before (octets ++ suffix) p.0 joined))
-    ∙ ap (encode_formatting set) (decodable_char_octets_decode_as_char set before c suffix scalar
-    decodable) ∙ sym (ap of (printed_tokens_parse_to_themselves (before ++ Char c ∷ suffix) e))
+    grind (arith, test_holds_of_both_lists, test_holds_of_joined_lists, octets_of_bytes_are_printable, utf8_bytes_are_eight_bit, printed_tokens_parse_to_themselves, decodable_char_octets_decode_as_char)
 
 pub decode_unreserved_leaves_no_literal_formatting : (set : TableSet) (text : List ℕ) → (set.ucschar
     && set.pct_encoded) ≡ true → list_any is_literal_formatting (decode_unreserved set text) ≡ false

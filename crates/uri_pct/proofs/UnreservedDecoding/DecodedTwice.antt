@@ -1,4 +1,5 @@
 -- Decoding a decoded text changes nothing, also if letters were lowered in between.
+use native.Mathlib.Omega.{arith}
 use Rattle.uri_pct.proofs.Common.{◌≡◌, ℕ, Bool, true, false, not, List, [], ◌∷◌, ◌++◌, map, refl, sym, ap, ◌∙◌, ⊎_elim, append_assoc, subst, list_all, flat_map, append-nil, map-append, flat_map-append, list_all-append, cases_Bool, cond-true, cond-false, and_parts, and_from, not-true, not-false, TableSet, Token, Char, Octet, tokens, print, Piece, WellFormed, IllFormed, char_of, piece_bytes, bytes_of_pieces, utf8_pieces, is_printable, is_decodable, decode_piece, decode_run, decode_after_run, decode_tokens, encode_formatting, decode_unreserved, lower_token}
 use Rattle.uri_pct.proofs.Unicode.Pieces.{ArePiecesOfOwnBytes, utf8_pieces-are-of-own-bytes, prefix_of_pieces_is_of_own_bytes, tail_of_pieces_is_of_own_bytes}
 use Rattle.uri_pct.proofs.UnreservedDecoding.Printing.{printed_tokens_parse_to_themselves}
@@ -90,8 +91,7 @@ decoded_run_before_decoded_tokens_is_decoded : (set : TableSet) (done ps : List 
     → ((run : List ℕ) → IsUnchangedRun set run → IsDecoded set run ts)
     → IsDecoded set (bytes_of_pieces done) (flat_map (decode_piece set) ps ++ ts)
 decoded_run_before_decoded_tokens_is_decoded set done [] ts cut undecoded suffix =
-    suffix (bytes_of_pieces done) (run_of_undecodable_pieces_is_unchanged set done
-    (prefix_of_pieces_is_of_own_bytes done [] cut) undecoded)
+    grind (arith, run_of_undecodable_pieces_is_unchanged, prefix_of_pieces_is_of_own_bytes)
 decoded_run_before_decoded_tokens_is_decoded set done (p ∷ ps) ts cut undecoded suffix = ⊎_elim
     (λ e.
     let more : ArePiecesOfOwnBytes ((done ++ p ∷ []) ++ ps) =

@@ -1,5 +1,5 @@
 -- Formatting characters of bidirectional text as octets: what that keeps.
-use Rattle.uri_pct.proofs.Common.{◌≡◌, ℕ, ◌<◌, ◌≤◌, Bool, true, false, List, [], ◌∷◌, ◌++◌, map, refl, ap, ◌∙◌, arith, ◌&&◌, IsScalar, encode_utf8, to_ascii_lowercase, is_in_range, list_all, list_any, append-nil, map-append, flat_map-append, list_all-append, cond-false, and_parts, and_from, or_right, nat_tests, lowercase_ascii, TableSet, is_ucschar, allows_past_ascii, Token, Char, Octet, bytes_decoded_from, bytes_of_one_token, allows_token, is_printable, is_decodable, lower_token, is_bidi_formatting, is_never_literal, formatting_as_octets, is_literal_formatting, encode_formatting}
+use Rattle.uri_pct.proofs.Common.{◌≡◌, ℕ, ◌<◌, ◌≤◌, Bool, true, false, List, [], ◌∷◌, ◌++◌, map, refl, ap, ◌∙◌, arith, ◌&&◌, IsScalar, encode_utf8, to_ascii_lowercase, is_in_range, list_all, list_any, map-append, flat_map-append, list_all-append, cond-false, and_parts, and_from, or_right, nat_tests, TableSet, is_ucschar, allows_past_ascii, Token, Char, Octet, bytes_decoded_from, allows_token, is_printable, is_decodable, lower_token, is_bidi_formatting, is_never_literal, formatting_as_octets, is_literal_formatting, encode_formatting}
 use Rattle.uri_pct.proofs.EncodedTexts.EncodedTokens.{octets_of_bytes_are_printable, octets_are_allowed_if_pct_encoded, utf8_bytes_are_eight_bit}
 use Rattle.uri_pct.proofs.EncodedTexts.Encodings.{octets_decode_to_their_bytes}
 
@@ -72,20 +72,12 @@ unfolding is_never_literal
 ascii_char_is_unchanged set c h = cond-false _ _ _ (ap (λ b. set.ucschar && set.pct_encoded && b)
     (ascii_char_is_no_formatting_char c h) ∙ and_with_false_is_false set.ucschar set.pct_encoded)
 
-formatting_as_octets_keeps_bytes : (set : TableSet) (t : Token)
-    → bytes_decoded_from (formatting_as_octets set t) ≡ bytes_of_one_token t
-formatting_as_octets_keeps_bytes set (Octet value) = refl
-formatting_as_octets_keeps_bytes set (Char c) =
-    grind (arith, nat_tests, octets_decode_to_their_bytes, append-nil)
-
 -- unreserved octets: to write formatting characters as octets keeps the decoded bytes
 pub encode_formatting_keeps_bytes : (set : TableSet) (ts : List Token)
     → bytes_decoded_from (encode_formatting set ts) ≡ bytes_decoded_from ts
 encode_formatting_keeps_bytes set [] = refl
-encode_formatting_keeps_bytes set (t ∷ ts) = flat_map-append bytes_of_one_token
-    (formatting_as_octets set t) (encode_formatting set ts) ∙ ap (λ x. x
-    ++ bytes_decoded_from (encode_formatting set ts)) (formatting_as_octets_keeps_bytes set t)
-    ∙ ap (λ x. bytes_of_one_token t ++ x) (encode_formatting_keeps_bytes set ts)
+encode_formatting_keeps_bytes set (t ∷ ts) =
+    grind (arith, encode_formatting_keeps_bytes set ts, flat_map-append, octets_decode_to_their_bytes)
 
 formatting_as_octets_passes_test : (test : Token → Bool) (set : TableSet) (t : Token)
     → ((c : ℕ) → is_never_literal set c ≡ true → list_all test (map Octet (encode_utf8 c)) ≡ true)
@@ -128,28 +120,12 @@ lowering_keeps_octets (b ∷ bytes) = ap (λ ts. Octet b ∷ ts) (lowering_keeps
 pub lowercase_keeps_char_past_ascii : (c : ℕ) → 128 ≤ c → to_ascii_lowercase c ≡ c
 lowercase_keeps_char_past_ascii c h = grind (arith, nat_tests)
 
--- unreserved octets: encoding a formatting character and lower case may swap
-formatting_as_octets_commutes_with_lowering : (set : TableSet) (t : Token)
-    → map lower_token (formatting_as_octets set t) ≡ formatting_as_octets set (lower_token t)
-formatting_as_octets_commutes_with_lowering set (Octet value) = refl
-formatting_as_octets_commutes_with_lowering set (Char c) = grind (
-  arith,
-  nat_tests,
-  ascii_char_is_unchanged,
-  lowercase_ascii,
-  lowercase_keeps_char_past_ascii,
-  lowering_keeps_octets,
-)
-
 -- unreserved octets: percent-encoding formatting characters and lower case may swap
 pub encode_formatting_commutes_with_lowering : (set : TableSet) (ts : List Token)
     → map lower_token (encode_formatting set ts) ≡ encode_formatting set (map lower_token ts)
 encode_formatting_commutes_with_lowering set [] = refl
 encode_formatting_commutes_with_lowering set (t ∷ ts) =
-    map-append lower_token (formatting_as_octets set t) (encode_formatting set ts)
-    ∙ ap (λ x. x ++ map lower_token (encode_formatting set ts))
-    (formatting_as_octets_commutes_with_lowering set t) ∙ ap (λ x. formatting_as_octets set
-    (lower_token t) ++ x) (encode_formatting_commutes_with_lowering set ts)
+    grind (arith, encode_formatting_commutes_with_lowering set ts, map-append, ascii_char_is_unchanged, lowering_keeps_octets)
 
 -- unreserved octets: an ASCII character separates the encoding before it from that after it
 pub ascii_char_separates_encode_formatting : (set : TableSet) (ts : List Token)
@@ -169,10 +145,5 @@ pub encode_formatting_leaves_no_literal_formatting : (set : TableSet) (ts : List
 encode_formatting_leaves_no_literal_formatting set [] e = refl
 encode_formatting_leaves_no_literal_formatting set (Octet value ∷ ts) e =
     encode_formatting_leaves_no_literal_formatting set ts e
-encode_formatting_leaves_no_literal_formatting set (Char c ∷ ts) e = grind (
-  arith,
-  nat_tests,
-  octets_are_no_literal_formatting,
-  never_literal_is_formatting_if_both_flags,
-  encode_formatting_leaves_no_literal_formatting set ts e,
-)
+encode_formatting_leaves_no_literal_formatting set (Char c ∷ ts) e =
+    grind (arith, octets_are_no_literal_formatting, never_literal_is_formatting_if_both_flags, encode_formatting_leaves_no_literal_formatting set ts e)

@@ -1,5 +1,5 @@
 -- A text represents at most one list of characters and octets: its tokens.
-use Rattle.uri_pct.proofs.Common.{◌≡◌, ℕ, ◌+◌, ◌*◌, true, eqb, List, [], ◌∷◌, ◌++◌, refl, sym, ap, subst, ◌∙◌, ⊎_elim, arith, ◌↔◌, append-nil, list_all, IsScalar, encode_utf8, digit_value, is_ascii_hexdigit, chars, encode_utf8_all, all_scalars, IsUtf8, chars-append, chars-encodes, chars-nil, encode_ascii, IsUtf8-encode, cases_Bool, cond-true, cond-false, and_parts, and_from, eqb-false, ne_eqb, not-true, TableSet, LacksPercent, is_printable, Token, Char, Octet, tokens, tokens_from_chars, is_pct_encoded, allows_token, is_valid_for, IsValidFor, nat_tests}
+use Rattle.uri_pct.proofs.Common.{◌≡◌, ℕ, ◌+◌, ◌*◌, true, eqb, List, [], ◌∷◌, ◌++◌, refl, sym, ap, subst, ◌∙◌, ⊎_elim, arith, ◌↔◌, append-nil, list_all, IsScalar, encode_utf8, digit_value, is_ascii_hexdigit, chars, encode_utf8_all, all_scalars, IsUtf8, chars-append, chars-encodes, chars-nil, encode_ascii, IsUtf8-encode, cases_Bool, cond-true, cond-false, and_parts, and_from, eqb-false, not-true, TableSet, LacksPercent, is_printable, Token, Char, Octet, tokens, tokens_from_chars, is_pct_encoded, allows_token, is_valid_for, IsValidFor, nat_tests}
 use Rattle.uri_pct.specs.Representation.{RepresentsToken, Represents, RepresentsWithin}
 use Rattle.uri_pct.proofs.UnreservedDecoding.Printing.{char_but_percent_is_its_own_token}
 use Rattle.uri_pct.proofs.Unicode.Characters.{hexdigit_is_ascii}
@@ -22,9 +22,8 @@ octet_text_is_first_token high low rest h l =
 
 text_of_represented_token_is_first_token : (t : Token) (first rest : List ℕ)
     → RepresentsToken first t → tokens (first ++ rest) ≡ t ∷ tokens rest
-text_of_represented_token_is_first_token (Char c) first rest h = ap (λ x. tokens (x ++ rest)) h.2
-    ∙ ap tokens_from_chars (first_encoded_char_is_first_of_chars c rest h.0)
-    ∙ char_but_percent_is_its_own_token c (chars rest) (ne_eqb c 37 h.1)
+text_of_represented_token_is_first_token (Char c) first rest h =
+    grind (arith, first_encoded_char_is_first_of_chars, char_but_percent_is_its_own_token)
 text_of_represented_token_is_first_token (Octet value) first rest h =
     grind (arith, nat_tests, octet_text_is_first_token)
 
@@ -84,11 +83,7 @@ chars_represent_their_tokens (c ∷ high ∷ low ∷ cs) e = ⊎_elim (λ is.
 pub text_represents_its_printable_tokens : (text : List ℕ) → IsUtf8 text
     → list_all is_printable (tokens text) ≡ true → Represents text (tokens text)
 text_represents_its_printable_tokens text u e =
-    let same = ap chars (sym u.1.1) ∙ chars-encodes u.0 u.1.0 in
-    let joined = chars_represent_their_tokens u.0
-    (ap (λ cs. list_all is_printable (tokens_from_chars cs)) (sym same) ∙ e) in
-    subst (λ x. Represents x (tokens text)) u.1.1
-    (subst (λ cs. Represents (encode_utf8_all u.0) (tokens_from_chars cs)) (sym same) joined)
+    grind (arith, chars, chars-encodes, chars_represent_their_tokens)
 
 pub text_is_valid_iff_it_represents_allowed_tokens : (set : TableSet) (text : List ℕ)
     → LacksPercent set → IsUtf8 text → IsValidFor set text ↔ RepresentsWithin set text

@@ -1,5 +1,5 @@
 -- If a set allows a text, its tokens and its decoded tokens are printable.
-use Rattle.uri_pct.proofs.Common.{◌≡◌, ℕ, ◌+◌, ◌*◌, ◌<◌, ◌≤◌, Bool, true, false, eqb, ltb, List, [], ◌∷◌, map, refl, ap, arith, ◌&&◌, ⊎_elim, ◌⊎◌, IsScalar, digit_value, is_ascii_hexdigit, to_ascii_lowercase, all_scalars, chars, list_all, low_scalar, cases_Bool, and_parts, and_from, or_cases, lt-ltb, not_from_false, ne_eqb, false_from_ne_true, cases_lt, lowercase-lowercase, nat_tests, TableSet, LacksPercent, IsSubset, allows, allows_past_ascii, is_ucschar, is_iprivate, is_unreserved, unreserved_set, Token, Char, Octet, tokens, tokens_from_chars, is_pct_encoded, allows_token, is_valid_for, IsValidFor, is_printable, is_decodable, lower_token}
+use Rattle.uri_pct.proofs.Common.{◌≡◌, ℕ, ◌+◌, ◌*◌, ◌<◌, ◌≤◌, Bool, true, false, eqb, ltb, List, [], ◌∷◌, map, refl, ap, arith, ◌&&◌, ⊎_elim, ◌⊎◌, IsScalar, digit_value, is_ascii_hexdigit, chars, list_all, low_scalar, cases_Bool, and_parts, and_from, or_cases, lt-ltb, not_from_false, ne_eqb, lowercase-lowercase, nat_tests, TableSet, LacksPercent, IsSubset, allows, allows_past_ascii, is_ucschar, is_iprivate, is_unreserved, unreserved_set, Token, Char, Octet, tokens, tokens_from_chars, is_pct_encoded, allows_token, is_valid_for, IsValidFor, is_printable, is_decodable, lower_token}
 
 ucschar_is_scalar_past_ascii : (c : ℕ) → is_ucschar c ≡ true → (128 ≤ c) × IsScalar c
 unfolding is_ucschar
@@ -30,10 +30,7 @@ scalar_but_percent_is_printable c scalar e = and_from _ _ (and_from _ true scala
 
 pub allowed_char_is_printable : (set : TableSet) (c : ℕ) → LacksPercent set → allows set c ≡ true
     → is_printable (Char c) ≡ true
-allowed_char_is_printable set c lacks e = ⊎_elim
-    (grind (arith, nat_tests, scalar_but_percent_is_printable, low_scalar, false_from_ne_true))
-    (grind (arith, nat_tests, allowed_past_ascii_is_scalar, scalar_but_percent_is_printable))
-    (cases_lt c 128)
+allowed_char_is_printable set c lacks e = grind (arith, allowed_past_ascii_is_scalar)
 
 -- characters of valid texts: `%` (37) is not unreserved
 unreserved_char_is_not_percent : (c : ℕ) → is_unreserved c ≡ true → eqb c 37 ≡ false
@@ -109,26 +106,10 @@ unfolding is_valid_for
 valid_text_has_printable_tokens set text lacks valid =
     allowed_tokens_are_printable set (tokens text) lacks valid (octet_values_are_bytes (chars text))
 
--- tokens of valid texts: a character in lower case can be written
-lowered_char_is_printable : (c : ℕ) → all_scalars (c ∷ []) ≡ true → eqb c 37 ≡ false
-    → is_printable (Char (to_ascii_lowercase c)) ≡ true
-lowered_char_is_printable c s e = grind (arith, nat_tests)
-
--- tokens of valid texts: one that can be written can be in lower case
-lowered_token_is_printable : (t : Token) → is_printable t ≡ true → is_printable (lower_token t)
-    ≡ true
-lowered_token_is_printable (Char c) e = grind (arith, nat_tests, lowered_char_is_printable)
-lowered_token_is_printable (Octet value) e = e
-
-lowered_char_is_the_same_or_unreserved : (c : ℕ) → (to_ascii_lowercase c ≡ c)
-    ⊎ (is_unreserved (to_ascii_lowercase c) ≡ true)
-lowered_char_is_the_same_or_unreserved c = grind (arith, nat_tests)
-
 lowered_token_is_allowed : (set : TableSet) (t : Token) → IsSubset unreserved_set set
     → allows_token set t ≡ true → allows_token set (lower_token t) ≡ true
 lowered_token_is_allowed set (Octet value) wide e = e
-lowered_token_is_allowed set (Char c) wide e =
-    grind (arith, nat_tests, unreserved_is_ascii, lowered_char_is_the_same_or_unreserved)
+lowered_token_is_allowed set (Char c) wide e = grind (arith, nat_tests, unreserved_is_ascii)
 
 lowered_tokens_pass_kept_test : (test : Token → Bool)
     → ((t : Token) → test t ≡ true → test (lower_token t) ≡ true)
@@ -140,8 +121,7 @@ lowered_tokens_pass_kept_test test keeps (t ∷ ts) e = let p = and_parts (test 
 -- tokens of valid texts: tokens that can be written can be in lower case
 pub lowered_tokens_are_printable : (ts : List Token) → list_all is_printable ts ≡ true
     → list_all is_printable (map lower_token ts) ≡ true
-lowered_tokens_are_printable ts e = lowered_tokens_pass_kept_test is_printable
-    lowered_token_is_printable ts e
+lowered_tokens_are_printable ts e = grind (arith, lowered_tokens_pass_kept_test, nat_tests)
 
 -- tokens of valid texts: tokens that a set allows are allowed
 -- in lower case, if it has the unreserved characters

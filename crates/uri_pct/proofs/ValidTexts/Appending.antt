@@ -1,6 +1,6 @@
 -- Texts that are valid for a set, one after the other.
 use Rattle.uri_pct.proofs.Common.{◌≡◌, ℕ, true, false, eqb, List, [], ◌∷◌, ◌++◌, refl, sym, ap, ◌∙◌, ◌+◌, ◌*◌, ◌&&◌, ⊎_elim, chars, IsUtf8, list_all, digit_value, cases_Bool, cond-true, cond-false, and_parts, and_from, eqb-true, false≢true, false_from_ne_true, list_all-append, chars-append, TableSet, LacksPercent, allows, Token, Char, Octet, is_pct_encoded, tokens_from_chars, tokens, allows_token, is_valid_for, IsValidFor, print, is_printable}
-use Rattle.uri_pct.proofs.UnreservedDecoding.Printing.{char_but_percent_is_its_own_token, printed_tokens_are_valid_iff_allowed, printed_tokens_parse_to_themselves}
+use Rattle.uri_pct.proofs.UnreservedDecoding.Printing.{char_but_percent_is_its_own_token, printed_tokens_are_valid_iff_allowed}
 
 allowed_char_is_not_percent : (set : TableSet) (c : ℕ) → LacksPercent set → allows set c ≡ true
     → eqb c 37 ≡ false
@@ -44,13 +44,6 @@ module _ (set : TableSet) (lacks : LacksPercent set) where
   valid_text_after_valid_text_is_valid xs ys u e f =
       ap (list_all (allows_token set)) (tokens_of_text_after_valid_text xs ys u e)
       ∙ list_all-append (allows_token set) (tokens xs) (tokens ys) ∙ and_from _ _ e f
-
-  -- the tokens of a valid text and printed tokens after it
-  pub tokens_of_print_after_valid_text : (xs : List ℕ) (ts : List Token) → IsUtf8 xs
-      → IsValidFor set xs
-      → list_all is_printable ts ≡ true → tokens (xs ++ print ts) ≡ tokens xs ++ ts
-  tokens_of_print_after_valid_text xs ts u e p = tokens_of_text_after_valid_text xs (print ts) u e
-      ∙ ap (λ us. tokens xs ++ us) (printed_tokens_parse_to_themselves ts p)
 
   pub printed_tokens_after_valid_text_are_valid : (xs : List ℕ) (ts : List Token) → IsUtf8 xs
       → IsValidFor set xs → list_all is_printable ts ≡ true → list_all (allows_token set) ts ≡ true

@@ -63,11 +63,6 @@ eqb_of_successors_is_eqb a b = grind (arith, nat_tests)
 zero_equals_no_successor : (b : ℕ) → eqb 0 (suc b) ≡ false
 zero_equals_no_successor b = grind (arith, nat_tests)
 
-cond_is_at_most_bound_of_both : (b : Bool) (x y m : ℕ) → (b ≡ true → x ≤ m) → (b ≡ false → y ≤ m)
-    → cond b x y ≤ m
-cond_is_at_most_bound_of_both true x y m f g = f refl
-cond_is_at_most_bound_of_both false x y m f g = g refl
-
 -- scanning: how far a scan goes, by the first byte: it passes an octet or a character, or stops
 pub valid_prefix_by_first_byte : (set : TableSet) (b : ℕ) (bs : List ℕ)
     → valid_prefix_from set 0 (b ∷ bs) ≡ cond (set.pct_encoded && eqb b 37)
@@ -84,11 +79,8 @@ module _ (marks : List ℕ) (set : TableSet) (lacks : LacksPercent set)
   cut_at_mark_keeps_first_hexdigit : (bs : List ℕ) → is_ascii_hexdigit
       (get_or (take (length_before_marks marks bs) bs) 0 0) ≡ is_ascii_hexdigit (get_or bs 0 0)
   cut_at_mark_keeps_first_hexdigit [] = refl
-  cut_at_mark_keeps_first_hexdigit (b ∷ bs) = ⊎_elim
-      (λ e. rw (length_before_mark_at_start_is_zero marks b bs e)
-      (sym (excluded_mark_is_no_hexdigit set marks outside b e)))
-      (λ e. rw (length_before_marks_counts_other_byte marks b bs e) refl)
-      (cases_Bool (is_one_of marks b))
+  cut_at_mark_keeps_first_hexdigit (b ∷ bs) =
+      grind (arith, excluded_mark_is_no_hexdigit, length_before_marks_counts_other_byte)
 
   cut_at_mark_keeps_two_hexdigits : (bs : List ℕ)
       → begins_with_hex_digits (take (length_before_marks marks bs) bs) ≡ begins_with_hex_digits bs
@@ -152,17 +144,7 @@ module _ (marks : List ℕ) (set : TableSet) (lacks : LacksPercent set)
       → valid_from set 0 (b ∷ take (length_before_marks marks bs) bs)
       ≡ eqb (valid_prefix_from set 0 (b ∷ bs)) (suc (length_before_marks marks bs))
   char_before_cut_is_valid_iff_scanned b bs o s ih =
-      let m = length_before_marks marks bs in
-      let k = continuation_len b in
-      grind (
-        arith,
-        nat_tests,
-        validity_by_first_byte,
-        cut_at_mark_keeps_whether_first_is_allowed,
-        eqb_of_successors_is_eqb,
-        zero_equals_no_successor,
-        valid_prefix_by_first_byte,
-      )
+      grind (arith, validity_by_first_byte, cut_at_mark_keeps_whether_first_is_allowed, valid_prefix_by_first_byte)
 
   pub valid_prefix_at_mark_is_empty : (b : ℕ) (bs : List ℕ) → is_one_of marks b ≡ true
       → valid_prefix_from set 0 (b ∷ bs) ≡ 0
@@ -201,13 +183,8 @@ module _ (marks : List ℕ) (set : TableSet) (lacks : LacksPercent set)
       → valid_prefix_from set 2 bs ≤ length_before_marks marks bs)
       → valid_prefix_from set (continuation_len b) bs ≤ length_before_marks marks bs
       → valid_prefix_from set 0 (b ∷ bs) ≤ suc (length_before_marks marks bs)
-  valid_prefix_with_first_byte_ends_by_mark b bs two one = grind (
-    arith,
-    nat_tests,
-    length_before_marks,
-    valid_prefix_by_first_byte,
-    cond_is_at_most_bound_of_both,
-  )
+  valid_prefix_with_first_byte_ends_by_mark b bs two one =
+      grind (arith, nat_tests, length_before_marks, valid_prefix_by_first_byte)
 
   valid_prefix_from_ends_by_mark : (k : ℕ) (bs : List ℕ) → passes_no_mark_within_chars marks k bs
       ≡ true → valid_prefix_from set k bs ≤ length_before_marks marks bs

@@ -1,5 +1,5 @@
 -- Where a text is cut at a byte, and the pieces between its places.
-use Rattle.uri_pct.proofs.Common.{◌≡◌, ℕ, suc, ◌<◌, ◌≢◌, Bool, true, false, eqb, not, List, [], ◌∷◌, ◌++◌, length, get_or, take, drop, refl, sym, ap, ◌∙◌, arith, ⊎_elim, Option, Some, None, MatchOption, Bor, take-append-drop, list_all, slice_split, onto_first, eq-eqb, eqb-true, false≢true, and_parts, and_from, not_from_false, not-true, ne_eqb, cases_Bool, cond-true, cond-false, lacks, is_absolute, IsCutAtFirst, IsCutAtLast, nat_tests}
+use Rattle.uri_pct.proofs.Common.{◌≡◌, ℕ, suc, ◌<◌, ◌≢◌, Bool, true, eqb, not, List, [], ◌∷◌, ◌++◌, length, get_or, take, drop, refl, sym, ap, ◌∙◌, arith, ⊎_elim, Option, Some, None, MatchOption, Bor, take-append-drop, list_all, slice_split, onto_first, eq-eqb, eqb-true, false≢true, and_parts, and_from, not_from_false, not-true, ne_eqb, cases_Bool, cond-true, cond-false, lacks, is_absolute, IsCutAtFirst, IsCutAtLast, nat_tests}
 use Rattle.std.specs.Str.Pattern.{RFindsChar, SplitsAroundMatch}
 use Rattle.std.proofs.lemmas.Str.Pattern.{IsSplitOnceResult, split_parts, NoCharPasses-char, drop_at_char}
 
@@ -11,10 +11,6 @@ byte_at_no_index_is_lacked d [] h = refl
 byte_at_no_index_is_lacked d (b ∷ bs) h =
     and_from _ _ (not_from_false _ (ne_eqb b d (h 0 (omega arith))))
     (byte_at_no_index_is_lacked d bs (λ i l. h (suc i) (omega arith)))
-
--- general fact on numbers, for splitting at a delimiter: a byte equals itself
-eqb-refl : (d : ℕ) → eqb d d ≡ true
-eqb-refl d = eq-eqb d d refl
 
 pub split_once_cuts_at_first : (d : ℕ) (bs : List ℕ) (r : Option (Bor (List ℕ) × Bor (List ℕ)))
     → IsSplitOnceResult d bs r → d < 128
@@ -55,7 +51,7 @@ onto_first_commutes_with_append x piece pieces more all e = rw e refl
 -- splitting at a delimiter d: the pieces of a text with one are those before it and those after it
 delimiter_separates_split_pieces : (d : ℕ) (before after : List ℕ) → slice_split (λ b. eqb b d)
     (before ++ d ∷ after) ≡ slice_split (λ b. eqb b d) before ++ slice_split (λ b. eqb b d) after
-delimiter_separates_split_pieces d [] after = rw (eqb-refl d) refl
+delimiter_separates_split_pieces d [] after = grind (arith, eq-eqb)
 delimiter_separates_split_pieces d (x ∷ xs) after =
     let p = λ (b : ℕ). eqb b d in
     let f = split_has_first_piece p xs in
@@ -84,22 +80,12 @@ pub split_piece_after_last_delimiter_is_last : (d : ℕ) (text rest piece : List
 split_piece_after_last_delimiter_is_last d text rest piece cut =
     grind (arith, nat_tests, delimiter_separates_split_pieces, text_without_delimiter_is_one_piece)
 
--- splitting at a delimiter d: another byte x before the first piece leaves all without d
-onto_first_keeps_pieces_without_delimiter : (d x : ℕ) (piece : List ℕ) (pieces all : List (List ℕ))
-    → all ≡ piece ∷ pieces
-    → eqb x d ≡ false → list_all (lacks d) all ≡ true → list_all (lacks d) (onto_first x all) ≡ true
-onto_first_keeps_pieces_without_delimiter d x piece pieces all e other h = grind (arith, nat_tests)
-
 -- splitting at a delimiter d: no piece has the delimiter
 pub substrings_lack_delimiter : (d : ℕ) (text : List ℕ)
     → list_all (lacks d) (slice_split (λ b. eqb b d) text) ≡ true
 substrings_lack_delimiter d [] = refl
 substrings_lack_delimiter d (x ∷ xs) =
-    let p = λ (b : ℕ). eqb b d in
-    let f = split_has_first_piece p xs in
-    ⊎_elim (λ e. rw e (substrings_lack_delimiter d xs))
-    (λ e. rw e (onto_first_keeps_pieces_without_delimiter d x f.0 f.1
-    (slice_split p xs) f.2 e (substrings_lack_delimiter d xs))) (cases_Bool (eqb x d))
+    grind (arith, substrings_lack_delimiter d xs, split_has_first_piece, nat_tests, cases_Bool)
 
 -- splitting at a delimiter: an absolute path, whose segments are split, is `/` (47) and a rest
 pub absolute_path_begins_with_slash : (text : List ℕ) → is_absolute text ≡ true → text

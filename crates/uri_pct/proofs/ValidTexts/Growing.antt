@@ -1,7 +1,9 @@
 -- An owned text that is valid for a set grows.
+use Rattle.uri_pct.proofs.UnreservedDecoding.Printing.{printed_tokens_parse_to_themselves}
+use native.Mathlib.Omega.{arith}
 use Rattle.uri_pct.proofs.Common.{◌≡◌, ℕ, true, List, [], ◌∷◌, ◌++◌, cond, refl, sym, ap, ◌∙◌, subst, Result, Ok, Err, encode_utf8, OnOk, OnErr, is_ok, IsUtf8, append-nil, list_all, and_from, false≢true, false_from_ne_true, TableSet, LacksPercent, IsSubset, allows, Token, Char, tokens, allows_token, IsValidFor, print, encode_text, encode_bytes, is_printable}
 use Rattle.uri_pct.proofs.ValidTexts.Allowed.{allowed_char_is_printable}
-use Rattle.uri_pct.proofs.ValidTexts.Appending.{tokens_of_text_after_valid_text, valid_text_after_valid_text_is_valid, tokens_of_print_after_valid_text, printed_tokens_after_valid_text_are_valid}
+use Rattle.uri_pct.proofs.ValidTexts.Appending.{tokens_of_text_after_valid_text, valid_text_after_valid_text_is_valid, printed_tokens_after_valid_text_are_valid}
 use Rattle.uri_pct.proofs.EncodedTexts.EncodedTokens.{is_eight_bit, encoded_text_is_printable, encoded_text_is_allowed, encoded_bytes_are_printable, encoded_bytes_are_allowed}
 
 -- owned valid texts: the new text is valid, and has the tokens of the old one and then these
@@ -13,11 +15,8 @@ pub record Grows (set : TableSet) (old : List ℕ) (ts : List Token) (new : List
 grows_by_tokens : (set : TableSet) (old new : List ℕ) (ts : List Token)
     → LacksPercent set → IsUtf8 old → IsValidFor set old → list_all is_printable ts ≡ true
     → list_all (allows_token set) ts ≡ true → new ≡ old ++ print ts → Grows set old ts new
-grows_by_tokens set old new ts lacks u valid p a e = record {
-  valid = subst (IsValidFor set) (sym e)
-      (printed_tokens_after_valid_text_are_valid set lacks old ts u valid p a);
-  tokens = ap tokens e ∙ tokens_of_print_after_valid_text set lacks old ts u valid p;
-}
+grows_by_tokens set old new ts lacks u valid p a e =
+    grind (arith, printed_tokens_after_valid_text_are_valid, tokens_of_text_after_valid_text, printed_tokens_parse_to_themselves)
 
 subset_lacks_percent : (sub set : TableSet) → IsSubset sub set → LacksPercent set → LacksPercent sub
 subset_lacks_percent sub set subset lacks =
@@ -49,11 +48,8 @@ grows_by_char set old new c lacks u valid a e = grows_by_tokens set old new
 
 pub grows_by_valid_text : (set : TableSet) (old new text : List ℕ) → LacksPercent set → IsUtf8 old
     → IsValidFor set old → IsValidFor set text → new ≡ old ++ text → Grows set old (tokens text) new
-grows_by_valid_text set old new text lacks u valid more e = record {
-  valid = subst (IsValidFor set) (sym e)
-      (valid_text_after_valid_text_is_valid set lacks old text u valid more);
-  tokens = ap tokens e ∙ tokens_of_text_after_valid_text set lacks old text u valid;
-}
+grows_by_valid_text set old new text lacks u valid more e =
+    grind (arith, valid_text_after_valid_text_is_valid, tokens_of_text_after_valid_text)
 
 -- owned valid texts: after a call that appends a text or leaves it as it was,
 -- it is valid if it is so in either case

@@ -30,12 +30,8 @@ chars_with_one_more_stay_within : (c : ℕ) (xs : List ℕ) {m n : ℕ} → m �
 chars_with_one_more_stay_within c xs e l = grind (arith, nat_tests, length-append)
 
 module _ (set : TableSet) (lacks : LacksPercent set) where
-  -- a `%` is no character of the set
-  percent_is_not_allowed : (c : ℕ) → eqb c 37 ≡ true → allows set c ≡ false
-  percent_is_not_allowed c e = ap (allows set) (eqb-true c 37 e) ∙ lacks
-
   allowed_char_is_not_percent : (c : ℕ) → allows set c ≡ true → eqb c 37 ≡ false
-  allowed_char_is_not_percent c a = grind (arith, nat_tests, percent_is_not_allowed)
+  allowed_char_is_not_percent c a = grind (arith, nat_tests, set, eqb-true, lacks)
 
   valid_prefix_by_first_of_chars : (c : ℕ) (cs : List ℕ) → all_scalars (c ∷ cs) ≡ true
       → eqb c 37 ≡ false → valid_prefix set (encode_utf8_all (c ∷ cs))
@@ -46,22 +42,14 @@ module _ (set : TableSet) (lacks : LacksPercent set) where
   valid_prefix_grows_by_allowed_char : (c : ℕ) (cs : List ℕ) → all_scalars (c ∷ cs) ≡ true
       → allows set c ≡ true → valid_prefix set (encode_utf8_all (c ∷ cs))
       ≡ valid_prefix set (encode_utf8_all cs) + length (encode_utf8 c)
-  valid_prefix_grows_by_allowed_char c cs s a = valid_prefix_by_first_of_chars c cs s
-      (allowed_char_is_not_percent c a) ∙ cond-true _ _ _ a
-      ∙ ap (λ n. valid_prefix set (encode_utf8_all cs) + n) (sym (length-encode c))
+  valid_prefix_grows_by_allowed_char c cs s a =
+      grind (arith, valid_prefix_by_first_of_chars, length-encode)
 
   valid_prefix_is_empty_at_disallowed_char : (c : ℕ) (cs : List ℕ) → all_scalars (c ∷ cs) ≡ true
       → allows set c ≡ false → (set.pct_encoded && (eqb c 37 && begins_with_hex_digits cs)) ≡ false
       → valid_prefix set (encode_utf8_all (c ∷ cs)) ≡ 0
-  valid_prefix_is_empty_at_disallowed_char c cs s a o = grind (
-    arith,
-    nat_tests,
-    encode_ascii,
-    valid_prefix_by_first_byte,
-    encoded_chars_begin_with_same_hex_digits,
-    ascii_first_byte_is_allowed_iff_in_set,
-    valid_prefix_by_first_of_chars,
-  )
+  valid_prefix_is_empty_at_disallowed_char c cs s a o =
+      grind (arith, encode_ascii, valid_prefix_by_first_byte, encoded_chars_begin_with_same_hex_digits, ascii_first_byte_is_allowed_iff_in_set, valid_prefix_by_first_of_chars)
 
   valid_prefix_grows_by_octet : (c h l : ℕ) (cs : List ℕ) → set.pct_encoded ≡ true
       → is_pct_encoded c h l ≡ true → valid_prefix set (encode_utf8_all (c ∷ h ∷ l ∷ cs))

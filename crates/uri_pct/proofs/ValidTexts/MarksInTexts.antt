@@ -39,13 +39,9 @@ passes_no_mark_within_chars marks (suc k) (b ∷ rest) = not (is_one_of marks b)
 abbrev pub AreAscii : List ℕ → Type 0
 AreAscii marks = (b : ℕ) → is_one_of marks b ≡ true → b < 128
 
-ascii_byte_is_not_past_ascii : (b : ℕ) → is_no_ascii_byte b ≡ true → b < 128 → ⊥
-ascii_byte_is_not_past_ascii b h l = grind (arith, nat_tests)
-
 byte_past_ascii_is_no_ascii_mark : (marks : List ℕ) → AreAscii marks → (b : ℕ)
     → is_no_ascii_byte b ≡ true → is_one_of marks b ≡ false
-byte_past_ascii_is_no_ascii_mark marks ascii b h = ⊎_elim (λ m. let l = ascii b m in absurd
-    (ascii_byte_is_not_past_ascii b h l)) (λ m. m) (cases_Bool (is_one_of marks b))
+byte_past_ascii_is_no_ascii_mark marks ascii b h = grind (arith, nat_tests, cases_Bool)
 
 -- cuts of valid texts: at ASCII marks,
 -- a text is never cut among the bytes past ASCII of a character (more)
@@ -96,10 +92,7 @@ cut_at_mark_keeps_first_char : (marks : List ℕ) (k c : ℕ) (bs : List ℕ)
 unfolding passes_no_mark_within_chars
 cut_at_mark_keeps_first_char marks zero c [] s = refl
 cut_at_mark_keeps_first_char marks (suc k) c [] s = refl
-cut_at_mark_keeps_first_char marks zero c (b ∷ bs) s = ⊎_elim (λ m. ap (λ n. slice_index
-    (chars_after zero c (take n (b ∷ bs))) 0) (length_before_mark_at_start_is_zero marks b bs m))
-    (λ m. ap (λ n. slice_index (chars_after zero c (take n (b ∷ bs))) 0)
-    (length_before_marks_counts_other_byte marks b bs m)) (cases_Bool (is_one_of marks b))
+cut_at_mark_keeps_first_char marks zero c (b ∷ bs) s = grind arith
 cut_at_mark_keeps_first_char marks (suc k) c (b ∷ bs) s =
     let p = and_parts _ _ s in
     ap (λ n. slice_index (chars_after (suc k) c (take n (b ∷ bs))) 0)

@@ -1,10 +1,10 @@
 -- One step of the longest prefix that a set allows: an octet, a character, and where it stops.
-use Rattle.uri_pct.proofs.Common.{◌≡◌, ℕ, suc, ◌+◌, ◌<◌, ◌≤◌, true, false, cond, eqb, List, [], ◌∷◌, ◌++◌, length, get_or, drop, sym, subst, ap, ◌∙◌, arith, ◌&&◌, ◌||◌, ⊎_elim, add-one, encode_utf8, len_utf8, continuation_len, IsUtf8, IsCharBoundary, length-encode, chars_past_char, IsUtf8-drop, encode_ascii, len_utf8_ascii, at_drop_more, get_or-drop, drop_all, cases_Bool, cases_lt, cond-true, cond-false, and_from, and_left, and_right, and_parts, eq-eqb, ne_eqb, lt-ltb, TableSet, LacksPercent, allows, allows_past_ascii, begins_with_hex_digits, first_char, allows_first, valid_prefix_from, valid_prefix, has_hex_digits_after, nat_tests}
+use Rattle.std.proofs.lemmas.Grind.{common_steps}
+use Rattle.uri_pct.proofs.Common.{◌≡◌, ℕ, suc, ◌+◌, ◌<◌, ◌≤◌, true, false, cond, eqb, List, [], ◌∷◌, ◌++◌, length, get_or, drop, sym, subst, ap, ◌∙◌, arith, ◌&&◌, ◌||◌, ⊎_elim, add-one, encode_utf8, len_utf8, continuation_len, IsUtf8, IsCharBoundary, length-encode, chars_past_char, IsUtf8-drop, at_drop_more, get_or-drop, drop_all, cases_Bool, cond-true, cond-false, and_from, and_left, and_right, and_parts, eq-eqb, ne_eqb, TableSet, LacksPercent, allows, allows_past_ascii, begins_with_hex_digits, first_char, allows_first, valid_prefix_from, valid_prefix, has_hex_digits_after, nat_tests}
 use Rattle.uri_pct.specs.Models.Scans.{may_begin_octet_or_past_ascii}
 use Rattle.uri_pct.proofs.Unicode.Characters.{char_has_encoding, hexdigit_is_ascii, char_past_ascii_begins_past_ascii}
-use Rattle.uri_pct.proofs.ValidTexts.Validity.{ascii_first_byte_is_allowed_iff_in_set, first_byte_past_ascii_is_allowed_by_its_char, ascii_char_is_allowed_iff_in_set, char_past_ascii_is_allowed_by_flags}
+use Rattle.uri_pct.proofs.ValidTexts.Validity.{ascii_first_byte_is_allowed_iff_in_set, first_byte_past_ascii_is_allowed_by_its_char}
 use Rattle.uri_pct.proofs.ValidTexts.Cuts.{valid_prefix_by_first_byte}
-use Rattle.uri_pct.proofs.ValidTexts.MarksInTexts.{ascii_byte_has_no_continuation}
 use Rattle.uri_pct.proofs.ValidTexts.Prefixes.{percent_is_not_allowed_first}
 
 -- scanning: how far a scan goes from an index, by the byte there:
@@ -61,28 +61,19 @@ valid_prefix_stops_at_stray_percent set lacks bs i h p e = valid_prefix_by_byte_
     (and_left _ _ o) ∙ cond-false _ _ _ (percent_is_not_allowed_first set lacks _ _ (eq-eqb _ _ p)))
     (cases_Bool set.pct_encoded)
 
--- scanning: no character of a set is `%` (37)
-ascii_char_of_set_is_not_percent : (set : TableSet) → LacksPercent set → (b : ℕ) → set.ascii b
-    ≡ true → eqb b 37 ≡ false
-ascii_char_of_set_is_not_percent set lacks b a = grind (arith, nat_tests)
-
 -- scanning: a scan passes an ASCII character of the set
 pub valid_prefix_passes_ascii_char_of_set : (set : TableSet) → LacksPercent set
     → (bs : List ℕ) (i : ℕ) → i < length bs → get_or bs i 0 < 128 → set.ascii (get_or bs i 0) ≡ true
     → valid_prefix set (drop i bs) ≡ valid_prefix set (drop (i + 1) bs) + 1
 valid_prefix_passes_ascii_char_of_set set lacks bs i h l a =
-    valid_prefix_by_byte_at_index set bs i h
-    ∙ cond-false _ _ _ (and_right _ _ (ascii_char_of_set_is_not_percent set lacks _ a))
-    ∙ cond-true _ _ _ (ascii_first_byte_is_allowed_iff_in_set set _ _ l ∙ a)
-    ∙ ap (λ k. valid_prefix_from set k (drop (i + 1) bs) + 1) (cond-true _ _ _ (lt-ltb _ 128 l))
+    grind (arith, valid_prefix_by_byte_at_index, ascii_first_byte_is_allowed_iff_in_set)
 
 -- scanning: a scan stops at an ASCII character that the set lacks
 pub valid_prefix_stops_at_ascii_outside_set : (set : TableSet) (bs : List ℕ) (i : ℕ) → i < length bs
     → get_or bs i 0 < 128 → eqb (get_or bs i 0) 37 ≡ false → set.ascii (get_or bs i 0) ≡ false
     → valid_prefix set (drop i bs) ≡ 0
-valid_prefix_stops_at_ascii_outside_set set bs i h l p a = valid_prefix_by_byte_at_index set bs i h
-    ∙ cond-false _ _ _ (and_right _ _ p)
-    ∙ cond-false _ _ _ (ascii_first_byte_is_allowed_iff_in_set set _ _ l ∙ a)
+valid_prefix_stops_at_ascii_outside_set set bs i h l p a =
+    grind (arith, valid_prefix_by_byte_at_index, ascii_first_byte_is_allowed_iff_in_set)
 
 -- scanning: bytes of a character that are skipped (more) add
 -- their number to the prefix that is scanned
@@ -126,16 +117,8 @@ valid_prefix_by_first_char_past_ascii set bs rest c u e h =
 pub valid_prefix_by_first_char : (set : TableSet) (text rest : List ℕ) (c : ℕ) → IsUtf8 text
     → text ≡ encode_utf8 c ++ rest → (set.pct_encoded && eqb c 37) ≡ false
     → valid_prefix set text ≡ cond (allows set c) (valid_prefix set rest + len_utf8 c) 0
-valid_prefix_by_first_char set text rest c u e o = ⊎_elim (λ h. ap (valid_prefix set) (e
-    ∙ ap (λ t. t ++ rest) (encode_ascii c h)) ∙ valid_prefix_by_first_byte set c rest
-    ∙ cond-false _ _ _ o ∙ ap (λ t. cond t (valid_prefix_from set (continuation_len c) rest + 1) 0)
-    (ascii_first_byte_is_allowed_iff_in_set set c rest h
-    ∙ sym (ascii_char_is_allowed_iff_in_set set c h)) ∙ ap (λ k. cond
-    (allows set c) (valid_prefix_from set k rest + 1) 0) (ascii_byte_has_no_continuation c h)
-    ∙ ap (λ k. cond (allows set c) (valid_prefix set rest + k) 0) (sym (len_utf8_ascii c h)))
-    (λ h. valid_prefix_by_first_char_past_ascii set text rest c u e (subst (λ t. 128 ≤ get_or t 0 0)
-    (sym e) (char_past_ascii_begins_past_ascii c rest h)) ∙ ap (λ t. cond t (valid_prefix set rest
-    + len_utf8 c) 0) (sym (char_past_ascii_is_allowed_by_flags set c h))) (cases_lt c 128)
+valid_prefix_by_first_char set text rest c u e o =
+    grind (arith, common_steps, valid_prefix_by_first_byte, ascii_first_byte_is_allowed_iff_in_set, valid_prefix_by_first_char_past_ascii, char_past_ascii_begins_past_ascii)
 
 -- scanning: a scan passes a character past ASCII if the set allows it, and stops there otherwise
 pub valid_prefix_by_char_past_ascii_at_index : (set : TableSet) (bs : List ℕ) (i c : ℕ)
@@ -159,10 +142,8 @@ successor_is_not_zero n e = omega arith
 pub unscanned_percent_has_no_hex_digits : (set : TableSet) (bs : List ℕ) (i : ℕ) → i < length bs
     → set.pct_encoded ≡ true
     → get_or bs i 0 ≡ 37 → valid_prefix set (drop i bs) ≡ 0 → has_hex_digits_after bs i ≡ false
-unscanned_percent_has_no_hex_digits set bs i h o p z = ⊎_elim (λ e. absurd (successor_is_not_zero _
-    (sym (cond-true _ _ _ (hex_digits_after_index_begin_suffix bs i ∙ e)) ∙ sym (cond-true _ _ _
-    (and_from _ _ o (eq-eqb _ _ p))) ∙ sym (valid_prefix_by_byte_at_index set bs i h) ∙ z)))
-    (λ e. e) (cases_Bool (has_hex_digits_after bs i))
+unscanned_percent_has_no_hex_digits set bs i h o p z =
+    grind (arith, hex_digits_after_index_begin_suffix, valid_prefix_by_byte_at_index)
 
 no_flags_allow_nothing_past_ascii : (set : TableSet)
     → (set.ucschar || set.iprivate) ≡ false → (c : ℕ) → allows_past_ascii set c ≡ false

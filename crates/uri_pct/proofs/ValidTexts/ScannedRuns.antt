@@ -29,9 +29,7 @@ module _ (set : TableSet) (lacks : LacksPercent set) (pct : set.pct_encoded ≡ 
   digits_of_octet_are_no_percent k o = grind (arith, nat_tests)
 
   no_octet_goes_on_after_character : (k : ℕ) → IsFresh k → oct k ≡ false → IsFresh (k + 1)
-  no_octet_goes_on_after_character k fresh none j l h =
-      ⊎_elim (λ (below : j < k). fresh j below (omega arith)) (λ (past : k ≤ j). let e : k
-      ≡ j = omega arith in subst (λ m. oct m ≡ false) e none) (cases_lt j k)
+  no_octet_goes_on_after_character k fresh none j l h = grind (arith, false)
 
   no_octet_goes_on_after_octet : (k : ℕ) → oct k ≡ true → IsFresh (k + 3)
   no_octet_goes_on_after_octet k o j l h =

@@ -10,11 +10,7 @@ pub record IsNeverInOctet (c : ℕ) : Type 0 where
 
 -- cuts of valid texts: a reserved character is never in a percent-encoded octet
 pub reserved_is_never_in_octet : (c : ℕ) → is_reserved c ≡ true → IsNeverInOctet c
-reserved_is_never_in_octet c e = record {
-  ascii = grind (arith, nat_tests);
-  no_digit = grind (arith, nat_tests);
-  no_percent = grind (arith, nat_tests);
-}
+reserved_is_never_in_octet c e = grind (arith, nat_tests)
 
 -- cuts of valid texts: `/` (47) is reserved, so it is never decoded to or from `%2F`
 pub slash_is_reserved : is_reserved 47 ≡ true

@@ -53,23 +53,12 @@ literal_prefix_of_chars_is_unchanged set (c ∷ cs) s =
     (λ a. subst (HasUnchangedPrefix set text) (sym (first ∙ cond-false _ _ _ a)) refl)
     (cases_Bool (allows set c))
 
-literal_prefix_of_text_is_unchanged : (set : TableSet) (text : List ℕ) → IsUtf8 text
-    → HasUnchangedPrefix set text (valid_prefix (set_without_octets set) text)
-literal_prefix_of_text_is_unchanged set text u = subst
-    (λ t. HasUnchangedPrefix set t (valid_prefix (set_without_octets set) t)) u.1.1
-    (literal_prefix_of_chars_is_unchanged set u.0 u.1.0)
-
 pub allowed_run_is_encoded_as_itself : (set : TableSet) (text : List ℕ) (start end : ℕ)
     → IsUtf8 text → IsCharBoundary text start → end
     ≡ start + valid_prefix (set_without_octets set) (drop start text)
     → IsEncodedBy (λ bytes. bytes) set text start end
 allowed_run_is_encoded_as_itself set text start end u here e =
-    let n = valid_prefix (set_without_octets set) (drop start text) in
-    let size : n ≡ end - start = omega (arith, e) in
-    literal_prefix_of_text_is_unchanged set (drop start text) (IsUtf8-drop text start u here)
-    ∙ ap (λ x. take n (drop start text) ++ print (encode_text set x))
-    (drop-drop n start text ∙ ap (λ k. drop k text) (sym e))
-    ∙ ap (λ k. take k (drop start text) ++ print (encode_text set (drop end text))) size
+    grind (arith, literal_prefix_of_chars_is_unchanged, IsUtf8-drop, drop-drop)
 
 -- valid prefixes: a character has a byte at least
 utf8_length_of_char_is_positive : (c : ℕ) → 0 < len_utf8 c
@@ -146,11 +135,7 @@ pub encoded_text_after_two_runs : (set : TableSet) (out mid new text all : List 
     - start) (drop start text) → new ≡ mid ++ print (map Octet (take (next - end) (drop end text)))
     → out ++ print (encode_text set (drop start text)) ≡ all
     → new ++ print (encode_text set (drop next text)) ≡ all
-encoded_text_after_two_runs set out mid new text all start end next kept refused copied
-    written whole =
-    let part : List ℕ = take (end - start) (drop start text) in
-    let octets_of : List ℕ = print (map Octet (take (next - end) (drop end text))) in
-    let rest : List ℕ = print (encode_text set (drop next text)) in
+encoded_text_after_two_runs set out mid new text all start end next kept refused copied written whole =
     grind (arith, nat_tests, append_assoc)
 
 pub encoded_text_at_end : (set : TableSet) (out text all : List ℕ) (done : ℕ) → length text ≤ done

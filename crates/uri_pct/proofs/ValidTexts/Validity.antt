@@ -1,5 +1,6 @@
 -- Validity for a set, byte by byte.
-use Rattle.uri_pct.proofs.Common.{◌≡◌, ℕ, zero, suc, ◌<◌, ◌≤◌, Bool, true, false, cond, eqb, List, [], ◌∷◌, ◌++◌, length, get_or, drop, refl, sym, ap, ◌∙◌, arith, ◌&&◌, ⊎_elim, list_all, is_ascii_hexdigit, encode_utf8, IsUtf8, encode_utf8_all, all_scalars, continuation_len, chars-encodes, encode_ascii, cases_lt, cases_Bool, and_parts, eqb-true, cond-true, cond-false, and_left, and_right, and_from, lt-ltb, le-ltb, ne_eqb, TableSet, LacksPercent, allows, allows_past_ascii, tokens_from_chars, allows_token, is_valid_for, is_pct_encoded, begins_with_hex_digits, first_char, allows_first, nat_tests}
+use Rattle.std.proofs.lemmas.Grind.{common_steps}
+use Rattle.uri_pct.proofs.Common.{◌≡◌, ℕ, zero, suc, ◌<◌, ◌≤◌, Bool, true, false, cond, eqb, List, [], ◌∷◌, ◌++◌, length, get_or, drop, refl, sym, ap, ◌∙◌, arith, ◌&&◌, ⊎_elim, list_all, is_ascii_hexdigit, encode_utf8, IsUtf8, encode_utf8_all, all_scalars, continuation_len, chars-encodes, encode_ascii, cases_lt, cases_Bool, and_parts, eqb-true, cond-true, cond-false, and_left, and_right, lt-ltb, le-ltb, ne_eqb, TableSet, LacksPercent, allows, allows_past_ascii, tokens_from_chars, allows_token, is_valid_for, is_pct_encoded, begins_with_hex_digits, first_char, allows_first, nat_tests}
 use Rattle.uri_pct.proofs.Unicode.Characters.{HasEncoding, char_has_encoding, char_past_ascii_begins_past_ascii, first_of_encoded_chars_is_first_char, hexdigit_is_ascii, encoded_chars_begin_with_same_hex_digits}
 
 -- the bytes are valid, of which so many are still to pass
@@ -126,9 +127,7 @@ validity_after_percent_skips_two : (set : TableSet) (c : ℕ) (cs : List ℕ) �
     → begins_with_hex_digits cs ≡ true → set.pct_encoded ≡ true
     → valid_from set 0 (encode_utf8_all (c ∷ cs)) ≡ valid_from set 2 (encode_utf8_all cs)
 validity_after_percent_skips_two set c cs d b o =
-    ap (λ t. valid_from set 0 (t ++ encode_utf8_all cs)) (encode_ascii c (omega arith))
-    ∙ validity_by_first_byte set c (encode_utf8_all cs) ∙ cond-true _ _ _ (and_from _ _
-    (and_from _ _ o (ap (λ t. eqb t 37) d)) (encoded_chars_begin_with_same_hex_digits cs ∙ b))
+    grind (arith, common_steps, validity_by_first_byte, encoded_chars_begin_with_same_hex_digits)
 
 -- validity: a `%` (37) is not valid for a set without octets
 stray_percent_is_not_valid : (set : TableSet) (c : ℕ) (cs : List ℕ) → LacksPercent set → c ≡ 37
