@@ -1,6 +1,7 @@
 //! A base of references, which a batch parses once.
 ghost use Rattle.fluent_uri.specs.References.{reference_text};
 ghost use Rattle.fluent_uri_c.specs.Results.{IsReturnedAs, IsTargetReturned};
+
 use crate::errors::{Error, Rejection};
 use crate::numbered::{is_basic, prefers_relative_path, rule_set};
 use crate::texts::{self, parsed};

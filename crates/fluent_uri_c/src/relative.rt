@@ -20,34 +20,6 @@ use crate::parts::Parts;
 use crate::texts::{is_possible_length, lengths_error};
 use std::alloc::{AllocError, Global};
 
-/// Writes a reference that leads from a base to a target, both of the kind, by options, or reports
-/// why there is none. Returns the number of the error, or 0.
-#[inline(always)]
-fn relativize_by_numbers(
-    alloc: Global,
-    kind: u32,
-    options: u32,
-    base: &[u8],
-    target: &[u8],
-    out: &mut [u8],
-    parts: &mut [Parts],
-    outcome: &mut Outcome,
-) -> u32
-    ensures text { LeavesValue (relativize_result kind options base.now target.now)
-        out.old out.new parts.old parts.new outcome.new result }
-    ensures leads { result ≡ 0 → IsSomeAnd (path_preference options) (λ prefers.
-        IsSomeAnd (base_numbered kind) (λ kind. IsRelativized kind prefers
-        base.now target.now (reference_to prefers base.now target.now))) }
-{
-    match numbered::reference(alloc, kind, options, base, target) {
-        Ok(value) => {
-            put_value(&value, out, parts, outcome);
-            0
-        }
-        Err(why) => report(why, outcome),
-    }
-}
-
 /// Writes a reference that leads from a base to a target.
 #[unsafe(no_mangle)]
 pub extern "C" fn fluent_uri_relativize(
@@ -70,7 +42,13 @@ pub extern "C" fn fluent_uri_relativize(
     if let Some(why) = lengths_error(base, target) {
         return report(why, outcome);
     }
-    relativize_by_numbers(alloc, kind, options, base, target, out, parts, outcome)
+    match numbered::reference(alloc, kind, options, base, target) {
+        Ok(value) => {
+            put_value(&value, out, parts, outcome);
+            0
+        }
+        Err(why) => report(why, outcome),
+    }
 }
 
 /// Makes references that lead from a base of a kind to targets, by options.

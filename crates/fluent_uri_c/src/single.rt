@@ -52,33 +52,6 @@ pub extern "C" fn fluent_uri_normalize(
     }
 }
 
-/// Writes the target of a reference against a base of the kind without its fragment, by options, or
-/// reports why there is none. Returns the number of the error, or 0.
-#[inline(always)]
-fn resolve_by_numbers(
-    alloc: Global,
-    kind: u32,
-    options: u32,
-    base: &[u8],
-    reference: &[u8],
-    out: &mut [u8],
-    parts: &mut [Parts],
-    outcome: &mut Outcome,
-) -> u32
-    ensures { let returned = resolve_result kind options base.now reference.now in
-        LeavesValueOrDenied (takes_memory_for_target returned) returned
-        out.old out.new parts.old parts.new outcome.new result }
-{
-    let Some(is_basic) = is_basic(options) else {
-        return report(Rejection::of(Error::InvalidArgument), outcome);
-    };
-    match kind {
-        0 => resolve::<UriRefKind>(alloc, is_basic, base, reference, out, parts, outcome),
-        2 => resolve::<IriRefKind>(alloc, is_basic, base, reference, out, parts, outcome),
-        _ => report(Rejection::of(Error::InvalidArgument), outcome),
-    }
-}
-
 /// Writes the target of a reference against a base of the kind without its fragment, by options.
 #[unsafe(no_mangle)]
 pub extern "C" fn fluent_uri_resolve(
@@ -99,35 +72,12 @@ pub extern "C" fn fluent_uri_resolve(
     if let Some(why) = lengths_error(base, reference) {
         return report(why, outcome);
     }
-    resolve_by_numbers(alloc, kind, options, base, reference, out, parts, outcome)
-}
-
-/// Writes the normal form of the target of a reference against a base of the kind without its
-/// fragment, by options, or reports why there is none. Returns the number of the error, or 0.
-#[inline(always)]
-fn resolve_normalized_by_numbers(
-    alloc: Global,
-    kind: u32,
-    options: u32,
-    base: &[u8],
-    reference: &[u8],
-    out: &mut [u8],
-    parts: &mut [Parts],
-    outcome: &mut Outcome,
-) -> u32
-    ensures { LeavesValue (resolve_normalized_result kind options base.now reference.now)
-        out.old out.new parts.old parts.new outcome.new result }
-{
-    let Some(rules) = rule_set(options) else {
+    let Some(is_basic) = is_basic(options) else {
         return report(Rejection::of(Error::InvalidArgument), outcome);
     };
     match kind {
-        0 => {
-            resolve_normalized::<UriRefKind>(alloc, rules, base, reference, out, parts, outcome)
-        }
-        2 => {
-            resolve_normalized::<IriRefKind>(alloc, rules, base, reference, out, parts, outcome)
-        }
+        0 => resolve::<UriRefKind>(alloc, is_basic, base, reference, out, parts, outcome),
+        2 => resolve::<IriRefKind>(alloc, is_basic, base, reference, out, parts, outcome),
         _ => report(Rejection::of(Error::InvalidArgument), outcome),
     }
 }
@@ -152,7 +102,18 @@ pub extern "C" fn fluent_uri_resolve_normalized(
     if let Some(why) = lengths_error(base, reference) {
         return report(why, outcome);
     }
-    resolve_normalized_by_numbers(alloc, kind, options, base, reference, out, parts, outcome)
+    let Some(rules) = rule_set(options) else {
+        return report(Rejection::of(Error::InvalidArgument), outcome);
+    };
+    match kind {
+        0 => {
+            resolve_normalized::<UriRefKind>(alloc, rules, base, reference, out, parts, outcome)
+        }
+        2 => {
+            resolve_normalized::<IriRefKind>(alloc, rules, base, reference, out, parts, outcome)
+        }
+        _ => report(Rejection::of(Error::InvalidArgument), outcome),
+    }
 }
 
 /// Writes a text of a kind of IRIs as a URI or a URI reference.
