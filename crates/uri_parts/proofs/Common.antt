@@ -1,6 +1,6 @@
 -- What proofs import from std, from lower crates and from `specs/`: the modules that three
 -- files or more use.
-pub use Rattle.std.proofs.Common.{◌≡◌, ℕ, true, false, not, eqb, ltb, List, [], ◌∷◌, ◌++◌, drop, refl, sym, ap, subst, ◌∙◌, arith, ◌&&◌, inl, inr, ◌⊎◌, append_assoc, append-nil, codes, bytes_eq, Option, Some, None, IfSome, IsUtf8, ◌+◌, length, drop-drop, ◌-◌, ◌<◌, ◌≤◌, get_or, take, ◌||◌, length-append, slice_range, is_some, IsCharBoundary, map, replicate, ⊎_elim, lit<, zero-add, cond, suc, Bool, All, ◌^◌, Result, Ok, Err, true≢false, OkIff, find, option_map, Bor, filter, ◌≢◌, zero, decimal, lit≤, length-take-le, take-append-drop, get_or-take, get_or-drop, add-zero, le-ltb, length-drop, drop_at, ◌/◌, ◌%◌, ltb-true, ◌==◌, nat_lt, max, min, ◌*◌, IsTrue, if◌then◌else◌, add_assoc, is_none, is_ok, add-one, nat_le, option_and_then, take_at, take_all, IfNone, unwrap_or, rules, IfOk, slice_set, IsAscii, tests, string_bytes, IsOk, fold, flat_map}
+pub use Rattle.std.proofs.Common.{◌≡◌, ℕ, true, false, not, eqb, ltb, List, [], ◌∷◌, ◌++◌, drop, refl, sym, ap, subst, ◌∙◌, arith, ◌&&◌, inl, inr, ◌⊎◌, append_assoc, append-nil, codes, bytes_eq, Option, Some, None, IfSome, IsUtf8, ◌+◌, length, drop-drop, ◌-◌, ◌<◌, ◌≤◌, get_or, take, ◌||◌, length-append, slice_range, is_some, IsCharBoundary, map, replicate, ⊎_elim, lit<, zero-add, cond, suc, Bool, All, ◌^◌, Result, Ok, Err, find, option_map, Bor, filter, ◌≢◌, zero, decimal, lit≤, length-take-le, take-append-drop, get_or-take, get_or-drop, add-zero, le-ltb, length-drop, drop_at, ◌/◌, ◌%◌, ltb-true, ◌==◌, nat_lt, max, min, ◌*◌, IsTrue, if◌then◌else◌, add_assoc, is_none, is_ok, add-one, nat_le, option_and_then, take_at, take_all, IfNone, unwrap_or, rules, IfOk, slice_set, IsAscii, tests, string_bytes, IsOk, fold, flat_map}
 pub use Rattle.std.proofs.Math.Bool.{or-false, and-true, and_assoc, and-false}
 pub use Rattle.std.proofs.Math.Seq.{drop-append_seam, take-append_seam, get_or-append_seam, take-length}
 pub use Rattle.std.proofs.NetLemmas.Alphabet.{IsDigitOrDot, All-ipv4_text, IsHexOrColon, All-hex_groups_text}
@@ -8,7 +8,7 @@ pub use Rattle.std.proofs.NetLemmas.Ipv4.{read_ipv4_sound, read_ipv4_none, read_
 pub use Rattle.std.proofs.NetLemmas.Ipv6.{read_ipv6_complete, read_ipv6_sound, EndsGroups-nil, EndsGroups}
 pub use Rattle.std.proofs.NetLemmas.Numbers.{NoDigit, read_number_some_at, read_number_sound, read_number_empty, digit_count_none, digit_count-append, read_number_large_at}
 pub use Rattle.std.proofs.NetLemmas.Options.{map_some, cond_none, and_then_some}
-pub use Rattle.std.proofs.lemmas.Bool.{and_from, and_parts, cond-true, cond-false, or_parts, ne_eqb, or_right, cases_Bool, and_left, eq-eqb, both_ways, false_from_ne_true, eqb-true, false≢true, lt-ltb, cases_lt, not_from_false, and_right, not-true, cases_eq, not_from_true, or_left, le-leb, not-false, and_cases, eqb-false}
+pub use Rattle.std.proofs.lemmas.Bool.{and_from, and_parts, cond-true, cond-false, or_parts, ne_eqb, or_right, cases_Bool, and_left, eq-eqb, both_ways, false_from_ne_true, eqb-true, false≢true, lt-ltb, cases_lt, not_from_false, and_right, not-true, cases_eq, not_from_true, or_left, le-leb, eqb-false}
 pub use Rattle.std.proofs.lemmas.Bool.Decides.{nat_tests, Decides-below_and}
 pub use Rattle.std.proofs.lemmas.Fmt.{length-decimal-le, decimal_is_IsNumeral, decimal_digit, first_decimal, decimal-digits_value}
 pub use Rattle.std.proofs.lemmas.Int.Digits.{digits_value-lt, digits_more, digits_value_more}

@@ -1,4 +1,5 @@
 -- An authority has one cut, and passes its test exactly if the parts of that cut meet the grammar.
+use Rattle.std.proofs.lemmas.Grind.{common_steps}
 use Rattle.uri_parts.proofs.Common.{◌≡◌, ℕ, true, false, not, eqb, ltb, List, [], ◌∷◌, ◌++◌, drop, refl, sym, ap, subst, ◌∙◌, arith, ◌&&◌, inl, inr, ◌⊎◌, append_assoc, append-nil, codes, bytes_eq, Option, Some, None, IfSome, IsUtf8, list_any, list_all, is_ascii_hexdigit, option_map_or, and_from, and_parts, cond-true, cond-false, or_parts, nat_tests, bytes_eq-Decides, TableSet, is_one_of, digit_set, ipv_future_set, is_valid_for, IsValidFor, excludes, Lacks, before_any, from_any, starts, marked, when, HostKind, Ipv4, Ipv6, IpvFuture, RegName, IsHost, bracketed, is_host, AuthorityParts, recompose_authority, IsAuthorityFor, LackAuthorityDelimiters, after_userinfo, leading_host, after_host, authority_parts, is_authority_for}
 use Rattle.uri_parts.proofs.Splitting.Cuts.{cut-at-end-of-text-without-marks, IsEmptyOrMarked, text-after-other-byte-lacks-marks}
 use Rattle.uri_parts.proofs.TextKinds.GrammarTexts.{utf8_around_ascii_byte, valid_text_lacks_excluded_marks}
@@ -52,17 +53,10 @@ abbrev pub HasHostShape : List ℕ → Type 0
 HasHostShape host = ((address : List ℕ) × (host ≡ bracketed address) × Lacks (codes "]") address)
     ⊎ Lacks (codes "@:[") host
 
--- authorities: what is empty or begins with `:` does not begin with `[` (91)
-empty-or-colon-begins-with-no-bracket : (text : List ℕ) → IsEmptyOrMarked (codes ":") text
-    → starts 91 text ≡ false
-empty-or-colon-begins-with-no-bracket [] b = refl
-empty-or-colon-begins-with-no-bracket (c ∷ text) b = grind (arith, nat_tests)
-
 -- authorities: a host without `[` (91), and a port after it, do not begin with `[`
 unbracketed-host-begins-with-no-bracket : (host tail : List ℕ)
     → Lacks (codes "[") host → IsEmptyOrMarked (codes ":") tail → starts 91 (host ++ tail) ≡ false
-unbracketed-host-begins-with-no-bracket [] tail lacks begins = empty-or-colon-begins-with-no-bracket
-    tail begins
+unbracketed-host-begins-with-no-bracket [] tail lacks begins = grind (arith, nat_tests)
 unbracketed-host-begins-with-no-bracket (c ∷ host) tail lacks begins =
     lacking_text_does_not_begin_with (codes "[") (c ∷ host) 91 refl lacks
 
@@ -94,9 +88,7 @@ ipv_future_set-excludes-bracket-and-at-sign = (refl, refl)
 -- authorities: an address without `@` has none in its brackets either
 pub bracketed_lacks_at_sign : (address : List ℕ) → Lacks (codes "@") address
     → Lacks (codes "@") (bracketed address)
-bracketed_lacks_at_sign address h = text-after-other-byte-lacks-marks (codes "@") 91
-    (address ++ codes "]") refl (joined-texts-lack-marks (codes "@") address (codes "]") h
-    (text-after-other-byte-lacks-marks (codes "@") 93 [] refl (empty-text-lacks-marks (codes "@"))))
+bracketed_lacks_at_sign address h = grind (arith, common_steps)
 
 -- authorities: the userinfo that is found before `@`, and what is left after it
 user_cut : (userinfo : Option (List ℕ)) (rest : List ℕ) → IfSome userinfo (Lacks (codes "@"))

@@ -1,6 +1,7 @@
 -- At their positions the parts of an authority can be cut out, and what is cut out is them.
-use Rattle.uri_parts.proofs.Common.{◌≡◌, ℕ, ◌+◌, ◌-◌, ◌<◌, ◌≤◌, true, false, eqb, List, [], ◌∷◌, ◌++◌, length, get_or, take, drop, refl, sym, ap, subst, ◌∙◌, arith, not, ◌||◌, ◌⊎◌, inl, append_assoc, append-nil, length-append, codes, Some, None, Option, slice_range, is_some, drop-drop, option_map_or, IsUtf8, IsCharBoundary, chars, drop-append_seam, take-append_seam, IsCharBoundary-start, IsCharBoundary-end, IsCharBoundary-before_ascii, ne_eqb, and_from, or_right, cond-true, cond-false, bytes_eq-Decides, TableSet, digit_set, is_valid_for, tokens_from_chars, IsValidFor, marked, starts, is_host, host_kind, name_kind, literal_kind, literal_of, ipv4_value, ipv6_value, recompose_authority, authority_parts, is_authority_for, host_start_of, host_end_of, delimited_length, nat_tests}
-use Rattle.uri_parts.proofs.Splitting.Places.{slice-between-prefix-and-suffix, get_or-after-prefix, boundary_after_mark}
+use Rattle.std.proofs.lemmas.Grind.{common_steps}
+use Rattle.uri_parts.proofs.Common.{◌≡◌, ℕ, ◌+◌, ◌-◌, ◌<◌, ◌≤◌, true, false, eqb, List, [], ◌∷◌, ◌++◌, length, take, drop, refl, sym, ap, subst, ◌∙◌, arith, not, ◌||◌, ◌⊎◌, inl, append_assoc, append-nil, length-append, codes, Some, None, Option, slice_range, is_some, drop-drop, option_map_or, IsUtf8, IsCharBoundary, chars, drop-append_seam, take-append_seam, IsCharBoundary-start, IsCharBoundary-before_ascii, ne_eqb, and_from, or_right, cond-true, cond-false, bytes_eq-Decides, TableSet, digit_set, is_valid_for, tokens_from_chars, IsValidFor, marked, starts, is_host, host_kind, name_kind, literal_kind, literal_of, ipv4_value, ipv6_value, recompose_authority, authority_parts, is_authority_for, host_start_of, host_end_of, delimited_length, nat_tests}
+use Rattle.uri_parts.proofs.Splitting.Places.{get_or-after-prefix, boundary_after_mark}
 
 -- authorities: what the test of one says of its components
 pub record AuthorityMeetsRules (users names : TableSet) (text : List ℕ) : Type 0 where
@@ -18,10 +19,7 @@ holds users names text t = grind (arith, nat_tests, bytes_eq-Decides)
 boundary-before-ascii-byte : (prefix rest : List ℕ) (c : ℕ) → c < 128
     → IsCharBoundary (prefix ++ (c ∷ rest)) (length prefix)
 boundary-before-ascii-byte prefix rest c ascii =
-    let at : get_or (prefix ++ (c ∷ rest)) (length prefix) 0 < 128 =
-    rw (get_or-after-prefix prefix rest c) ascii in
-    IsCharBoundary-before_ascii (prefix ++ (c ∷ rest)) (length prefix)
-    (omega (arith, length-append prefix (c ∷ rest))) at
+    grind (arith, get_or-after-prefix, IsCharBoundary-before_ascii, length-append)
 
 abbrev port_text : Option (List ℕ) → List ℕ
 port_text port = marked (codes ":") port []
@@ -49,33 +47,11 @@ host-begins-at-boundary-after-userinfo None rest text whole u = IsCharBoundary-s
 host-begins-at-boundary-after-userinfo (Some user) rest text whole u =
     grind (arith, nat_tests, append_assoc, boundary_after_mark)
 
-host-ends-at-boundary : (prefix : List ℕ) (port : Option (List ℕ)) (text : List ℕ)
-    → prefix ++ port_text port ≡ text → IsCharBoundary text (length prefix)
-host-ends-at-boundary prefix None text whole =
-    grind (arith, nat_tests, append-nil, IsCharBoundary-end)
-host-ends-at-boundary prefix (Some digits) text whole =
-    grind (arith, nat_tests, boundary-before-ascii-byte)
-
 host-is-between-userinfo-and-port : (userinfo port : Option (List ℕ)) (host text : List ℕ)
     → user_text userinfo ++ (host ++ port_text port) ≡ text → IsUtf8 text
     → IsBetween text (delimited_length 1 userinfo) (delimited_length 1 userinfo + length host) host
 host-is-between-userinfo-and-port userinfo port host text whole u =
-    let n = length-of-userinfo-with-at-sign userinfo in
-    let prefix : List ℕ = user_text userinfo ++ host in
-    let joined : prefix ++ port_text port ≡ text =
-    append_assoc (user_text userinfo) host (port_text port) ∙ whole in
-    let l : length prefix ≡ delimited_length 1 userinfo + length host =
-    omega (arith, length-append (user_text userinfo) host) in
-    record {
-      ordered = omega arith;
-      starts = host-begins-at-boundary-after-userinfo userinfo (host ++ port_text port)
-          text whole u;
-      ends = subst (IsCharBoundary text) l (host-ends-at-boundary prefix port text joined);
-      holds = ap (λ t. slice_range t (delimited_length 1 userinfo)
-          (delimited_length 1 userinfo + length host)) (sym whole) ∙ ap (λ k. slice_range
-          (user_text userinfo ++ (host ++ port_text port)) k (k + length host)) (sym n)
-          ∙ slice-between-prefix-and-suffix (user_text userinfo) host (port_text port);
-    }
+    grind (arith, common_steps, length-of-userinfo-with-at-sign, host-begins-at-boundary-after-userinfo)
 
 -- authorities, positions: the host is between its positions
 pub host_is_at_positions : (users names : TableSet) (text : List ℕ)
@@ -98,13 +74,8 @@ user_lies : (users : TableSet) (userinfo : Option (List ℕ)) (rest text : List 
     → 0 < delimited_length 1 userinfo
     → HasUserinfoBefore users text (delimited_length 1 userinfo) userinfo
 user_lies users None rest text whole h l = absurd (omega arith)
-user_lies users (Some user) rest text whole h l = grind (
-  arith,
-  nat_tests,
-  append_assoc,
-  take-append_seam user (64 ∷ rest),
-  boundary-before-ascii-byte,
-)
+user_lies users (Some user) rest text whole h l =
+    grind (arith, append_assoc, take-append_seam user (64 ∷ rest), boundary-before-ascii-byte)
 
 -- authorities: if the host starts later than at 0, userinfo and `@` are before it
 pub userinfo_is_before_host : (users names : TableSet) (text : List ℕ)
@@ -133,14 +104,8 @@ text-ends-or-port-follows-prefix : (prefix : List ℕ) (port : Option (List ℕ)
     → (length prefix ≡ length text) × (None ≡ port) ⊎ HasPortAfter text (length prefix) port
 text-ends-or-port-follows-prefix prefix None text whole u h = inl
     (ap length (sym (append-nil prefix) ∙ whole), refl)
-text-ends-or-port-follows-prefix prefix (Some digits) text whole u h = grind (
-  arith,
-  nat_tests,
-  append-nil digits,
-  drop-drop 1 (length prefix) (prefix ++ (58 ∷ digits)),
-  drop-append_seam prefix (58 ∷ digits),
-  boundary_after_mark,
-)
+text-ends-or-port-follows-prefix prefix (Some digits) text whole u h =
+    grind (arith, append-nil digits, drop-drop 1 (length prefix) (prefix ++ (58 ∷ digits)), drop-append_seam prefix (58 ∷ digits), boundary_after_mark)
 
 -- authorities, positions: the host ends the authority, or a port follows the host
 pub port_is_after_host : (users names : TableSet) (text : List ℕ)

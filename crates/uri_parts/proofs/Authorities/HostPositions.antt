@@ -1,5 +1,5 @@
 -- The positions of an authority that is a host with what is after it, or userinfo and a host.
-use Rattle.uri_parts.proofs.Common.{◌≡◌, ℕ, ◌+◌, true, false, cond, List, ◌∷◌, ◌++◌, length, drop, refl, ap, ◌∙◌, arith, length-append, codes, Some, None, cond-true, nat_tests, AuthorityPositions, before_any, from_any, starts, Lacks, authority_at, host_start_of, host_end_of, delimited_length, authority_parts, leading_host}
+use Rattle.uri_parts.proofs.Common.{◌≡◌, ℕ, ◌+◌, true, cond, List, ◌∷◌, ◌++◌, length, drop, refl, ap, ◌∙◌, arith, length-append, codes, Some, None, cond-true, nat_tests, AuthorityPositions, before_any, from_any, starts, Lacks, authority_at, host_start_of, host_end_of, delimited_length, authority_parts, leading_host}
 use Rattle.uri_parts.proofs.Authorities.Authority.{cut-of-text-without-marks}
 use Rattle.uri_parts.proofs.Authorities.AuthorityCuts.{suffix}
 use Rattle.uri_parts.proofs.Splitting.Cuts.{cut-at-end-of-text-without-marks}
@@ -19,14 +19,10 @@ module _ (host suffix : List ℕ) (at : Lacks (codes "@") (host ++ suffix))
   abbrev pub bare : List ℕ
   bare = host ++ suffix
 
-  host-and-suffix-have-no-at-sign : starts 64 (from_any (codes "@") bare) ≡ false
-  host-and-suffix-have-no-at-sign = ap (starts 64)
-      (cut-of-text-without-marks (codes "@") (host ++ suffix) at).1
-
   pub authority_at-without-userinfo : (place : ℕ) → authority_at place bare
       ≡ places place place host suffix
   authority_at-without-userinfo place =
-      grind (arith, nat_tests, host-and-suffix-have-no-at-sign, suffix)
+      grind (arith, nat_tests, starts, cut-of-text-without-marks, codes, host, suffix, at)
 
   module _ (user : List ℕ) (outside : Lacks (codes "@") user) where
     abbrev text : List ℕ

@@ -1,9 +1,9 @@
 -- What std parses of a port's digits.
-use Rattle.uri_parts.proofs.Common.{◌≡◌, ℕ, ◌<◌, ◌^◌, true, false, eqb, List, [], ◌∷◌, length, Option, Some, Result, Ok, Err, refl, sym, ap, subst, ◌∙◌, arith, true≢false, OkIff, IsUtf8, digit_value, is_ascii_digit, list_all, AllDigits, IsNumeral, ParsesUnsigned, ExplainsUnsignedError, error_kind, without_leading_plus, and_parts, digit_value_digit, nat_tests, digit_set, IsValidFor}
+use Rattle.uri_parts.proofs.Common.{◌≡◌, ℕ, ◌<◌, true, false, eqb, List, [], ◌∷◌, length, Option, Some, Result, Ok, Err, refl, sym, ap, subst, ◌∙◌, arith, IsUtf8, digit_value, is_ascii_digit, list_all, AllDigits, IsNumeral, ParsesUnsigned, ExplainsUnsignedError, error_kind, without_leading_plus, and_parts, digit_value_digit, nat_tests, digit_set, IsValidFor}
 use Rattle.std.specs.declared.num.IntErrorKind.TheVariants.{PosOverflow}
 use Rattle.std.specs.declared.num.ParseIntError.{ParseIntError}
-use Rattle.std.proofs.lemmas.Str.Parse.{IsNumeralModel, parse_digits, digit_from_value, without_leading_plus_none}
-use Rattle.uri_parts.specs.Ports.{port_number, port_value, FitsPort}
+use Rattle.std.proofs.lemmas.Str.Parse.{digit_from_value, without_leading_plus_none}
+use Rattle.uri_parts.specs.Ports.{port_number, FitsPort}
 use Rattle.uri_parts.proofs.TextKinds.AsciiSets.{is_ascii_in, valid_ascii_text}
 
 ascii-digit-has-value-below-ten : (d : ℕ) → is_ascii_in is_ascii_digit d ≡ true → digit_value d < 10
@@ -21,15 +21,6 @@ valid-digit-text-is-decimal-digits : (digits : List ℕ) → IsUtf8 digits → I
     → AllDigits 10 digits
 valid-digit-text-is-decimal-digits digits u v =
     grind (arith, nat_tests, ascii-digits-are-decimal-digits, valid_ascii_text)
-
--- ports: the value of a port is one by which std reads numbers
-port_value-is-numeral-model : IsNumeralModel (AllDigits 10) port_value
-port_value-is-numeral-model = record { to = λ ds d. d; from = λ ds d. d; same = λ ds d. refl }
-
-nonempty-port-has-number : (digits : List ℕ) → eqb (length digits) 0 ≡ false
-    → (0 < length digits) × (port_number (Some digits) ≡ Some (port_value digits))
-nonempty-port-has-number [] e = absurd (true≢false e)
-nonempty-port-has-number (d ∷ digits) e = (omega arith, refl)
 
 -- ports: digits have no `+` before them, which std would allow
 pub digits-have-no-leading-plus : (digits : List ℕ) → AllDigits 10 digits
@@ -50,21 +41,10 @@ pub record IsPortParsed (port : Option (List ℕ)) (r : Result ℕ ParseIntError
   pub err : (e : ParseIntError) → r ≡ Err e
       → ¬ (FitsPort (port_number port)) × (error_kind e ≡ PosOverflow)
 
--- ports: std parses the digits exactly if there are some and their number is below 65536
-abbrev IsParsed : List ℕ → Result ℕ ParseIntError → Type 0
-IsParsed digits r = OkIff r ((0 < length digits) × (port_value digits < 2 ^ 16)) (port_value digits)
-
 -- ports: a number below 65536 is the port's as 16 bits
 fits : (port : Option (List ℕ)) (n m : ℕ) → port_number port ≡ Some m → n ≡ m → m < 65536
     → FitsPort (port_number port) × (Some n ≡ port_number port)
 fits port n m is e h = (subst FitsPort (sym is) h, ap Some e ∙ sym is)
-
--- ports: the digits of one are parsed as its number, or rejected because that is too great
-parsed-digits-are-parsed-port : (digits : List ℕ) (r : Result ℕ ParseIntError)
-    → AllDigits 10 digits → 0 < length digits → port_number (Some digits) ≡ Some (port_value digits)
-    → IsParsed digits r → ExplainsUnsignedError 10 digits r → IsPortParsed (Some digits) r
-parsed-digits-are-parsed-port digits r d some is h explains =
-    grind (arith, nat_tests, fits, nonempty-digits-are-numeral)
 
 -- ports: one that is not empty is parsed as its number, or rejected as too great
 pub port-is-parsed-as-its-number :
@@ -72,7 +52,4 @@ pub port-is-parsed-as-its-number :
     → IsUtf8 digits → IsValidFor digit_set digits → eqb (length digits) 0 ≡ false
     → ParsesUnsigned 16 10 digits r → ExplainsUnsignedError 10 digits r → IsPortParsed port r
 port-is-parsed-as-its-number port digits r is u v long parses explains =
-    let d = valid-digit-text-is-decimal-digits digits u v in
-    let some = nonempty-port-has-number digits long in
-    subst (λ port. IsPortParsed port r) is (parsed-digits-are-parsed-port digits r d some.0 some.1
-    (parse_digits port_value-is-numeral-model 16 digits r parses d) explains)
+    grind (arith, valid-digit-text-is-decimal-digits, nat_tests, nonempty-digits-are-numeral)

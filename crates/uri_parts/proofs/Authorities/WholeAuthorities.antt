@@ -1,5 +1,5 @@
 -- An authority that is cut out, taken apart from left to right: that is the test of the grammar.
-use Rattle.uri_parts.proofs.Common.{◌≡◌, ℕ, Bool, true, false, cond, eqb, List, [], ◌∷◌, ◌++◌, length, drop, refl, sym, ap, ◌∙◌, arith, ◌||◌, ◌&&◌, ⊎_elim, append_assoc, append-nil, length-append, codes, Option, is_some, bytes_eq, option_map_or, cases_Bool, cond-true, cond-false, and_left, eqb-true, both_ways, false≢true, false_from_ne_true, nat_tests, bytes_eq-Decides, TableSet, digit_set, is_one_of, is_valid_for, marked, starts, before_any, from_any, when, Lacks, is_host, bracketed, ipv4_value, leading_host, after_host, is_authority_for}
+use Rattle.uri_parts.proofs.Common.{◌≡◌, ℕ, Bool, true, false, cond, eqb, List, [], ◌∷◌, ◌++◌, length, drop, refl, sym, ap, ◌∙◌, arith, ◌||◌, ◌&&◌, ⊎_elim, append_assoc, append-nil, length-append, codes, Option, is_some, bytes_eq, option_map_or, cases_Bool, cond-true, cond-false, and_left, eqb-true, both_ways, false≢true, false_from_ne_true, nat_tests, bytes_eq-Decides, TableSet, digit_set, is_valid_for, marked, starts, before_any, from_any, when, Lacks, is_host, bracketed, ipv4_value, leading_host, after_host, is_authority_for}
 use Rattle.uri_parts.proofs.Parsing.Acceptance.{is_literal}
 use Rattle.uri_parts.proofs.Splitting.Cuts.{IsEmptyOrMarked, text-is-cut-at-first-mark, before_any-past-other, from_any-past-other}
 use Rattle.uri_parts.proofs.HostForms.Hosts.{literal_of-bracketed-is-address}
@@ -109,9 +109,6 @@ unfolding is_host is_literal
 bracketed-host-test-is-is_literal names address lacks =
     grind (arith, nat_tests, literal_of-bracketed-is-address, equal-texts-pass-bytes_eq)
 
-closing-bracket-is-byte-93 : (c : ℕ) → is_one_of (codes "]") c ≡ true → eqb c 93 ≡ true
-closing-bracket-is-byte-93 c m = grind (arith, nat_tests)
-
 -- authorities, hosts: what is before the first `]` keeps the `[` (91) before it
 cut-at-closing-bracket-keeps-open-bracket : (rest : List ℕ)
     → before_any (codes "]") (91 ∷ rest) ≡ 91 ∷ before_any (codes "]") rest
@@ -132,8 +129,7 @@ marked-suffix-is-bracket-and-rest (c ∷ suffix) b e = ap (λ x. x ∷ suffix) (
 suffix-without-bracket-is-empty : (suffix : List ℕ)
     → IsEmptyOrMarked (codes "]") suffix → starts 93 suffix ≡ false → suffix ≡ []
 suffix-without-bracket-is-empty [] b e = refl
-suffix-without-bracket-is-empty (c ∷ suffix) b e = absurd
-    (both_ways _ e (closing-bracket-is-byte-93 c b))
+suffix-without-bracket-is-empty (c ∷ suffix) b e = grind (arith, both_ways, nat_tests)
 
 host_test-parses-closed-literal : (names : TableSet) (rest : List ℕ)
     → starts 93 (from_any (codes "]") rest) ≡ true

@@ -14,10 +14,7 @@ IsSuffix suffix text =
 
 pub text-after-prefix-is-suffix : (prefix : List ℕ) {text suffix : List ℕ} → text ≡ prefix ++ suffix
     → IsSuffix suffix text
-text-after-prefix-is-suffix prefix {text} {suffix} whole =
-    let size = length-append prefix suffix in
-    let long = ap length whole in
-    (omega arith, rw whole (sym (drop_at prefix suffix _ (omega arith))))
+text-after-prefix-is-suffix prefix {text} {suffix} whole = grind (arith, length-append, drop_at)
 
 pub suffix-at-position : (text suffix : List ℕ) (start : ℕ) → start ≤ length text
     → IsSuffix suffix (drop start text) → IsSuffix suffix text
@@ -60,7 +57,7 @@ module _ (text : List ℕ) (count : ℕ) (h : AreLeadingHexDigits text count) wh
   no_digits_are_no_segment none = rw
       (read_number_empty 16 0xffff text (rw none at (h.stop (omega arith))))
 
-  too-long-number-is-no-segment : count ≡ 5 → (o : Option (ℕ × ℕ)) → read_number 16 0xffff text ≡ o
+  pub too-long-number-is-no-segment : count ≡ 5 → (o : Option (ℕ × ℕ)) → read_number 16 0xffff text ≡ o
       → read_segment text ≡ None
   unfolding read_segment
   too-long-number-is-no-segment five None e = rw e
@@ -71,9 +68,6 @@ module _ (text : List ℕ) (count : ℕ) (h : AreLeadingHexDigits text count) wh
             (omega arith) (rw (get_or-drop n.1 text 0 0, add-zero) at stop))
         | inr more ↦ rw (e, lt-ltb 4 n.1 (omega arith))
       ]
-
-  pub five_digits_are_no_segment : count ≡ 5 → read_segment text ≡ None
-  five_digits_are_no_segment five = too-long-number-is-no-segment five _ refl
 
   pub no_dot_means_no_ipv4 : count < 5 → get_or text count 0 ≢ 46 → read_ipv4 text ≡ None
   no_dot_means_no_ipv4 few other =

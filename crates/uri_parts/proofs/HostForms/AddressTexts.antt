@@ -66,6 +66,5 @@ prefix_of_mapped_is_ascii i = search (rules, arith)
 
 -- writing IPv6: an address in brackets is UTF-8
 pub bracketed-ascii-is-utf8 : (address : List ℕ) → IsAscii address → IsUtf8 (bracketed address)
-bracketed-ascii-is-utf8 address ascii = IsUtf8-from_ascii _ (IsAscii-append (codes "[")
-    (address ++ codes "]") (one_is_ascii 91 (omega arith))
-    (IsAscii-append address (codes "]") ascii (one_is_ascii 93 (omega arith))))
+bracketed-ascii-is-utf8 address ascii =
+    grind (arith, IsUtf8-from_ascii, IsAscii-append, codes, one_is_ascii)

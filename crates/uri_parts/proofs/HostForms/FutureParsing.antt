@@ -208,8 +208,7 @@ module _ (text : List ℕ) (start : ℕ) (u : IsUtf8 (drop start text))
   pub literal-at-position-parses-as-ipvfuture : parses_literal (drop start text)
       ≡ parses_future (drop (start + 1) text)
   literal-at-position-parses-as-ipvfuture =
-      (version-letter-makes-literal-ipvfuture (drop start text) u v).0
-      ∙ ap parses_future text-after-letter-at-position
+      grind (arith, version-letter-makes-literal-ipvfuture, start, text-after-letter-at-position)
 
   pub length-of-ipvfuture-at-position : parses_future (drop (start + 1) text) ≡ true
       → literal_length (drop start text) ≡ 1 + future_length (drop (start + 1) text)

@@ -1,13 +1,7 @@
 -- One turn of reading the groups of an IPv6 address into their numbers.
-use Rattle.uri_parts.proofs.Common.{◌≡◌, ◌≢◌, ℕ, zero, suc, ◌+◌, ◌-◌, ◌<◌, ◌≤◌, ◌==◌, ◌⊎◌, nat_lt, max, Bool, Option, option_map, true, false, List, [], ◌∷◌, ◌++◌, length, take, drop, get_or, Some, None, replicate, refl, sym, ap, ◌∙◌, arith, inl, inr, ne_eqb, append-nil, append_assoc, length-append, length-take-le, get_or-take, get_or-drop, cases_lt, at_drop_more, at_drop_all, get_or_past, ext_get_or, get_or_append_left, get_or-append_right, get_or-append-add, get_or-replicate, length-replicate, digits_value, read_segments, read_separator, read_ipv4, read_ipv4_if, read_segment, read_byte, read_octet, read_number_empty, read_ipv4_sound, map_some, none-some, nat_tests, AreLeadingHexDigits, segments_of_ipv4}
+use Rattle.uri_parts.proofs.Common.{◌≡◌, ◌≢◌, ℕ, zero, suc, ◌+◌, ◌-◌, ◌<◌, ◌≤◌, ◌==◌, ◌⊎◌, nat_lt, max, Bool, true, false, List, [], ◌∷◌, ◌++◌, length, take, drop, get_or, Some, None, replicate, refl, sym, ◌∙◌, arith, inl, inr, ne_eqb, append-nil, append_assoc, length-append, length-take-le, get_or-take, get_or-drop, cases_lt, at_drop_more, at_drop_all, get_or_past, ext_get_or, get_or_append_left, get_or-append_right, get_or-append-add, get_or-replicate, length-replicate, digits_value, read_segments, read_separator, read_ipv4, read_ipv4_if, read_segment, read_byte, read_octet, read_number_empty, read_ipv4_sound, map_some, none-some, nat_tests, AreLeadingHexDigits, segments_of_ipv4}
 use Rattle.std.specs.Net.Reader.{after}
-use Rattle.uri_parts.proofs.HostForms.AddressParsing.{hex_digits_are_read_as_segment, five_digits_begin_no_ipv4, no_dot_means_no_ipv4, no_digits_are_no_segment, five_digits_are_no_segment, IsSuffix, text-after-prefix-is-suffix}
-
--- general fact on options, for an IPv4 address
-option-is-none-if-mapped-is : {A B : Type 0} (f : A → B) (o : Option A) → option_map f o
-    ≡ None → o ≡ None
-option-is-none-if-mapped-is f None e = refl
-option-is-none-if-mapped-is f (Some x) e = absurd (none-some (f x) (sym e))
+use Rattle.uri_parts.proofs.HostForms.AddressParsing.{hex_digits_are_read_as_segment, five_digits_begin_no_ipv4, no_dot_means_no_ipv4, no_digits_are_no_segment, IsSuffix, text-after-prefix-is-suffix, too-long-number-is-no-segment}
 
 pub no-dot-after-digits-is-no-ipv4 : (fits : Bool) (text : List ℕ) (count : ℕ)
     → AreLeadingHexDigits text count → get_or text count 0 ≢ 46 → read_ipv4_if fits text ≡ None
@@ -54,7 +48,7 @@ module _ (text : List ℕ) (count : ℕ) (are : AreLeadingHexDigits text count)
 
   no-segment-without-group : read_segment text ≡ None
   no-segment-without-group =
-      grind (arith, nat_tests, no_digits_are_no_segment, five_digits_are_no_segment)
+      grind (arith, nat_tests, no_digits_are_no_segment, too-long-number-is-no-segment)
 
 pub text-after-ipv4-is-suffix : (text two rest : List ℕ) → Some (two, rest) ≡ segments_of_ipv4 text
     → IsSuffix rest text
@@ -65,7 +59,7 @@ text-after-ipv4-is-suffix text two rest e =
 pub unparsed-ipv4-is-not-read : (fits : Bool) (text : List ℕ) → None ≡ segments_of_ipv4 text
     → read_ipv4_if fits text ≡ None
 unparsed-ipv4-is-not-read false text e = refl
-unparsed-ipv4-is-not-read true text e = option-is-none-if-mapped-is _ _ (sym e)
+unparsed-ipv4-is-not-read true text e = grind (arith, none-some)
 
 -- at the index i of n, where `group` begins
 module _ (n i : ℕ) (text s prefix group : List ℕ) (within : i < n)
@@ -143,47 +137,17 @@ module _ (head part new window : List ℕ) (h t g : ℕ) (eight : length head �
     (put : take (8 + length part) window ≡ replicate 8 0 ++ part)
     (each : (k : ℕ) → k < 8
     → get_or new k 0 ≡ max (get_or head k 0) (get_or window (t + k) 0)) where
-  -- before the groups the window has zeros
-  window-begins-with-zeros : (j : ℕ) → j < 8 → get_or window j 0 ≡ 0
-  window-begins-with-zeros j less =
-      grind (arith, nat_tests, get_or-take, get_or_append_left, get_or-replicate)
-
-  window-has-part-from-eight : (j : ℕ) → j < length part → get_or window (8 + j) 0 ≡ get_or part j 0
-  window-has-part-from-eight j less = grind (arith, nat_tests, get_or-take, get_or-append-add)
-
-  head-has-zeros-after-groups : (k : ℕ) → h ≤ k → k < 8 → get_or head k 0 ≡ 0
-  head-has-zeros-after-groups k after less =
-      let same : h + (k - h) ≡ k = omega arith in
-      ap (λ n. get_or head n 0) (sym same) ∙ sym (get_or-drop h head (k - h) 0)
-      ∙ ap (λ s. get_or s (k - h) 0) zeros ∙ get_or-drop h (replicate 8 0) (k - h) 0
-      ∙ ap (λ n. get_or (replicate 8 0) n 0) same ∙ get_or-replicate 8 k 0 0 less
-
   length-before-tail : length (take h head ++ replicate g 0) ≡ 8 - t
-  length-before-tail =
-      let a = length-take-le h head (omega arith) in
-      let b : length (replicate {A = ℕ} g 0) ≡ g = length-replicate g 0 in
-      omega (arith, length-append (take h head) (replicate g 0))
+  length-before-tail = grind (arith, length-take-le, head, length-replicate, length-append)
 
   length-of-segments : length (take h head ++ replicate g 0 ++ take t part) ≡ 8
   length-of-segments =
-      let c = length-take-le t part within in
-      omega (arith, length-before-tail, length-append (take h head ++ replicate g 0) (take t part))
+      grind (arith, length-take-le, part, within, length-before-tail, length-append, head)
 
   segments-agree-at-index : (k : ℕ) → k < 8
       → get_or new k 0 ≡ get_or (take h head ++ replicate g 0 ++ take t part) k 0
-  segments-agree-at-index k less = grind (
-    arith,
-    nat_tests,
-    get_or_append_left,
-    length-before-tail,
-    length-take-le,
-    get_or-take,
-    window-begins-with-zeros,
-    get_or-append_right,
-    get_or-replicate,
-    head-has-zeros-after-groups,
-    window-has-part-from-eight,
-  )
+  segments-agree-at-index k less =
+      grind (arith, get_or_append_left, length-before-tail, length-take-le, get_or-take, get_or-replicate, get_or-append_right, get_or-drop, get_or-append-add)
 
   pub tail-groups-are-placed-last : new ≡ take h head ++ replicate g 0 ++ take t part
   tail-groups-are-placed-last = ext_get_or 0 new (take h head ++ replicate g 0 ++ take t part)

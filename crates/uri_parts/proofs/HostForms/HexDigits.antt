@@ -17,9 +17,6 @@ pub table-entry-is-digit-value : (b : ℕ) → b < 256 → get_or DIGIT_VALUES.n
 table-entry-is-digit-value b small = eqb-true _ _ ((Decides-below_and is_value (λ n. is_value n
     ≡ true) are_values (λ n. (λ e. e, λ e. e)) refl (λ _. refl) 256).0 refl b small)
 
-no-digit-past-end : (byte : ℕ) → byte ≡ 0 → 16 ≤ digit_value byte
-no-digit-past-end byte e = rw e (lit≤ tt)
-
 pub three-digits-are-below-4096 : (text : List ℕ) (count value : ℕ) → BeginsNumber text count value
     → count < 4 → value < 4096
 three-digits-are-below-4096 text count value h few =
@@ -30,15 +27,8 @@ pub next-digit-extends-number : (text : List ℕ) (start count value byte digit 
     → BeginsNumber (drop start text) count value → byte ≡ get_or text (start + count) 0
     → digit ≡ min (digit_value byte) 16 → digit ≢ 16
     → BeginsNumber (drop start text) (count + 1) (value * 16 + digit)
-next-digit-extends-number text start count value byte digit h at of other = grind (
-  arith,
-  nat_tests,
-  get_or-drop,
-  digits_more,
-  digits_value_more,
-  get_or_past,
-  no-digit-past-end,
-)
+next-digit-extends-number text start count value byte digit h at of other =
+    grind (arith, nat_tests, get_or-drop, digits_more, digits_value_more, get_or_past, lit≤)
 
 -- parsing IPv6: the digits that come first end at a byte that is no digit
 pub number-ends-at-other-byte : (text : List ℕ) (start count value byte digit : ℕ)

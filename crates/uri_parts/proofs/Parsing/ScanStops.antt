@@ -1,5 +1,5 @@
 -- Where a scan for a set stops: at the first mark, or at a character that is neither.
-use Rattle.uri_parts.proofs.Common.{◌≡◌, ℕ, ◌<◌, Bool, true, false, not, List, [], ◌∷◌, length, get_or, drop, refl, sym, ap, ◌∙◌, arith, ◌&&◌, ⊎_elim, inl, inr, ◌⊎◌, IsUtf8, IsUtf8-drop, IsCharBoundary-after_ascii, drop_more, and_right, and_parts, eqb-true, not-true, cases_eq, false≢true, nat_tests, TableSet, LacksPercent, is_one_of, is_valid_for, valid_prefix, after, excludes, excluded_mark_is_no_percent, cut, valid_prefix-ends-by-mark, AreAscii, length_before_marks, first_mark_is_at_boundary, cut_leaves_mark_or_nothing, nothing_is_scanned_after_valid_prefix, before_any, from_any, starts, has_authority}
+use Rattle.uri_parts.proofs.Common.{◌≡◌, ℕ, ◌<◌, Bool, true, false, not, List, [], ◌∷◌, length, get_or, drop, refl, sym, ap, ◌∙◌, arith, ◌&&◌, ⊎_elim, inl, inr, ◌⊎◌, IsUtf8, IsUtf8-drop, IsCharBoundary-after_ascii, drop_more, and_right, and_parts, eqb-true, not-true, cases_eq, false≢true, TableSet, LacksPercent, is_one_of, is_valid_for, valid_prefix, after, excludes, excluded_mark_is_no_percent, cut, valid_prefix-ends-by-mark, AreAscii, length_before_marks, first_mark_is_at_boundary, cut_leaves_mark_or_nothing, nothing_is_scanned_after_valid_prefix, before_any, from_any, starts, has_authority}
 use Rattle.std.proofs.lemmas.List.Sums.{prefix_len-le-length, prefix_len_passes}
 use Rattle.uri_parts.proofs.Parsing.Acceptance.{is_stray, parses_after}
 
@@ -73,11 +73,5 @@ module _ (marks : List ℕ) (set : TableSet) (lacks : LacksPercent set)
       → is_one_of marks b ≡ false → valid_prefix set (b ∷ rest) ≡ 0 → test (b ∷ rest) ≡ false)
       → (bs : List ℕ) → IsUtf8 bs → parses_after set test bs
       ≡ (is_valid_for set (before_any marks bs) && test (from_any marks bs))
-  parses_after-is-valid-before-mark test stuck bs u = grind (
-    arith,
-    nat_tests,
-    is_stray,
-    no-stray-percent-at-mark,
-    cut,
-    scan-stops-at-first-mark-or-within,
-  )
+  parses_after-is-valid-before-mark test stuck bs u =
+      grind (arith, no-stray-percent-at-mark, cut, scan-stops-at-first-mark-or-within)

@@ -1,12 +1,13 @@
 -- A whole text is parsed where it is of its kind.
-use Rattle.uri_parts.proofs.Common.{◌≡◌, ℕ, Bool, true, false, cond, eqb, not, List, [], ◌∷◌, get_or, drop, refl, sym, ap, ◌∙◌, ◌||◌, ◌&&◌, ⊎_elim, lit<, arith, codes, is_some, IsUtf8, is_ascii_alphabetic, cases_Bool, cond-true, cond-false, and_left, and_right, and_from, and_parts, eq-eqb, eqb-true, ne_eqb, not_from_true, not_from_false, not-true, both_ways, false≢true, false_from_ne_true, or_left, and-true, and_assoc, nat_tests, TableSet, is_one_of, scheme_set, is_valid_for, valid_prefix, after, cut, valid_prefix_at_mark_is_empty, AreAscii-by-test, length_before_marks, before_any, from_any, starts, has_authority, has_scheme, after_scheme, after_authority, components, when, Kind, absent_or_passes, is_scheme, is_authority, has_colon_in_first_segment, is_of_kind}
+use Rattle.std.proofs.lemmas.Grind.{common_steps}
+use Rattle.uri_parts.proofs.Common.{◌≡◌, ℕ, Bool, true, false, cond, eqb, not, List, [], ◌∷◌, get_or, drop, refl, sym, ap, ◌∙◌, ◌||◌, ◌&&◌, ⊎_elim, lit<, arith, codes, is_some, IsUtf8, is_ascii_alphabetic, cases_Bool, cond-true, cond-false, and_left, and_right, and_from, and_parts, eq-eqb, eqb-true, ne_eqb, not_from_true, not_from_false, both_ways, false≢true, false_from_ne_true, or_left, and-true, and_assoc, nat_tests, TableSet, is_one_of, scheme_set, is_valid_for, valid_prefix, after, cut, valid_prefix_at_mark_is_empty, AreAscii-by-test, length_before_marks, before_any, from_any, starts, has_authority, has_scheme, after_scheme, after_authority, components, when, Kind, absent_or_passes, is_scheme, is_authority, has_colon_in_first_segment, is_of_kind}
 use Rattle.uri_parts.proofs.Parsing.Acceptance.{parses_path, parses_authority, parses_relative, parses_hier_part, parses_schemeless, parses}
 use Rattle.uri_parts.proofs.Parsing.ScanStops.{utf8_from_marks, utf8_after_mark, utf8_after_slashes}
 use Rattle.uri_parts.proofs.TextKinds.Separations.{SeparatesComponents}
 use Rattle.uri_parts.proofs.Parsing.Accepts.{fragment_is_valid, query_and_fragment_are_valid, parses_path-is-valid-path-and-end}
 use Rattle.uri_parts.proofs.Splitting.Hierarchies.{hierarchy_is_valid, parses_hier_part-is-valid, parses_authority-is-valid}
 use Rattle.uri_parts.proofs.Splitting.Relative.{scheme_set_lacks_percent, scheme_set_excludes_delimiters, scan_stops_at_first_colon, colon_in_first_segment-is-at-start, parses_relative-without-scheme, parses_relative-rejects-scheme, parses_relative-after-scheme-chars}
-use Rattle.uri_parts.proofs.Splitting.Cuts.{before_any-past-other, from_any-at-mark}
+use Rattle.uri_parts.proofs.Splitting.Cuts.{from_any-at-mark}
 
 -- general fact on booleans, for parsing a whole text
 and-of-six-regrouped : (a b p q f c : Bool)
@@ -81,11 +82,7 @@ scheme-begins-with-letter-iff-text-does : (text : List ℕ) → has_scheme text 
     → is_ascii_alphabetic (get_or (before_any (codes ":/?#") text) 0 0)
     ≡ is_ascii_alphabetic (get_or text 0 0)
 scheme-begins-with-letter-iff-text-does [] e = refl
-scheme-begins-with-letter-iff-text-does (b ∷ rest) e =
-    ⊎_elim (λ o. absurd (both_ways _ (not-true _ (and_parts _ _ e).1)
-    (sym (ap (starts 58) (from_any-at-mark (codes ":/?#") b rest o)) ∙ (and_parts _ _ e).0)))
-    (λ o. ap (λ xs. is_ascii_alphabetic (get_or xs 0 0))
-    (before_any-past-other (codes ":/?#") b rest o)) (cases_Bool (is_one_of (codes ":/?#") b))
+scheme-begins-with-letter-iff-text-does (b ∷ rest) e = grind (arith, common_steps)
 
 -- parsing: a scheme is valid exactly if a scan by its set ends at the first delimiter
 scheme-validity-by-prefix-length : (text : List ℕ) → IsUtf8 text

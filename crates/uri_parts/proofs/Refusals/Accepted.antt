@@ -5,7 +5,6 @@ use Rattle.uri_parts.proofs.Authorities.UserinfoLengths.{userinfo_length-is-vali
 use Rattle.uri_parts.proofs.Parsing.ScanStops.{utf8_after_mark, utf8_after_slashes}
 use Rattle.uri_parts.proofs.Refusals.LiteralEnds.{literal-ends-as-parsed}
 use Rattle.uri_parts.proofs.Refusals.Names.{text-begins-with-one-byte-alone}
-use Rattle.uri_parts.proofs.Refusals.Rooted.{scan-stops-at-stray-percent-or-goes-on}
 use Rattle.uri_parts.proofs.Splitting.Relative.{scheme_set_lacks_percent}
 use Rattle.uri_parts.proofs.TextKinds.Separations.{SeparatesComponents}
 
@@ -48,9 +47,7 @@ step-without-error-needs-test-and-next false n e next = refl
 scan-has-no-error-iff-no-stray-percent : (text : List ℕ) (set : TableSet) (next : ℕ
     → OptionalParseError) (i : ℕ) → is_none (scan text set i >>= next) ≡ (not (set.pct_encoded
     && is_next text 37 (scan_end text set i)) && is_none (next (scan_end text set i)))
-scan-has-no-error-iff-no-stray-percent text set next i = ap is_none
-    (scan-stops-at-stray-percent-or-goes-on text set i next)
-    ∙ simp (is_none-of-cond, some-error-is-not-none, cond-of-false-is-not-and) refl
+scan-has-no-error-iff-no-stray-percent text set next i = grind arith
 
 ruleset steps = (
   is_none-of-cond,

@@ -1,6 +1,5 @@
 -- An IPv6 address with a `]` after it is read.
 use Rattle.uri_parts.proofs.Common.{◌≡◌, ℕ, zero, suc, ◌+◌, ◌-◌, ◌<◌, ◌≤◌, Bool, true, false, not, cond, eqb, List, [], ◌∷◌, ◌++◌, length, drop, decimal, Option, Some, None, refl, sym, ap, subst, ◌∙◌, arith, ◌&&◌, ◌||◌, ⊎_elim, inl, inr, lit≤, append_assoc, length-append, nat_lt, codes, IsTrue, digit_value, AllDigits, segments_of, IsDotted, IsGroupsAfter, IsColonHex, digit_count, cond-true, cond-false, cases_Bool, and_from, and_right, ne_eqb, not-true, eq-eqb, lt-ltb, eqb-true, both_ways, and_parts, decimal_is_IsNumeral, length-decimal-le, NoDigit, digit_count_none, nat_tests, second-holds-if-first-is-false, starts, is_end, Groups, Groups_end, Elision, digits_end, ipv4_end, after_ipv4, groups_from, ipv6_end, cannot_begin_ipv6, after_groups, after_elision}
-use Rattle.uri_parts.proofs.Splitting.Recompose.{text-with-mark-is-mark-and-rest}
 use Rattle.uri_parts.proofs.HostForms.AddressParsing.{dotted as dotted_with}
 use Rattle.uri_parts.proofs.Refusals.GroupTurns.{groups_from-ends-without-room, dotted, text-with-mark-is-not-ended, groups_from-ends-without-group, groups_from-elides-at-two-colons, groups_from-goes-on-after-group}
 use Rattle.uri_parts.proofs.Refusals.Ipv4Ends.{suffix-after-prefix-at-position, suffix-after-mark-at-position, digits_end-is-after-digits, ipv4_end-finds-ipv4-text}
@@ -66,13 +65,8 @@ module _ (text : List ℕ) where
   groups_from-passes-group : (r : ℕ) (is_first : Bool) (i : ℕ) (ds tail : List ℕ) (w : Led
       is_first i (ds ++ tail)) → AllDigits 16 ds → 0 < length ds → length ds ≤ 4 → Stops tail
       → groups_from text (suc r) is_first i ≡ groups_from text r false (w.place + length ds)
-  groups_from-passes-group r is_first i ds tail w all some most stop = grind (
-    arith,
-    nat_tests,
-    suffix-after-prefix-at-position,
-    groups_from-goes-on-after-group,
-    digits_end-is-after-digits,
-  )
+  groups_from-passes-group r is_first i ds tail w all some most stop =
+      grind (arith, suffix-after-prefix-at-position, groups_from-goes-on-after-group, digits_end-is-after-digits)
 
   groups_from-ends-after-ipv4 : (r : ℕ) (is_first : Bool)
       (i end : ℕ) (address octets suffix : List ℕ) (w : Led is_first i (address ++ suffix))
@@ -178,13 +172,8 @@ module _ (text : List ℕ) where
   -- after the groups comes `]`, or `::`
   groups-end-before-bracket : (ipv4 : Bool) (end : ℕ) → starts 93 (drop end text) ≡ true
       → IsRest ipv4 end (λ m. Groups_end m end)
-  groups-end-before-bracket ipv4 end c = grind (
-    arith,
-    nat_tests,
-    text-with-mark-is-mark-and-rest,
-    bracket-ends-a-group,
-    groups_from-ends-where-none-follows,
-  )
+  groups-end-before-bracket ipv4 end c =
+      grind (arith, bracket-ends-a-group, groups_from-ends-where-none-follows)
 
   abbrev elision : ℕ → ℕ → Groups
   elision end m = cond (eqb m 0) (Groups_end 0 end) (Elision m (end + 2))

@@ -1,5 +1,5 @@
 -- The errors of an address in brackets.
-use Rattle.uri_parts.proofs.Common.{◌≡◌, ℕ, ◌+◌, ◌-◌, ◌<◌, true, false, eqb, List, [], ◌∷◌, ◌++◌, length, Option, drop, get_or, Some, None, refl, sym, ap, ◌∙◌, arith, ◌||◌, ⊎_elim, get_or-drop, add-zero, length-append, length-drop, Ok, Err, is_ok, option_map, codes, is_digit, IsColonHex, read_ipv6, digit_count, cond-true, cond-false, cases_Bool, not_from_true, not_from_false, false≢true, nat_tests, full_stop, right_bracket, is_one_of, hexdig_set, ipv_future_set, starts, unexpected, malformed_ipv6, closed, literal, ipv6_end, cannot_begin_ipv6, scan_to_mark, map_some, read_ipv6_sound, none-some}
+use Rattle.uri_parts.proofs.Common.{◌≡◌, ℕ, ◌+◌, ◌-◌, ◌<◌, true, false, List, [], ◌∷◌, ◌++◌, length, drop, get_or, Some, None, refl, sym, ap, ◌∙◌, arith, ◌||◌, ⊎_elim, get_or-drop, add-zero, length-append, length-drop, Ok, Err, is_ok, option_map, codes, IsColonHex, read_ipv6, digit_count, cond-true, cond-false, cases_Bool, not_from_true, not_from_false, false≢true, nat_tests, full_stop, right_bracket, is_one_of, hexdig_set, ipv_future_set, starts, unexpected, malformed_ipv6, closed, literal, ipv6_end, cannot_begin_ipv6, scan_to_mark, map_some, read_ipv6_sound, none-some}
 use Rattle.uri_parts.proofs.Parsing.Acceptance.{parses_literal, is_literal}
 use Rattle.uri_parts.proofs.HostForms.Addresses.{ipv6_value-complete}
 use Rattle.uri_parts.proofs.HostForms.Futures.{ipv6-text-lacks-excluded-marks}
@@ -8,20 +8,13 @@ use Rattle.uri_parts.proofs.Splitting.Cuts.{cut-at-end-of-text-without-marks}
 use Rattle.uri_parts.proofs.Refusals.Complete.{ipv6_end-finds-ipv6-before-bracket, cannot_begin_ipv6-has-no-end}
 use Rattle.uri_parts.proofs.Refusals.Sound.{ipv6_end-before-bracket-ends-ipv6}
 
--- parse errors: a letter that begins an IPvFuture address is neither `:` nor a digit
-version-letter-is-no-colon-or-digit : (b : ℕ) → (eqb b 118 || eqb b 86) ≡ true
-    → (is_one_of (codes "vV") b ≡ true) × (eqb b 58 ≡ false) × (is_digit b 16 ≡ false)
-version-letter-is-no-colon-or-digit b e =
-    (grind (arith, nat_tests), grind (arith, nat_tests), grind (arith, nat_tests))
-
 -- parse errors: what begins with `v` (118) or `V` (86) begins
 -- neither with `:` nor with a hexadecimal digit
 text-with-version-letter-begins-no-group : (text : List ℕ)
     → (starts 118 text || starts 86 text) ≡ true → (is_one_of (codes "vV") (get_or text 0 0) ≡ true)
     × (starts 58 text ≡ false) × (digit_count 16 text ≡ 0)
 text-with-version-letter-begins-no-group [] e = absurd (false≢true e)
-text-with-version-letter-begins-no-group (b ∷ text) e =
-    let l = version-letter-is-no-colon-or-digit b e in (l.0, l.1, cond-false _ _ _ l.2)
+text-with-version-letter-begins-no-group (b ∷ text) e = grind (arith, nat_tests, cond-false)
 
 -- parse errors: the first byte of a text that begins neither with 118 nor 86 is no `v`
 text-begins-with-no-version-letter : (text : List ℕ) → (starts 118 text || starts 86 text) ≡ false
@@ -91,19 +84,10 @@ module _ (text : List ℕ) (i : ℕ) where
       ≡ Some end → is_ok (literal text i) ≡ false → literal text i ≡ Err (unexpected end)
   literal-unclosed-ipv6 end some e none = grind (arith, nat_tests, literal-is-closed-at-ipv6_end)
 
-  unparsed-literal-is-not-closed : (end : Option ℕ) → ipv6_end text i ≡ end
-      → parses_literal (drop i text) ≡ false → is_ok (closed text i end) ≡ false
-  unparsed-literal-is-not-closed None e none = refl
-  unparsed-literal-is-not-closed (Some end) e none =
-      grind (arith, nat_tests, read-ipv6-with-bracket-is-parsed)
-
   pub literal-rejects-unparsed : (starts 118 (drop i text) || starts 86 (drop i text)) ≡ false
       → parses_literal (drop i text) ≡ false → is_ok (literal text i) ≡ false
-  literal-rejects-unparsed no_ipv6 none = ⊎_elim
-      (λ n. ap is_ok (literal-without-address-is-unexpected no_ipv6 n))
-      (λ n. ap is_ok (literal-is-closed-at-ipv6_end n)
-      ∙ unparsed-literal-is-not-closed (ipv6_end text i) refl none)
-      (cases_Bool (cannot_begin_ipv6 text i))
+  literal-rejects-unparsed no_ipv6 none =
+      grind (arith, literal-without-address-is-unexpected, literal-is-closed-at-ipv6_end, read-ipv6-with-bracket-is-parsed)
 
 -- parse errors: an IPv6 address with `]` (93) after it is a literal that ends after this
 pub literal-ends-after-read-ipv6 : (text suffix : List ℕ) (i : ℕ)

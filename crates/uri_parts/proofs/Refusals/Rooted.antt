@@ -1,5 +1,5 @@
 -- The errors after an authority, and of a host.
-use Rattle.uri_parts.proofs.Common.{◌≡◌, ℕ, ◌+◌, Bool, true, false, cond, eqb, List, [], ◌∷◌, drop, Some, refl, sym, ap, ◌∙◌, arith, ◌&&◌, ◌||◌, ⊎_elim, ◌⊎◌, inr, Ok, Err, codes, drop-drop, cond-true, cond-false, cases_Bool, eq-eqb, or_left, or_right, false≢true, and_from, nat_tests, TableSet, LacksPercent, digit_set, is_one_of, valid_prefix_from, valid_prefix, after, excludes, valid_prefix_at_mark_is_empty, empty_text_has_empty_valid_prefix, nothing_is_scanned_after_valid_prefix, ParseError, starts, is_end, unexpected, stray_percent, OptionalParseError, ◌>>=◌, error_from_end, error_from_fragment, error_from_query, error_from_path, error_from_abempty_path, error_from_port, error_from_host, ScanResult, is_next, scan_end, scan, Kind, is_empty_or_begins_with_any, port_length, left_over_error, error_after_port, port_error, host_error}
+use Rattle.uri_parts.proofs.Common.{◌≡◌, ℕ, ◌+◌, true, false, cond, eqb, List, [], ◌∷◌, drop, Some, refl, sym, ap, ◌∙◌, arith, ◌&&◌, ◌||◌, ⊎_elim, ◌⊎◌, inr, Ok, Err, codes, drop-drop, cond-true, cond-false, cases_Bool, eq-eqb, or_left, or_right, false≢true, and_from, nat_tests, TableSet, LacksPercent, digit_set, is_one_of, valid_prefix_from, valid_prefix, after, excludes, valid_prefix_at_mark_is_empty, empty_text_has_empty_valid_prefix, nothing_is_scanned_after_valid_prefix, starts, is_end, unexpected, stray_percent, OptionalParseError, ◌>>=◌, error_from_end, error_from_fragment, error_from_query, error_from_path, error_from_abempty_path, error_from_port, error_from_host, ScanResult, is_next, scan_end, scan, Kind, is_empty_or_begins_with_any, port_length, left_over_error, error_after_port, port_error, host_error}
 use Rattle.uri_parts.proofs.Splitting.Cuts.{IsEmptyOrMarked}
 use Rattle.uri_parts.proofs.TextKinds.Separations.{SeparatesComponents, HasAllBut}
 
@@ -11,19 +11,12 @@ pub record Adjoins (kind : Kind) : Type 0 where
   pub path_octets : kind.path.pct_encoded ≡ true
   pub only_colon : HasAllBut (codes ":") kind.reg_name kind.userinfo
 
--- parse errors: a scan and what is next, by whether a `%` is stray
-bind-of-cond-is-cond-of-binds : (stray : Bool) (e : ParseError) (end : ℕ) (next : ℕ
-    → OptionalParseError) → (cond stray (Err e) (Ok end) >>= next) ≡ cond stray (Some e) (next end)
-bind-of-cond-is-cond-of-binds true e end next = refl
-bind-of-cond-is-cond-of-binds false e end next = refl
-
 -- parse errors: a scan by the set stops at a `%` that begins no octet,
 -- or else the next component (next) decides the error
 pub scan-stops-at-stray-percent-or-goes-on : (text : List ℕ) (set : TableSet) (i : ℕ) (next : ℕ
     → OptionalParseError) → (scan text set i >>= next) ≡ cond (set.pct_encoded && is_next text 37
     (scan_end text set i)) (Some (stray_percent (scan_end text set i))) (next (scan_end text set i))
-scan-stops-at-stray-percent-or-goes-on text set i next =
-    grind (arith, nat_tests, bind-of-cond-is-cond-of-binds)
+scan-stops-at-stray-percent-or-goes-on text set i next = grind (arith, nat_tests)
 
 -- general fact on results, for parse errors:
 -- what is next may be replaced by what is equal at each position
@@ -158,14 +151,8 @@ module _ (segment : TableSet) (kind : Kind) (w : SeparatesComponents segment kin
   abempty-path-error-at-other-byte-is-left-over : (p : ℕ)
       → is_empty_or_begins_with_any (codes "/?#") (drop p text) ≡ false
       → error_from_abempty_path kind text p ≡ left_over_error kind text p
-  abempty-path-error-at-other-byte-is-left-over p e = grind (
-    arith,
-    nat_tests,
-    unmarked_text_begins_with_other_byte,
-    abempty-path-error-by-stray-percent,
-    query-error-at-other-byte-is-unexpected,
-    left_over_error-by-stray-percent,
-  )
+  abempty-path-error-at-other-byte-is-left-over p e =
+      grind (arith, unmarked_text_begins_with_other_byte, abempty-path-error-by-stray-percent, query-error-at-other-byte-is-unexpected, left_over_error-by-stray-percent)
 
   pub error_after_port-is-from-path : (p : ℕ) → error_after_port kind text p
       ≡ error_from_abempty_path kind text p

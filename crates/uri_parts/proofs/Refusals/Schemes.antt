@@ -1,13 +1,12 @@
 -- The error that the parser comes to, by how a text begins: with a scheme and `//`, with a scheme
 -- alone, or without.
-use Rattle.uri_parts.proofs.Common.{◌≡◌, ℕ, ◌+◌, Bool, true, false, List, get_or, drop, refl, sym, ap, ◌∙◌, zero-add, ◌&&◌, Some, if◌then◌else◌, drop-drop, is_ascii_alphabetic, cond-true, cond-false, colon, valid_prefix, after, TableSet, scheme_set, starts, has_authority, unexpected, Kind, OptionalParseError, error_from_path, is_next, authority_error, hier_part_error, schemeless_error, parsed_error}
+use native.Mathlib.Omega.{arith}
+use Rattle.uri_parts.proofs.Common.{◌≡◌, ℕ, ◌+◌, Bool, true, false, List, get_or, drop, sym, ap, ◌∙◌, zero-add, ◌&&◌, Some, if◌then◌else◌, drop-drop, is_ascii_alphabetic, cond-true, cond-false, colon, valid_prefix, after, TableSet, scheme_set, starts, has_authority, unexpected, Kind, OptionalParseError, error_from_path, is_next, authority_error, hier_part_error, schemeless_error, parsed_error}
 
 -- parsing: the last of three facts that do not all hold, of which the others do
 pub last_of_three_fails : (all first second third : Bool) → all ≡ (first && (second && third))
     → all ≡ false → first ≡ true → second ≡ true → third ≡ false
-last_of_three_fails all first second third e f g h =
-    let same : (first && (second && third)) ≡ third = rw (g, h) refl in
-    sym (e ∙ same) ∙ f
+last_of_three_fails all first second third e f g h = grind arith
 
 module _ (segment : TableSet) (kind : Kind) (text : List ℕ) where
   -- parsing: the error of the text, if the characters of a scheme end at `scheme`

@@ -96,9 +96,7 @@ pub parsed_error-is-refusal : (kind tables : Kind) (segment : TableSet)
     → segment ≡ first_segment_set kind
     → (text : List ℕ) → parsed_error segment tables text ≡ refusal kind text
 parsed_error-is-refusal kind tables segment known k s text =
-    parsed_error-of-kind-is-refusal segment tables (tables_of_kind_separate kind
-    tables segment known k s) (subst Adjoins (sym k) (known-kind-adjoins kind known)) text (s
-    ∙ ap first_segment_set (sym k)) ∙ ap (λ v. refusal v text) k
+    grind (arith, parsed_error-of-kind-is-refusal, tables_of_kind_separate, known-kind-adjoins)
 
 pub ok_exactly_if_parsed : {A : Type 0} (kind tables : Kind) (segment : TableSet)
     → kind ≡ kind_by_flags kind.path.ucschar kind.needs_scheme

@@ -22,12 +22,6 @@ IsEmptyOrMarked-query_text None fragment =
     grind (arith, nat_tests, empty-or-marked-for-more-marks, IsEmptyOrMarked-fragment_text)
 IsEmptyOrMarked-query_text (Some q) fragment = refl
 
--- recomposing: a fragment with its `#`, or nothing, does not begin with `?` (63)
-fragment-begins-with-no-question-mark : (fragment : Option (List ℕ))
-    → starts 63 (fragment_text fragment) ≡ false
-fragment-begins-with-no-question-mark None = refl
-fragment-begins-with-no-question-mark (Some f) = refl
-
 pub fragment-found : (fragment : Option (List ℕ))
     → when (starts 35 (fragment_text fragment)) (drop 1 (fragment_text fragment)) ≡ fragment
 fragment-found None = refl
@@ -37,7 +31,7 @@ pub query-found : (query fragment : Option (List ℕ)) → IfSome query (λ q. L
     (when (starts 63 (query_text query fragment))
     (before_any (codes "#") (drop 1 (query_text query fragment))) ≡ query)
     × (after_query (query_text query fragment) ≡ fragment_text fragment)
-query-found None fragment lacks = grind (arith, nat_tests, fragment-begins-with-no-question-mark)
+query-found None fragment lacks = grind (arith, nat_tests)
 query-found (Some q) fragment lacks =
     let cut = cut-at-end-of-text-without-marks (codes "#") q (fragment_text fragment) lacks
     (IsEmptyOrMarked-fragment_text fragment) in
@@ -63,16 +57,12 @@ has_authority-append (a ∷ d ∷ path) tail begins = refl
 pub cons_is_not_nil : (c : ℕ) (xs : List ℕ) → c ∷ xs ≡ [] → ⊥
 cons_is_not_nil c xs e = cc
 
--- splitting: `/` (47) ends an authority
-slash-ends-authority : (c : ℕ) → eqb c 47 ≡ true → is_one_of (codes "/?#") c ≡ true
-slash-ends-authority c e = ap (is_one_of (codes "/?#")) (eqb-true c 47 e)
-
 pub rooted-path-ends-authority : (path tail : List ℕ) → IsAbemptyPath path
     → IsEmptyOrMarked (codes "?#") tail → IsEmptyOrMarked (codes "/?#") (path ++ tail)
 rooted-path-ends-authority [] tail rooted begins =
     grind (arith, nat_tests, empty-or-marked-for-more-marks)
 rooted-path-ends-authority (c ∷ path) tail rooted begins =
-    grind (arith, nat_tests, cons_is_not_nil, slash-ends-authority, eq_true_from_IsTrue)
+    grind (arith, nat_tests, cons_is_not_nil, codes, eqb-true, eq_true_from_IsTrue)
 
 -- recomposing: the authority that is found is the one that was written,
 -- and path and tail are left after it

@@ -1,5 +1,6 @@
 -- At their positions the components of a text can be cut out, and what is cut out is them.
-use Rattle.uri_parts.proofs.Common.{◌≡◌, ℕ, ◌+◌, ◌-◌, ◌<◌, ◌≤◌, true, List, [], ◌∷◌, ◌++◌, length, get_or, take, drop, refl, sym, ap, subst, ◌∙◌, arith, append_assoc, length-append, codes, Some, None, Option, IfSome, slice_range, nat_lt, is_some, option_map, unwrap_or, IsUtf8, IsCharBoundary, append-nil, drop-append_seam, take-append_seam, IsCharBoundary-start, IsCharBoundary-end, IsCharBoundary-before_ascii, IsCharBoundary-after_ascii, lt-ltb, le-ltb, or_right, nat_tests, is_one_of, Components, IsSplitOf, recompose, marked, IsAbemptyPath, Lacks, positions_of, delimited_length, before_fragment}
+use Rattle.std.proofs.lemmas.Grind.{common_steps}
+use Rattle.uri_parts.proofs.Common.{◌≡◌, ℕ, ◌+◌, ◌-◌, ◌<◌, ◌≤◌, List, [], ◌∷◌, ◌++◌, length, get_or, refl, sym, ap, subst, ◌∙◌, arith, append_assoc, length-append, codes, Some, None, Option, IfSome, slice_range, nat_lt, is_some, option_map, unwrap_or, IsUtf8, IsCharBoundary, append-nil, drop-append_seam, take-append_seam, IsCharBoundary-start, IsCharBoundary-end, IsCharBoundary-before_ascii, IsCharBoundary-after_ascii, lt-ltb, le-ltb, or_right, nat_tests, Components, IsSplitOf, recompose, marked, IsAbemptyPath, Lacks, positions_of, delimited_length, before_fragment}
 use Rattle.uri_parts.proofs.Splitting.Cuts.{IsEmptyOrMarked, empty-or-marked-for-more-marks}
 use Rattle.uri_parts.proofs.Splitting.Marks.{query_text, fragment_text, IsEmptyOrMarked-query_text, IsEmptyOrMarked-fragment_text, rooted-path-ends-authority}
 use Rattle.uri_parts.proofs.Splitting.Recompose.{components_of_parts}
@@ -17,55 +18,32 @@ pub get_or-after-prefix : (before rest : List ℕ) (c : ℕ)
 get_or-after-prefix [] rest c = refl
 get_or-after-prefix (b ∷ before) rest c = get_or-after-prefix before rest c
 
-component-mark-is-ascii : (c : ℕ) → is_one_of (codes ":/?#") c ≡ true → c < 128
-component-mark-is-ascii c h = grind (arith, nat_tests)
-
 -- positions: a text may be cut before a delimiter, and at its end
 pub boundary_before_mark : (before rest : List ℕ) → IsEmptyOrMarked (codes ":/?#") rest
     → IsCharBoundary (before ++ rest) (length before)
 boundary_before_mark before [] begins = rw (append-nil before) (IsCharBoundary-end before)
 boundary_before_mark before (c ∷ rest) begins =
-    let ascii = component-mark-is-ascii c begins in
-    let at : get_or (before ++ (c ∷ rest)) (length before) 0 < 128 =
-    rw (get_or-after-prefix before rest c) ascii in
-    IsCharBoundary-before_ascii (before ++ (c ∷ rest)) (length before)
-    (omega (arith, length-append before (c ∷ rest))) at
+    grind (arith, nat_tests, get_or-after-prefix, IsCharBoundary-before_ascii, length-append)
 
 -- positions: a text may be cut after an ASCII character
 pub boundary_after_mark : (before rest : List ℕ) (c : ℕ) → c < 128 → IsUtf8 (before ++ (c ∷ rest))
     → IsCharBoundary (before ++ (c ∷ rest)) (length before + 1)
 boundary_after_mark before rest c ascii utf8 =
-    let at : get_or (before ++ (c ∷ rest)) (length before) 0 < 128 =
-    rw (get_or-after-prefix before rest c) ascii in
-    IsCharBoundary-after_ascii (before ++ (c ∷ rest)) (length before) utf8
-    (omega (arith, length-append before (c ∷ rest))) at
+    grind (arith, get_or-after-prefix, IsCharBoundary-after_ascii, length-append)
 
 -- general fact on lists, for positions: what is after a prefix is at the length of the prefix
 pub slice-between-prefix-and-suffix : (before part suffix : List ℕ)
     → slice_range (before ++ (part ++ suffix)) (length before) (length before + length part) ≡ part
 slice-between-prefix-and-suffix before part suffix =
-    let n : (length before + length part) - length before ≡ length part = omega arith in
-    ap (λ k. take k (drop (length before) (before ++ (part ++ suffix)))) n ∙ ap
-    (take (length part)) (drop-append_seam before (part ++ suffix)) ∙ take-append_seam part suffix
+    grind (arith, common_steps, drop-append_seam, take-append_seam)
 
 -- positions: a component with a delimiter, or nothing, after it is between its positions
 component-before-mark-is-slice : (text before part suffix : List ℕ) (start end : ℕ)
     → text ≡ before ++ (part ++ suffix) → start ≡ length before → end ≡ start + length part
     → IsCharBoundary text start → IsEmptyOrMarked (codes ":/?#") suffix
     → IsComponentAt text start end (Some part)
-component-before-mark-is-slice text before part suffix start end whole at_start at_end
-    starts begins =
-    let joined : text ≡ (before ++ part) ++ suffix = whole
-    ∙ sym (append_assoc before part suffix) in
-    let n : length (before ++ part) ≡ end = omega (arith, length-append before part) in
-    let m : end ≡ length before + length part = omega arith in
-    record {
-      ordered = omega arith;
-      starts = starts;
-      ends = rw (joined, ← n) (boundary_before_mark (before ++ part) suffix begins);
-      holds = rw (whole, at_start, m)
-          (ap Some (slice-between-prefix-and-suffix before part suffix));
-    }
+component-before-mark-is-slice text before part suffix start end whole at_start at_end starts begins =
+    grind (arith, common_steps)
 
 -- positions: a component with a delimiter before it,
 -- and one or nothing after it, is between its positions
@@ -172,13 +150,8 @@ hierarchy_text scheme authority path = (scheme_text scheme ++ marked_authority a
 length-hierarchy_text : (scheme authority : Option (List ℕ)) (path : List ℕ)
     → length (hierarchy_text scheme authority path)
     ≡ delimited_length 1 scheme + delimited_length 2 authority + length path
-length-hierarchy_text scheme authority path = omega (
-  arith,
-  length-append (scheme_text scheme ++ marked_authority authority) path,
-  length-append (scheme_text scheme) (marked_authority authority),
-  length-scheme_text scheme,
-  length-marked_authority authority,
-)
+length-hierarchy_text scheme authority path =
+    grind (arith, length-append, length-scheme_text, length-marked_authority)
 
 hierarchy-append : (scheme authority : Option (List ℕ)) (path suffix : List ℕ)
     → scheme_text scheme ++ (marked_authority authority ++ (path ++ suffix))

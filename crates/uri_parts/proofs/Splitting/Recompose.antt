@@ -24,33 +24,14 @@ pub text-with-mark-is-mark-and-rest : (c : ℕ) (text : List ℕ) → starts c t
 text-with-mark-is-mark-and-rest c [] h = absurd (both_ways _ refl h)
 text-with-mark-is-mark-and-rest c (d ∷ text) h = ap (λ x. x ∷ text) (eqb-true d c h)
 
--- splitting: what begins with `//` is two slashes (47) and a rest
-text-with-authority-is-slashes-and-rest : (text : List ℕ) → has_authority text ≡ true → text
-    ≡ 47 ∷ 47 ∷ drop 2 text
-text-with-authority-is-slashes-and-rest [] h = cc
-text-with-authority-is-slashes-and-rest (a ∷ []) h = absurd (both_ways _ refl (and_parts _ _ h).1)
-text-with-authority-is-slashes-and-rest (a ∷ b ∷ text) h = let parts = and_parts _ _ h in
-    ap (λ x. x ∷ b ∷ text) (eqb-true a 47 parts.0) ∙ ap (λ x. 47 ∷ x ∷ text) (eqb-true b 47 parts.1)
-
 scheme-and-rest-are-text : (text : List ℕ) → marked [] (when (has_scheme text)
     (before_any (codes ":/?#") text)) (codes ":") ++ after_scheme text ≡ text
-scheme-and-rest-are-text text = grind (
-  arith,
-  nat_tests,
-  append_assoc,
-  text-with-mark-is-mark-and-rest,
-  text-is-cut-at-first-mark,
-)
+scheme-and-rest-are-text text = grind (arith, append_assoc, text-is-cut-at-first-mark)
 
 authority-and-rest-are-text : (rest : List ℕ) → marked (codes "//") (when (has_authority rest)
     (before_any (codes "/?#") (drop 2 rest))) [] ++ after_authority rest ≡ rest
-authority-and-rest-are-text rest = grind (
-  arith,
-  nat_tests,
-  append-nil,
-  text-is-cut-at-first-mark,
-  text-with-authority-is-slashes-and-rest,
-)
+authority-and-rest-are-text rest =
+    grind (arith, nat_tests, append-nil, text-is-cut-at-first-mark, both_ways, eqb-true)
 
 query-and-rest-are-text : (end : List ℕ) → marked (codes "?") (when (starts 63 end)
     (before_any (codes "#") (drop 1 end))) [] ++ after_query end ≡ end

@@ -1,5 +1,5 @@
 -- The first segment of a path without a scheme.
-use Rattle.uri_parts.proofs.Common.{◌≡◌, ℕ, Bool, true, false, eqb, not, List, [], ◌∷◌, drop, refl, sym, ap, ◌∙◌, arith, ◌||◌, ◌&&◌, ⊎_elim, codes, IsUtf8, drop-drop, list_any, cases_Bool, and_left, and_right, eqb-true, and_parts, not_from_true, not-false, both_ways, false≢true, and_cases, false_from_ne_true, or_left, nat_tests, TableSet, LacksPercent, is_one_of, scheme_set, valid_prefix, after, excludes, valid_prefix_at_mark_is_empty, valid_prefix_by_first_byte, length_before_marks, nothing_is_scanned_after_valid_prefix, valid_prefix_of_superset_goes_on_from_subset, successor_is_not_zero, before_any, from_any, starts, has_scheme, Kind, has_colon_in_first_segment}
+use Rattle.uri_parts.proofs.Common.{◌≡◌, ℕ, Bool, true, false, eqb, not, List, [], ◌∷◌, drop, refl, sym, ap, ◌∙◌, arith, ◌||◌, ◌&&◌, ⊎_elim, codes, IsUtf8, drop-drop, list_any, cases_Bool, and_left, and_right, eqb-true, and_parts, not_from_true, both_ways, false≢true, or_left, nat_tests, TableSet, LacksPercent, is_one_of, scheme_set, valid_prefix, after, excludes, valid_prefix_at_mark_is_empty, valid_prefix_by_first_byte, length_before_marks, nothing_is_scanned_after_valid_prefix, valid_prefix_of_superset_goes_on_from_subset, successor_is_not_zero, before_any, from_any, starts, has_scheme, Kind, has_colon_in_first_segment}
 use Rattle.uri_parts.proofs.Parsing.Acceptance.{is_stray, parses_end, parses_path, parses_relative}
 use Rattle.uri_parts.proofs.Parsing.ScanStops.{scan-stops-at-first-mark-or-within}
 use Rattle.uri_parts.proofs.TextKinds.Separations.{SeparatesComponents}
@@ -72,23 +72,12 @@ colon-in-first-segment-iff-colon-is-first-mark (b ∷ rest) =
     (codes ":/?#") b rest (other-byte-is-none-of-four-marks b q s c)))) (cases_Bool (eqb b 58)))
     (cases_Bool (is_one_of (codes "/") b))) (cases_Bool (is_one_of (codes "?#") b))
 
--- splitting, relative references: a text that begins
--- with `:` (58) is all from the first delimiter on
-text-with-colon-begins-at-first-mark : (bs : List ℕ) → starts 58 bs ≡ true
-    → from_any (codes ":/?#") bs ≡ bs
-text-with-colon-begins-at-first-mark [] e = refl
-text-with-colon-begins-at-first-mark (b ∷ rest) e = from_any-at-mark (codes ":/?#") b rest
-    (ap (is_one_of (codes ":/?#")) (eqb-true b 58 e))
-
 -- splitting, relative references: without a scheme,
 -- a first segment has `:` exactly where the text begins with it (58)
 pub colon_in_first_segment-is-at-start : (bs : List ℕ) → has_scheme bs ≡ false
     → has_colon_in_first_segment (before_any (codes "?#") bs) ≡ starts 58 bs
-colon_in_first_segment-is-at-start bs e = colon-in-first-segment-iff-colon-is-first-mark bs
-    ∙ ⊎_elim (λ s. s ∙ sym (⊎_elim (λ f. absurd (both_ways _ f s)) (λ f. not-false _ f)
-    (and_cases (starts 58 (from_any (codes ":/?#") bs)) _ e))) (λ s. s ∙ sym (false_from_ne_true _
-    (λ t. both_ways _ s (ap (starts 58) (text-with-colon-begins-at-first-mark bs t) ∙ t))))
-    (cases_Bool (starts 58 (from_any (codes ":/?#") bs)))
+colon_in_first_segment-is-at-start bs e =
+    grind (arith, colon-in-first-segment-iff-colon-is-first-mark)
 
 -- splitting, relative references: `%` is no character of a scheme
 pub scheme_set_lacks_percent : LacksPercent scheme_set
@@ -101,15 +90,8 @@ scheme_set_excludes_delimiters = refl
 module _ (segment : TableSet) (kind : Kind) (w : SeparatesComponents segment kind) where
   no-scheme-means-no-colon-after-segment : (bs : List ℕ) → IsUtf8 bs → has_scheme bs ≡ false
       → starts 58 (after segment bs) ≡ starts 58 bs
-  no-scheme-means-no-colon-after-segment bs u e = grind (
-    arith,
-    nat_tests,
-    scan_stops_at_first_colon,
-    not-false,
-    and_cases,
-    false_from_ne_true,
-    nothing-is-scanned-at-colon,
-  )
+  no-scheme-means-no-colon-after-segment bs u e =
+      grind (arith, scan_stops_at_first_colon, nothing-is-scanned-at-colon)
 
   -- where the first segment stops at no colon, the path stops too
   path-stops-where-segment-stops : (b : ℕ) (rest : List ℕ) → is_one_of (codes ":/") b ≡ false
@@ -149,11 +131,8 @@ module _ (segment : TableSet) (kind : Kind) (w : SeparatesComponents segment kin
   test-after-path-makes-no-difference : (bs : List ℕ) (x : Bool)
       → (not (is_stray segment (after segment bs)) && (x && parses_path kind (after segment bs)))
       ≡ (x && parses_path kind (after segment bs))
-  test-after-path-makes-no-difference bs x = ⊎_elim (λ s. and_left _ _ (not_from_true _ s)
-      ∙ sym (and_right _ _ (percent-that-stops-segment-stops-path (after segment bs)
-      (and_parts _ _ s).1 (nothing_is_scanned_after_valid_prefix segment bs) s)))
-      (λ s. ap (λ t. not t && (x && parses_path kind (after segment bs))) s)
-      (cases_Bool (is_stray segment (after segment bs)))
+  test-after-path-makes-no-difference bs x =
+      grind (arith, percent-that-stops-segment-stops-path, nothing_is_scanned_after_valid_prefix)
 
   pub parses_relative-without-scheme : (bs : List ℕ) → IsUtf8 bs → has_scheme bs ≡ false
       → parses_relative segment kind bs ≡ (not (starts 58 bs) && parses_path kind bs)

@@ -1,7 +1,7 @@
 -- The components of a text are its only split.
-use Rattle.uri_parts.proofs.Common.{◌≡◌, ℕ, List, arith, Option, nat_tests, Components, IsSplitOf, recompose, components}
+use Rattle.uri_parts.proofs.Common.{◌≡◌, ℕ, List, arith, Option, Components, IsSplitOf, components}
 use Rattle.uri_parts.proofs.Splitting.Cuts.{cut-at-end-of-text-without-marks}
-use Rattle.uri_parts.proofs.Splitting.Marks.{query_text, IsEmptyOrMarked-query_text, fragment-found, query-found, authority-found, scheme-found}
+use Rattle.uri_parts.proofs.Splitting.Marks.{IsEmptyOrMarked-query_text, fragment-found, query-found, authority-found, scheme-found}
 
 -- general fact on records, for splitting: components are equal if each is
 pub equal-parts-make-equal-components : {s1 s2 a1 a2 q1 q2 f1 f2 : Option (List ℕ)} {p1 p2 : List ℕ}
@@ -11,22 +11,8 @@ pub equal-parts-make-equal-components : {s1 s2 a1 a2 q1 q2 f1 f2 : Option (List 
 equal-parts-make-equal-components s a p q f = λ i.
     record { scheme = s i; authority = a i; path = p i; query = q i; fragment = f i }
 
-components-of-recomposed-split : (p : Components) → IsSplitOf (recompose p) p
-    → components (recompose p) ≡ p
-components-of-recomposed-split p split = grind (
-  arith,
-  nat_tests,
-  query_text,
-  scheme-found,
-  authority-found,
-  IsEmptyOrMarked-query_text,
-  cut-at-end-of-text-without-marks,
-  query-found,
-  equal-parts-make-equal-components,
-  fragment-found,
-)
-
 -- splitting: a text has no split but its components (RFC 3986, section 3)
 pub only-split-is-components : (text : List ℕ) (p : Components) → IsSplitOf text p
     → components text ≡ p
-only-split-is-components text p split = grind (arith, nat_tests, components-of-recomposed-split)
+only-split-is-components text p split =
+    grind (arith, scheme-found, authority-found, IsEmptyOrMarked-query_text, cut-at-end-of-text-without-marks, query-found, fragment-found)
