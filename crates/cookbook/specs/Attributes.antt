@@ -1,6 +1,6 @@
 -- The link of an attribute of a page, such as `href`: RFC 3986, section 2.1, and the HTML standard.
 use Rattle.std.specs.Prelude.{ℕ, List}
-use Rattle.fluent_uri.specs.Grammar.{uri_ref}
+use Rattle.fluent_uri.specs.Prelude.{uri_ref}
 use Rattle.uri_mend.specs.Mending.{mended_text}
 use Rattle.uri_mend.specs.Trimming.{trimmed_link}
 

@@ -1,9 +1,7 @@
 -- The URIs that were met, by their normal forms: RFC 3986, section 6.2.2.
 use Rattle.std.specs.Prelude.{ℕ, Bool, List}
 use Rattle.std.specs.BTreeSet.{contains_text}
-use Rattle.fluent_uri.specs.Grammar.{uri}
-use Rattle.fluent_uri.specs.Normal.{normal_text}
-use Rattle.fluent_uri.specs.SchemeRules.{default_rules, meaning_under}
+use Rattle.fluent_uri.specs.Prelude.{default_rules, meaning_under, normal_text, uri}
 use Rattle.cookbook.specs.declared.frontier.Frontier.{Frontier}
 
 -- whether a frontier, which has the URIs that were met, has this normal form

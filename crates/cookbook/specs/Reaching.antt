@@ -2,12 +2,7 @@
 use Rattle.std.specs.Prelude.{◌≡◌, ℕ, List, Err, Result, unwrap_or}
 use Rattle.std.specs.Option.{option_and_then}
 use Rattle.std.specs.Str.{str_to_ascii_lowercase}
-use Rattle.fluent_uri.specs.Authority.{authority_parts}
-use Rattle.fluent_uri.specs.Components.{Components}
-use Rattle.fluent_uri.specs.Connecting.{IsTargetResultFor}
-use Rattle.fluent_uri.specs.Hosts.{host_kind}
-use Rattle.fluent_uri.specs.Ports.{FitsPort, port_number}
-use Rattle.fluent_uri.specs.SchemePorts.{default_port}
+use Rattle.fluent_uri.specs.Prelude.{Components, FitsPort, IsTargetResultFor, authority_parts, default_port, host_kind, port_number}
 use Rattle.fluent_uri.specs.declared.component.SocketError.{SocketError}
 use Rattle.fluent_uri.specs.declared.component.SocketError.TheVariants.{InvalidPort}
 use Rattle.fluent_uri.specs.declared.component.SocketTarget.{SocketTarget}

@@ -1,8 +1,6 @@
 -- The path of segments: RFC 3986, section 3.3.
 use Rattle.std.specs.Prelude.{ℕ, Bool, ◌||◌, bytes_eq, List, [], ◌∷◌, ◌++◌, codes, String, string_bytes}
-use Rattle.fluent_uri.specs.Encoding.{encode_text}
-use Rattle.fluent_uri.specs.Sets.{data_set}
-use Rattle.fluent_uri.specs.Tokens.{print}
+use Rattle.fluent_uri.specs.Prelude.{data_set, encode_text, print}
 
 -- whether a segment that a user typed, before it is percent-encoded, is `.` or `..`
 abbrev pub is_dot_segment : {Z : Type 0} → String Z → Bool

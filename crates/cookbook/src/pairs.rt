@@ -3,7 +3,7 @@ ghost use Rattle.std.specs.Prelude.{◌≡◌, ◌≢◌, ◌++◌, codes, map, 
 ghost use Rattle.std.specs.Prelude.{OnOk};
 ghost use Rattle.std.specs.Io.KnownBytes.{Appends};
 ghost use Rattle.fluent_uri.specs.Prelude.{IsValidFor};
-ghost use Rattle.fluent_uri.specs.Sets.{query_set};
+ghost use Rattle.fluent_uri.specs.Prelude.{query_set};
 ghost use Rattle.uri_query.specs.Pairs.{decode_pairs, pair_texts, query_text};
 ghost use Rattle.cookbook.specs.PairLines.{lines_text};
 

@@ -1,6 +1,6 @@
 //! The URIs of a service.
 ghost use Rattle.std.specs.Prelude.{◌≡◌, ◌≢◌, codes, true, IfErr, IfOk, None, Some};
-ghost use Rattle.fluent_uri.specs.Built.{build_error_of_path};
+ghost use Rattle.fluent_uri.specs.Prelude.{build_error_of_path};
 ghost use Rattle.fluent_uri.specs.Prelude.{authority_text, components, text_of, uri_text};
 
 use fluent_uri::Uri;

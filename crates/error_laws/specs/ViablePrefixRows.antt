@@ -1,6 +1,6 @@
 -- Texts of two kinds, and whether each is an exception to the law of viable prefixes.
 use Rattle.std.specs.Prelude.{ℕ, Bool, true, false, List, [], ◌∷◌, codes}
-use Rattle.uri_parts.specs.Grammar.{Kind, uri, uri_ref}
+use Rattle.uri_parts.specs.Prelude.{Kind, uri, uri_ref}
 
 -- texts of a kind, and whether the error of each is an exception to the law of viable prefixes: it
 -- is late

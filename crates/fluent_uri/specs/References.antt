@@ -1,6 +1,6 @@
 -- The text of a `Reference` (RFC 3986, sections 3 and 4.1; RFC 3987, section 2.2).
 use Rattle.std.specs.Prelude.{ℕ, List}
-use Rattle.uri_parts.specs.CoreTexts.{core_text}
+use Rattle.uri_parts.specs.Prelude.{core_text}
 use Rattle.fluent_uri.specs.declared.reference.Reference.{Reference}
 
 -- The text of a `Uri`, `UriRef`, `Iri` or `IriRef`, which are one type at four kinds.

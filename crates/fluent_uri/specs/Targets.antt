@@ -1,7 +1,7 @@
 -- The target of a reference, for the contracts of callers: RFC 3986, section 5.2.
 use Rattle.std.specs.Prelude.{ℕ, List, Option}
 use Rattle.std.specs.Result.{result_ok}
-use Rattle.uri_ops.specs.Target.{resolution_of_texts}
+use Rattle.uri_ops.specs.Prelude.{resolution_of_texts}
 
 -- The text of the target of a reference, the second text, against a base, the first, if it has one
 -- (section 5.2).

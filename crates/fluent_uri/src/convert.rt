@@ -1,6 +1,6 @@
 //! Conversions between the kinds (RFC 3986, sections 3 and 4.1; RFC 3987, section 3.1).
 ghost use Rattle.std.specs.Prelude.{◌≡◌, IfOk};
-ghost use Rattle.uri_parts.specs.Grammar.{iri, iri_ref, uri, uri_ref};
+ghost use Rattle.uri_parts.specs.Prelude.{iri, iri_ref, uri, uri_ref};
 ghost use Rattle.uri_ops.specs.Prelude.{AreEquivalent, Converts, ConvertsOwned, Rules, encode_past_ascii, meaning_under, missing_scheme_error, not_ascii_error, uri_conversion_error};
 ghost use Rattle.fluent_uri.specs.References.{reference_text};
 

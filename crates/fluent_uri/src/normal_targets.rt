@@ -1,6 +1,6 @@
 //! The law of targets of normal forms.
 ghost use Rattle.std.specs.Prelude.{◌≡◌, ◌↔◌, ℕ, List, Some};
-ghost use Rattle.uri_parts.specs.Components.{components};
+ghost use Rattle.uri_parts.specs.Prelude.{components};
 ghost use Rattle.uri_ops.specs.Prelude.{IsErrorWithUnderflowAllowed, IsNormalForm, resolved_meaning, scheme_rules_of};
 ghost use Rattle.uri_ops.specs.declared.resolve.error.ResolveError.{ResolveError};
 ghost use Rattle.fluent_uri.specs.References.{reference_text};

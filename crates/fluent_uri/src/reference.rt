@@ -2,9 +2,8 @@
 //! 2.2).
 ghost use Rattle.std.specs.Prelude.{◌≡◌, Some, string_bytes, ⊤, refl};
 ghost use Rattle.std.specs.Str.{IsUtf8};
-ghost use Rattle.uri_parts.specs.Grammar.{IsOfKind};
+ghost use Rattle.uri_parts.specs.Prelude.{IsOfKind, core_text};
 ghost use Rattle.uri_ops.proofs.Offered.{one-of-four-kinds-has-sets};
-ghost use Rattle.uri_parts.specs.CoreTexts.{core_text};
 ghost use Rattle.fluent_uri.specs.Parses.{Parses, ParsesOwned};
 ghost use Rattle.std.specs.Fmt.{styled_text};
 

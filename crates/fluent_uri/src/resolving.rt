@@ -1,6 +1,6 @@
 //! Resolving references against a base (RFC 3986, section 5.2; RFC 3987, section 6.5).
 ghost use Rattle.std.specs.Prelude.{◌≡◌, IfErr, IfOk, Ok, true};
-ghost use Rattle.uri_parts.specs.Components.{components};
+ghost use Rattle.uri_parts.specs.Prelude.{components};
 ghost use Rattle.uri_ops.specs.Prelude.{IsErrorWithUnderflowAllowed, IsResolved, resolution_of_texts};
 ghost use Rattle.fluent_uri.specs.References.{reference_text};
 

@@ -3,7 +3,7 @@ use Rattle.std.specs.Prelude.{ℕ, ◌&&◌, Bool, false, not, List, [], Option,
 use Rattle.std.specs.Option.{option_map_or}
 use Rattle.std.specs.Str.{is_utf8}
 use Rattle.fluent_uri.specs.Prelude.{Kind, components, encode_past_ascii}
-use Rattle.uri_parts.specs.Connecting.{name_bytes}
+use Rattle.uri_parts.specs.Prelude.{name_bytes}
 use Rattle.uri_idna.specs.declared.error.AsciiHostError.{AsciiHostError}
 use Rattle.uri_idna.specs.declared.error.AsciiHostError.TheVariants as Ascii
 use Rattle.uri_idna.specs.AsciiHosts.{ascii_host, is_unencoded_ascii}

@@ -6,7 +6,7 @@ use Rattle.fluent_uri.specs.Prelude.{AuthorityParts, Components, IsOfKind, Kind,
 use Rattle.uri_ops.specs.declared.build.error.BuildError.{BuildError}
 use Rattle.uri_ops.specs.declared.build.error.BuildError.TheVariants as Build
 use Rattle.uri_ops.specs.Prelude.{build_error_of_path, is_authority_text, is_scheme_text, is_text_for}
-use Rattle.uri_pct.specs.Delimiters.{left_bracket}
+use Rattle.uri_pct.specs.Prelude.{left_bracket}
 use Rattle.fluent_uri_c.specs.declared.building.ComponentSpans.{ComponentSpans}
 use Rattle.fluent_uri_c.specs.declared.errors.Error.{Error}
 use Rattle.fluent_uri_c.specs.declared.errors.Error.TheVariants as Of

@@ -1,7 +1,7 @@
 -- Columns of texts as data and offsets, and what a batch leaves of one.
 use Rattle.std.specs.Prelude.{◌≡◌, ◌≢◌, ℕ, zero, suc, ◌+◌, ◌-◌, ◌*◌, ◌/◌, ◌%◌, ◌^◌, ◌<◌, ◌≤◌, Bool, ◌&&◌, List, [], ◌++◌, length, drop, nat_le, nat_lt, Option, Some, None, IsSomeAnd, slice_get, slice_index, slice_range, option_and_then, is_some, IsFalse, IsSome, IsTrue, unwrap_or, string_bytes, if◌then◌else◌}
 use Rattle.std.specs.Int.{bit_at}
-use Rattle.fluent_uri.specs.Cows.{cow_items}
+use Rattle.fluent_uri.specs.Prelude.{cow_items}
 use Rattle.fluent_uri_c.specs.declared.batch.CallResult.{CallResult}
 use Rattle.fluent_uri_c.specs.declared.batch.CallResult.TheVariants.{Bytes, Part, Text}
 use Rattle.fluent_uri_c.specs.declared.outcome.Outcome.{Outcome}

@@ -1,6 +1,6 @@
 -- The kinds by the numbers of the header: RFC 3986, sections 3 and 4.1, and RFC 3987, section 2.2.
 use Rattle.std.specs.Prelude.{ℕ, ◌==◌, Option, Some, None, if◌then◌else◌}
-use Rattle.fluent_uri.specs.Grammar.{Kind, uri, uri_ref, iri, iri_ref}
+use Rattle.fluent_uri.specs.Prelude.{Kind, iri, iri_ref, uri, uri_ref}
 
 -- the kind with a number of the C header, if there is one
 abbrev pub kind_numbered : ℕ → Option Kind

@@ -1,7 +1,7 @@
 -- The result of mending a component of which some octets are percent-encoded already: RFC 3986,
 -- section 2.4.
 use Rattle.std.specs.Prelude.{ℕ, List, Ok}
-use Rattle.fluent_uri.specs.Sets.{TableSet}
+use Rattle.fluent_uri.specs.Prelude.{TableSet}
 use Rattle.uri_mend.specs.MendedParts.{mended}
 use Rattle.fluent_uri_c.specs.Results.{Returned, rejection_or_result, utf8_error, with_valid_number}
 use Rattle.fluent_uri_c.specs.Sets.{encoding_set}

@@ -3,7 +3,7 @@ use Rattle.std.specs.Prelude.{ℕ, Bool, ◌&&◌, ◌||◌, List, Option, None,
 use Rattle.std.specs.List.{list_any}
 use Rattle.std.specs.Result.{is_ok}
 use Rattle.fluent_uri.specs.Prelude.{Kind, refusal}
-use Rattle.uri_pct.specs.Sets.{is_one_of}
+use Rattle.uri_pct.specs.Prelude.{is_one_of}
 use Rattle.uri_mend.specs.Mending.{can_be_mended, mended_text}
 use Rattle.uri_mend.specs.Trimming.{tab_and_newlines, trimmed_link, without_outer_space}
 use Rattle.fluent_uri_c.specs.declared.errors.Rejection.{Rejection}

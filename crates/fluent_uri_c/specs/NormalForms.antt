@@ -1,6 +1,6 @@
 -- The normal form that a call for C has found or made.
 use Rattle.std.specs.Prelude.{ℕ, List}
-use Rattle.fluent_uri.specs.References.{reference_text}
+use Rattle.fluent_uri.specs.Prelude.{reference_text}
 use Rattle.fluent_uri_c.specs.declared.normal_forms.NormalForm.{NormalForm}
 use Rattle.fluent_uri_c.specs.declared.normal_forms.NormalForm.TheVariants.{Made, Unchanged}
 

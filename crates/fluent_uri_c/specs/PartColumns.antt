@@ -1,6 +1,6 @@
 -- What a batch leaves that parses each text of a column.
 use Rattle.std.specs.Prelude.{◌≡◌, ℕ, ◌<◌, ◌≤◌, List, length, drop, Option, is_some, IsFalse, IsSomeAnd, IsTrue, slice_get}
-use Rattle.fluent_uri.specs.Grammar.{Kind}
+use Rattle.fluent_uri.specs.Prelude.{Kind}
 use Rattle.fluent_uri_c.specs.declared.outcome.Outcome.{Outcome}
 use Rattle.fluent_uri_c.specs.declared.parts.Parts.{Parts}
 use Rattle.fluent_uri_c.specs.Columns.{SaysFullIfFull, TextColumn, are_arguments_valid, count_of, text_in}

@@ -3,7 +3,7 @@ use Rattle.std.specs.Prelude.{◌≡◌, ◌≢◌, ℕ, List, [], ◌∷◌, na
 use Rattle.std.specs.Option.{option_map_or}
 use Rattle.std.specs.Str.{str_to_ascii_lowercase}
 use Rattle.fluent_uri.specs.Prelude.{Kind, components}
-use Rattle.uri_ops.specs.BuilderParts.{is_scheme_text}
+use Rattle.uri_ops.specs.Prelude.{is_scheme_text}
 use Rattle.uri_parts.specs.Prelude.{default_port, port_value}
 use Rattle.fluent_uri_c.specs.Errors.{number_of}
 use Rattle.fluent_uri_c.specs.Spans.{parse_error, port_of}

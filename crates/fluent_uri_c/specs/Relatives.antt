@@ -1,7 +1,7 @@
 -- The reference from a base to a target that a call for C writes: the inverse of RFC 3986, section
 -- 5.2.
 use Rattle.std.specs.Prelude.{ℕ, Bool, List, Ok}
-use Rattle.fluent_uri.specs.Grammar.{Kind}
+use Rattle.fluent_uri.specs.Prelude.{Kind}
 use Rattle.uri_relative.specs.Rule.{reference_to}
 use Rattle.fluent_uri_c.specs.Options.{path_preference}
 use Rattle.fluent_uri_c.specs.Results.{Returned, rejection_or_result, second_text_error, with_base, with_valid_number}

@@ -1,7 +1,7 @@
 -- The components by the numbers of the header, with their characters: RFC 3986, appendix A, and RFC
 -- 3987, section 2.2.
 use Rattle.std.specs.Prelude.{ℕ, ◌==◌, Option, Some, None, if◌then◌else◌}
-use Rattle.fluent_uri.specs.Sets.{TableSet, userinfo_set, reg_name_set, path_set, query_set, fragment_set, data_set, iuserinfo_set, ireg_name_set, ipath_set, iquery_set, ifragment_set}
+use Rattle.fluent_uri.specs.Prelude.{TableSet, data_set, fragment_set, ifragment_set, ipath_set, iquery_set, ireg_name_set, iuserinfo_set, path_set, query_set, reg_name_set, userinfo_set}
 
 -- the set by which the component with a number of the C header is encoded, if there is one
 abbrev pub encoding_set : ℕ → Option TableSet

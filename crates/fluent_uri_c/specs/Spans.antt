@@ -2,7 +2,7 @@
 use Rattle.std.specs.Prelude.{◌≡◌, ◌≢◌, ◌↔◌, ℕ, ◌≤◌, ◌+◌, ◌-◌, ◌^◌, List, Option, Some, None, length, slice_range, option_and_then, option_map, IsSomeAnd}
 use Rattle.fluent_uri.specs.Prelude.{Kind, authority_parts, components}
 use Rattle.fluent_uri.specs.Hosts as Hosts
-use Rattle.uri_parts.specs.Positions.{before_fragment, delimited_length, positions_of}
+use Rattle.uri_parts.specs.Prelude.{before_fragment, delimited_length, positions_of}
 use Rattle.fluent_uri_c.specs.declared.errors.Error.TheVariants.{InvalidArgument}
 use Rattle.fluent_uri_c.specs.declared.errors.Rejection.{Rejection}
 use Rattle.fluent_uri_c.specs.declared.parts.Span.{Span}

@@ -1,5 +1,5 @@
 //! A base of references, which a batch parses once.
-ghost use Rattle.fluent_uri.specs.References.{reference_text};
+ghost use Rattle.fluent_uri.specs.Prelude.{reference_text};
 ghost use Rattle.fluent_uri_c.specs.Results.{IsReturnedAs, IsTargetReturned};
 
 use crate::errors::{Error, Rejection};

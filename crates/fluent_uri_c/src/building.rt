@@ -2,8 +2,8 @@
 ghost use Rattle.std.specs.Prelude.{◌≡◌, [], IfOk, IsSomeAnd, OnOk, Some, codes, option_copied, option_map, string_bytes, true, unwrap_or};
 ghost use Rattle.std.specs.Result.{result_err};
 ghost use Rattle.fluent_uri.specs.Prelude.{absent_or_passes, marked, recompose, recompose_authority, reference_text};
-ghost use Rattle.uri_ops.specs.Built.{build_error_of_path};
-ghost use Rattle.uri_pct.specs.Texts.{Pushes};
+ghost use Rattle.uri_ops.specs.Prelude.{build_error_of_path};
+ghost use Rattle.uri_pct.specs.Prelude.{Pushes};
 ghost use Rattle.fluent_uri_c.specs.Building.{HasGivenComponents, HasValidAuthority, HasValidParts, HasValidTail, parts_rejection, authority_rejection, build_rejection, build_result, built_result, error_of_building, given, given_authority, given_components, given_error, is_absent, missing, tail_rejection, together_rejection};
 ghost use Rattle.fluent_uri_c.specs.Given.{authority_of, components_of};
 ghost use Rattle.fluent_uri_c.specs.Kinds.{kind_numbered};

@@ -1,7 +1,7 @@
 //! The batches that decode and encode components.
 ghost use Rattle.std.specs.Prelude.{◌≡◌, false, IfErr, IfOk, IsOk, option_map, string_bytes};
 ghost use Rattle.std.specs.Result.{result_ok};
-ghost use Rattle.fluent_uri.specs.Cows.{cow_items};
+ghost use Rattle.fluent_uri.specs.Prelude.{cow_items};
 ghost use Rattle.fluent_uri_c.specs.Columns.{LeavesColumn, buffers, call_result_bytes, column32, column64};
 ghost use Rattle.fluent_uri_c.specs.Results.{IsReturnedAs, Returned, is_out_of_memory};
 ghost use Rattle.fluent_uri_c.specs.SingleCalls.{decoding, encoding};

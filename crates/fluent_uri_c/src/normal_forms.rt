@@ -1,6 +1,6 @@
 //! The normal forms of bytes. Most texts are their own: these need no copy.
 ghost use Rattle.std.specs.Prelude.{◌≡◌, IfOk, true};
-ghost use Rattle.fluent_uri.specs.References.{reference_text};
+ghost use Rattle.fluent_uri.specs.Prelude.{reference_text};
 ghost use Rattle.fluent_uri_c.specs.NormalForms.{normal_form_text};
 ghost use Rattle.fluent_uri_c.specs.Results.{IsReturnedAs, normal_form_of, normal_result};
 

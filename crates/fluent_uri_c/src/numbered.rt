@@ -1,7 +1,7 @@
 //! What each call returns for the kind of a number. A value of any kind is one of IRI references
 //! too, so that what follows is compiled once.
 ghost use Rattle.std.specs.Prelude.{◌≡◌, IfOk, IsSomeAnd};
-ghost use Rattle.fluent_uri.specs.References.{reference_text};
+ghost use Rattle.fluent_uri.specs.Prelude.{reference_text};
 ghost use Rattle.uri_mend.specs.Mended.{IsMended};
 ghost use Rattle.uri_mend.specs.Trimming.{trimmed_link};
 ghost use Rattle.uri_relative.specs.Relativized.{IsRelativized};

@@ -1,8 +1,8 @@
 //! The origin of a URI, in ASCII (RFC 6454, sections 4 and 6.2).
 ghost use Rattle.std.specs.Prelude.{◌≡◌, ◌++◌, [], IfOk, OnOk, Some, codes, decimal, option_map, string_bytes};
 ghost use Rattle.fluent_uri.specs.Prelude.{authority_text, components, marked, reference_text};
-ghost use Rattle.uri_parts.specs.Schemes.{scheme_text};
-ghost use Rattle.uri_pct.specs.Texts.{Pushes};
+ghost use Rattle.uri_parts.specs.Prelude.{scheme_text};
+ghost use Rattle.uri_pct.specs.Prelude.{Pushes};
 ghost use Rattle.fluent_uri_c.specs.Origins.{origin_of, origin_of_kind, origin_result};
 ghost use Rattle.fluent_uri_c.specs.Outcomes.{LeavesText};
 ghost use Rattle.fluent_uri_c.specs.Results.{IsReturnedAs};

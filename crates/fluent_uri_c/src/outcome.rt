@@ -1,6 +1,6 @@
 //! What a call leaves in its caller's memory.
 ghost use Rattle.std.specs.Prelude.{◌≡◌, ◌+◌, ◌++◌, ◌≤◌, Bool, drop, length, string_bytes, take};
-ghost use Rattle.fluent_uri.specs.References.{reference_text};
+ghost use Rattle.fluent_uri.specs.Prelude.{reference_text};
 ghost use Rattle.fluent_uri_c.specs.Outcomes.{LeavesText, outcome_of, outcome_of_batch, outcome_of_length, outcome_of_text, written};
 ghost use Rattle.fluent_uri_c.specs.Errors.{number_of};
 ghost use Rattle.fluent_uri_c.specs.Results.{IsReturnedAs, IsReturnedOrDenied, Returned};

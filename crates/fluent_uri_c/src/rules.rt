@@ -2,7 +2,7 @@
 ghost use Rattle.std.specs.Prelude.{◌≡◌, ◌&&◌, ◌||◌, IfOk, IfSome, drop, is_some, length, nat_lt, slice_index, true, ℕ, Bool, List, Option};
 ghost use Rattle.std.specs.Char.{is_ascii_alphabetic};
 ghost use Rattle.std.specs.Result.{result_err};
-ghost use Rattle.uri_ops.specs.BuilderParts.{is_text_for, is_scheme_text};
+ghost use Rattle.uri_ops.specs.Prelude.{is_scheme_text, is_text_for};
 ghost use Rattle.uri_parts.specs.Prelude.{ipv6_value, is_future_address, is_host, is_ipv_future, is_next, starts};
 ghost use Rattle.uri_pct.specs.Prelude.{LacksPercent, TableSet, hexdig_set, is_valid_for, left_bracket, percent_sign, scheme_set, set_of};
 ghost use Rattle.fluent_uri_c.specs.Results.{component_error};

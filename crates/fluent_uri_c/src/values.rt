@@ -1,7 +1,7 @@
 //! The calls on one text, for each kind, that write a value: the text and its parts.
 ghost use Rattle.std.specs.Prelude.{◌≡◌, ◌+◌, ◌++◌, ◌≤◌, Bool, Ok, false, length, true};
 ghost use Rattle.fluent_uri.specs.Prelude.{IsTextOf, reference_text};
-ghost use Rattle.uri_parts.specs.PackedPositions.{ArePackedPositionsOf};
+ghost use Rattle.uri_parts.specs.Prelude.{ArePackedPositionsOf};
 ghost use Rattle.fluent_uri_c.specs.Outcomes.{outcome_of_text, written};
 ghost use Rattle.fluent_uri_c.specs.Results.{normal_form_of, normal_result, normal_target_from, rejection_or_result, resolution, resolution_by, takes_memory_for_target, target_from, text_error};
 ghost use Rattle.fluent_uri_c.specs.Values.{HasPartsFirst, LeavesValue, LeavesValueOrDenied};

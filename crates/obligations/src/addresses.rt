@@ -1,7 +1,7 @@
 //! IP addresses (RFC 3986, section 3.2.2).
 #![tactic(auto)]
 
-ghost use Rattle.fluent_uri.specs.Addresses.{IsSameAddress};
+ghost use Rattle.fluent_uri.specs.Prelude.{IsSameAddress};
 
 use fluent_uri::net::{IpAddr, Ipv4Addr, Ipv6Addr};
 use std::net;

@@ -2,7 +2,7 @@
 #![tactic(auto)]
 
 ghost use Rattle.std.specs.Prelude.{◌∷◌, [], refl};
-ghost use Rattle.fluent_uri.specs.Sets.{characters_only, difference, is_one_of, path_set};
+ghost use Rattle.fluent_uri.specs.Prelude.{characters_only, difference, is_one_of, path_set};
 
 use fluent_uri::pct_enc::Table;
 use fluent_uri::pct_enc::encoder::{Encoder, Path};

@@ -2,7 +2,7 @@
 #![tactic(auto)]
 
 ghost use Rattle.std.specs.Prelude.{◌≡◌, ◌==◌, [], length, string_bytes};
-ghost use Rattle.fluent_uri.specs.EStrings.{owned_text};
+ghost use Rattle.fluent_uri.specs.Prelude.{owned_text};
 
 use fluent_uri::pct_enc::encoder::{Encoder, PathEncoder};
 use fluent_uri::pct_enc::{EStr, EString};

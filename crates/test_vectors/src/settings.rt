@@ -2,8 +2,7 @@
 ghost use Rattle.std.specs.Prelude.{◌==◌, Some, None, true, if◌then◌else◌};
 ghost use Rattle.std.specs.Cmp.Lexicographic.{pointwise};
 ghost use Rattle.std.specs.Option.{option_map_or};
-ghost use Rattle.fluent_uri.specs.Prelude.{lowered_scheme, only_ports};
-ghost use Rattle.fluent_uri.specs.SchemeRules.{rules_with};
+ghost use Rattle.fluent_uri.specs.Prelude.{lowered_scheme, only_ports, rules_with};
 
 use fluent_uri::component::Scheme;
 use fluent_uri::normalize::SchemeRules;

@@ -1,8 +1,8 @@
 -- Where `Resolver` resolves otherwise than the basic algorithm: RFC 3986, sections 5.1 to 5.2.4.
 use Rattle.std.specs.Prelude.{◌≡◌, ℕ, Bool, true, false, not, ◌&&◌, ◌||◌, List, None, bytes_eq, codes, is_none}
 use Rattle.std.specs.List.{list_any}
-use Rattle.uri_pct.specs.Delimiters.{slash}
-use Rattle.uri_parts.specs.Components.{Components, starts}
+use Rattle.uri_pct.specs.Prelude.{slash}
+use Rattle.uri_parts.specs.Prelude.{Components, starts}
 use Rattle.uri_ops.specs.Prelude.{dotted_target, is_dot_segment, is_double_dot, is_empty, is_opaque_rejection, lacks_dot_segments, last_segment, segments}
 use Rattle.uri_basic.specs.Target.{is_ambiguous, target}
 

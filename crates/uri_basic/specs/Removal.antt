@@ -1,8 +1,8 @@
 -- Dot segments of any path: RFC 3986, section 5.2.4, as it is printed.
 use Rattle.std.specs.Prelude.{ℕ, zero, suc, Bool, ◌||◌, List, [], ◌++◌, length, take, drop, codes, bytes_eq, if◌then◌else◌}
-use Rattle.uri_pct.specs.Delimiters.{slash}
-use Rattle.uri_parts.specs.Components.{before_any, from_any, starts}
-use Rattle.uri_ops.specs.Dots.{before_last_slash, is_empty}
+use Rattle.uri_pct.specs.Prelude.{slash}
+use Rattle.uri_parts.specs.Prelude.{before_any, from_any, starts}
+use Rattle.uri_ops.specs.Prelude.{before_last_slash, is_empty}
 
 -- the input buffer and the output buffer of the algorithm (section 5.2.4)
 pub record Buffers : Type 0 where

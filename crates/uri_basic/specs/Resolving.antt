@@ -1,6 +1,6 @@
 -- What a basic resolver holds and returns: RFC 3986, section 5.2.
 use Rattle.std.specs.Prelude.{◌≡◌, Err}
-use Rattle.uri_parts.specs.Components.{Components}
+use Rattle.uri_parts.specs.Prelude.{Components}
 use Rattle.uri_basic.specs.Target.{PathStartsWithDoubleSlash, basic_resolution}
 use Rattle.uri_basic.specs.declared.error.BasicResolveError.{BasicResolveError}
 use Rattle.uri_basic.specs.declared.error.BasicResolveError.TheVariants as Of

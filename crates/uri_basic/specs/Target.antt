@@ -1,9 +1,9 @@
 -- The target of a reference by the basic algorithm: RFC 3986, sections 5.2.2 and 5.2.3, as they are
 -- printed, in the strict form.
 use Rattle.std.specs.Prelude.{ℕ, ◌&&◌, List, ◌++◌, codes, Bool, Result, Ok, Err, is_none, is_some, if◌then◌else◌}
-use Rattle.uri_pct.specs.Delimiters.{slash}
-use Rattle.uri_parts.specs.Components.{Components, components, has_authority, recompose, starts}
-use Rattle.uri_ops.specs.Dots.{is_empty, up_to_last_slash}
+use Rattle.uri_pct.specs.Prelude.{slash}
+use Rattle.uri_parts.specs.Prelude.{Components, components, has_authority, recompose, starts}
+use Rattle.uri_ops.specs.Prelude.{is_empty, up_to_last_slash}
 use Rattle.uri_basic.specs.Removal.{remove_dot_segments}
 
 -- The merged path of a base and a reference's path (section 5.2.3).

@@ -2,7 +2,7 @@
 ghost use Rattle.std.specs.Prelude.{◌≡◌, ◌<◌, ◌≤◌, ◌++◌, ◌-◌, ℕ, List, IfOk, OnOk, bytes_eq, codes, drop, false, length, slice_index, string_bytes, take};
 ghost use Rattle.std.specs.Str.{IsUtf8};
 ghost use Rattle.uri_pct.specs.Prelude.{Pushes, slash};
-ghost use Rattle.uri_ops.specs.Dots.{EndsInSlash, before_last_slash, has_slash, up_to_last_slash};
+ghost use Rattle.uri_ops.specs.Prelude.{EndsInSlash, before_last_slash, has_slash, up_to_last_slash};
 ghost use Rattle.uri_basic.specs.Models.Directories.{IsDirectoryOrNothing, after_segment, parent, path_left};
 ghost use Rattle.uri_basic.specs.Removal.{remove_dot_segments};
 

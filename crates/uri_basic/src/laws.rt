@@ -1,6 +1,6 @@
 //! Laws of the basic algorithm: a call does nothing, and its contract is the law.
 ghost use Rattle.std.specs.Prelude.{◌≡◌, ◌↔◌, ℕ, Bool, List, Err, Ok, is_some, false, true};
-ghost use Rattle.uri_parts.specs.Components.{components, recompose};
+ghost use Rattle.uri_parts.specs.Prelude.{components, recompose};
 ghost use Rattle.uri_ops.specs.Prelude.{lacks_dot_segments, resolution_of_texts};
 ghost use Rattle.uri_basic.specs.Deviations.{NothingDeviates, has_literal_dot_segment, takes_base_path};
 ghost use Rattle.uri_basic.specs.Target.{PathStartsWithDoubleSlash, basic_resolution_of_texts, target};

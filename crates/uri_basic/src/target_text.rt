@@ -1,6 +1,6 @@
 //! The text of a target by the basic algorithm (RFC 3986, sections 5.2.2 and 5.3).
 ghost use Rattle.std.specs.Prelude.{◌≡◌, ◌≤◌, ◌+◌, ◌++◌, ℕ, List, [], IfErr, IfOk, OnOk, Ok, is_some, length, string_bytes};
-ghost use Rattle.uri_pct.specs.Texts.{Pushes};
+ghost use Rattle.uri_pct.specs.Prelude.{Pushes};
 ghost use Rattle.uri_parts.specs.Prelude.{components, core_text, packed, positions_of};
 ghost use Rattle.uri_ops.specs.Prelude.{before_path, components_of, up_to_last_slash};
 ghost use Rattle.uri_basic.specs.Models.Pieces.{ArePlacesToHost, after_path};

@@ -1,6 +1,6 @@
 -- The output of `parse`.
 use Rattle.std.specs.Prelude.{ℕ, List, [], ◌++◌, codes, Option, Some, None}
-use Rattle.fluent_uri.specs.Components.{Components}
+use Rattle.fluent_uri.specs.Prelude.{Components}
 
 -- the line that `uritool parse` prints for a component: its name, `=`, its text and a newline
 abbrev pub line : List ℕ → List ℕ → List ℕ

@@ -1,6 +1,6 @@
 -- The output of `links`.
 use Rattle.std.specs.Prelude.{ℕ, List, [], ◌++◌, codes, decimal, flat_map, slice_get, unwrap_or}
-use Rattle.fluent_uri.specs.RuleSets.{rules_of_set}
+use Rattle.fluent_uri.specs.Prelude.{rules_of_set}
 use Rattle.fluent_uri.specs.declared.normalize.RuleSet.{RuleSet}
 use Rattle.uri_links.specs.Outcomes.{outcomes_of}
 use Rattle.uri_links.specs.declared.links.Outcome.{Outcome}

@@ -1,6 +1,6 @@
 -- The links that `mend` of the programs writes.
 use Rattle.std.specs.Prelude.{ℕ, List, if◌then◌else◌}
-use Rattle.fluent_uri.specs.Grammar.{Kind}
+use Rattle.fluent_uri.specs.Prelude.{Kind}
 use Rattle.uri_mend.specs.Mending.{can_be_mended, mended_text}
 use Rattle.uri_mend.specs.Trimming.{trimmed_link}
 

@@ -1,6 +1,6 @@
 -- The messages for a text that is not of its kind, and for a reference that has no target.
 use Rattle.std.specs.Prelude.{ℕ, List, [], ◌++◌, Option, Some, None, codes, decimal}
-use Rattle.fluent_uri.specs.Errors.{error_index, error_kind_of}
+use Rattle.fluent_uri.specs.Prelude.{error_index, error_kind_of}
 use Rattle.fluent_uri.specs.declared.ParseError.{ParseError}
 use Rattle.fluent_uri.specs.declared.ParseErrorKind.{ParseErrorKind}
 use Rattle.fluent_uri.specs.declared.ParseErrorKind.TheVariants.{InvalidPctEncodedOctet, UnexpectedChar, InvalidIpv6Addr}

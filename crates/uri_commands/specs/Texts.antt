@@ -1,6 +1,6 @@
 -- `Texts` as contracts see it: components.
 use Rattle.std.specs.Prelude.{option_map}
-use Rattle.fluent_uri.specs.Components.{Components}
+use Rattle.fluent_uri.specs.Prelude.{Components}
 use Rattle.uri_commands.specs.declared.lines.Texts.{Texts}
 
 -- the components of a text of `uritool parse`, as bytes, that `Texts` borrows from it

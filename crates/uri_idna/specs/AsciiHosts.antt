@@ -6,7 +6,7 @@ use Rattle.idna.specs.Uts46.{to_ascii}
 use Rattle.idna.specs.declared.deny_list.TheConstants.AsciiDenyList.{STD3}
 use Rattle.idna.specs.declared.options.Hyphens.TheVariants.{CheckFirstLast}
 use Rattle.idna.specs.declared.options.DnsLength.TheVariants.{VerifyAllowRootDot}
-use Rattle.uri_pct.specs.Texts.{is_unencoded}
+use Rattle.uri_pct.specs.Prelude.{is_unencoded}
 use Rattle.uri_parts.specs.Prelude.{HostKind, Ipv4, Ipv6, IpvFuture, RegName, host_kind, name_bytes}
 use Rattle.uri_idna.specs.declared.error.AsciiHostError.{AsciiHostError}
 use Rattle.uri_idna.specs.declared.error.AsciiHostError.TheVariants.{InvalidName, NameNotUtf8, OutOfMemory}

@@ -1,9 +1,9 @@
 //! References with their hosts in ASCII (RFC 3987, section 3.1).
 ghost use Rattle.std.specs.Prelude.{◌≡◌, [], IfErr, IfOk, IsSomeAnd, None, OnOk, Some, codes, option_copied, option_map, string_bytes};
-ghost use Rattle.uri_pct.specs.Texts.{Pushes};
+ghost use Rattle.uri_pct.specs.Prelude.{Pushes};
 ghost use Rattle.uri_parts.specs.Prelude.{authority_parts, authority_text, components, core_text, marked, recompose};
-ghost use Rattle.uri_ops.specs.Encoded.{encode_past_ascii};
-ghost use Rattle.fluent_uri.specs.References.{reference_text};
+ghost use Rattle.uri_ops.specs.Prelude.{encode_past_ascii};
+ghost use Rattle.fluent_uri.specs.Prelude.{reference_text};
 ghost use Rattle.uri_idna.specs.AsciiHosts.{ascii_host};
 ghost use Rattle.uri_idna.specs.AsciiReferences.{HasAsciiHost, IsAsciiHostErrorOf, with_ascii_host, with_authority, with_host};
 

@@ -3,7 +3,7 @@ use Rattle.std.specs.Prelude.{◌≡◌, ℕ, List, drop, take, true}
 use Rattle.std.specs.Str.{IsCharBoundary}
 use Rattle.uri_parts.specs.Prelude.{packed, positions_of}
 use Rattle.uri_parts.specs.declared.packed_positions.PackedPositions.{PackedPositions}
-use Rattle.uri_ops.specs.Models.Places.{before_path}
+use Rattle.uri_ops.specs.Prelude.{before_path}
 use Rattle.uri_mend.specs.Mending.{link_components}
 use Rattle.uri_mend.specs.Tails.{IsMendedByPieces, IsPathMendedByPieces, query_of_tail}
 use Rattle.uri_mend.specs.declared.link.Link.{Link}

@@ -4,7 +4,7 @@ use Rattle.std.specs.Char.{is_ascii_hexdigit}
 use Rattle.std.specs.List.{list_all}
 use Rattle.std.specs.Str.{IsCharBoundary}
 use Rattle.uri_pct.specs.Prelude.{Octet, TableSet, has_bit, is_one_of, percent_sign, print, valid_prefix}
-use Rattle.uri_parts.specs.Components.{before_any, from_any}
+use Rattle.uri_parts.specs.Prelude.{before_any, from_any}
 use Rattle.uri_mend.specs.declared.component.Progress.{Progress}
 use Rattle.uri_mend.specs.declared.component.TheConstants.{NEVER_HIGH, NEVER_LOW}
 use Rattle.uri_mend.specs.MendedParts.{mended}

@@ -3,7 +3,7 @@ use Rattle.std.specs.Prelude.{◌≡◌, ◌⊎◌, ℕ, List, true, false, Some
 use Rattle.std.specs.List.{list_any}
 use Rattle.uri_parts.specs.Prelude.{Kind, refusal}
 use Rattle.uri_mend.specs.Mending.{can_be_mended}
-use Rattle.uri_pct.specs.Sets.{is_one_of}
+use Rattle.uri_pct.specs.Prelude.{is_one_of}
 use Rattle.uri_mend.specs.Trimming.{tab_and_newlines, trimmed_link, without_outer_space}
 use Rattle.uri_mend.specs.declared.error.MendError.{MendError}
 use Rattle.uri_mend.specs.declared.error.MendError.TheVariants.{Unmendable, OutOfMemory}

@@ -2,7 +2,7 @@
 use Rattle.std.specs.Prelude.{◌≡◌, ℕ, Bool, List, [], ◌∷◌, ◌++◌, codes, drop, option_map, Option, if◌then◌else◌}
 use Rattle.uri_pct.specs.Prelude.{TableSet, number_sign, question_mark}
 use Rattle.uri_parts.specs.Prelude.{Kind, after_query, before_any, from_any, marked, starts, when}
-use Rattle.uri_ops.specs.ComponentSets.{HasComponentSets}
+use Rattle.uri_ops.specs.Prelude.{HasComponentSets}
 use Rattle.uri_mend.specs.MendedParts.{mended}
 use Rattle.uri_mend.specs.Mending.{mended_text}
 

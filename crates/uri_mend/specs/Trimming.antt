@@ -3,7 +3,7 @@
 use Rattle.std.specs.Prelude.{ℕ, ◌-◌, not, List, [], ◌∷◌, drop, length, take}
 use Rattle.std.specs.Char.{is_ascii_whitespace}
 use Rattle.std.specs.List.{filter, prefix_len, suffix_len}
-use Rattle.uri_pct.specs.Sets.{is_one_of}
+use Rattle.uri_pct.specs.Prelude.{is_one_of}
 
 -- the characters that are dropped wherever they are: tab, LF and CR
 abbrev pub tab_and_newlines : List ℕ

@@ -4,7 +4,7 @@ ghost use Rattle.std.specs.List.{flat_map};
 ghost use Rattle.std.specs.Str.{IsUtf8};
 ghost use Rattle.uri_pct.specs.Prelude.{LacksPercent, TableSet, tokens};
 ghost use Rattle.uri_parts.specs.Prelude.{IsOfKind, Kind, components};
-ghost use Rattle.uri_ops.specs.Encoded.{ascii_kind, encode_past_ascii};
+ghost use Rattle.uri_ops.specs.Prelude.{ascii_kind, encode_past_ascii};
 ghost use Rattle.uri_mend.specs.MendedParts.{mend_token, mended};
 ghost use Rattle.uri_mend.specs.Mending.{can_be_mended, link_components, mended_text};
 

@@ -2,9 +2,9 @@
 ghost use Rattle.std.specs.Prelude.{◌≡◌, ◌++◌, ◌-◌, ◌<◌, ◌≤◌, [], IfSome, codes, false, is_some, length, not, take, true};
 ghost use Rattle.std.specs.List.{list_any};
 ghost use Rattle.std.specs.Str.{IsCharBoundary};
-ghost use Rattle.uri_pct.specs.Sets.{is_one_of};
+ghost use Rattle.uri_pct.specs.Prelude.{is_one_of};
 ghost use Rattle.uri_parts.specs.Prelude.{ArePackedPositionsOf, IsOfKind, Kind, after_authority, after_scheme};
-ghost use Rattle.uri_ops.specs.Models.Places.{before_path};
+ghost use Rattle.uri_ops.specs.Prelude.{before_path};
 ghost use Rattle.uri_mend.specs.Links.{IsLink};
 ghost use Rattle.uri_mend.specs.Mending.{can_be_mended, has_false_scheme, link_components};
 ghost use Rattle.uri_mend.specs.Tails.{IsMendedByPieces, IsPathMendedByPieces, query_of_tail};

@@ -2,7 +2,7 @@
 ghost use Rattle.std.specs.Prelude.{◌≡◌, ◌+◌, ◌*◌, ◌/◌, ◌%◌, ◌≤◌, ◌++◌, IfOk, List, drop, length, map, take, true, ℕ};
 ghost use Rattle.std.specs.Fmt.{digit_glyph};
 ghost use Rattle.std.specs.Simd.Lanes.{chunk};
-ghost use Rattle.uri_pct.specs.Tokens.{Octet, print, text_of_token};
+ghost use Rattle.uri_pct.specs.Prelude.{Octet, print, text_of_token};
 
 use crate::buffer::make_room;
 use std::alloc::AllocError;

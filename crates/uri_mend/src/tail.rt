@@ -2,7 +2,7 @@
 ghost use Rattle.std.specs.Prelude.{◌≡◌, ◌+◌, ◌-◌, ◌<◌, ◌≤◌, ◌++◌, ◌∷◌, [], IfOk, IfSome, List, codes, drop, false, is_some, length, true, ℕ};
 ghost use Rattle.std.specs.Str.{IsCharBoundary};
 ghost use Rattle.uri_pct.specs.Prelude.{has_bit, set_of};
-ghost use Rattle.uri_parts.specs.Components.{from_any, starts};
+ghost use Rattle.uri_parts.specs.Prelude.{from_any, starts};
 ghost use Rattle.uri_mend.specs.Progress.{IsProgress, are_marks, mended_so_far};
 ghost use Rattle.uri_mend.specs.Tails.{after_marked, mended_marked, mended_path, mended_query, mended_tail};
 ghost use Rattle.uri_mend.specs.declared.component.TheConstants.{NEVER_HIGH, NEVER_LOW};

@@ -6,7 +6,7 @@ use Rattle.uri_ops.specs.declared.build.error.BuildError.{BuildError}
 use Rattle.uri_ops.specs.declared.build.error.BuildError.TheVariants.{FirstPathSegmentContainsColon, NonemptyRootlessPath, PathStartsWithDoubleSlash}
 use Rattle.uri_ops.specs.BuilderParts.{BuilderParts, as_components, parts_text}
 use Rattle.uri_ops.specs.Dots.{is_empty}
-use Rattle.uri_pct.specs.Delimiters.{slash}
+use Rattle.uri_pct.specs.Prelude.{slash}
 
 -- Why a builder rejects a path, if it does; the Bools are whether it has a scheme, and an
 -- authority.

@@ -3,7 +3,7 @@
 use Rattle.std.specs.Prelude.{◌≡◌, true, false, List, ℕ, codes}
 use Rattle.std.specs.List.{list_any}
 use Rattle.uri_pct.specs.Prelude.{IsSubset, LacksPercent, TableSet, slash, unreserved_set}
-use Rattle.uri_parts.specs.Grammar.{Kind}
+use Rattle.uri_parts.specs.Prelude.{Kind}
 
 -- what laws of normal forms ask of a component's set: it has the unreserved characters and
 -- percent-encoded octets, and neither `%` by itself nor one of the marks, which end the component

@@ -2,8 +2,8 @@
 -- percent-encoded too.
 use Rattle.std.specs.Prelude.{◌≡◌, ℕ, zero, suc, ◌+◌, Bool, true, false, not, ◌||◌, ◌==◌, List, [], ◌∷◌, ◌++◌, length, drop, codes, bytes_eq, IsTrue, if◌then◌else◌}
 use Rattle.std.specs.List.{list_all, list_any, slice_split}
-use Rattle.uri_parts.specs.Components.{starts, before_any, from_any}
-use Rattle.uri_pct.specs.Delimiters.{slash}
+use Rattle.uri_parts.specs.Prelude.{before_any, from_any, starts}
+use Rattle.uri_pct.specs.Prelude.{slash}
 
 -- The forms of a dot in a dot segment: `.`, `%2E` and `%2e`.
 -- Not in the RFC: section 5.2.4 names `.` alone. `%2E` is equivalent to it (section 6.2.2.2).

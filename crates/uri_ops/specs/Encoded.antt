@@ -2,7 +2,7 @@
 use Rattle.std.specs.Prelude.{◌≡◌, ℕ, nat_lt, List, [], ◌∷◌, false, if◌then◌else◌}
 use Rattle.std.specs.List.{flat_map}
 use Rattle.uri_pct.specs.Prelude.{Octet, TableSet, text_of_token}
-use Rattle.uri_parts.specs.Grammar.{Kind}
+use Rattle.uri_parts.specs.Prelude.{Kind}
 use Rattle.uri_ops.specs.Meaning.{bare_meaning_of}
 
 -- a byte of an IRI in its URI: one past ASCII is percent-encoded with upper-case digits, any other

@@ -1,7 +1,7 @@
 -- What a builder writes as the host of an authority: RFC 3986, section 3.2.2.
 use Rattle.std.specs.Prelude.{ℕ, List}
 use Rattle.std.specs.Str.{IsUtf8}
-use Rattle.uri_pct.specs.Sets.{TableSet}
+use Rattle.uri_pct.specs.Prelude.{TableSet}
 use Rattle.std.specs.Net.Text.{ipv4_text, ipv6_text}
 use Rattle.uri_parts.specs.Prelude.{HostKind, IsHost, bracketed, ipv4_octets, ipv6_segments}
 use Rattle.uri_parts.specs.declared.net.IpAddr.{IpAddr}

@@ -4,8 +4,8 @@ pub use Rattle.uri_ops.specs.BuilderStates.{contents_of, parts_in_state}
 pub use Rattle.uri_ops.specs.Built.{build_error_of_path}
 pub use Rattle.uri_ops.specs.ComponentSets.{HasComponentSets, IsComponentSet}
 pub use Rattle.uri_ops.specs.Conversions.{Converts, ConvertsOwned, missing_scheme_error, not_ascii_error, uri_conversion_error}
-pub use Rattle.uri_ops.specs.Dots.{EndsInSlash, IsAbsolute, is_dot_segment, is_double_dot, is_empty, lacks_dot_segments, last_segment, or_slash, remove_dot_segments, segments, underflows, up_to_last_slash}
-pub use Rattle.uri_ops.specs.Encoded.{AreEquivalent, encode_past_ascii}
+pub use Rattle.uri_ops.specs.Dots.{EndsInSlash, IsAbsolute, before_last_slash, has_slash, is_dot_segment, is_double_dot, is_empty, lacks_dot_segments, last_segment, or_slash, remove_dot_segments, segments, underflows, up_to_last_slash}
+pub use Rattle.uri_ops.specs.Encoded.{AreEquivalent, ascii_kind, encode_past_ascii}
 pub use Rattle.uri_ops.specs.Models.Places.{before_path}
 pub use Rattle.uri_ops.specs.Normal.{normal_text}
 pub use Rattle.uri_ops.specs.NormalTargets.{reference_kind, resolved_meaning}

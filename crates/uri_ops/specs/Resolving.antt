@@ -1,6 +1,6 @@
 -- What a resolver holds and returns: RFC 3986, section 5.2.
 use Rattle.std.specs.Prelude.{Bool, ◌≡◌, ℕ, true, false, List, Ok, Err, is_ok}
-use Rattle.uri_parts.specs.Components.{Components, components}
+use Rattle.uri_parts.specs.Prelude.{Components, components}
 use Rattle.uri_ops.specs.declared.resolve.Resolver.{Resolver}
 use Rattle.uri_ops.specs.declared.resolve.text_view.TextView.{TextView}
 use Rattle.uri_ops.specs.declared.resolve.error.ResolveError.{ResolveError}

@@ -2,7 +2,7 @@
 use Rattle.std.specs.Prelude.{Bool, false, ◌==◌, ◌&&◌, List, bytes_eq}
 use Rattle.std.specs.Cmp.Lexicographic.{pointwise}
 use Rattle.std.specs.Option.{option_eq}
-use Rattle.uri_pct.specs.Tokens.{Token, Char, Octet}
+use Rattle.uri_pct.specs.Prelude.{Char, Octet, Token}
 use Rattle.uri_ops.specs.Meaning.{HostMeaning, Address, FutureAddress, Name, AuthorityMeaning, Meaning}
 
 -- whether two tokens of meanings are equal: both literal or both percent-encoded, and of one code

@@ -1,7 +1,7 @@
 -- The rules that the registered documents of schemes give: RFC 3986, section 6.2.3.
 use Rattle.std.specs.Prelude.{ℕ, Bool, List, [], ◌∷◌, codes, bytes_eq}
 use Rattle.std.specs.List.{list_any}
-use Rattle.uri_parts.specs.SchemePorts.{default_port}
+use Rattle.uri_parts.specs.Prelude.{default_port}
 use Rattle.uri_ops.specs.SchemeRules.{Rules, rules_with}
 
 -- the schemes, in lower case, under which an empty path after an authority is equivalent to `/`:

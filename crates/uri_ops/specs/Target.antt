@@ -1,9 +1,9 @@
 -- The target of a reference: RFC 3986, section 5.2.2 in its strict form. Where it differs from the
 -- RFC, a line says so.
 use Rattle.std.specs.Prelude.{ℕ, Bool, not, ◌&&◌, ◌||◌, List, ◌++◌, codes, Option, Result, Ok, Err, is_some, is_none, if◌then◌else◌}
-use Rattle.uri_parts.specs.Components.{Components, components, starts, has_authority, recompose}
+use Rattle.uri_parts.specs.Prelude.{Components, components, has_authority, recompose, starts}
 use Rattle.uri_ops.specs.Dots.{is_empty, remove_dot_segments, underflows, directory}
-use Rattle.uri_pct.specs.Delimiters.{slash}
+use Rattle.uri_pct.specs.Prelude.{slash}
 
 -- why a reference has no target against a base (sections 5.1 and 5.2)
 pub data TargetError : Type 0 where

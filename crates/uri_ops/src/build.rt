@@ -1,7 +1,7 @@
 //! Building references (RFC 3986, section 5.3).
 ghost use Rattle.std.specs.Prelude.{◌≡◌, ◌↔◌, IfOk, IsOk, MatchOption, Some, [], false, true};
 ghost use Rattle.std.specs.Result.{result_err};
-ghost use Rattle.uri_pct.specs.EncodedTexts.{text_of};
+ghost use Rattle.uri_pct.specs.Prelude.{text_of};
 ghost use Rattle.uri_parts.specs.Prelude.{authority_text, scheme_text};
 ghost use Rattle.uri_ops.specs.BuilderParts.{AddsOrFails, MeetsOrFailed, no_parts, parts_text, with_authority, with_fragment, with_host, with_path, with_port, with_port_unless_default, with_query, with_scheme, with_userinfo};
 ghost use Rattle.uri_ops.specs.BuilderStates.{contents_of, parts_in_state};

@@ -2,7 +2,7 @@
 ghost use Rattle.std.specs.Prelude.{◌≡◌};
 ghost use Rattle.std.specs.List.{list_any};
 ghost use Rattle.std.specs.Str.{str_eq_ignore_ascii_case};
-ghost use Rattle.uri_parts.specs.Schemes.{lowered_scheme};
+ghost use Rattle.uri_parts.specs.Prelude.{lowered_scheme};
 ghost use Rattle.uri_ops.specs.SchemeRules.{Rules, default_rules};
 ghost use Rattle.uri_ops.specs.StandardRules.{standard_rules};
 

@@ -2,7 +2,7 @@
 ghost use Rattle.std.specs.Prelude.{◌≡◌, false, option_map, string_bytes, ℕ, List, true};
 ghost use Rattle.uri_parts.specs.Prelude.{ArePackedPositionsOf, IsOfKind, core_text, authority_text, components, scheme_text};
 ghost use Rattle.uri_ops.specs.ComponentSets.{HasComponentSets};
-ghost use Rattle.uri_pct.specs.EncodedTexts.{text_of};
+ghost use Rattle.uri_pct.specs.Prelude.{text_of};
 
 use uri_parts::component::{Authority, Scheme};
 use uri_parts::core_text::Core;

@@ -1,7 +1,7 @@
 -- The normal forms that are compared, and when values are equivalent: RFC 3986, sections 6.2.2 and
 -- 6.2.3.
 use Rattle.std.specs.Prelude.{◌≡◌, ℕ, List}
-use Rattle.uri_parts.specs.Grammar.{Kind}
+use Rattle.uri_parts.specs.Prelude.{Kind}
 use Rattle.uri_ops.specs.Prelude.{Rules, meaning_under, normal_text}
 
 -- the normal form of a text of the kind under the rules of schemes: the text that normalising it by

@@ -1,7 +1,7 @@
 //! A law of the order of normal forms: the contract of a function that does nothing.
 ghost use Rattle.std.specs.Prelude.{◌≡◌, ◌↔◌, ℕ, List};
 ghost use Rattle.std.specs.declared.cmp.Ordering.TheVariants.{Equal};
-ghost use Rattle.uri_parts.specs.Grammar.{IsTextOf, Kind};
+ghost use Rattle.uri_parts.specs.Prelude.{IsTextOf, Kind};
 ghost use Rattle.uri_ops.specs.Prelude.{HasComponentSets, Rules};
 ghost use Rattle.uri_order.specs.NormalForms.{AreEquivalent, normal_form};
 ghost use Rattle.uri_order.specs.TotalOrders.{IsTotalOrderBy, order_by};

@@ -1,7 +1,7 @@
 -- What an `Authority` holds, and which host a `HostOf` is: RFC 3986, sections 3.2 and 3.2.2.
 use Rattle.std.specs.Prelude.{ℕ, List, ◌≡◌, ⊤}
 use Rattle.uri_pct.specs.declared.pct_enc.EStr.{EStr}
-use Rattle.uri_pct.specs.EncodedTexts.{text_of}
+use Rattle.uri_pct.specs.Prelude.{text_of}
 use Rattle.uri_parts.specs.declared.component.Authority.{Authority}
 use Rattle.uri_parts.specs.declared.component.HostOf.{HostOf}
 use Rattle.uri_parts.specs.Addresses.{ipv4_octets, ipv6_segments}

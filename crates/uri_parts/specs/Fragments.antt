@@ -1,6 +1,6 @@
 -- A text with another fragment: RFC 3986, sections 3.5 and 5.3.
 use Rattle.std.specs.Prelude.{◌≡◌, ℕ, List, [], ◌++◌, codes, Option}
-use Rattle.uri_pct.specs.Sets.{TableSet}
+use Rattle.uri_pct.specs.Prelude.{TableSet}
 use Rattle.uri_parts.specs.Components.{components, before_any, marked}
 use Rattle.uri_parts.specs.Grammar.{Kind, IsOfKind}
 

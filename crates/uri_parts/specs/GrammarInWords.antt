@@ -1,7 +1,7 @@
 -- Which texts are of a kind, in the words of the RFCs: RFC 3986, sections 3, 3.3 and 4.2, and
 -- RFC 3987, section 2.2.
 use Rattle.std.specs.Prelude.{◌≡◌, ℕ, true, false, ◌⊎◌, List, IfSome, IsSome}
-use Rattle.uri_pct.specs.Tokens.{IsValidFor}
+use Rattle.uri_pct.specs.Prelude.{IsValidFor}
 use Rattle.uri_parts.specs.Authority.{AuthorityParts, IsAuthorityFor}
 use Rattle.uri_parts.specs.Components.{Components, IsSplitOf}
 use Rattle.uri_parts.specs.Grammar.{Kind, is_scheme, has_colon_in_first_segment}

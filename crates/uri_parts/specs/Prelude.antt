@@ -13,9 +13,9 @@ pub use Rattle.uri_parts.specs.Hosts.{HostKind, Ipv4, Ipv6, IpvFuture, IsHost, R
 pub use Rattle.uri_parts.specs.LiteralErrors.{ipv6_end, literal}
 pub use Rattle.uri_parts.specs.PackedPositions.{ArePackedPositionsOf, packed}
 pub use Rattle.uri_parts.specs.Ports.{PortFunction, is_default, no_defaults, port_number, port_value}
-pub use Rattle.uri_parts.specs.Positions.{ArePositionsOf, authority_at, delimited_length, host_end_of, positions_of}
+pub use Rattle.uri_parts.specs.Positions.{ArePositionsOf, authority_at, before_fragment, delimited_length, host_end_of, host_start_of, positions_of}
 pub use Rattle.uri_parts.specs.Printing.{debug_reference}
 pub use Rattle.uri_parts.specs.Refusals.{OptionalParseError, refusal, ◌>>=◌}
 pub use Rattle.uri_parts.specs.Scanning.{ScanResult, is_at_end, is_next, scan, scan_end}
 pub use Rattle.uri_parts.specs.SchemePorts.{default_port}
-pub use Rattle.uri_parts.specs.Schemes.{scheme_text}
+pub use Rattle.uri_parts.specs.Schemes.{lowered_scheme, scheme_text}

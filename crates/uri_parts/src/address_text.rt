@@ -4,7 +4,7 @@
 ghost use Rattle.std.specs.Prelude.{◌≡◌, ◌+◌, ◌*◌, ◌<◌, ◌≤◌, ◌∷◌, ◌++◌, [], IsUtf8, OnOk, codes, decimal, length, take, if◌then◌else◌};
 ghost use Rattle.std.specs.Char.{digit_char};
 ghost use Rattle.std.specs.Net.Text as addresses;
-ghost use Rattle.uri_pct.specs.Texts.{Pushes};
+ghost use Rattle.uri_pct.specs.Prelude.{Pushes};
 ghost use Rattle.uri_parts.specs.Addresses.{ipv6_segments};
 ghost use Rattle.uri_parts.specs.Hosts.{bracketed};
 

@@ -3,7 +3,7 @@ ghost use Rattle.std.specs.Prelude.{◌≡◌, [], is_some, option_map, true, �
 ghost use Rattle.uri_parts.specs.Authority.{authority_parts, is_authority_for};
 ghost use Rattle.uri_parts.specs.Hosts.{host_kind};
 ghost use Rattle.uri_parts.specs.Positions.{host_start_of, host_end_of};
-ghost use Rattle.uri_pct.specs.EncodedTexts.{text_of};
+ghost use Rattle.uri_pct.specs.Prelude.{text_of};
 ghost use Rattle.std.specs.Fmt.{styled_text};
 
 pub use crate::connect::{SocketError, SocketTarget};

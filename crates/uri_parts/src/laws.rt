@@ -5,7 +5,7 @@ ghost use Rattle.std.specs.Ordering.{nat_cmp};
 ghost use Rattle.std.specs.declared.cmp.Ordering.TheVariants.{Less, Greater};
 ghost use Rattle.std.specs.Str.{IsUtf8};
 ghost use Rattle.std.specs.Net.Text.{ipv4_text, ipv6_text};
-ghost use Rattle.uri_pct.specs.Sets.{TableSet, userinfo_set, reg_name_set};
+ghost use Rattle.uri_pct.specs.Prelude.{TableSet, reg_name_set, userinfo_set};
 ghost use Rattle.uri_parts.specs.Addresses.{ipv4_octets, ipv6_segments};
 ghost use Rattle.uri_parts.specs.Authority.{AuthorityParts, IsAuthorityFor, LackAuthorityDelimiters, authority_parts, is_authority_for};
 ghost use Rattle.uri_parts.specs.Components.{Components, IsSplitOf, components, recompose};

@@ -1,7 +1,7 @@
 //! Texts that are cut at ASCII characters.
 ghost use Rattle.std.specs.Prelude.{◌≡◌, ◌<◌, IfSome, IsTrue, is_some, nat_lt, not, drop};
 ghost use Rattle.std.specs.List.{list_all, prefix_len};
-ghost use Rattle.uri_pct.specs.Sets.{is_one_of};
+ghost use Rattle.uri_pct.specs.Prelude.{is_one_of};
 ghost use Rattle.uri_parts.specs.Components.{starts, before_any, from_any};
 
 /// Returns whether a byte is one of the marks, such as the `]` after an address in a host.

@@ -1,6 +1,6 @@
 -- Where the pairs of a query are: RFC 3986, section 3.4.
 use Rattle.std.specs.Prelude.{◌≡◌, ℕ, ◌+◌, ◌<◌, ◌≤◌, List, ◌∷◌, Option, Some, None, drop, length, nat_lt, slice_range, if◌then◌else◌}
-use Rattle.fluent_uri.specs.Texts.{lacks}
+use Rattle.fluent_uri.specs.Prelude.{lacks}
 use Rattle.uri_query.specs.Pairs.{equals_sign, nonempty_substrings, text_after_equals, text_before_equals}
 use Rattle.uri_query.specs.declared.places.PairPlace.{PairPlace}
 

@@ -1,6 +1,6 @@
 -- The forms of references: RFC 3986, section 4.2.
 use Rattle.std.specs.Prelude.{◌≡◌, ◌≢◌, ◌≤◌, ℕ, Bool, true, false, List, [], ◌++◌, codes, length, None, ◌==◌, ◌&&◌, if◌then◌else◌, is_none, is_some, slice_index}
-use Rattle.uri_pct.specs.Delimiters.{full_stop, slash}
+use Rattle.uri_pct.specs.Prelude.{full_stop, slash}
 use Rattle.uri_parts.specs.Prelude.{Components, IsSplitOf, Kind, components_meet_rules, marked, positions_of, recompose, starts}
 use Rattle.uri_parts.specs.declared.positions.Positions.{Positions}
 use Rattle.uri_ops.specs.Prelude.{HasComponentSets, IsAbsolute, guarded, is_opaque, is_opaque_rejection, lacks_dot_segments, reference_kind, target_of, target_underflows, with_final_path}

@@ -1,7 +1,7 @@
 -- What a reference that leads from a base to a target is: the inverse of RFC 3986, section 5.2.
 use Rattle.std.specs.Prelude.{◌≡◌, ◌≢◌, ◌≤◌, ℕ, Bool, false, not, ◌&&◌, ◌||◌, List, length, None, Ok, is_some, is_none}
-use Rattle.uri_pct.specs.Delimiters.{slash}
-use Rattle.uri_parts.specs.Components.{Components, components, recompose, starts}
+use Rattle.uri_pct.specs.Prelude.{slash}
+use Rattle.uri_parts.specs.Prelude.{Components, components, recompose, starts}
 use Rattle.uri_ops.specs.Prelude.{is_empty, is_opaque, resolution_of, resolution_of_texts, target_underflows, with_final_path}
 
 -- the components of the base that a reference leads from: without its fragment, of which a base is

@@ -2,8 +2,8 @@
 -- 5.2.
 use Rattle.std.specs.Prelude.{ℕ, suc, Bool, not, ◌&&◌, ◌||◌, ◌==◌, List, [], ◌∷◌, length, None, bytes_eq, if◌then◌else◌, is_some, nat_le, nat_lt}
 use Rattle.std.specs.Option.{option_eq}
-use Rattle.uri_pct.specs.Delimiters.{slash}
-use Rattle.uri_parts.specs.Components.{Components, components, recompose, starts}
+use Rattle.uri_pct.specs.Prelude.{slash}
+use Rattle.uri_parts.specs.Prelude.{Components, components, recompose, starts}
 use Rattle.uri_ops.specs.Prelude.{guarded, is_opaque, lacks_dot_segments, or_slash, remove_dot_segments}
 use Rattle.uri_relative.specs.Forms.{from_authority}
 use Rattle.uri_relative.specs.Leading.{settled}

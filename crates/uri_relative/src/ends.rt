@@ -1,7 +1,7 @@
 //! The suffixes of a target's text that may be references to it (RFC 3986, section 4.2).
 ghost use Rattle.std.specs.Prelude.{◌≡◌, [], None};
 ghost use Rattle.uri_parts.specs.Prelude.{positions_of, recompose};
-ghost use Rattle.uri_ops.specs.Resolving.{components_of};
+ghost use Rattle.uri_ops.specs.Prelude.{components_of};
 ghost use Rattle.uri_relative.specs.Forms.{from_authority};
 
 use crate::pieces::after_scheme;

@@ -1,7 +1,7 @@
 //! Laws of the definitions that contracts cite: a call does nothing, and its contract is the law.
 ghost use Rattle.std.specs.Prelude.{◌≡◌, ℕ, List, Ok, false, is_some, true};
-ghost use Rattle.uri_parts.specs.Components.{components, recompose};
-ghost use Rattle.uri_ops.specs.Target.{is_opaque, resolution_of_texts};
+ghost use Rattle.uri_parts.specs.Prelude.{components, recompose};
+ghost use Rattle.uri_ops.specs.Prelude.{is_opaque, resolution_of_texts};
 ghost use Rattle.uri_relative.specs.Leading.{LeadsTo, NeedsSchemeOrAuthority, needs_authority, settled};
 
 /// If a target was resolved against a base, every reference that leads from the base to it resolves

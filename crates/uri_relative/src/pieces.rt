@@ -1,7 +1,7 @@
 //! Components of a text with their delimiters, and comparisons of two texts' components (RFC 3986,
 //! section 4.2).
 ghost use Rattle.std.specs.Prelude.{◌≡◌, ◌↔◌, option_map, true};
-ghost use Rattle.uri_ops.specs.Resolving.{components_of};
+ghost use Rattle.uri_ops.specs.Prelude.{components_of};
 ghost use Rattle.uri_relative.specs.Forms.{after_scheme};
 
 use uri_ops::resolve::text_view::TextView;

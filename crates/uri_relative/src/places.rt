@@ -2,7 +2,7 @@
 //! 3986, section 4.2).
 ghost use Rattle.std.specs.Prelude.{◌≡◌, ◌≤◌, ◌+◌, ◌-◌, ◌^◌, ℕ, List, [], IfSome, None, length, option_map};
 ghost use Rattle.uri_parts.specs.Prelude.{Components, authority_at, delimited_length, positions_of};
-ghost use Rattle.uri_ops.specs.Resolving.{components_of};
+ghost use Rattle.uri_ops.specs.Prelude.{components_of};
 
 use uri_ops::resolve::text_view::TextView;
 use uri_parts::positions::{AuthorityPositions, Positions};

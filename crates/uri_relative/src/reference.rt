@@ -2,7 +2,7 @@
 ghost use Rattle.std.specs.Prelude.{◌≡◌, Bool, IfOk, IfSome, IsNone, OnOk, false, true};
 ghost use Rattle.uri_pct.specs.Prelude.{Pushes, slash};
 ghost use Rattle.uri_parts.specs.Prelude.{Components, positions_of, recompose, starts};
-ghost use Rattle.uri_ops.specs.Resolving.{components_of, with_final_path};
+ghost use Rattle.uri_ops.specs.Prelude.{components_of, with_final_path};
 ghost use Rattle.uri_relative.specs.Forms.{IsReferenceOfEachKind, IsTextOfReference, IsUnguarded, NeedsPath, NeedsRelativePath, is_guarded};
 ghost use Rattle.uri_relative.specs.Rule.{reference_components};
 

@@ -1,6 +1,6 @@
 //! The inverse of resolving (RFC 3986, section 5.2).
 ghost use Rattle.std.specs.Prelude.{◌≡◌, IfOk, false, refl};
-ghost use Rattle.fluent_uri.specs.References.{reference_text};
+ghost use Rattle.fluent_uri.specs.Prelude.{reference_text};
 ghost use Rattle.uri_relative.specs.Relativized.{IsRelativized};
 
 use crate::relative::relative;

@@ -2,7 +2,7 @@
 use Rattle.std.specs.Prelude.{◌≡◌, ◌⊎◌, ℕ, Bool, true, false, not, ◌&&◌, List, [], ◌∷◌, length, nat_lt, Result, Ok, Err, if◌then◌else◌}
 use Rattle.std.specs.List.{filter}
 use Rattle.std.specs.Str.{is_utf8}
-use Rattle.fluent_uri.specs.Grammar.{is_of_kind}
+use Rattle.fluent_uri.specs.Prelude.{is_of_kind}
 use Rattle.uri_streams.specs.Lines.{end_byte, line_text, lines_of}
 use Rattle.uri_streams.specs.Outputs.{line_cut, output_of, processed_in}
 use Rattle.uri_commands.specs.Kinds.{kind_named}

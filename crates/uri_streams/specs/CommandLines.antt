@@ -3,7 +3,7 @@ use Rattle.std.specs.Prelude.{◌≡◌, ◌<◌, ◌-◌, ◌⊎◌, ℕ, Bool,
 use Rattle.std.specs.Borrow.{Bor}
 use Rattle.std.specs.declared.hash.RandomState.{RandomState}
 use Rattle.uri_pct.specs.Prelude.{allows, colon, percent_sign, query_set, reserved_set, slash, unreserved_set}
-use Rattle.uri_parts.specs.Fragments.{IsWithFragment}
+use Rattle.uri_parts.specs.Prelude.{IsWithFragment}
 use Rattle.fluent_uri.specs.Prelude.{Kind, iri, iri_text, refusal, uri, uri_text}
 use Rattle.fluent_uri.specs.declared.ParseError.{ParseError}
 use Rattle.fluent_uri.specs.declared.normalize.RuleSet.{RuleSet}

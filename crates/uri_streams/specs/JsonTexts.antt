@@ -6,7 +6,7 @@ use Rattle.std.specs.Char.Utf16.{is_high_surrogate, is_low_surrogate, surrogate_
 use Rattle.std.specs.Int.{is_in_range}
 use Rattle.std.specs.List.{list_all}
 use Rattle.std.specs.Str.{IsUtf8, chars}
-use Rattle.fluent_uri.specs.Sets.{is_one_of}
+use Rattle.fluent_uri.specs.Prelude.{is_one_of}
 
 -- a JSON value (RFC 8259, section 3). A number is given by its text, a string by its characters; an
 -- array and an object have their elements and members in order.

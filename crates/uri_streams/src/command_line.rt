@@ -1,6 +1,6 @@
 //! The job that the words of a command line make.
 ghost use Rattle.std.specs.Prelude.{◌≡◌, ◌≢◌, MatchOption, MatchResult, None, Some};
-ghost use Rattle.fluent_uri.specs.References.{reference_text};
+ghost use Rattle.fluent_uri.specs.Prelude.{reference_text};
 ghost use Rattle.uri_streams.specs.CommandLines.{IsBaseOf, IsCommandOf, IsErrorOfBase, IsErrorOfField, IsDelimiterOf, IsErrorOfDelimiter, is_in_no_text, is_only_kept, keeps_shape, IsErrorOfLine, IsFieldOf, IsJobOf, IsRejectedBase, IsWordOfBase, mode_of, rules_asked, word_of_command, word_of_mode};
 
 use crate::command::{Base, Command, KindName, LineCommand};

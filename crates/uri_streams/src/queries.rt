@@ -1,7 +1,7 @@
 //! The pairs of a query as a line of JSON.
 ghost use Rattle.std.specs.Prelude.{◌≡◌, ◌++◌, ◌<◌, IfOk, OnOk, map, option_map, string_bytes};
 ghost use Rattle.uri_query.specs.Pairs.{pair_texts};
-ghost use Rattle.fluent_uri.specs.EncodedTexts.{text_of};
+ghost use Rattle.fluent_uri.specs.Prelude.{text_of};
 ghost use Rattle.uri_streams.specs.Queries as spec;
 ghost use Rattle.uri_streams.specs.Queries.{control_json, escaped_char, escaped_text, following_pairs_json, pair_json, pairs_json, pairs_of_query};
 

@@ -2,7 +2,7 @@
 ghost use Rattle.std.specs.Prelude.{◌≡◌, ◌≢◌, ◌-◌, ◌<◌, ◌≤◌, ◌++◌, ◌||◌, ℕ, List, All, IfErr, IfOk, IfSome, IsTrue, None, OnErr, OnSome, Some, length, slice_index, true, false, [], ◌↔◌, ◌&&◌, ◌+◌, ◌^◌, ◌==◌, nat_le, not, take};
 ghost use Rattle.std.specs.Int.{bit_at};
 ghost use Rattle.std.specs.IoError.{error_kind};
-ghost use Rattle.uri_pct.specs.Models.ByteRuns.{IsLongestRun};
+ghost use Rattle.uri_pct.specs.Prelude.{IsLongestRun};
 ghost use Rattle.std.specs.Io.{StopsAt, IsEmptyOrEndsWith};
 ghost use Rattle.std.specs.Io.BufRead.{DropsConsumable};
 ghost use Rattle.std.specs.Io.Buffered.{reader_buffer, reader_remaining};

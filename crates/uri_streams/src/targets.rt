@@ -1,6 +1,6 @@
 //! The results of `urilines resolve` and `urilines relativize` for a text.
 ghost use Rattle.std.specs.Prelude.{◌≡◌, ◌≢◌, IfErr, IfOk};
-ghost use Rattle.fluent_uri.specs.References.{reference_text};
+ghost use Rattle.fluent_uri.specs.Prelude.{reference_text};
 ghost use Rattle.uri_streams.specs.Results.{base_text, basic_target_result, reference_kind, relativize_result, resolve_result, target_kind, target_result, target_result_by};
 ghost use Rattle.uri_streams.specs.Returned.{result_in};
 

@@ -1,7 +1,7 @@
 //! Calls of a reference that owns its text.
 ghost use Rattle.std.specs.Prelude.{◌↔◌, ◌≡◌, IfErr, IfOk, IsOk, MatchResult, None, OnErr, OnOk, Some, option_map, string_bytes};
 ghost use Rattle.std.specs.Result.{result_err};
-ghost use Rattle.uri_pct.specs.EncodedTexts.{text_of};
+ghost use Rattle.uri_pct.specs.Prelude.{text_of};
 ghost use Rattle.uri_parts.specs.Prelude.{IsErrorIn, IsOfKind, IsWithFragment, authority_text, components, refusal};
 ghost use Rattle.fluent_uri.specs.References.{held_text, reference_text};
 

@@ -1,6 +1,6 @@
 //! Calls of every reference, whether its text is borrowed or owned. Their results borrow nothing.
 ghost use Rattle.std.specs.Prelude.{◌≡◌, IfOk, is_some, option_map};
-ghost use Rattle.uri_pct.specs.EncodedTexts.{text_of};
+ghost use Rattle.uri_pct.specs.Prelude.{text_of};
 ghost use Rattle.uri_parts.specs.Prelude.{IsWithFragment, components};
 ghost use Rattle.uri_ops.specs.Prelude.{IsNormalForm, default_rules};
 ghost use Rattle.fluent_uri.specs.References.{reference_text};

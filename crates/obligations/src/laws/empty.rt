@@ -1,6 +1,6 @@
 //! References that are built of empty parts (RFC 3986, section 5.3).
 ghost use Rattle.std.specs.Prelude.{◌≡◌, IfOk, codes};
-ghost use Rattle.fluent_uri.specs.Uris.{uri_ref_text};
+ghost use Rattle.fluent_uri.specs.Prelude.{uri_ref_text};
 
 use fluent_uri::UriRef;
 use fluent_uri::build::BuildError;

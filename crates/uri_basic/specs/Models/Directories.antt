@@ -1,6 +1,6 @@
 -- What the code holds while it removes dot segments: a directory and the rest of a path.
 use Rattle.std.specs.Prelude.{◌≡◌, ◌⊎◌, ℕ, List, [], ◌++◌, bytes_eq, codes, if◌then◌else◌}
-use Rattle.uri_ops.specs.Dots.{EndsInSlash, before_last_slash, is_empty}
+use Rattle.uri_ops.specs.Prelude.{EndsInSlash, before_last_slash, is_empty}
 use Rattle.uri_basic.specs.Removal.{Buffers, output_of}
 
 -- a directory, which ends in `/`, or nothing: no segment was kept yet

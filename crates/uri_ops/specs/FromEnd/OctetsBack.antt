@@ -1,6 +1,6 @@
 -- What is left of a component of a normal text that is read from its end.
 use Rattle.std.specs.Prelude.{ℕ, List, ◌++◌}
-use Rattle.uri_pct.specs.Tables.{set_of}
+use Rattle.uri_pct.specs.Prelude.{set_of}
 use Rattle.uri_ops.specs.FromEnd.Held.{held_text}
 use Rattle.uri_ops.specs.FromEnd.NormalComponents.{normal_component}
 use Rattle.uri_ops.specs.declared.read_back.octets_back.OctetsBack.{OctetsBack}

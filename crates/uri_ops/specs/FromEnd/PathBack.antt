@@ -1,6 +1,6 @@
 -- What is left of a path that is read from its end: RFC 3986, sections 6.2.2.2 and 6.2.2.3.
 use Rattle.std.specs.Prelude.{ℕ, false, List, [], ◌++◌, codes, if◌then◌else◌}
-use Rattle.uri_pct.specs.Tables.{set_of}
+use Rattle.uri_pct.specs.Prelude.{set_of}
 use Rattle.uri_ops.specs.declared.read_back.path_back.PathBack.{PathBack}
 use Rattle.uri_ops.specs.FromEnd.NormalComponents.{normal_component}
 use Rattle.uri_ops.specs.FromEnd.OctetsBack.{octets_unread}

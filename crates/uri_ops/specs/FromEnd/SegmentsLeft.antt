@@ -1,7 +1,7 @@
 -- The segments that are left of a path when its dot segments are removed: RFC 3986, section 5.2.4.
 use Rattle.std.specs.Prelude.{◌≡◌, ◌<◌, ◌||◌, ◌++◌, ℕ, zero, suc, Bool, true, false, List, ◌∷◌, codes, length, if◌then◌else◌}
-use Rattle.uri_pct.specs.Delimiters.{slash}
-use Rattle.uri_parts.specs.Components.{starts}
+use Rattle.uri_pct.specs.Prelude.{slash}
+use Rattle.uri_parts.specs.Prelude.{starts}
 use Rattle.uri_ops.specs.Dots.{before_last_slash, has_slash, is_double_dot, is_empty, is_single_dot, remove_dot_segments}
 
 -- whether a path may follow an authority: it is empty or begins with `/` (section 3.3)

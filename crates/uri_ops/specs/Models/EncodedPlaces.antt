@@ -2,7 +2,7 @@
 use Rattle.std.specs.Prelude.{◌≡◌, ℕ, ◌≤◌, List, length, take, IfSome, option_map}
 use Rattle.uri_parts.specs.declared.positions.AuthorityPositions.{AuthorityPositions}
 use Rattle.uri_parts.specs.declared.positions.Positions.{Positions}
-use Rattle.uri_parts.specs.Positions.{before_fragment}
+use Rattle.uri_parts.specs.Prelude.{before_fragment}
 use Rattle.uri_ops.specs.Encoded.{encode_past_ascii}
 
 -- the position that a position of a text becomes when its characters past ASCII are percent-encoded

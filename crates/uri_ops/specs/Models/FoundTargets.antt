@@ -1,6 +1,6 @@
 -- What the target of a base and a reference is made of: RFC 3986, section 5.2.2.
 use Rattle.std.specs.Prelude.{Bool, ◌≡◌, false, is_some}
-use Rattle.uri_parts.specs.Components.{Components}
+use Rattle.uri_parts.specs.Prelude.{Components}
 use Rattle.uri_ops.specs.Models.TargetCases.{IsDottedTarget}
 use Rattle.uri_ops.specs.Models.TargetPieces.{ArePiecesOfTarget}
 use Rattle.uri_ops.specs.Resolving.{with_final_path}

@@ -1,8 +1,8 @@
 -- What a path begins with: a dot segment, or segments that are none (RFC 3986, section 5.2.4).
 use Rattle.std.specs.Prelude.{◌≡◌, ◌<◌, ◌≤◌, ◌+◌, ◌-◌, ◌&&◌, ◌||◌, ◌==◌, ℕ, Bool, true, false, List, [], ◌∷◌, length, take, drop, slice_index, if◌then◌else◌}
 use Rattle.std.specs.Str.{IsCharBoundary}
-use Rattle.uri_pct.specs.Delimiters.{full_stop, percent_sign, slash}
-use Rattle.uri_parts.specs.Components.{IsAbemptyPath}
+use Rattle.uri_pct.specs.Prelude.{full_stop, percent_sign, slash}
+use Rattle.uri_parts.specs.Prelude.{IsAbemptyPath}
 use Rattle.uri_ops.specs.declared.path.leading_segment.LeadingDots.{LeadingDots}
 use Rattle.uri_ops.specs.declared.path.leading_segment.LeadingDots.TheVariants.{SingleDot, DoubleDot, NoDots}
 use Rattle.uri_ops.specs.Dots.{has_slash, is_dot_segment, is_double_dot, is_single_dot, lacks_dot_segments}

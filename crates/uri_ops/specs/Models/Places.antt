@@ -1,7 +1,7 @@
 -- Positions in a text: no RFC has this.
 use Rattle.std.specs.Prelude.{◌≡◌, ℕ, ◌<◌, ◌≤◌, ◌⊎◌, List, [], ◌++◌, codes, length, slice_index}
-use Rattle.uri_pct.specs.Delimiters.{slash}
-use Rattle.uri_parts.specs.Components.{Components, marked}
+use Rattle.uri_pct.specs.Prelude.{slash}
+use Rattle.uri_parts.specs.Prelude.{Components, marked}
 
 -- what a base or a reference has before its path: scheme and authority, with their delimiters
 abbrev pub before_path : Components → List ℕ

@@ -2,7 +2,7 @@
 -- reference.
 use Rattle.std.specs.Prelude.{◌≡◌, true, false, List, ℕ, [], ◌++◌, codes, IfSome, Option, is_some, length, option_map, unwrap_or}
 use Rattle.std.specs.Borrow.{Bor}
-use Rattle.uri_pct.specs.Delimiters.{slash}
+use Rattle.uri_pct.specs.Prelude.{slash}
 use Rattle.uri_parts.specs.Prelude.{Components, IsAbemptyPath, marked, positions_of, starts}
 use Rattle.uri_ops.specs.Dots.{is_empty}
 use Rattle.uri_ops.specs.Target.{merged, query_or}

@@ -1,6 +1,6 @@
 //! Where the parts of a builder are in its text.
 ghost use Rattle.std.specs.Prelude.{◌≡◌, ◌+◌, ◌≤◌, IfSome, length};
-ghost use Rattle.uri_parts.specs.AuthorityTexts.{authority_text};
+ghost use Rattle.uri_parts.specs.Prelude.{authority_text};
 ghost use Rattle.uri_ops.specs.Models.DraftPlaces.{IsHostAt, authority_positions_from_length, positions_from_lengths, delimited_len};
 
 use crate::build::lengths::Lengths;

@@ -1,6 +1,6 @@
 //! Laws of targets and their meanings, each the contract of a function that does nothing.
 ghost use Rattle.std.specs.Prelude.{◌≡◌, ℕ, List, true};
-ghost use Rattle.uri_parts.specs.Grammar.{Kind, IsTextOf};
+ghost use Rattle.uri_parts.specs.Prelude.{IsTextOf, Kind};
 ghost use Rattle.uri_ops.specs.ComponentSets.{HasComponentSets};
 ghost use Rattle.uri_ops.specs.Normal.{normal_text};
 ghost use Rattle.uri_ops.specs.NormalTargets.{reference_kind, resolved_meaning};

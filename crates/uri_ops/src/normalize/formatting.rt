@@ -3,7 +3,7 @@
 ghost use Rattle.std.specs.Prelude.{◌≡◌, ◌++◌, OnOk, string_bytes, take, drop};
 ghost use Rattle.std.specs.List.{list_any};
 ghost use Rattle.std.specs.Str.{IsCharBoundary, chars};
-ghost use Rattle.uri_pct.specs.DecodeUnreserved.{is_bidi_formatting, encoded_formatting_char, encoded_formatting_text};
+ghost use Rattle.uri_pct.specs.Prelude.{encoded_formatting_char, encoded_formatting_text, is_bidi_formatting};
 
 use std::alloc::AllocError;
 use uri_pct::encode::push_octets;

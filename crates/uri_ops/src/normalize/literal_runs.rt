@@ -3,7 +3,7 @@
 ghost use Rattle.std.specs.Prelude.{◌≡◌, OnOk};
 ghost use Rattle.std.specs.Char.{to_ascii_lowercase};
 ghost use Rattle.std.specs.Str.{str_to_ascii_lowercase};
-ghost use Rattle.uri_pct.specs.Texts.{Pushes};
+ghost use Rattle.uri_pct.specs.Prelude.{Pushes};
 ghost use Rattle.uri_ops.specs.Models.Decodings.{lowered_code_if, lowered_text_if};
 
 use crate::normalize::room::{put_bytes, take_bytes};

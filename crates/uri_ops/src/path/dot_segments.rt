@@ -2,8 +2,8 @@
 ghost use Rattle.std.specs.Prelude.{◌≡◌, ◌≤◌, ◌<◌, ◌++◌, ◌+◌, IfOk, OnOk, false, true, length, ℕ, ◌^◌, drop, not, take, string_bytes};
 ghost use Rattle.std.specs.Int.{bit_at};
 ghost use Rattle.std.specs.Str.{IsCharBoundary};
-ghost use Rattle.uri_pct.specs.Texts.{Pushes};
-ghost use Rattle.uri_parts.specs.Components.{IsAbemptyPath};
+ghost use Rattle.uri_pct.specs.Prelude.{Pushes};
+ghost use Rattle.uri_parts.specs.Prelude.{IsAbemptyPath};
 ghost use Rattle.uri_ops.specs.Models.Directories.{BeginsWith, EndsIn, IsDotlessDirectory, RemovalState, parent_directory};
 ghost use Rattle.uri_ops.specs.Models.LeadingSegments.{BeginsWithoutDotSegment};
 ghost use Rattle.uri_ops.specs.Models.SegmentModes.{KeepsSlashesAndDots};

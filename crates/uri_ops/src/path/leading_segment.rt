@@ -2,8 +2,8 @@
 //! section 3.3).
 ghost use Rattle.std.specs.Prelude.{◌≡◌, ◌≤◌, ◌<◌, ◌==◌, ◌||◌, ◌+◌, ◌&&◌, length, drop, slice_index};
 ghost use Rattle.std.specs.Str.{IsCharBoundary};
-ghost use Rattle.uri_pct.specs.Delimiters.{full_stop, slash};
-ghost use Rattle.uri_parts.specs.Components.{IsAbemptyPath};
+ghost use Rattle.uri_pct.specs.Prelude.{full_stop, slash};
+ghost use Rattle.uri_parts.specs.Prelude.{IsAbemptyPath};
 ghost use Rattle.uri_ops.specs.Models.LeadingSegments.{IsPrefixToSlashDot, DescribesLeadingDots, BeginsWithoutDotSegment, HasLengthAtCharBoundary, IsDotlessPrefix, begins_with_dot, dot_len, ends_segment};
 ghost use Rattle.uri_ops.specs.Dots.{is_double_dot};
 

@@ -1,6 +1,6 @@
 //! How the segments of a path are appended while its dot segments are removed.
 ghost use Rattle.std.specs.Prelude.{◌≡◌, ℕ, List, Bool, OnOk, true};
-ghost use Rattle.uri_pct.specs.Texts.{Pushes};
+ghost use Rattle.uri_pct.specs.Prelude.{Pushes};
 
 use std::alloc::AllocError;
 

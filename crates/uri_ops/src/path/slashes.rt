@@ -1,8 +1,8 @@
 //! The slashes that a path begins with (RFC 3986, section 3.3).
 ghost use Rattle.std.specs.Prelude.{◌≡◌, ◌++◌, None, OnOk, drop, string_bytes, take};
 ghost use Rattle.std.specs.Str.{IsCharBoundary};
-ghost use Rattle.uri_pct.specs.Delimiters.{slash};
-ghost use Rattle.uri_parts.specs.Components.{has_authority, starts};
+ghost use Rattle.uri_pct.specs.Prelude.{slash};
+ghost use Rattle.uri_parts.specs.Prelude.{has_authority, starts};
 ghost use Rattle.uri_ops.specs.Target.{guarded};
 
 use std::alloc::AllocError;

@@ -1,6 +1,6 @@
 //! The text of one token of a normal text, read from its end (RFC 3986, section 6.2.2).
 ghost use Rattle.std.specs.Prelude.{◌≡◌, ◌+◌, ◌≤◌, ◌<◌, ◌++◌, ◌∷◌, [], MatchOption, drop, encode_utf8, length, map};
-ghost use Rattle.uri_pct.specs.Tokens.{Octet, print, text_of_token};
+ghost use Rattle.uri_pct.specs.Prelude.{Octet, print, text_of_token};
 
 use crate::read_back::BLOCK;
 use crate::read_back::literal_back::put_back;

@@ -1,7 +1,7 @@
 //! The authority of a normal text, read from its end (RFC 3986, sections 6.2.2 and 6.2.3; RFC 3987,
 //! section 5.3.2).
 ghost use Rattle.std.specs.Prelude.{◌≡◌, ◌≤◌, [], codes, option_map, take, true};
-ghost use Rattle.uri_pct.specs.EncodedTexts.{text_of};
+ghost use Rattle.uri_pct.specs.Prelude.{text_of};
 ghost use Rattle.uri_parts.specs.Prelude.{Kind, authority_parts, authority_text, host_kind, marked, scheme_text};
 ghost use Rattle.uri_ops.specs.Meaning.{host_meaning, port_meaning};
 ghost use Rattle.uri_ops.specs.Normal.{default_port_of, host_text, normal_part, normal_authority_with_delimiter};

@@ -1,7 +1,7 @@
 //! The normal text of a value, read from its end (RFC 3986, section 6.2.2; RFC 3987, section
 //! 5.3.2).
 ghost use Rattle.std.specs.Prelude.{◌≡◌, [], codes, option_map};
-ghost use Rattle.uri_pct.specs.EncodedTexts.{text_of};
+ghost use Rattle.uri_pct.specs.Prelude.{text_of};
 ghost use Rattle.uri_parts.specs.Prelude.{authority_text, components, core_text, marked, scheme_text};
 ghost use Rattle.uri_ops.specs.ComponentSets.{HasComponentSets};
 ghost use Rattle.uri_ops.specs.Meaning.{components_meaning};

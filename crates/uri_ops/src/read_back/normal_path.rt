@@ -1,7 +1,7 @@
 //! The path of a normal text, read from its end (RFC 3986, section 6.2.2.3).
 ghost use Rattle.std.specs.Prelude.{◌≡◌, ◌++◌, ℕ, List, Option, codes, is_some};
-ghost use Rattle.uri_pct.specs.EncodedTexts.{text_of};
-ghost use Rattle.uri_parts.specs.Components.{has_authority};
+ghost use Rattle.uri_pct.specs.Prelude.{text_of};
+ghost use Rattle.uri_parts.specs.Prelude.{has_authority};
 ghost use Rattle.uri_ops.specs.ComponentSets.{IsComponentSet};
 ghost use Rattle.uri_ops.specs.Normal.{normal_path_text};
 ghost use Rattle.uri_ops.specs.Target.{guarded};

@@ -1,7 +1,7 @@
 //! The pieces of a base and a reference that are a target before its dot segments are removed (RFC
 //! 3986, section 5.2.2).
 ghost use Rattle.std.specs.Prelude.{◌≡◌, ℕ, [], IfSome, List, Option, codes, false, is_some};
-ghost use Rattle.uri_parts.specs.Components.{IsAbemptyPath, marked};
+ghost use Rattle.uri_parts.specs.Prelude.{IsAbemptyPath, marked};
 ghost use Rattle.uri_ops.specs.Models.TargetCases.{IsCaseOf, IsDottedTarget, path_of_pieces, with_authority as authority_line, with_base_authority as base_authority_line};
 ghost use Rattle.uri_ops.specs.Resolving.{components_of};
 ghost use Rattle.uri_ops.specs.Target.{dotted_target, is_opaque_rejection, query_or};

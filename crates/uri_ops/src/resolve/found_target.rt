@@ -1,6 +1,6 @@
 //! What a target is made of, which is found before it is written (RFC 3986, section 5.2.2).
 ghost use Rattle.std.specs.Prelude.{◌≡◌, ◌||◌, ◌++◌, IfErr, IfOk, IfSome, false, is_some, true};
-ghost use Rattle.uri_pct.specs.Delimiters.{number_sign, slash};
+ghost use Rattle.uri_pct.specs.Prelude.{number_sign, slash};
 ghost use Rattle.uri_parts.specs.Prelude.{ArePackedPositionsOf, starts};
 ghost use Rattle.uri_ops.specs.Dots.{is_empty};
 ghost use Rattle.uri_ops.specs.Models.FoundTargets.{IsFoundTarget};

@@ -1,6 +1,6 @@
 //! The text of a target, and where its components are (RFC 3986, sections 5.2 and 5.3).
 ghost use Rattle.std.specs.Prelude.{◌≡◌, ◌+◌, ◌++◌, ℕ, List, Option, [], codes, IfErr, IfOk, IfSome, OnOk, is_some, length, option_map, string_bytes, true};
-ghost use Rattle.uri_pct.specs.Texts.{Pushes};
+ghost use Rattle.uri_pct.specs.Prelude.{Pushes};
 ghost use Rattle.uri_parts.specs.Prelude.{ArePackedPositionsOf, Components, IsAbemptyPath, marked, packed, positions_of, recompose};
 ghost use Rattle.uri_ops.specs.Models.Places.{before_path};
 ghost use Rattle.uri_ops.specs.Models.TargetCases.{IsDottedTarget, dotted_path};

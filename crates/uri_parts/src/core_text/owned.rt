@@ -1,6 +1,6 @@
 //! A core over a text of its own.
 ghost use Rattle.std.specs.Prelude.{◌≡◌, IsOk, None, OnErr, OnOk, option_map, string_bytes};
-ghost use Rattle.uri_pct.specs.EncodedTexts.{text_of};
+ghost use Rattle.uri_pct.specs.Prelude.{text_of};
 ghost use Rattle.uri_parts.specs.CoreTexts.{core_text};
 ghost use Rattle.uri_parts.specs.Fragments.{IsWithFragment};
 
