@@ -15,12 +15,7 @@ prefix-of-placed-block at n out block room few =
 pub octets-of-more-bytes : (n m : ℕ) (bytes out : List ℕ)
     → (out ++ print (map Octet (take n bytes))) ++ print (map Octet (take m (drop n bytes)))
     ≡ out ++ print (map Octet (take (n + m) bytes))
-octets-of-more-bytes n m bytes out =
-    let first = take n bytes in
-    let second = take m (drop n bytes) in
-    append_assoc out (print (map Octet first)) (print (map Octet second)) ∙ ap (λ t. out ++ t) (sym
-    (ap (λ l. print (map Octet l)) (take-add n m bytes) ∙ ap print (map-append Octet first second)
-    ∙ print-append (map Octet first) (map Octet second)))
+octets-of-more-bytes n m bytes out = grind (arith, append_assoc, take-add, map-append, print-append)
 
 octets-of-first-bytes : (n : ℕ) (bytes : List ℕ)
     → take (3 * n) (print (map Octet bytes)) ≡ print (map Octet (take n bytes))

@@ -11,7 +11,7 @@ pub use Rattle.std.proofs.lemmas.Simd.{put_chunk_is, zip2_splat, length-chunk}
 pub use Rattle.std.proofs.lemmas.Str.{encode_ascii, scalars-chars, IsUtf8-drop, chars-nil, IsUtf8-take, IsCharBoundary-after_ascii, IsCharBoundary-past_char, IsUtf8-between, encodes-chars, len_utf8_ascii, length-encode, IsUtf8-append, IsCharBoundary-from_drop, IsCharBoundary-at_seam, len_utf8_bounds, chars_past_char, chars-encodes, IsUtf8-nil, IsUtf8-string_bytes, IsCharBoundary-start}
 pub use Rattle.std.specs.Char.{IsScalar, encode_utf8, is_ascii_hexdigit, len_utf8, digit_value, is_ascii_whitespace}
 pub use Rattle.std.specs.List.{list_all, flat_map, list_any, prefix_len}
-pub use Rattle.std.specs.Prelude.{Option, Some, None, IfSome, nat_le, option_map, codes, IfNone, is_some, unwrap_or, slice_range}
+pub use Rattle.std.specs.Prelude.{Option, Some, None, IfSome, nat_le, option_map, codes, IfNone, is_some, slice_range}
 pub use Rattle.std.specs.Simd.Lanes.{put_chunk, zip2, chunk}
 pub use Rattle.std.specs.Str.{chars, all_scalars, IsUtf8, IsCharBoundary, encode_utf8_all, IsTrimAscii}
 pub use Rattle.uri_mend.specs.Links.{IsLink, with_ends_at}
@@ -41,5 +41,5 @@ unfoldable pub use Rattle.uri_pct.specs.Prefixes.{begins_with_hex_digits, valid_
 pub use Rattle.uri_pct.specs.Sets.{TableSet, allows, LacksPercent, is_one_of, is_path_char, is_query_char}
 unfoldable pub use Rattle.uri_pct.specs.Sets.{allows_past_ascii}
 pub use Rattle.uri_pct.specs.Tables.{set_of}
-pub use Rattle.uri_pct.specs.Tokens.{Octet, print, text_of_token, IsValidFor, Token, Char, allows_token, tokens, bytes_decoded_from, bytes_of_one_token}
+pub use Rattle.uri_pct.specs.Tokens.{Octet, print, text_of_token, IsValidFor, Token, Char, allows_token, tokens, bytes_decoded_from}
 unfoldable pub use Rattle.uri_pct.specs.Tokens.{is_pct_encoded, is_valid_for, tokens_from_chars}

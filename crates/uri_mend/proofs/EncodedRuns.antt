@@ -91,14 +91,8 @@ empty-run-is-lacked set text start at = grind arith
 pub ascii-run-ends-at-boundary : (text : List ℕ) (start end : ℕ) → IsUtf8 text
     → IsCharBoundary text start → start ≤ end → end ≤ length text
     → (start < end → get_or text (end - 1) 0 < 128) → IsCharBoundary text end
-ascii-run-ends-at-boundary text start end u at le within last = ⊎_elim
-    (λ (l : start < end).
-    let place : end - 1 + 1 ≡ end = omega arith in
-    subst (IsCharBoundary text) place
-    (IsCharBoundary-after_ascii text (end - 1) u (omega arith) (last l)))
-    (λ (l : end ≤ start).
-    let same : start ≡ end = omega arith in subst (IsCharBoundary text) same at)
-    (cases_lt start end)
+ascii-run-ends-at-boundary text start end u at le within last =
+    grind (arith, common_steps, IsCharBoundary-after_ascii)
 
 module _ (marks : List ℕ) (set : TableSet) (lacks : LacksPercent set)
     (octets : set.pct_encoded ≡ true) (are : are_marks set marks ≡ true) where

@@ -1,6 +1,6 @@
 -- The components of a text that is no reference, perhaps: its scheme is one, and without a scheme
 -- and an authority its first segment has no `:`.
-use Rattle.uri_mend.proofs.Common.{arith, ◌≡◌, ℕ, Bool, true, false, List, [], ◌∷◌, ◌++◌, refl, sym, ap, subst, ◌∙◌, ⊎_elim, lit<, codes, IfSome, IfNone, IsUtf8, encode_utf8_all, cases_Bool, cond-true, cond-false, IsUtf8-append, encode_ascii, components, starts, before_any, when, has_scheme, is_scheme, has_colon_in_first_segment, from_any-at-mark, before_any-at-mark, has_false_scheme, with_dot_segment, link_components}
+use Rattle.uri_mend.proofs.Common.{arith, ◌≡◌, ℕ, true, false, List, [], ◌∷◌, ◌++◌, refl, sym, ap, subst, ◌∙◌, ⊎_elim, lit<, codes, IfSome, IfNone, IsUtf8, encode_utf8_all, cases_Bool, cond-true, cond-false, IsUtf8-append, encode_ascii, components, starts, before_any, has_scheme, is_scheme, has_colon_in_first_segment, from_any-at-mark, before_any-at-mark, has_false_scheme, with_dot_segment, link_components}
 use Rattle.uri_parts.proofs.Offered.{colon_in_first_segment-is-at-start}
 
 pub false-scheme-gets-dot-segment : (text : List ℕ) → has_false_scheme text ≡ true
@@ -55,17 +55,10 @@ scheme-of-link-is-scheme text =
       scheme-is-one-if-not-false,
     )
 
--- links: if something is absent only if the test is false, the property holds where it is
-absent-text-has-property : (test : Bool) (text : List ℕ) (P : Type 0)
-    → (test ≡ false → P) → IfNone (when test text) P
-absent-text-has-property true text P h = tt
-absent-text-has-property false text P h = h refl
-
 no-colon-in-schemeless-path : (text : List ℕ) → starts 58 text ≡ false
     → IfNone (components text).scheme (IfNone (components text).authority
     (has_colon_in_first_segment (components text).path ≡ false))
-no-colon-in-schemeless-path text first =
-    grind (arith, absent-text-has-property, colon_in_first_segment-is-at-start)
+no-colon-in-schemeless-path text first = grind (arith, colon_in_first_segment-is-at-start)
 
 pub no-colon-in-schemeless-link : (text : List ℕ)
     → IfNone (link_components text).scheme (IfNone (link_components text).authority

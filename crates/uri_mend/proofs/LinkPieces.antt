@@ -1,5 +1,5 @@
 -- A text, cut before its path, and the pieces of the text that it is mended to.
-use Rattle.uri_mend.proofs.Common.{common_steps, ◌≡◌, ℕ, true, false, not, List, [], ◌∷◌, ◌++◌, length, take, drop, refl, sym, ap, subst, ◌∙◌, arith, append_assoc, ◌&&◌, ◌≤◌, ◌-◌, length-append, IsUtf8, IsCharBoundary, IsCharBoundary-from_drop, IsCharBoundary-at_seam, has_authority, components, marked, starts, when, before_any, from_any, after_scheme, after_authority, after_query, codes, both_ways, Kind, before_any-past-other, from_any-past-other, recompose-components, HasComponentSets, before_path, mended, has_false_scheme, link_components, mended_text, mended_tail, IsMendedByPieces, IsPathMendedByPieces, query_of_tail}
+use Rattle.uri_mend.proofs.Common.{common_steps, ◌≡◌, ℕ, true, false, not, List, [], ◌∷◌, ◌++◌, length, take, drop, refl, sym, ap, ◌∙◌, arith, append_assoc, ◌&&◌, ◌≤◌, ◌-◌, length-append, IsUtf8, IsCharBoundary, IsCharBoundary-from_drop, IsCharBoundary-at_seam, has_authority, components, marked, starts, when, before_any, from_any, after_scheme, after_authority, after_query, codes, both_ways, Kind, before_any-past-other, from_any-past-other, recompose-components, HasComponentSets, before_path, mended, has_false_scheme, link_components, mended_text, mended_tail, IsMendedByPieces, IsPathMendedByPieces, query_of_tail}
 use Rattle.uri_parts.proofs.Offered.{utf8_after_slashes}
 use Rattle.uri_mend.proofs.MendedMarks.{allowed-ascii-before-text-is-unchanged}
 use Rattle.uri_mend.proofs.LinkComponents.{false-scheme-gets-dot-segment, no-false-scheme-gets-nothing}
@@ -102,11 +102,7 @@ boundary-after-two-slashes rest u e =
 -- links: a text is cut where the piece after the cut begins
 pub boundary-before-piece : (text before after : List ℕ) → text ≡ before ++ after → IsUtf8 after
     → IsCharBoundary text (length text - length after)
-boundary-before-piece text before after e u =
-    let size : length text - length after ≡ length before =
-    omega (arith, ap length e, length-append before after) in
-    let P : ℕ → Type 0 = λ n. IsCharBoundary text n in
-    subst P (sym size) (IsCharBoundary-at_seam text before after e u)
+boundary-before-piece text before after e u = grind (arith, length-append, IsCharBoundary-at_seam)
 
 pub piece-before-cut : (text before after : List ℕ) → text ≡ before ++ after
     → take (length text - length after) text ≡ before

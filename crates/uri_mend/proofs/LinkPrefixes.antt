@@ -1,5 +1,5 @@
 -- A text whose prefix shows where its path begins: the prefix has its scheme and its authority.
-use Rattle.uri_mend.proofs.Common.{◌≡◌, ℕ, ◌+◌, ◌-◌, ◌<◌, ◌≤◌, Bool, true, false, not, List, [], ◌∷◌, ◌++◌, ◌||◌, ◌&&◌, length, take, drop, refl, sym, ap, subst, ◌∙◌, arith, ⊎_elim, length-append, list_any, codes, IfSome, None, Option, Some, is_some, option_map, unwrap_or, IsCharBoundary, IsUtf8, drop-append_seam, take-append_seam, and_parts, both_ways, cases_Bool, cond-true, cond-false, drop-append-le, length-take-le, IsCharBoundary-at_seam, is_one_of, Components, components, after_authority, after_scheme, before_any, from_any, has_authority, has_scheme, marked, recompose, starts, when, Kind, IsOfKind, is_scheme, ArePackedPositionsOf, packed, before_any-at-mark, before_any-past-other, from_any-at-mark, from_any-past-other, only-split-is-components, before_path, IsLink, with_ends_at, can_be_mended, has_false_scheme, link_components, IsMendedByPieces, IsPathMendedByPieces, dot_segment_if, mended_path, mended_tail, query_of_tail, Link}
+use Rattle.uri_mend.proofs.Common.{◌≡◌, ℕ, ◌+◌, ◌-◌, ◌<◌, ◌≤◌, Bool, true, false, not, List, [], ◌∷◌, ◌++◌, ◌||◌, ◌&&◌, length, take, drop, refl, sym, ap, subst, ◌∙◌, arith, ⊎_elim, length-append, list_any, codes, IfSome, None, Option, Some, is_some, IsCharBoundary, IsUtf8, drop-append_seam, take-append_seam, both_ways, cases_Bool, cond-true, cond-false, drop-append-le, length-take-le, IsCharBoundary-at_seam, is_one_of, Components, components, after_authority, after_scheme, before_any, from_any, has_authority, has_scheme, marked, recompose, starts, when, Kind, IsOfKind, is_scheme, ArePackedPositionsOf, packed, before_any-at-mark, before_any-past-other, from_any-at-mark, from_any-past-other, only-split-is-components, before_path, IsLink, with_ends_at, can_be_mended, has_false_scheme, link_components, IsMendedByPieces, IsPathMendedByPieces, dot_segment_if, mended_path, mended_tail, query_of_tail, Link}
 use Rattle.uri_parts.specs.Positions.{positions_of}
 use Rattle.uri_parts.specs.declared.packed_positions.PackedPositions.{PackedPositions}
 use Rattle.uri_parts.proofs.Offered.{utf8_after_scheme, utf8_after_authority}
@@ -43,11 +43,6 @@ starts-of-prefix : (mark : ℕ) (p s : List ℕ) → is_some_text p ≡ true
 starts-of-prefix mark [] s some = absurd (both_ways _ refl some)
 starts-of-prefix mark (c ∷ p) s some = refl
 
-text-with-mark-is-some : (marks p : List ℕ) → is_some_text (from_any marks p) ≡ true
-    → is_some_text p ≡ true
-text-with-mark-is-some marks [] some = some
-text-with-mark-is-some marks (c ∷ p) some = refl
-
 -- prefixes: two bytes decide whether an authority follows
 authority-of-prefix : (p s : List ℕ) → 2 ≤ length p → has_authority (p ++ s) ≡ has_authority p
 authority-of-prefix [] s l = absurd (omega arith)
@@ -72,11 +67,7 @@ module _ (p s : List ℕ) (shows : ShowsPath p) where
   cut-at-scheme = cut-at-mark-of-prefix (codes ":/?#") p s shows.mark
 
   scheme-is-that-of-prefix : has_scheme (p ++ s) ≡ has_scheme p
-  scheme-is-that-of-prefix = ap (λ t. starts 58 t && not (starts 58 (p ++ s))) cut-at-scheme.from
-      ∙ ap (λ t. t && not (starts 58 (p ++ s)))
-      (starts-of-prefix 58 (from_any (codes ":/?#") p) s shows.mark) ∙ ap
-      (λ t. starts 58 (from_any (codes ":/?#") p) && not t)
-      (starts-of-prefix 58 p s (text-with-mark-is-some (codes ":/?#") p shows.mark))
+  scheme-is-that-of-prefix = grind (arith, starts, p, cut-at-scheme, starts-of-prefix, codes, shows)
 
   rest-is-that-of-prefix : after_scheme (p ++ s) ≡ after_scheme p ++ s
   rest-is-that-of-prefix = ⊎_elim
@@ -136,15 +127,6 @@ text-with-mark-is-cut marks (c ∷ p) e = ⊎_elim
     ∙ text-with-mark-is-cut marks p (sym (ap (λ t. t || list_any (is_one_of marks) p) m) ∙ e))
     (cases_Bool (is_one_of marks c))
 
--- prefixes: a text that begins with a character is not empty
-text-that-starts-is-some : (mark : ℕ) (t : List ℕ) → starts mark t ≡ true → is_some_text t ≡ true
-text-that-starts-is-some mark [] e = absurd (both_ways _ refl e)
-text-that-starts-is-some mark (c ∷ t) e = refl
-
-text-with-length-is-some : (t : List ℕ) → 0 < length t → is_some_text t ≡ true
-text-with-length-is-some [] l = absurd (omega arith)
-text-with-length-is-some (c ∷ t) l = refl
-
 authority-begins-with-mark : (p : List ℕ) → has_authority p ≡ true
     → is_some_text (from_any (codes ":/?#") p) ≡ true
 authority-begins-with-mark [] e = absurd (both_ways _ refl e)
@@ -163,43 +145,12 @@ length-of-tail p before e =
     ∙ sym (ap length (text-is-cut-before-path p)
     ∙ length-append (before_path (components p)) (after_authority (after_scheme p)))
 
-no-scheme-is-at-zero : (p : List ℕ) (before : PackedPositions) → ArePackedPositionsOf p before
-    → has_scheme p ≡ false → before.scheme_end ≡ 0
-no-scheme-is-at-zero p before e none = ap (λ (x : PackedPositions). x.scheme_end) e
-    ∙ ap (λ t. unwrap_or (option_map length (when t (before_any (codes ":/?#") p))) 0) none
-
--- prefixes: a text without an authority has no position of a host
-no-host-is-at-zero : (p : List ℕ) (before : PackedPositions) → ArePackedPositionsOf p before
-    → has_authority (after_scheme p) ≡ false → before.host_start ≡ 0
-no-host-is-at-zero p before e none = grind (arith, components)
-
 positions-show-path : (p : List ℕ) (before : PackedPositions) → ArePackedPositionsOf p before
     → before.path_start < length p → (before.host_start ≡ 0 → 2 ≤ length p - before.path_start)
     → (before.host_start ≡ 0 → before.scheme_end ≡ 0
     → is_some_text (from_any (codes ":/?#") p) ≡ true) → ShowsPath p
 positions-show-path p before e some two mark =
-    let size = length-of-tail p before e in
-    record {
-      mark = ⊎_elim
-          (λ s. text-that-starts-is-some 58 _
-          (and_parts (starts 58 (from_any (codes ":/?#") p)) _ s).0)
-          (λ s. ⊎_elim
-          (λ a. authority-begins-with-mark p (sym (ap has_authority (cond-false _ _ _ s)) ∙ a))
-          (λ a. mark (no-host-is-at-zero p before e a) (no-scheme-is-at-zero p before e s))
-          (cases_Bool (has_authority (after_scheme p))))
-          (cases_Bool (has_scheme p));
-      two = ⊎_elim
-          (λ a. authority-has-two-bytes (after_scheme p) a)
-          (λ a.
-          let whole : length (after_authority (after_scheme p)) ≡ length (after_scheme p) =
-          ap length (cond-false _ _ _ a) in
-          let l = two (no-host-is-at-zero p before e a) in
-          omega (arith, l, whole, size)) (cases_Bool (has_authority (after_scheme p)));
-      ended = λ a. text-with-length-is-some _ (
-          let cut : length (after_authority (after_scheme p)) ≡ length
-          (from_any (codes "/?#") (drop 2 (after_scheme p))) = ap length (cond-true _ _ _ a) in
-          omega (arith, cut, size, some));
-    }
+    grind (arith, length-of-tail, authority-begins-with-mark, authority-has-two-bytes)
 
 -- prefixes: positions of a scheme and an authority, with these ends of a path and a query
 positions_before : Option (List ℕ) → Option (List ℕ) → ℕ → ℕ → PackedPositions
@@ -215,10 +166,8 @@ positions-by-scheme-and-authority : (p q : Components) (path_end query_end : ℕ
     → p.scheme ≡ q.scheme → p.authority ≡ q.authority
     → with_ends_at (packed (positions_of p)) path_end query_end
     ≡ with_ends_at (packed (positions_of q)) path_end query_end
-unfolding positions_before
 positions-by-scheme-and-authority p q path_end query_end scheme authority =
-    ap (λ s. positions_before s p.authority path_end query_end) scheme
-    ∙ ap (λ a. positions_before q.scheme a path_end query_end) authority
+    grind (arith, positions_before)
 
 pub link-of-prefix : (text p s : List ℕ) (before : PackedPositions) → IsUtf8 text → text ≡ p ++ s
     → ArePackedPositionsOf p before → has_false_scheme p ≡ false → ShowsPath p

@@ -1,23 +1,12 @@
 -- The positions in a mended text: those of what is before the path, and two ends.
-use Rattle.uri_mend.proofs.Common.{common_steps, ◌≡◌, ℕ, ◌+◌, List, [], ◌++◌, drop, length, refl, sym, ap, ◌∙◌, arith, length-append, codes, Option, Some, None, option_map, unwrap_or, IsUtf8, append-nil, length-take-le, Components, components, from_any, marked, Kind, ArePackedPositionsOf, packed, HasComponentSets, before_path, IsLink, with_ends_at, mended, link_components, mended_components, mended_text, dot_segment_if, mended_path, mended_query, Link}
+use Rattle.uri_mend.proofs.Common.{common_steps, ◌≡◌, ℕ, ◌+◌, List, [], drop, length, sym, ap, ◌∙◌, arith, length-append, codes, option_map, IsUtf8, append-nil, length-take-le, Components, components, from_any, marked, Kind, ArePackedPositionsOf, packed, HasComponentSets, before_path, IsLink, with_ends_at, mended, link_components, mended_components, mended_text, dot_segment_if, mended_path, mended_query, Link}
 use Rattle.uri_parts.specs.Positions.{delimited_length, positions_of}
 use Rattle.uri_mend.proofs.MendedReferences.{components-of-mended-text}
-
-length-of-delimited : (before after : List ℕ) (o : Option (List ℕ))
-    → length (marked before o after) ≡ delimited_length (length before + length after) o
-length-of-delimited before after None = refl
-length-of-delimited before after (Some x) = length-append (before ++ x) after
-    ∙ ap (λ n. n + length after) (length-append before x) ∙ omega arith
 
 -- positions: what is before the path is as long as the path's position says
 pub length-before-path : (p : Components)
     → length (before_path p) ≡ delimited_length 1 p.scheme + delimited_length 2 p.authority
-length-before-path p = grind (arith, common_steps, length-of-delimited)
-
-query-end-after : (n : ℕ) (o : Option (List ℕ))
-    → n + length (marked (codes "?") o []) ≡ unwrap_or (option_map (λ q. n + 1 + length q) o) n
-query-end-after n None = omega arith
-query-end-after n (Some q) = ap (λ t. n + length t) (append-nil (codes "?" ++ q)) ∙ omega arith
+length-before-path p = grind (arith, common_steps, length-append)
 
 -- positions: with the ends of path and query, those of a prefix are those of the whole
 ends-complete-positions : (kind : Kind) (p : Components) (path_end query_end : ℕ)
@@ -26,7 +15,7 @@ ends-complete-positions : (kind : Kind) (p : Components) (path_end query_end : �
     → query_end ≡ path_end + length (marked (codes "?") (option_map (mended kind.query) p.query) [])
     → with_ends_at (packed (positions_of p)) path_end query_end
     ≡ packed (positions_of (mended_components kind p))
-ends-complete-positions kind p path_end query_end e f = grind (arith, query-end-after)
+ends-complete-positions kind p path_end query_end e f = grind (arith, append-nil, codes)
 
 pub positions-of-mended-text : (kind : Kind) → HasComponentSets kind
     → (text made : List ℕ) (link : Link) (path_end query_end : ℕ) → IsUtf8 text → IsLink text link

@@ -1,5 +1,5 @@
 -- The reference that a text is mended to has all that is said of one.
-use Rattle.uri_mend.proofs.Common.{◌≡◌, ◌+◌, length, true, false, refl, sym, ap, ◌∙◌, subst, List, ℕ, ◌≤◌, arith, length-append, length-take-le, Bool, IfSome, None, Option, Some, [], ◌++◌, ◌-◌, drop, option_map, take, IsUtf8, LacksPercent, TableSet, Components, components, Kind, IsOfKind, components_meet_rules, HasComponentSets, components-of-utf8-are-utf8, grammar-gives-components-of-kind, IsLink, mended, dot_segment_if, mended_tail, Link, can_be_mended, has_false_scheme, link_components, mended_components, mended_text, with_dot_segment}
+use Rattle.uri_mend.proofs.Common.{◌≡◌, ◌+◌, length, true, false, refl, sym, ap, ◌∙◌, subst, List, ℕ, ◌≤◌, arith, length-append, length-take-le, Bool, IfSome, None, Option, Some, ◌++◌, ◌-◌, drop, option_map, take, IsUtf8, LacksPercent, TableSet, Components, components, Kind, IsOfKind, components_meet_rules, HasComponentSets, components-of-utf8-are-utf8, grammar-gives-components-of-kind, IsLink, mended, dot_segment_if, mended_tail, Link, can_be_mended, has_false_scheme, link_components, mended_components, mended_text, with_dot_segment}
 use Rattle.uri_ops.proofs.Offered.{recomposed-components-are-utf8}
 use Rattle.uri_mend.specs.Encodings.{AreComponentsEncodedAs, DecodeAlike}
 use Rattle.uri_mend.specs.Mended.{IsMended}
@@ -16,20 +16,10 @@ mended-part-is-utf8 : (set : TableSet) (o : Option (List ℕ)) → LacksPercent 
 mended-part-is-utf8 set None lacks h = tt
 mended-part-is-utf8 set (Some x) lacks h = mended-text-is-utf8 set x lacks h
 
--- mending: the pieces of a text, of which the first is empty if `./` comes after it
-pieces-in-order : (dot : Bool) (prefix tail : List ℕ) → (dot ≡ true → prefix ≡ [])
-    → (dot_segment_if dot ++ prefix) ++ tail ≡ prefix ++ (dot_segment_if dot ++ tail)
-pieces-in-order false prefix tail alone = refl
-pieces-in-order true prefix tail alone = ap (λ t. (dot_segment_if true ++ t) ++ tail) (alone refl)
-    ∙ ap (λ t. t ++ (dot_segment_if true ++ tail)) (sym (alone refl))
-
-nothing-before-start : (text : List ℕ) (start : ℕ) → start ≡ 0 → take start text ≡ []
-nothing-before-start text start e = ap (λ n. take n text) e
-
 pub pieces-are-mended-text : (kind : Kind) → HasComponentSets kind → (text : List ℕ) (link : Link)
     → IsLink text link → (dot_segment_if link.has_false_scheme ++ take link.path_start text)
     ++ mended_tail kind (drop link.path_start text) ≡ mended_text kind text
-pieces-are-mended-text kind sets text link h = grind (arith, pieces-in-order, nothing-before-start)
+pieces-are-mended-text kind sets text link h = grind arith
 
 pub start-of-mended-text : (text out : List ℕ) (at n : ℕ) (dot : Bool)
     → take at out ≡ dot_segment_if dot

@@ -34,9 +34,6 @@ octet-text-of-chars c high low cs e = grind (arith, common_steps, hexdigit_is_as
 abbrev HasUnchangedPrefix : TableSet → List ℕ → ℕ → Type 0
 HasUnchangedPrefix set text n = mended set text ≡ take n text ++ mended set (drop n text)
 
-empty-text-prefix-is-unchanged : (set : TableSet) (text : List ℕ) → HasUnchangedPrefix set text 0
-empty-text-prefix-is-unchanged set text = grind arith
-
 -- general fact on numbers, for scans that stop at once
 sum-with-character-is-not-zero : (n c : ℕ) → n + len_utf8 c ≡ 0 → ⊥
 sum-with-character-is-not-zero n c e = omega (arith, (len_utf8_bounds c).0)
@@ -125,7 +122,8 @@ module _ (set : TableSet) (lacks : LacksPercent set) (octets : set.pct_encoded �
   scanned-prefix-of-chars-is-unchanged : (cs : List ℕ) → all_scalars cs ≡ true
       → HasUnchangedPrefix set (encode_utf8_all cs) (valid_prefix set (encode_utf8_all cs))
   unfolding valid_prefix_from begins_with_hex_digits is_pct_encoded
-  scanned-prefix-of-chars-is-unchanged [] s = empty-text-prefix-is-unchanged set []
+  scanned-prefix-of-chars-is-unchanged [] s =
+      grind (arith, common_steps, set, valid_prefix_from, begins_with_hex_digits, is_pct_encoded)
   scanned-prefix-of-chars-is-unchanged (c ∷ []) s = first-of-chars-unchanged-or-unscanned c [] s
       (and_right _ _ refl) (scanned-prefix-of-chars-is-unchanged [] refl)
   scanned-prefix-of-chars-is-unchanged (c ∷ d ∷ []) s =

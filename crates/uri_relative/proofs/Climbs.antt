@@ -11,14 +11,10 @@ double-dot-moves-past-others zero q = refl
 double-dot-moves-past-others (suc n) q = ap (λ t. codes "../" ++ t)
     (double-dot-moves-past-others n q)
 
--- general fact on numbers, for counts of `../` in relativized paths: n + 1 is not 0
-successor-is-not-zero : (n : ℕ) → eqb (suc n) 0 ≡ false
-successor-is-not-zero n = grind (arith, nat_tests)
-
 -- relativized paths: one that goes n + 1 directories up ends in `..`, or in `../` and the rest
 pub relative_path-of-some-climbs : (n : ℕ) (rest : List ℕ) → relative_path (suc n) rest
     ≡ cond (is_empty rest) (double_dots n ++ codes "..") (double_dots (suc n) ++ rest)
-relative_path-of-some-climbs n rest = grind (arith, nat_tests, successor-is-not-zero)
+relative_path-of-some-climbs n rest = grind (arith, nat_tests)
 
 pub prefix-all-pass : (p : List ℕ → Bool) (xs ys : List (List ℕ)) → AllPass p (xs ++ ys)
     → AllPass p xs

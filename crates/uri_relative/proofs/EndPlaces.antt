@@ -68,14 +68,9 @@ query-ends-after-scheme t p n at m =
     after None = tt
     after (Some q) = omega (arith, m)
 
-absent-scheme-end-means-no-scheme : (scheme : Option (List ℕ)) → None ≡ option_map length scheme
-    → None ≡ scheme
-absent-scheme-end-means-no-scheme None e = refl
-absent-scheme-end-means-no-scheme (Some s) e = absurd (none-some (length s) e)
-
 pub positions-of-text-without-scheme-stay : (t : Components) (p : Positions) → p ≡ positions_of t
     → p.scheme_end ≡ None → p ≡ positions_of (record t { scheme = None })
-positions-of-text-without-scheme-stay t p at e = grind (arith, absent-scheme-end-means-no-scheme)
+positions-of-text-without-scheme-stay t p at e = grind (arith, none-some)
 
 -- relativized references: leaving out a scheme of n bytes moves the positions n bytes back; start,
 -- end: of the path

@@ -1,5 +1,5 @@
 -- The targets that no reference without a scheme and an authority leads to: RFC 3986, section 5.2.
-use Rattle.uri_relative.proofs.Common.{◌≡◌, ℕ, Bool, true, false, not, ◌&&◌, ◌||◌, List, [], ◌∷◌, refl, sym, ap, ◌∙◌, ⊎_elim, inl, inr, arith, Option, None, Some, is_none, is_some, and_parts, both_ways, not-true, or_cases, nat_tests, slash, Components, IsAbemptyPath, components, recompose, starts, equal-to-true-is-IsTrue, IsAbsolute, is_empty, is_opaque, is_opaque_rejection, query_or, target_of, ok-result-has-no-opaque-rejection, result_or_target_error, target-text-has-target-components, NeedsSchemeOrAuthority, without_fragment, is_rootless, has_emptied_path, needs_authority, settled, would_inherit_query, joined_path, settled-text-has-settled-components}
+use Rattle.uri_relative.proofs.Common.{◌≡◌, ℕ, Bool, true, false, not, ◌&&◌, ◌||◌, List, [], ◌∷◌, refl, sym, ap, ◌∙◌, ⊎_elim, inl, inr, arith, is_none, is_some, and_parts, both_ways, not-true, or_cases, slash, Components, IsAbemptyPath, components, recompose, starts, equal-to-true-is-IsTrue, IsAbsolute, is_empty, is_opaque, is_opaque_rejection, target_of, ok-result-has-no-opaque-rejection, result_or_target_error, target-text-has-target-components, NeedsSchemeOrAuthority, without_fragment, is_rootless, has_emptied_path, needs_authority, settled, would_inherit_query, joined_path, settled-text-has-settled-components}
 use Rattle.uri_relative.proofs.RootedTargets.{base-that-is-not-opaque-is-rooted}
 use Rattle.uri_relative.proofs.JoinedPaths.{target-path-stays-absolute, nonempty-joined-path-is-absolute, path-joined-to-absolute-is-absolute}
 use Rattle.uri_relative.proofs.ReferenceForms.{IsPathForm, reference-without-authority-is-path-form}
@@ -13,12 +13,6 @@ nonempty-abempty-path-is-absolute path (inr e) h = e
 path-with-slash-is-not-empty : (path : List ℕ) → starts slash path ≡ true → is_empty path ≡ true → ⊥
 path-with-slash-is-not-empty [] e h = cc
 path-with-slash-is-not-empty (c ∷ path) e h = cc
-
-inherited-query-is-present : (base query : Option (List ℕ)) → is_some base ≡ true
-    → is_none (query_or base query) ≡ true → ⊥
-inherited-query-is-present None query e h = cc
-inherited-query-is-present (Some b) None e h = cc
-inherited-query-is-present (Some b) (Some q) e h = cc
 
 -- relativized references: a base that is not opaque, without an authority, has an absolute path; t:
 -- the target
@@ -54,14 +48,8 @@ module _ (b t o : Components) (rooted : IsAbemptyPath b.path) (w : IsPathForm b 
       (nonempty-abempty-path-is-absolute b.path rooted (not-true _ all.1)))) both.1
 
   path-reference-would-not-inherit-query : would_inherit_query b t ≡ true → ⊥
-  path-reference-would-not-inherit-query e = grind (
-    arith,
-    nat_tests,
-    inherited-query-is-present,
-    path-with-slash-is-not-empty,
-    absolute-joined-path-gives-absolute-target,
-    nonempty-joined-path-is-absolute,
-  )
+  path-reference-would-not-inherit-query e =
+      grind (arith, absolute-joined-path-gives-absolute-target, nonempty-joined-path-is-absolute)
 
   path-reference-misses-exception : is_opaque b ≡ false → needs_authority b t ≡ true → ⊥
   path-reference-misses-exception opaque e =

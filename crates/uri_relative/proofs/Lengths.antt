@@ -1,5 +1,5 @@
 -- How long the two paths are that lead to a path.
-use Rattle.uri_relative.proofs.Common.{◌≡◌, ℕ, zero, suc, ◌+◌, ◌*◌, ◌<◌, ◌≤◌, ◌/◌, Bool, true, false, List, [], ◌∷◌, ◌++◌, length, refl, arith, length-append, false≢true, leb-true, nat_tests, is_empty, double_dots, relative_path}
+use Rattle.uri_relative.proofs.Common.{◌≡◌, ℕ, zero, suc, ◌+◌, ◌*◌, ◌<◌, ◌≤◌, ◌/◌, Bool, true, false, List, ◌++◌, length, refl, arith, length-append, false≢true, leb-true, nat_tests, is_empty, double_dots, relative_path}
 use Rattle.std.proofs.lemmas.Nat.{div-add-mod', mod_below}
 use mir.Val.{bool_byte}
 use lib.Dec.{leb}
@@ -27,10 +27,6 @@ pub length-of-path-up-to-nothing : (n : ℕ) (rest : List ℕ) → is_empty rest
 length-of-path-up-to-nothing n rest e =
     grind (arith, relative_path-of-some-climbs, length-of-double-dots-and-rest)
 
-empty-text-has-length-zero : (rest : List ℕ) → is_empty rest ≡ true → length rest ≡ 0
-empty-text-has-length-zero [] e = refl
-empty-text-has-length-zero (c ∷ rest) e = absurd (false≢true e)
-
 -- lengths of relativized paths: by the code's test, a division by 3, one that goes up is no longer
 -- than the path from the root
 pub relative-path-fits-by-division : (n prefix : ℕ) (rest : List ℕ) (none : Bool) → 0 < n
@@ -48,13 +44,7 @@ pub relative-path-is-longer-by-division : (n prefix : ℕ) (rest : List ℕ) (no
     → none ≡ is_empty rest → leb n ((prefix + bool_byte none) / 3) ≡ false
     → prefix + length rest < length (relative_path n rest)
 relative-path-is-longer-by-division zero prefix rest none some e h = absurd (omega (arith, some))
-relative-path-is-longer-by-division (suc m) prefix rest true some e h = grind (
-  arith,
-  nat_tests,
-  div-add-mod',
-  mod_below,
-  length-of-path-up-to-nothing,
-  empty-text-has-length-zero,
-)
+relative-path-is-longer-by-division (suc m) prefix rest true some e h =
+    grind (arith, nat_tests, div-add-mod', mod_below, length-of-path-up-to-nothing, false≢true)
 relative-path-is-longer-by-division (suc m) prefix rest false some e h =
     grind (arith, nat_tests, div-add-mod', mod_below, length-of-path-up-to-some)

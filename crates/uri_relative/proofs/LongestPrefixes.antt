@@ -1,22 +1,14 @@
 -- Of the prefixes that two paths share, the longest one makes the shortest relative path.
-use Rattle.uri_relative.proofs.Common.{◌≡◌, ℕ, zero, suc, ◌+◌, ◌*◌, ◌<◌, ◌≤◌, Bool, true, false, cond, eqb, List, [], ◌∷◌, ◌++◌, length, take, drop, get_or, refl, sym, ap, ◌∙◌, arith, ⊎_elim, length-append, ◌⊎◌, codes, is_empty, relative_from, relative_path, slashes}
+use Rattle.std.proofs.lemmas.Grind.{common_steps}
+use Rattle.uri_relative.proofs.Common.{◌≡◌, ℕ, zero, suc, ◌+◌, ◌*◌, ◌<◌, ◌≤◌, Bool, true, false, cond, eqb, List, [], ◌∷◌, ◌++◌, length, take, drop, get_or, refl, sym, ap, ◌∙◌, arith, ⊎_elim, length-append, ◌⊎◌, is_empty, relative_from, relative_path, slashes}
 use Rattle.std.proofs.lemmas.List.Recursion.{is_count_by}
 use Rattle.std.proofs.lemmas.List.{drop-append-le, drop_more, length-take-le, take-append-drop}
 use Rattle.uri_relative.proofs.Lengths.{length-of-path-up-to-some, length-of-path-up-to-nothing}
 
--- lengths of relativized paths: one without `../` is two bytes longer than its rest at most; none,
--- misread: whether it is `.`, or needs `./`
-path-without-double-dots-is-at-most-two-longer : (rest : List ℕ) (none misread : Bool)
-    → length (cond none (codes ".") (cond misread (codes "./" ++ rest) rest)) ≤ length rest + 2
-path-without-double-dots-is-at-most-two-longer rest true misread = omega arith
-path-without-double-dots-is-at-most-two-longer rest false true = omega arith
-path-without-double-dots-is-at-most-two-longer rest false false = omega arith
-
 -- lengths of relativized paths: one with n `../` and a rest has two bytes more at most
 length-of-relative-path-is-bounded : (n : ℕ) (rest : List ℕ)
     → length (relative_path n rest) ≤ 3 * n + length rest + 2
-length-of-relative-path-is-bounded zero rest =
-    grind (arith, path-without-double-dots-is-at-most-two-longer)
+length-of-relative-path-is-bounded zero rest = grind arith
 length-of-relative-path-is-bounded (suc n) rest =
     grind (arith, length-of-path-up-to-nothing, length-of-path-up-to-some)
 
@@ -43,17 +35,8 @@ slashes-of-joined-texts-add-up (c ∷ a) b = more (eqb c 47) (slashes-of-joined-
 -- relativized paths: two texts joined by a `/` (47) have one slash more than both
 slash-between-adds-one-to-slashes : (a b : List ℕ) → slashes (a ++ 47 ∷ b)
     ≡ suc (slashes a + slashes b)
-unfolding counted
 slash-between-adds-one-to-slashes a b =
-    let first : counted (47 ∷ b) ≡ 1 + counted b = refl in
-    omega (
-      arith,
-      first,
-      slashes-of-joined-texts-add-up a (47 ∷ b),
-      counted-is-slashes (a ++ 47 ∷ b),
-      counted-is-slashes a,
-      counted-is-slashes b,
-    )
+    grind (arith, common_steps, counted, slashes-of-joined-texts-add-up, counted-is-slashes)
 
 -- relativized paths: what is from before a `/` (47) on is split at it
 text-from-before-slash-is-split : (text : List ℕ) (last m : ℕ) → last < length text

@@ -1,25 +1,16 @@
 -- The prefix that two paths share.
-use Rattle.uri_relative.proofs.Common.{◌≡◌, ℕ, zero, suc, ◌+◌, ◌<◌, ◌≤◌, List, [], ◌∷◌, ◌++◌, length, take, get_or, refl, sym, ap, ◌∙◌, arith, append_assoc, length-append, ◌-◌, ◌⊎◌, ⊎_elim, drop, false, subst, codes, ◌==◌, false≢true, list_any_at, nat_tests, EndsInSlash, IsAbsolute, has_slash, absolute-path-is-slash-and-rest, IsLongestPrefix, IsSharedPrefix, double_dots}
+use Rattle.std.proofs.lemmas.Grind.{common_steps}
+use Rattle.uri_relative.proofs.Common.{◌≡◌, ℕ, zero, suc, ◌+◌, ◌<◌, ◌≤◌, List, ◌++◌, length, take, get_or, refl, sym, ap, ◌∙◌, arith, append_assoc, length-append, ◌-◌, ◌⊎◌, ⊎_elim, drop, false, subst, codes, ◌==◌, false≢true, list_any_at, nat_tests, EndsInSlash, IsAbsolute, has_slash, absolute-path-is-slash-and-rest, IsLongestPrefix, IsSharedPrefix, double_dots}
 use Rattle.std.proofs.lemmas.List.{append-nil, get_or-drop, get_or-take, length-drop, length-take-le, take-take, take_more}
 use Rattle.std.proofs.Math.Seq.{get_or-append_seam}
 use Rattle.uri_ops.specs.Models.Places.{IsSlashOrStart}
 use Rattle.uri_ops.proofs.Offered.{slash-position-is-of-slash, prefix-of-absolute-path-is-absolute}
 
-shorter-prefix-is-shared-too : (m n : ℕ) (a b : List ℕ) → m ≤ n → take n a ≡ take n b
-    → take m a ≡ take m b
-shorter-prefix-is-shared-too m n a b h e = sym (take-take m n a h) ∙ ap (take m) e
-    ∙ take-take m n b h
-
 -- relativized paths: two paths with equal first n bytes share the prefix up to a `/` (47) in these
 pub shared-prefix-to-slash : (base path : List ℕ) (last n : ℕ) → last < n → n ≤ length base
     → get_or base last 0 ≡ 47 → take n base ≡ take n path → IsSharedPrefix (last + 1) base path
-shared-prefix-to-slash base path last n h within e same = record {
-  same = shorter-prefix-is-shared-too (last + 1) n base path (omega arith) same;
-  closed = (
-    take last base,
-    take_more base last 0 (omega arith) ∙ ap (λ c. take last base ++ c ∷ []) e,
-  );
-}
+shared-prefix-to-slash base path last n h within e same =
+    grind (arith, common_steps, take-take, take_more)
 
 -- relativized paths: two texts with equal first n bytes have the same byte at each index below n
 shared-prefix-has-same-bytes : (n i : ℕ) (a b : List ℕ) → i < n → take n a ≡ take n b → get_or a i 0
@@ -33,17 +24,11 @@ pub shared-prefix-has-same-slash : (base path : List ℕ) (last n : ℕ) → las
 shared-prefix-has-same-slash base path last n h e same = sym
     (shared-prefix-has-same-bytes n last base path h same) ∙ e
 
--- relativized paths: the first byte of an absolute path is `/` (47)
-absolute-path-begins-with-slash-byte : (path : List ℕ) → IsAbsolute path → (get_or path 0 0 ≡ 47)
-    × (0 < length path)
-absolute-path-begins-with-slash-byte path h =
-    grind (arith, nat_tests, absolute-path-is-slash-and-rest)
-
 -- relativized paths: two absolute paths share their first `/`; n: where they first differ
 pub absolute-paths-share-a-byte : (base path : List ℕ) (n : ℕ) → IsAbsolute base → IsAbsolute path
     → (n < length base → n < length path → get_or base n 0 ≡ get_or path n 0 → ⊥) → 0 < n
 absolute-paths-share-a-byte base path zero h k most =
-    grind (arith, absolute-path-begins-with-slash-byte)
+    grind (arith, nat_tests, absolute-path-is-slash-and-rest)
 absolute-paths-share-a-byte base path (suc n) h k most = omega arith
 
 -- relativized paths: the last byte of a shared prefix is `/` (47)

@@ -1,6 +1,6 @@
 -- The forms of a reference by what it leads to: with a scheme, with an authority, or a path. RFC
 -- 3986, sections 4.2 and 5.2.2.
-use Rattle.uri_relative.proofs.Common.{◌≡◌, ℕ, ◌+◌, ◌≤◌, Bool, true, false, cond, List, [], length, refl, arith, ⊎_elim, length-append, codes, Option, is_some, cases_Bool, nat_tests, Components, marked, recompose, Kind, is_empty, dotless_if_absolute, guarded, query_or, target_of, after_path, joined_path, IsReferenceFrom}
+use Rattle.uri_relative.proofs.Common.{◌≡◌, ◌+◌, ◌≤◌, true, false, cond, [], length, arith, ⊎_elim, length-append, codes, is_some, cases_Bool, nat_tests, Components, marked, recompose, Kind, is_empty, dotless_if_absolute, guarded, query_or, target_of, after_path, joined_path, IsReferenceFrom}
 use Rattle.uri_relative.proofs.Shrinking.{target-is-no-longer-with-final-path, length-of-recompose}
 
 -- forms of references, for relativizing: one (o) with a scheme is no shorter than the target t
@@ -34,24 +34,11 @@ pub record IsPathForm (b t o : Components) : Type 0 where
   pub query : cond (is_empty o.path) (query_or b.query o.query) o.query ≡ t.query
   pub fragment : o.fragment ≡ t.fragment
 
--- relativized references, resolved: components of a case are those of each field by the case;
--- empty, rooted: whether the reference's path is empty, begins with `/`
-components-joined-field-by-field : (b : Components) (empty rooted : Bool) (p m : List ℕ)
-    (q r f : Option (List ℕ))
-    → cond empty (let c : Components = record b { query = q; fragment = f } in c)
-    (cond rooted (let c : Components = record b { path = p; query = r; fragment = f } in c)
-    (let c : Components = record b { path = m; query = r; fragment = f } in c))
-    ≡ record b { path = cond empty b.path (cond rooted p m); query = cond empty q r; fragment = f }
-components-joined-field-by-field b true rooted p m q r f = refl
-components-joined-field-by-field b false true p m q r f = refl
-components-joined-field-by-field b false false p m q r f = refl
-
 -- forms of references, for relativizing: one (o) without a scheme and an authority leads to t by
 -- its path, query and fragment
 pub reference-without-authority-is-path-form : (b t o : Components) → target_of b o ≡ t
     → is_some o.scheme ≡ false → is_some o.authority ≡ false → IsPathForm b t o
-reference-without-authority-is-path-form b t o leads none none' =
-    grind (arith, nat_tests, components-joined-field-by-field)
+reference-without-authority-is-path-form b t o leads none none' = grind (arith, nat_tests)
 
 -- forms of references, for relativizing: one (o) has a scheme, or an authority alone, or neither
 pub reference-is-of-one-form : (kind : Kind) (b t o : Components) (P : Type 0)

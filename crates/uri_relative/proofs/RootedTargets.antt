@@ -1,18 +1,12 @@
 -- Which targets need an authority in their reference, and which bases have a rooted path: RFC 3986,
 -- section 5.2.2.
-use Rattle.uri_relative.proofs.Common.{◌≡◌, ◌≢◌, ℕ, Bool, true, false, List, [], ◌&&◌, refl, sym, ap, ◌∙◌, inl, inr, ⊎_elim, arith, codes, Option, None, Some, IfSome, is_some, is_none, both_ways, cases_Bool, false≢true, not-false, nat_tests, slash, Components, IsAbemptyPath, Lacks, components, starts, Kind, not_some_is_none, eq_true_from_IsTrue, components-are-split-of-text, equal-to-true-is-IsTrue, is_opaque, empty-text-is-nil, IsDotlessTargetOf, NeedsPath, needs_authority}
+use Rattle.uri_relative.proofs.Common.{◌≡◌, ◌≢◌, ℕ, Bool, true, false, List, [], ◌&&◌, sym, ap, ◌∙◌, inl, inr, ⊎_elim, arith, codes, Option, None, Some, IfSome, is_some, is_none, both_ways, cases_Bool, false≢true, not-false, nat_tests, slash, Components, IsAbemptyPath, Lacks, components, starts, Kind, not_some_is_none, eq_true_from_IsTrue, components-are-split-of-text, equal-to-true-is-IsTrue, is_opaque, empty-text-is-nil, IsDotlessTargetOf, NeedsPath, needs_authority}
 
 abempty-path-without-slash-is-empty : (path : List ℕ) → IsAbemptyPath path → starts slash path
     ≡ false → path ≡ []
 abempty-path-without-slash-is-empty path (inl e) h = e
 abempty-path-without-slash-is-empty path (inr e) h = absurd
     (both_ways _ h (eq_true_from_IsTrue _ e))
-
-base-has-query-that-target-lacks : (base t : Option (List ℕ)) → is_none t ≡ true → base ≢ t
-    → is_some base ≡ true
-base-has-query-that-target-lacks None None e other = absurd (other refl)
-base-has-query-that-target-lacks None (Some q) e other = absurd (false≢true e)
-base-has-query-that-target-lacks (Some p) t e other = refl
 
 rootless-path-without-authority-needs-one : (base t : Components) → is_some t.authority ≡ false
     → starts slash t.path ≡ false → needs_authority base t ≡ true
@@ -22,7 +16,7 @@ empty-path-after-authority-needs-authority : (base t : Components) → NeedsPath
     → base.authority ≡ t.authority → is_opaque base ≡ false → is_some t.authority ≡ true
     → t.path ≡ [] → needs_authority base t ≡ true
 empty-path-after-authority-needs-authority base t n a opaque some e =
-    grind (arith, nat_tests, empty-text-is-nil, base-has-query-that-target-lacks)
+    grind (arith, nat_tests, empty-text-is-nil, false≢true)
 
 -- targets to relativize: the path after an authority (a) is empty or begins with `/`
 path-after-authority-is-abempty : (a : Option (List ℕ)) (path : List ℕ) → is_some a ≡ true

@@ -1,5 +1,5 @@
 -- Which reference is chosen.
-use Rattle.uri_relative.proofs.Common.{◌≡◌, ℕ, ◌<◌, ◌≤◌, Bool, true, false, not, ◌&&◌, List, [], length, ◌+◌, drop, refl, sym, ap, ◌∙◌, arith, Option, None, Some, bytes_eq, is_none, is_some, Decides, and_from, and_left, and_parts, and_right, both_ways, cond-false, cond-true, false_from_ne_true, lt-leb, not_from_true, or_from, Decides-like, slash, Components, starts, lacks_dot_segments, or_slash, remove_dot_segments, guarded, is_opaque, remove-dots-of-dotless, IsUnguarded, NeedsPath, from_authority, IsLongestPrefix, IsSharedPrefix, relative_from, relative_path, slashes, has_same_authority, has_same_query, has_same_scheme, path_from_base, reference_components, shortest_or_preferred_path, has_same_authority_and_path, shared_directory_len}
+use Rattle.uri_relative.proofs.Common.{◌≡◌, ℕ, ◌<◌, ◌≤◌, Bool, true, false, not, ◌&&◌, List, [], length, ◌+◌, drop, refl, sym, ap, ◌∙◌, arith, Option, None, Some, bytes_eq, is_none, is_some, Decides, and_from, and_left, and_parts, and_right, both_ways, cond-false, cond-true, false_from_ne_true, lt-leb, not_from_true, or_from, Decides-like, slash, Components, starts, lacks_dot_segments, or_slash, remove_dot_segments, guarded, is_opaque, remove-dots-of-dotless, IsUnguarded, NeedsPath, from_authority, IsLongestPrefix, IsSharedPrefix, relative_path, slashes, has_same_authority, has_same_query, has_same_scheme, path_from_base, reference_components, shortest_or_preferred_path, has_same_authority_and_path}
 use Rattle.std.specs.Option.{option_eq}
 use Rattle.std.proofs.lemmas.Slice.Eq.{bytes_eq-Decides}
 use Rattle.uri_relative.proofs.Climbs.{remove_dot_segments-follows-dots}
@@ -35,13 +35,8 @@ pub relative-path-by-longest-prefix : (given base path bytes others rest : List 
     → last < length bytes → IsSharedPrefix (last + 1) bytes others
     → IsLongestPrefix (last + 1) bytes others → double_dots ≡ slashes (drop (last + 1) base)
     → rest ≡ drop (last + 1) path → relative_path double_dots rest ≡ path_from_base given path
-relative-path-by-longest-prefix given base path bytes others rest last double_dots root e f h shared
-    longest g k =
-    ap (λ m. relative_path m rest) g
-    ∙ ap (λ t. relative_path (slashes (drop (last + 1) base)) t) k
-    ∙ ap (λ n. relative_from n base path)
-    (grind (arith, longest-shared-prefix-has-shared_directory_len))
-    ∙ ap (λ b. relative_from (shared_directory_len b path) b path) root
+relative-path-by-longest-prefix given base path bytes others rest last double_dots root e f h shared longest g k =
+    grind (arith, longest-shared-prefix-has-shared_directory_len)
 
 pub unguarded-path-is-without-dots : (t : Components) (path : List ℕ) → IsUnguarded t path
     → path ≡ remove_dot_segments t.path

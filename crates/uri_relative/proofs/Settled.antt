@@ -1,5 +1,6 @@
 -- Targets of which no dot segment is left to remove: RFC 3986, section 5.2.2.
-use Rattle.uri_relative.proofs.Common.{◌≡◌, ℕ, Bool, true, false, cond, List, [], ◌∷◌, ◌++◌, ◌&&◌, arith, drop, eqb, refl, sym, ap, ◌∙◌, ⊎_elim, codes, Option, None, Some, IfNone, is_some, is_none, IsCharBoundary, IsUtf8, and-false, and_parts, cases_Bool, cond-true, cond-false, false_from_ne_true, false≢true, nat_tests, eq_true_from_IsTrue, slash, Components, starts, has_authority, equal-to-true-is-IsTrue, IsAbsolute, lacks_dot_segments, remove_dot_segments, underflows, with_final_path, dotless_if_absolute, underflows_if_absolute, guarded, removing-dots-keeps-absolute, removing-dots-leaves-no-dot-segment, remove-dots-of-dotless, dotless-path-does-not-underflow, two-slashes-begin-with-slash, guard-is-removed-as-dot-segment, dotless_if_absolute-is-idempotent, absolute-path-is-slash-and-rest, IsUnguarded, is_guarded}
+use Rattle.std.proofs.lemmas.Grind.{common_steps}
+use Rattle.uri_relative.proofs.Common.{◌≡◌, ℕ, Bool, true, false, cond, List, [], ◌∷◌, ◌++◌, ◌&&◌, arith, drop, eqb, refl, sym, ap, ◌∙◌, ⊎_elim, codes, Option, None, Some, IfNone, is_some, is_none, IsCharBoundary, IsUtf8, and-false, and_parts, cases_Bool, cond-true, cond-false, false≢true, nat_tests, eq_true_from_IsTrue, slash, Components, starts, has_authority, equal-to-true-is-IsTrue, IsAbsolute, lacks_dot_segments, remove_dot_segments, underflows, with_final_path, dotless_if_absolute, underflows_if_absolute, guarded, removing-dots-keeps-absolute, removing-dots-leaves-no-dot-segment, remove-dots-of-dotless, dotless-path-does-not-underflow, two-slashes-begin-with-slash, guard-is-removed-as-dot-segment, dotless_if_absolute-is-idempotent, absolute-path-is-slash-and-rest, IsUnguarded, is_guarded}
 use Rattle.uri_relative.proofs.Climbs.{underflows-follows-dots}
 use Rattle.uri_relative.proofs.Ways.{guard-counts-as-no-segment, rootless-path-has-no-authority}
 
@@ -7,18 +8,12 @@ use Rattle.uri_relative.proofs.Ways.{guard-counts-as-no-segment, rootless-path-h
 abbrev finish : Option (List ℕ) → List ℕ → List ℕ
 finish a p = guarded a (dotless_if_absolute p)
 
--- targets to relativize: removing dot segments and guarding the path, twice, is doing so once; a:
--- the authority
-finish-is-idempotent : (a : Option (List ℕ)) (path : List ℕ) → finish a (finish a path)
-    ≡ finish a path
-finish-is-idempotent a path =
-    grind (arith, guard-is-removed-as-dot-segment, dotless_if_absolute-is-idempotent)
-
 -- targets to relativize: removing dot segments from a target's path, and guarding it, twice is
 -- doing so once
 pub final-path-is-idempotent : (t : Components) → with_final_path (with_final_path t)
     ≡ with_final_path t
-final-path-is-idempotent t = grind (arith, finish-is-idempotent)
+final-path-is-idempotent t =
+    grind (arith, guard-is-removed-as-dot-segment, dotless_if_absolute-is-idempotent)
 
 -- targets to relativize: a path that doesn't begin with `/` keeps its dot segments and gets no
 -- guard; a: the authority
@@ -145,30 +140,12 @@ path-after-guard-is-unguarded t rest none h done whole double =
     let same : q ≡ rest = grind (arith, guarded-path-has-dot-segment) in
     grind (arith, removing-dots-keeps-absolute, guarded-dotless-path-is-the-path)
 
--- targets to relativize: without an authority, a path that does not begin with the guard `/.` has
--- none to leave out
-path-without-guard-is-itself-unguarded : (t : Components) → is_some t.authority ≡ false
-    → IsAbsolute t.path → with_final_path t ≡ t
-    → ((rest : List ℕ) → t.path ≡ codes "/." ++ rest → has_authority rest ≡ false)
-    → IsUnguarded t t.path
-path-without-guard-is-itself-unguarded t none h done other = grind (
-  arith,
-  nat_tests,
-  guard-is-that-without-authority,
-  guarded-dotless-path-is-the-path,
-  path-without-dots-is-unguarded,
-)
-
 guarded-path-is-guard-and-path : (path : List ℕ) → is_guarded path ≡ true
     → (path ≡ codes "/." ++ drop 2 path) × (has_authority (drop 2 path) ≡ true)
 guarded-path-is-guard-and-path [] e = absurd (false≢true e)
 guarded-path-is-guard-and-path (a ∷ []) e =
     absurd (false≢true (and_parts (eqb a 47 && false) false (and_parts _ false e).0).1)
 guarded-path-is-guard-and-path (a ∷ b ∷ rest) e = grind (arith, nat_tests)
-
-guard-before-slashes-is-guarded : (rest : List ℕ) → has_authority rest ≡ true
-    → is_guarded (codes "/." ++ rest) ≡ true
-guard-before-slashes-is-guarded rest e = grind arith
 
 pub path-without-guard-is-unguarded : (t : Components) → is_some t.authority ≡ false
     → IsAbsolute t.path
@@ -179,11 +156,9 @@ path-without-guard-is-unguarded t none h done e =
 
 pub path-that-needs-no-guard-is-unguarded : (t : Components) → is_some t.authority ≡ false
     → IsAbsolute t.path → with_final_path t ≡ t → is_guarded t.path ≡ false → IsUnguarded t t.path
-path-that-needs-no-guard-is-unguarded t none h done e = path-without-guard-is-itself-unguarded t
-    none h done (grind (arith, false_from_ne_true, guard-before-slashes-is-guarded))
+path-that-needs-no-guard-is-unguarded t none h done e =
+    grind (arith, path-without-dots-is-unguarded)
 
 pub guard-ends-at-character : (path : List ℕ) → IsUtf8 path → is_guarded path ≡ true
     → IsCharBoundary path 2
-guard-ends-at-character path utf8 e =
-    let whole = (guarded-path-is-guard-and-path path e).0 in
-    grind arith
+guard-ends-at-character path utf8 e = grind (arith, common_steps, guarded-path-is-guard-and-path)

@@ -25,14 +25,9 @@ pub record SharesDirectoryPrefix (output left segs : List (List ℕ)) : Type 0 w
   pub first : (0 < length up) ⊎ ((down ≡ [] ∷ []) ⊎ (BeginWithSameSegment segs down
       ⊎ (3 * length up + length (slashed down) + 2 ≤ length (slashed segs) + spare)))
 
--- relativized paths: a single byte is not `..`
-one-byte-is-no-double-dot : (c : ℕ) → is_double_dot (c ∷ []) ≡ false
-one-byte-is-no-double-dot c = simp and-false
-
 double-dot-segment-has-two-bytes : (s : List ℕ) → is_double_dot s ≡ true → 1 < length s
 double-dot-segment-has-two-bytes [] e = absurd (false≢true e)
-double-dot-segment-has-two-bytes (c ∷ []) e = absurd
-    (false≢true (sym (one-byte-is-no-double-dot c) ∙ e))
+double-dot-segment-has-two-bytes (c ∷ []) e = grind (arith, false≢true, and-false)
 double-dot-segment-has-two-bytes (c ∷ d ∷ s) e = omega arith
 
 staying-segment-shares-directory-prefix : (s : List ℕ) (output : List (List ℕ)) → 0 < length s

@@ -32,11 +32,5 @@ pub reference-is-shortest : (kind : Kind) (prefers : Bool)
     → IsOfKind kind target → base ≡ base' → target ≡ target' → made' ≡ made → prefers ≡ false
     → IsReferenceTo kind prefers (components base) (settled target) (components made)
     → IsShortest kind base' target' made'
-reference-is-shortest kind prefers base target made base' target' made' needs of_base of_target
-    e f h p w =
-    subst (λ x. IsShortest kind x target' made') e
-    (subst (λ x. IsShortest kind base x made') f
-    (subst (IsShortest kind base target) (sym h)
-    (reference-text-is-shortest kind prefers base target made
-    (kind-that-needs-scheme-has-one kind base needs of_base)
-    (kind-that-needs-scheme-has-one kind target needs of_target) p w)))
+reference-is-shortest kind prefers base target made base' target' made' needs of_base of_target e f h p w =
+    grind (arith, reference-text-is-shortest, kind-that-needs-scheme-has-one)

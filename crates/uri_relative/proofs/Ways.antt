@@ -14,10 +14,6 @@ record IsRelative (way : List ℕ) : Type 0 where
   rootless : starts slash way ≡ false
   no_scheme : has_colon_in_first_segment way ≡ false
 
-rest-without-leading-dot-is-relative : (rest : List ℕ) → is_empty rest ≡ false
-    → needs_leading_dot rest ≡ false → IsRelative rest
-rest-without-leading-dot-is-relative rest some read = grind arith
-
 -- relativized paths: one without `../` is `.`, or the rest, after `./` if it would be misread;
 -- none: whether the rest is empty
 path-without-double-dots-is-relative : (rest : List ℕ) (none misread : Bool) → is_empty rest ≡ none
@@ -27,8 +23,7 @@ path-without-double-dots-is-relative rest true misread e f =
     record { some = refl; rootless = refl; no_scheme = refl }
 path-without-double-dots-is-relative rest false true e f =
     record { some = refl; rootless = refl; no_scheme = refl }
-path-without-double-dots-is-relative rest false false e f =
-    rest-without-leading-dot-is-relative rest e f
+path-without-double-dots-is-relative rest false false e f = grind arith
 
 -- relativized paths: one with n + 1 `../` is relative; none: whether the rest is empty, then the
 -- last has no `/`
@@ -90,11 +85,6 @@ relative-path-lacks-marks : (n : ℕ) (rest : List ℕ) → lacking rest ≡ tru
     → lacking (relative_path n rest) ≡ true
 relative-path-lacks-marks n rest e =
     grind (arith, property-of-each-case-holds-of-relative-path, double-dots-lack-marks)
-
--- relativized references: the guard `/.` adds neither `?` nor `#`
-guarded-path-lacks-marks : (path : List ℕ) → lacking path ≡ true → lacking (guarded None path)
-    ≡ true
-guarded-path-lacks-marks path e = grind arith
 
 -- characters that a set allows
 module _ (set : TableSet) (w : IsComponentSet (codes "?#[]") set)
@@ -182,37 +172,10 @@ record IsRootedWay (given path way : List ℕ) : Type 0 where
   no_authority : has_authority way ≡ false
   no_scheme : has_colon_in_first_segment way ≡ false
 
--- relativized references: a path from the root, guarded if it begins with `//` (double), leads from
--- any base (given) to itself
-path-from-root-is-rooted-way : (given rest : List ℕ) (double : Bool)
-    → has_authority (47 ∷ rest) ≡ double → lacks_dot_segments (47 ∷ rest) ≡ true
-    → IsRootedWay given (47 ∷ rest) (cond double (codes "/." ++ (47 ∷ rest)) (47 ∷ rest))
-path-from-root-is-rooted-way given rest true e dotless = record {
-  some = refl;
-  leads = guard-counts-as-no-segment remove_dot_segments remove_dot_segments-follows-dots
-      (47 ∷ rest) refl ∙ remove-dots-of-dotless (47 ∷ rest) refl dotless;
-  below = guard-counts-as-no-segment underflows underflows-follows-dots (47 ∷ rest) refl
-      ∙ dotless-path-does-not-underflow (47 ∷ rest) refl dotless;
-  no_authority = refl;
-  no_scheme = refl;
-}
-path-from-root-is-rooted-way given rest false e dotless =
-    grind (arith, nat_tests, remove-dots-of-dotless, dotless-path-does-not-underflow)
-
 pub path-from-root-leads-to-path : (given path : List ℕ) → IsAbsolute path
     → lacks_dot_segments path ≡ true → IsUtf8 path → IsPathTo given path (guarded None path)
 path-from-root-leads-to-path given path h dotless utf8 =
-    let e = absolute-path-is-slash-and-rest path h in
-    let r = subst (λ p. lacks_dot_segments p ≡ true → IsRootedWay given p (guarded None p)) (sym e)
-    (λ k. path-from-root-is-rooted-way given (drop 1 path) (has_authority (47 ∷ drop 1 path)) refl
-    k) dotless in
-    grind (
-      arith,
-      test-of-delimiters-gives-lacks,
-      guarded-path-lacks-marks,
-      lacked-delimiters-fail-test,
-      path-from-root-is-valid-for-set,
-    )
+    grind (arith, guard-counts-as-no-segment, remove_dot_segments-follows-dots, remove-dots-of-dotless, underflows-follows-dots, dotless-path-does-not-underflow, path-from-root-is-valid-for-set)
 
 -- relativized references: the path that was appended leads to the path, is as short as short says,
 -- and the least as least says
