@@ -56,7 +56,7 @@ pub use Rattle.uri_ops.specs.HostParts.{IsHostText}
 pub use Rattle.uri_ops.specs.Meaning.{Name, host_meaning, authority_meaning, dotless_path, components_meaning, meaning_of, AuthorityMeaning, port_meaning, HostMeaning, FutureAddress, Meaning, bare_meaning_of, under, Address}
 pub use Rattle.uri_ops.specs.Models.Decodings.{lowered_code_if, lowered_if, cased_append, lowered_text_if, IsOctetAt, KeepsPrefixWhenDecoded, decoded_parts, decoded_text, AppendsDecodedParts}
 pub use Rattle.uri_ops.specs.Models.Directories.{BeginsWith, EndsIn, IsDotlessDirectory, RemovalState, parent_directory, IsCutAtSegment}
-pub use Rattle.uri_ops.specs.Models.DraftPlaces.{IsHostAtIfSome, IsHostAt, HasRightHostRange, authority_positions_from_length, positions_from_lengths, delimited_len}
+pub use Rattle.uri_ops.specs.Models.DraftPlaces.{IsHostAtIfSome, IsHostAt, HasRightHostRange, positions_from_lengths, delimited_len}
 pub use Rattle.uri_ops.specs.Models.LeadingSegments.{begins_with_dot, BeginsWithoutDotSegment, dot_len, ends_segment, IsPrefixToSlashDot, IsDotlessPrefix, has_slash_dot_at, IsFirstSegment}
 pub use Rattle.uri_ops.specs.Models.Places.{before_path, IsSlashOrStart}
 pub use Rattle.uri_ops.specs.Models.RuledComponents.{changed_components, has_default_host, has_root_path, is_text, ruled_text, ruled_components, ruled_path, ruled_authority}
@@ -75,7 +75,7 @@ pub use Rattle.uri_ops.specs.declared.build.draft.Draft.{Draft}
 pub use Rattle.uri_ops.specs.declared.build.lengths.Lengths.{Lengths}
 pub use Rattle.uri_ops.specs.declared.resolve.error.ResolveError.{ResolveError}
 pub use Rattle.uri_ops.specs.declared.resolve.target_case.TargetCase.TheVariants.{WithScheme, WithAuthority, EmptyPath, AbsolutePath, MergedPath}
-pub use Rattle.uri_parts.proofs.Offered.{is_authority_for-sound, is_authority_for-complete, authority_parts-are-unique, names_exclude_delimiters, empty_is_authority, reg_name_host_is_valid, host_is_at_positions, holds, utf8_before_marks, ipv6-text-is-address-text, ipv4_value-sound, ipv6_value-sound, ipv4-text-is-digits-and-dots, ipv4-text-lacks-name-marks, ipv6-text-lacks-excluded-marks, ipvfuture-text-lacks-excluded-marks, joined-texts-lack-marks, hexdigit_is_userinfo_char, address-in-brackets-is-utf8, is_host-sound, lacking_text_does_not_begin_with, is_host-complete, IsEmptyOrMarked, text-is-cut-at-first-mark, cut-at-end-of-text-without-marks, slice_range-from-start, boundary-at-fragment-mark, query_text, IsEmptyOrMarked-query_text, cons_is_not_nil, fragment_text, authority_has_abempty_path, boundary_after_mark, length-before_hash, before_hash, split-text-is-before-fragment-and-fragment, slice-between-prefix-and-suffix, recompose-components, components-are-split-of-text, equal-to-true-is-IsTrue, components_of_parts, scheme_set_lacks_percent, scheme_set_excludes_delimiters, question_or_hash_ends_scheme, question_or_hash_is_no_colon, only-split-is-components, valid_text_lacks_excluded_marks, utf8_around_ascii_byte, scheme-rule-holds-without-need, uri_has_scheme, uri_is_uri_ref, iri_has_scheme, iri_is_iri_ref}
+pub use Rattle.uri_parts.proofs.Offered.{is_authority_for-sound, is_authority_for-complete, authority_parts-are-unique, names_exclude_delimiters, empty_is_authority, reg_name_host_is_valid, host_is_at_positions, holds, utf8_before_marks, ipv6-text-is-address-text, ipv4_value-sound, ipv6_value-sound, ipv4-text-is-digits-and-dots, ipv4-text-lacks-name-marks, ipv6-text-lacks-excluded-marks, ipvfuture-text-lacks-excluded-marks, joined-texts-lack-marks, hexdigit_is_userinfo_char, address-in-brackets-is-utf8, is_host-sound, lacking_text_does_not_begin_with, is_host-complete, IsEmptyOrMarked, text-is-cut-at-first-mark, cut-at-end-of-text-without-marks, slice_range-from-start, boundary-at-fragment-mark, query_text, IsEmptyOrMarked-query_text, cons_is_not_nil, fragment_text, authority_has_abempty_path, boundary_after_mark, length-before_hash, before_hash, split-text-is-before-fragment-and-fragment, slice-between-prefix-and-suffix, recompose-components, components-are-split-of-text, equal-to-true-is-IsTrue, components_of_parts, scheme_set_lacks_percent, scheme_set_excludes_delimiters, only-split-is-components, valid_text_lacks_excluded_marks, utf8_around_ascii_byte, scheme-rule-holds-without-need, uri_has_scheme, uri_is_uri_ref, iri_has_scheme, iri_is_iri_ref}
 unfoldable pub use Rattle.uri_parts.proofs.Offered.{is_address_char, is_address_text}
 pub use Rattle.uri_parts.specs.Authority.{authority_parts, AuthorityParts, IsAuthorityFor, LackAuthorityDelimiters, recompose_authority}
 unfoldable pub use Rattle.uri_parts.specs.Authority.{is_authority_for}
@@ -90,7 +90,7 @@ pub use Rattle.uri_parts.specs.Ports.{PortFunction, is_default, no_defaults}
 pub use Rattle.uri_parts.specs.Positions.{ArePositionsOf, authority_at, host_end_of, host_start_of, delimited_length, positions_of, before_fragment}
 pub use Rattle.uri_parts.specs.declared.positions.AuthorityPositions.{AuthorityPositions}
 pub use Rattle.uri_parts.specs.declared.positions.Positions.{Positions}
-pub use Rattle.uri_pct.proofs.Offered.{BeginsWithOctet, bytes_from_percent_begin_with_octet, every_set_is_subset_of_widest, len_before_percent, boundary_after_octet, tokens_after_unencoded_prefix, first_percent_is_at_boundary, prefix_len_bytes_pass, IfSome-weaken, IfSome-combine, eq_true_from_IsTrue, is_none-option_map, is_some-option_map, not_some_is_none, None-from-is_none, second-holds-if-first-is-false, none-is-not-some, some_is_not_none, None-from-not-is_some, bit_of_right_shift, is_set_bit, equality_mask_is_below_2_16, mask_bit_is_equality_of_byte, byte_below_80_or_from_c0_is_no_continuation, first_piece_is_of_character, utf8_pieces-are-of-characters, first_char_is_first_piece, char_of_utf8_is_the_char, hexdigit_is_ascii, char_has_encoding, is_no_ascii_byte, char_past_ascii_begins_past_ascii, utf8_pieces_are_cut_at_non_continuation, first_piece_tail_is_within_rest, first_piece_has_first_bytes, pieces_from_are_pieces_after_skipped_bytes, take_then_take_is_take_of_sum, decodable_char_octets_split_decoding, octets_before_tokens_lengthen_run, char_separates_decoded_tokens, decodable_char_octets_decode_as_char, printed_decode_unreserved_stays_valid, decode_unreserved_keeps_bytes, decode_unreserved_keeps_tokens_allowed, decode_tokens_keeps_tokens_printable, ascii_char_separates_encode_formatting, lowering_keeps_octets, lowercase_keeps_char_past_ascii, ascii_char_is_no_formatting_char, never_literal_is_formatting_if_both_flags, encode_formatting_commutes_with_lowering, printed_tokens_parse_to_themselves, printed_tokens_are_utf8, char_but_percent_is_its_own_token, printed_tokens_are_valid_iff_allowed, octet_digits_are_hexadecimal, chars_of_token, chars_of_token_encode_to_its_text, chars_of_printed_tokens, allowed_past_ascii_is_scalar, valid_text_has_printable_tokens, decodable_char_is_printable, unreserved_is_ascii, lowered_tokens_are_printable, lowered_tokens_are_allowed, lowering_tokens_is_idempotent, hexdigit_value_is_below_16, excludes, valid_for_superset, empty_text_is_valid, AreAscii-by-test, test_holds_of_each, length_before_mark_at_start_is_zero, length_before_marks_counts_other_byte, AreAscii, validity_of_tokens_is_validity_of_bytes, first_byte_past_ascii_is_allowed_by_its_char, ascii_char_is_allowed_iff_in_set, char_past_ascii_is_allowed_by_flags, chars_not_pct_encoded_begin_no_octet, validity_by_first_byte, ascii_first_byte_is_allowed_iff_in_set}
+pub use Rattle.uri_pct.proofs.Offered.{BeginsWithOctet, bytes_from_percent_begin_with_octet, every_set_is_subset_of_widest, len_before_percent, boundary_after_octet, tokens_after_unencoded_prefix, first_percent_is_at_boundary, prefix_len_bytes_pass, IfSome-weaken, IfSome-combine, eq_true_from_IsTrue, is_none-option_map, is_some-option_map, not_some_is_none, None-from-is_none, second-holds-if-first-is-false, none-is-not-some, some_is_not_none, bit_of_right_shift, is_set_bit, equality_mask_is_below_2_16, mask_bit_is_equality_of_byte, byte_below_80_or_from_c0_is_no_continuation, first_piece_is_of_character, utf8_pieces-are-of-characters, first_char_is_first_piece, char_of_utf8_is_the_char, hexdigit_is_ascii, char_has_encoding, is_no_ascii_byte, char_past_ascii_begins_past_ascii, utf8_pieces_are_cut_at_non_continuation, first_piece_tail_is_within_rest, first_piece_has_first_bytes, pieces_from_are_pieces_after_skipped_bytes, take_then_take_is_take_of_sum, decodable_char_octets_split_decoding, octets_before_tokens_lengthen_run, char_separates_decoded_tokens, decodable_char_octets_decode_as_char, printed_decode_unreserved_stays_valid, decode_unreserved_keeps_bytes, decode_unreserved_keeps_tokens_allowed, decode_tokens_keeps_tokens_printable, ascii_char_separates_encode_formatting, lowering_keeps_octets, lowercase_keeps_char_past_ascii, ascii_char_is_no_formatting_char, never_literal_is_formatting_if_both_flags, encode_formatting_commutes_with_lowering, printed_tokens_parse_to_themselves, printed_tokens_are_utf8, char_but_percent_is_its_own_token, printed_tokens_are_valid_iff_allowed, chars_of_token, chars_of_printed_tokens, allowed_past_ascii_is_scalar, valid_text_has_printable_tokens, decodable_char_is_printable, unreserved_is_ascii, lowered_tokens_are_printable, lowered_tokens_are_allowed, lowering_tokens_is_idempotent, hexdigit_value_is_below_16, excludes, valid_for_superset, empty_text_is_valid, AreAscii-by-test, test_holds_of_each, length_before_mark_at_start_is_zero, length_before_marks_counts_other_byte, AreAscii, validity_of_tokens_is_validity_of_bytes, first_byte_past_ascii_is_allowed_by_its_char, ascii_char_is_allowed_iff_in_set, char_past_ascii_is_allowed_by_flags, chars_not_pct_encoded_begin_no_octet, validity_by_first_byte, ascii_first_byte_is_allowed_iff_in_set}
 unfoldable pub use Rattle.uri_pct.proofs.Offered.{print_decoded, valid_from}
 pub use Rattle.uri_pct.specs.Chunks.{widest_set, Chunk, Text, Byte}
 unfoldable pub use Rattle.uri_pct.specs.Chunks.{prepend_to_chunks, chunks_of_tokens}

@@ -1,5 +1,5 @@
 -- The components of a text without characters past ASCII are those of the text, without them.
-use Rattle.uri_ops.proofs.Common.{◌≡◌, ℕ, ◌<◌, Bool, true, false, not, ltb, List, length, refl, sym, ap, ◌∙◌, ◌&&◌, ⊎_elim, inl, inr, option_map, arith, codes, Option, Some, None, IfSome, IfNone, list_all, IsUtf8, nat_tests, Components, IsSplitOf, Lacks, IsAbemptyPath, marked, starts, has_scheme, from_any, components, recompose, components-are-split-of-text, equal-to-true-is-IsTrue, only-split-is-components, utf8_before_marks, encode_past_ascii, eq_true_from_IsTrue}
+use Rattle.uri_ops.proofs.Common.{◌≡◌, ℕ, ◌<◌, Bool, true, false, not, ltb, List, length, refl, sym, ap, ◌∙◌, ◌&&◌, option_map, arith, codes, Option, Some, None, IfSome, IfNone, list_all, IsUtf8, nat_tests, Components, IsSplitOf, Lacks, IsAbemptyPath, marked, starts, has_scheme, from_any, components, recompose, components-are-split-of-text, only-split-is-components, utf8_before_marks, encode_past_ascii}
 use Rattle.uri_ops.proofs.Meanings.TextParts.{AreUtf8, scheme-ends-are-ascii, components-of-utf8-are-utf8}
 use Rattle.uri_ops.proofs.AsciiForms.EncodedPaths.{encoding-of-append-is-append, encoding-of-nil-is-nil, ascii-text-is-its-own-encoding, encoding-keeps-lacked-delimiters, encoding-keeps-leading-delimiter, encoding-keeps-emptiness, encoding-keeps-two-slashes, encoding-and-cutting-swap}
 use Rattle.uri_ops.proofs.Paths.DotRuns.{not-empty-has-length}
@@ -53,9 +53,8 @@ encoded-scheme-lacks-its-ends (Some s) u h = (
 
 encoded-abempty-path-is-abempty : (path : List ℕ) → IsAbemptyPath path
     → IsAbemptyPath (encode_past_ascii path)
-encoded-abempty-path-is-abempty path h = ⊎_elim (λ e. inl
-    (ap encode_past_ascii e ∙ encoding-of-nil-is-nil)) (λ e. inr (equal-to-true-is-IsTrue _
-    (encoding-keeps-leading-delimiter 47 refl path ∙ eq_true_from_IsTrue _ e))) h
+encoded-abempty-path-is-abempty path h =
+    grind (arith, encoding-of-nil-is-nil, encoding-keeps-leading-delimiter)
 
 -- IRIs as URIs: an encoded authority, if there is one, has no delimiter that ends it, and the path
 -- after it is empty or begins with `/`

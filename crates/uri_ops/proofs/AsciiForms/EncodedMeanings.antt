@@ -1,10 +1,10 @@
 -- A text without characters past ASCII is of the kind of URIs that goes with its kind. It is
 -- equivalent to the text that it was made from.
-use Rattle.uri_ops.proofs.Common.{◌≡◌, ℕ, true, false, eqb, ltb, not, List, refl, ap, ◌∙◌, ◌&&◌, ◌||◌, option_map, arith, codes, Option, Some, None, IfSome, is_some, list_all, list_any, IsUtf8, nat_tests, TableSet, decode_unreserved, AreAscii-by-test, Components, before_any, Kind, is_scheme, is_authority, has_colon_in_first_segment, components_meet_rules, IsTextOf, utf8_before_marks, HasComponentSets, PortFunction, authority_meaning, dotless_path, components_meaning, meaning_of, Rules, meaning_under, under_rules, encode_past_ascii, ascii_set, ascii_kind}
+use Rattle.uri_ops.proofs.Common.{◌≡◌, ℕ, true, false, eqb, ltb, not, List, refl, ap, ◌∙◌, ◌&&◌, ◌||◌, option_map, arith, codes, Option, Some, None, IfSome, is_some, list_all, list_any, IsUtf8, decode_unreserved, AreAscii-by-test, Components, before_any, Kind, is_scheme, is_authority, has_colon_in_first_segment, components_meet_rules, IsTextOf, utf8_before_marks, HasComponentSets, PortFunction, authority_meaning, dotless_path, components_meaning, meaning_of, Rules, meaning_under, under_rules, encode_past_ascii, ascii_kind}
 use Rattle.uri_ops.proofs.Paths.PathCharacters.{lacked-delimiters-fail-test, test-of-delimiters-gives-lacks}
 use Rattle.uri_ops.proofs.Meanings.Lacking.{lacks_any-gives-lacks, lacks-gives-lacks_any}
 use Rattle.uri_ops.proofs.Meanings.AllowedParts.{is_set_text, set-text-is-utf8}
-use Rattle.uri_ops.proofs.Meanings.AsciiCharacters.{valid_ascii_text, percent-is-no-scheme-character}
+use Rattle.uri_ops.proofs.Meanings.AsciiCharacters.{valid_ascii_text}
 use Rattle.uri_ops.proofs.Paths.PathMeanings.{path-without-dots-is-set-text}
 use Rattle.uri_ops.proofs.Meanings.TextParts.{ArePartsOfKind, components-of-kind-meet-grammar}
 use Rattle.uri_ops.proofs.Normal.NormalTexts.{text-has-parts-of-kind}
@@ -17,13 +17,7 @@ use Rattle.uri_ops.proofs.AsciiForms.EncodedAuthorities.{text-passing-ascii-test
 -- IRIs as URIs: a scheme is ASCII
 pub schemes-are-ascii : (s : List ℕ) → IsUtf8 s → is_scheme s ≡ true → list_all (λ c. ltb c 128) s
     ≡ true
-schemes-are-ascii s u e =
-    grind (
-      arith,
-      text-passing-ascii-test-is-ascii,
-      valid_ascii_text,
-      percent-is-no-scheme-character,
-    )
+schemes-are-ascii s u e = grind (arith, text-passing-ascii-test-is-ascii, valid_ascii_text)
 
 -- IRIs as URIs: encoding characters past ASCII leaves a scheme
 scheme-is-unchanged-when-encoded : (s : List ℕ) → IsUtf8 s → is_scheme s ≡ true
@@ -49,13 +43,6 @@ encoding-adds-no-colon-first path u e =
         (codes ":") (encode_past_ascii s) (encoding-keeps-lacked-delimiters (codes ":") refl s v
         (test-of-delimiters-gives-lacks (codes ":") s (lacks-gives-lacks_any 58 s f))))
 
-encoded-component-is-for-ascii_set : (set : TableSet)
-    → set.pct_encoded ≡ true → (o : Option (List ℕ)) → IfSome o (λ x. is_set_text set x ≡ true)
-    → IfSome (option_map encode_past_ascii o) (λ x. is_set_text (ascii_set set) x ≡ true)
-encoded-component-is-for-ascii_set set octets None h = tt
-encoded-component-is-for-ascii_set set octets (Some x) h = encoded-part-is-valid-for-ascii_set
-    set octets x h
-
 module _ (kind : Kind) (sets : HasComponentSets kind) where
   encoded-authority-if-some-is-of-ascii_kind : (o : Option (List ℕ)) → IfSome o (λ a. IsUtf8 a
       × (is_authority kind a ≡ true)) → IfSome (option_map encode_past_ascii o) (λ a. IsUtf8 a
@@ -78,14 +65,7 @@ module _ (kind : Kind) (sets : HasComponentSets kind) where
   encoded-components-are-of-ascii_kind : (p : Components) → ArePartsOfKind kind p
       → ArePartsOfKind (ascii_kind kind) (encoded_components p)
   encoded-components-are-of-ascii_kind p parts =
-      grind (
-        arith,
-        schemes-are-unchanged-when-encoded,
-        encoded-authority-if-some-is-of-ascii_kind,
-        encoded-part-is-valid-for-ascii_set,
-        encoded-component-is-for-ascii_set,
-        encoding-keeps-scheme-or-colon-rule,
-      )
+      grind (arith, schemes-are-unchanged-when-encoded, encoded-authority-if-some-is-of-ascii_kind, encoded-part-is-valid-for-ascii_set, encoding-keeps-scheme-or-colon-rule)
 
   pub encoded-text-is-of-ascii_kind : (text : List ℕ) → IsTextOf kind text
       → IsTextOf (ascii_kind kind) (encode_past_ascii text)
@@ -121,14 +101,8 @@ module _ (kind : Kind) (sets : HasComponentSets kind) where
   encoding-keeps-components_meaning : (ports : PortFunction) (p : Components)
       → ArePartsOfKind kind p
       → components_meaning kind ports (encoded_components p) ≡ components_meaning kind ports p
-  encoding-keeps-components_meaning ports p parts = grind (
-    arith,
-    nat_tests,
-    schemes-are-unchanged-when-encoded,
-    encoding-keeps-optional-authority-meaning,
-    encoding-keeps-path-meaning,
-    decode_unreserved-encoded_option,
-  )
+  encoding-keeps-components_meaning ports p parts =
+      grind (arith, schemes-are-unchanged-when-encoded, encoding-keeps-optional-authority-meaning, encoding-keeps-path-meaning, decode_unreserved-encoded_option)
 
   pub encoding-keeps-meaning_of-text : (ports : PortFunction) (text : List ℕ) → IsTextOf kind text
       → meaning_of kind ports (encode_past_ascii text) ≡ meaning_of kind ports text

@@ -1,5 +1,5 @@
 -- Without characters past ASCII a text has the same marks, and a path the same dot segments.
-use Rattle.uri_ops.proofs.Common.{◌≡◌, ℕ, ◌<◌, ◌≤◌, nat_lt, Bool, true, false, eqb, ltb, not, List, [], ◌∷◌, ◌++◌, map, refl, sym, ap, subst, ◌∙◌, arith, ◌&&◌, ⊎_elim, append-nil, lit<, codes, Option, is_ascii_hexdigit, list_all, flat_map, IsUtf8, is_utf8, encode_utf8_all, all_scalars, IsUtf8-from_is_utf8, is_utf8-from_IsUtf8, map-append, flat_map-append, list_all-append, cases_Bool, cases_lt, cond-true, cond-false, and_parts, and_from, ltb-true, lt-ltb, le-ltb, not_from_false, false_from_ne_true, both_ways, and_right, nat_tests, is_one_of, test_holds_of_each, Lacks, starts, has_authority, before_any, from_any, IsAbemptyPath, IsEmptyOrMarked, text-is-cut-at-first-mark, cut-at-end-of-text-without-marks, utf8_around_ascii_byte, is_empty, has_slash, remove_dot_segments, underflows, directory, IsAbsolute, dotless_if_absolute, guarded, encode_byte_past_ascii, encode_past_ascii, equal-to-true-is-IsTrue}
+use Rattle.uri_ops.proofs.Common.{◌≡◌, ℕ, ◌<◌, ◌≤◌, nat_lt, Bool, true, false, eqb, ltb, not, List, [], ◌∷◌, ◌++◌, map, refl, sym, ap, subst, ◌∙◌, arith, ◌&&◌, ⊎_elim, append-nil, lit<, codes, Option, is_ascii_hexdigit, list_all, flat_map, IsUtf8, is_utf8, encode_utf8_all, all_scalars, IsUtf8-from_is_utf8, is_utf8-from_IsUtf8, map-append, flat_map-append, list_all-append, cases_Bool, cases_lt, cond-true, cond-false, and_parts, and_from, ltb-true, lt-ltb, le-ltb, not_from_false, false_from_ne_true, both_ways, and_right, nat_tests, is_one_of, test_holds_of_each, Lacks, starts, has_authority, before_any, from_any, IsAbemptyPath, IsEmptyOrMarked, text-is-cut-at-first-mark, cut-at-end-of-text-without-marks, utf8_around_ascii_byte, is_empty, has_slash, remove_dot_segments, underflows, directory, IsAbsolute, dotless_if_absolute, guarded, encode_byte_past_ascii, encode_past_ascii}
 use Rattle.std.specs.Prelude.{is_none as is_absent}
 use Rattle.uri_ops.proofs.Paths.Segments.{AllPass, dotless_of, parent}
 use Rattle.uri_ops.proofs.Paths.SlashedSegments.{slashed, NoSlashes, first-segment-and-rest-lack-slashes, remove-dots-by-segments, underflows-by-segments, directory-by-segments}
@@ -8,7 +8,7 @@ use Rattle.uri_ops.proofs.Paths.PathCharacters.{lacked-delimiters-fail-test, tes
 use Rattle.uri_ops.proofs.Meanings.Lacking.{lacks_any-gives-lacks, lacks-gives-lacks_any}
 use Rattle.uri_ops.proofs.Paths.SegmentMaps.{KeepsDots, dotless_of-and-map-swap, parent-and-map-swap, underflows_over-of-mapped-segments}
 use Rattle.uri_ops.proofs.Paths.DotBytes.{single-dot-by-decoded-bytes, double-dot-by-decoded-bytes}
-use Rattle.uri_ops.proofs.Paths.DecodedStarts.{leading-slash-splits-off, second-slash-makes-two-slashes, no-leading-slash-no-two-slashes}
+use Rattle.uri_ops.proofs.Paths.DecodedStarts.{second-slash-makes-two-slashes}
 use Rattle.uri_ops.proofs.Meanings.ComponentEnds.{is_outside_octets}
 use Rattle.uri_ops.proofs.AsciiForms.EncodedTokens.{octet_text, is_byte, byte-digits-have-its-value, utf8-of-character-is-bytes, encoded-text-is-utf8, encoding-keeps-decoded-bytes}
 
@@ -121,15 +121,8 @@ encoding-keeps-emptiness (b ∷ x) = ⊎_elim (λ h. ap is_empty (encoding-start
 -- IRIs as URIs: a text begins with `//` exactly if it does after encoding
 pub encoding-keeps-two-slashes : (x : List ℕ) → has_authority (encode_past_ascii x)
     ≡ has_authority x
-encoding-keeps-two-slashes x = grind (
-  arith,
-  nat_tests,
-  leading-slash-splits-off,
-  encoding-starts-with-ascii-byte,
-  second-slash-makes-two-slashes,
-  encoding-keeps-leading-delimiter,
-  no-leading-slash-no-two-slashes,
-)
+encoding-keeps-two-slashes x =
+    grind (arith, encoding-starts-with-ascii-byte, second-slash-makes-two-slashes, encoding-keeps-leading-delimiter)
 
 encoding-keeps-empty-or-delimited : (marks : List ℕ) → list_all is_outside_octets marks ≡ true
     → (x : List ℕ) → IsEmptyOrMarked marks x → IsEmptyOrMarked marks (encode_past_ascii x)
@@ -245,13 +238,7 @@ directory-and-encoding-swap = rooted _ (λ u. ap directory encoding-of-nil-is-ni
 pub dotless_if_absolute-and-encoding-swap : (path : List ℕ) → IsUtf8 path
     → dotless_if_absolute (encode_past_ascii path) ≡ encode_past_ascii (dotless_if_absolute path)
 dotless_if_absolute-and-encoding-swap path u =
-    grind (
-      arith,
-      encoding-keeps-leading-delimiter,
-      removing-dots-and-encoding-swap,
-      equal-to-true-is-IsTrue,
-      starts,
-    )
+    grind (arith, encoding-keeps-leading-delimiter, removing-dots-and-encoding-swap)
 
 pub guarding-and-encoding-swap : (authority other : Option (List ℕ)) (path : List ℕ)
     → is_absent other ≡ is_absent authority

@@ -6,7 +6,7 @@ use Rattle.uri_ops.proofs.AsciiForms.EncodedComponents.{components-of-encoded-te
 use Rattle.uri_ops.proofs.AsciiForms.EncodedMeanings.{schemes-are-unchanged-when-encoded}
 use Rattle.uri_ops.proofs.AsciiForms.EncodedPaths.{encoding-of-append-is-append, encoding-of-nil-is-nil, encoding-starts-with-ascii-byte}
 use Rattle.uri_ops.proofs.Normal.NormalTexts.{text-has-parts-of-kind}
-use Rattle.uri_ops.proofs.Normal.WrittenPlaces.{positions-with-parts-are-of-components, option_map-adding-zero-is-unchanged, length-with-delimiter-before, length-with-delimiter-after, positions-of-parts-are-of-text, pushed-authority-parts-have-positions, pushed-components-have-positions}
+use Rattle.uri_ops.proofs.Normal.WrittenPlaces.{option_map-adding-zero-is-unchanged, length-with-delimiter-before, length-with-delimiter-after, positions-of-parts-are-of-text, pushed-authority-parts-have-positions, pushed-components-have-positions}
 
 -- IRIs as URIs: what is between positions i and j is encoded after what is before i;
 -- old, new: the encoded text up to each
@@ -202,14 +202,7 @@ module _ (kind : Kind) (sets : HasComponentSets kind) (text : List ℕ) (w : IsT
   pub encoded-positions-are-right : (positions : Positions) → ArePositionsOf text positions
       → ArePositionsOf (encode_past_ascii text) (positions_in_encoded text positions)
   encoded-positions-are-right positions at =
-      grind (
-        arith,
-        encoded-positions-are-by-encoded-components,
-        positions-with-parts-are-of-components,
-        parts-of-encoded-authority-have-positions,
-        text-has-parts-of-kind,
-        components-of-encoded-text-are-encoded,
-      )
+      grind (arith, encoded-positions-are-by-encoded-components, parts-of-encoded-authority-have-positions, text-has-parts-of-kind, components-of-encoded-text-are-encoded)
 
   -- the positions are in order
   authority-positions-are-in-order : (before : ℕ) (o : Option (List ℕ))

@@ -49,14 +49,7 @@ pub ascii-byte-adds-one : (bytes : List ℕ) (i : ℕ) → i < length bytes → 
     → length (encode_past_ascii (take (i + 1) bytes))
     ≡ length (encode_past_ascii (take i bytes)) + 1
 ascii-byte-adds-one bytes i h low =
-    grind (
-      arith,
-      common_steps,
-      take-one-more-byte,
-      encoding-of-append-is-append,
-      encoding-starts-with-ascii-byte,
-      encoding-of-nil-is-nil,
-    )
+    grind (arith, common_steps, encoding-of-append-is-append, encoding-starts-with-ascii-byte)
 
 pub byte-past-ascii-adds-three : (bytes : List ℕ) (i : ℕ)
     → i < length bytes → 128 ≤ get_or bytes i 0 → length (encode_past_ascii (take (i + 1) bytes))

@@ -1,5 +1,5 @@
 -- Without characters past ASCII a base and a reference come to the same target without them.
-use Rattle.uri_ops.proofs.Common.{◌≡◌, ℕ, Bool, true, false, cond, List, [], ◌∷◌, ◌++◌, refl, sym, ap, subst, ◌∙◌, ◌&&◌, option_map, arith, Option, Some, None, Result, Ok, Err, is_some, is_none, is_ok, result_map_both, list_all, IsUtf8, is_utf8, IsUtf8-append, IsUtf8-nil, IsUtf8-from_is_utf8, is_utf8-from_IsUtf8, cond_both, and_parts, and_from, false≢true, nat_tests, Components, starts, IsAbemptyPath, components, recompose, components-are-split-of-text, equal-to-true-is-IsTrue, components_of_parts, is_empty, underflows, directory, TargetError, is_opaque_rejection, merged, dotted_target, dotless_if_absolute, guarded, target_of, target_underflows, resolution_of, encode_past_ascii, IsTargetOfEncoded, IsErrorForEncoded, IsTarget, IsErrorFor, ResolveError, is_none-option_map, is_some-option_map, not_some_is_none}
+use Rattle.uri_ops.proofs.Common.{◌≡◌, ℕ, Bool, true, false, List, [], ◌∷◌, ◌++◌, refl, sym, ap, subst, ◌∙◌, ◌&&◌, arith, Option, Some, None, Result, Ok, Err, is_some, is_none, is_ok, result_map_both, list_all, IsUtf8, is_utf8, IsUtf8-append, IsUtf8-nil, IsUtf8-from_is_utf8, is_utf8-from_IsUtf8, cond_both, and_parts, and_from, false≢true, nat_tests, Components, starts, IsAbemptyPath, components, recompose, components-are-split-of-text, components_of_parts, is_empty, underflows, directory, TargetError, is_opaque_rejection, merged, dotted_target, dotless_if_absolute, guarded, target_of, target_underflows, resolution_of, encode_past_ascii, IsTargetOfEncoded, IsErrorForEncoded, IsTarget, IsErrorFor, ResolveError, is_none-option_map, is_some-option_map, not_some_is_none}
 use Rattle.uri_ops.proofs.Paths.Segments.{AllPass, appended-segments-pass-test}
 use Rattle.uri_ops.proofs.Paths.SlashedSegments.{slashed, directory-by-segments, parent-segments-pass-test}
 use Rattle.uri_ops.proofs.Paths.DotLaws.{property-of-absolute-path-by-segments, rooted}
@@ -42,14 +42,6 @@ directory-of-utf8-is-utf8 = rooted (λ path. IsUtf8 path → IsUtf8 (directory p
     (parent-segments-pass-test is_utf8 (s ∷ rest) (segments-of-utf8-path-are-utf8 s rest u))
     (and_from _ _ (is_utf8-from_IsUtf8 [] IsUtf8-nil) refl)))))
 
--- IRIs as URIs: the query of a target, of the reference (q) or the base,
--- is encoded as that query is
-choosing-query-and-encoding-swap : (q base : Option (List ℕ))
-    → cond (is_some (option_map encode_past_ascii q)) (option_map encode_past_ascii q)
-    (option_map encode_past_ascii base) ≡ option_map encode_past_ascii (cond (is_some q) q base)
-choosing-query-and-encoding-swap None base = refl
-choosing-query-and-encoding-swap (Some x) base = refl
-
 merging-and-encoding-swap : (path p : List ℕ) → IsAbemptyPath path → IsUtf8 path
     → merged (encode_past_ascii path) (encode_past_ascii p) ≡ encode_past_ascii (merged path p)
 merging-and-encoding-swap path p h u =
@@ -61,15 +53,8 @@ dotted_target-of-encoded-without-authority : (base : Components) (p : List ℕ) 
     (List ℕ)) → AreUtf8 base → (is_empty p ≡ false → IsAbemptyPath base.path) → dotted_target
     (encoded_components base) (encoded_components (components_of_parts None None p q f))
     ≡ encoded_components (dotted_target base (components_of_parts None None p q f))
-dotted_target-of-encoded-without-authority base p q f u rooted = grind (
-  arith,
-  nat_tests,
-  choosing-query-and-encoding-swap,
-  encoding-keeps-emptiness,
-  encoded_components,
-  encoding-keeps-leading-delimiter,
-  merging-and-encoding-swap,
-)
+dotted_target-of-encoded-without-authority base p q f u rooted =
+    grind (arith, encoding-keeps-emptiness, encoding-keeps-leading-delimiter, merging-and-encoding-swap)
 
 -- IRIs as URIs: a base and a reference (s, a, p, q, f: its components) have the same target before
 -- dot segments are removed, encoded
@@ -125,15 +110,8 @@ target_of-encoded-components base r u v rooted =
 -- whether an opaque base rejects the reference
 encoding-keeps-opaque-rejection : (base r : Components) → is_opaque_rejection
     (encoded_components base) (encoded_components r) ≡ is_opaque_rejection base r
-encoding-keeps-opaque-rejection base r = grind (
-  arith,
-  nat_tests,
-  encoded_components,
-  is_none-option_map,
-  encoding-keeps-leading-delimiter,
-  is_some-option_map,
-  encoding-keeps-emptiness,
-)
+encoding-keeps-opaque-rejection base r =
+    grind (arith, encoding-keeps-leading-delimiter, encoding-keeps-emptiness)
 
 accepting-base-path-is-rooted : (b t : List ℕ)
     → is_opaque_rejection (components b) (components t) ≡ false → is_none (components t).scheme
@@ -170,13 +148,7 @@ encoding-keeps-absolute-path-underflow : (path : List ℕ) → IsUtf8 path
     → (starts 47 (encode_past_ascii path) && underflows (encode_past_ascii path))
     ≡ (starts 47 path && underflows path)
 encoding-keeps-absolute-path-underflow path u =
-    grind (
-      arith,
-      encoding-keeps-leading-delimiter,
-      starts,
-      encoding-keeps-underflow,
-      equal-to-true-is-IsTrue,
-    )
+    grind (arith, encoding-keeps-leading-delimiter, encoding-keeps-underflow)
 
 -- IRIs as URIs: a target underflows exactly if the encoded target does; b, t: base and reference
 pub encoding-keeps-target-underflow : (b t target : List ℕ) → IsUtf8 b → IsUtf8 t

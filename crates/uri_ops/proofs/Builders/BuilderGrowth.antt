@@ -1,10 +1,9 @@
 -- What a step inside an authority makes of a draft: the authority, which ends the text, goes on.
-use Rattle.uri_ops.proofs.Common.{common_steps, ◌≡◌, ℕ, ◌+◌, ◌-◌, Bool, true, false, ◌&&◌, List, [], ◌∷◌, ◌++◌, length, take, drop, refl, ap, arith, string_bytes, codes, Option, Some, None, is_none, option_map, option_map_or, IsUtf8, IsUtf8-from_is_utf8, false≢true, nat_tests, digit_set, is_valid_for, Kind, Draft, Lengths, BuilderParts, is_authority_text, is_text_for, lacks_host_and_port, lacks_port, with_more_authority, any_authority, draft_parts, ends_in_authority, HasComponentSets, is_empty, after_part, part_in, parts_in, IsHostText}
+use Rattle.uri_ops.proofs.Common.{common_steps, ◌≡◌, ℕ, ◌+◌, ◌-◌, Bool, true, false, ◌&&◌, List, [], ◌∷◌, ◌++◌, length, ap, arith, string_bytes, codes, is_none, option_map, IsUtf8, IsUtf8-from_is_utf8, false≢true, nat_tests, digit_set, is_valid_for, Kind, Draft, Lengths, BuilderParts, is_authority_text, is_text_for, lacks_host_and_port, lacks_port, with_more_authority, any_authority, draft_parts, ends_in_authority, HasComponentSets, is_empty, after_part, parts_in, IsHostText}
 use Rattle.std.specs.String.{string_len}
 use Rattle.std.specs.declared.string.String.{String}
 use Rattle.uri_ops.proofs.Builders.BuilderAuthorities.{host-extends-authority, port-extends-authority, userinfo-begins-authority}
-use Rattle.uri_ops.proofs.Builders.BuilderSteps.{text-with-more-authority-is-draft}
-use Rattle.uri_ops.proofs.Builders.Drafting.{IsDraftOfParts, absent-part-has-no-length}
+use Rattle.uri_ops.proofs.Builders.Drafting.{IsDraftOfParts}
 
 -- building: an authority that passes the test `takes`, with x appended, is one, and passes `then`
 abbrev pub ExtendsAuthority : Kind → (List ℕ → Bool) → (List ℕ → Bool) → List ℕ → Type 0
@@ -44,14 +43,6 @@ pub string_len-is-length-of-bytes : {Z : Type 0} (s : String Z) → string_len s
     ≡ length (string_bytes s)
 string_len-is-length-of-bytes s = s.bytes.ok.0
 
--- building: the authority that ends a draft, if it passes a test,
--- has a length and is that many bytes after its `//`
-passing-part-has-length : (takes : List ℕ → Bool) (o : Option ℕ) (rest : List ℕ)
-    → option_map_or takes (part_in 2 o rest) false ≡ true
-    → (n : ℕ) × (o ≡ Some n) × (takes (take n (drop 2 rest)) ≡ true)
-passing-part-has-length takes None rest e = absurd (false≢true e)
-passing-part-has-length takes (Some n) rest e = (n, refl, e)
-
 module _ (a : Draft) (x new : List ℕ) (g : Bool) (kept : g ≡ false → a.failed ≡ false) (m n : ℕ)
     (before_len : m ≡ length (string_bytes a.text)) (after_len : n ≡ length new) where
   abbrev text : List ℕ
@@ -75,22 +66,10 @@ module _ (a : Draft) (x new : List ℕ) (g : Bool) (kept : g ≡ false → a.fai
   abbrev longer : Lengths
   longer = record a.lengths { authority = option_map (λ k. k + (n - m)) a.lengths.authority }
 
-  longer-lengths-have-longer-authority : (k : ℕ) → a.lengths.authority ≡ Some k → new ≡ text ++ x
-      → (record a.lengths { authority = Some (k + length x) }) ≡ longer
-  longer-lengths-have-longer-authority k e appended = grind (arith, common_steps)
-
   text-with-longer-authority-is-draft : (a.failed ≡ false
       → ends_in_authority any_authority (draft_parts a) ≡ true) → g ≡ false
       → new ≡ text ++ x → IsDraftOfParts (with_more_authority x parts) longer new
-  text-with-longer-authority-is-draft ends e appended =
-      grind (
-        arith,
-        common_steps,
-        passing-part-has-length,
-        text-with-more-authority-is-draft,
-        absent-part-has-no-length,
-        longer-lengths-have-longer-authority,
-      )
+  text-with-longer-authority-is-draft ends e appended = grind (arith, common_steps)
 
   pub draft-with-longer-authority : (a.failed ≡ false
       → ends_in_authority any_authority (draft_parts a) ≡ true)

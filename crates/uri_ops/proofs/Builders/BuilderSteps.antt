@@ -1,6 +1,6 @@
 -- What each step of a builder makes of its text: the text of the parts so changed.
-use Rattle.uri_ops.proofs.Common.{common_steps, arith, ◌≡◌, ℕ, ◌+◌, false, List, [], ◌++◌, length, refl, sym, ap, ◌∙◌, codes, Option, Some, None, unwrap_or, recompose, Lengths, BuilderParts, with_authority, with_fragment, with_more_authority, with_path, with_query, with_scheme, IsDraft, after_part, part_in, parts_in}
-use Rattle.uri_ops.proofs.Builders.Drafting.{IsDraftOfParts, recompose-with-authority-appended, recompose-with-fragment-appended, recompose-with-longer-authority, recompose-with-path-appended, recompose-with-query-appended, text-of-parts-is-their-draft}
+use Rattle.uri_ops.proofs.Common.{common_steps, arith, ◌≡◌, ℕ, ◌+◌, false, List, [], ◌++◌, length, refl, sym, ap, ◌∙◌, codes, Option, Some, None, unwrap_or, recompose, Lengths, BuilderParts, with_authority, with_fragment, with_path, with_query, with_scheme, IsDraft, after_part, part_in, parts_in}
+use Rattle.uri_ops.proofs.Builders.Drafting.{IsDraftOfParts, recompose-with-fragment-appended, recompose-with-query-appended, text-of-parts-is-their-draft}
 
 -- building: the text of five components, each with its delimiters
 abbrev whole : Option (List ℕ) → Option (List ℕ) → List ℕ → Option (List ℕ) → Option (List ℕ)
@@ -29,18 +29,6 @@ module _ (lengths : Lengths) (text : List ℕ) (draft : IsDraft lengths text) wh
   abbrev from_fragment : List ℕ
   from_fragment = after_part 1 lengths.query from_query
 
-  scheme-without-length-is-absent : lengths.scheme ≡ None → old.scheme ≡ None
-  unfolding old
-  scheme-without-length-is-absent e = ap (λ n. part_in 0 n text) e
-
-  authority-without-length-is-absent : lengths.authority ≡ None → old.authority ≡ None
-  unfolding old
-  authority-without-length-is-absent e = ap (λ n. part_in 2 n rest) e
-
-  path-without-length-is-absent : lengths.path ≡ None → old.path ≡ None
-  unfolding old
-  path-without-length-is-absent e = ap (λ n. part_in 0 n from_path) e
-
   query-without-length-is-absent : lengths.query ≡ None → old.query ≡ None
   unfolding old
   query-without-length-is-absent e = ap (λ n. part_in 1 n from_query) e
@@ -59,58 +47,18 @@ module _ (lengths : Lengths) (text : List ℕ) (draft : IsDraft lengths text) wh
       → lengths.path ≡ None → lengths.query ≡ None → lengths.fragment ≡ None
       → IsDraftOfParts (with_scheme x (parts_in lengths text false))
       (record lengths { scheme = Some (length x) }) (text ++ (x ++ codes ":"))
-  unfolding old
-  text-with-scheme-is-draft x s a p q f =
-      grind (
-        arith,
-        common_steps,
-        text-of-parts-is-their-draft,
-        with_scheme,
-        old,
-        longer-text-is-parts-and-more,
-        scheme-without-length-is-absent,
-        authority-without-length-is-absent,
-        path-without-length-is-absent,
-        query-without-length-is-absent,
-        fragment-without-length-is-absent,
-      )
+  text-with-scheme-is-draft x s a p q f = grind (arith, common_steps)
 
   pub text-with-authority-is-draft : (x : List ℕ) → lengths.authority ≡ None → lengths.path ≡ None
       → lengths.query ≡ None → lengths.fragment ≡ None
       → IsDraftOfParts (with_authority x (parts_in lengths text false))
       (record lengths { authority = Some (length x) }) (text ++ (codes "//" ++ x))
-  unfolding old
-  text-with-authority-is-draft x a p q f =
-      grind (
-        arith,
-        common_steps,
-        text-of-parts-is-their-draft,
-        with_authority,
-        old,
-        longer-text-is-parts-and-more,
-        authority-without-length-is-absent,
-        path-without-length-is-absent,
-        query-without-length-is-absent,
-        fragment-without-length-is-absent,
-        recompose-with-authority-appended,
-      )
+  text-with-authority-is-draft x a p q f = grind (arith, common_steps)
 
   pub text-with-path-is-draft : (x : List ℕ) → lengths.path ≡ None
       → lengths.query ≡ None → lengths.fragment ≡ None → IsDraftOfParts (with_path x
       (parts_in lengths text false)) (record lengths { path = Some (length x) }) (text ++ x)
-  unfolding old
-  text-with-path-is-draft x p q f =
-      grind (
-        arith,
-        common_steps,
-        text-of-parts-is-their-draft,
-        old,
-        longer-text-is-parts-and-more,
-        path-without-length-is-absent,
-        query-without-length-is-absent,
-        fragment-without-length-is-absent,
-        recompose-with-path-appended,
-      )
+  text-with-path-is-draft x p q f = grind (arith, common_steps)
 
   pub text-with-query-is-draft : (x : List ℕ) → lengths.query ≡ None → lengths.fragment ≡ None
       → IsDraftOfParts (with_query x (parts_in lengths text false))
@@ -134,23 +82,3 @@ module _ (lengths : Lengths) (text : List ℕ) (draft : IsDraft lengths text) wh
       (unwrap_or old.path []) old.query (fragment-without-length-is-absent f i) ++ (codes "#" ++ x))
       ∙ recompose-with-fragment-appended old.scheme old.authority old.query
       (unwrap_or old.path []) x)
-
-  -- more of an authority that comes last
-  pub text-with-more-authority-is-draft : (n : ℕ) (a x : List ℕ) → lengths.authority ≡ Some n
-      → (parts_in lengths text false).authority ≡ Some a → lengths.path ≡ None
-      → lengths.query ≡ None → lengths.fragment ≡ None
-      → IsDraftOfParts (with_more_authority x (parts_in lengths text false))
-      (record lengths { authority = Some (n + length x) }) (text ++ x)
-  unfolding old
-  text-with-more-authority-is-draft n a x e is p q f =
-      grind (
-        arith,
-        common_steps,
-        text-of-parts-is-their-draft,
-        old,
-        longer-text-is-parts-and-more,
-        path-without-length-is-absent,
-        query-without-length-is-absent,
-        fragment-without-length-is-absent,
-        recompose-with-longer-authority,
-      )

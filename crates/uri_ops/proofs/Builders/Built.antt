@@ -76,10 +76,7 @@ empty-or-slash-first-is-abempty (c ∷ path) e = inr (equal-to-true-is-IsTrue _ 
 abempty-is-empty-or-slash-first : (path : List ℕ) → IsAbemptyPath path
     → (is_empty path || starts 47 path) ≡ true
 abempty-is-empty-or-slash-first [] r = refl
-abempty-is-empty-or-slash-first (c ∷ path) (inl e) = absurd (cons_not_nil e)
-  where
-    cons_not_nil : {c : ℕ} {path : List ℕ} → c ∷ path ≡ [] → ⊥
-    cons_not_nil e = false≢true (ap is_empty e)
+abempty-is-empty-or-slash-first (c ∷ path) (inl e) = grind (arith, false≢true, is_empty)
 abempty-is-empty-or-slash-first (c ∷ path) (inr t) = eq_true_from_IsTrue _ t
 
 path-without-build-error-is-accepted : (scheme authority : Option (List ℕ)) (path : List ℕ)

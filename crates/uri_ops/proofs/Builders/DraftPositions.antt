@@ -1,55 +1,13 @@
 -- Where the parts of a builder are in its text.
-use Rattle.uri_ops.proofs.Common.{common_steps, ◌≡◌, ℕ, ◌+◌, ◌≤◌, List, [], length, refl, sym, ap, subst, ◌∙◌, arith, string_bytes, option_map, false, Option, Some, None, IfSome, unwrap_or, nat_tests, authority_at, delimited_length, positions_of, Draft, Lengths, BuilderParts, as_components, parts_text, draft_parts, lengths_of, IsHostAt, HasRightHostRange, authority_positions_from_length, positions_from_lengths, delimited_len}
+use Rattle.uri_ops.proofs.Common.{common_steps, ◌≡◌, ℕ, ◌+◌, ◌≤◌, List, length, subst, arith, string_bytes, option_map, false, Option, Some, None, IfSome, nat_tests, positions_of, Draft, Lengths, BuilderParts, as_components, parts_text, draft_parts, lengths_of, IsHostAt, HasRightHostRange, positions_from_lengths, delimited_len}
 use Rattle.uri_ops.specs.declared.build.places.HostRange.{HostRange}
 use Rattle.uri_ops.proofs.Builders.DraftHosts.{host-range-of-some-authority}
-use Rattle.uri_ops.proofs.Normal.WrittenPlaces.{length-with-delimiter-after, length-with-delimiter-before}
-
-delimited_len-of-component-length : (marks : ℕ) (o : Option (List ℕ))
-    → delimited_len marks (option_map length o) ≡ delimited_length marks o
-delimited_len-of-component-length marks None = refl
-delimited_len-of-component-length marks (Some x) = refl
-
-delimited_len-of-path-length : (o : Option (List ℕ)) → delimited_len 0 (option_map length o)
-    ≡ length (unwrap_or o [])
-delimited_len-of-path-length None = refl
-delimited_len-of-path-length (Some x) = omega arith
-
-authority-positions-from-its-length : (place : ℕ) (host : HostRange) (o : Option (List ℕ))
-    → IfSome o (IsHostAt host) → option_map (authority_positions_from_length place host)
-    (option_map length o) ≡ option_map (authority_at place) o
-authority-positions-from-its-length place host None h = refl
-authority-positions-from-its-length place host (Some a) h = grind (arith, nat_tests)
-
-query-end-from-its-length : (place : ℕ) (o : Option (List ℕ)) → option_map (λ n. place
-    + 1 + n) (option_map length o) ≡ option_map (λ q. place + 1 + length q) o
-query-end-from-its-length place None = refl
-query-end-from-its-length place (Some q) = refl
-
-positions-from-lengths-are-of-parts : (p : BuilderParts) (host : HostRange)
-    → IfSome p.authority (IsHostAt host)
-    → positions_from_lengths (lengths_of p) host ≡ positions_of (as_components p)
-positions-from-lengths-are-of-parts p host h = grind (
-  arith,
-  nat_tests,
-  delimited_len-of-component-length,
-  delimited_len-of-path-length,
-  authority-positions-from-its-length,
-  query-end-from-its-length,
-)
 
 -- building: the parts with their delimiters, up to the query, are no longer than the text
 part-lengths-are-within-text : (p : BuilderParts) → delimited_len 1 (option_map length p.scheme)
     + delimited_len 2 (option_map length p.authority) + delimited_len 0 (option_map length p.path)
     + delimited_len 1 (option_map length p.query) ≤ length (parts_text p)
-part-lengths-are-within-text p =
-    grind (
-      arith,
-      common_steps,
-      delimited_len-of-component-length,
-      delimited_len-of-path-length,
-      length-with-delimiter-after,
-      length-with-delimiter-before,
-    )
+part-lengths-are-within-text p = grind (arith, common_steps)
 
 host-start-is-within-authority-length : (host : HostRange) (o : Option (List ℕ))
     → IfSome o (IsHostAt host) → IfSome (option_map length o) (λ n. host.start ≤ n)
@@ -77,8 +35,7 @@ module _ (d : Draft) (whole : d.failed ≡ false) (knows : HasRightHostRange d) 
 
   pub draft-positions-are-of-its-parts : positions_from_lengths d.lengths d.host
       ≡ positions_of (as_components parts)
-  draft-positions-are-of-its-parts = ap (λ l. positions_from_lengths l d.host) (sym counted)
-      ∙ positions-from-lengths-are-of-parts parts d.host host
+  draft-positions-are-of-its-parts = grind arith
 
   pub part-lengths-fit-in-text : delimited_len 1 d.lengths.scheme
       + delimited_len 2 d.lengths.authority + delimited_len 0 d.lengths.path

@@ -70,11 +70,6 @@ parts-from-their-lengths-and-text : (p : BuilderParts) (lengths : Lengths) (text
 parts-from-their-lengths-and-text p lengths text n t = ap (λ l. parts_in l text p.failed) n
     ∙ ap (λ x. parts_in (lengths_of p) x p.failed) t ∙ parts_in-of-own-text p
 
-text-of-parts-is-draft : (p : BuilderParts) (lengths : Lengths) (text : List ℕ) → p.failed ≡ false
-    → lengths ≡ lengths_of p → text ≡ parts_text p → IsDraft lengths text
-text-of-parts-is-draft p lengths text f n t =
-    grind (arith, nat_tests, parts-from-their-lengths-and-text)
-
 -- building: the text and the lengths are a builder's draft, and these are its parts
 pub record IsDraftOfParts (p : BuilderParts) (lengths : Lengths) (text : List ℕ) : Type 0 where
   pub draft : IsDraft lengths text
@@ -83,7 +78,7 @@ pub record IsDraftOfParts (p : BuilderParts) (lengths : Lengths) (text : List �
 pub text-of-parts-is-their-draft : (p : BuilderParts) (lengths : Lengths) (text : List ℕ) → p.failed
     ≡ false → lengths ≡ lengths_of p → text ≡ parts_text p → IsDraftOfParts p lengths text
 text-of-parts-is-their-draft p lengths text f n t =
-    grind (arith, nat_tests, text-of-parts-is-draft, parts-from-their-lengths-and-text)
+    grind (arith, nat_tests, parts-from-their-lengths-and-text)
 
 -- building: each of a builder's parts is absent or meets its rule
 pub record MeetsEachRule (kind : Kind) (p : BuilderParts) : Type 0 where
@@ -108,21 +103,6 @@ pub absent-part-has-no-length : (mark : ℕ) (n : Option ℕ) (text : List ℕ)
     → is_none (part_in mark n text) ≡ true → n ≡ None
 absent-part-has-no-length mark None text e = refl
 absent-part-has-no-length mark (Some n) text e = absurd (false≢true e)
-
-pub recompose-with-authority-appended : (scheme : Option (List ℕ)) (a : List ℕ)
-    → recompose (components_of_parts scheme None [] None None) ++ (codes "//" ++ a)
-    ≡ recompose (components_of_parts scheme (Some a) [] None None)
-recompose-with-authority-appended scheme a = grind (arith, nat_tests, append-nil)
-
-pub recompose-with-longer-authority : (scheme : Option (List ℕ)) (a more : List ℕ)
-    → recompose (components_of_parts scheme (Some a) [] None None) ++ more
-    ≡ recompose (components_of_parts scheme (Some (a ++ more)) [] None None)
-recompose-with-longer-authority scheme a more = grind (arith, nat_tests, append-nil, append_assoc)
-
-pub recompose-with-path-appended : (scheme authority : Option (List ℕ)) (x : List ℕ)
-    → recompose (components_of_parts scheme authority [] None None) ++ x
-    ≡ recompose (components_of_parts scheme authority x None None)
-recompose-with-path-appended scheme authority x = grind (arith, nat_tests, append-nil, append_assoc)
 
 pub recompose-with-query-appended : (scheme authority : Option (List ℕ)) (path x : List ℕ)
     → recompose (components_of_parts scheme authority path None None) ++ (codes "?" ++ x)

@@ -80,9 +80,7 @@ module _ (change : BuilderParts → BuilderParts) (p q : BuilderParts)
 module _ (kind : Kind) (needs : Bool) (p q : BuilderParts) (x : List ℕ) where
   pub parts-with-scheme-meet-rules : AddsUnlessFailed (with_scheme x) p q
       → MeetsOrFailed kind p → is_scheme_text x ≡ true → MeetsOrFailed kind q
-  parts-with-scheme-meet-rules adds meets rule = changed-parts-meet-rules
-      (with_scheme x) p q adds refl kind (λ e. let r = meet_rules-gives-rules kind p (meets e) in
-      rules-give-meet_rules kind (with_scheme x p) (assumption r))
+  parts-with-scheme-meet-rules adds meets rule = grind arith
 
   pub parts-with-scheme-are-in-order : AddsUnlessFailed (with_scheme x) p q
       → is_fresh needs p ≡ true → is_in_order lacks_authority needs q ≡ true
@@ -92,9 +90,7 @@ module _ (kind : Kind) (needs : Bool) (p q : BuilderParts) (x : List ℕ) where
 
   pub parts-with-authority-meet-rules : AddsUnlessFailed (with_authority x) p q
       → MeetsOrFailed kind p → is_authority_text kind x ≡ true → MeetsOrFailed kind q
-  parts-with-authority-meet-rules adds meets rule = changed-parts-meet-rules
-      (with_authority x) p q adds refl kind (λ e. let r = meet_rules-gives-rules kind p (meets e) in
-      rules-give-meet_rules kind (with_authority x p) (assumption r))
+  parts-with-authority-meet-rules adds meets rule = grind arith
 
   parts_before_authority_lack_path : is_in_order lacks_authority needs p ≡ true → p.failed ≡ false
       → (has_needed_scheme needs p ≡ true) × (lacks_path p ≡ true)
@@ -162,32 +158,13 @@ module _ (kind : Kind) (needs : Bool) (p q : BuilderParts) (x : List ℕ) (takes
     rule : absent_or_passes (option_map (λ t. t ++ x) o) (is_authority_text kind) ≡ true
     next : option_map_or then (option_map (λ t. t ++ x) o) false ≡ true
 
-  appended-authority-is-extended : ExtendsAuthority kind takes then x → (o : Option (List ℕ))
-      → absent_or_passes o (is_authority_text kind) ≡ true
-      → option_map_or takes o false ≡ true → IsExtendedAuthority o
-  appended-authority-is-extended g None rule t = absurd (false≢true t)
-  appended-authority-is-extended g (Some a) rule t = let h =
-      g a rule t in record { rule = h.0; next = h.1 }
-
   authority-of-parts-is-extended : q.failed ≡ false → p.failed ≡ false
       → IsExtendedAuthority p.authority
   authority-of-parts-is-extended f e =
-      grind (
-        arith,
-        in-order-parts-pass-their-test,
-        appended-authority-is-extended,
-        meet_rules-gives-rules,
-      )
+      grind (arith, in-order-parts-pass-their-test, false≢true, meet_rules-gives-rules)
 
   pub parts-with-longer-authority-meet-rules : MeetsOrFailed kind q
-  parts-with-longer-authority-meet-rules f =
-      grind (
-        arith,
-        changed-parts-meet-rules,
-        meet_rules-gives-rules,
-        rules-give-meet_rules,
-        authority-of-parts-is-extended,
-      )
+  parts-with-longer-authority-meet-rules f = grind (arith, authority-of-parts-is-extended)
 
   pub parts-with-longer-authority-are-in-order : is_in_order (ends_in_authority then) needs q ≡ true
   unfolding is_in_order

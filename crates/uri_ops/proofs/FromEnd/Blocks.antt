@@ -39,21 +39,14 @@ bytes_at_end_are_last_block size start text left before after m n within e last 
 -- blocks: a text is another one that its last block ends exactly if what is left of both is equal
 pub last_block_is_taken_off_both : (size : ℕ) (text left block other rest : List ℕ)
     → IsLastBlock size text left block → other ≡ rest ++ block → (text ≡ other) ↔ (left ≡ rest)
-last_block_is_taken_off_both size text left block other rest a e = (
-  λ same. append_cancel_right left rest block (sym a.whole ∙ same ∙ e),
-  λ same. a.whole ∙ ap (λ t. t ++ block) same ∙ sym e,
-)
-
-pub end_is_read : (text end left before after : List ℕ) → end ++ before ≡ left ++ after
-    → (text ++ end) ++ before ≡ (text ++ left) ++ after
-end_is_read text end left before after e =
-    append_assoc text end before ∙ ap (λ t. text ++ t) e ∙ sym (append_assoc text left after)
+last_block_is_taken_off_both size text left block other rest a e =
+    grind (arith, append_cancel_right)
 
 pub end_is_read_if_nothing_is_held : (whole held text end left before after : List ℕ)
     → whole ≡ text ++ end → held ≡ [] → end ++ before ≡ left ++ after
     → (whole ++ held) ++ before ≡ (text ++ left) ++ after
 end_is_read_if_nothing_is_held whole held text end left before after e none f =
-    grind (arith, common_steps, end_is_read)
+    grind (arith, common_steps, append_assoc)
 
 -- blocks: some of a text is read if there is room
 pub some_is_read : (size end start : ℕ) (text left before after : List ℕ) → length before ≡ size

@@ -1,11 +1,10 @@
 -- A component that ends in ASCII: its last characters are written as they are, but for case, and its
 -- last octet is decoded by itself.
-use Rattle.uri_ops.proofs.Common.{common_steps, ◌≡◌, ℕ, ◌-◌, ◌<◌, inl, Bool, true, false, List, [], ◌∷◌, ◌++◌, length, take, drop, refl, sym, ap, ◌∙◌, subst, arith, ⊎_elim, append_assoc, length-append, flat_map, IsUtf8, cases_Bool, append-nil, get_or_at, length-drop, length-take, take-append-drop, take_all, flat_map-append, IsUtf8-append, encode_ascii, widest_set, decode_after_run, decode_octet, decode_piece, decode_run, encode_formatting, pieces_from, utf8_pieces, TableSet, is_unreserved, IsValidFor, Token, Char, Octet, print, tokens, byte_below_80_or_from_c0_is_no_continuation, utf8_pieces_are_cut_at_non_continuation, ascii_char_separates_encode_formatting, IsAsciiSuffix, LacksPercentThird, cased, normal_component, lowered_code_if, lowered_if}
+use Rattle.uri_ops.proofs.Common.{common_steps, ◌≡◌, ℕ, ◌-◌, ◌<◌, inl, Bool, true, false, List, [], ◌∷◌, ◌++◌, length, take, drop, refl, sym, ap, ◌∙◌, subst, arith, ⊎_elim, append_assoc, length-append, flat_map, IsUtf8, cases_Bool, append-nil, get_or_at, length-drop, length-take, take-append-drop, take_all, flat_map-append, IsUtf8-append, encode_ascii, widest_set, decode_after_run, decode_octet, decode_piece, decode_run, encode_formatting, pieces_from, utf8_pieces, TableSet, is_unreserved, IsValidFor, Token, Char, Octet, print, byte_below_80_or_from_c0_is_no_continuation, utf8_pieces_are_cut_at_non_continuation, ascii_char_separates_encode_formatting, IsAsciiSuffix, LacksPercentThird, cased, normal_component, lowered_code_if, lowered_if}
 use Rattle.uri_pct.proofs.Offered.{ascii_byte_is_utf8}
 use Rattle.uri_ops.specs.FromEnd.LastTokens.{EndsIn}
-use Rattle.uri_ops.proofs.FromEnd.LastOctets.{decoded}
 use Rattle.uri_ops.proofs.FromEnd.LastTokens.{last_char_is_last_token, no_octet_ends_text}
-use Rattle.uri_ops.proofs.FromEnd.NormalTokens.{last_ascii_is_written_last, last_tokens_are_written_last}
+use Rattle.uri_ops.proofs.FromEnd.NormalTokens.{last_ascii_is_written_last}
 use Rattle.uri_ops.proofs.Meanings.DecodedOctets.{leading-ascii-octet-decodes-alone}
 
 last_ascii_byte_is_decoded_alone : (set : TableSet) (run : List ℕ) (b : ℕ) → b < 128
@@ -38,19 +37,7 @@ pub last_ascii_octet_is_written_last : (set : TableSet) (lowers : Bool) (text be
     (b : ℕ) → EndsIn text before (Octet b ∷ []) → b < 128 → normal_component lowers set text
     ≡ normal_component lowers set before ++ print (lowered_if lowers (decode_octet (Octet b) ∷ []))
 last_ascii_octet_is_written_last set lowers text before b ends low =
-    grind (
-      arith,
-      common_steps,
-      last_tokens_are_written_last,
-      last_ascii_octet_is_decoded_after_run,
-      tokens,
-      decoded,
-      decoded_ascii_octet_is_no_formatting,
-    )
-
-no_characters_are_cased : (lowers : Bool) → cased lowers [] ≡ []
-no_characters_are_cased true = refl
-no_characters_are_cased false = refl
+    grind (arith, common_steps, last_ascii_octet_is_decoded_after_run, decoded_ascii_octet_is_no_formatting)
 
 first_character_is_cased : (lowers : Bool) (c : ℕ) (run : List ℕ)
     → cased lowers (c ∷ run) ≡ lowered_code_if lowers c ∷ cased lowers run
@@ -75,8 +62,7 @@ record AreWrittenLast (set : TableSet) (lowers : Bool) (before run : List ℕ) :
 ascii_run_is_written_last : (set : TableSet) (lowers : Bool) (before run : List ℕ) → IsUtf8 before
     → IsValidFor widest_set (before ++ run) → IsAsciiSuffix (before ++ run) (length before)
     → AreWrittenLast set lowers before run
-ascii_run_is_written_last set lowers before [] utf8 valid h =
-    grind (arith, common_steps, no_characters_are_cased)
+ascii_run_is_written_last set lowers before [] utf8 valid h = grind (arith, common_steps)
 ascii_run_is_written_last set lowers before (c ∷ run) utf8 valid h =
     let longer = before ++ c ∷ [] in
     let whole : longer ++ run ≡ before ++ c ∷ run = append_assoc before (c ∷ []) run in

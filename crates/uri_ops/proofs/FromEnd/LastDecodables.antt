@@ -3,9 +3,7 @@ use Rattle.uri_ops.proofs.Common.{common_steps, ◌≡◌, ℕ, ◌<◌, ◌≤�
 
 pub char_has_one_to_four_bytes : (c : ℕ) → (1 ≤ length (encode_utf8 c))
     × (length (encode_utf8 c) ≤ 4)
-char_has_one_to_four_bytes c =
-    let bounds = len_utf8_bounds c in
-    (omega (arith, length-encode c), omega (arith, length-encode c))
+char_has_one_to_four_bytes c = grind (arith, len_utf8_bounds, length-encode)
 
 pub first_char_is_only_char : (bytes rest : List ℕ) (c d : ℕ) → bytes ≡ encode_utf8 c ++ rest
     → bytes ≡ encode_utf8 d → (c ≡ d) × (rest ≡ [])

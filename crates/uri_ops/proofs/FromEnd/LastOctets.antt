@@ -132,7 +132,7 @@ run_ends_in_no_decodable set run v none before c scalar decodable e =
     none (map Octet before) c scalar decodable (sym (map-append Octet run (v ∷ []))
     ∙ ap (map Octet) e ∙ map-append Octet before (encode_utf8 c))
 
-last_octet_is_unchanged_after_run : (set : TableSet) (run : List ℕ) (ts : List Token) (v : ℕ)
+pub last_octet_is_unchanged_after_run : (set : TableSet) (run : List ℕ) (ts : List Token) (v : ℕ)
     → TokensEndInNoDecodable set (map Octet run ++ (ts ++ Octet v ∷ []))
     → decode_after_run set run (ts ++ Octet v ∷ []) ≡ decode_after_run set run ts ++ Octet v ∷ []
 unfolding decode_after_run
@@ -152,12 +152,6 @@ last_octet_is_unchanged_after_run set run (Char d ∷ ts) v none =
 -- unreserved octets: the tokens that normalising makes of tokens
 abbrev pub decoded : TableSet → List Token → List Token
 decoded set ts = encode_formatting set (decode_tokens set ts)
-
-pub last_octet_is_unchanged : (set : TableSet) (ts : List Token) (v : ℕ)
-    → TokensEndInNoDecodable set (ts ++ Octet v ∷ [])
-    → decoded set (ts ++ Octet v ∷ []) ≡ decoded set ts ++ Octet v ∷ []
-last_octet_is_unchanged set ts v none =
-    grind (arith, common_steps, last_octet_is_unchanged_after_run)
 
 pub last_character_is_decoded_alone : (set : TableSet) (ts : List Token) (c : ℕ)
     → decoded set (ts ++ Char c ∷ []) ≡ decoded set ts ++ formatting_as_octets set (Char c)

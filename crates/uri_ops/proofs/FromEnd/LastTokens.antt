@@ -1,5 +1,5 @@
 -- The last token of a valid text: an octet if the third byte from the end is `%`, else a character.
-use Rattle.uri_ops.proofs.Common.{common_steps, ◌≡◌, ℕ, suc, ◌+◌, ◌-◌, ◌*◌, ◌<◌, ◌≤◌, ◌⊎◌, inl, inr, true, false, List, [], ◌∷◌, ◌++◌, length, get_or, take, drop, refl, sym, ap, ◌∙◌, subst, arith, ⊎_elim, append_assoc, eqb, lit<, list_all, IsScalar, encode_utf8, digit_value, is_ascii_hexdigit, chars, all_scalars, IsUtf8, cases_Bool, cond-true, cond-false, and_parts, and_from, and_right, ne_eqb, take-append-drop, drop_more, length-drop, get_or-drop, get_or_at, length-append, append-nil, take_at, drop_at, nil_from_length, take_all, take_more, list_all-append, chars-append, chars-nil, IsUtf8-take, IsUtf8-drop, IsCharBoundary-before_ascii, chars-encodes, cons_from_encodes, IsCharBoundary-from_take, encode_ascii, widest_set, Token, Char, Octet, is_pct_encoded, tokens_from_chars, tokens, allows_token, is_valid_for, IsValidFor, BeginsWithOctet, bytes_from_percent_begin_with_octet, valid_text_has_printable_tokens, EndInNoOctet, LacksPercentThird}
+use Rattle.uri_ops.proofs.Common.{common_steps, ◌≡◌, ℕ, suc, ◌+◌, ◌-◌, ◌*◌, ◌<◌, ◌≤◌, ◌⊎◌, inl, inr, true, false, List, [], ◌∷◌, ◌++◌, length, get_or, take, drop, refl, sym, ap, ◌∙◌, subst, arith, ⊎_elim, append_assoc, eqb, list_all, IsScalar, encode_utf8, digit_value, is_ascii_hexdigit, chars, all_scalars, IsUtf8, cases_Bool, cond-true, cond-false, and_parts, and_from, and_right, ne_eqb, take-append-drop, drop_more, length-drop, get_or-drop, get_or_at, length-append, append-nil, take_at, drop_at, nil_from_length, take_all, take_more, list_all-append, chars-append, chars-nil, IsUtf8-take, IsUtf8-drop, IsCharBoundary-before_ascii, chars-encodes, cons_from_encodes, IsCharBoundary-from_take, encode_ascii, widest_set, Token, Char, Octet, is_pct_encoded, tokens_from_chars, tokens, allows_token, is_valid_for, IsValidFor, BeginsWithOctet, bytes_from_percent_begin_with_octet, valid_text_has_printable_tokens, EndInNoOctet, LacksPercentThird}
 use Rattle.uri_pct.specs.Representation.{RepresentsToken, Represents}
 use Rattle.uri_pct.proofs.Offered.{text_represents_its_printable_tokens, ascii_byte_is_first_of_chars}
 use Rattle.uri_ops.specs.FromEnd.LastTokens.{EndsIn}
@@ -40,11 +40,7 @@ percent_separates_tokens_of_chars (c ∷ high ∷ low ∷ cs) ds =
 percent_separates_tokens : (before after : List ℕ) → IsUtf8 before
     → tokens (before ++ 37 ∷ after) ≡ tokens before ++ tokens (37 ∷ after)
 percent_separates_tokens before after u =
-    let from : chars (37 ∷ after) ≡ 37 ∷ chars after =
-    ascii_byte_is_first_of_chars 37 after (lit< tt) in
-    ap tokens_from_chars (chars-append before (37 ∷ after) u ∙ ap (λ t. chars before ++ t) from)
-    ∙ percent_separates_tokens_of_chars (chars before) (chars after)
-    ∙ ap (λ t. tokens before ++ tokens_from_chars t) (sym from)
+    grind (arith, ascii_byte_is_first_of_chars, chars-append, percent_separates_tokens_of_chars)
 
 -- cuts of valid texts: a text is valid before and from a `%` (37)
 texts_around_percent_are_valid : (before after : List ℕ) → IsUtf8 before

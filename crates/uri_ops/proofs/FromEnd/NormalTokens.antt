@@ -1,9 +1,9 @@
 -- The normal text of a component, with that of its last token at its end.
-use Rattle.uri_ops.proofs.Common.{common_steps, ◌≡◌, ℕ, ◌<◌, Bool, true, false, List, [], ◌∷◌, ◌++◌, length, map, refl, sym, ap, ◌∙◌, arith, eqb, ⊎_elim, ◌&&◌, ◌||◌, ◌==◌, IsScalar, encode_utf8, to_ascii_lowercase, is_in_range, cases_Bool, cond-true, cond-false, and_parts, eqb-true, nat_tests, append-nil, nil_from_length, encode_ascii, lowercase_ascii, TableSet, allows, Token, Char, Octet, tokens, text_of_token, print, is_bidi_formatting, is_never_literal, formatting_as_octets, decode_after_run, decode_run, pieces_from, ascii_char_separates_encode_formatting, decodable_char_is_printable, lowered_if, lowered_code_if, cased_append, EndsInDecodable, TokensEndInNoDecodable, normal_component}
+use Rattle.uri_ops.proofs.Common.{common_steps, ◌≡◌, ℕ, ◌<◌, Bool, true, false, List, [], ◌∷◌, ◌++◌, length, map, sym, ap, ◌∙◌, arith, eqb, ⊎_elim, ◌&&◌, ◌||◌, ◌==◌, IsScalar, encode_utf8, to_ascii_lowercase, is_in_range, cases_Bool, cond-true, cond-false, and_parts, eqb-true, nat_tests, append-nil, nil_from_length, encode_ascii, lowercase_ascii, TableSet, allows, Token, Char, Octet, tokens, text_of_token, print, is_bidi_formatting, is_never_literal, formatting_as_octets, decode_after_run, decode_run, pieces_from, ascii_char_separates_encode_formatting, decodable_char_is_printable, lowered_if, lowered_code_if, cased_append, EndsInDecodable, TokensEndInNoDecodable, normal_component}
 use Rattle.uri_ops.proofs.Meanings.Cased.{octets-are-unchanged-when-lowered}
 use Rattle.uri_ops.proofs.Meanings.WrittenFormatting.{set_allows_formatting_by_ucschar}
 use Rattle.uri_ops.specs.FromEnd.LastTokens.{EndsIn}
-use Rattle.uri_ops.proofs.FromEnd.LastOctets.{decoded, last_octet_is_unchanged, last_character_is_decoded_alone, last_decodable_is_decoded}
+use Rattle.uri_ops.proofs.FromEnd.LastOctets.{decoded, last_character_is_decoded_alone, last_decodable_is_decoded, last_octet_is_unchanged_after_run}
 use Rattle.uri_ops.proofs.FromEnd.LastTokens.{empty_text_has_no_tokens}
 use Rattle.uri_ops.proofs.FromEnd.LastDecodables.{char_has_one_to_four_bytes}
 
@@ -36,28 +36,10 @@ octets_of_bytes_have_text : (bytes : List ℕ) → 0 < length bytes
 octets_of_bytes_have_text [] some = absurd (omega arith)
 octets_of_bytes_have_text (b ∷ bytes) some = omega arith
 
-literal_char_has_text : (set : TableSet) (lowers : Bool) (c : ℕ) → is_never_literal set c ≡ false
-    → 0 < length (print (lowered_if lowers (formatting_as_octets set (Char c))))
-literal_char_has_text set true c e =
-    grind (arith, char_has_one_to_four_bytes, lowered_char_is_written)
-literal_char_has_text set false c e = grind (arith, char_has_one_to_four_bytes, char_is_written)
-
 pub char_has_text : (set : TableSet) (lowers : Bool) (c : ℕ) (text : List ℕ)
     → text ≡ print (lowered_if lowers (formatting_as_octets set (Char c))) → 0 < length text
 char_has_text set lowers c text same =
-    grind (
-      arith,
-      char_has_one_to_four_bytes,
-      octets_of_bytes_have_text,
-      never_literal_char_is_written_as_octets,
-      literal_char_has_text,
-    )
-
--- normal texts: an octet is written with upper-case digits
-octet_is_written : (lowers : Bool) (value : ℕ)
-    → print (lowered_if lowers (Octet value ∷ [])) ≡ text_of_token (Octet value)
-octet_is_written true value = refl
-octet_is_written false value = refl
+    grind (arith, char_has_one_to_four_bytes, octets_of_bytes_have_text, never_literal_char_is_written_as_octets, lowered_char_is_written, char_is_written)
 
 pub last_tokens_are_written_last : (set : TableSet) (lowers : Bool) (text before : List ℕ)
     (ts us : List Token) → EndsIn text before ts → decoded set (tokens before ++ ts)
@@ -78,27 +60,14 @@ pub last_decodable_is_written_last : (set : TableSet) (lowers : Bool) (text befo
     → normal_component lowers set text ≡ normal_component lowers set before
     ++ print (lowered_if lowers (formatting_as_octets set (Char c)))
 last_decodable_is_written_last set lowers text before c ends =
-    grind (
-      arith,
-      decodable_char_is_printable,
-      last_tokens_are_written_last,
-      last_decodable_is_decoded,
-      tokens,
-    )
+    grind (arith, decodable_char_is_printable, last_tokens_are_written_last, last_decodable_is_decoded)
 
 pub last_octet_is_written_last : (set : TableSet) (lowers : Bool) (text before : List ℕ) (value : ℕ)
     → EndsIn text before (Octet value ∷ [])
     → TokensEndInNoDecodable set (tokens text) → normal_component lowers set text
     ≡ normal_component lowers set before ++ text_of_token (Octet value)
 last_octet_is_written_last set lowers text before value ends none =
-    grind (
-      arith,
-      common_steps,
-      last_tokens_are_written_last,
-      last_octet_is_unchanged,
-      tokens,
-      octet_is_written,
-    )
+    grind (arith, common_steps, last_octet_is_unchanged_after_run)
 
 empty_component_is_empty : (lowers : Bool) (set : TableSet) (text : List ℕ) → text ≡ []
     → normal_component lowers set text ≡ []

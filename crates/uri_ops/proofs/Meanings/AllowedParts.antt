@@ -111,9 +111,8 @@ chars-of-leading-slash (b ∷ y) = refl
 -- meanings, by tokens: those of a text with a `/` (47) are those on each side of it, and it
 tokens-split-at-slash : (x y : List ℕ) → IsUtf8 x → tokens (x ++ 47 ∷ y)
     ≡ tokens x ++ Char 47 ∷ tokens y
-tokens-split-at-slash x y u = ap tokens_from_chars
-    (chars-append x (47 ∷ y) u ∙ ap (λ cs. chars x ++ cs) (chars-of-leading-slash y))
-    ∙ tokens_from_chars-splits-at-slash (chars x) (chars y)
+tokens-split-at-slash x y u =
+    grind (arith, chars-append, chars, chars-of-leading-slash, tokens_from_chars-splits-at-slash)
 
 -- meanings of paths: what is before a `/` (47) and what is after it are decoded separately
 decode_unreserved-splits-at-slash : (set : TableSet) (x y : List ℕ) → IsUtf8 x

@@ -93,7 +93,7 @@ pub lowering-is-idempotent : (text : List ℕ)
 lowering-is-idempotent [] = refl
 lowering-is-idempotent (c ∷ text) = cc (lowercase-lowercase c, lowering-is-idempotent text)
 
-lowered-scheme-character-is-scheme-character : (c : ℕ) → is_scheme_char c ≡ true
+pub lowered-scheme-character-is-scheme-character : (c : ℕ) → is_scheme_char c ≡ true
     → is_scheme_char (to_ascii_lowercase c) ≡ true
 lowered-scheme-character-is-scheme-character c e = grind (arith, nat_tests)
 
@@ -101,7 +101,7 @@ lowered-letter-is-letter : (c : ℕ) → is_ascii_alphabetic c ≡ true
     → is_ascii_alphabetic (to_ascii_lowercase c) ≡ true
 lowered-letter-is-letter c e = grind (arith, nat_tests)
 
-lowered-text-keeps-leading-letter : (text : List ℕ) → is_ascii_alphabetic (slice_index text 0)
+pub lowered-text-keeps-leading-letter : (text : List ℕ) → is_ascii_alphabetic (slice_index text 0)
     ≡ true → is_ascii_alphabetic (slice_index (str_to_ascii_lowercase text) 0) ≡ true
 lowered-text-keeps-leading-letter [] e = e
 lowered-text-keeps-leading-letter (c ∷ text) e = lowered-letter-is-letter c e
@@ -109,16 +109,6 @@ lowered-text-keeps-leading-letter (c ∷ text) e = lowered-letter-is-letter c e
 -- meanings of schemes: `%` (37) is not a character of a scheme
 pub percent-is-no-scheme-character : is_scheme_char 37 ≡ false
 percent-is-no-scheme-character = refl
-
-pub lowered-scheme-is-scheme : (text : List ℕ) → IsUtf8 text → is_scheme text ≡ true
-    → is_scheme (str_to_ascii_lowercase text) ≡ true
-lowered-scheme-is-scheme text u e =
-    let p = and_parts (is_ascii_alphabetic (slice_index text 0)) _ e in
-    let all = lowered-ascii-passes-test is_scheme_char lowered-scheme-character-is-scheme-character
-    text (sym (valid_ascii_text is_scheme_char percent-is-no-scheme-character text u) ∙ p.1) in
-    and_from _ _ (lowered-text-keeps-leading-letter text p.0)
-    (valid_ascii_text is_scheme_char percent-is-no-scheme-character (str_to_ascii_lowercase text)
-    (ascii-in-test-is-utf8 is_scheme_char (str_to_ascii_lowercase text) all) ∙ all)
 
 -- meanings of schemes: a scheme in lower case is UTF-8
 pub lowered-scheme-is-utf8 : (text : List ℕ) → IsUtf8 text → is_scheme text ≡ true

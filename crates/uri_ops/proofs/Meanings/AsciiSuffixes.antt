@@ -1,6 +1,6 @@
 -- What is appended to a text is ASCII: characters, and octets that are decoded or written as they
 -- are.
-use Rattle.uri_ops.proofs.Common.{common_steps, ◌≡◌, ℕ, ◌+◌, ◌*◌, ◌<◌, Bool, true, false, List, [], ◌∷◌, ◌++◌, length, take, drop, refl, sym, ap, subst, ◌∙◌, append_assoc, take_all, arith, ⊎_elim, append-nil, eqb, suc, digit_value, is_ascii_hexdigit, list_any, IsAscii, IsUtf8, cases_Bool, nat_tests, drop_all, take-append-drop, take-append_seam, drop-append_seam, IsAscii-append, IsAscii-drop, IsAscii-take, IsUtf8-append, IsUtf8-from_ascii, IsAscii-nil, IsAscii-push, lowercase_ascii, decode_octet, is_unreserved, Octet, print, text_of_token, unreserved_is_ascii, lowered_code_if, lowered_if}
+use Rattle.uri_ops.proofs.Common.{common_steps, ◌≡◌, ℕ, ◌+◌, ◌*◌, ◌<◌, Bool, true, false, List, [], ◌∷◌, ◌++◌, length, take, drop, refl, sym, ap, subst, ◌∙◌, append_assoc, take_all, arith, ⊎_elim, append-nil, eqb, suc, digit_value, is_ascii_hexdigit, list_any, IsAscii, IsUtf8, cases_Bool, nat_tests, drop_all, take-append-drop, drop-append_seam, IsAscii-append, IsAscii-drop, IsAscii-take, IsUtf8-append, IsUtf8-from_ascii, IsAscii-nil, IsAscii-push, lowercase_ascii, decode_octet, is_unreserved, Octet, print, text_of_token, unreserved_is_ascii, lowered_code_if, lowered_if}
 use Rattle.uri_pct.proofs.Offered.{octet_entry_is_printed_octet, octet_table_is_ascii}
 use Rattle.uri_ops.proofs.Meanings.UnreservedCodes.{unreserved-octet-prints-its-code}
 
@@ -20,15 +20,7 @@ no-suffix-is-ascii old = grind (arith, nat_tests, drop_all, take_all, IsAscii-ni
 
 pub longer-suffix-is-ascii : (old out new more : List ℕ) → AppendsAscii old out
     → new ≡ out ++ more → IsAscii more → AppendsAscii old new
-longer-suffix-is-ascii old out new more a pushed ascii =
-    let suffix = drop (length old) out in
-    let joined : new ≡ old ++ (suffix ++ more) = pushed
-    ∙ ap (λ x. x ++ more) (text-is-old-and-suffix old out a) ∙ append_assoc old suffix more in
-    record {
-      unchanged = ap (take (length old)) joined ∙ take-append_seam old (suffix ++ more);
-      ascii = subst IsAscii (sym (ap (drop (length old)) joined
-          ∙ drop-append_seam old (suffix ++ more))) (IsAscii-append suffix more a.ascii ascii);
-    }
+longer-suffix-is-ascii old out new more a pushed ascii = grind (arith, common_steps, IsAscii-append)
 
 -- ASCII suffixes: after a text in UTF-8, an ASCII suffix leaves it UTF-8
 pub ascii-suffix-keeps-utf8 : (old new : List ℕ) → IsUtf8 old → AppendsAscii old new → IsUtf8 new

@@ -1,5 +1,5 @@
 -- What is written of a part, as it is or with its letters lowered.
-use Rattle.uri_ops.proofs.Common.{common_steps, ◌≡◌, ℕ, ◌≤◌, Bool, true, false, List, [], ◌∷◌, ◌++◌, map, refl, sym, ap, subst, ◌∙◌, arith, slice_index, list_all, flat_map, All, encode_utf8, to_ascii_lowercase, chars, encode_utf8_all, all_scalars, IsUtf8, str_to_ascii_lowercase, and_parts, and_from, or_parts, leb-true, nat_tests, append-nil, All-nil, All-cons, All-head, All-tail, encodes-chars, scalars-chars, chars-encodes, encode_char, encode_text, encode_piece, ArePastAscii, Piece, WellFormed, IllFormed, IsOfCharacter, utf8_pieces, is_decodable, decode_piece, lower_token, TableSet, allows, allows_past_ascii, is_unreserved, Char, Octet, print, utf8_pieces-are-of-characters, char_has_encoding, char_past_ascii_begins_past_ascii, is_no_ascii_byte, lowered_if, lowered_text_if, lowering_keeps_octets, lowercase_keeps_char_past_ascii}
+use Rattle.uri_ops.proofs.Common.{common_steps, ◌≡◌, ℕ, ◌≤◌, Bool, true, false, List, [], ◌∷◌, ◌++◌, map, refl, sym, ap, subst, ◌∙◌, arith, slice_index, list_all, flat_map, All, encode_utf8, to_ascii_lowercase, chars, encode_utf8_all, all_scalars, IsUtf8, str_to_ascii_lowercase, and_parts, and_from, or_parts, leb-true, nat_tests, append-nil, All-nil, All-cons, All-head, All-tail, encodes-chars, scalars-chars, chars-encodes, encode_char, encode_text, encode_piece, ArePastAscii, Piece, IsOfCharacter, utf8_pieces, is_decodable, decode_piece, lower_token, TableSet, allows, allows_past_ascii, is_unreserved, Char, Octet, print, utf8_pieces-are-of-characters, char_has_encoding, char_past_ascii_begins_past_ascii, is_no_ascii_byte, lowered_if, lowered_text_if, lowering_keeps_octets, lowercase_keeps_char_past_ascii}
 use Rattle.uri_pct.proofs.Offered.{pieces_of_text_are_encoded_as_text}
 
 -- meanings in lower case: literal tokens are written as the UTF-8 of their characters
@@ -22,10 +22,7 @@ bytes-past-ascii-are-unchanged-when-lowered (b ∷ bytes) past = ap (λ x. x ∷
 bytes-without-ascii-are-past-ascii : (bytes : List ℕ) → list_all is_no_ascii_byte bytes ≡ true
     → ArePastAscii bytes
 bytes-without-ascii-are-past-ascii [] e = All-nil (λ x. 128 ≤ x)
-bytes-without-ascii-are-past-ascii (b ∷ bytes) e =
-    let p = and_parts (is_no_ascii_byte b) (list_all is_no_ascii_byte bytes) e in
-    All-cons (λ x. 128 ≤ x) b bytes (leb-true 128 b p.0)
-    (bytes-without-ascii-are-past-ascii bytes p.1)
+bytes-without-ascii-are-past-ascii (b ∷ bytes) e = grind (arith, common_steps, All-cons, leb-true)
 
 character-past-ascii-is-unchanged-when-lowered : (c : ℕ)
     → 128 ≤ c → map to_ascii_lowercase (encode_utf8 c) ≡ encode_utf8 c
@@ -38,23 +35,12 @@ character-past-ascii-is-unchanged-when-lowered c h =
     ∙ ap (λ x. w.first ∷ x) (bytes-past-ascii-are-unchanged-when-lowered w.more
     (bytes-without-ascii-are-past-ascii w.more w.high)) ∙ sym w.joined
 
--- meanings in lower case: lowering a character and writing it in UTF-8 may swap
-lowering-and-utf8-swap-for-character : (c : ℕ)
-    → encode_utf8 (to_ascii_lowercase c) ≡ map to_ascii_lowercase (encode_utf8 c)
-lowering-and-utf8-swap-for-character c =
-    grind (
-      arith,
-      common_steps,
-      lowercase_keeps_char_past_ascii,
-      character-past-ascii-is-unchanged-when-lowered,
-    )
-
 -- meanings in lower case: lowering characters and writing them in UTF-8 may swap
 lowering-and-utf8-swap : (cs : List ℕ)
     → encode_utf8_all (map to_ascii_lowercase cs) ≡ str_to_ascii_lowercase (encode_utf8_all cs)
 lowering-and-utf8-swap [] = refl
 lowering-and-utf8-swap (c ∷ cs) =
-    grind (arith, common_steps, lowering-and-utf8-swap-for-character, lowering-and-utf8-swap cs)
+    grind (arith, common_steps, character-past-ascii-is-unchanged-when-lowered, lowering-and-utf8-swap cs)
 
 lowering-tokens-lowers-characters : (cs : List ℕ) → map lower_token (map Char cs)
     ≡ map Char (map to_ascii_lowercase cs)
@@ -123,18 +109,11 @@ octets-are-unchanged-when-lowered true bytes = lowering_keeps_octets bytes
 octets-are-unchanged-when-lowered false bytes = refl
 
 module _ (decodable set : TableSet) (same : AllowsDecodable decodable set) where
-  decode_piece-is-encode_piece : (p : Piece) → IsOfCharacter p → decode_piece set p
-      ≡ encode_piece decodable p
-  decode_piece-is-encode_piece (IllFormed bytes) h = refl
-  decode_piece-is-encode_piece (WellFormed bytes) h = grind (arith, nat_tests)
-
   decoding-pieces-is-encoding-them : (ps : List Piece) → All IsOfCharacter ps
       → flat_map (decode_piece set) ps ≡ flat_map (encode_piece decodable) ps
   decoding-pieces-is-encoding-them [] h = refl
-  decoding-pieces-is-encoding-them (p ∷ ps) h = ap (λ ts. ts ++ flat_map (decode_piece set) ps)
-      (decode_piece-is-encode_piece p (All-head IsOfCharacter p ps h)) ∙ ap
-      (λ ts. encode_piece decodable p ++ ts)
-      (decoding-pieces-is-encoding-them ps (All-tail IsOfCharacter p ps h))
+  decoding-pieces-is-encoding-them (p ∷ ps) h =
+      grind (arith, decoding-pieces-is-encoding-them ps (All-tail IsOfCharacter p ps h), All-head)
 
   -- characters that octets decode to
   pub decoded-pieces-are-encoded-text : (text : List ℕ) → IsUtf8 text
@@ -159,35 +138,14 @@ module _ (decodable set : TableSet) (same : AllowsDecodable decodable set) where
   undecodable-is-unchanged-when-lowered c e = not-unreserved-is-unchanged-when-lowered c
       (or_parts (is_unreserved c) (allows_past_ascii set c) e).0
 
-  encode_char-and-lowering-swap : (c : ℕ)
-      → encode_char decodable (to_ascii_lowercase c) ≡ map lower_token (encode_char decodable c)
-  encode_char-and-lowering-swap c =
-      grind (
-        arith,
-        lowered-decodable-is-decodable,
-        undecodable-is-unchanged-when-lowered,
-        lowering_keeps_octets,
-      )
-
   encoding-characters-and-lowering-swap : (cs : List ℕ) → flat_map (encode_char decodable)
       (map to_ascii_lowercase cs) ≡ map lower_token (flat_map (encode_char decodable) cs)
   encoding-characters-and-lowering-swap [] = refl
   encoding-characters-and-lowering-swap (c ∷ cs) =
-      grind (
-        arith,
-        common_steps,
-        encode_char-and-lowering-swap,
-        encoding-characters-and-lowering-swap cs,
-      )
+      grind (arith, common_steps, lowered-decodable-is-decodable, undecodable-is-unchanged-when-lowered, lowering_keeps_octets, encoding-characters-and-lowering-swap cs)
 
   pub lowered-pieces-are-encoded-lowered-text : (text : List ℕ) → IsUtf8 text
       → map lower_token (flat_map (decode_piece set) (utf8_pieces text))
       ≡ encode_text decodable (str_to_ascii_lowercase text)
   lowered-pieces-are-encoded-lowered-text text u =
-      grind (
-        arith,
-        decoded-pieces-are-encoded-text,
-        encoding-characters-and-lowering-swap,
-        chars,
-        chars-of-lowered-text-are-lowered,
-      )
+      grind (arith, decoded-pieces-are-encoded-text, encoding-characters-and-lowering-swap, chars-of-lowered-text-are-lowered)

@@ -1,5 +1,5 @@
 -- Where components end: the marks that a set excludes, and the texts that begin with no scheme.
-use Rattle.uri_ops.proofs.Common.{◌≡◌, ℕ, Bool, true, false, eqb, not, nat_lt, List, [], ◌∷◌, ◌++◌, take, drop, refl, sym, ap, ◌∙◌, ◌&&◌, ⊎_elim, arith, codes, is_ascii_hexdigit, list_all, list_any, cases_Bool, and_parts, and_from, and_left, or_parts, or_left, both_ways, not_from_false, nat_tests, TableSet, is_one_of, excludes, length_before_mark_at_start_is_zero, length_before_marks_counts_other_byte, starts, has_scheme, before_any, from_any, has_colon_in_first_segment, Kind, IsEmptyOrMarked, question_or_hash_ends_scheme, question_or_hash_is_no_colon, HasComponentSets}
+use Rattle.uri_ops.proofs.Common.{◌≡◌, ℕ, Bool, true, false, eqb, not, nat_lt, List, [], ◌∷◌, ◌++◌, take, drop, refl, sym, ap, ◌∙◌, ◌&&◌, ⊎_elim, arith, codes, is_ascii_hexdigit, list_all, list_any, cases_Bool, and_parts, and_from, and_left, or_parts, or_left, both_ways, not_from_false, nat_tests, TableSet, is_one_of, excludes, length_before_mark_at_start_is_zero, length_before_marks_counts_other_byte, starts, has_scheme, before_any, from_any, has_colon_in_first_segment, Kind, IsEmptyOrMarked, HasComponentSets}
 
 -- meanings of components: an ASCII character other than `%` and hexadecimal digits, as a delimiter
 abbrev pub is_outside_octets : ℕ → Bool
@@ -27,9 +27,7 @@ path-without-colon-meets-no-colon-first : (path tail : List ℕ)
     → has_colon_in_first_segment path ≡ false
     → IsEmptyOrMarked (codes "?#") tail → starts 58 (from_any (codes ":/?#") (path ++ tail)) ≡ false
 path-without-colon-meets-no-colon-first [] [] e begins = refl
-path-without-colon-meets-no-colon-first [] (c ∷ tail) e begins = ap
-    (λ n. starts 58 (drop n (c ∷ tail))) (length_before_mark_at_start_is_zero (codes ":/?#") c tail
-    (question_or_hash_ends_scheme c begins)) ∙ question_or_hash_is_no_colon c begins
+path-without-colon-meets-no-colon-first [] (c ∷ tail) e begins = grind arith
 path-without-colon-meets-no-colon-first (c ∷ path) tail e begins =
     ⊎_elim (λ m. ap (λ n. starts 58 (drop n (c ∷ (path ++ tail))))
     (length_before_mark_at_start_is_zero (codes ":/?#") c (path ++ tail) m) ∙ first c path e) (λ m.

@@ -1,5 +1,5 @@
 -- Decoding of characters, and of an octet, at the start of a text.
-use Rattle.uri_ops.proofs.Common.{common_steps, ◌≡◌, ℕ, ◌+◌, ◌*◌, ◌<◌, Bool, true, false, cond, eqb, ltb, not, List, [], ◌∷◌, ◌++◌, take, drop, map, refl, sym, ap, ◌∙◌, arith, ◌&&◌, ◌||◌, ⊎_elim, append_assoc, flat_map, encode_utf8, digit_value, is_ascii_hexdigit, IsScalar, digit_glyph, or-false, low_scalar, agree_below_at, cases_Bool, cond-false, and_parts, ltb-true, false_from_ne_true, append-nil, encode_ascii, nat_tests, Decoded, WellFormed, utf8_pieces, LacksPastAscii, is_decodable, decode_octet, decode_piece, decode_run, decode_after_run, decode_tokens, TableSet, is_unreserved, Token, Char, Octet, tokens, text_of_token, print, first_char_is_first_piece, char_of_utf8_is_the_char, allowed_past_ascii_is_scalar, BeginsWithOctet, IsOctetAt, KeepsPrefixWhenDecoded, decoded_parts, lowered_if, cased_append, decoded_text}
+use Rattle.uri_ops.proofs.Common.{common_steps, ◌≡◌, ℕ, ◌+◌, ◌*◌, ◌<◌, Bool, true, false, eqb, ltb, not, List, [], ◌∷◌, ◌++◌, take, drop, map, refl, sym, ap, ◌∙◌, arith, ◌&&◌, ◌||◌, append_assoc, flat_map, encode_utf8, digit_value, is_ascii_hexdigit, IsScalar, digit_glyph, or-false, low_scalar, agree_below_at, cond-false, and_parts, ltb-true, false_from_ne_true, append-nil, encode_ascii, nat_tests, Decoded, WellFormed, utf8_pieces, LacksPastAscii, is_decodable, decode_octet, decode_piece, decode_run, decode_after_run, decode_tokens, TableSet, is_unreserved, Token, Char, Octet, tokens, text_of_token, print, first_char_is_first_piece, char_of_utf8_is_the_char, allowed_past_ascii_is_scalar, BeginsWithOctet, IsOctetAt, KeepsPrefixWhenDecoded, decoded_parts, lowered_if, decoded_text}
 use Rattle.uri_pct.proofs.Offered.{text_is_decoded_octet_by_octet_in_uri, encode_formatting_without_flags_keeps_tokens}
 use Rattle.uri_ops.proofs.Meanings.DecodedParts.{decode_run-of-nil-is-nil, decoded_parts-of-run}
 
@@ -37,21 +37,10 @@ unfolding is_decodable
 ascii-is-decodable-if-unreserved set b low =
     grind (arith, nat_tests, false_from_ne_true, allowed_past_ascii_is_scalar, or-false)
 
-decode_octet-is-character-if-unreserved : (b : ℕ)
-    → cond (is_unreserved b) (Char b ∷ []) (Octet b ∷ []) ≡ decode_octet (Octet b) ∷ []
-decode_octet-is-character-if-unreserved b = ⊎_elim (λ e. rw e refl) (λ e. rw e refl)
-    (cases_Bool (is_unreserved b))
-
 ascii-piece-decodes-as-octet : (set : TableSet) (b : ℕ) → b < 128
     → decode_piece set (WellFormed (encode_utf8 b)) ≡ decode_octet (Octet b) ∷ []
 ascii-piece-decodes-as-octet set b low =
-    grind (
-      arith,
-      common_steps,
-      char_of_utf8_is_the_char,
-      ascii-is-decodable-if-unreserved,
-      decode_octet-is-character-if-unreserved,
-    )
+    grind (arith, common_steps, char_of_utf8_is_the_char, ascii-is-decodable-if-unreserved)
 
 pub leading-ascii-octet-decodes-alone : (set : TableSet) (b : ℕ) (us : List Token) → b < 128
     → decode_tokens set (Octet b ∷ us) ≡ decode_octet (Octet b) ∷ decode_tokens set us
@@ -81,17 +70,6 @@ tokens-without-past-ascii-decode-alone set text none = sym
     (encode_formatting_without_flags_keeps_tokens set (decode_tokens set (tokens text))
     (ap (λ b. b && set.pct_encoded) none.0)) ∙ text_is_decoded_octet_by_octet_in_uri set text none
 
-leading-octet-token-decodes-alone : (set : TableSet) (text suffix : List ℕ) (value : ℕ)
-    (alone : Bool) → tokens text ≡ Octet value ∷ tokens suffix → (alone ≡ true → LacksPastAscii set)
-    → (alone || ltb value 128) ≡ true → decode_tokens set (tokens text)
-    ≡ decode_octet (Octet value) ∷ decode_tokens set (tokens suffix)
-leading-octet-token-decodes-alone set text suffix value alone first none e = grind (
-  arith,
-  nat_tests,
-  tokens-without-past-ascii-decode-alone,
-  leading-ascii-octet-decodes-alone,
-)
-
 -- meanings, decoded: an octet token at the start of a text is decoded by itself if its byte is
 -- ASCII, or if the set (as of URIs) lacks characters past ASCII: then alone holds
 pub first-octet-token-is-decoded-alone : (lowers : Bool) (set : TableSet) (text suffix : List ℕ)
@@ -100,9 +78,7 @@ pub first-octet-token-is-decoded-alone : (lowers : Bool) (set : TableSet) (text 
     → decoded_text lowers set text
     ≡ print (lowered_if lowers (decode_octet (Octet value) ∷ [])) ++ decoded_text lowers set suffix
 first-octet-token-is-decoded-alone lowers set text suffix value alone first none e =
-    ap (λ ts. print (lowered_if lowers ts))
-    (leading-octet-token-decodes-alone set text suffix value alone first none e)
-    ∙ cased_append lowers (decode_octet (Octet value) ∷ []) (decode_tokens set (tokens suffix))
+    grind (arith, common_steps, tokens-without-past-ascii-decode-alone, leading-ascii-octet-decodes-alone)
 
 -- meanings, decoded: the byte of the octet at the start of a text
 abbrev pub first_value : {text : List ℕ} → BeginsWithOctet text → ℕ
@@ -121,17 +97,11 @@ is_glyph : ℕ → Bool
 is_glyph h = not (is_ascii_hexdigit h)
     || (eqb (digit_glyph true (digit_value h)) h && ltb (digit_value h) 16)
 
--- meanings, decoded: a hexadecimal digit below `a` (97) is the digit that is written for its value
-uppercase-digit-is-its-glyph : (h : ℕ) → is_ascii_hexdigit h ≡ true → h < 97
-    → (digit_glyph true (digit_value h) ≡ h) × (digit_value h < 16)
-unfolding is_glyph
-uppercase-digit-is-its-glyph h digit upper = grind (arith, nat_tests, agree_below_at)
-
 pub uppercase-octet-prints-itself : (high low : ℕ)
     → is_ascii_hexdigit high ≡ true → is_ascii_hexdigit low ≡ true → high < 97 → low < 97
     → text_of_token (Octet (16 * digit_value high + digit_value low)) ≡ 37 ∷ high ∷ low ∷ []
 uppercase-octet-prints-itself high low h l hu lu =
-    grind (arith, nat_tests, uppercase-digit-is-its-glyph)
+    grind (arith, nat_tests, agree_below_at, is_glyph)
 
 -- meanings, decoded: an octet of a reserved character with digits in upper case is unchanged;
 -- alone: the set lacks characters past ASCII

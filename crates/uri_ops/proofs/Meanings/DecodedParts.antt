@@ -1,5 +1,5 @@
 -- Decoding the parts of a text gives the decoding of its tokens.
-use Rattle.uri_ops.proofs.Common.{◌≡◌, ℕ, true, List, [], ◌∷◌, ◌++◌, map, refl, sym, ap, ◌∙◌, append_assoc, arith, list_all, flat_map, encode_utf8, IsScalar, chars, IsUtf8, and_parts, and_from, append-nil, map-append, flat_map-append, IsUtf8-encode, chars-append, chars-encodes, nat_tests, Chunk, Text, Byte, prepend_to_chunks, chunks_of_tokens, widest_set, Decoded, parts_from, parts, Piece, utf8_pieces, pieces_from, is_printable, decode_piece, decode_run, decode_after_run, decode_tokens, TableSet, Token, Char, Octet, tokens, IsValidFor, valid_text_has_printable_tokens, decoded_parts}
+use Rattle.uri_ops.proofs.Common.{◌≡◌, ℕ, true, List, [], ◌∷◌, ◌++◌, map, refl, sym, ap, ◌∙◌, append_assoc, arith, list_all, flat_map, encode_utf8, IsScalar, chars, IsUtf8, and_parts, and_from, append-nil, map-append, flat_map-append, IsUtf8-encode, chars-append, chars-encodes, nat_tests, Chunk, Text, Byte, prepend_to_chunks, chunks_of_tokens, Decoded, parts_from, Piece, utf8_pieces, pieces_from, is_printable, decode_piece, decode_run, decode_after_run, TableSet, Token, Char, Octet, decoded_parts}
 use Rattle.uri_pct.proofs.Offered.{printable_char_is_scalar}
 
 module _ (set : TableSet) where
@@ -44,7 +44,7 @@ module _ (set : TableSet) where
   chars-of-one-character c scalar = ap chars (sym (append-nil (encode_utf8 c)))
       ∙ chars-encodes (c ∷ []) (and_from _ true scalar refl)
 
-  decoded_parts-of-token-chunks : (run : List ℕ) (ts : List Token) → list_all is_printable ts ≡ true
+  pub decoded_parts-of-token-chunks : (run : List ℕ) (ts : List Token) → list_all is_printable ts ≡ true
       → decoded_parts set (parts_from run (chunks_of_tokens ts)) ≡ decode_after_run set run ts
   unfolding chunks_of_tokens parts_from decode_after_run
   decoded_parts-of-token-chunks run [] e = decoded_parts-of-octet-run run
@@ -57,9 +57,3 @@ module _ (set : TableSet) where
       (chunks_of_tokens ts) (IsUtf8-encode c scalar) ∙ ap (λ cs. decode_run set run ++ (map Char cs
       ++ decoded_parts set (parts_from [] (chunks_of_tokens ts)))) (chars-of-one-character c scalar)
       ∙ ap (λ us. decode_run set run ++ Char c ∷ us) (decoded_parts-of-token-chunks [] ts p.1)
-
-  -- the decoded parts of a text are its decoded tokens
-  pub decoded_parts-are-decoded-tokens : (text : List ℕ) → IsValidFor widest_set text
-      → decoded_parts set (parts text) ≡ decode_tokens set (tokens text)
-  decoded_parts-are-decoded-tokens text v = decoded_parts-of-token-chunks [] (tokens text)
-      (valid_text_has_printable_tokens widest_set text refl v)

@@ -1,6 +1,6 @@
 -- A prefix of a text is decoded by itself if it consists of characters and octets of ASCII. If the
 -- set has no characters past ASCII, every octet may be in it.
-use Rattle.uri_ops.proofs.Common.{common_steps, ◌≡◌, ℕ, ◌+◌, ◌*◌, ◌-◌, ◌<◌, Bool, true, ◌&&◌, false, eqb, ltb, not, List, [], ◌∷◌, ◌++◌, length, get_or, take, drop, map, ◌≤◌, add-zero, refl, sym, ap, subst, ◌∙◌, arith, ◌||◌, ◌⊎◌, append_assoc, digit_value, is_ascii_hexdigit, to_ascii_lowercase, chars, IsUtf8, IsCharBoundary, ne_eqb, or_parts, not-true, nat_tests, append-nil, take-append-drop, drop-drop, length-drop, get_or-drop, drop_all, drop_more, map-append, list_all-append, IsUtf8-take, IsUtf8-drop, IsCharBoundary-from_rest, IsCharBoundary-after_ascii, widest_set, LacksPastAscii, decode_octet, decode_after_run, lower_token, TableSet, lacks, Octet, tokens, tokens_from_chars, print, is_valid_for, IsValidFor, len_before_percent, bytes_from_percent_begin_with_octet, boundary_after_octet, tokens_after_unencoded_prefix, first_percent_is_at_boundary, prefix_len_bytes_pass, take_then_take_is_take_of_sum, IsOctetAt, KeepsPrefixWhenDecoded, cased_append, lowered_if, lowered_text_if, decoded_text}
+use Rattle.uri_ops.proofs.Common.{common_steps, ◌≡◌, ℕ, ◌+◌, ◌*◌, ◌-◌, ◌<◌, Bool, true, ◌&&◌, false, eqb, ltb, not, List, [], ◌∷◌, ◌++◌, length, get_or, take, drop, map, ◌≤◌, add-zero, refl, sym, ap, subst, ◌∙◌, arith, ◌||◌, ◌⊎◌, append_assoc, digit_value, is_ascii_hexdigit, chars, IsUtf8, IsCharBoundary, ne_eqb, or_parts, not-true, nat_tests, append-nil, take-append-drop, drop-drop, length-drop, get_or-drop, drop_all, drop_more, map-append, list_all-append, IsUtf8-take, IsUtf8-drop, IsCharBoundary-from_rest, IsCharBoundary-after_ascii, widest_set, LacksPastAscii, decode_octet, decode_after_run, lower_token, TableSet, lacks, Octet, tokens, tokens_from_chars, print, is_valid_for, IsValidFor, len_before_percent, bytes_from_percent_begin_with_octet, boundary_after_octet, tokens_after_unencoded_prefix, first_percent_is_at_boundary, prefix_len_bytes_pass, take_then_take_is_take_of_sum, IsOctetAt, KeepsPrefixWhenDecoded, cased_append, lowered_if, lowered_text_if, decoded_text}
 use Rattle.uri_ops.proofs.Meanings.Cased.{print-lowers-characters}
 use Rattle.uri_ops.proofs.Meanings.DecodedParts.{decode_run-of-nil-is-nil}
 use Rattle.uri_ops.proofs.Meanings.DecodedOctets.{decode_tokens-after-chars, first-octet-token-is-decoded-alone}
@@ -52,12 +52,6 @@ text-before-percent-is-literal-prefix text n u v e =
           ∙ literal-prefix-decodes-to-itself lowers set (take n text) (drop n text) utf8 literal;
     }
 
--- meanings in lower case: two texts in lower case, if lowers, are their join in lower case
-lowering-of-append-is-append : (lowers : Bool) (xs ys : List ℕ)
-    → lowered_text_if lowers (xs ++ ys) ≡ lowered_text_if lowers xs ++ lowered_text_if lowers ys
-lowering-of-append-is-append true xs ys = map-append to_ascii_lowercase xs ys
-lowering-of-append-is-append false xs ys = refl
-
 pub empty-prefix-is-unchanged : (lowers : Bool) (set : TableSet) (text : List ℕ)
     → KeepsPrefixWhenDecoded lowers set text 0
 empty-prefix-is-unchanged true set text = refl
@@ -67,14 +61,8 @@ empty-prefix-is-unchanged false set text = refl
 unchanged-prefixes-join : (lowers : Bool) (set : TableSet) (text : List ℕ) (n m : ℕ)
     → KeepsPrefixWhenDecoded lowers set text n → KeepsPrefixWhenDecoded lowers set (drop n text) m
     → KeepsPrefixWhenDecoded lowers set text (n + m)
-unchanged-prefixes-join lowers set text n m first next = grind (
-  arith,
-  nat_tests,
-  append_assoc,
-  lowering-of-append-is-append,
-  take_then_take_is_take_of_sum n m text,
-  drop-drop m n text,
-)
+unchanged-prefixes-join lowers set text n m first next =
+    grind (arith, nat_tests, append_assoc, map-append, take_then_take_is_take_of_sum n m text, drop-drop m n text)
 
 suffix-of-suffix-by-positions : (text : List ℕ) (done end : ℕ) → done ≤ end
     → drop (end - done) (drop done text) ≡ drop end text

@@ -54,11 +54,6 @@ lowered-userinfo-character-is-userinfo-character : (c : ℕ) → is_userinfo_cha
     → is_userinfo_char (to_ascii_lowercase c) ≡ true
 lowered-userinfo-character-is-userinfo-character c e = grind (arith, nat_tests)
 
--- meanings of hosts: the `v` of an IPvFuture address is one in lower case
-lowered-v-is-v : (c : ℕ) → is_one_of (codes "vV") c ≡ true
-    → is_one_of (codes "vV") (to_ascii_lowercase c) ≡ true
-lowered-v-is-v c e = grind (arith, nat_tests)
-
 v-is-userinfo-character : (c : ℕ) → is_one_of (codes "vV") c ≡ true
     → is_ascii_in is_userinfo_char c ≡ true
 v-is-userinfo-character c e = grind (arith, nat_tests)
@@ -66,10 +61,6 @@ v-is-userinfo-character c e = grind (arith, nat_tests)
 -- meanings of hosts: `%` (37) is no literal character of userinfo
 percent-is-no-userinfo-character : is_userinfo_char 37 ≡ false
 percent-is-no-userinfo-character = refl
-
--- meanings of hosts: the `.` (46) of an IPvFuture address is a character of userinfo
-dot-is-userinfo-character : is_ascii_in is_userinfo_char 46 ≡ true
-dot-is-userinfo-character = refl
 
 -- meanings of hosts: both parts of an IPvFuture address, around its `.`, are ASCII
 pub record AsciiParts (text : List ℕ) (h : IsIpvFuture text) : Type 0 where
@@ -95,31 +86,13 @@ ipvfuture-has-ascii-parts text u h =
 pub ipvfuture-is-userinfo-characters : (text : List ℕ) (h : IsIpvFuture text) → AsciiParts text h
     → list_all (is_ascii_in is_userinfo_char) text ≡ true
 ipvfuture-is-userinfo-characters text h w =
-    grind (
-      arith,
-      common_steps,
-      v-is-userinfo-character,
-      ascii-passes-wider-test,
-      hexdigit_is_userinfo_char,
-      dot-is-userinfo-character,
-    )
+    grind (arith, common_steps, v-is-userinfo-character, ascii-passes-wider-test, hexdigit_is_userinfo_char)
 
 -- meanings of hosts: an IPvFuture address in lower case is one
 lowered-ipvfuture-is-ipvfuture : (text : List ℕ) (h : IsIpvFuture text) → AsciiParts text h
     → IsIpvFuture (str_to_ascii_lowercase text)
-lowered-ipvfuture-is-ipvfuture text h w = grind (
-  arith,
-  nat_tests,
-  lowered-ascii-passes-test,
-  lowered-hex-digit-is-hex-digit,
-  lowered-userinfo-character-is-userinfo-character,
-  length-map,
-  map-append,
-  lowered-v-is-v,
-  valid_ascii_text,
-  ascii-in-test-is-utf8,
-  percent-is-no-userinfo-character,
-)
+lowered-ipvfuture-is-ipvfuture text h w =
+    grind (arith, lowered-ascii-passes-test, lowered-hex-digit-is-hex-digit, lowered-userinfo-character-is-userinfo-character, length-map, map-append, valid_ascii_text, ascii-in-test-is-utf8)
 
 -- meanings of hosts: an IPvFuture address has no `/`, `?` or `#`, so it ends no authority
 pub ipv_future_set-excludes-delimiters : excludes ipv_future_set (codes "/?#") ≡ true

@@ -1,8 +1,8 @@
 -- What a `Decoding` takes.
-use Rattle.uri_ops.proofs.Common.{◌≡◌, ℕ, Bool, true, false, List, [], ◌∷◌, ◌++◌, map, ap, ◌∙◌, string_bytes, arith, IsUtf8, append-nil, nat_tests, widest_set, encode_text, ArePastAscii, Part, Literal, Decoded, parts, IllFormed, utf8_pieces, decode_tokens, lower_token, TableSet, set_of, Octet, tokens, print, IsValidFor, AppendsDecodedParts, decoded_parts, lowered_if, lowered_text_if}
+use Rattle.uri_ops.proofs.Common.{◌≡◌, ℕ, Bool, true, false, List, [], ◌∷◌, ◌++◌, map, ap, ◌∙◌, string_bytes, arith, IsUtf8, append-nil, nat_tests, widest_set, encode_text, ArePastAscii, Part, Literal, Decoded, parts, IllFormed, utf8_pieces, decode_tokens, lower_token, TableSet, set_of, Octet, tokens, print, IsValidFor, AppendsDecodedParts, decoded_parts, lowered_if, lowered_text_if, valid_text_has_printable_tokens}
 use Rattle.uri_ops.specs.declared.normalize.decode_unreserved.Decoding.{Decoding}
 use Rattle.uri_ops.proofs.Meanings.Cased.{AllowsDecodable, print-lowers-characters, octets-are-unchanged-when-lowered, decoded-pieces-are-encoded-text, bytes-past-ascii-are-unchanged-when-lowered, lowered-pieces-are-encoded-lowered-text}
-use Rattle.uri_ops.proofs.Meanings.DecodedParts.{decoded_parts-of-run, decoded_parts-are-decoded-tokens}
+use Rattle.uri_ops.proofs.Meanings.DecodedParts.{decoded_parts-of-run, decoded_parts-of-token-chunks}
 
 pub literal-part-is-lowered : (lowers : Bool) (set : TableSet) (text : List ℕ) → IsUtf8 text → print
     (lowered_if lowers (decoded_parts set (Literal text ∷ []))) ≡ lowered_text_if lowers text
@@ -42,4 +42,4 @@ pub all-parts-give-decoded-tokens : (text old : List ℕ) (s t : Decoding)
     → string_bytes s.text.now ≡ old → AppendsDecodedParts s (parts text) t → string_bytes t.text.now
     ≡ old ++ print (lowered_if s.lowers (decode_tokens (set_of s.table) (tokens text)))
 all-parts-give-decoded-tokens text old s t valid begun took =
-    grind (arith, nat_tests, decoded_parts-are-decoded-tokens)
+    grind (arith, nat_tests, decoded_parts-of-token-chunks, valid_text_has_printable_tokens)

@@ -1,5 +1,5 @@
 -- The components of a text of a kind: each is in UTF-8 and meets its rule, and they are cut apart.
-use Rattle.uri_ops.proofs.Common.{◌≡◌, ℕ, Bool, true, false, not, List, drop, refl, arith, ◌&&◌, ◌||◌, ⊎_elim, codes, Option, Some, None, IfSome, is_some, IsUtf8, cases_Bool, nat_tests, AreAscii, AreAscii-by-test, Components, starts, from_any, after_scheme, after_authority, after_query, components, when, Kind, absent_or_passes, is_scheme, has_colon_in_first_segment, is_authority, components_meet_rules, IfSome-combine, utf8_before_marks}
+use Rattle.uri_ops.proofs.Common.{◌≡◌, ℕ, Bool, true, false, not, List, drop, refl, arith, ◌&&◌, ◌||◌, ⊎_elim, codes, IfSome, is_some, IsUtf8, cases_Bool, nat_tests, AreAscii, AreAscii-by-test, Components, starts, from_any, after_scheme, after_authority, after_query, components, when, Kind, is_scheme, has_colon_in_first_segment, is_authority, components_meet_rules, IfSome-combine, utf8_before_marks}
 use Rattle.uri_parts.proofs.Offered.{utf8_from_marks, utf8_after_mark, utf8_after_slashes, utf8_after_authority, utf8_after_scheme}
 use Rattle.uri_ops.proofs.Meanings.AllowedParts.{is_set_text, set-text-from-utf8, set-text-is-valid}
 
@@ -15,21 +15,10 @@ pub record ArePartsOfKind (kind : Kind) (p : Components) : Type 0 where
       && (is_some p.authority || not (has_colon_in_first_segment p.path))))
       ≡ true
 
-passing-option-passes-if-some : (o : Option (List ℕ)) (test : List ℕ → Bool)
-    → absent_or_passes o test ≡ true → IfSome o (λ x. test x ≡ true)
-passing-option-passes-if-some None test e = tt
-passing-option-passes-if-some (Some x) test e = e
-
-property-if-some-passes-test : (o : Option (List ℕ)) (P : List ℕ → Type 0) (test : List ℕ → Bool)
-    → ((x : List ℕ) → P x → test x ≡ true) → IfSome o P → absent_or_passes o test ≡ true
-property-if-some-passes-test None P test f h = refl
-property-if-some-passes-test (Some x) P test f h = f x h
-
 -- meanings of components: those of a kind meet the rules of its grammar
 pub components-of-kind-meet-grammar : (kind : Kind) (p : Components) → ArePartsOfKind kind p
     → components_meet_rules kind p ≡ true
-components-of-kind-meet-grammar kind p w =
-    grind (arith, nat_tests, property-if-some-passes-test, set-text-is-valid, is_set_text)
+components-of-kind-meet-grammar kind p w = grind (arith, nat_tests, set-text-is-valid, is_set_text)
 
 -- meanings of components: each component is UTF-8
 pub record AreUtf8 (p : Components) : Type 0 where
@@ -89,11 +78,5 @@ components-of-utf8-are-utf8 text u =
 -- meanings of components: those in UTF-8 that meet the rules of the grammar are of the kind
 pub grammar-gives-components-of-kind : (kind : Kind) (p : Components)
     → AreUtf8 p → components_meet_rules kind p ≡ true → ArePartsOfKind kind p
-grammar-gives-components-of-kind kind p u e = grind (
-  arith,
-  nat_tests,
-  IfSome-combine,
-  passing-option-passes-if-some,
-  set-text-from-utf8,
-  is_set_text,
-)
+grammar-gives-components-of-kind kind p u e =
+    grind (arith, nat_tests, IfSome-combine, set-text-from-utf8, is_set_text)

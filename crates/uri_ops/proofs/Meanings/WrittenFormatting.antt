@@ -1,5 +1,6 @@
 -- Where a printed text has its formatting characters as octets, the tokens that were printed have.
-use Rattle.uri_ops.proofs.Common.{◌≡◌, ℕ, ◌≤◌, Bool, true, false, eqb, List, [], ◌∷◌, ◌++◌, length, take, drop, refl, sym, ap, ◌∙◌, arith, ◌&&◌, ◌||◌, encode_utf8, list_all, list_any, flat_map, chars, encode_utf8_all, IsUtf8, take-append_seam, drop-append_seam, cond-false, and_parts, or_parts, or_from, false_from_ne_true, both_ways, nat_tests, append-nil, flat_map-append, list_any-append, encodes-chars, widest_set, is_bidi_formatting, is_printable, formatting_as_octets, encode_formatting, decode_tokens, decode_unreserved, encoded_formatting_char, encoded_formatting_text, TableSet, allows, allows_past_ascii, is_ucschar, is_iprivate, Token, Char, Octet, tokens, text_of_token, print, IsValidFor, valid_text_has_printable_tokens, lowered_tokens_are_printable, ascii_char_is_no_formatting_char, never_literal_is_formatting_if_both_flags, encode_formatting_commutes_with_lowering, octet_digits_are_hexadecimal, chars_of_token, chars_of_token_encode_to_its_text, chars_of_printed_tokens, printed_tokens_are_utf8, decode_tokens_keeps_tokens_printable, lowered_if}
+use Rattle.std.proofs.lemmas.Grind.{common_steps}
+use Rattle.uri_ops.proofs.Common.{◌≡◌, ℕ, ◌≤◌, Bool, true, false, eqb, List, [], ◌∷◌, ◌++◌, length, take, drop, refl, sym, ap, ◌∙◌, arith, ◌&&◌, ◌||◌, encode_utf8, list_all, list_any, flat_map, chars, encode_utf8_all, IsUtf8, take-append_seam, drop-append_seam, cond-false, and_parts, or_parts, or_from, false_from_ne_true, both_ways, nat_tests, append-nil, flat_map-append, list_any-append, encodes-chars, widest_set, is_bidi_formatting, is_printable, formatting_as_octets, encode_formatting, decode_tokens, decode_unreserved, encoded_formatting_char, encoded_formatting_text, TableSet, allows, allows_past_ascii, is_ucschar, is_iprivate, Token, Char, Octet, tokens, text_of_token, print, IsValidFor, valid_text_has_printable_tokens, lowered_tokens_are_printable, ascii_char_is_no_formatting_char, never_literal_is_formatting_if_both_flags, encode_formatting_commutes_with_lowering, chars_of_token, chars_of_printed_tokens, printed_tokens_are_utf8, decode_tokens_keeps_tokens_printable, lowered_if}
 use Rattle.uri_pct.proofs.Offered.{encode_formatting_without_flags_keeps_tokens}
 
 -- meanings, bidirectional text: a formatting character is from U+200E to U+202E, so it begins with
@@ -46,17 +47,11 @@ pub text-without-formatting-is-unchanged : (text : List ℕ) → IsUtf8 text
 text-without-formatting-is-unchanged text u e =
     characters-without-formatting-are-unchanged (chars text) e ∙ encodes-chars text u
 
-printable-octet-has-no-formatting : (v : ℕ) → is_printable (Octet v) ≡ true
-    → list_any is_bidi_formatting (chars_of_token (Octet v)) ≡ false
-printable-octet-has-no-formatting v e =
-    grind (arith, nat_tests, octet_digits_are_hexadecimal, ascii_char_is_no_formatting_char)
-
 printed-token-has-formatting-encoded : (set : TableSet) (t : Token)
     → (set.ucschar && set.pct_encoded) ≡ true → is_printable t ≡ true
     → flat_map encoded_formatting_char (chars_of_token t) ≡ print (formatting_as_octets set t)
 printed-token-has-formatting-encoded set (Octet v) both e =
-    characters-without-formatting-are-unchanged (chars_of_token (Octet v))
-    (printable-octet-has-no-formatting v e) ∙ chars_of_token_encode_to_its_text (Octet v) e
+    grind (arith, common_steps, ascii_char_is_no_formatting_char)
 printed-token-has-formatting-encoded set (Char c) both e =
     grind (arith, nat_tests, append-nil, never_literal_is_formatting_if_both_flags)
 
@@ -94,20 +89,12 @@ encoding-formatting-and-lowering-swap true set ts = sym
     (encode_formatting_commutes_with_lowering set ts)
 encoding-formatting-and-lowering-swap false set ts = refl
 
--- meanings, decoded: tokens that can be written can be in lower case; lowers: whether they are
--- lowered
-lowered-printable-tokens-are-printable : (lowers : Bool) (ts : List Token)
-    → list_all is_printable ts ≡ true → list_all is_printable (lowered_if lowers ts) ≡ true
-lowered-printable-tokens-are-printable true ts e = lowered_tokens_are_printable ts e
-lowered-printable-tokens-are-printable false ts e = e
-
 -- meanings, decoded: the decoded tokens of a valid text can be written, in lower case too
 lowered-decoded-tokens-are-printable : (lowers : Bool) (set : TableSet) (text : List ℕ)
     → IsValidFor widest_set text
     → list_all is_printable (lowered_if lowers (decode_tokens set (tokens text))) ≡ true
-lowered-decoded-tokens-are-printable lowers set text valid = lowered-printable-tokens-are-printable
-    lowers (decode_tokens set (tokens text)) (decode_tokens_keeps_tokens_printable set (tokens text)
-    (valid_text_has_printable_tokens widest_set text refl valid))
+lowered-decoded-tokens-are-printable lowers set text valid =
+    grind (arith, lowered_tokens_are_printable, decode_tokens_keeps_tokens_printable, valid_text_has_printable_tokens)
 
 -- meanings, decoded: a component of a valid text, decoded and in lower case if lowers, is UTF-8
 pub printed-lowered-decoding-is-utf8 : (lowers : Bool) (set : TableSet) (text : List ℕ)

@@ -1,13 +1,14 @@
 -- The components of a normal text: they meet the grammar, are cut apart where the text is, and have
 -- the meaning that the text was printed from.
-use Rattle.uri_ops.proofs.Common.{◌≡◌, ℕ, ◌<◌, Bool, true, false, cond, not, List, [], ◌∷◌, ◌++◌, length, refl, ap, ◌∙◌, ◌&&◌, ◌||◌, arith, option_map, codes, Option, Some, None, IfSome, IfNone, is_some, slice_index, option_and_then, is_ascii_alphabetic, IsUtf8, str_to_ascii_lowercase, and_parts, not-true, not_from_false, false≢true, nat_tests, TableSet, scheme_set, print, is_valid_for, decode_unreserved, excludes, Components, IsSplitOf, Lacks, IsAbemptyPath, marked, has_scheme, has_authority, recompose, Kind, is_scheme, has_colon_in_first_segment, is_authority, query_text, IsEmptyOrMarked-query_text, scheme_set_lacks_percent, scheme_set_excludes_delimiters, valid_text_lacks_excluded_marks, dotless_if_absolute, guarded, IsComponentSet, HasComponentSets, PortFunction, authority_meaning, dotless_path, components_meaning, normal_authority, normal_components, print_decoded, eq_true_from_IsTrue, equal-to-true-is-IsTrue}
+use Rattle.uri_parts.proofs.Offered.{valid_ascii_text}
+use Rattle.uri_ops.proofs.Common.{◌≡◌, ℕ, ◌<◌, Bool, true, false, cond, not, List, [], ◌∷◌, ◌++◌, length, refl, ap, ◌∙◌, ◌&&◌, ◌||◌, arith, option_map, codes, Option, Some, None, IfSome, IfNone, is_some, slice_index, option_and_then, is_ascii_alphabetic, IsUtf8, str_to_ascii_lowercase, and_parts, not-true, not_from_false, false≢true, nat_tests, TableSet, scheme_set, print, is_valid_for, decode_unreserved, excludes, Components, IsSplitOf, Lacks, IsAbemptyPath, marked, has_scheme, has_authority, recompose, Kind, is_scheme, has_colon_in_first_segment, is_authority, query_text, scheme_set_lacks_percent, scheme_set_excludes_delimiters, valid_text_lacks_excluded_marks, dotless_if_absolute, guarded, IsComponentSet, HasComponentSets, PortFunction, authority_meaning, dotless_path, components_meaning, normal_authority, normal_components, print_decoded}
 use Rattle.uri_ops.proofs.Meanings.ComponentEnds.{no_scheme, path-set-excludes-its-ends, query-set-excludes-its-end}
 use Rattle.uri_ops.proofs.Meanings.PortMeanings.{authority_meaning-from-bare-meaning}
 use Rattle.uri_ops.proofs.Targeting.Targets.{guarded-path-without-authority-has-no-two-slashes, dotless-abempty-path-is-abempty}
 use Rattle.uri_ops.proofs.Meanings.AllowedParts.{is_set_text, set-text-is-utf8, set-text-is-valid, print_decoded-of-nil-is-nil, decode_unreserved-is-idempotent, decoded-set-text-is-set-text}
 use Rattle.uri_ops.proofs.Paths.DecodedStarts.{decoding-keeps-leading-slash, decoding-keeps-two-slashes, decoding-adds-no-colon-first}
 use Rattle.uri_ops.proofs.Paths.PathMeanings.{guarded-set-text-is-set-text, path-without-dots-is-set-text, normal-path-decodes-as-path}
-use Rattle.uri_ops.proofs.Meanings.AsciiCharacters.{lowering-is-idempotent, lowered-scheme-is-scheme, lowered-scheme-is-utf8}
+use Rattle.uri_ops.proofs.Meanings.AsciiCharacters.{lowering-is-idempotent, lowered-scheme-is-utf8, lowered-ascii-passes-test, lowered-scheme-character-is-scheme-character, lowered-text-keeps-leading-letter}
 use Rattle.uri_ops.proofs.Meanings.TextParts.{ArePartsOfKind}
 
 -- normal texts: an authority that is printed from its meaning is one, lacks the delimiters that
@@ -31,7 +32,7 @@ lowered-scheme-part-is-scheme-part : (scheme : Option (List ℕ)) → IfSome sch
     → IfSome (option_map str_to_ascii_lowercase scheme) IsSchemePart
 lowered-scheme-part-is-scheme-part None h = tt
 lowered-scheme-part-is-scheme-part (Some s) h =
-    (lowered-scheme-is-utf8 s h.0 h.1, lowered-scheme-is-scheme s h.0 h.1)
+    grind (arith, lowered-scheme-is-utf8, lowered-ascii-passes-test, lowered-scheme-character-is-scheme-character, valid_ascii_text, lowered-text-keeps-leading-letter)
 
 pub text-with-first-letter-is-not-empty : (s : List ℕ) → is_ascii_alphabetic (slice_index s 0)
     ≡ true → 0 < length s
@@ -113,13 +114,7 @@ module _ (set : TableSet) (w : IsComponentSet (codes "?#[]") set)
   pub decoded-abempty-path-is-abempty : (path : List ℕ)
       → is_set_text set path ≡ true → IsAbemptyPath path → IsAbemptyPath (print_decoded set path)
   decoded-abempty-path-is-abempty path h rooted =
-      grind (
-        arith,
-        print_decoded-of-nil-is-nil,
-        equal-to-true-is-IsTrue,
-        decoding-keeps-leading-slash,
-        eq_true_from_IsTrue,
-      )
+      grind (arith, print_decoded-of-nil-is-nil, decoding-keeps-leading-slash)
 
   normal-path-after-authority-is-abempty : (scheme : Option (List ℕ)) (a path : List ℕ)
       → is_set_text set path ≡ true
@@ -208,12 +203,7 @@ module _ (kind : Kind) (sets : HasComponentSets kind) (keeps : NormalAuthorities
   normal-text-without-scheme-has-none default (Some s) o path query fragment part h = tt
   normal-text-without-scheme-has-none default None (Some a) path query fragment part h = refl
   normal-text-without-scheme-has-none default None None path query fragment part h =
-      grind (
-        arith,
-        no_scheme,
-        decoding-keeps-first-segment-without-colon,
-        IsEmptyOrMarked-query_text,
-      )
+      grind (arith, no_scheme, decoding-keeps-first-segment-without-colon)
 
   abbrev pub components_of_normal_text : Components → Components
   components_of_normal_text p = normal_components (components_meaning kind ports p)

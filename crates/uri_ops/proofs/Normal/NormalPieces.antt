@@ -1,8 +1,7 @@
 -- The pieces of a normal text, as they are appended one after the other.
 use Rattle.uri_ops.proofs.Common.{◌≡◌, ℕ, true, false, ◌&&◌, List, [], ◌∷◌, ◌++◌, refl, option_map, arith, codes, Option, Some, None, is_some, IsUtf8, false≢true, append_assoc, nat_tests, TableSet, is_absolute, decode_unreserved, IsValidFor, print, components, has_authority, starts, Kind, IsComponentSet, remove_dot_segments, meaning_of, normal_authority, normal_path, normal_path_text, PortFunction, guarded, print_decoded, is_some-option_map}
 use Rattle.uri_ops.proofs.Meanings.AllowedParts.{set-text-from-utf8}
-use Rattle.uri_ops.proofs.Paths.DecodedStarts.{decoding-keeps-two-slashes, no-leading-slash-no-two-slashes}
-use Rattle.uri_ops.proofs.Paths.GuardedPaths.{path-without-two-slashes-has-no-guard}
+use Rattle.uri_ops.proofs.Paths.DecodedStarts.{decoding-keeps-two-slashes}
 
 decoded-path-keeps-two-slashes : (set : TableSet)
     → IsComponentSet (codes "?#[]") set → (path : List ℕ) → IsUtf8 path
@@ -17,12 +16,7 @@ pub path-with-dots-is-normal-when-decoded : (set : TableSet) → IsComponentSet 
     → normal_path_text set scheme authority path ≡ print (decode_unreserved set path)
 path-with-dots-is-normal-when-decoded set w None authority path utf8 valid e = refl
 path-with-dots-is-normal-when-decoded set w (Some s) authority path utf8 valid e =
-    grind (
-      arith,
-      path-without-two-slashes-has-no-guard,
-      decoded-path-keeps-two-slashes,
-      no-leading-slash-no-two-slashes,
-    )
+    grind (arith, decoded-path-keeps-two-slashes)
 
 -- normal paths: if a path that begins with `/` is appended under a scheme, decoded, without its dot
 -- segments and after the guard that this needs, its normal form is appended

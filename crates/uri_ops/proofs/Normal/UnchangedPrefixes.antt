@@ -1,5 +1,5 @@
 -- Texts whose bytes up to the end of the host are unchanged: so are the scheme and the host.
-use Rattle.uri_ops.proofs.Common.{common_steps, ◌≡◌, ℕ, ◌+◌, ◌<◌, ◌≤◌, ◌||◌, Bool, true, false, eqb, not, List, [], ◌∷◌, ◌++◌, length, get_or, take, refl, sym, ap, ◌∙◌, append-nil, option_map, arith, codes, Option, Some, None, IfSome, unwrap_or, to_ascii_lowercase, list_all, str_to_ascii_lowercase, take-append-add, agree_below_at, and_from, and_parts, not-true, nat_tests, get_or-take, length-append, length-take-le, take-take, All-from_get_or, list_all-append, list_all-from_AllPass, lacks, authority_parts, recompose_authority, Components, marked, starts, packed, authority_at, delimited_length, host_end_of, positions_of, IsUnchangedHost, is_literal_byte, is_unchanged_host_byte, normal_scheme}
+use Rattle.uri_ops.proofs.Common.{common_steps, ◌≡◌, ℕ, ◌+◌, ◌<◌, ◌≤◌, ◌||◌, Bool, true, eqb, not, List, [], ◌∷◌, ◌++◌, length, get_or, take, refl, sym, ap, ◌∙◌, append-nil, option_map, arith, codes, Option, Some, None, IfSome, unwrap_or, to_ascii_lowercase, list_all, str_to_ascii_lowercase, take-append-add, agree_below_at, and_from, and_parts, not-true, nat_tests, get_or-take, length-append, length-take-le, take-take, All-from_get_or, list_all-append, list_all-from_AllPass, lacks, authority_parts, recompose_authority, Components, marked, packed, authority_at, delimited_length, host_end_of, positions_of, IsUnchangedHost, is_literal_byte, is_unchanged_host_byte, normal_scheme}
 use Rattle.uri_pct.specs.Masks.{has_bit}
 use Rattle.uri_pct.specs.Models.ByteRuns.{IsLongestRun}
 use Rattle.uri_pct.proofs.Offered.{has_bit-only-ascii}
@@ -66,21 +66,10 @@ unchanged-bytes-lack-percent (b ∷ text) e =
     let other : not (eqb b 37) ≡ true = (and_parts _ _ (and_parts _ _ p.0).1).0 in
     and_from _ _ other (unchanged-bytes-lack-percent text p.1)
 
--- unchanged bytes: an unchanged text does not begin with `[` (91)
-unchanged-bytes-begin-without-bracket : (text : List ℕ) → has_unchanged_host_bytes text ≡ true
-    → starts 91 text ≡ false
-unchanged-bytes-begin-without-bracket [] e = refl
-unchanged-bytes-begin-without-bracket (b ∷ text) e = grind (arith, nat_tests, not-true)
-
 pub host_of_unchanged_bytes_is_unchanged : (host : List ℕ) → has_unchanged_host_bytes host ≡ true
     → IsUnchangedHost host
 host_of_unchanged_bytes_is_unchanged host e =
-    grind (
-      arith,
-      unchanged_bytes_are_lower,
-      unchanged-bytes-lack-percent,
-      unchanged-bytes-begin-without-bracket,
-    )
+    grind (arith, unchanged_bytes_are_lower, unchanged-bytes-lack-percent, nat_tests, not-true)
 
 -- unchanged bytes: an unchanged prefix of two texts has the first text, and a prefix of the
 -- second

@@ -1,6 +1,6 @@
 -- The decoded form of a path, as printed: its segments, and its dot segments, which may be removed
 -- before or after decoding.
-use Rattle.uri_ops.proofs.Common.{◌≡◌, ℕ, true, false, List, [], ◌∷◌, ◌++◌, map, refl, sym, ap, subst, ◌∙◌, arith, lit<, list_all, IsUtf8, IsUtf8-append, IsUtf8-nil, IsUtf8-encode, encode_ascii, low_scalar, append-nil, map-append, and_parts, and_from, not_from_false, TableSet, LacksPercent, IsSubset, unreserved_set, allows, is_valid_for, ascii_char_is_allowed_iff_in_set, IsAbemptyPath, utf8_around_ascii_byte, has_slash, remove_dot_segments, underflows, directory, IsAbsolute, print_decoded}
+use Rattle.uri_ops.proofs.Common.{◌≡◌, ℕ, true, false, List, [], ◌∷◌, ◌++◌, map, refl, sym, ap, subst, ◌∙◌, arith, lit<, list_all, IsUtf8, IsUtf8-append, IsUtf8-nil, IsUtf8-encode, encode_ascii, low_scalar, append-nil, map-append, and_parts, and_from, not_from_false, TableSet, LacksPercent, IsSubset, unreserved_set, allows, is_valid_for, IsAbemptyPath, utf8_around_ascii_byte, has_slash, remove_dot_segments, underflows, directory, IsAbsolute, print_decoded}
 use Rattle.uri_ops.proofs.Paths.Segments.{dotless_of, parent, AllPass, appended-segments-pass-test, dotless_of-pass-test}
 use Rattle.uri_ops.proofs.Paths.SlashedSegments.{slashed, NoSlashes, first-segment-and-rest-lack-slashes, remove-dots-by-segments, underflows-by-segments, directory-by-segments, parent-segments-pass-test}
 use Rattle.uri_ops.proofs.Paths.DotLaws.{property-of-absolute-path-by-segments, rooted}
@@ -31,15 +31,7 @@ set-text-splits set x y e =
 pub set-texts-join-at-slash : (set : TableSet) → set.ascii 47 ≡ true → (x y : List ℕ)
     → is_set_text set x ≡ true → is_set_text set y ≡ true → is_set_text set (x ++ 47 ∷ y) ≡ true
 set-texts-join-at-slash set slash x y e f =
-    grind (
-      arith,
-      set-text-is-utf8,
-      set-text-from-utf8,
-      utf8-joined-at-slash-is-utf8,
-      validity-splits-at-slash,
-      set-text-is-valid,
-      ascii_char_is_allowed_iff_in_set,
-    )
+    grind (arith, set-text-is-utf8, set-text-from-utf8, utf8-joined-at-slash-is-utf8, validity-splits-at-slash, set-text-is-valid)
 
 -- paths: the segments of a valid text are valid
 pub joined-segments-of-set-text-are-set-texts : (set : TableSet) (s : List ℕ) (rest : List (List ℕ))

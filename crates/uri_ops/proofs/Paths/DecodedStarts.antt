@@ -1,5 +1,5 @@
 -- The decoded form of a path, as printed, begins as the path does.
-use Rattle.uri_ops.proofs.Common.{arith, ◌≡◌, ℕ, true, false, eqb, List, [], ◌∷◌, ◌++◌, refl, sym, ap, ◌∙◌, ◌⊎◌, ⊎_elim, inl, inr, codes, list_any, chars, append-nil, cases_Bool, and_left, or_parts, or_from, eqb-true, false≢true, TableSet, LacksPercent, IsSubset, unreserved_set, tokens, tokens_from_chars, bytes_decoded_from, Lacks, starts, has_authority, before_any, has_colon_in_first_segment, cut-at-end-of-text-without-marks, is_empty, has_slash, print_decoded, cons_is_not_nil}
+use Rattle.uri_ops.proofs.Common.{arith, ◌≡◌, ℕ, true, false, eqb, List, [], ◌∷◌, ◌++◌, refl, sym, ap, ◌∙◌, ◌⊎◌, ⊎_elim, inl, inr, codes, list_any, chars, append-nil, cases_Bool, and_left, or_parts, or_from, eqb-true, false≢true, TableSet, LacksPercent, IsSubset, unreserved_set, tokens, tokens_from_chars, bytes_decoded_from, Lacks, starts, has_authority, before_any, has_colon_in_first_segment, cut-at-end-of-text-without-marks, is_empty, has_slash, print_decoded}
 use Rattle.uri_ops.proofs.Paths.PathCharacters.{test-of-delimiters-gives-lacks}
 use Rattle.uri_ops.proofs.Meanings.AllowedParts.{is_set_text, set-text-is-utf8, print_decoded-of-nil-is-nil, decoding-keeps-decoded-bytes, decoding-splits-at-slash}
 use Rattle.uri_ops.proofs.Paths.DotBytes.{text-decoding-to-no-bytes-is-empty}
@@ -79,16 +79,7 @@ module _ (set : TableSet) (lacks : LacksPercent set) (wide : IsSubset unreserved
       → is_empty (print_decoded set s) ≡ is_empty s
   decoding-keeps-emptiness [] e = ap is_empty (print_decoded-of-nil-is-nil set)
   decoding-keeps-emptiness (c ∷ s) e =
-      grind (
-        arith,
-        cons_is_not_nil,
-        text-decoding-to-no-bytes-is-empty,
-        set-text-is-utf8,
-        decoding-keeps-decoded-bytes,
-        lacks,
-        tokens,
-        empty-text-decodes-to-no-bytes,
-      )
+      grind (arith, text-decoding-to-no-bytes-is-empty, set-text-is-utf8, decoding-keeps-decoded-bytes, empty-text-decodes-to-no-bytes)
 
   decoding-adds-no-colon : (s : List ℕ) → is_set_text set s ≡ true
       → list_any (λ c. eqb c 58) s ≡ false → list_any (λ c. eqb c 58) (print_decoded set s) ≡ false
@@ -97,19 +88,7 @@ module _ (set : TableSet) (lacks : LacksPercent set) (wide : IsSubset unreserved
   pub decoding-keeps-leading-slash : (x : List ℕ) → is_set_text set x ≡ true
       → starts 47 (print_decoded set x) ≡ starts 47 x
   decoding-keeps-leading-slash x e =
-      grind (
-        arith,
-        slashless-text-begins-with-no-slash,
-        decoding-adds-no-slash,
-        lacks,
-        set-text-splits,
-        starts,
-        decoding-splits-at-slash,
-        set-text-is-utf8,
-        empty-segment-before-slash-begins-with-slash,
-        decoding-keeps-emptiness,
-        text-lacks-slash-or-has-first-segment,
-      )
+      grind (arith, slashless-text-begins-with-no-slash, decoding-adds-no-slash, set-text-splits, decoding-splits-at-slash, set-text-is-utf8, empty-segment-before-slash-begins-with-slash, decoding-keeps-emptiness, text-lacks-slash-or-has-first-segment)
 
   pub decoding-keeps-two-slashes : (x : List ℕ) → is_set_text set x ≡ true
       → has_authority (print_decoded set x) ≡ has_authority x

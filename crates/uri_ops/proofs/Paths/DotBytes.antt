@@ -1,5 +1,5 @@
 -- A dot segment is one that decodes to the bytes of one dot or of two.
-use Rattle.uri_ops.proofs.Common.{common_steps, ◌≡◌, ℕ, ◌+◌, ◌*◌, ◌<◌, Bool, true, false, eqb, List, [], ◌∷◌, ◌++◌, length, refl, sym, ap, subst, ◌∙◌, arith, ◌&&◌, ⊎_elim, inl, inr, ◌⊎◌, codes, bytes_eq, encode_utf8, digit_value, is_ascii_hexdigit, list_any, chars, IsUtf8, encode_utf8_all, append-nil, length-append, encodes-chars, length-encode, len_utf8_bounds, encode_ascii, encode_same, cases_Bool, and_parts, or_cases, false≢true, false_from_ne_true, eqb-true, nat_tests, tokens, tokens_from_chars, bytes_decoded_from, is_pct_encoded, dots, is_single_dot, is_double_dot, hexdigit_value_is_below_16}
+use Rattle.uri_ops.proofs.Common.{common_steps, ◌≡◌, ℕ, ◌+◌, ◌*◌, Bool, true, false, eqb, List, [], ◌∷◌, ◌++◌, length, refl, sym, ap, subst, ◌∙◌, arith, ◌&&◌, ⊎_elim, inl, inr, ◌⊎◌, codes, bytes_eq, encode_utf8, digit_value, is_ascii_hexdigit, list_any, chars, IsUtf8, encode_utf8_all, append-nil, length-append, encodes-chars, length-encode, len_utf8_bounds, encode_ascii, encode_same, cases_Bool, and_parts, or_cases, false≢true, false_from_ne_true, eqb-true, nat_tests, tokens, tokens_from_chars, bytes_decoded_from, is_pct_encoded, dots, is_single_dot, is_double_dot, hexdigit_value_is_below_16}
 use Rattle.uri_ops.proofs.Paths.Segments.{equal-bytes-are-equal}
 
 -- dot segments: the text is one of the forms of a dot, `.`, `%2E` and `%2e`
@@ -31,12 +31,6 @@ two-dots-decode-to-bytes-46 : (first second : List ℕ) → IsDot first → IsDo
 unfolding chars tokens_from_chars is_pct_encoded encode_utf8
 two-dots-decode-to-bytes-46 first second d e = grind (arith, tokens, property-of-each-dot)
 
--- dot segments: the segment `.` (or `%2E`) decodes to one byte 46
-single-dot-segment-decodes-to-dot : (s : List ℕ) → is_single_dot s ≡ true
-    → bytes_decoded_from (tokens s) ≡ 46 ∷ []
-single-dot-segment-decodes-to-dot s e =
-    grind (arith, test-of-some-dot, tokens, equal-bytes-are-equal, dot-decodes-to-byte-46)
-
 double-dot-segment-decodes-to-two-dots : (s : List ℕ)
     → is_double_dot s ≡ true → bytes_decoded_from (tokens s) ≡ 46 ∷ 46 ∷ []
 double-dot-segment-decodes-to-two-dots s e =
@@ -62,24 +56,7 @@ character-with-first-byte-46-is-dot c more bytes e = encode_same c 46 more bytes
 hex-digits-of-46-are-2E : (h l : ℕ) → is_ascii_hexdigit h ≡ true → is_ascii_hexdigit l ≡ true
     → 16 * digit_value h + digit_value l ≡ 46 → (h ≡ 50) × ((l ≡ 69) ⊎ (l ≡ 101))
 hex-digits-of-46-are-2E h l e f g =
-    let low : digit_value l < 16 = hexdigit_value_is_below_16 l f in
-    let high : digit_value h ≡ 2 = omega arith in
-    let rest : digit_value l ≡ 14 = omega arith in
-    (is_two h e high, is_fourteen l f rest)
-  where
-    is_two : (h : ℕ) → is_ascii_hexdigit h ≡ true → digit_value h ≡ 2 → h ≡ 50
-    is_two h e g = grind (arith, nat_tests)
-
-    is_fourteen : (l : ℕ) → is_ascii_hexdigit l ≡ true → digit_value l ≡ 14 → (l ≡ 69) ⊎ (l ≡ 101)
-    is_fourteen l e g = ⊎_elim (λ k. inl (upper l e g k)) (λ k. inr (lower l e g k))
-        (cases_Bool (eqb l 69))
-      where
-        upper : (l : ℕ) → is_ascii_hexdigit l ≡ true → digit_value l ≡ 14 → eqb l 69 ≡ true → l ≡ 69
-        upper l e g k = eqb-true l 69 k
-
-        lower : (l : ℕ) → is_ascii_hexdigit l ≡ true → digit_value l ≡ 14 → eqb l 69 ≡ false
-            → l ≡ 101
-        lower l e g k = grind (arith, nat_tests)
+    grind (arith, hexdigit_value_is_below_16, nat_tests, cases_Bool, eqb-true, false)
 
 equal-lists-have-equal-heads-and-tails : (x y : ℕ) (xs ys : List ℕ) → x ∷ xs ≡ y ∷ ys → (x ≡ y)
     × (xs ≡ ys)
@@ -199,12 +176,7 @@ pub single-dot-by-decoded-bytes : (s t : List ℕ) → IsUtf8 s → IsUtf8 t
     → bytes_decoded_from (tokens s) ≡ bytes_decoded_from (tokens t) → is_single_dot s
     ≡ is_single_dot t
 single-dot-by-decoded-bytes s t u v e =
-    grind (
-      arith,
-      tests-that-imply-each-other-are-equal,
-      text-decoding-to-dot-is-single-dot,
-      single-dot-segment-decodes-to-dot,
-    )
+    grind (arith, text-decoding-to-dot-is-single-dot, equal-bytes-are-equal, dot-decodes-to-byte-46)
 
 -- dot segments: whether a segment is `..` (or has it percent-encoded)
 -- depends only on the bytes it decodes to
@@ -212,12 +184,7 @@ pub double-dot-by-decoded-bytes : (s t : List ℕ) → IsUtf8 s → IsUtf8 t
     → bytes_decoded_from (tokens s) ≡ bytes_decoded_from (tokens t) → is_double_dot s
     ≡ is_double_dot t
 double-dot-by-decoded-bytes s t u v e =
-    grind (
-      arith,
-      tests-that-imply-each-other-are-equal,
-      text-decoding-to-two-dots-is-double-dot,
-      double-dot-segment-decodes-to-two-dots,
-    )
+    grind (arith, text-decoding-to-two-dots-is-double-dot, double-dot-segment-decodes-to-two-dots)
 
 pub text-decoding-to-no-bytes-is-empty : (s : List ℕ) → IsUtf8 s → bytes_decoded_from (tokens s)
     ≡ [] → s ≡ []

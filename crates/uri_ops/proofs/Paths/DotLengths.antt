@@ -1,5 +1,5 @@
 -- The number of bytes that a dot takes identifies it.
-use Rattle.uri_ops.proofs.Common.{◌≡◌, ◌⊎◌, ℕ, zero, suc, ◌+◌, ◌-◌, ◌<◌, true, false, eqb, List, [], ◌∷◌, ◌++◌, length, take, drop, get_or, refl, sym, ap, subst, ◌∙◌, arith, inl, inr, ⊎_elim, append_assoc, ◌&&◌, ◌||◌, rules, Bool, take-add, drop_at, take-append-drop, length-append, length-drop, take_all, false≢true, false_from_ne_true, bytes_eq, codes, list_any, slice_range, IsAbemptyPath, dots, has_slash, is_dot_segment, is_double_dot, is_single_dot, BeginsWithoutDotSegment, dot_len, ends_segment}
+use Rattle.uri_ops.proofs.Common.{◌≡◌, ℕ, ◌+◌, ◌-◌, ◌<◌, true, false, List, [], ◌∷◌, ◌++◌, length, take, drop, refl, sym, ap, subst, ◌∙◌, arith, inl, inr, append_assoc, rules, Bool, take-add, drop_at, take-append-drop, length-append, length-drop, take_all, false≢true, false_from_ne_true, bytes_eq, list_any, slice_range, IsAbemptyPath, dots, has_slash, is_dot_segment, is_double_dot, is_single_dot, BeginsWithoutDotSegment, dot_len, ends_segment}
 use Rattle.uri_ops.proofs.Paths.DotBytes.{IsDot, property-of-each-dot, test-of-some-dot}
 use Rattle.uri_ops.proofs.Paths.Segments.{equal-bytes-are-equal}
 use Rattle.uri_ops.proofs.Paths.TakenSegments.{absolute-path-is-slash-and-rest}
@@ -13,42 +13,9 @@ dot-is-not-empty : (d : List ℕ) → IsDot d → 0 < length d
 dot-is-not-empty = property-of-each-dot (λ d. 0 < length d) (omega arith) (omega arith)
     (omega arith)
 
--- dot segments: a dot has no `/`, and is the segment `.`
-one-dot-is-single-dot-without-slash : (d : List ℕ) → IsDot d → (has_slash d ≡ false)
-    × (is_single_dot d ≡ true)
-one-dot-is-single-dot-without-slash = property-of-each-dot
-    (λ d. (has_slash d ≡ false) × (is_single_dot d ≡ true)) (refl, refl) (refl, refl) (refl, refl)
-
--- dot segments: two texts are together the segment `..`, and neither has a `/`
-IsDoubleDotWithoutSlash : List ℕ → List ℕ → Type 0
-IsDoubleDotWithoutSlash d e = (has_slash (d ++ e) ≡ false) × (is_double_dot (d ++ e) ≡ true)
-
-two-dots-are-double-dot-without-slash : (d e : List ℕ) → IsDot d → IsDot e
-    → IsDoubleDotWithoutSlash d e
-unfolding IsDoubleDotWithoutSlash
-two-dots-are-double-dot-without-slash d e f g = grind (arith, property-of-each-dot)
-
-text-from-byte-46-begins-with-dot : (text : List ℕ) → get_or text 0 0 ≡ 46 → take 1 text ≡ codes "."
-text-from-byte-46-begins-with-dot [] e = absurd (omega (arith, e))
-text-from-byte-46-begins-with-dot (c ∷ text) e = ap (λ b. b ∷ []) e
-
--- dot segments: the three bytes `%` (37), `2` (50) and x are an octet
-first-three-bytes-are-octet : (text : List ℕ) (x : ℕ) → get_or text 0 0 ≡ 37 → get_or text 1 0 ≡ 50
-    → get_or text 2 0 ≡ x → 0 < x → take 3 text ≡ 37 ∷ 50 ∷ x ∷ []
-first-three-bytes-are-octet [] x a b c some = absurd (omega (arith, a))
-first-three-bytes-are-octet (p ∷ []) x a b c some = absurd (omega (arith, b))
-first-three-bytes-are-octet (p ∷ q ∷ []) x a b c some = absurd (omega (arith, c, some))
-first-three-bytes-are-octet (p ∷ q ∷ r ∷ text) x a b c some = cc
-
-first-three-bytes-2E-are-dot : (text : List ℕ) → (eqb (get_or text 0 0) 37
-    && (eqb (get_or text 1 0) 50 && (eqb (get_or text 2 0) 69 || eqb (get_or text 2 0) 101))) ≡ true
-    → IsDot (take 3 text)
-first-three-bytes-2E-are-dot text e = grind (arith, first-three-bytes-are-octet)
-
 -- dot segments: the bytes that a dot takes at the start of a text are a dot
 prefix-of-dot_len-is-dot : (text : List ℕ) (n : ℕ) → n ≡ dot_len text → 0 < n → IsDot (take n text)
-prefix-of-dot_len-is-dot text n is some =
-    grind (arith, text-from-byte-46-begins-with-dot, first-three-bytes-2E-are-dot)
+prefix-of-dot_len-is-dot text n is some = grind arith
 
 abempty-path-has-no-dot_len : (r : List ℕ) → IsAbemptyPath r → dot_len r ≡ 0
 abempty-path-has-no-dot_len r (inl e) = ap dot_len e
@@ -80,37 +47,14 @@ module _ (path bytes : List ℕ) (n : ℕ) (value : bytes ≡ path) where
 -- two dots in a row, by their lengths
 module _ (path : List ℕ) (first second : ℕ) (at : first ≡ dot_len path)
     (next : second ≡ dot_len (drop first path)) where
-  some-dot-length-means-first : 0 < first + second → 0 < first
-  some-dot-length-means-first some = ⊎_elim
-      (λ (none : first ≡ 0). absurd
-      (omega (arith, some, none, next ∙ ap (λ n. dot_len (drop n path)) none ∙ sym at ∙ none)))
-      (λ h. h)
-      (some_or_none first)
-    where
-      some_or_none : (n : ℕ) → (n ≡ 0) ⊎ (0 < n)
-      some_or_none zero = inl refl
-      some_or_none (suc n) = inr (omega arith)
-
   pub one-dot-length-is-single-dot : second ≡ 0 → 0 < first + second
       → (has_slash (take (first + second) path) ≡ false)
       × (is_single_dot (take (first + second) path) ≡ true)
-  one-dot-length-is-single-dot none some =
-      grind (
-        arith,
-        one-dot-is-single-dot-without-slash,
-        prefix-of-dot_len-is-dot,
-        some-dot-length-means-first,
-      )
+  one-dot-length-is-single-dot none some = grind arith
 
   pub two-dot-lengths-are-double-dot : 0 < second → (has_slash (take (first + second) path) ≡ false)
       × (is_double_dot (take (first + second) path) ≡ true)
-  unfolding IsDoubleDotWithoutSlash
-  two-dot-lengths-are-double-dot some =
-      let before = some-dot-length-means-first (omega (arith, some)) in
-      subst (λ t. (has_slash t ≡ false) × (is_double_dot t ≡ true))
-      (sym (take-add first second path)) (two-dots-are-double-dot-without-slash (take first path)
-      (take second (drop first path)) (prefix-of-dot_len-is-dot path first at before)
-      (prefix-of-dot_len-is-dot (drop first path) second next some))
+  two-dot-lengths-are-double-dot some = grind (arith, take-add, prefix-of-dot_len-is-dot)
 
   -- if a dot segment is first, the lengths find it and what ends it
   IsFoundByDotLengths : List ℕ → Type 0

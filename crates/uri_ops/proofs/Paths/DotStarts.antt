@@ -116,26 +116,6 @@ pub take-one-more-byte : (bytes : List ℕ) (i : ℕ) → i < length bytes
 take-one-more-byte bytes i within = let next : i + 1
     ≡ suc i = omega arith in ap (λ n. take n bytes) next ∙ take-suc bytes i 0 within
 
--- as a scan passes a text byte by byte
-module _ (bytes : List ℕ) (i : ℕ) (within : i < length bytes) where
-  next-byte-adds-no-dot-start : has_dot_start_after_slash false (take i bytes) ≡ false
-      → (is_after_slash false (take i bytes) && is_dot_start (get_or bytes i 0)) ≡ false
-      → has_dot_start_after_slash false (take (i + 1) bytes) ≡ false
-  next-byte-adds-no-dot-start e f =
-      grind (arith, take-one-more-byte, byte-that-is-no-dot-adds-no-dot-start)
-
-  next-byte-slash-is_after_slash : (get_or bytes i 0 == 47)
-      ≡ is_after_slash false (take (i + 1) bytes)
-  next-byte-slash-is_after_slash = grind (arith, take-one-more-byte, slash-last-is_after_slash)
-
--- dot segments: if no dot begins after a `/` up to byte i, and the next two bytes make none begin,
--- none does with one more byte
-byte-without-slash-dot-adds-no-dot-start : (bytes : List ℕ) (i : ℕ) → i + 1 < length bytes
-    → has_dot_start_after_slash false (take (i + 1) bytes) ≡ false → has_slash_dot_at bytes i
-    ≡ false → has_dot_start_after_slash false (take (i + 1 + 1) bytes) ≡ false
-byte-without-slash-dot-adds-no-dot-start bytes i within dotless e =
-    grind (arith, next-byte-adds-no-dot-start, next-byte-slash-is_after_slash)
-
 bytes-without-slash-dot-add-no-dot-start : (bytes : List ℕ) (i n : ℕ) → i + n < length bytes
     → has_dot_start_after_slash false (take (i + 1) bytes) ≡ false
     → ((k : ℕ) → k < n → has_slash_dot_at bytes (i + k) ≡ false)
@@ -143,14 +123,7 @@ bytes-without-slash-dot-add-no-dot-start : (bytes : List ℕ) (i n : ℕ) → i 
 bytes-without-slash-dot-add-no-dot-start bytes i zero within dotless none =
     ap (λ m. has_dot_start_after_slash false (take m bytes)) (omega arith) ∙ dotless
 bytes-without-slash-dot-add-no-dot-start bytes i (suc n) within dotless none =
-    grind (
-      arith,
-      byte-without-slash-dot-adds-no-dot-start,
-      bytes-without-slash-dot-add-no-dot-start bytes i n (omega (
-        arith,
-        within,
-      )) dotless (λ k h. none k (omega (arith, h))),
-    )
+    grind (arith, take-one-more-byte, byte-that-is-no-dot-adds-no-dot-start, slash-last-is_after_slash, bytes-without-slash-dot-add-no-dot-start bytes i n (omega (arith, within)) dotless (λ k h. none k (omega (arith, h))))
 
 first-byte-is-no-dot-start : (bytes : List ℕ) → has_dot_start_after_slash false (take 1 bytes)
     ≡ false

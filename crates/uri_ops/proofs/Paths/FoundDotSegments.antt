@@ -1,22 +1,16 @@
 -- A dot segment that a path's segments are found to have.
 use Rattle.uri_ops.proofs.Common.{arith, ◌≡◌, ◌<◌, ℕ, Bool, true, false, List, ◌++◌, ◌||◌, length, take, drop, subst, sym, ap, ◌∙◌, list_all, and_right, or_right, take-append-drop, list_all-append, IsAbemptyPath, has_slash, is_dot_segment, is_double_dot, is_single_dot, lacks_dot_segments, segments, IsDotlessDirectory, RemovalState, IsFirstSegment}
-use Rattle.uri_ops.proofs.Paths.DotLaws.{appended-segments-lack-slashes, rooted, path-after-slash-appends-its-segments}
+use Rattle.uri_ops.proofs.Paths.DotLaws.{appended-segments-lack-slashes, path-after-slash-appends-its-segments}
 use Rattle.uri_ops.proofs.Paths.LeftPaths.{property-of-dotless-directory-by-segments, removal-state-has-directory}
 use Rattle.uri_ops.proofs.Paths.Segments.{is_dotless}
 use Rattle.uri_ops.proofs.Paths.SlashedSegments.{segments-of-slashed-segments}
-use Rattle.uri_ops.proofs.Paths.TakenSegments.{absolute-path-is-slash-and-rest, segments-of-slashless-text-is-one, segments-split-at-first-slash}
+use Rattle.uri_ops.proofs.Paths.TakenSegments.{segments-of-slashless-text-is-one, segments-split-at-first-slash}
 
 first-dot-segment-is-in-path : (segment rest : List ℕ) → has_slash segment ≡ false
     → is_dot_segment segment ≡ true → IsAbemptyPath rest
     → lacks_dot_segments (segment ++ rest) ≡ false
 first-dot-segment-is-in-path segment rest lacks dot =
-    grind (
-      arith,
-      rooted,
-      segments-of-slashless-text-is-one,
-      absolute-path-is-slash-and-rest,
-      segments-split-at-first-slash,
-    )
+    grind (arith, segments-of-slashless-text-is-one, segments-split-at-first-slash)
 
 dot-segment-after-directory-is-in-path : (kept path : List ℕ) → IsDotlessDirectory kept
     → lacks_dot_segments path ≡ false → lacks_dot_segments (kept ++ path) ≡ false

@@ -1,22 +1,11 @@
 -- Paths with `/.` before them, if they would otherwise be parsed as an authority.
-use Rattle.uri_ops.proofs.Common.{common_steps, ◌≡◌, ℕ, true, false, List, ◌++◌, length, take, drop, refl, sym, ap, ◌∙◌, arith, length-append, subst, Option, Some, None, is_some, IsCharBoundary, IsUtf8, IsCharBoundary-from_take, cond-false, false≢true, take_at, has_authority, guarded}
+use Rattle.uri_ops.proofs.Common.{common_steps, ◌≡◌, ℕ, false, List, ◌++◌, length, take, drop, sym, ap, ◌∙◌, arith, length-append, subst, Option, Some, None, is_some, IsCharBoundary, IsUtf8, IsCharBoundary-from_take, false≢true, take_at, guarded}
 
 pub pushed-path-begins-at-boundary : (old path new : List ℕ) (start : ℕ)
     → start ≡ length old → new ≡ old ++ path → IsUtf8 old → IsUtf8 new → IsCharBoundary new start
 pushed-path-begins-at-boundary old path new start at is before after = IsCharBoundary-from_take
     new start after (omega (arith, at, ap length is, length-append old path))
     (subst IsUtf8 (sym (ap (take start) is ∙ take_at old path start (sym at))) before)
-
-pub path-after-authority-needs-no-guard : (authority : Option (List ℕ)) (path : List ℕ)
-    → is_some authority ≡ true → path ≡ guarded authority path
-path-after-authority-needs-no-guard None path e = absurd (false≢true e)
-path-after-authority-needs-no-guard (Some a) path e = refl
-
--- guarded paths: one that does not begin with `//` needs no guard `/.`
-pub path-without-two-slashes-has-no-guard : (authority : Option (List ℕ)) (path : List ℕ)
-    → has_authority path ≡ false → guarded authority path ≡ path
-path-without-two-slashes-has-no-guard None path e = cond-false _ _ _ e
-path-without-two-slashes-has-no-guard (Some a) path e = refl
 
 pub guard-inserted-before-path : (authority : Option (List ℕ)) (old mid new path : List ℕ)
     (start : ℕ) → is_some authority ≡ false → start ≡ length old → mid ≡ old ++ path

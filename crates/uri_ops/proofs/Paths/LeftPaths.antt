@@ -12,13 +12,7 @@ use Rattle.uri_ops.proofs.Targeting.Targets.{appended-absolute-path-is-absolute}
 -- it may begin with a directory that has none as kept, and the rest to do
 pub removal-state-begins-with-directory : (kept rest : List ℕ) → IsDotlessDirectory kept
     → RemovalState (kept ++ rest) kept rest false
-removal-state-begins-with-directory kept rest d = record {
-  removed = refl;
-  underflow = refl;
-  absolute = d.absolute;
-  dotless = d.dotless;
-  closed = inr d.closed;
-}
+removal-state-begins-with-directory kept rest d = grind arith
 
 -- removing dot segments, segment by segment: when no rest is left, what is kept is the result; the
 -- Bool is whether there was an underflow
@@ -28,16 +22,11 @@ pub removal-state-without-rest-is-done : (path kept : List ℕ) (underflowed : B
 removal-state-without-rest-is-done path kept underflowed h =
     grind (arith, common_steps, remove-dots-of-dotless, dotless-path-does-not-underflow)
 
--- general fact on lists, for what is left of a path: one of a length above 0 is not empty
-rest-with-bytes-is-not-nil : (rest : List ℕ) → 0 < length rest → rest ≡ [] → ⊥
-rest-with-bytes-is-not-nil rest some e = omega (arith, some, ap length e)
-
 -- removing dot segments, segment by segment: while a rest is left, what is kept is a directory; the
 -- Bool is whether there was an underflow
 pub removal-state-has-directory : (path kept rest : List ℕ) (underflowed : Bool)
     → RemovalState path kept rest underflowed → 0 < length rest → IsDotlessDirectory kept
-removal-state-has-directory path kept rest underflowed h some =
-    grind (arith, rest-with-bytes-is-not-nil)
+removal-state-has-directory path kept rest underflowed h some = grind arith
 
 pub rest-of-nonzero-length-has-bytes : (rest : List ℕ) → (length rest == 0) ≡ false
     → 0 < length rest
@@ -248,14 +237,10 @@ module _ (path kept rest : List ℕ) (underflowed : Bool)
         )) closed;
       }
 
-absolute-path-has-bytes : (path : List ℕ) → IsAbsolute path → 0 < length path
-absolute-path-has-bytes [] h = absurd (false≢true (eq_true_from_IsTrue _ h))
-absolute-path-has-bytes (c ∷ path) h = omega arith
-
 module _ (text : List ℕ) (start : ℕ) (absolute : IsAbsolute (drop start text)) where
   start-of-absolute-is-within-text : start ≤ length text
-  start-of-absolute-is-within-text = let some = absolute-path-has-bytes
-      (drop start text) absolute in omega (arith, some, length-drop start text)
+  start-of-absolute-is-within-text =
+      grind (arith, common_steps, false≢true, eq_true_from_IsTrue, start, absolute, length-drop)
 
   pub appending-extends-text-from-start : (t new : List ℕ) → new ≡ text ++ t → drop start new
       ≡ drop start text ++ t

@@ -1,6 +1,6 @@
 -- A merged path decodes to the same if the base's path and the reference's are replaced by those of
 -- their normal texts.
-use Rattle.uri_ops.proofs.Common.{common_steps, arith, ◌≡◌, ℕ, true, List, ◌++◌, codes, Option, is_none, TableSet, decode_unreserved, IsAbemptyPath, remove_dot_segments, directory, IsAbsolute, EndsInSlash, dotless_if_absolute, guarded, IsComponentSet, print_decoded, eq_true_from_IsTrue}
+use Rattle.uri_ops.proofs.Common.{common_steps, arith, ◌≡◌, ℕ, true, List, ◌++◌, codes, Option, TableSet, decode_unreserved, IsAbemptyPath, remove_dot_segments, directory, IsAbsolute, EndsInSlash, dotless_if_absolute, guarded, IsComponentSet, print_decoded, eq_true_from_IsTrue}
 use Rattle.uri_ops.proofs.Paths.DotLaws.{directory-is-absolute, directory-ends-in-slash, base-dots-may-be-removed-before-merging}
 use Rattle.uri_ops.proofs.Targeting.Targets.{appended-absolute-path-is-absolute, dotless-abempty-path-is-abempty}
 use Rattle.uri_ops.proofs.Meanings.AllowedParts.{is_set_text, set-text-is-utf8, print_decoded-of-nil-is-nil, decoding-splits-at-slash, decode_unreserved-is-idempotent}
@@ -19,21 +19,11 @@ base-dots-do-not-change-merged-path : (path y : List ℕ) → IsAbemptyPath path
 base-dots-do-not-change-merged-path path y h =
     grind (arith, directory, base-dots-may-be-removed-before-merging, eq_true_from_IsTrue)
 
-guarded-abempty-path-is-abempty : (authority : Option (List ℕ)) (path : List ℕ) → IsAbemptyPath path
-    → IsAbemptyPath (guarded authority path)
-guarded-abempty-path-is-abempty authority path h = grind (arith, is_none)
-
 base-guard-does-not-change-merged-path : (authority : Option (List ℕ)) (path y : List ℕ)
     → IsAbemptyPath path → remove_dot_segments (directory (guarded authority path) ++ y)
     ≡ remove_dot_segments (directory path ++ y)
 base-guard-does-not-change-merged-path authority path y h =
-    grind (
-      arith,
-      base-dots-do-not-change-merged-path,
-      guarded-abempty-path-is-abempty,
-      directory,
-      guard-is-removed-as-dot-segment,
-    )
+    grind (arith, base-dots-do-not-change-merged-path, guard-is-removed-as-dot-segment)
 
 module _ (set : TableSet) (w : IsComponentSet (codes "?#[]") set)
     (slash : set.ascii 47 ≡ true) where
@@ -51,12 +41,6 @@ module _ (set : TableSet) (w : IsComponentSet (codes "?#[]") set)
         print_decoded-of-nil-is-nil,
       )
 
-  decoding-splits-after-path-ending-in-slash : (path y : List ℕ) → EndsInSlash path
-      → is_set_text set path ≡ true
-      → print_decoded set (path ++ y) ≡ print_decoded set path ++ print_decoded set y
-  decoding-splits-after-path-ending-in-slash path y ends e =
-      grind (arith, decoding-splits-after-slash)
-
   set-texts-join-after-slash : (path y : List ℕ) → EndsInSlash path → is_set_text set path ≡ true
       → is_set_text set y ≡ true → is_set_text set (path ++ y) ≡ true
   set-texts-join-after-slash path y ends e f =
@@ -72,14 +56,7 @@ module _ (set : TableSet) (w : IsComponentSet (codes "?#[]") set)
       → directory (print_decoded set path) ++ print_decoded set y
       ≡ print_decoded set (directory path ++ y)
   merging-and-decoding-swap path y h e =
-      grind (
-        arith,
-        directory-and-decoding-swap,
-        decoding-splits-after-path-ending-in-slash,
-        directory,
-        directory-ends-in-slash,
-        directory-of-set-text-is-set-text,
-      )
+      grind (arith, directory-and-decoding-swap, decoding-splits-after-slash, directory-ends-in-slash, directory-of-set-text-is-set-text)
 
   -- the merged path of normal texts
   merged-normal-paths-decode-as-merged-paths : (authority : Option (List ℕ)) (path y : List ℕ)
@@ -88,21 +65,7 @@ module _ (set : TableSet) (w : IsComponentSet (codes "?#[]") set)
       (print_decoded set (dotless_if_absolute path))) ++ print_decoded set y))
       ≡ decode_unreserved set (remove_dot_segments (directory path ++ y))
   merged-normal-paths-decode-as-merged-paths authority path y h e f =
-      grind (
-        arith,
-        path-without-dots-is-set-text,
-        dotless-abempty-path-is-abempty,
-        merged-set-text-is-set-text,
-        merged-path-is-absolute,
-        base-guard-does-not-change-merged-path,
-        decoded-abempty-path-is-abempty,
-        merging-and-decoding-swap,
-        removing-dots-and-decoding-swap,
-        directory,
-        decode_unreserved-is-idempotent,
-        dotless-set-text-is-set-text,
-        base-dots-do-not-change-merged-path,
-      )
+      grind (arith, dotless-abempty-path-is-abempty, merged-set-text-is-set-text, merged-path-is-absolute, base-guard-does-not-change-merged-path, merging-and-decoding-swap, removing-dots-and-decoding-swap, decode_unreserved-is-idempotent, dotless-set-text-is-set-text, base-dots-do-not-change-merged-path)
 
   pub merged-normal-paths-decode-as-merged : (authority : Option (List ℕ)) (path y : List ℕ)
       → IsAbemptyPath path → is_set_text set path ≡ true → is_set_text set y ≡ true
@@ -110,13 +73,4 @@ module _ (set : TableSet) (w : IsComponentSet (codes "?#[]") set)
       (print_decoded set (dotless_if_absolute path))) ++ print_decoded set y))
       ≡ decode_unreserved set (dotless_if_absolute (directory path ++ y))
   merged-normal-paths-decode-as-merged authority path y h e f =
-      grind (
-        arith,
-        decoded-abempty-path-is-abempty,
-        path-without-dots-is-set-text,
-        dotless-abempty-path-is-abempty,
-        merged-path-is-absolute,
-        guarded-abempty-path-is-abempty,
-        eq_true_from_IsTrue,
-        merged-normal-paths-decode-as-merged-paths,
-      )
+      grind (arith, decoded-abempty-path-is-abempty, path-without-dots-is-set-text, dotless-abempty-path-is-abempty, merged-path-is-absolute, merged-normal-paths-decode-as-merged-paths)

@@ -47,9 +47,8 @@ directory-passes-test p slash path e =
 -- paths: a text that lacks delimiters passes the test for it, byte by byte
 pub lacked-delimiters-fail-test : (marks text : List ℕ) → Lacks marks text
     → list_all (λ c. not (is_one_of marks c)) text ≡ true
-lacked-delimiters-fail-test marks text h = list_all-from_AllPass (λ c. not (is_one_of marks c)) text
-    (All-weaker (λ c. is_one_of marks c ≡ false) (λ c. not (is_one_of marks c) ≡ true)
-    (λ c e. not_from_false _ e) text h)
+lacked-delimiters-fail-test marks text h =
+    grind (arith, list_all-from_AllPass, All-weaker, false, not_from_false)
 
 -- paths: if no character is one of the delimiters, the text lacks them
 pub test-of-delimiters-gives-lacks : (marks text : List ℕ)

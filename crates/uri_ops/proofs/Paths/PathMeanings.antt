@@ -1,5 +1,5 @@
 -- The path of a meaning: removing its dot segments, guarding and decoding it again change nothing.
-use Rattle.uri_ops.proofs.Common.{◌≡◌, ℕ, true, eqb, List, [], ◌∷◌, ◌++◌, refl, sym, ap, subst, ◌∙◌, arith, lit<, codes, Option, IsUtf8, chars, low_scalar, IsUtf8-encode, encode_ascii, cond_both, and_from, and_parts, eqb-true, TableSet, tokens_from_chars, is_valid_for, decode_unreserved, ascii_char_is_allowed_iff_in_set, starts, has_authority, remove_dot_segments, IsAbsolute, dotless_if_absolute, guarded, IsComponentSet, print_decoded, eq_true_from_IsTrue, equal-to-true-is-IsTrue}
+use Rattle.uri_ops.proofs.Common.{◌≡◌, ℕ, true, eqb, List, [], ◌∷◌, ◌++◌, refl, sym, ap, subst, ◌∙◌, arith, lit<, codes, Option, IsUtf8, chars, low_scalar, IsUtf8-encode, encode_ascii, and_from, and_parts, eqb-true, TableSet, tokens_from_chars, is_valid_for, decode_unreserved, ascii_char_is_allowed_iff_in_set, starts, has_authority, remove_dot_segments, IsAbsolute, dotless_if_absolute, guarded, IsComponentSet, print_decoded, equal-to-true-is-IsTrue}
 use Rattle.uri_ops.proofs.Paths.Segments.{is_none, next_output, step_of, steps, dotless_of, dotless_of-prefix-first}
 use Rattle.uri_ops.proofs.Paths.SlashedSegments.{slashed, remove-dots-by-segments}
 use Rattle.uri_ops.proofs.Paths.DotLaws.{property-of-absolute-path-by-segments, removing-dots-keeps-absolute, removing_dots_is_idempotent}
@@ -10,22 +10,13 @@ use Rattle.uri_ops.proofs.Paths.DecodedStarts.{decoding-keeps-leading-slash}
 -- paths: one with its dot segments removed begins with `/` (47) exactly if it does before
 pub removing-dots-keeps-leading-slash : (path : List ℕ) → starts 47 (dotless_if_absolute path)
     ≡ starts 47 path
-removing-dots-keeps-leading-slash path = cond_both (starts 47 path)
-    (remove_dot_segments path) path (λ t. starts 47 t ≡ starts 47 path) (λ e. eq_true_from_IsTrue _
-    (removing-dots-keeps-absolute path (equal-to-true-is-IsTrue _ e)) ∙ sym e) (λ e. refl)
+removing-dots-keeps-leading-slash path = grind (arith, removing-dots-keeps-absolute)
 
 -- removing dot segments: twice is the same as once for an absolute path; any other path is
 -- unchanged
 pub dotless_if_absolute-is-idempotent : (path : List ℕ)
     → dotless_if_absolute (dotless_if_absolute path) ≡ dotless_if_absolute path
-dotless_if_absolute-is-idempotent path =
-    grind (
-      arith,
-      removing-dots-keeps-leading-slash,
-      removing_dots_is_idempotent,
-      equal-to-true-is-IsTrue,
-      starts,
-    )
+dotless_if_absolute-is-idempotent path = grind (arith, removing_dots_is_idempotent)
 
 -- dot segments: a guard `/.` before a path makes no difference to what is left of it
 dotless_of-leading-dot-drops-it : (s : List ℕ) (rest : List (List ℕ))
@@ -50,13 +41,7 @@ two-slashes-begin-with-slash (c ∷ path) e = (and_parts (eqb c 47) _ e).0
 -- removing dot segments: the guard `/.` is removed as one
 pub guard-is-removed-as-dot-segment : (authority : Option (List ℕ)) (path : List ℕ)
     → dotless_if_absolute (guarded authority path) ≡ dotless_if_absolute path
-guard-is-removed-as-dot-segment authority path =
-    grind (
-      arith,
-      two-slashes-begin-with-slash,
-      removing-dots-removes-guard,
-      equal-to-true-is-IsTrue,
-    )
+guard-is-removed-as-dot-segment authority path = grind (arith, removing-dots-removes-guard)
 
 module _ (set : TableSet) (w : IsComponentSet (codes "?#[]") set)
     (slash : set.ascii 47 ≡ true) where
@@ -93,13 +78,7 @@ module _ (set : TableSet) (w : IsComponentSet (codes "?#[]") set)
   pub dotless_if_absolute-and-decoding-swap : (path : List ℕ) → is_set_text set path ≡ true
       → dotless_if_absolute (print_decoded set path) ≡ print_decoded set (dotless_if_absolute path)
   dotless_if_absolute-and-decoding-swap path f =
-      grind (
-        arith,
-        decoding-keeps-leading-slash,
-        removing-dots-and-decoding-swap,
-        equal-to-true-is-IsTrue,
-        starts,
-      )
+      grind (arith, decoding-keeps-leading-slash, removing-dots-and-decoding-swap)
 
   -- the path of a normal text decodes as the path
   pub normal-path-decodes-as-path : (authority : Option (List ℕ)) (path : List ℕ)

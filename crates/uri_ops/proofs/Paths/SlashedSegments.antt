@@ -294,15 +294,9 @@ slashed-of-segments-is-text-after-slash (c ∷ text) =
       slashed-of-segments-is-text-after-slash text,
     )
 
-onto_first-adds-no-slash : (c : ℕ) (parts : List (List ℕ)) → eqb c 47 ≡ false → NoSlashes parts
-    → NoSlashes (onto_first c parts)
-onto_first-adds-no-slash c [] e f = and_from _ _ (not_from_false _ (ap (λ t. t || false) e)) refl
-onto_first-adds-no-slash c (s ∷ parts) e f = grind (arith, first-segment-and-rest-lack-slashes)
-
 pub segments-of-text-lack-slashes : (text : List ℕ) → NoSlashes (segments text)
 segments-of-text-lack-slashes [] = refl
-segments-of-text-lack-slashes (c ∷ text) =
-    grind (arith, onto_first-adds-no-slash, segments-of-text-lack-slashes text)
+segments-of-text-lack-slashes (c ∷ text) = grind (arith, segments-of-text-lack-slashes text)
 
 onto_first-is-not-none : (c : ℕ) (parts : List (List ℕ)) → is_none (onto_first c parts) ≡ false
 unfolding is_none

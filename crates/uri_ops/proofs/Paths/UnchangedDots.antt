@@ -30,15 +30,8 @@ DotGoesOn slash text k = get_or text k 0 ≡ 46 → is_after_slash_at slash text
 
 first-dot-goes-on : (slash : Bool) (c : ℕ) (rest : List ℕ) → DotGoesOn slash (c ∷ rest) 0
     → (not (eqb c 46 && slash) || goes_on rest) ≡ true
-first-dot-goes-on slash c rest each = ⊎_elim (λ (e : (eqb c 46 && slash) ≡ true).
-    let p = and_parts (eqb c 46) slash e in
-    or_right _ _ (next c rest (each (eqb-true c 46 p.0) p.1))) (λ (e : (eqb c 46 && slash)
-    ≡ false). or_left _ _ (not_from_false _ e)) (cases_Bool (eqb c 46 && slash))
-  where
-    next : (c : ℕ) (rest : List ℕ) → (0 + 1 < length (c ∷ rest))
-        × (is_one_of (codes "./%") (get_or (c ∷ rest) (0 + 1) 0) ≡ false) → goes_on rest ≡ true
-    next c [] h = absurd (let long = h.0 in omega (arith, long))
-    next c (d ∷ rest) h = not_from_false _ h.1
+first-dot-goes-on slash c rest each =
+    grind (arith, or_right, eqb-true, or_left, not_from_false, cases_Bool, codes, goes_on)
 
 later-dot-goes-on : (slash : Bool) (c : ℕ) (rest : List ℕ) (k : ℕ)
     → DotGoesOn slash (c ∷ rest) (suc k) → DotGoesOn (eqb c 47) rest k

@@ -1,7 +1,6 @@
 -- A text that is normal but for what the rules of its scheme change, copied with that changed.
-use Rattle.uri_ops.proofs.Common.{common_steps, ◌≡◌, ℕ, ◌+◌, ◌-◌, Bool, true, false, cond, List, [], ◌∷◌, ◌++◌, length, take, refl, sym, ap, subst, ◌∙◌, ◌&&◌, arith, append_assoc, length-append, Option, Some, None, option_map, codes, is_some, unwrap_or, IsCharBoundary, IsUtf8, take-append_seam, Token, print, Components, components, marked, recompose, Kind, IsTextOf, packed, authority_at, positions_of, boundary_after_mark, length-before_hash, HasComponentSets, is_empty, AuthorityMeaning, Meaning, meaning_of, before_path, changed_components, has_default_host, has_root_path, is_text, ruled_text, normal_authority, normal_components, normal_scheme, normal_text, Rules, authority_under, has_no_token, is_scheme_of, meaning_under, path_under, root, under_rules, guarded, and_parts, false≢true, bytes_eq-Decides, recompose-components}
+use Rattle.uri_ops.proofs.Common.{common_steps, ◌≡◌, ℕ, ◌+◌, ◌-◌, Bool, true, false, cond, List, [], ◌∷◌, ◌++◌, length, take, refl, sym, ap, subst, ◌∙◌, ◌&&◌, arith, append_assoc, length-append, Option, Some, None, option_map, codes, is_some, IsCharBoundary, IsUtf8, take-append_seam, Token, print, Components, components, marked, recompose, Kind, IsTextOf, packed, positions_of, boundary_after_mark, HasComponentSets, is_empty, AuthorityMeaning, Meaning, meaning_of, before_path, changed_components, has_default_host, has_root_path, is_text, ruled_text, normal_authority, normal_components, normal_scheme, normal_text, Rules, authority_under, has_no_token, is_scheme_of, meaning_under, path_under, root, under_rules, guarded, and_parts, false≢true, bytes_eq-Decides, recompose-components}
 use Rattle.uri_ops.proofs.Normal.NormalTexts.{components-of-normal_text}
-use Rattle.uri_ops.proofs.Normal.WrittenPlaces.{length-before_path-is-path_start}
 use Rattle.uri_ops.proofs.Paths.DotRuns.{empty-text-is-nil}
 use Rattle.uri_ops.proofs.SchemeRules.RuledMeanings.{map-cond, print-is-empty-without-tokens}
 use Rattle.uri_ops.proofs.SchemeRules.RuledTexts.{ruled-text-has-meaning-under, ruled-text-is-text-of-kind}
@@ -32,31 +31,6 @@ text-before-localhost scheme text utf8 e =
           ∙ take-append_seam (s ++ codes "//") (codes "localhost");
     }
 
--- copies: the `/` that is put in, and the path of the text, are the path of the copy
-changed-path-is-root-and-path : (adds_root : Bool) (path added : List ℕ) → (adds_root ≡ true → path
-    ≡ []) → added ≡ cond adds_root (codes "/") [] → added ++ path ≡ cond adds_root (codes "/") path
-changed-path-is-root-and-path false path added empty e = ap (λ t. t ++ path) e
-changed-path-is-root-and-path true path added empty e =
-    ap (λ t. t ++ path) e ∙ ap (λ t. codes "/" ++ t) (empty refl)
-
-abbrev packed_host_start : ℕ → Option (List ℕ) → ℕ
-packed_host_start place o =
-    unwrap_or (option_map (λ a. a.host_start) (option_map (authority_at place) o)) 0
-
-abbrev packed_host_end : ℕ → Option (List ℕ) → ℕ
-packed_host_end place o =
-    unwrap_or (option_map (λ a. a.host_end) (option_map (authority_at place) o)) 0
-
--- copies: without `localhost` the host is empty, and where it began
-changed-host-positions : (drops_host : Bool) (place : ℕ) (o : Option (List ℕ))
-    → (drops_host ≡ true → o ≡ Some (codes "localhost"))
-    → (packed_host_start place o ≡ packed_host_start place (cond drops_host (Some []) o))
-    × (cond drops_host (packed_host_start place o) (packed_host_end place o)
-    ≡ packed_host_end place (cond drops_host (Some []) o))
-changed-host-positions false place o host = (refl, refl)
-changed-host-positions true place o host =
-    (ap (packed_host_start place) (host refl), ap (packed_host_start place) (host refl))
-
 -- the copy of a text with these components, and with what the rules change
 module _ (drops_host adds_root : Bool) (p : Components)
     (empty : adds_root ≡ true → p.path ≡ []) (prefix added : List ℕ)
@@ -75,15 +49,7 @@ module _ (drops_host adds_root : Bool) (p : Components)
         path_end = path_end;
         query_end = query_end;
       } ≡ packed (positions_of changed)
-  changed-copy-has-positions path_end query_end host g h =
-      grind (
-        arith,
-        common_steps,
-        changed-host-positions,
-        length-before_path-is-path_start,
-        changed-path-is-root-and-path,
-        length-before_hash,
-      )
+  changed-copy-has-positions path_end query_end host g h = grind (arith, common_steps)
 
 authority-under-rules : (local : Bool) (o : Option AuthorityMeaning)
     → option_map normal_authority (option_map (authority_under local) o) ≡ cond (local && is_text

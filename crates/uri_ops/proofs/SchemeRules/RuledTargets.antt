@@ -1,18 +1,13 @@
 -- Resolving respects equivalence under the rules of schemes, so resolving and normalising swap.
-use Rattle.uri_ops.proofs.Common.{arith, ◌≡◌, ℕ, Bool, true, false, not, cond, List, [], ◌∷◌, refl, sym, ap, ◌∙◌, ◌&&◌, ◌||◌, Option, Some, None, option_map, codes, is_some, is_none, Result, Ok, Err, result_map_both, and-false, is_some-option_map, Components, components, recompose, starts, Kind, IsTextOf, HasComponentSets, directory, Meaning, components_meaning, meaning_of, normal_text, reference_kind, resolved_meaning, TargetError, is_opaque_rejection, is_fragment_only, dotted_target, target_of, components_of_parts, Rules, meaning_under, under_rules, ruled_authority, ruled_components, ruled_path, ruled_text}
+use Rattle.uri_ops.proofs.Common.{arith, ◌≡◌, ℕ, Bool, true, false, not, cond, List, [], ◌∷◌, refl, sym, ap, ◌∙◌, ◌&&◌, ◌||◌, Option, Some, None, option_map, codes, is_some, is_none, Result, Ok, Err, result_map_both, and-false, Components, components, recompose, starts, Kind, IsTextOf, HasComponentSets, directory, Meaning, components_meaning, meaning_of, normal_text, reference_kind, resolved_meaning, TargetError, is_opaque_rejection, is_fragment_only, dotted_target, target_of, components_of_parts, Rules, meaning_under, under_rules, ruled_authority, ruled_components, ruled_path, ruled_text}
 use Rattle.uri_ops.proofs.Meanings.AllowedParts.{is_set_text}
 use Rattle.uri_ops.proofs.Normal.NormalTexts.{text-has-parts-of-kind}
 use Rattle.uri_ops.proofs.Targeting.JoinedMeanings.{target-path-has-meaning-of-joined, reference-kind-has-component-sets}
 use Rattle.uri_ops.proofs.Targeting.RefusalOrder.{result_or_target_error, map-of-result_or_error}
 use Rattle.uri_ops.proofs.Targeting.Swaps.{resolving-respects-meaning_of, text-of-kind-has-needed-scheme, dotted_target-has-scheme-as-base}
 use Rattle.uri_ops.proofs.Targeting.Targets.{target-text-has-target-components}
-use Rattle.uri_ops.proofs.SchemeRules.RuledTexts.{components-without-scheme-are-ruled, ruled_components-have-meaning-under, normal-text-under-rules-is-text-of-kind, ruled_authority-has-meaning-under, components-of-ruled_text, path-without-authority-is-ruled, ruled-text-is-text-of-kind, ruled-text-has-meaning-under, meaning_under-normal_text}
-use Rattle.uri_ops.proofs.SchemeRules.RuledMeanings.{authority_under-if-some-is-idempotent, under_rules-is-idempotent}
-
-choices-are-alike : {A B : Type 0} (f : A → B) (b : Bool) (x y u v : A) → f x ≡ f u → f y ≡ f v
-    → f (cond b x y) ≡ f (cond b u v)
-choices-are-alike f true x y u v e h = e
-choices-are-alike f false x y u v e h = h
+use Rattle.uri_ops.proofs.SchemeRules.RuledTexts.{components-without-scheme-are-ruled, ruled_components-have-meaning-under, normal-text-under-rules-is-text-of-kind, components-of-ruled_text, path-without-authority-is-ruled, ruled-text-is-text-of-kind, ruled-text-has-meaning-under, meaning_under-normal_text}
+use Rattle.uri_ops.proofs.SchemeRules.RuledMeanings.{under_rules-is-idempotent}
 
 ruled-path-has-same-directory : (rooted after : Bool) (path : List ℕ)
     → directory (ruled_path rooted after path) ≡ directory path
@@ -60,19 +55,6 @@ module _ (kind : Kind) (rules : Rules) (sets : HasComponentSets kind) where
   ruled-components-mean-same-under p valid =
       grind (arith, ruled_components-have-meaning-under, under_rules-is-idempotent)
 
-  -- only their authority is ruled
-  ruled-authority-means-same-under : (base : Components) (path : List ℕ) (query fragment : Option
-      (List ℕ)) → under (record (ruled_components kind rules base)
-      { path = path; query = query; fragment = fragment })
-      ≡ under (record base { path = path; query = query; fragment = fragment })
-  ruled-authority-means-same-under base path query fragment =
-      grind (
-        arith,
-        ruled_authority-has-meaning-under,
-        authority_under-if-some-is-idempotent,
-        is_some-option_map,
-      )
-
   -- ruled components of a base and a reference have an equivalent target
   ruled-targets-mean-same : (base : Components) (scheme authority : Option (List ℕ))
       (path : List ℕ) (query fragment : Option (List ℕ)) → is_set_text kind.path base.path ≡ true
@@ -85,16 +67,7 @@ module _ (kind : Kind) (rules : Rules) (sets : HasComponentSets kind) where
   ruled-targets-mean-same base None (Some a) path query fragment valid h =
       cc (components-without-scheme-are-ruled kind rules (Some a) path query fragment)
   ruled-targets-mean-same base None None path query fragment valid h =
-      grind (
-        arith,
-        components-without-scheme-are-ruled,
-        choices-are-alike,
-        ruled-components-mean-same-under,
-        starts,
-        ruled-authority-means-same-under,
-        ruled-path-has-same-directory,
-        directory,
-      )
+      grind (arith, ruled-components-mean-same-under, ruled-path-has-same-directory)
 
   -- the outcome for a base and a reference, by their components
   resolution_under : Components → Components → Result Meaning TargetError

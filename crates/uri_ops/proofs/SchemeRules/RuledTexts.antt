@@ -1,7 +1,7 @@
 -- A ruled text is a text with what the rules of its scheme change, not yet normal. Under default
 -- ports alone it has the meaning that the text has under the rules. So the laws of normal texts
 -- hold under any rules.
-use Rattle.uri_ops.proofs.Common.{arith, ◌≡◌, ℕ, Bool, true, false, cond, List, [], ◌∷◌, refl, ap, ◌∙◌, ◌&&◌, ◌||◌, Option, Some, None, option_map, not, rules, lit<, subst, codes, is_some, IfSome, IfNone, ◌↔◌, option_and_then, str_to_ascii_lowercase, IsUtf8, chars, IsUtf8-nil, All-cons, All-nil, cond_both, false≢true, tokens_from_chars, is_valid_for, TableSet, decode_unreserved, decode_run, decode_after_run, pieces_from, ascii_char_separates_encode_formatting, is_some-option_map, read_ipv4, read_octet, read_number, host_kind, ipv4_value, Components, IsSplitOf, Lacks, IsAbemptyPath, components, recompose, has_authority, has_scheme, starts, Kind, IsTextOf, is_authority, has_colon_in_first_segment, empty_is_authority, components-are-split-of-text, components_of_parts, only-split-is-components, HasComponentSets, IsComponentSet, is_empty, authority_meaning, dotless_path, components_meaning, meaning_of, normal_text, ruled_authority, ruled_components, ruled_path, ruled_text, print_decoded, Rules, empty_authority, has_no_token, is_localhost, is_scheme_of, root, authority_under, path_under, under_rules, meaning_under}
+use Rattle.uri_ops.proofs.Common.{arith, ◌≡◌, ℕ, Bool, true, false, cond, List, [], ◌∷◌, refl, ap, ◌∙◌, ◌&&◌, ◌||◌, Option, Some, None, option_map, not, rules, lit<, subst, codes, is_some, IfSome, IfNone, ◌↔◌, option_and_then, str_to_ascii_lowercase, IsUtf8, chars, IsUtf8-nil, All-cons, All-nil, cond_both, false≢true, tokens_from_chars, is_valid_for, TableSet, decode_unreserved, decode_run, decode_after_run, pieces_from, ascii_char_separates_encode_formatting, read_ipv4, read_octet, read_number, host_kind, ipv4_value, Components, IsSplitOf, Lacks, IsAbemptyPath, components, recompose, has_authority, has_scheme, starts, Kind, IsTextOf, is_authority, has_colon_in_first_segment, empty_is_authority, components-are-split-of-text, components_of_parts, only-split-is-components, HasComponentSets, IsComponentSet, is_empty, authority_meaning, dotless_path, components_meaning, meaning_of, normal_text, ruled_authority, ruled_components, ruled_path, ruled_text, print_decoded, Rules, empty_authority, has_no_token, is_localhost, is_scheme_of, root, authority_under, path_under, under_rules, meaning_under}
 use Rattle.uri_ops.proofs.Meanings.AllowedParts.{is_set_text, set-text-from-utf8, validity-splits-at-slash}
 use Rattle.uri_ops.proofs.Meanings.AsciiCharacters.{ascii-bytes-are-utf8}
 use Rattle.uri_ops.proofs.Meanings.TextParts.{ArePartsOfKind, components-of-kind-meet-grammar}
@@ -59,14 +59,7 @@ module _ (set : TableSet) (w : IsComponentSet (codes "?#[]") set)
       → decode_unreserved set (dotless_path scheme (ruled_path rooted after path))
       ≡ path_under rooted after (decode_unreserved set (dotless_path scheme path))
   ruled_path-has-meaning-under rooted after scheme path e =
-      grind (
-        arith,
-        path-has-tokens-unless-empty,
-        dotless-path-is-set-text,
-        dotless-path-keeps-emptiness,
-        map-cond,
-        slash-is-dotless,
-      )
+      grind (arith, path-has-tokens-unless-empty, dotless-path-is-set-text, dotless-path-keeps-emptiness, slash-is-dotless)
 
 pub ruled_authority-has-meaning-under :
     (kind : Kind) (default : Option ℕ) (local : Bool) (o : Option (List ℕ))
@@ -186,12 +179,7 @@ module _ (kind : Kind) (rules : Rules) (sets : HasComponentSets kind) where
       → components_meaning kind rules.ports (ruled_components kind rules p)
       ≡ under_rules rules (components_meaning kind rules.ports p)
   ruled_components-have-meaning-under p valid =
-      grind (
-        arith,
-        ruled_authority-has-meaning-under,
-        ruled_path-has-meaning-under,
-        is_some-option_map,
-      )
+      grind (arith, ruled_authority-has-meaning-under, ruled_path-has-meaning-under)
 
   pub components-of-ruled_text : (text : List ℕ)
       → components (ruled_text kind rules text) ≡ ruled_components kind rules (components text)

@@ -1,7 +1,5 @@
 -- The target of a reference that has a scheme, and a path that does not begin with `/`.
-use Rattle.uri_ops.proofs.Common.{◌≡◌, true, false, ◌&&◌, ◌||◌, ap, ◌∙◌, refl, arith, is_some, not, and_right, cond-true, nat_tests, Components, starts, underflows, with_final_path, underflows_if_absolute, is_fragment_only, is_opaque, is_opaque_rejection, dotted_target}
-use Rattle.uri_ops.proofs.Paths.DecodedStarts.{no-leading-slash-no-two-slashes}
-use Rattle.uri_ops.proofs.Paths.GuardedPaths.{path-without-two-slashes-has-no-guard}
+use Rattle.uri_ops.proofs.Common.{◌≡◌, true, false, ◌&&◌, ◌||◌, ap, ◌∙◌, refl, arith, is_some, not, and_right, cond-true, Components, starts, underflows, with_final_path, underflows_if_absolute, is_fragment_only, is_opaque, is_opaque_rejection, dotted_target}
 
 module _ (base r : Components) (some : is_some r.scheme ≡ true)
     (rootless-path-has-no-authority : starts 47 r.path ≡ false) where
@@ -10,13 +8,7 @@ module _ (base r : Components) (some : is_some r.scheme ≡ true)
 
   -- it is the reference
   pub copied_target : with_final_path (dotted_target base r) ≡ r
-  copied_target = grind (
-    arith,
-    nat_tests,
-    path-without-two-slashes-has-no-guard,
-    no-leading-slash-no-two-slashes,
-    itself,
-  )
+  copied_target = grind arith
 
   pub copied_taken : is_opaque_rejection base r ≡ false
   copied_taken = ap (λ x. is_opaque base && not (x || is_fragment_only r)) some

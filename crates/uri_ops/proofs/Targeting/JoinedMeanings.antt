@@ -1,9 +1,9 @@
 -- If base and reference are replaced by their normal texts, the target is equivalent, and the
 -- errors are the same.
-use Rattle.uri_ops.proofs.Common.{common_steps, ◌≡◌, ℕ, true, false, cond, List, [], ◌∷◌, ◌++◌, refl, sym, ap, ◌∙◌, ◌||◌, ⊎_elim, option_map, arith, codes, Option, Some, None, IfSome, is_some, is_none, IsUtf8, cases_Bool, cond-true, cond-false, cond_both, false≢true, nat_tests, TableSet, print, decode_unreserved, Components, starts, IsAbemptyPath, Kind, is_authority, components_of_parts, is_empty, directory, is_opaque, is_fragment_only, is_opaque_rejection, dotted_target, dotless_if_absolute, guarded, IsComponentSet, HasComponentSets, PortFunction, Meaning, authority_meaning, components_meaning, normal_authority, normal_components, reference_kind, print_decoded, is_none-option_map}
+use Rattle.uri_ops.proofs.Common.{common_steps, ◌≡◌, ℕ, true, false, cond, List, [], ◌∷◌, ◌++◌, refl, sym, ap, ◌∙◌, ◌||◌, ⊎_elim, option_map, arith, codes, Option, Some, None, IfSome, is_some, is_none, IsUtf8, cases_Bool, cond-true, cond-false, false≢true, nat_tests, TableSet, print, decode_unreserved, Components, starts, IsAbemptyPath, Kind, is_authority, components_of_parts, is_empty, directory, is_opaque, is_fragment_only, is_opaque_rejection, dotted_target, dotless_if_absolute, guarded, IsComponentSet, HasComponentSets, PortFunction, Meaning, authority_meaning, components_meaning, normal_authority, normal_components, reference_kind, print_decoded, is_none-option_map}
 use Rattle.uri_ops.proofs.Meanings.AllowedParts.{is_set_text, print_decoded-of-nil-is-nil, decode_unreserved-is-idempotent}
 use Rattle.uri_ops.proofs.Paths.DecodedStarts.{decoding-keeps-emptiness, decoding-keeps-leading-slash}
-use Rattle.uri_ops.proofs.Paths.PathMeanings.{two-slashes-begin-with-slash, removing-dots-keeps-leading-slash, dotless_if_absolute-is-idempotent, guard-is-removed-as-dot-segment, path-without-dots-is-set-text, dotless_if_absolute-and-decoding-swap}
+use Rattle.uri_ops.proofs.Paths.PathMeanings.{removing-dots-keeps-leading-slash, dotless_if_absolute-is-idempotent, guard-is-removed-as-dot-segment, path-without-dots-is-set-text, dotless_if_absolute-and-decoding-swap}
 use Rattle.uri_ops.proofs.Meanings.PortMeanings.{with_default, bare-authority-meaning-with_default}
 use Rattle.uri_ops.proofs.Meanings.TextParts.{ArePartsOfKind}
 use Rattle.uri_ops.proofs.Meanings.AsciiCharacters.{lowering-is-idempotent}
@@ -173,15 +173,8 @@ module _ (kind : Kind) (sets : HasComponentSets kind) (ports : PortFunction) whe
       ≡ true) → meaning (dotted_target (normal (components_of_parts (Some b) ba bp bq bf))
       (normal (components_of_parts None (Some a) p q f))) ≡ meaning (dotted_target
       (components_of_parts (Some b) ba bp bq bf) (components_of_parts None (Some a) p q f))
-  reference-with-authority-has-same-target-meaning b ba bp bq bf a p q f u e hp hq hf = grind (
-    arith,
-    nat_tests,
-    lowering-is-idempotent,
-    normal-bare-authority-has-meaning-under-default,
-    removing-dots-of-decoded-path-decodes-same,
-    normal-query-decodes-as-query,
-    normal-fragment-decodes-as-fragment,
-  )
+  reference-with-authority-has-same-target-meaning b ba bp bq bf a p q f u e hp hq hf =
+      grind (arith, lowering-is-idempotent, normal-bare-authority-has-meaning-under-default, removing-dots-of-decoded-path-decodes-same, normal-query-decodes-as-query, normal-fragment-decodes-as-fragment)
 
   -- the target's components, before dot segments are removed, are equivalent to those of the
   -- normal texts
@@ -207,25 +200,12 @@ module _ (kind : Kind) (sets : HasComponentSets kind) (ports : PortFunction) whe
       reference-with-path-has-same-target-meaning b ba bp bq bf
       (c ∷ p) q f base r.path r.query r.fragment refl (λ h. rooted refl refl refl)
 
-  -- an opaque base
-  guard-keeps-leading-slash : (authority : Option (List ℕ)) (path : List ℕ)
-      → starts 47 (guarded authority path) ≡ starts 47 path
-  guard-keeps-leading-slash authority path =
-      grind (arith, nat_tests, cond_both, two-slashes-begin-with-slash)
-
   normal-base-is-opaque-as-base : (b : List ℕ) (ba : Option (List ℕ)) (bp : List ℕ) (bq bf : Option
       (List ℕ)) → is_set_text kind.path bp ≡ true
       → is_opaque (normal (components_of_parts (Some b) ba bp bq bf))
       ≡ is_opaque (components_of_parts (Some b) ba bp bq bf)
-  normal-base-is-opaque-as-base b ba bp bq bf h = grind (
-    arith,
-    nat_tests,
-    guard-keeps-leading-slash,
-    normal-path-keeps-leading-slash,
-    path-without-dots-is-set-text,
-    removing-dots-keeps-leading-slash,
-    is_none-option_map,
-  )
+  normal-base-is-opaque-as-base b ba bp bq bf h =
+      grind (arith, normal-path-keeps-leading-slash, path-without-dots-is-set-text, removing-dots-keeps-leading-slash)
 
   normal-reference-is-fragment-only-as-reference :
       (s a : Option (List ℕ)) (p : List ℕ) (q f : Option (List ℕ))

@@ -1,5 +1,5 @@
 -- What a target has of a base and a reference (section 5.2.2), by what the reference has.
-use Rattle.uri_ops.proofs.Common.{common_steps, ◌≡◌, ℕ, ◌+◌, true, false, List, [], ◌∷◌, ◌++◌, length, refl, sym, ap, ◌∙◌, arith, ◌&&◌, append_assoc, option_map, codes, Option, Some, None, is_some, ◌==◌, cond-true, false≢true, ne_eqb, nat_tests, Components, IsAbemptyPath, components, marked, recompose, starts, components-are-split-of-text, before_path, directory, is_empty, remove_dot_segments, underflows, dotless_if_absolute, underflows_if_absolute, is_opaque_rejection, dotted_target, merged, eq_true_from_IsTrue, not_some_is_none}
+use Rattle.uri_ops.proofs.Common.{common_steps, ◌≡◌, ℕ, ◌+◌, true, false, List, [], ◌∷◌, ◌++◌, length, refl, sym, ap, ◌∙◌, arith, ◌&&◌, append_assoc, option_map, codes, Option, Some, None, is_some, ◌==◌, cond-true, false≢true, ne_eqb, nat_tests, Components, IsAbemptyPath, components, marked, recompose, starts, components-are-split-of-text, before_path, directory, is_empty, remove_dot_segments, underflows, dotless_if_absolute, underflows_if_absolute, is_opaque_rejection, merged, eq_true_from_IsTrue, not_some_is_none}
 use Rattle.uri_ops.proofs.Paths.DotLaws.{directory-is-absolute}
 use Rattle.uri_ops.proofs.Targeting.Swaps.{merging-base-is-not-opaque, base-that-is-not-opaque-has-abempty-path}
 use Rattle.uri_ops.proofs.Targeting.Targets.{appended-absolute-path-is-absolute}
@@ -7,9 +7,6 @@ use Rattle.uri_ops.proofs.Targeting.Targets.{appended-absolute-path-is-absolute}
 -- a reference's path after the base's directory
 module _ (b r : Components) (s : is_some r.scheme ≡ false) (a : is_some r.authority ≡ false)
     (e : is_empty r.path ≡ false) (n : starts 47 r.path ≡ false) where
-  pub joined-with-relative-path : dotted_target b r
-      ≡ record b { path = merged b.path r.path; query = r.query; fragment = r.fragment }
-  joined-with-relative-path = cc
 
 -- a base's path, which is empty or begins with `/`, merged with a reference's
 module _ (base path : List ℕ) (rooted : IsAbemptyPath base) where

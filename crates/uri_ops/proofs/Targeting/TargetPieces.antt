@@ -1,15 +1,11 @@
 -- Targets that are a prefix of the base and a suffix of the reference.
-use Rattle.uri_ops.proofs.Common.{common_steps, ◌≡◌, ℕ, ◌+◌, true, false, Bool, List, [], ◌++◌, length, take, drop, ap, inr, subst, sym, ◌∙◌, ◌&&◌, append_assoc, arith, length-append, codes, Option, None, is_some, append-nil, nat_tests, Components, marked, recompose, starts, packed, positions_of, length-before_hash, EndsInSlash, IsAbsolute, directory, has_slash, is_double_dot, is_empty, lacks_dot_segments, underflows, IsDotlessDirectory, RemovalState, IsSlashOrStart, before_path, IsCaseOf, HasJoinedPath, IsDirectoryOfBase, AbsolutePath, with_final_path, dotless_if_absolute, underflows_if_absolute, guarded, is_opaque_rejection, dotted_target, merged, query_or, equal-to-true-is-IsTrue, eq_true_from_IsTrue, some_is_not_none, None-from-not-is_some}
+use Rattle.uri_ops.proofs.Common.{common_steps, ◌≡◌, ℕ, ◌+◌, true, false, Bool, List, [], ◌++◌, length, take, drop, ap, inr, subst, sym, ◌∙◌, ◌&&◌, append_assoc, arith, length-append, codes, Option, is_some, append-nil, nat_tests, Components, marked, recompose, starts, packed, positions_of, length-before_hash, EndsInSlash, IsAbsolute, directory, has_slash, is_double_dot, is_empty, lacks_dot_segments, underflows, IsDotlessDirectory, RemovalState, IsSlashOrStart, before_path, IsCaseOf, HasJoinedPath, IsDirectoryOfBase, AbsolutePath, with_final_path, dotless_if_absolute, underflows_if_absolute, guarded, is_opaque_rejection, dotted_target, query_or, equal-to-true-is-IsTrue, some_is_not_none}
 use Rattle.uri_ops.proofs.Normal.WrittenPlaces.{length-before_path-is-path_start}
 use Rattle.uri_ops.proofs.Paths.ClimbedDirectories.{first-bytes-are-prefix}
 use Rattle.uri_ops.proofs.Paths.DotLaws.{directory-is-absolute, directory-ends-in-slash, remove-dots-of-dotless, dotless-path-does-not-underflow}
 use Rattle.uri_ops.proofs.Paths.LastSlashes.{prefix-with-last-slash-is-directory}
 use Rattle.uri_ops.proofs.Paths.LeftPaths.{dotless-path-after-directory-is-dotless}
-use Rattle.uri_ops.proofs.Paths.GuardedPaths.{path-after-authority-needs-no-guard}
-use Rattle.uri_ops.proofs.Targeting.JoinedPieces.{joined-with-relative-path}
 use Rattle.uri_ops.proofs.Targeting.TargetCases.{case-gives-line}
-use Rattle.uri_ops.proofs.Targeting.Targets.{appended-absolute-path-is-absolute}
-use Rattle.uri_ops.proofs.Paths.DotRuns.{empty-text-is-nil}
 
 pub prefix-with-last-slash-is-directory-of-base : (b : Components) (slash : ℕ) (prefix : List ℕ)
     → IsAbsolute b.path → IsSlashOrStart b.path 0 slash → has_slash (drop (slash + 1) b.path)
@@ -34,17 +30,7 @@ dotless-path-after-authority-is-unchanged : (authority : Option (List ℕ)) (pat
     → is_some authority ≡ true → IsAbsolute path
     → lacks_dot_segments path ≡ true → guarded authority (dotless_if_absolute path) ≡ path
 dotless-path-after-authority-is-unchanged authority path some absolute dotless =
-    grind (
-      arith,
-      path-after-authority-needs-no-guard,
-      starts,
-      eq_true_from_IsTrue,
-      remove-dots-of-dotless,
-    )
-
-text-without-prefix-is-path-and-suffix : (r : Components) → r.scheme ≡ None → r.authority ≡ None
-    → recompose r ≡ r.path ++ (marked (codes "?") r.query [] ++ marked (codes "#") r.fragment [])
-text-without-prefix-is-path-and-suffix r s a = grind (arith, nat_tests)
+    grind (arith, remove-dots-of-dotless)
 
 base-with-authority-rejects-no-reference : (b r : Components) → is_some b.authority ≡ true
     → is_opaque_rejection b r ≡ false
@@ -87,20 +73,7 @@ module _ (b r : Components) (s : is_some r.scheme ≡ false) (a : is_some r.auth
   pub relative-path-after-directory-is-joined : (prefix : List ℕ) → prefix ≡ before_path b ++ kept
       → HasJoinedPath b r prefix rest underflowed
   relative-path-after-directory-is-joined prefix f =
-      grind (
-        arith,
-        joined-with-relative-path,
-        merged,
-        appended-absolute-path-is-absolute,
-        eq_true_from_IsTrue,
-        kept,
-        dotless-path-after-directory-is-dotless,
-        path-after-authority-needs-no-guard,
-        starts,
-        remove-dots-of-dotless,
-        base-with-authority-rejects-no-reference,
-        dotless-path-does-not-underflow,
-      )
+      grind (arith, dotless-path-after-directory-is-dotless, remove-dots-of-dotless, dotless-path-does-not-underflow)
 
 -- resolving: a path without dot segments that begins with `/` (47) is after the base's authority
 pub absolute-path-after-authority-is-joined : (b r : Components) (prefix : List ℕ)
@@ -136,42 +109,19 @@ module _ (b r : Components) (prefix : List ℕ) (s : is_some r.scheme ≡ false)
   kept = dotless-path-after-authority-is-unchanged b.authority b.path some absolute dotless
 
   pub dotless-base-path-does-not-underflow : underflows_if_absolute (dotted_target b r).path ≡ false
-  dotless-base-path-does-not-underflow =
-      grind (
-        arith,
-        dotted_target-without-path-keeps-base-path,
-        eq_true_from_IsTrue,
-        dotless-path-does-not-underflow,
-      )
+  dotless-base-path-does-not-underflow = grind (arith, dotless-path-does-not-underflow)
 
   -- a reference that begins with `?` is after the base's path in the target
   pub query-after-base-path-is-joined : is_some r.query ≡ true → prefix ≡ before_path b ++ b.path
       → HasJoinedPath b r prefix r.path false
   query-after-base-path-is-joined q f =
-      grind (
-        arith,
-        common_steps,
-        empty-text-is-nil,
-        base-with-authority-rejects-no-reference,
-        dotless-base-path-does-not-underflow,
-        dotted_target-without-path-keeps-base-path,
-        kept,
-      )
+      grind (arith, common_steps, dotless-base-path-does-not-underflow, kept)
 
   -- an empty reference, or one that begins with `#`, is after all but the base's fragment
   pub fragment-after-base-is-target-text : is_some r.query ≡ false
       → prefix ≡ (before_path b ++ b.path) ++ marked (codes "?") b.query []
       → prefix ++ recompose r ≡ recompose (with_final_path (dotted_target b r))
-  fragment-after-base-is-target-text q f = grind (
-    arith,
-    nat_tests,
-    dotted_target-without-path-keeps-base-path,
-    kept,
-    text-without-prefix-is-path-and-suffix,
-    None-from-not-is_some,
-    empty-text-is-nil,
-    append_assoc,
-  )
+  fragment-after-base-is-target-text q f = grind (arith, kept, append_assoc)
 
   -- it has the base's positions
   pub fragment-after-base-keeps-positions : is_some r.query ≡ false

@@ -1,5 +1,5 @@
 -- A target is a text of its base's kind.
-use Rattle.uri_ops.proofs.Common.{◌≡◌, ℕ, true, false, List, ap, subst, ◌∙◌, arith, IfSome, Ok, is_some, is_none, IsUtf8, cond_both, nat_tests, Components, IsAbemptyPath, components, recompose, Kind, is_scheme, is_authority, components_meet_rules, IsTextOf, components-are-split-of-text, is_empty, is_opaque_rejection, dotted_target, dotless_if_absolute, guarded, target_of, resolution_of, HasComponentSets, reference_kind, not_some_is_none}
+use Rattle.uri_ops.proofs.Common.{◌≡◌, ℕ, true, false, List, ap, subst, ◌∙◌, arith, IfSome, Ok, is_some, is_none, IsUtf8, nat_tests, Components, IsAbemptyPath, components, recompose, Kind, is_scheme, is_authority, components_meet_rules, IsTextOf, components-are-split-of-text, is_empty, is_opaque_rejection, dotted_target, dotless_if_absolute, guarded, target_of, resolution_of, HasComponentSets, reference_kind}
 use Rattle.uri_ops.proofs.Meanings.AllowedParts.{is_set_text}
 use Rattle.uri_ops.proofs.Paths.PathMeanings.{guarded-set-text-is-set-text, path-without-dots-is-set-text}
 use Rattle.uri_ops.proofs.Paths.MergedPaths.{merged-set-text-is-set-text}
@@ -23,14 +23,8 @@ module _ (kind : Kind) (sets : HasComponentSets kind) where
       → ArePartsOfKind kind base → ArePartsOfKind (reference_kind kind) r
       → (is_none r.scheme ≡ true → is_empty r.path ≡ false → IsAbemptyPath base.path)
       → ArePartsWithScheme (dotted_target base r)
-  dotted_target-has-parts-with-scheme base r some b p rooted = grind (
-    arith,
-    nat_tests,
-    cond_both,
-    is_set_text,
-    merged-set-text-is-set-text,
-    not_some_is_none,
-  )
+  dotted_target-has-parts-with-scheme base r some b p rooted =
+      grind (arith, merged-set-text-is-set-text)
 
   guarded-dotless-target-is-of-kind : (t : Components) → ArePartsWithScheme t
       → ArePartsOfKind kind (record t { path = guarded t.authority (dotless_if_absolute t.path) })

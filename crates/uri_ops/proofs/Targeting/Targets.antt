@@ -1,8 +1,7 @@
 -- The text of a target has the components that were put into it.
-use Rattle.uri_ops.proofs.Common.{◌≡◌, ℕ, ◌<◌, true, false, cond, List, [], ◌∷◌, ◌++◌, length, refl, sym, ap, ◌∙◌, ◌&&◌, ◌||◌, inr, ⊎_elim, rules, arith, codes, Option, Some, None, IfSome, IfNone, is_some, is_none, cond_both, and_parts, cases_Bool, false≢true, false_from_ne_true, All-append, nat_tests, is_one_of, Components, IsSplitOf, Lacks, IsAbemptyPath, marked, starts, has_authority, components, recompose, only-split-is-components, components-are-split-of-text, recompose-components, equal-to-true-is-IsTrue, is_empty, remove_dot_segments, directory, IsAbsolute, is_fragment_only, merged, dotted_target, dotless_if_absolute, guarded, target_of, None-from-is_none}
+use Rattle.uri_ops.proofs.Common.{◌≡◌, ℕ, ◌<◌, true, false, cond, List, [], ◌∷◌, ◌++◌, length, refl, ◌||◌, inr, rules, arith, codes, Option, Some, None, IfSome, IfNone, is_some, cond_both, false≢true, All-append, nat_tests, is_one_of, Components, IsSplitOf, Lacks, IsAbemptyPath, starts, has_authority, components, recompose, only-split-is-components, components-are-split-of-text, equal-to-true-is-IsTrue, is_empty, remove_dot_segments, directory, IsAbsolute, is_fragment_only, merged, dotted_target, dotless_if_absolute, guarded, target_of}
 use Rattle.uri_ops.proofs.Paths.DotLaws.{removing-dots-keeps-absolute, directory-is-absolute}
-use Rattle.uri_ops.proofs.Paths.PathCharacters.{test-of-delimiters-gives-lacks, removing-dots-adds-no-character, directory-adds-no-character}
-use Rattle.uri_ops.proofs.Paths.DotRuns.{empty-text-is-nil}
+use Rattle.uri_ops.proofs.Paths.PathCharacters.{removing-dots-adds-no-character, directory-adds-no-character}
 
 -- targets: components have a scheme, and each lacks the characters that would end it
 record IsSplittable (c : Components) : Type 0 where
@@ -86,18 +85,6 @@ dotless-path-lacks-its-ends path h = cond_both (starts 47 path) (remove_dot_segm
     (Lacks (codes "?#")) (λ e. removing-dots-adds-no-character (codes "?#") refl path
     (equal-to-true-is-IsTrue _ e) h) (λ e. h)
 
-guarded-path-after-authority-is-abempty : (authority : Option (List ℕ)) (path : List ℕ)
-    → IfSome authority (λ a. Lacks (codes "/?#") a × IsAbemptyPath path)
-    → IfSome authority (λ a. Lacks (codes "/?#") a × IsAbemptyPath (guarded authority path))
-guarded-path-after-authority-is-abempty None path h = tt
-guarded-path-after-authority-is-abempty (Some a) path h = h
-
--- resolving: the guard `/.` gives a path neither `?` nor `#`
-guarded-path-lacks-its-ends : (authority : Option (List ℕ)) (path : List ℕ)
-    → Lacks (codes "?#") path → Lacks (codes "?#") (guarded authority path)
-guarded-path-lacks-its-ends authority path h =
-    grind (arith, nat_tests, cond_both, All-append, test-of-delimiters-gives-lacks)
-
 pub guarded-path-without-authority-has-no-two-slashes : (authority : Option
     (List ℕ)) (path : List ℕ) → IfNone authority (has_authority (guarded authority path) ≡ false)
 guarded-path-without-authority-has-no-two-slashes None path = grind (arith, nat_tests, cond_both)
@@ -115,17 +102,8 @@ option-that-is-some-has-no-none (Some x) P h = tt
 guarded-target-is-split-of-its-text : (t : Components) → IsSplittable t
     → IsSplitOf (recompose (record t { path = guarded t.authority (dotless_if_absolute t.path) }))
     (record t { path = guarded t.authority (dotless_if_absolute t.path) })
-guarded-target-is-split-of-its-text t fits = grind (
-  arith,
-  nat_tests,
-  guarded-path-after-authority-is-abempty,
-  authority-property-implies-other-if-some,
-  dotless-abempty-path-is-abempty,
-  guarded-path-lacks-its-ends,
-  dotless-path-lacks-its-ends,
-  option-that-is-some-has-no-none,
-  guarded-path-without-authority-has-no-two-slashes,
-)
+guarded-target-is-split-of-its-text t fits =
+    grind (arith, dotless-abempty-path-is-abempty, dotless-path-lacks-its-ends)
 
 pub target-components-are-split : (base reference : List ℕ)
     → is_some (components base).scheme ≡ true → IsSplitOf (recompose (target_of (components base)
@@ -143,38 +121,7 @@ pub target-text-has-target-components : (base reference : List ℕ) → is_some 
 target-text-has-target-components base reference some =
     only-split-is-components _ _ (target-components-are-split base reference some)
 
--- resolving: the text of a reference that is a fragment alone is empty or begins with `#` (35)
-fragment-only-text-is-empty-or-begins-with-hash : (r : Components) → is_fragment_only r ≡ true
-    → (is_empty (recompose r) || starts 35 (recompose r)) ≡ true
-fragment-only-text-is-empty-or-begins-with-hash r h =
-    let first = and_parts (is_none r.scheme && is_none r.authority && is_empty r.path)
-    (is_none r.query) h in
-    let second = and_parts (is_none r.scheme && is_none r.authority) (is_empty r.path) first.0 in
-    let third = and_parts (is_none r.scheme) (is_none r.authority) second.0 in
-    rw (
-      None-from-is_none r.scheme third.0,
-      None-from-is_none r.authority third.1,
-      empty-text-is-nil r.path second.1,
-      None-from-is_none r.query first.1,
-    ) (of_fragment r.fragment)
-  where
-    of_fragment : (o : Option (List ℕ))
-        → (is_empty (marked (codes "#") o []) || starts 35 (marked (codes "#") o [])) ≡ true
-    of_fragment None = refl
-    of_fragment (Some x) = refl
-
--- resolving: a text that is empty or begins with `#` (35) has a fragment alone
-text-empty-or-beginning-with-hash-is-fragment-only : (text : List ℕ)
-    → (is_empty text || starts 35 text) ≡ true → is_fragment_only (components text) ≡ true
-text-empty-or-beginning-with-hash-is-fragment-only [] h = refl
-text-empty-or-beginning-with-hash-is-fragment-only (c ∷ rest) h = grind (arith, nat_tests)
-
 -- resolving: a reference is a fragment alone exactly if it is empty or begins with `#` (35)
 pub fragment_only_is_empty_or_leading_hash : (text : List ℕ)
     → is_fragment_only (components text) ≡ (is_empty text || starts 35 text)
-fragment_only_is_empty_or_leading_hash text =
-    ⊎_elim (λ h. h ∙ sym (ap (λ t. is_empty t || starts 35 t) (sym (recompose-components text))
-    ∙ fragment-only-text-is-empty-or-begins-with-hash (components text) h))
-    (λ h. h ∙ sym (false_from_ne_true (is_empty text || starts 35 text)
-    (λ e. false≢true (sym h ∙ text-empty-or-beginning-with-hash-is-fragment-only text e))))
-    (cases_Bool (is_fragment_only (components text)))
+fragment_only_is_empty_or_leading_hash text = grind (arith, nat_tests)

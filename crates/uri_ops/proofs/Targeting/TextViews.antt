@@ -1,9 +1,10 @@
 -- The substrings of a text between the positions of its components.
-use Rattle.uri_ops.proofs.Common.{◌≡◌, ℕ, ◌+◌, ◌-◌, ◌≤◌, true, List, [], ◌∷◌, ◌++◌, length, take, drop, refl, sym, ap, subst, ◌∙◌, arith, append_assoc, length-append, option_map, codes, Option, Some, None, IfSome, slice_range, IsUtf8, IsCharBoundary, drop-append_seam, take-append_seam, IsCharBoundary-from_drop, IsUtf8-append, IsUtf8-drop, nat_tests, AuthorityPositions, Positions, components, marked, Kind, is_authority, IsTextOf, ArePositionsOf, authority_at, before_fragment, host_end_of, delimited_length, host_is_at_positions, slice_range-from-start, boundary-at-fragment-mark, fragment_text, boundary_after_mark, before_hash, split-text-is-before-fragment-and-fragment, length-before_hash, slice-between-prefix-and-suffix, components-are-split-of-text, recompose-components, IsAbsolute, EndsIn, IsSlashOrStart, before_path}
-use Rattle.std.proofs.lemmas.Option.{none-some, same_Some}
+use Rattle.std.proofs.lemmas.Grind.{common_steps}
+use Rattle.uri_ops.proofs.Common.{◌≡◌, ℕ, ◌+◌, ◌-◌, ◌≤◌, true, List, [], ◌∷◌, ◌++◌, length, take, drop, refl, sym, ap, subst, ◌∙◌, arith, append_assoc, length-append, option_map, codes, Option, Some, None, IfSome, slice_range, IsUtf8, IsCharBoundary, drop-append_seam, take-append_seam, IsCharBoundary-from_drop, IsUtf8-append, IsUtf8-drop, nat_tests, AuthorityPositions, Positions, components, marked, Kind, is_authority, IsTextOf, ArePositionsOf, authority_at, before_fragment, host_end_of, host_is_at_positions, slice_range-from-start, boundary-at-fragment-mark, fragment_text, boundary_after_mark, before_hash, split-text-is-before-fragment-and-fragment, length-before_hash, slice-between-prefix-and-suffix, components-are-split-of-text, recompose-components, IsAbsolute, EndsIn, IsSlashOrStart, before_path}
+use Rattle.std.proofs.lemmas.Option.{none-some}
 use Rattle.uri_parts.proofs.Offered.{path_is_at_positions}
 use Rattle.uri_ops.proofs.Normal.NormalTexts.{text-has-parts-of-kind}
-use Rattle.uri_ops.proofs.Normal.WrittenPlaces.{length-with-delimiter-before, length-before_path-is-path_start, length-with-delimiter-after}
+use Rattle.uri_ops.proofs.Normal.WrittenPlaces.{length-before_path-is-path_start}
 use Rattle.uri_ops.proofs.Paths.LastSlashes.{cut, slash-position-is-prefix-length, prefix-through-slash-ends-in-slash}
 
 pub host-ends-within-authority : (kind : Kind) (text : List ℕ) → IsTextOf kind text → (a : List ℕ)
@@ -20,46 +21,11 @@ pub record Within (text : List ℕ) (places : AuthorityPositions) : Type 0 where
   pub host_end : places.host_end ≤ places.end
   pub end : places.end ≡ length text
 
-authority-positions-are-within-prefix-text : (scheme authority : Option (List ℕ))
-    (places : AuthorityPositions) → ((a : List ℕ) → authority ≡ Some a → host_end_of a ≤ length a)
-    → Some places ≡ option_map (authority_at (delimited_length 1 scheme + 2)) authority
-    → Within (marked [] scheme (codes ":") ++ marked (codes "//") authority []) places
-authority-positions-are-within-prefix-text scheme None places host e = absurd
-    (none-some places (sym e))
-authority-positions-are-within-prefix-text scheme (Some a) places host e =
-    let h : host_end_of a ≤ length a = host a refl in
-    let prefix = marked [] scheme (codes ":") ++ marked (codes "//") (Some a) [] in
-    let n : length prefix ≡ delimited_length 1 scheme + delimited_length 2 (Some a) = omega (
-      arith,
-      length-append (marked [] scheme (codes ":")) (marked (codes "//") (Some a) []),
-      length-with-delimiter-after scheme 58,
-      length-with-delimiter-before (codes "//") (Some a),
-    ) in
-    subst (Within prefix) (sym (same_Some _ _ e)) (record {
-      start = omega arith;
-      host_start = omega (arith, h);
-      host_end = omega (arith, h);
-      end = omega (arith, n);
-    })
-
 pub authority-positions-are-in-prefix : (text : List ℕ) (p : Positions)
     (places : AuthorityPositions) → ArePositionsOf text p
     → ((a : List ℕ) → (components text).authority ≡ Some a → host_end_of a ≤ length a)
     → p.authority ≡ Some places → Within (before_path (components text)) places
-authority-positions-are-in-prefix text p places at host e =
-    grind (arith, nat_tests, authority-positions-are-within-prefix-text)
-
--- positions in a target: those of an authority in a text without a scheme, moved by n, are those
--- after a scheme of n bytes (with its `:`)
-moved-authority-positions-are-after-scheme :
-    (n : ℕ) (authority : Option (List ℕ)) (places moved : AuthorityPositions)
-    → Some places ≡ option_map (authority_at 2) authority → moved.start ≡ n + places.start
-    → moved.host_start ≡ n + places.host_start → moved.host_end ≡ n + places.host_end
-    → moved.end ≡ n + places.end → Some moved ≡ option_map (authority_at (n + 2)) authority
-moved-authority-positions-are-after-scheme n None places moved e start host_start host_end end =
-    absurd (none-some places (sym e))
-moved-authority-positions-are-after-scheme n (Some a) places moved e start host_start host_end end =
-    grind (arith, nat_tests)
+authority-positions-are-in-prefix text p places at host e = grind (arith, length-append)
 
 -- positions in a target: after a scheme of n bytes (with its `:`), an authority is n bytes further
 -- on; moved: its positions there
@@ -69,7 +35,7 @@ pub authority-positions-after-scheme : (text : List ℕ)
     → moved.host_start ≡ n + places.host_start → moved.host_end ≡ n + places.host_end → moved.end
     ≡ n + places.end → Some moved ≡ option_map (authority_at (n + 2)) (components text).authority
 authority-positions-after-scheme text p n places moved at none e start host_start host_end end =
-    grind (arith, nat_tests, moved-authority-positions-are-after-scheme)
+    grind (arith, nat_tests, none-some)
 
 -- positions in a target: the text begins with a scheme, which ends at `end`, and its `:`
 pub record HasScheme (text : List ℕ) (scheme : Option (List ℕ)) (end : ℕ) : Type 0 where
@@ -81,16 +47,7 @@ text-begins-with-its-scheme : (text : List ℕ) (scheme : Option (List ℕ)) (re
     → Some end ≡ option_map length scheme → HasScheme text scheme end
 text-begins-with-its-scheme text None rest whole utf8 end e = absurd (none-some end (sym e))
 text-begins-with-its-scheme text (Some s) rest whole utf8 end e =
-    let n : end ≡ length s = same_Some _ _ e in
-    let m : end + 1 ≡ length (s ++ codes ":") = omega (arith, n, length-append s (codes ":")) in
-    let joined : s ++ (58 ∷ rest) ≡ text = sym (append_assoc s (codes ":") rest) ∙ whole in
-    record {
-      cut = subst (λ k. IsCharBoundary text (k + 1)) (sym n)
-          (subst (λ t. IsCharBoundary t (length s + 1)) joined
-          (boundary_after_mark s rest 58 (omega arith) (subst IsUtf8 (sym joined) utf8)));
-      holds = ap (λ k. take k text) m ∙ ap (take (length (s ++ codes ":"))) (sym whole)
-          ∙ take-append_seam (s ++ codes ":") rest;
-    }
+    grind (arith, common_steps, boundary_after_mark)
 
 -- targets: after a `/` (47) in the middle of a path a character begins; the text up to it is
 -- prefix, left and `/`

@@ -1,5 +1,5 @@
 -- When a text of one kind is one of another.
-use Rattle.uri_ops.proofs.Common.{◌≡◌, ℕ, ◌+◌, ◌≤◌, Bool, true, false, not, ltb, List, [], ◌∷◌, length, refl, sym, ap, ◌∙◌, ◌||◌, ⊎_elim, arith, option_map, ◌↔◌, Option, Some, None, is_some, list_all, position, prefix_len, option_or, IsUtf8, cases_Bool, cases_lt, cond-true, cond-false, and_parts, and_from, lt-ltb, le-ltb, false≢true, components, Kind, IsOfKind, components_meet_rules, iri, iri_ref, uri, uri_ref, uri_has_scheme, uri_is_uri_ref, iri_has_scheme, HasComponentSets, encode_past_ascii, ascii_kind, AreEquivalent, bare_meaning_of, Rules, meaning_under, no_defaults}
+use Rattle.uri_ops.proofs.Common.{◌≡◌, ℕ, ◌+◌, ◌≤◌, Bool, true, not, ltb, List, [], ◌∷◌, length, refl, sym, ap, ◌∙◌, ⊎_elim, arith, option_map, ◌↔◌, Option, Some, None, is_some, list_all, position, prefix_len, option_or, IsUtf8, cases_Bool, cases_lt, cond-true, cond-false, and_parts, and_from, lt-ltb, le-ltb, components, Kind, IsOfKind, components_meet_rules, iri, iri_ref, uri, uri_ref, uri_has_scheme, uri_is_uri_ref, iri_has_scheme, HasComponentSets, encode_past_ascii, ascii_kind, AreEquivalent, bare_meaning_of, Rules, meaning_under, no_defaults}
 use Rattle.uri_ops.specs.declared.convert.ConvertError.{ConvertError}
 use Rattle.uri_ops.specs.declared.convert.ConvertError.TheVariants.{NotAscii}
 use Rattle.uri_ops.specs.Conversions.{is_past_ascii, first_past_ascii, missing_scheme_error, not_ascii_error, uri_conversion_error}
@@ -23,39 +23,17 @@ unfolding missing_scheme_error
 no-missing_scheme_error-means-scheme text e = ⊎_elim
     (λ h. h) (λ h. absurd (some-error-is-not-none _ (sym (cond-false _ _ _ h) ∙ e))) (cases_Bool _)
 
-text-with-scheme-is-of-kind-with-scheme : (kind : Kind) (text : List ℕ)
-    → is_some (components text).scheme ≡ true
-    → IsOfKind kind text → IsOfKind (record kind { needs_scheme = true }) text
-text-with-scheme-is-of-kind-with-scheme kind text s h = let p = and_parts _ _ h in
-    and_from _ _ p.0 (present (is_some (components text).scheme) s _)
-  where
-    present : (b : Bool) → b ≡ true → (c : Bool) → (b || c) ≡ true
-    present true e c = refl
-    present false e c = absurd (false≢true e)
-
 -- conversions: a URI reference converts to a URI exactly if it is one
 pub uri_ref_with_scheme_is_uri : (text : List ℕ) → IsOfKind uri_ref text
     → (missing_scheme_error text ≡ None ↔ IsOfKind uri text)
 uri_ref_with_scheme_is_uri text h =
-    grind (
-      arith,
-      text-with-scheme-is-of-kind-with-scheme,
-      no-missing_scheme_error-means-scheme,
-      text-with-scheme-misses-no-scheme,
-      uri_has_scheme,
-    )
+    grind (arith, no-missing_scheme_error-means-scheme, text-with-scheme-misses-no-scheme, uri_has_scheme)
 
 -- conversions: an IRI reference converts to an IRI exactly if it is one
 pub iri_ref_with_scheme_is_iri : (text : List ℕ) → IsOfKind iri_ref text
     → (missing_scheme_error text ≡ None ↔ IsOfKind iri text)
 iri_ref_with_scheme_is_iri text h =
-    grind (
-      arith,
-      text-with-scheme-is-of-kind-with-scheme,
-      no-missing_scheme_error-means-scheme,
-      text-with-scheme-misses-no-scheme,
-      iri_has_scheme,
-    )
+    grind (arith, no-missing_scheme_error-means-scheme, text-with-scheme-misses-no-scheme, iri_has_scheme)
 
 abbrev is_ascii_code : ℕ → Bool
 is_ascii_code b = not (is_past_ascii b)

@@ -1,10 +1,10 @@
 -- The texts that pass the tests of a kind are those of its grammar.
-use Rattle.uri_ops.proofs.Common.{arith, ◌≡◌, ℕ, Bool, true, false, not, List, refl, sym, ap, ◌&&◌, ◌||◌, inl, inr, ⊎_elim, ◌↔◌, ◌⊎◌, is_some, IsUtf8, false≢true, TableSet, AuthorityParts, IsAuthorityFor, LackAuthorityDelimiters, authority_parts, Components, components, Kind, IsOfKind, is_scheme, is_authority, has_colon_in_first_segment, uri, uri_ref, iri, iri_ref, HostKind, IsHost, host_kind, is_authority_for-sound, is_authority_for-complete, authority_parts-are-unique, names_exclude_delimiters, is_host-complete, components-are-split-of-text, only-split-is-components, HasComponentSets, IfSome-weaken, IfSome-combine}
+use Rattle.uri_ops.proofs.Common.{arith, ◌≡◌, ℕ, Bool, true, false, not, List, refl, sym, ◌&&◌, ◌||◌, inl, inr, ⊎_elim, ◌↔◌, ◌⊎◌, is_some, IsUtf8, false≢true, TableSet, AuthorityParts, IsAuthorityFor, LackAuthorityDelimiters, authority_parts, Components, components, Kind, IsOfKind, is_scheme, is_authority, has_colon_in_first_segment, uri, uri_ref, iri, iri_ref, HostKind, IsHost, host_kind, is_authority_for-sound, is_authority_for-complete, authority_parts-are-unique, names_exclude_delimiters, is_host-complete, components-are-split-of-text, only-split-is-components, HasComponentSets, IfSome-weaken, IfSome-combine}
 use Rattle.uri_parts.specs.GrammarInWords.{HasAuthorityParts, FollowsRules, IsInGrammar}
 use Rattle.uri_ops.proofs.Meanings.AuthorityMeanings.{kind-sets-lack-authority-delimiters}
 use Rattle.uri_ops.proofs.TextKinds.FourKinds.{uri-has-component-sets, uri_ref-has-component-sets, iri-has-component-sets, iri_ref-has-component-sets}
 use Rattle.uri_ops.proofs.Meanings.AllowedParts.{is_set_text, set-text-from-utf8, set-text-is-valid}
-use Rattle.uri_ops.proofs.Meanings.TextParts.{ArePartsOfKind, AreUtf8, components-of-utf8-are-utf8, grammar-gives-components-of-kind, components-of-kind-meet-grammar}
+use Rattle.uri_ops.proofs.Meanings.TextParts.{ArePartsOfKind, AreUtf8, components-of-utf8-are-utf8, grammar-gives-components-of-kind}
 
 -- general fact on booleans, for the grammar of the four kinds; s, n, a, c: a scheme is there, is
 -- needed, an authority is there, `:` is in the first segment
@@ -16,12 +16,6 @@ scheme-rule-gives-its-cases false false true c e = inr (refl, inl refl)
 scheme-rule-gives-its-cases false false false true e = absurd (false≢true e)
 scheme-rule-gives-its-cases false false false false e = inr (refl, inr refl)
 
--- general fact on booleans, for the rule on `:`; a, c: an authority is there,
--- `:` is in the first segment
-cases-give-colon-rule : (a c : Bool) → (a ≡ true) ⊎ (c ≡ false) → (a || not c) ≡ true
-cases-give-colon-rule true c h = refl
-cases-give-colon-rule false c h = ⊎_elim (λ e. absurd (false≢true e)) (λ e. ap not e) h
-
 -- general fact on booleans, for the rule on schemes; s, n, a, c: a scheme is there, is needed, an
 -- authority is there, `:` is in the first segment
 cases-give-scheme-rule : (s n a c : Bool) → (s ≡ true) ⊎ ((n ≡ false) × ((a ≡ true) ⊎ (c ≡ false)))
@@ -29,8 +23,7 @@ cases-give-scheme-rule : (s n a c : Bool) → (s ≡ true) ⊎ ((n ≡ false) ×
 cases-give-scheme-rule true n a c h = refl
 cases-give-scheme-rule false true a c h = ⊎_elim (λ e. absurd (false≢true e))
     (λ p. absurd (false≢true (sym p.0))) h
-cases-give-scheme-rule false false a c h = ⊎_elim (λ e. absurd (false≢true e))
-    (λ p. cases-give-colon-rule a c p.1) h
+cases-give-scheme-rule false false a c h = grind (arith, false≢true)
 
 module _ (kind : Kind) (sets : HasComponentSets kind) where
   text-of-kind-follows-rules : (text : List ℕ) → IsUtf8 text → IsOfKind kind text
@@ -78,13 +71,7 @@ module _ (kind : Kind) (sets : HasComponentSets kind) where
   grammar-gives-text-of-kind : (text : List ℕ) → IsUtf8 text → IsInGrammar kind text
       → IsOfKind kind text
   grammar-gives-text-of-kind text u (p, g) =
-      grind (
-        arith,
-        only-split-is-components,
-        components-of-kind-meet-grammar,
-        rules-give-components-of-kind,
-        components-of-utf8-are-utf8,
-      )
+      grind (arith, only-split-is-components, rules-give-components-of-kind, components-of-utf8-are-utf8)
 
   text-is-of-kind-if-in-grammar : (text : List ℕ) → IsUtf8 text
       → (IsOfKind kind text ↔ IsInGrammar kind text)

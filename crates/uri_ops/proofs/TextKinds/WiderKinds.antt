@@ -1,5 +1,5 @@
 -- A text of a kind is of each kind with wider sets.
-use Rattle.uri_ops.proofs.Common.{arith, ◌≡◌, ℕ, Bool, true, false, not, List, [], ◌∷◌, refl, ◌&&◌, ◌||◌, is_some, list_all, IsUtf8, and_parts, and_from, false≢true, TableSet, IsSubset, allows, allows_past_ascii, Token, Char, Octet, tokens, allows_token, is_valid_for, IsValidFor, ascii_char_is_allowed_iff_in_set, char_past_ascii_is_allowed_by_flags, components, Kind, is_authority, has_colon_in_first_segment, IsTextOf, HostKind, Ipv4, Ipv6, IpvFuture, RegName, IsHost, is_authority_for-sound, is_authority_for-complete, HasComponentSets, IsWithin, ascii_set, ascii_kind, IfSome-weaken}
+use Rattle.uri_ops.proofs.Common.{arith, ◌≡◌, ℕ, Bool, true, false, not, List, [], ◌∷◌, refl, ◌&&◌, ◌||◌, is_some, list_all, IsUtf8, and_parts, and_from, false≢true, TableSet, IsSubset, allows, allows_past_ascii, Token, Char, Octet, tokens, allows_token, is_valid_for, IsValidFor, components, Kind, is_authority, has_colon_in_first_segment, IsTextOf, HostKind, Ipv4, Ipv6, IpvFuture, RegName, IsHost, is_authority_for-sound, is_authority_for-complete, HasComponentSets, IsWithin, ascii_kind, IfSome-weaken}
 use Rattle.uri_ops.proofs.Meanings.AllowedParts.{is_set_text, set-text-from-utf8, set-text-is-utf8, set-text-is-valid}
 use Rattle.uri_ops.proofs.Meanings.TextParts.{components-of-utf8-are-utf8, grammar-gives-components-of-kind, components-of-kind-meet-grammar}
 use Rattle.uri_ops.proofs.Meanings.AuthorityMeanings.{kind-sets-lack-authority-delimiters}
@@ -11,13 +11,7 @@ module _ (s t : TableSet) (w : IsSubset s t) where
   wider-set-allows-past-ascii c e = grind arith
 
   wider-set-allows-character : (c : ℕ) → allows s c ≡ true → allows t c ≡ true
-  wider-set-allows-character c e =
-      grind (
-        arith,
-        ascii_char_is_allowed_iff_in_set,
-        char_past_ascii_is_allowed_by_flags,
-        wider-set-allows-past-ascii,
-      )
+  wider-set-allows-character c e = grind (arith, wider-set-allows-past-ascii)
 
   wider-set-allows-tokens : (ts : List Token) → list_all (allows_token s) ts ≡ true
       → list_all (allows_token t) ts ≡ true
@@ -92,13 +86,9 @@ module _ (kind wide : Kind) (sets : HasComponentSets wide) (w : IsWithin kind wi
         });
       }
 
--- conversions: a set without its characters past ASCII is within it
-ascii_set-is-subset-of-set : (set : TableSet) → IsSubset (ascii_set set) set
-ascii_set-is-subset-of-set set = grind arith
-
 -- conversions: the sets of the kind without characters past ASCII are within those of the kind
 pub ascii_kind-is-within-kind : (kind : Kind) → IsWithin (ascii_kind kind) kind
-ascii_kind-is-within-kind kind = grind (arith, ascii_set-is-subset-of-set)
+ascii_kind-is-within-kind kind = grind arith
 
 set-is-subset-of-itself : (set : TableSet) → IsSubset set set
 set-is-subset-of-itself set =
