@@ -163,19 +163,18 @@ unfolding slashed
 guard-counts-as-no-segment f by path h = by.stay [] path refl refl (inr h)
     ∙ ap f (sym (absolute-path-is-slash-and-rest path h))
 
--- relativized paths: a path from the root leads from the base (given) to the path, and is parsed as
--- a path
-record IsRootedWay (given path way : List ℕ) : Type 0 where
-  some : is_empty way ≡ false
-  leads : remove_dot_segments (joined_path given way) ≡ path
-  below : underflows (joined_path given way) ≡ false
-  no_authority : has_authority way ≡ false
-  no_scheme : has_colon_in_first_segment way ≡ false
-
 pub path-from-root-leads-to-path : (given path : List ℕ) → IsAbsolute path
     → lacks_dot_segments path ≡ true → IsUtf8 path → IsPathTo given path (guarded None path)
 path-from-root-leads-to-path given path h dotless utf8 =
-    grind (arith, guard-counts-as-no-segment, remove_dot_segments-follows-dots, remove-dots-of-dotless, underflows-follows-dots, dotless-path-does-not-underflow, path-from-root-is-valid-for-set)
+    grind (
+      arith,
+      guard-counts-as-no-segment,
+      remove_dot_segments-follows-dots,
+      remove-dots-of-dotless,
+      underflows-follows-dots,
+      dotless-path-does-not-underflow,
+      path-from-root-is-valid-for-set,
+    )
 
 -- relativized references: the path that was appended leads to the path, is as short as short says,
 -- and the least as least says

@@ -212,4 +212,13 @@ module _ (kind : Kind) (sets : HasComponentSets kind) (a : List ℕ) (u : IsUtf8
   pub encoding-keeps-authority-meaning : (default : Option ℕ)
       → authority_meaning kind default (encode_past_ascii a) ≡ authority_meaning kind default a
   encoding-keeps-authority-meaning default =
-      grind (arith, host, decode_unreserved-encoded_option, user, port-is-unchanged-when-encoded, utf8, grammar, parts-of-encoded-authority-are-encoded)
+      grind (
+        arith,
+        host,
+        decode_unreserved-encoded_option,
+        user,
+        port-is-unchanged-when-encoded,
+        utf8,
+        grammar,
+        parts-of-encoded-authority-are-encoded,
+      )

@@ -65,7 +65,13 @@ module _ (kind : Kind) (sets : HasComponentSets kind) where
   encoded-components-are-of-ascii_kind : (p : Components) → ArePartsOfKind kind p
       → ArePartsOfKind (ascii_kind kind) (encoded_components p)
   encoded-components-are-of-ascii_kind p parts =
-      grind (arith, schemes-are-unchanged-when-encoded, encoded-authority-if-some-is-of-ascii_kind, encoded-part-is-valid-for-ascii_set, encoding-keeps-scheme-or-colon-rule)
+      grind (
+        arith,
+        schemes-are-unchanged-when-encoded,
+        encoded-authority-if-some-is-of-ascii_kind,
+        encoded-part-is-valid-for-ascii_set,
+        encoding-keeps-scheme-or-colon-rule,
+      )
 
   pub encoded-text-is-of-ascii_kind : (text : List ℕ) → IsTextOf kind text
       → IsTextOf (ascii_kind kind) (encode_past_ascii text)
@@ -102,7 +108,13 @@ module _ (kind : Kind) (sets : HasComponentSets kind) where
       → ArePartsOfKind kind p
       → components_meaning kind ports (encoded_components p) ≡ components_meaning kind ports p
   encoding-keeps-components_meaning ports p parts =
-      grind (arith, schemes-are-unchanged-when-encoded, encoding-keeps-optional-authority-meaning, encoding-keeps-path-meaning, decode_unreserved-encoded_option)
+      grind (
+        arith,
+        schemes-are-unchanged-when-encoded,
+        encoding-keeps-optional-authority-meaning,
+        encoding-keeps-path-meaning,
+        decode_unreserved-encoded_option,
+      )
 
   pub encoding-keeps-meaning_of-text : (ports : PortFunction) (text : List ℕ) → IsTextOf kind text
       → meaning_of kind ports (encode_past_ascii text) ≡ meaning_of kind ports text

@@ -122,7 +122,12 @@ encoding-keeps-emptiness (b ∷ x) = ⊎_elim (λ h. ap is_empty (encoding-start
 pub encoding-keeps-two-slashes : (x : List ℕ) → has_authority (encode_past_ascii x)
     ≡ has_authority x
 encoding-keeps-two-slashes x =
-    grind (arith, encoding-starts-with-ascii-byte, second-slash-makes-two-slashes, encoding-keeps-leading-delimiter)
+    grind (
+      arith,
+      encoding-starts-with-ascii-byte,
+      second-slash-makes-two-slashes,
+      encoding-keeps-leading-delimiter,
+    )
 
 encoding-keeps-empty-or-delimited : (marks : List ℕ) → list_all is_outside_octets marks ≡ true
     → (x : List ℕ) → IsEmptyOrMarked marks x → IsEmptyOrMarked marks (encode_past_ascii x)

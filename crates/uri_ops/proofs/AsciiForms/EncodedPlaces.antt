@@ -202,7 +202,13 @@ module _ (kind : Kind) (sets : HasComponentSets kind) (text : List ℕ) (w : IsT
   pub encoded-positions-are-right : (positions : Positions) → ArePositionsOf text positions
       → ArePositionsOf (encode_past_ascii text) (positions_in_encoded text positions)
   encoded-positions-are-right positions at =
-      grind (arith, encoded-positions-are-by-encoded-components, parts-of-encoded-authority-have-positions, text-has-parts-of-kind, components-of-encoded-text-are-encoded)
+      grind (
+        arith,
+        encoded-positions-are-by-encoded-components,
+        parts-of-encoded-authority-have-positions,
+        text-has-parts-of-kind,
+        components-of-encoded-text-are-encoded,
+      )
 
   -- the positions are in order
   authority-positions-are-in-order : (before : ℕ) (o : Option (List ℕ))

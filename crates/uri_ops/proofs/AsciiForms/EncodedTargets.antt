@@ -54,7 +54,12 @@ dotted_target-of-encoded-without-authority : (base : Components) (p : List ℕ) 
     (encoded_components base) (encoded_components (components_of_parts None None p q f))
     ≡ encoded_components (dotted_target base (components_of_parts None None p q f))
 dotted_target-of-encoded-without-authority base p q f u rooted =
-    grind (arith, encoding-keeps-emptiness, encoding-keeps-leading-delimiter, merging-and-encoding-swap)
+    grind (
+      arith,
+      encoding-keeps-emptiness,
+      encoding-keeps-leading-delimiter,
+      merging-and-encoding-swap,
+    )
 
 -- IRIs as URIs: a base and a reference (s, a, p, q, f: its components) have the same target before
 -- dot segments are removed, encoded

@@ -37,7 +37,12 @@ pub last_ascii_octet_is_written_last : (set : TableSet) (lowers : Bool) (text be
     (b : ℕ) → EndsIn text before (Octet b ∷ []) → b < 128 → normal_component lowers set text
     ≡ normal_component lowers set before ++ print (lowered_if lowers (decode_octet (Octet b) ∷ []))
 last_ascii_octet_is_written_last set lowers text before b ends low =
-    grind (arith, common_steps, last_ascii_octet_is_decoded_after_run, decoded_ascii_octet_is_no_formatting)
+    grind (
+      arith,
+      common_steps,
+      last_ascii_octet_is_decoded_after_run,
+      decoded_ascii_octet_is_no_formatting,
+    )
 
 first_character_is_cased : (lowers : Bool) (c : ℕ) (run : List ℕ)
     → cased lowers (c ∷ run) ≡ lowered_code_if lowers c ∷ cased lowers run

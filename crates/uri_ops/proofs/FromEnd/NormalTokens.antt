@@ -39,7 +39,14 @@ octets_of_bytes_have_text (b ∷ bytes) some = omega arith
 pub char_has_text : (set : TableSet) (lowers : Bool) (c : ℕ) (text : List ℕ)
     → text ≡ print (lowered_if lowers (formatting_as_octets set (Char c))) → 0 < length text
 char_has_text set lowers c text same =
-    grind (arith, char_has_one_to_four_bytes, octets_of_bytes_have_text, never_literal_char_is_written_as_octets, lowered_char_is_written, char_is_written)
+    grind (
+      arith,
+      char_has_one_to_four_bytes,
+      octets_of_bytes_have_text,
+      never_literal_char_is_written_as_octets,
+      lowered_char_is_written,
+      char_is_written,
+    )
 
 pub last_tokens_are_written_last : (set : TableSet) (lowers : Bool) (text before : List ℕ)
     (ts us : List Token) → EndsIn text before ts → decoded set (tokens before ++ ts)
@@ -60,7 +67,12 @@ pub last_decodable_is_written_last : (set : TableSet) (lowers : Bool) (text befo
     → normal_component lowers set text ≡ normal_component lowers set before
     ++ print (lowered_if lowers (formatting_as_octets set (Char c)))
 last_decodable_is_written_last set lowers text before c ends =
-    grind (arith, decodable_char_is_printable, last_tokens_are_written_last, last_decodable_is_decoded)
+    grind (
+      arith,
+      decodable_char_is_printable,
+      last_tokens_are_written_last,
+      last_decodable_is_decoded,
+    )
 
 pub last_octet_is_written_last : (set : TableSet) (lowers : Bool) (text before : List ℕ) (value : ℕ)
     → EndsIn text before (Octet value ∷ [])

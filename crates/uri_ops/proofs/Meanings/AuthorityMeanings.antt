@@ -221,4 +221,10 @@ module _ (kind : Kind) (sets : HasComponentSets kind) (default : Option ℕ) (a 
 pub normal-authorities-are-authorities : (kind : Kind) → HasComponentSets kind
     → NormalAuthoritiesKeepMeaning kind
 normal-authorities-are-authorities kind sets =
-    grind (arith, normal-authority-is-utf8, normal-authority-is-of-kind, normal-authority-lacks-its-ends, bare-meaning-of-normal-authority)
+    grind (
+      arith,
+      normal-authority-is-utf8,
+      normal-authority-is-of-kind,
+      normal-authority-lacks-its-ends,
+      bare-meaning-of-normal-authority,
+    )

@@ -40,7 +40,12 @@ lowering-and-utf8-swap : (cs : List ℕ)
     → encode_utf8_all (map to_ascii_lowercase cs) ≡ str_to_ascii_lowercase (encode_utf8_all cs)
 lowering-and-utf8-swap [] = refl
 lowering-and-utf8-swap (c ∷ cs) =
-    grind (arith, common_steps, character-past-ascii-is-unchanged-when-lowered, lowering-and-utf8-swap cs)
+    grind (
+      arith,
+      common_steps,
+      character-past-ascii-is-unchanged-when-lowered,
+      lowering-and-utf8-swap cs,
+    )
 
 lowering-tokens-lowers-characters : (cs : List ℕ) → map lower_token (map Char cs)
     ≡ map Char (map to_ascii_lowercase cs)
@@ -142,10 +147,22 @@ module _ (decodable set : TableSet) (same : AllowsDecodable decodable set) where
       (map to_ascii_lowercase cs) ≡ map lower_token (flat_map (encode_char decodable) cs)
   encoding-characters-and-lowering-swap [] = refl
   encoding-characters-and-lowering-swap (c ∷ cs) =
-      grind (arith, common_steps, lowered-decodable-is-decodable, undecodable-is-unchanged-when-lowered, lowering_keeps_octets, encoding-characters-and-lowering-swap cs)
+      grind (
+        arith,
+        common_steps,
+        lowered-decodable-is-decodable,
+        undecodable-is-unchanged-when-lowered,
+        lowering_keeps_octets,
+        encoding-characters-and-lowering-swap cs,
+      )
 
   pub lowered-pieces-are-encoded-lowered-text : (text : List ℕ) → IsUtf8 text
       → map lower_token (flat_map (decode_piece set) (utf8_pieces text))
       ≡ encode_text decodable (str_to_ascii_lowercase text)
   lowered-pieces-are-encoded-lowered-text text u =
-      grind (arith, decoded-pieces-are-encoded-text, encoding-characters-and-lowering-swap, chars-of-lowered-text-are-lowered)
+      grind (
+        arith,
+        decoded-pieces-are-encoded-text,
+        encoding-characters-and-lowering-swap,
+        chars-of-lowered-text-are-lowered,
+      )

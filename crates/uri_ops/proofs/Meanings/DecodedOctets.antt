@@ -78,7 +78,12 @@ pub first-octet-token-is-decoded-alone : (lowers : Bool) (set : TableSet) (text 
     → decoded_text lowers set text
     ≡ print (lowered_if lowers (decode_octet (Octet value) ∷ [])) ++ decoded_text lowers set suffix
 first-octet-token-is-decoded-alone lowers set text suffix value alone first none e =
-    grind (arith, common_steps, tokens-without-past-ascii-decode-alone, leading-ascii-octet-decodes-alone)
+    grind (
+      arith,
+      common_steps,
+      tokens-without-past-ascii-decode-alone,
+      leading-ascii-octet-decodes-alone,
+    )
 
 -- meanings, decoded: the byte of the octet at the start of a text
 abbrev pub first_value : {text : List ℕ} → BeginsWithOctet text → ℕ

@@ -62,7 +62,14 @@ unchanged-prefixes-join : (lowers : Bool) (set : TableSet) (text : List ℕ) (n 
     → KeepsPrefixWhenDecoded lowers set text n → KeepsPrefixWhenDecoded lowers set (drop n text) m
     → KeepsPrefixWhenDecoded lowers set text (n + m)
 unchanged-prefixes-join lowers set text n m first next =
-    grind (arith, nat_tests, append_assoc, map-append, take_then_take_is_take_of_sum n m text, drop-drop m n text)
+    grind (
+      arith,
+      nat_tests,
+      append_assoc,
+      map-append,
+      take_then_take_is_take_of_sum n m text,
+      drop-drop m n text,
+    )
 
 suffix-of-suffix-by-positions : (text : List ℕ) (done end : ℕ) → done ≤ end
     → drop (end - done) (drop done text) ≡ drop end text

@@ -86,13 +86,28 @@ ipvfuture-has-ascii-parts text u h =
 pub ipvfuture-is-userinfo-characters : (text : List ℕ) (h : IsIpvFuture text) → AsciiParts text h
     → list_all (is_ascii_in is_userinfo_char) text ≡ true
 ipvfuture-is-userinfo-characters text h w =
-    grind (arith, common_steps, v-is-userinfo-character, ascii-passes-wider-test, hexdigit_is_userinfo_char)
+    grind (
+      arith,
+      common_steps,
+      v-is-userinfo-character,
+      ascii-passes-wider-test,
+      hexdigit_is_userinfo_char,
+    )
 
 -- meanings of hosts: an IPvFuture address in lower case is one
 lowered-ipvfuture-is-ipvfuture : (text : List ℕ) (h : IsIpvFuture text) → AsciiParts text h
     → IsIpvFuture (str_to_ascii_lowercase text)
 lowered-ipvfuture-is-ipvfuture text h w =
-    grind (arith, lowered-ascii-passes-test, lowered-hex-digit-is-hex-digit, lowered-userinfo-character-is-userinfo-character, length-map, map-append, valid_ascii_text, ascii-in-test-is-utf8)
+    grind (
+      arith,
+      lowered-ascii-passes-test,
+      lowered-hex-digit-is-hex-digit,
+      lowered-userinfo-character-is-userinfo-character,
+      length-map,
+      map-append,
+      valid_ascii_text,
+      ascii-in-test-is-utf8,
+    )
 
 -- meanings of hosts: an IPvFuture address has no `/`, `?` or `#`, so it ends no authority
 pub ipv_future_set-excludes-delimiters : excludes ipv_future_set (codes "/?#") ≡ true

@@ -61,7 +61,14 @@ text-without-character-is-for-set_without : (m : ℕ) (set : TableSet)
     → LacksPercent set → (text : List ℕ) → is_set_text set text ≡ true
     → has_character m text ≡ false → is_set_text (set_without m set) text ≡ true
 text-without-character-is-for-set_without m set lacks text e f =
-    grind (arith, set-text-is-utf8, set-text-from-utf8, validity_of_tokens_is_validity_of_bytes, text-stays-valid-for-set_without, set-text-is-valid)
+    grind (
+      arith,
+      set-text-is-utf8,
+      set-text-from-utf8,
+      validity_of_tokens_is_validity_of_bytes,
+      text-stays-valid-for-set_without,
+      set-text-is-valid,
+    )
 
 decode_piece-for-set_without : (m : ℕ) (set : TableSet) (p : Piece)
     → decode_piece (set_without m set) p ≡ decode_piece set p

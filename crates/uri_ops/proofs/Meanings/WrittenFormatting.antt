@@ -94,7 +94,12 @@ lowered-decoded-tokens-are-printable : (lowers : Bool) (set : TableSet) (text : 
     → IsValidFor widest_set text
     → list_all is_printable (lowered_if lowers (decode_tokens set (tokens text))) ≡ true
 lowered-decoded-tokens-are-printable lowers set text valid =
-    grind (arith, lowered_tokens_are_printable, decode_tokens_keeps_tokens_printable, valid_text_has_printable_tokens)
+    grind (
+      arith,
+      lowered_tokens_are_printable,
+      decode_tokens_keeps_tokens_printable,
+      valid_text_has_printable_tokens,
+    )
 
 -- meanings, decoded: a component of a valid text, decoded and in lower case if lowers, is UTF-8
 pub printed-lowered-decoding-is-utf8 : (lowers : Bool) (set : TableSet) (text : List ℕ)

@@ -32,7 +32,14 @@ lowered-scheme-part-is-scheme-part : (scheme : Option (List ℕ)) → IfSome sch
     → IfSome (option_map str_to_ascii_lowercase scheme) IsSchemePart
 lowered-scheme-part-is-scheme-part None h = tt
 lowered-scheme-part-is-scheme-part (Some s) h =
-    grind (arith, lowered-scheme-is-utf8, lowered-ascii-passes-test, lowered-scheme-character-is-scheme-character, valid_ascii_text, lowered-text-keeps-leading-letter)
+    grind (
+      arith,
+      lowered-scheme-is-utf8,
+      lowered-ascii-passes-test,
+      lowered-scheme-character-is-scheme-character,
+      valid_ascii_text,
+      lowered-text-keeps-leading-letter,
+    )
 
 pub text-with-first-letter-is-not-empty : (s : List ℕ) → is_ascii_alphabetic (slice_index s 0)
     ≡ true → 0 < length s

@@ -29,4 +29,9 @@ module _ (kind own : Kind) (own_kind : own ≡ kind) (sets : HasComponentSets ki
 
   pub normal-text-is-normal-form : IsNormalForm kind rules text normal
   normal-text-is-normal-form =
-      grind (arith, normal-text-is-of-kind, normal-text-keeps-meaning, same-normal-text-if-same-meaning)
+      grind (
+        arith,
+        normal-text-is-of-kind,
+        normal-text-keeps-meaning,
+        same-normal-text-if-same-meaning,
+      )

@@ -31,7 +31,14 @@ set-text-splits set x y e =
 pub set-texts-join-at-slash : (set : TableSet) → set.ascii 47 ≡ true → (x y : List ℕ)
     → is_set_text set x ≡ true → is_set_text set y ≡ true → is_set_text set (x ++ 47 ∷ y) ≡ true
 set-texts-join-at-slash set slash x y e f =
-    grind (arith, set-text-is-utf8, set-text-from-utf8, utf8-joined-at-slash-is-utf8, validity-splits-at-slash, set-text-is-valid)
+    grind (
+      arith,
+      set-text-is-utf8,
+      set-text-from-utf8,
+      utf8-joined-at-slash-is-utf8,
+      validity-splits-at-slash,
+      set-text-is-valid,
+    )
 
 -- paths: the segments of a valid text are valid
 pub joined-segments-of-set-text-are-set-texts : (set : TableSet) (s : List ℕ) (rest : List (List ℕ))

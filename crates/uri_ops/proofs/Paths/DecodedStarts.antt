@@ -79,7 +79,13 @@ module _ (set : TableSet) (lacks : LacksPercent set) (wide : IsSubset unreserved
       → is_empty (print_decoded set s) ≡ is_empty s
   decoding-keeps-emptiness [] e = ap is_empty (print_decoded-of-nil-is-nil set)
   decoding-keeps-emptiness (c ∷ s) e =
-      grind (arith, text-decoding-to-no-bytes-is-empty, set-text-is-utf8, decoding-keeps-decoded-bytes, empty-text-decodes-to-no-bytes)
+      grind (
+        arith,
+        text-decoding-to-no-bytes-is-empty,
+        set-text-is-utf8,
+        decoding-keeps-decoded-bytes,
+        empty-text-decodes-to-no-bytes,
+      )
 
   decoding-adds-no-colon : (s : List ℕ) → is_set_text set s ≡ true
       → list_any (λ c. eqb c 58) s ≡ false → list_any (λ c. eqb c 58) (print_decoded set s) ≡ false
@@ -88,7 +94,17 @@ module _ (set : TableSet) (lacks : LacksPercent set) (wide : IsSubset unreserved
   pub decoding-keeps-leading-slash : (x : List ℕ) → is_set_text set x ≡ true
       → starts 47 (print_decoded set x) ≡ starts 47 x
   decoding-keeps-leading-slash x e =
-      grind (arith, slashless-text-begins-with-no-slash, decoding-adds-no-slash, set-text-splits, decoding-splits-at-slash, set-text-is-utf8, empty-segment-before-slash-begins-with-slash, decoding-keeps-emptiness, text-lacks-slash-or-has-first-segment)
+      grind (
+        arith,
+        slashless-text-begins-with-no-slash,
+        decoding-adds-no-slash,
+        set-text-splits,
+        decoding-splits-at-slash,
+        set-text-is-utf8,
+        empty-segment-before-slash-begins-with-slash,
+        decoding-keeps-emptiness,
+        text-lacks-slash-or-has-first-segment,
+      )
 
   pub decoding-keeps-two-slashes : (x : List ℕ) → is_set_text set x ≡ true
       → has_authority (print_decoded set x) ≡ has_authority x

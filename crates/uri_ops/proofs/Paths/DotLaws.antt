@@ -231,7 +231,14 @@ pub merged-path-underflows-as-base-or-remainder : (path q : List ℕ) → IsAbem
     → underflows (directory path ++ q)
     ≡ (underflows path || underflows (directory (remove_dot_segments path) ++ q))
 merged-path-underflows-as-base-or-remainder path q h =
-    grind (arith, path-underflows-as-prefix-or-remainder, directory-is-absolute, directory-ends-in-slash, directory-underflows-as-path, removing-dots-and-directory-swap)
+    grind (
+      arith,
+      path-underflows-as-prefix-or-remainder,
+      directory-is-absolute,
+      directory-ends-in-slash,
+      directory-underflows-as-path,
+      removing-dots-and-directory-swap,
+    )
 
 -- paths: two lists of segments, each segment after a `/`, are as long as both texts
 pub length-of-slashed-append-is-sum : (xs ys : List (List ℕ))

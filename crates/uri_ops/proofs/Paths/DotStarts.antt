@@ -123,7 +123,13 @@ bytes-without-slash-dot-add-no-dot-start : (bytes : List ℕ) (i n : ℕ) → i 
 bytes-without-slash-dot-add-no-dot-start bytes i zero within dotless none =
     ap (λ m. has_dot_start_after_slash false (take m bytes)) (omega arith) ∙ dotless
 bytes-without-slash-dot-add-no-dot-start bytes i (suc n) within dotless none =
-    grind (arith, take-one-more-byte, byte-that-is-no-dot-adds-no-dot-start, slash-last-is_after_slash, bytes-without-slash-dot-add-no-dot-start bytes i n (omega (arith, within)) dotless (λ k h. none k (omega (arith, h))))
+    grind (
+      arith,
+      take-one-more-byte,
+      byte-that-is-no-dot-adds-no-dot-start,
+      slash-last-is_after_slash,
+      bytes-without-slash-dot-add-no-dot-start bytes i n (omega (arith, within)) dotless (λ k h. none k (omega (arith, h))),
+    )
 
 first-byte-is-no-dot-start : (bytes : List ℕ) → has_dot_start_after_slash false (take 1 bytes)
     ≡ false

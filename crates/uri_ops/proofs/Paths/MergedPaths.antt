@@ -56,7 +56,13 @@ module _ (set : TableSet) (w : IsComponentSet (codes "?#[]") set)
       → directory (print_decoded set path) ++ print_decoded set y
       ≡ print_decoded set (directory path ++ y)
   merging-and-decoding-swap path y h e =
-      grind (arith, directory-and-decoding-swap, decoding-splits-after-slash, directory-ends-in-slash, directory-of-set-text-is-set-text)
+      grind (
+        arith,
+        directory-and-decoding-swap,
+        decoding-splits-after-slash,
+        directory-ends-in-slash,
+        directory-of-set-text-is-set-text,
+      )
 
   -- the merged path of normal texts
   merged-normal-paths-decode-as-merged-paths : (authority : Option (List ℕ)) (path y : List ℕ)
@@ -65,7 +71,18 @@ module _ (set : TableSet) (w : IsComponentSet (codes "?#[]") set)
       (print_decoded set (dotless_if_absolute path))) ++ print_decoded set y))
       ≡ decode_unreserved set (remove_dot_segments (directory path ++ y))
   merged-normal-paths-decode-as-merged-paths authority path y h e f =
-      grind (arith, dotless-abempty-path-is-abempty, merged-set-text-is-set-text, merged-path-is-absolute, base-guard-does-not-change-merged-path, merging-and-decoding-swap, removing-dots-and-decoding-swap, decode_unreserved-is-idempotent, dotless-set-text-is-set-text, base-dots-do-not-change-merged-path)
+      grind (
+        arith,
+        dotless-abempty-path-is-abempty,
+        merged-set-text-is-set-text,
+        merged-path-is-absolute,
+        base-guard-does-not-change-merged-path,
+        merging-and-decoding-swap,
+        removing-dots-and-decoding-swap,
+        decode_unreserved-is-idempotent,
+        dotless-set-text-is-set-text,
+        base-dots-do-not-change-merged-path,
+      )
 
   pub merged-normal-paths-decode-as-merged : (authority : Option (List ℕ)) (path y : List ℕ)
       → IsAbemptyPath path → is_set_text set path ≡ true → is_set_text set y ≡ true
@@ -73,4 +90,11 @@ module _ (set : TableSet) (w : IsComponentSet (codes "?#[]") set)
       (print_decoded set (dotless_if_absolute path))) ++ print_decoded set y))
       ≡ decode_unreserved set (dotless_if_absolute (directory path ++ y))
   merged-normal-paths-decode-as-merged authority path y h e f =
-      grind (arith, decoded-abempty-path-is-abempty, path-without-dots-is-set-text, dotless-abempty-path-is-abempty, merged-path-is-absolute, merged-normal-paths-decode-as-merged-paths)
+      grind (
+        arith,
+        decoded-abempty-path-is-abempty,
+        path-without-dots-is-set-text,
+        dotless-abempty-path-is-abempty,
+        merged-path-is-absolute,
+        merged-normal-paths-decode-as-merged-paths,
+      )

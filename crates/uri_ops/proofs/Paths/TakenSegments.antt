@@ -114,12 +114,25 @@ module _ (xs : List (List ℕ)) (dotless : AllPass is_dotless xs) (lack : NoSlas
   removing-dots-after-last-dot-segment : remove_dot_segments (slashed (xs ++ [] ∷ []) ++ (s ++ []))
       ≡ remove_dot_segments (slashed (step_of xs s ++ [] ∷ []) ++ [])
   removing-dots-after-last-dot-segment =
-      grind (arith, removing-dots-after-segments-and-slash, segments-of-slashless-text-is-one, dotless_of-last-dot-leaves-empty-segment, segments-after-step-lack-slashes)
+      grind (
+        arith,
+        removing-dots-after-segments-and-slash,
+        segments-of-slashless-text-is-one,
+        dotless_of-last-dot-leaves-empty-segment,
+        segments-after-step-lack-slashes,
+      )
 
   removing-dots-after-inner-dot-segment : (r : List ℕ) → remove_dot_segments (slashed (xs
       ++ [] ∷ []) ++ (s ++ 47 ∷ r)) ≡ remove_dot_segments (slashed (step_of xs s ++ [] ∷ []) ++ r)
   removing-dots-after-inner-dot-segment r =
-      grind (arith, removing-dots-after-segments-and-slash, segments-split-at-first-slash, dotless_of-after-step-is-same, segments-of-text-are-not-none, segments-after-step-lack-slashes)
+      grind (
+        arith,
+        removing-dots-after-segments-and-slash,
+        segments-split-at-first-slash,
+        dotless_of-after-step-is-same,
+        segments-of-text-are-not-none,
+        segments-after-step-lack-slashes,
+      )
 
   pub removing-dots-after-directory : (rest : List ℕ) → IsAbemptyPath rest
       → remove_dot_segments (slashed (xs ++ [] ∷ []) ++ (s ++ rest))

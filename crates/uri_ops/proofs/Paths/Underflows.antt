@@ -72,7 +72,14 @@ dotless-segments-do-not-underflow before output (s ∷ rest) e =
 pub segments-underflow-as-prefix-or-remainder : (xs ys : List (List ℕ)) → underflows_over false []
     (xs ++ ys) ≡ (underflows_over false [] xs || underflows_over false [] (steps [] xs ++ ys))
 segments-underflow-as-prefix-or-remainder xs ys =
-    grind (arith, underflows_over-of-append, underflows_over_is_or, dotless-segments-do-not-underflow, steps_are_dotless, steps-of-dotless-append-all)
+    grind (
+      arith,
+      underflows_over-of-append,
+      underflows_over_is_or,
+      dotless-segments-do-not-underflow,
+      steps_are_dotless,
+      steps-of-dotless-append-all,
+    )
 
 -- dot segments: an empty segment at the end makes no underflow;
 -- before: whether there was one before

@@ -59,7 +59,13 @@ module _ (set : TableSet) (w : IsComponentSet (codes "?#[]") set)
       → decode_unreserved set (dotless_path scheme (ruled_path rooted after path))
       ≡ path_under rooted after (decode_unreserved set (dotless_path scheme path))
   ruled_path-has-meaning-under rooted after scheme path e =
-      grind (arith, path-has-tokens-unless-empty, dotless-path-is-set-text, dotless-path-keeps-emptiness, slash-is-dotless)
+      grind (
+        arith,
+        path-has-tokens-unless-empty,
+        dotless-path-is-set-text,
+        dotless-path-keeps-emptiness,
+        slash-is-dotless,
+      )
 
 pub ruled_authority-has-meaning-under :
     (kind : Kind) (default : Option ℕ) (local : Bool) (o : Option (List ℕ))

@@ -174,7 +174,14 @@ module _ (kind : Kind) (sets : HasComponentSets kind) (ports : PortFunction) whe
       (normal (components_of_parts None (Some a) p q f))) ≡ meaning (dotted_target
       (components_of_parts (Some b) ba bp bq bf) (components_of_parts None (Some a) p q f))
   reference-with-authority-has-same-target-meaning b ba bp bq bf a p q f u e hp hq hf =
-      grind (arith, lowering-is-idempotent, normal-bare-authority-has-meaning-under-default, removing-dots-of-decoded-path-decodes-same, normal-query-decodes-as-query, normal-fragment-decodes-as-fragment)
+      grind (
+        arith,
+        lowering-is-idempotent,
+        normal-bare-authority-has-meaning-under-default,
+        removing-dots-of-decoded-path-decodes-same,
+        normal-query-decodes-as-query,
+        normal-fragment-decodes-as-fragment,
+      )
 
   -- the target's components, before dot segments are removed, are equivalent to those of the
   -- normal texts
@@ -205,7 +212,12 @@ module _ (kind : Kind) (sets : HasComponentSets kind) (ports : PortFunction) whe
       → is_opaque (normal (components_of_parts (Some b) ba bp bq bf))
       ≡ is_opaque (components_of_parts (Some b) ba bp bq bf)
   normal-base-is-opaque-as-base b ba bp bq bf h =
-      grind (arith, normal-path-keeps-leading-slash, path-without-dots-is-set-text, removing-dots-keeps-leading-slash)
+      grind (
+        arith,
+        normal-path-keeps-leading-slash,
+        path-without-dots-is-set-text,
+        removing-dots-keeps-leading-slash,
+      )
 
   normal-reference-is-fragment-only-as-reference :
       (s a : Option (List ℕ)) (p : List ℕ) (q f : Option (List ℕ))

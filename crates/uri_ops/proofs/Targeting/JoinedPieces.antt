@@ -4,10 +4,6 @@ use Rattle.uri_ops.proofs.Paths.DotLaws.{directory-is-absolute}
 use Rattle.uri_ops.proofs.Targeting.Swaps.{merging-base-is-not-opaque, base-that-is-not-opaque-has-abempty-path}
 use Rattle.uri_ops.proofs.Targeting.Targets.{appended-absolute-path-is-absolute}
 
--- a reference's path after the base's directory
-module _ (b r : Components) (s : is_some r.scheme ≡ false) (a : is_some r.authority ≡ false)
-    (e : is_empty r.path ≡ false) (n : starts 47 r.path ≡ false) where
-
 -- a base's path, which is empty or begins with `/`, merged with a reference's
 module _ (base path : List ℕ) (rooted : IsAbemptyPath base) where
   merged-path-begins-with-slash : starts 47 (merged base path) ≡ true

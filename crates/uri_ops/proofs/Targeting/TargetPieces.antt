@@ -73,7 +73,12 @@ module _ (b r : Components) (s : is_some r.scheme ≡ false) (a : is_some r.auth
   pub relative-path-after-directory-is-joined : (prefix : List ℕ) → prefix ≡ before_path b ++ kept
       → HasJoinedPath b r prefix rest underflowed
   relative-path-after-directory-is-joined prefix f =
-      grind (arith, dotless-path-after-directory-is-dotless, remove-dots-of-dotless, dotless-path-does-not-underflow)
+      grind (
+        arith,
+        dotless-path-after-directory-is-dotless,
+        remove-dots-of-dotless,
+        dotless-path-does-not-underflow,
+      )
 
 -- resolving: a path without dot segments that begins with `/` (47) is after the base's authority
 pub absolute-path-after-authority-is-joined : (b r : Components) (prefix : List ℕ)

@@ -27,13 +27,23 @@ no-missing_scheme_error-means-scheme text e = ⊎_elim
 pub uri_ref_with_scheme_is_uri : (text : List ℕ) → IsOfKind uri_ref text
     → (missing_scheme_error text ≡ None ↔ IsOfKind uri text)
 uri_ref_with_scheme_is_uri text h =
-    grind (arith, no-missing_scheme_error-means-scheme, text-with-scheme-misses-no-scheme, uri_has_scheme)
+    grind (
+      arith,
+      no-missing_scheme_error-means-scheme,
+      text-with-scheme-misses-no-scheme,
+      uri_has_scheme,
+    )
 
 -- conversions: an IRI reference converts to an IRI exactly if it is one
 pub iri_ref_with_scheme_is_iri : (text : List ℕ) → IsOfKind iri_ref text
     → (missing_scheme_error text ≡ None ↔ IsOfKind iri text)
 iri_ref_with_scheme_is_iri text h =
-    grind (arith, no-missing_scheme_error-means-scheme, text-with-scheme-misses-no-scheme, iri_has_scheme)
+    grind (
+      arith,
+      no-missing_scheme_error-means-scheme,
+      text-with-scheme-misses-no-scheme,
+      iri_has_scheme,
+    )
 
 abbrev is_ascii_code : ℕ → Bool
 is_ascii_code b = not (is_past_ascii b)

@@ -71,7 +71,12 @@ module _ (kind : Kind) (sets : HasComponentSets kind) where
   grammar-gives-text-of-kind : (text : List ℕ) → IsUtf8 text → IsInGrammar kind text
       → IsOfKind kind text
   grammar-gives-text-of-kind text u (p, g) =
-      grind (arith, only-split-is-components, rules-give-components-of-kind, components-of-utf8-are-utf8)
+      grind (
+        arith,
+        only-split-is-components,
+        rules-give-components-of-kind,
+        components-of-utf8-are-utf8,
+      )
 
   text-is-of-kind-if-in-grammar : (text : List ℕ) → IsUtf8 text
       → (IsOfKind kind text ↔ IsInGrammar kind text)

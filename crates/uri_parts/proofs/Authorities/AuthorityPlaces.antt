@@ -51,7 +51,12 @@ host-is-between-userinfo-and-port : (userinfo port : Option (List ℕ)) (host te
     → user_text userinfo ++ (host ++ port_text port) ≡ text → IsUtf8 text
     → IsBetween text (delimited_length 1 userinfo) (delimited_length 1 userinfo + length host) host
 host-is-between-userinfo-and-port userinfo port host text whole u =
-    grind (arith, common_steps, length-of-userinfo-with-at-sign, host-begins-at-boundary-after-userinfo)
+    grind (
+      arith,
+      common_steps,
+      length-of-userinfo-with-at-sign,
+      host-begins-at-boundary-after-userinfo,
+    )
 
 -- authorities, positions: the host is between its positions
 pub host_is_at_positions : (users names : TableSet) (text : List ℕ)
@@ -105,7 +110,13 @@ text-ends-or-port-follows-prefix : (prefix : List ℕ) (port : Option (List ℕ)
 text-ends-or-port-follows-prefix prefix None text whole u h = inl
     (ap length (sym (append-nil prefix) ∙ whole), refl)
 text-ends-or-port-follows-prefix prefix (Some digits) text whole u h =
-    grind (arith, append-nil digits, drop-drop 1 (length prefix) (prefix ++ (58 ∷ digits)), drop-append_seam prefix (58 ∷ digits), boundary_after_mark)
+    grind (
+      arith,
+      append-nil digits,
+      drop-drop 1 (length prefix) (prefix ++ (58 ∷ digits)),
+      drop-append_seam prefix (58 ∷ digits),
+      boundary_after_mark,
+    )
 
 -- authorities, positions: the host ends the authority, or a port follows the host
 pub port_is_after_host : (users names : TableSet) (text : List ℕ)

@@ -46,7 +46,12 @@ empty-text-is-address-text = refl
 ipv4-text-is-address-text : (text octets : List ℕ) → IsDotted text octets
     → is_address_text text ≡ true
 ipv4-text-is-address-text text octets h =
-    grind (arith, separators-are-address-text, joined-address-texts-are-address-text, decimal-byte-is-address-text)
+    grind (
+      arith,
+      separators-are-address-text,
+      joined-address-texts-are-address-text,
+      decimal-byte-is-address-text,
+    )
 
 -- IP addresses: groups of an IPv6 address have digits, `:` and `.` only; ipv4: whether an IPv4
 -- address ends them, lead: what is before each

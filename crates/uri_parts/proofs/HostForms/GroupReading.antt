@@ -147,7 +147,17 @@ module _ (head part new window : List ℕ) (h t g : ℕ) (eight : length head �
   segments-agree-at-index : (k : ℕ) → k < 8
       → get_or new k 0 ≡ get_or (take h head ++ replicate g 0 ++ take t part) k 0
   segments-agree-at-index k less =
-      grind (arith, get_or_append_left, length-before-tail, length-take-le, get_or-take, get_or-replicate, get_or-append_right, get_or-drop, get_or-append-add)
+      grind (
+        arith,
+        get_or_append_left,
+        length-before-tail,
+        length-take-le,
+        get_or-take,
+        get_or-replicate,
+        get_or-append_right,
+        get_or-drop,
+        get_or-append-add,
+      )
 
   pub tail-groups-are-placed-last : new ≡ take h head ++ replicate g 0 ++ take t part
   tail-groups-are-placed-last = ext_get_or 0 new (take h head ++ replicate g 0 ++ take t part)

@@ -12,7 +12,12 @@ pub stray_percent_ends_scan : (set : TableSet) (text : List ℕ) (i n : ℕ) →
     → n ≡ i + valid_prefix set (drop i text) → n < length text → get_or text n 0 ≡ 37
     → IsStrayPercent text n
 stray_percent_ends_scan set text i n o e h p =
-    grind (arith, drop-drop (valid_prefix set (drop i text)) i text, unscanned_percent_has_no_hex_digits, nothing_is_scanned_after_valid_prefix set (drop i text))
+    grind (
+      arith,
+      drop-drop (valid_prefix set (drop i text)) i text,
+      unscanned_percent_has_no_hex_digits,
+      nothing_is_scanned_after_valid_prefix set (drop i text),
+    )
 
 -- parsing: nothing is left exactly where the position is the length
 pub text_ends_where_position_is_length : (i : ℕ) (text : List ℕ) → i ≤ length text

@@ -66,7 +66,12 @@ module _ (text : List ℕ) where
       is_first i (ds ++ tail)) → AllDigits 16 ds → 0 < length ds → length ds ≤ 4 → Stops tail
       → groups_from text (suc r) is_first i ≡ groups_from text r false (w.place + length ds)
   groups_from-passes-group r is_first i ds tail w all some most stop =
-      grind (arith, suffix-after-prefix-at-position, groups_from-goes-on-after-group, digits_end-is-after-digits)
+      grind (
+        arith,
+        suffix-after-prefix-at-position,
+        groups_from-goes-on-after-group,
+        digits_end-is-after-digits,
+      )
 
   groups_from-ends-after-ipv4 : (r : ℕ) (is_first : Bool)
       (i end : ℕ) (address octets suffix : List ℕ) (w : Led is_first i (address ++ suffix))

@@ -87,7 +87,12 @@ module _ (text : List ℕ) (i : ℕ) where
   pub literal-rejects-unparsed : (starts 118 (drop i text) || starts 86 (drop i text)) ≡ false
       → parses_literal (drop i text) ≡ false → is_ok (literal text i) ≡ false
   literal-rejects-unparsed no_ipv6 none =
-      grind (arith, literal-without-address-is-unexpected, literal-is-closed-at-ipv6_end, read-ipv6-with-bracket-is-parsed)
+      grind (
+        arith,
+        literal-without-address-is-unexpected,
+        literal-is-closed-at-ipv6_end,
+        read-ipv6-with-bracket-is-parsed,
+      )
 
 -- parse errors: an IPv6 address with `]` (93) after it is a literal that ends after this
 pub literal-ends-after-read-ipv6 : (text suffix : List ℕ) (i : ℕ)

@@ -152,7 +152,13 @@ module _ (segment : TableSet) (kind : Kind) (w : SeparatesComponents segment kin
       → is_empty_or_begins_with_any (codes "/?#") (drop p text) ≡ false
       → error_from_abempty_path kind text p ≡ left_over_error kind text p
   abempty-path-error-at-other-byte-is-left-over p e =
-      grind (arith, unmarked_text_begins_with_other_byte, abempty-path-error-by-stray-percent, query-error-at-other-byte-is-unexpected, left_over_error-by-stray-percent)
+      grind (
+        arith,
+        unmarked_text_begins_with_other_byte,
+        abempty-path-error-by-stray-percent,
+        query-error-at-other-byte-is-unexpected,
+        left_over_error-by-stray-percent,
+      )
 
   pub error_after_port-is-from-path : (p : ℕ) → error_after_port kind text p
       ≡ error_from_abempty_path kind text p

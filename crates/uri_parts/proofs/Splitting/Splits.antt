@@ -15,4 +15,12 @@ equal-parts-make-equal-components s a p q f = λ i.
 pub only-split-is-components : (text : List ℕ) (p : Components) → IsSplitOf text p
     → components text ≡ p
 only-split-is-components text p split =
-    grind (arith, scheme-found, authority-found, IsEmptyOrMarked-query_text, cut-at-end-of-text-without-marks, query-found, fragment-found)
+    grind (
+      arith,
+      scheme-found,
+      authority-found,
+      IsEmptyOrMarked-query_text,
+      cut-at-end-of-text-without-marks,
+      query-found,
+      fragment-found,
+    )

@@ -52,7 +52,13 @@ encoded_pieces_decode_to_their_bytes : (set : TableSet) (ps : List Piece) → Al
     → bytes_decoded_from (flat_map (encode_piece set) ps) ≡ bytes_of_pieces ps
 encoded_pieces_decode_to_their_bytes set [] h = refl
 encoded_pieces_decode_to_their_bytes set (p ∷ ps) h =
-    grind (arith, encoded_pieces_decode_to_their_bytes set ps (All-tail IsOfCharacter p ps h), flat_map-append, octets_decode_to_their_bytes, All-head)
+    grind (
+      arith,
+      encoded_pieces_decode_to_their_bytes set ps (All-tail IsOfCharacter p ps h),
+      flat_map-append,
+      octets_decode_to_their_bytes,
+      All-head,
+    )
 
 pub encoded_bytes_decode_to_themselves : (set : TableSet) (bytes : List ℕ)
     → bytes_decoded_from (encode_bytes set bytes) ≡ bytes

@@ -68,7 +68,12 @@ has_bit_is_test_if_words_agree : (low high : ℕ) (f : ℕ → Bool)
     → ((c : ℕ) → 64 ≤ c → c < 128 → eqb (bit_at high (c - 64)) 1 ≡ f c)
     → ((c : ℕ) → 128 ≤ c → f c ≡ false) → (c : ℕ) → has_bit low high c ≡ f c
 has_bit_is_test_if_words_agree low high f first second third c =
-    grind (arith, has_bit_below_64_is_bit_of_low, has_bit_from_64_is_bit_of_high, has_bit_past_ascii_is_false)
+    grind (
+      arith,
+      has_bit_below_64_is_bit_of_low,
+      has_bit_from_64_is_bit_of_high,
+      has_bit_past_ascii_is_false,
+    )
 
 -- bits, for differences of tables: the smaller of a bit and another's complement is `and not`
 min_with_complement_is_and_not : (x y : ℕ) → x < 2 → y < 2 → eqb (min x (1 - y)) 1
@@ -96,7 +101,13 @@ bit_of_bit_and_not a b i fits within = ap (λ n. eqb n 1) (bit_at_and a (bit_not
 pub has_bit_of_joined_masks_is_or : (low high low' high' c : ℕ)
     → has_bit (bit_or low low') (bit_or high high') c ≡ (has_bit low high c || has_bit low' high' c)
 has_bit_of_joined_masks_is_or low high low' high' =
-    grind (arith, bit_of_bit_or, has_bit_below_64_is_bit_of_low, has_bit_from_64_is_bit_of_high, has_bit_past_ascii_is_false)
+    grind (
+      arith,
+      bit_of_bit_or,
+      has_bit_below_64_is_bit_of_low,
+      has_bit_from_64_is_bit_of_high,
+      has_bit_past_ascii_is_false,
+    )
 
 -- tables: the difference of two pairs of words has the characters
 -- of the first that the second lacks
@@ -104,7 +115,13 @@ pub has_bit_of_mask_difference_is_and_not : (low high low' high' c : ℕ) → lo
     → high' < 2 ^ 64 → has_bit (bit_and low (bit_not w64 low')) (bit_and high (bit_not w64 high')) c
     ≡ (has_bit low high c && not (has_bit low' high' c))
 has_bit_of_mask_difference_is_and_not low high low' high' c fits fits' =
-    grind (arith, bit_of_bit_and_not, has_bit_below_64_is_bit_of_low, has_bit_from_64_is_bit_of_high, has_bit_past_ascii_is_false)
+    grind (
+      arith,
+      bit_of_bit_and_not,
+      has_bit_below_64_is_bit_of_low,
+      has_bit_from_64_is_bit_of_high,
+      has_bit_past_ascii_is_false,
+    )
 
 bit_after_one_bit_is_set : (n k i : ℕ) → k < 64
     → eqb (bit_at (bit_or n (1 * 2 ^ k % 2 ^ 64)) i) 1 ≡ (eqb (bit_at n i) 1 || eqb k i)
@@ -131,7 +148,13 @@ has_bit_after_low_bit_is_set low high k c within =
 pub has_bit_after_high_bit_is_set : (low high k c : ℕ) → 64 ≤ k → k < 128
     → has_bit low (bit_or high (1 * 2 ^ (k - 64) % 2 ^ 64)) c ≡ (has_bit low high c || eqb k c)
 has_bit_after_high_bit_is_set low high k c from within =
-    grind (arith, has_bit_below_64_is_bit_of_low, bit_after_one_bit_is_set, has_bit_from_64_is_bit_of_high, has_bit_past_ascii_is_false)
+    grind (
+      arith,
+      has_bit_below_64_is_bit_of_low,
+      bit_after_one_bit_is_set,
+      has_bit_from_64_is_bit_of_high,
+      has_bit_past_ascii_is_false,
+    )
 
 -- tables: two words that are zero have no character
 pub has_bit-zero-masks : (c : ℕ) → has_bit 0 0 c ≡ false
@@ -177,4 +200,10 @@ has_bit-full-masks c = has_bit-by-agreement 0xFFFFFFFFFFFFFFFF 0xFFFFFFFFFFFFFFF
 pub has_bit_of_words_with_all_bits : (low high low' high' c : ℕ) → bit_and low low' ≡ low'
     → bit_and high high' ≡ high' → has_bit low' high' c ≡ true → has_bit low high c ≡ true
 has_bit_of_words_with_all_bits low high low' high' c lows highs e =
-    grind (arith, bit_of_bit_and, has_bit_below_64_is_bit_of_low, has_bit_from_64_is_bit_of_high, has_bit_past_ascii_is_false)
+    grind (
+      arith,
+      bit_of_bit_and,
+      has_bit_below_64_is_bit_of_low,
+      has_bit_from_64_is_bit_of_high,
+      has_bit_past_ascii_is_false,
+    )

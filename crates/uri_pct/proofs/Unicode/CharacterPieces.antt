@@ -93,7 +93,15 @@ byte_below_80_or_from_c0_is_no_continuation b h = ⊎_elim (λ low. and_left _ _
 pub char_separates_utf8_pieces : (xs : List ℕ) (c : ℕ) (ys : List ℕ) → IsScalar c → utf8_pieces (xs
     ++ (encode_utf8 c ++ ys)) ≡ utf8_pieces xs ++ WellFormed (encode_utf8 c) ∷ utf8_pieces ys
 char_separates_utf8_pieces xs c ys scalar =
-    grind (arith, common_steps, utf8_pieces_are_cut_at_non_continuation, utf8_of_char_of_two_bytes, utf8_of_char_of_three_bytes, utf8_of_char_of_four_bytes, first_char_is_first_piece)
+    grind (
+      arith,
+      common_steps,
+      utf8_pieces_are_cut_at_non_continuation,
+      utf8_of_char_of_two_bytes,
+      utf8_of_char_of_three_bytes,
+      utf8_of_char_of_four_bytes,
+      first_char_is_first_piece,
+    )
 
 -- UTF-8: what holds of each row of the table of first bytes holds of the row of a first byte
 found_row_has_property_of_all_rows : (b : ℕ) (P : Option (List ByteRange) → Type 0)

@@ -151,4 +151,13 @@ ill_formed_len_is_std_len_from_f0 b low = ⊎_elim (λ h. subst (HasStdInvalidLe
 -- ill-formed UTF-8: an ill-formed piece is as long as the part that std replaces
 pub ill_formed_len_is_std_len : (b : ℕ) → HasStdInvalidLen b (following_ranges b)
 ill_formed_len_is_std_len b =
-    grind (arith, ill_formed_len_is_std_len_below_e1, following_ranges_of_e1_to_ec, ill_formed_len_is_std_len_of_three_byte_row, nat_tests, following_ranges_of_ed, following_ranges_of_ee_to_ef, ill_formed_len_is_std_len_from_f0)
+    grind (
+      arith,
+      ill_formed_len_is_std_len_below_e1,
+      following_ranges_of_e1_to_ec,
+      ill_formed_len_is_std_len_of_three_byte_row,
+      nat_tests,
+      following_ranges_of_ed,
+      following_ranges_of_ee_to_ef,
+      ill_formed_len_is_std_len_from_f0,
+    )

@@ -153,7 +153,13 @@ unfinished_end_begins_with_no_continuation (x ∷ xs) ys some = ⊎_elim
 cut_before_unfinished_end_divides_no_piece : (bytes : List ℕ) → CutsNoPiece (take (length bytes
     - unfinished_len bytes) bytes) (drop (length bytes - unfinished_len bytes) bytes)
 cut_before_unfinished_end_divides_no_piece bytes suffix =
-    grind (arith, take_all, pieces_from_are_cut_after_finished_bytes, utf8_pieces_are_cut_at_non_continuation, unfinished_end_begins_with_no_continuation)
+    grind (
+      arith,
+      take_all,
+      pieces_from_are_cut_after_finished_bytes,
+      utf8_pieces_are_cut_at_non_continuation,
+      unfinished_end_begins_with_no_continuation,
+    )
 
 pub parts_from_are_cut_where_pieces_are : (prefix end more : List ℕ) (suffix : List Chunk)
     → CutsNoPiece prefix end → parts_from (prefix ++ (end ++ more)) suffix

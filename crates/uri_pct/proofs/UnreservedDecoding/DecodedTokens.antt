@@ -14,7 +14,13 @@ decoded_pieces_keep_their_bytes : (set : TableSet) (ps : List Piece) → All IsO
     → bytes_decoded_from (flat_map (decode_piece set) ps) ≡ bytes_of_pieces ps
 decoded_pieces_keep_their_bytes set [] h = refl
 decoded_pieces_keep_their_bytes set (p ∷ ps) h =
-    grind (arith, decoded_pieces_keep_their_bytes set ps (All-tail IsOfCharacter p ps h), flat_map-append, octets_decode_to_their_bytes, All-head)
+    grind (
+      arith,
+      decoded_pieces_keep_their_bytes set ps (All-tail IsOfCharacter p ps h),
+      flat_map-append,
+      octets_decode_to_their_bytes,
+      All-head,
+    )
 
 decode_run_keeps_bytes : (set : TableSet) (run : List ℕ)
     → bytes_decoded_from (decode_run set run) ≡ run
@@ -207,7 +213,14 @@ octets_of_formatting_chars_decode_as_chars set before (Octet value ∷ ts) =
     ∙ octets_of_formatting_chars_decode_as_chars set (before ++ Octet value ∷ []) ts
     ∙ ap (decode_tokens set) (append_assoc before (Octet value ∷ []) ts)
 octets_of_formatting_chars_decode_as_chars set before (Char c ∷ ts) =
-    grind (arith, append_assoc, decodable_char_octets_decode_as_char, never_literal_char_is_scalar_past_ascii, never_literal_char_is_decodable, octets_of_formatting_chars_decode_as_chars set (before ++ Char c ∷ []) ts)
+    grind (
+      arith,
+      append_assoc,
+      decodable_char_octets_decode_as_char,
+      never_literal_char_is_scalar_past_ascii,
+      never_literal_char_is_decodable,
+      octets_of_formatting_chars_decode_as_chars set (before ++ Char c ∷ []) ts,
+    )
 
 pub printed_octets_of_decodable_char_decode_as_char :
     (set : TableSet) (before : List Token) (c : ℕ) (suffix : List Token) → IsScalar c
@@ -215,7 +228,15 @@ pub printed_octets_of_decodable_char_decode_as_char :
     → decode_unreserved set (print (before ++ (map Octet (encode_utf8 c) ++ suffix)))
     ≡ decode_unreserved set (print (before ++ Char c ∷ suffix))
 printed_octets_of_decodable_char_decode_as_char set before c suffix scalar decodable e =
-    grind (arith, test_holds_of_both_lists, test_holds_of_joined_lists, octets_of_bytes_are_printable, utf8_bytes_are_eight_bit, printed_tokens_parse_to_themselves, decodable_char_octets_decode_as_char)
+    grind (
+      arith,
+      test_holds_of_both_lists,
+      test_holds_of_joined_lists,
+      octets_of_bytes_are_printable,
+      utf8_bytes_are_eight_bit,
+      printed_tokens_parse_to_themselves,
+      decodable_char_octets_decode_as_char,
+    )
 
 pub decode_unreserved_leaves_no_literal_formatting : (set : TableSet) (text : List ℕ) → (set.ucschar
     && set.pct_encoded) ≡ true → list_any is_literal_formatting (decode_unreserved set text) ≡ false

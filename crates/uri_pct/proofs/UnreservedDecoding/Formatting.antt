@@ -77,7 +77,12 @@ pub encode_formatting_keeps_bytes : (set : TableSet) (ts : List Token)
     → bytes_decoded_from (encode_formatting set ts) ≡ bytes_decoded_from ts
 encode_formatting_keeps_bytes set [] = refl
 encode_formatting_keeps_bytes set (t ∷ ts) =
-    grind (arith, encode_formatting_keeps_bytes set ts, flat_map-append, octets_decode_to_their_bytes)
+    grind (
+      arith,
+      encode_formatting_keeps_bytes set ts,
+      flat_map-append,
+      octets_decode_to_their_bytes,
+    )
 
 formatting_as_octets_passes_test : (test : Token → Bool) (set : TableSet) (t : Token)
     → ((c : ℕ) → is_never_literal set c ≡ true → list_all test (map Octet (encode_utf8 c)) ≡ true)
@@ -125,7 +130,13 @@ pub encode_formatting_commutes_with_lowering : (set : TableSet) (ts : List Token
     → map lower_token (encode_formatting set ts) ≡ encode_formatting set (map lower_token ts)
 encode_formatting_commutes_with_lowering set [] = refl
 encode_formatting_commutes_with_lowering set (t ∷ ts) =
-    grind (arith, encode_formatting_commutes_with_lowering set ts, map-append, ascii_char_is_unchanged, lowering_keeps_octets)
+    grind (
+      arith,
+      encode_formatting_commutes_with_lowering set ts,
+      map-append,
+      ascii_char_is_unchanged,
+      lowering_keeps_octets,
+    )
 
 -- unreserved octets: an ASCII character separates the encoding before it from that after it
 pub ascii_char_separates_encode_formatting : (set : TableSet) (ts : List Token)
@@ -146,4 +157,9 @@ encode_formatting_leaves_no_literal_formatting set [] e = refl
 encode_formatting_leaves_no_literal_formatting set (Octet value ∷ ts) e =
     encode_formatting_leaves_no_literal_formatting set ts e
 encode_formatting_leaves_no_literal_formatting set (Char c ∷ ts) e =
-    grind (arith, octets_are_no_literal_formatting, never_literal_is_formatting_if_both_flags, encode_formatting_leaves_no_literal_formatting set ts e)
+    grind (
+      arith,
+      octets_are_no_literal_formatting,
+      never_literal_is_formatting_if_both_flags,
+      encode_formatting_leaves_no_literal_formatting set ts e,
+    )

@@ -144,7 +144,12 @@ module _ (marks : List ℕ) (set : TableSet) (lacks : LacksPercent set)
       → valid_from set 0 (b ∷ take (length_before_marks marks bs) bs)
       ≡ eqb (valid_prefix_from set 0 (b ∷ bs)) (suc (length_before_marks marks bs))
   char_before_cut_is_valid_iff_scanned b bs o s ih =
-      grind (arith, validity_by_first_byte, cut_at_mark_keeps_whether_first_is_allowed, valid_prefix_by_first_byte)
+      grind (
+        arith,
+        validity_by_first_byte,
+        cut_at_mark_keeps_whether_first_is_allowed,
+        valid_prefix_by_first_byte,
+      )
 
   pub valid_prefix_at_mark_is_empty : (b : ℕ) (bs : List ℕ) → is_one_of marks b ≡ true
       → valid_prefix_from set 0 (b ∷ bs) ≡ 0

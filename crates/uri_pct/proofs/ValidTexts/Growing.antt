@@ -16,7 +16,12 @@ grows_by_tokens : (set : TableSet) (old new : List ℕ) (ts : List Token)
     → LacksPercent set → IsUtf8 old → IsValidFor set old → list_all is_printable ts ≡ true
     → list_all (allows_token set) ts ≡ true → new ≡ old ++ print ts → Grows set old ts new
 grows_by_tokens set old new ts lacks u valid p a e =
-    grind (arith, printed_tokens_after_valid_text_are_valid, tokens_of_text_after_valid_text, printed_tokens_parse_to_themselves)
+    grind (
+      arith,
+      printed_tokens_after_valid_text_are_valid,
+      tokens_of_text_after_valid_text,
+      printed_tokens_parse_to_themselves,
+    )
 
 subset_lacks_percent : (sub set : TableSet) → IsSubset sub set → LacksPercent set → LacksPercent sub
 subset_lacks_percent sub set subset lacks =

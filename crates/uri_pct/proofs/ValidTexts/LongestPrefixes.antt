@@ -49,7 +49,14 @@ module _ (set : TableSet) (lacks : LacksPercent set) where
       → allows set c ≡ false → (set.pct_encoded && (eqb c 37 && begins_with_hex_digits cs)) ≡ false
       → valid_prefix set (encode_utf8_all (c ∷ cs)) ≡ 0
   valid_prefix_is_empty_at_disallowed_char c cs s a o =
-      grind (arith, encode_ascii, valid_prefix_by_first_byte, encoded_chars_begin_with_same_hex_digits, ascii_first_byte_is_allowed_iff_in_set, valid_prefix_by_first_of_chars)
+      grind (
+        arith,
+        encode_ascii,
+        valid_prefix_by_first_byte,
+        encoded_chars_begin_with_same_hex_digits,
+        ascii_first_byte_is_allowed_iff_in_set,
+        valid_prefix_by_first_of_chars,
+      )
 
   valid_prefix_grows_by_octet : (c h l : ℕ) (cs : List ℕ) → set.pct_encoded ≡ true
       → is_pct_encoded c h l ≡ true → valid_prefix set (encode_utf8_all (c ∷ h ∷ l ∷ cs))

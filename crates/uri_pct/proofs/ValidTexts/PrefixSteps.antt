@@ -118,7 +118,14 @@ pub valid_prefix_by_first_char : (set : TableSet) (text rest : List ℕ) (c : �
     → text ≡ encode_utf8 c ++ rest → (set.pct_encoded && eqb c 37) ≡ false
     → valid_prefix set text ≡ cond (allows set c) (valid_prefix set rest + len_utf8 c) 0
 valid_prefix_by_first_char set text rest c u e o =
-    grind (arith, common_steps, valid_prefix_by_first_byte, ascii_first_byte_is_allowed_iff_in_set, valid_prefix_by_first_char_past_ascii, char_past_ascii_begins_past_ascii)
+    grind (
+      arith,
+      common_steps,
+      valid_prefix_by_first_byte,
+      ascii_first_byte_is_allowed_iff_in_set,
+      valid_prefix_by_first_char_past_ascii,
+      char_past_ascii_begins_past_ascii,
+    )
 
 -- scanning: a scan passes a character past ASCII if the set allows it, and stops there otherwise
 pub valid_prefix_by_char_past_ascii_at_index : (set : TableSet) (bs : List ℕ) (i c : ℕ)
