@@ -1,5 +1,5 @@
 -- The loop of section 5.2.4: each pass shortens the input buffer, so that the loop empties it.
-use Rattle.uri_basic.proofs.Common.{◌≡◌, ℕ, zero, suc, ◌<◌, ◌≤◌, true, false, not, List, [], ◌∷◌, rules, ◌++◌, length, drop, refl, sym, ap, ◌∙◌, arith, ⊎_elim, ◌==◌, codes, bytes_eq, cases_Bool, cond-true, cond-false, cond_both, false≢true, not_from_false, length-drop, length-take, nil_from_length, bytes_eq-Decides, is_one_of, from_any, starts, is_empty, Buffers, after_first_segment, has_prefix, output_of, run, step}
+use Rattle.uri_basic.proofs.Common.{◌≡◌, ℕ, zero, suc, ◌<◌, ◌≤◌, true, false, not, List, [], rules, ◌++◌, length, drop, refl, sym, ap, ◌∙◌, arith, ⊎_elim, ◌==◌, codes, bytes_eq, cases_Bool, cond-true, cond-false, cond_both, not_from_false, length-drop, length-take, nil_from_length, bytes_eq-Decides, is_one_of, is_empty, Buffers, after_first_segment, has_prefix, output_of, run, step}
 use Rattle.std.proofs.lemmas.Bool.Decides.{nat_tests}
 use Rattle.uri_ops.proofs.Offered.{not-empty-has-length}
 
@@ -11,26 +11,13 @@ prefix-is-no-longer : (prefix buffer : List ℕ) → has_prefix prefix buffer �
     → length prefix ≤ length buffer
 prefix-is-no-longer prefix buffer e = search (rules, equal-bytes-have-equal-lengths, length-take)
 
--- paths: the byte that ends a segment is `/` (47)
-segment-end-is-slash : (c : ℕ) → is_one_of (codes "/") c ≡ (c == 47)
-segment-end-is-slash c = grind (arith, nat_tests)
-
 -- paths: a byte that is not `/` (47) ends no segment
 pub other-byte-ends-no-segment : (c : ℕ) → (c == 47) ≡ false → not (is_one_of (codes "/") c) ≡ true
-other-byte-ends-no-segment c e = not_from_false _ (segment-end-is-slash c ∙ e)
-
--- removing dot segments: without its first segment, which begins with no `/`, a buffer is shorter
-buffer-after-rootless-segment-is-shorter : (buffer : List ℕ) → is_empty buffer ≡ false
-    → starts 47 buffer ≡ false → length (from_any (codes "/") buffer) < length buffer
-buffer-after-rootless-segment-is-shorter [] some e = absurd (false≢true (sym some))
-buffer-after-rootless-segment-is-shorter (c ∷ rest) some e =
-    search (rules, cond-true, other-byte-ends-no-segment, length-drop)
+other-byte-ends-no-segment c e = grind (arith, not_from_false, nat_tests)
 
 buffer-after-first-segment-is-shorter : (buffer : List ℕ) → is_empty buffer ≡ false
     → length (after_first_segment buffer) < length buffer
-buffer-after-first-segment-is-shorter buffer e =
-    let some = not-empty-has-length buffer e in
-    search (rules, cond_both, length-drop, buffer-after-rootless-segment-is-shorter)
+buffer-after-first-segment-is-shorter buffer e = grind (arith, length-drop)
 
 replaced-prefix-shortens : (n : ℕ) (buffer : List ℕ) → 1 < n → n ≤ length buffer
     → length (codes "/" ++ drop n buffer) < length buffer

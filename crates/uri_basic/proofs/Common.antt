@@ -1,7 +1,7 @@
 -- What proofs import from std, from lower crates and from `specs/`: the modules that three
 -- files or more use.
 pub use Rattle.std.proofs.Common.{◌≡◌, ℕ, zero, suc, ◌<◌, ◌≤◌, true, false, not, List, [], ◌∷◌, rules, ◌++◌, length, drop, refl, sym, ap, ◌∙◌, arith, ⊎_elim, Bool, ◌&&◌, ◌||◌, subst, append_assoc, cond, inl, inr, ◌+◌, ◌-◌, ◌⊎◌, take, get_or, eqb, drop-cons, true≢false, option_map, unwrap_or, ◌↔◌, string_bytes}
-pub use Rattle.std.proofs.lemmas.Bool.{cases_Bool, cond-true, cond-false, cond_both, false≢true, not_from_false, and_left, and_parts, not-true, or_from, or_parts, and_from, eqb-true, or_cases, both_ways, ne_eqb, eq-eqb, not-false, not_from_true, and_right, ltb-true, or_left, and_cases, or_right}
+pub use Rattle.std.proofs.lemmas.Bool.{cases_Bool, cond-true, cond-false, cond_both, false≢true, not_from_false, and_left, and_parts, not-true, or_from, or_parts, and_from, eqb-true, or_cases, both_ways, ne_eqb, eq-eqb, not-false, not_from_true, and_right, ltb-true, or_left}
 pub use Rattle.std.proofs.lemmas.List.{length-drop, length-take, nil_from_length, append-nil, get_or_append_left, length-take-le, take-append-drop, drop_all, drop_at, get_or-take, take_more, get_or-drop, length-append, take-append-le, take_at}
 pub use Rattle.std.proofs.lemmas.List.Folds.{list_any-append, list_all-append}
 pub use Rattle.std.proofs.lemmas.Slice.Eq.{bytes_eq-Decides}

@@ -1,4 +1,5 @@
 -- Where the last segment of a path begins, by its positions.
+use Rattle.std.proofs.lemmas.Grind.{common_steps}
 use Rattle.uri_basic.proofs.Common.{◌≡◌, ℕ, zero, suc, ◌+◌, ◌-◌, ◌<◌, ◌≤◌, false, ◌⊎◌, List, [], ◌∷◌, ◌++◌, length, take, drop, get_or, refl, sym, ap, subst, ◌∙◌, arith, append_assoc, eqb, inl, inr, not, ⊎_elim, drop-cons, rules, codes, ◌==◌, slice_range, cases_Bool, cond-true, cond-false, ne_eqb, or_from, eq-eqb, eqb-true, not-false, not_from_true, append-nil, get_or_append_left, length-take-le, take-append-drop, drop_all, drop_at, get_or-take, length-take, take_more, get_or-drop, length-append, length-drop, take-append-le, take_at, IsCharBoundary-after_ascii, IsCharBoundary-from_take, IsCharBoundary, IsUtf8, IsLongestRun, EndsInSlash, before_last_slash, has_slash, up_to_last_slash, before_last_slash-of-slashless-is-empty, before_last_slash-of-slashless-tail, slash-in-suffix-is-in-append, IsDirectoryOrNothing, after_segment, parent, path_left, remove_dot_segments}
 use Rattle.std.proofs.Math.Seq.{take-add}
 use Rattle.uri_basic.proofs.Segments.{parent-of-directory, parent-of-nothing, path-left-after-last-segment, path-left-of-path}
@@ -165,24 +166,15 @@ pub appended-path-is-without-dots : (old new whole last : List ℕ) (start : ℕ
     → take start new ++ after_segment (drop start new) last last
     ≡ old ++ remove_dot_segments (whole ++ last)
 appended-path-is-without-dots old new whole last start at before closed lacks left =
-    let none : drop start old ≡ [] = drop_all start old (omega (arith, at)) in
-    ap (λ t. t ++ after_segment (drop start new) last last)
-    (cc (append-nil (take start old), take-append-drop start old)) ∙ ap (λ t. old ++ t)
-    (sym (path-left-after-last-segment (drop start new) last closed lacks) ∙ left last
-    ∙ ap (λ k. path_left k (whole ++ last)) none ∙ path-left-of-path (whole ++ last))
+    grind (arith, common_steps, path-left-after-last-segment, path-left-of-path)
 
 -- removing dot segments: all of a text is its prefix, in UTF-8
 pub whole-prefix-is-utf8 : (text : List ℕ) (start : ℕ) → start ≡ length text → IsUtf8 text
     → IsUtf8 (take start text)
-whole-prefix-is-utf8 text start at whole = subst IsUtf8 (sym (sym (append-nil (take start text))
-    ∙ ap (λ t. take start text ++ t) (sym (drop_all start text (omega (arith, at))))
-    ∙ take-append-drop start text)) whole
+whole-prefix-is-utf8 text start at whole =
+    grind (arith, common_steps, append-nil, drop_all, take-append-drop)
 
 pub slice-to-end : (text bytes : List ℕ) (start : ℕ) → bytes ≡ text
     → take (length bytes - start) (drop start bytes) ≡ drop start text
 slice-to-end text bytes start e =
-    let none : drop (length bytes - start) (drop start bytes) ≡ [] =
-    drop_all (length bytes - start) (drop start bytes) (omega (arith, length-drop start bytes)) in
-    sym (append-nil (take (length bytes - start) (drop start bytes)))
-    ∙ ap (λ t. take (length bytes - start) (drop start bytes) ++ t) (sym none)
-    ∙ take-append-drop (length bytes - start) (drop start bytes) ∙ ap (drop start) e
+    grind (arith, common_steps, drop_all, length-drop, append-nil, take-append-drop)

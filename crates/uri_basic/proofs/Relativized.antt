@@ -1,5 +1,6 @@
 -- What the references of `relativize` lead to by the basic algorithm: RFC 3986, section 5.2.
-use Rattle.uri_basic.proofs.Common.{◌≡◌, ℕ, Bool, true, false, not, cond, List, [], ◌++◌, ◌&&◌, refl, sym, ap, ◌∙◌, subst, ⊎_elim, rules, IfNone, IfSome, None, Ok, Option, Some, bytes_eq, codes, is_none, is_some, and_parts, both_ways, cases_Bool, cond-false, cond-true, cond_both, false≢true, not-false, bytes_eq-Decides, eq_true_from_IsTrue, Components, IsSplitOf, Lacks, components, has_scheme, recompose, starts, components-are-split-of-text, equal-to-true-is-IsTrue, recompose-components, IsAbsolute, lacks_dot_segments, with_final_path, guarded, is_opaque, removing-dots-keeps-absolute, removing-dots-leaves-no-dot-segment, test-of-delimiters-gives-lacks, has_literal_dot_segment, basic_resolution, basic_resolution_of_texts, target}
+use native.Mathlib.Omega.{arith}
+use Rattle.uri_basic.proofs.Common.{◌≡◌, ℕ, Bool, true, false, not, cond, List, [], ◌&&◌, refl, sym, ap, ◌∙◌, subst, ⊎_elim, rules, IfSome, None, Ok, Option, Some, bytes_eq, codes, is_some, and_parts, both_ways, cases_Bool, cond-false, cond-true, cond_both, false≢true, not-false, bytes_eq-Decides, eq_true_from_IsTrue, Components, IsSplitOf, Lacks, components, recompose, starts, components-are-split-of-text, equal-to-true-is-IsTrue, recompose-components, IsAbsolute, lacks_dot_segments, with_final_path, guarded, is_opaque, removing-dots-keeps-absolute, removing-dots-leaves-no-dot-segment, test-of-delimiters-gives-lacks, has_literal_dot_segment, basic_resolution, basic_resolution_of_texts, target}
 use Rattle.std.specs.Option.{option_eq}
 use Rattle.uri_pct.specs.Delimiters.{slash}
 use Rattle.uri_parts.proofs.Offered.{only-split-is-components}
@@ -28,18 +29,13 @@ record IsPlainTarget (t : Components) : Type 0 where
   settled : with_final_path t ≡ t
   literal : has_literal_dot_segment t.path ≡ false
 
-guard-is-literal-dot-segment : (path : List ℕ) → IsAbsolute path
-    → has_literal_dot_segment (codes "/." ++ path) ≡ true
-guard-is-literal-dot-segment path h = subst (λ p. has_literal_dot_segment (codes "/." ++ p) ≡ true)
-    (sym (absolute-path-is-slash-and-rest path h)) refl
-
 -- targets to relativize: a path that is guarded to one without a segment `.` has no guard; o: the
 -- authority
 guarded-path-without-dots-is-the-path : (o : Option (List ℕ)) (path whole : List ℕ)
     → IsAbsolute path → guarded o path ≡ whole → has_literal_dot_segment whole ≡ false
     → path ≡ whole
 guarded-path-without-dots-is-the-path o path whole h g literal =
-    search (rules, cond_both, both_ways, guard-is-literal-dot-segment)
+    grind (arith, rules, cond_both, both_ways, codes, absolute-path-is-slash-and-rest)
 
 plain-path-is-without-dots : (t : Components) → IsPlainTarget t → IsAbsolute t.path
     → Dots.remove_dot_segments t.path ≡ t.path
@@ -52,37 +48,20 @@ plain-path-is-final : (t : Components) → IsPlainTarget t → IsAbsolute t.path
 plain-path-is-final t w h =
     search (rules, plain-path-is-without-dots, removing-dots-leaves-no-dot-segment)
 
-path-after-authority-is-not-ambiguous : (o : Option (List ℕ)) (test : Bool)
-    → IfNone o (test ≡ false) → (is_none o && test) ≡ false
-path-after-authority-is-not-ambiguous None test h = h
-path-after-authority-is-not-ambiguous (Some a) test h = refl
-
 text-of-leading-reference-leads : (base t r : Components) → IsPlainTarget t
     → IsSplitOf (recompose r) r → target base r ≡ t
     → basic_resolution base (components (recompose r)) ≡ Ok (recompose t)
 text-of-leading-reference-leads base t r w split leads =
-    search (rules, only-split-is-components, cond-false, path-after-authority-is-not-ambiguous)
+    grind (arith, rules, only-split-is-components, cond-false)
 
 whole-target-leads-to-itself : (base t : Components) → IsPlainTarget t → target base t ≡ t
 whole-target-leads-to-itself base t w =
     cc (cond-true _ _ _ w.scheme, removal-of-path-without-dots t.path w.literal)
 
-authority-form-has-no-scheme : (o : Option (List ℕ)) (path : List ℕ) (q f : Option (List ℕ))
-    → is_some o ≡ true
-    → has_scheme (recompose (record {
-      scheme = None;
-      authority = o;
-      path = path;
-      query = q;
-      fragment = f;
-    })) ≡ false
-authority-form-has-no-scheme None path q f e = absurd (false≢true e)
-authority-form-has-no-scheme (Some a) path q f e = refl
-
 -- relativized references: one that begins with `//` is parsed as its components
 authority-form-is-split : (t : Components) → IsPlainTarget t → is_some t.authority ≡ true
     → IsSplitOf (recompose (record t { scheme = None })) (record t { scheme = None })
-authority-form-is-split t w some = search (rules, no_scheme, authority-form-has-no-scheme)
+authority-form-is-split t w some = grind (arith, rules, no_scheme, false≢true)
 
 authority-form-leads-to-target : (base t : Components) → IsPlainTarget t
     → is_some t.authority ≡ true → base.scheme ≡ t.scheme
@@ -98,18 +77,10 @@ pathless-form-is-split : (t : Components) (query : Option (List ℕ))
 pathless-form-is-split t query q = path-and-query-are-split t [] query
     (test-of-delimiters-gives-lacks (codes "?#") [] refl) q refl refl
 
-target-of-path-by-case : (base t : Components) (rooted : Bool) (one other : List ℕ)
-    → cond rooted
-    (let c : Components = record base { path = one; query = t.query; fragment = t.fragment } in c)
-    (let c : Components = record base { path = other; query = t.query; fragment = t.fragment } in c)
-    ≡ record base { path = cond rooted one other; query = t.query; fragment = t.fragment }
-target-of-path-by-case base t true one other = refl
-target-of-path-by-case base t false one other = refl
-
 path-form-leads-to-target : (base t : Components) (way : List ℕ) → base.scheme ≡ t.scheme
     → base.authority ≡ t.authority → LeadsByPath base t.path way
     → target base (record t { scheme = None; authority = None; path = way }) ≡ t
-path-form-leads-to-target base t way s a w = search (rules, cond-false, target-of-path-by-case)
+path-form-leads-to-target base t way s a w = grind (arith, rules, cond-false)
 
 fragment-form-leads-to-target : (base t : Components) → base.scheme ≡ t.scheme
     → base.authority ≡ t.authority → base.path ≡ t.path → base.query ≡ t.query

@@ -1,5 +1,5 @@
 -- Where removing dot segments of section 5.2.4 is removing those of `Resolver`, or changes nothing.
-use Rattle.uri_basic.proofs.Common.{◌≡◌, ℕ, false, not, List, [], ◌∷◌, ◌++◌, refl, sym, ap, ◌∙◌, ◌&&◌, append_assoc, ⊎_elim, rules, bytes_eq, codes, list_any, cases_Bool, and_cases, both_ways, not_from_false, or_from, or_parts, append-nil, bytes_eq-Decides, IsAbsolute, is_dot_segment, is_double_dot, is_single_dot, property-of-absolute-path-by-segments, closing, dotless_of, end_of, next_output, pop, step_of, next_output-passes-test, steps, NoSlashes, before_last_slash-of-slashed-is-popped, first-segment-and-rest-lack-slashes, lacks_slash, remove-dots-by-segments, segments-of-joined-segments, slashed, segments-of-slashed-segments, slashed-of-push, has_encoded_dot_segment, has_literal_dot_segment, is_literal_dot_segment, after_segment, remove_dot_segments}
+use Rattle.uri_basic.proofs.Common.{◌≡◌, ℕ, false, not, List, [], ◌∷◌, ◌++◌, refl, sym, ap, ◌∙◌, ◌&&◌, append_assoc, rules, bytes_eq, codes, list_any, not_from_false, or_parts, append-nil, IsAbsolute, is_dot_segment, is_double_dot, is_single_dot, property-of-absolute-path-by-segments, closing, dotless_of, end_of, next_output, pop, step_of, next_output-passes-test, steps, NoSlashes, before_last_slash-of-slashed-is-popped, first-segment-and-rest-lack-slashes, lacks_slash, remove-dots-by-segments, segments-of-joined-segments, slashed, segments-of-slashed-segments, slashed-of-push, has_encoded_dot_segment, has_literal_dot_segment, is_literal_dot_segment, after_segment, remove_dot_segments}
 use Rattle.uri_ops.specs.Dots as Dots
 use Rattle.uri_basic.proofs.Kept.{property-of-path-by-segments, removal-by-segments, root-is-kept}
 use Rattle.uri_basic.proofs.Segments.{after-segment-by-test, kept_of, parent-of-directory}
@@ -10,56 +10,36 @@ segment-leaves : (out : List (List ℕ)) (s : List ℕ)
 unfolding step_of next_output
 segment-leaves out s = search (rules, or_parts, next_output)
 
--- dot segments: a segment that is neither `.` nor `..`, nor one with an encoded dot, is none
-other-segment-is-dotless : (s : List ℕ)
-    → (is_dot_segment s && not (is_literal_dot_segment s)) ≡ false
-    → bytes_eq s (codes ".") ≡ false → bytes_eq s (codes "..") ≡ false → is_dot_segment s ≡ false
-other-segment-is-dotless s e single double =
-    search (rules, both_ways, not_from_false, or_from, and_cases)
-
 -- dot segments: a directory after a segment and its `/` is that of the segments that are left
 directory-by-segments : (out : List (List ℕ)) (s : List ℕ) → NoSlashes out
     → (is_dot_segment s && not (is_literal_dot_segment s)) ≡ false
     → after_segment (slashed out ++ codes "/") s (s ++ codes "/")
     ≡ slashed (step_of out s) ++ codes "/"
 directory-by-segments out s lack literal =
-    let after = after-segment-by-test (slashed out ++ codes "/") s (s ++ codes "/") in
-    let leaves = segment-leaves out s in
-    ⊎_elim
-    (λ e. cc (after.0 e, (bytes_eq-Decides s (codes ".")).0 e))
-    (λ single. ⊎_elim
-    (λ e. after.1 e ∙ parent-of-directory (slashed out)
-    ∙ ap (λ t. t ++ codes "/") (before_last_slash-of-slashed-is-popped out lack)
-    ∙ ap (λ o. slashed o ++ codes "/")
-    (sym (ap (step_of out) ((bytes_eq-Decides s (codes "..")).0 e) ∙ leaves.1)))
-    (search (rules, append_assoc, slashed-of-push, other-segment-is-dotless))
-    (cases_Bool (bytes_eq s (codes ".."))))
-    (cases_Bool (bytes_eq s (codes ".")))
-
-end-of-segment : (s : List ℕ) → (end_of (is_dot_segment (codes ".")) ≡ [] ∷ [])
-    × (end_of (is_dot_segment (codes "..")) ≡ [] ∷ [])
-    × (is_dot_segment s ≡ false → end_of (is_dot_segment s) ≡ [])
-end-of-segment s = (refl, refl, λ e. ap end_of e)
+    grind (
+      after-segment-by-test,
+      segment-leaves,
+      parent-of-directory,
+      before_last_slash-of-slashed-is-popped,
+      rules,
+      append_assoc,
+      slashed-of-push,
+    )
 
 path-by-segments : (out : List (List ℕ)) (s : List ℕ) → NoSlashes out
     → (is_dot_segment s && not (is_literal_dot_segment s)) ≡ false
     → after_segment (slashed out ++ codes "/") s s
     ≡ slashed (step_of out s ++ end_of (is_dot_segment s))
 path-by-segments out s lack literal =
-    let after = after-segment-by-test (slashed out ++ codes "/") s s in
-    let leaves = segment-leaves out s in
-    let ends = end-of-segment s in
-    ⊎_elim (search (rules, bytes_eq-Decides, slashed-of-push, step_of, end_of))
-    (λ single. ⊎_elim
-    (λ e.
-    let same = (bytes_eq-Decides s (codes "..")).0 e in
-    after.1 e ∙ parent-of-directory (slashed out)
-    ∙ ap (λ t. t ++ codes "/") (before_last_slash-of-slashed-is-popped out lack)
-    ∙ sym (slashed-of-push (pop out) [])
-    ∙ sym (cc))
-    (search (rules, other-segment-is-dotless, append_assoc, slashed-of-push, append-nil))
-    (cases_Bool (bytes_eq s (codes ".."))))
-    (cases_Bool (bytes_eq s (codes ".")))
+    grind (
+      after-segment-by-test,
+      segment-leaves,
+      rules,
+      slashed-of-push,
+      parent-of-directory,
+      before_last_slash-of-slashed-is-popped,
+      append_assoc,
+    )
 
 -- dot segments: what is kept is what `Resolver` leaves of segments without an encoded dot segment
 kept-is-what-is-left : (out : List (List ℕ)) (s : List ℕ) (rest : List (List ℕ)) → NoSlashes out

@@ -1,5 +1,6 @@
 -- Where nothing deviates, the basic algorithm and `Resolver` have the same target.
-use Rattle.uri_basic.proofs.Common.{◌≡◌, ℕ, true, false, not, List, [], refl, sym, ap, subst, rules, ◌∙◌, ◌&&◌, ⊎_elim, None, Ok, Option, Some, is_none, is_some, and_from, and_right, cases_Bool, cond-true, cond-false, and_left, false≢true, not_from_false, Components, components, has_authority, recompose, starts, equal-to-true-is-IsTrue, directory, is_double_dot, is_empty, last_segment, dotless_if_absolute, dotted_target, guarded, is_opaque, merged, resolution_of, target_of, remove-dots-of-dotless, merging-base-is-not-opaque, not_some_is_none, some_is_not_none, NothingDeviates, has_encoded_dot_segment, has_literal_dot_segment, is_merged, takes_base_path, remove_dot_segments, basic_resolution, basic_resolution_of_texts, is_ambiguous, merge, target}
+use native.Mathlib.Omega.{arith}
+use Rattle.uri_basic.proofs.Common.{◌≡◌, ℕ, true, false, not, List, [], refl, sym, ap, subst, rules, ◌∙◌, ◌&&◌, ⊎_elim, None, Ok, Option, Some, is_none, is_some, and_from, and_right, cases_Bool, cond-true, cond-false, and_left, false≢true, not_from_false, Components, components, recompose, starts, equal-to-true-is-IsTrue, directory, is_double_dot, is_empty, last_segment, dotless_if_absolute, dotted_target, guarded, is_opaque, merged, resolution_of, target_of, remove-dots-of-dotless, merging-base-is-not-opaque, not_some_is_none, some_is_not_none, NothingDeviates, has_encoded_dot_segment, has_literal_dot_segment, is_merged, takes_base_path, remove_dot_segments, basic_resolution, basic_resolution_of_texts, is_ambiguous, merge, target}
 use Rattle.uri_ops.proofs.Offered.{empty-text-is-nil, resolution-is-unique}
 use Rattle.uri_relative.specs.Leading.{LeadsTo, settled, without_fragment}
 use Rattle.uri_basic.proofs.SameRemovals.{removal-of-path-without-dots, same-removal}
@@ -8,20 +9,13 @@ same-path-without-dots : (path : List ℕ)
     → (starts 47 path ≡ true → has_encoded_dot_segment path ≡ false)
     → (starts 47 path ≡ false → has_literal_dot_segment path ≡ false)
     → dotless_if_absolute path ≡ remove_dot_segments path
-same-path-without-dots path literal rootless = ⊎_elim
-    (λ h. cond-true _ _ _ h ∙ same-removal path (equal-to-true-is-IsTrue _ h) (literal h))
-    (λ h. cond-false _ _ _ h ∙ sym (removal-of-path-without-dots path (rootless h)))
-    (cases_Bool (starts 47 path))
-
--- targets: a path that is not parsed as an authority gets no guard
-unguarded-path : (o : Option (List ℕ)) (path same : List ℕ) → path ≡ same
-    → (is_none o && has_authority same) ≡ false → guarded o path ≡ same
-unguarded-path o path same e clear = ap (guarded o) e ∙ cond-false _ _ _ clear
+same-path-without-dots path literal rootless =
+    grind (arith, same-removal, removal-of-path-without-dots)
 
 same-target : (base r d t : Components) → dotted_target base r ≡ d → target base r ≡ t
     → (path : List ℕ) → dotless_if_absolute d.path ≡ path → record d { path = path } ≡ t
     → is_ambiguous (target base r) ≡ false → target_of base r ≡ target base r
-same-target base r d t is_d is_t path same whole clear = search (rules, unguarded-path)
+same-target base r d t is_d is_t path same whole clear = grind (arith, rules, guarded, cond-false)
 
 pub base-with-empty-path-has-authority : (o : Option (List ℕ)) (path : List ℕ)
     → (is_none o && not (starts 47 path)) ≡ false → path ≡ [] → is_some o ≡ true

@@ -1,5 +1,5 @@
 -- One segment of a path in the loop of section 5.2.4.
-use Rattle.uri_basic.proofs.Common.{◌≡◌, ℕ, suc, Bool, true, false, not, List, [], ◌∷◌, ◌++◌, take, drop, refl, sym, ap, ◌∙◌, ◌&&◌, arith, rules, codes, bytes_eq, ◌==◌, prefix_len, cond-true, cond-false, and_left, and_right, false≢true, or_parts, or_from, is_one_of, before_any, from_any, has_slash, has_prefix, output_of, step}
+use Rattle.uri_basic.proofs.Common.{◌≡◌, ℕ, suc, false, not, List, [], ◌∷◌, ◌++◌, take, drop, refl, ap, ◌∙◌, arith, rules, codes, bytes_eq, ◌==◌, prefix_len, cond-true, cond-false, and_left, and_right, false≢true, or_parts, or_from, is_one_of, before_any, from_any, has_slash, has_prefix, output_of, step}
 use Rattle.uri_basic.proofs.Buffers.{other-byte-ends-no-segment, output-after-step}
 
 -- dot segments: the text begins with no dot segment, whether a `/` or its end is after that
@@ -9,17 +9,6 @@ pub record BeginsWithNoDots (text : List ℕ) : Type 0 where
   pub single : bytes_eq text (codes ".") ≡ false
   pub double : bytes_eq text (codes "..") ≡ false
 
--- general fact on tests, for dot segments: the last of two makes no difference if the first fails
-first-test-fails : (b x : Bool) → (b && true) ≡ false → (b && x) ≡ false
-first-test-fails true x e = absurd (false≢true (sym e))
-first-test-fails false x e = refl
-
--- general fact on tests, for dot segments: the last of three makes none if the first two fail
-first-two-tests-fail : (b d x : Bool) → (b && (d && true)) ≡ false → (b && (d && x)) ≡ false
-first-two-tests-fail true true x e = absurd (false≢true (sym e))
-first-two-tests-fail true false x e = refl
-first-two-tests-fail false d x e = refl
-
 -- dot segments: a segment that is none, with a `/` (47) after it, begins with none
 pub other-segment-begins-with-no-dots : (s q : List ℕ) → has_slash s ≡ false
     → bytes_eq s (codes ".") ≡ false → bytes_eq s (codes "..") ≡ false
@@ -27,9 +16,9 @@ pub other-segment-begins-with-no-dots : (s q : List ℕ) → has_slash s ≡ fal
 other-segment-begins-with-no-dots [] q lacks single double =
     record { double_slash = refl; single_slash = refl; single = refl; double = refl }
 other-segment-begins-with-no-dots (c ∷ []) q lacks single double =
-    search (rules, and_right, first-test-fails)
+    grind (arith, rules, and_right, false≢true)
 other-segment-begins-with-no-dots (c ∷ d ∷ []) q lacks single double =
-    search (rules, first-two-tests-fail, and_right, and_left, or_parts)
+    grind (arith, rules, false≢true, and_right, and_left, or_parts)
 other-segment-begins-with-no-dots (c ∷ d ∷ e ∷ s) q lacks single double =
     search (rules, and_right, and_left, or_parts)
 
@@ -82,15 +71,6 @@ step-moves-rooted-segment : (text output : List ℕ) → BeginsWithNoDots text �
 step-moves-rooted-segment text output f = cond-false _ _ _ f.single_slash
     ∙ cond-false _ _ _ f.single ∙ cond-false _ _ _ f.double_slash ∙ cond-false _ _ _ f.double
 
-step-moves-rootless-segment : (c : ℕ) (text output : List ℕ) → (c == 47) ≡ false
-    → BeginsWithNoDots (c ∷ text)
-    → step (record { input = c ∷ text; output = output })
-    ≡ record {
-      input = from_any (codes "/") (c ∷ text);
-      output = output ++ before_any (codes "/") (c ∷ text);
-    }
-step-moves-rootless-segment c text output e f = search (rules, cond-false, and_left, or_from)
-
 pub output-after-rooted-segment : (text output segment rest : List ℕ) → BeginsWithNoDots text
     → before_any (codes "/") text ≡ segment → from_any (codes "/") text ≡ rest
     → output_of (record { input = 47 ∷ text; output = output })
@@ -104,4 +84,4 @@ pub output-after-rootless-segment : (c : ℕ) (text output segment rest : List �
     → output_of (record { input = c ∷ text; output = output })
     ≡ output_of (record { input = rest; output = output ++ segment })
 output-after-rootless-segment c text output segment rest h f e g =
-    search (rules, output-after-step, step-moves-rootless-segment)
+    grind (arith, rules, output-after-step, cond-false, and_left, or_from)

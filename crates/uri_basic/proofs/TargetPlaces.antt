@@ -1,5 +1,5 @@
 -- Where the components of a target are.
-use Rattle.uri_basic.proofs.Common.{◌≡◌, ℕ, ◌+◌, ◌-◌, ◌≤◌, true, false, List, [], ◌++◌, length, rules, sym, ap, arith, option_map, unwrap_or, Err, IfOk, None, Ok, Option, Result, Some, codes, is_some, IsUtf8, both_ways, cond_both, false≢true, length-append, Components, components, marked, recompose, starts, IsOfKind, Kind, ArePackedPositionsOf, packed, authority_at, delimited_length, host_end_of, positions_of, recompose-components, is_empty, text-of-kind-has-needed-scheme, basic_resolution_of_texts, is_ambiguous, target}
+use Rattle.uri_basic.proofs.Common.{◌≡◌, ℕ, ◌+◌, ◌-◌, ◌≤◌, true, false, List, [], ◌++◌, length, rules, ap, arith, option_map, unwrap_or, Err, IfOk, None, Ok, Option, Result, Some, codes, is_some, IsUtf8, both_ways, cond_both, length-append, Components, components, marked, recompose, starts, IsOfKind, Kind, ArePackedPositionsOf, packed, authority_at, delimited_length, host_end_of, positions_of, recompose-components, is_empty, text-of-kind-has-needed-scheme, basic_resolution_of_texts, is_ambiguous, target}
 use Rattle.uri_parts.specs.declared.packed_positions.PackedPositions.{PackedPositions}
 use Rattle.uri_parts.specs.declared.positions.AuthorityPositions.{AuthorityPositions}
 use Rattle.uri_ops.specs.Models.Places.{before_path}
@@ -30,16 +30,6 @@ record HasPrefix (scheme authority : Option (List ℕ)) (t : Components) : Type 
   scheme_is : t.scheme ≡ scheme
   authority_is : t.authority ≡ authority
 
--- targets: a reference with an authority alone is after the base's scheme
-prefix-of-authority : (b r : Components) → is_some r.scheme ≡ false → is_some r.authority ≡ true
-    → HasPrefix b.scheme r.authority (target b r)
-prefix-of-authority b r s a = search (rules, cond_both, both_ways)
-
--- targets: a reference with neither takes the base's
-prefix-of-base : (b r : Components) → is_some r.scheme ≡ false → is_some r.authority ≡ false
-    → HasPrefix b.scheme b.authority (target b r)
-prefix-of-base b r s a = search (rules, cond_both, both_ways)
-
 -- targets: where the host of an authority begins and ends, after a scheme, or 0 if there is none
 abbrev host_start_after : Option (List ℕ) → Option (List ℕ) → ℕ
 host_start_after scheme authority = unwrap_or (option_map (λ (a : AuthorityPositions). a.host_start)
@@ -59,16 +49,7 @@ places-by-prefix scheme authority t places p s start end = search (rules, unwrap
 pub places-of-base : (b r : Components) (places : PackedPositions)
     → places ≡ packed (positions_of b) → is_some r.scheme ≡ false → is_some r.authority ≡ false
     → ArePlacesToHost (target b r) places
-places-of-base b r places at s a = search (rules, places-by-prefix, prefix-of-base)
-
--- targets: an authority without a scheme, after a scheme, is further on by this
-moved-host : (scheme none authority : Option (List ℕ)) → is_some none ≡ false
-    → is_some authority ≡ true → (host_start_after scheme authority
-    ≡ delimited_length 1 scheme + host_start_after none authority)
-    × (host_end_after scheme authority ≡ delimited_length 1 scheme + host_end_after none authority)
-moved-host scheme (Some s) authority e f = absurd (false≢true (sym e))
-moved-host scheme None None e f = absurd (false≢true f)
-moved-host scheme None (Some a) e f = (omega arith, omega arith)
+places-of-base b r places at s a = grind (arith, rules, places-by-prefix, cond_both, both_ways)
 
 -- targets: the base's scheme and the moved host are the target's positions up to the host
 pub places-of-authority : (b r : Components) (own from made : PackedPositions) (scheme : List ℕ)
@@ -78,7 +59,7 @@ pub places-of-authority : (b r : Components) (own from made : PackedPositions) (
     → made.host_start ≡ length scheme + own.host_start
     → made.host_end ≡ length scheme + own.host_end → ArePlacesToHost (target b r) made
 places-of-authority b r own from made scheme at base is s a ends starts stops =
-    search (rules, length-with-delimiter-after, moved-host, places-by-prefix, prefix-of-authority)
+    grind (arith, length-with-delimiter-after)
 
 host-within-parts : (scheme authority : Option (List ℕ)) (rest : List ℕ)
     → ((a : List ℕ) → authority ≡ Some a → host_end_of a ≤ length a)
@@ -99,19 +80,6 @@ host-is-within-text text own host at =
     let in_parts = host-within-parts p.scheme p.authority (p.path ++ after_path p) host in
     search (rules, recompose-components)
 
-query-ends-before-fragment : (query fragment : Option (List ℕ)) (n : ℕ)
-    → length (marked (codes "?") query [] ++ marked (codes "#") fragment [])
-    ≡ n + length (marked (codes "#") fragment [])
-    → (end : ℕ) → unwrap_or (option_map (λ q. end + 1 + length q) query) end ≡ end + n
-query-ends-before-fragment None fragment n e end = omega (arith, e)
-query-ends-before-fragment (Some q) fragment n e end = omega (
-  arith,
-  e,
-  length-append (codes "?" ++ q ++ []) (marked (codes "#") fragment []),
-  length-append (codes "?" ++ q) [],
-  length-append (codes "?") q,
-)
-
 -- targets: the positions of a target, by its texts up to the path, with the path, and whole
 pub written-target-is-at : (t : Components) (places made : PackedPositions) (o1 o2 o3 last : List ℕ)
     → ArePlacesToHost t places → o1 ≡ before_path t → o2 ≡ o1 ++ t.path
@@ -120,7 +88,7 @@ pub written-target-is-at : (t : Components) (places made : PackedPositions) (o1 
     → made.host_end ≡ places.host_end → made.path_start ≡ length o1 → made.path_end ≡ length o2
     → made.query_end ≡ length o3 - length last → made ≡ packed (positions_of t)
 written-target-is-at t places made o1 o2 o3 last to e1 e2 e3 el s hs he ps pe qe =
-    search (rules, length-before_path-is-path_start, length-append, query-ends-before-fragment)
+    grind (arith, rules, length-before_path-is-path_start, length-append, codes, marked)
 
 -- targets: the fragment is the reference's
 pub fragment-of-target : (b r : Components) → (target b r).fragment ≡ r.fragment

@@ -1,5 +1,6 @@
 -- The text of a target has the components that were put into it, and is of its base's kind.
-use Rattle.uri_basic.proofs.Common.{◌≡◌, ℕ, ◌<◌, List, [], ◌∷◌, ◌++◌, refl, sym, ap, ◌∙◌, ◌&&◌, ◌↔◌, inr, Bool, true, false, cond, length, subst, ⊎_elim, rules, append_assoc, codes, Option, Some, None, Ok, Err, IfSome, IfNone, is_some, is_none, IsUtf8, list_all, cond_both, cond-false, cond-true, cases_Bool, false≢true, and_from, and_parts, or_left, or_right, is_one_of, Components, IsSplitOf, Lacks, IsAbemptyPath, components, has_authority, recompose, starts, IsOfKind, IsTextOf, Kind, components-are-split-of-text, equal-to-true-is-IsTrue, IsAbsolute, before_last_slash, has_slash, is_empty, last_segment, up_to_last_slash, lacked-delimiters-fail-test, test-of-delimiters-gives-lacks, before_last_slash-passes-test, text-of-kind-has-needed-scheme, appended-absolute-path-is-absolute, option-that-is-some-has-no-none, authority-property-implies-other-if-some, eq_true_from_IsTrue, output_of, remove_dot_segments, run, basic_resolution_of_texts, is_ambiguous, merge, target, PathStartsWithDoubleSlash}
+use native.Mathlib.Omega.{arith}
+use Rattle.uri_basic.proofs.Common.{◌≡◌, ℕ, ◌<◌, List, [], ◌++◌, refl, sym, ap, ◌∙◌, ◌&&◌, ◌↔◌, inr, Bool, true, false, cond, length, subst, ⊎_elim, rules, append_assoc, codes, Option, Some, None, Ok, Err, IfSome, IfNone, is_some, is_none, IsUtf8, list_all, cond_both, cond-false, cond-true, cases_Bool, false≢true, and_from, or_left, is_one_of, Components, IsSplitOf, Lacks, IsAbemptyPath, components, has_authority, recompose, starts, IsOfKind, IsTextOf, Kind, components-are-split-of-text, equal-to-true-is-IsTrue, IsAbsolute, before_last_slash, has_slash, is_empty, last_segment, up_to_last_slash, lacked-delimiters-fail-test, test-of-delimiters-gives-lacks, before_last_slash-passes-test, text-of-kind-has-needed-scheme, option-that-is-some-has-no-none, authority-property-implies-other-if-some, output_of, remove_dot_segments, run, basic_resolution_of_texts, is_ambiguous, merge, target, PathStartsWithDoubleSlash}
 use Rattle.std.proofs.lemmas.List.Elements.{All-append}
 use Rattle.uri_parts.proofs.Offered.{only-split-is-components}
 use Rattle.uri_ops.specs.ComponentSets.{HasComponentSets}
@@ -25,18 +26,10 @@ removal-keeps-rooted : (path : List ℕ) → IsAbemptyPath path
     → IsAbemptyPath (remove_dot_segments path)
 removal-keeps-rooted path h = search (rules, removal-of-nothing, removal-keeps-absolute)
 
--- paths: the text up to the last `/` of a path begins with `/`, if the path is not empty and does
-up-to-last-slash-is-absolute : (path : List ℕ) → IsAbsolute path
-    → IsAbsolute (up_to_last_slash path)
-up-to-last-slash-is-absolute [] h = h
-up-to-last-slash-is-absolute (c ∷ rest) h =
-    search (rules, cond-true, or_right, eq_true_from_IsTrue, or_left, cond-false, cases_Bool)
-
 -- targets: the merged path after an authority begins with `/`
 merged-path-is-absolute : (base : Components) (path : List ℕ) → is_some base.authority ≡ true
     → IsAbemptyPath base.path → IsAbsolute (merge base path)
-merged-path-is-absolute base path some h = ⊎_elim (search (rules, cond-true, and_from))
-    (search (rules, cond_both, appended-absolute-path-is-absolute, up-to-last-slash-is-absolute)) h
+merged-path-is-absolute base path some h = grind arith
 
 -- paths: the bytes up to the last `/` pass a test that `/` (47) and all pass
 bytes-up-to-last-slash-pass : (p : ℕ → Bool) → p 47 ≡ true → (path : List ℕ)
@@ -248,12 +241,6 @@ basic-result-is-of-kind kind of_reference sets needs tables b r held_base held_r
     let f = result-by-test (is_ambiguous t) (recompose t) text e in
     subst (IsTextOf kind) f.1 (basic-target-is-of-kind kind sets b r needs v w f.0)
 
--- general fact on options, for targets: what holds where a component is absent
-absent-authority-has-no-slashes : (o : Option (List ℕ)) (test : Bool) → is_none o ≡ true
-    → IfNone o (test ≡ false) → test ≡ false
-absent-authority-has-no-slashes None test e h = h
-absent-authority-has-no-slashes (Some a) test e h = absurd (false≢true e)
-
 rejected-by-test : (test : Bool) (text : List ℕ)
     → cond test (Err PathStartsWithDoubleSlash) (Ok text) ≡ Err PathStartsWithDoubleSlash
     → test ≡ true
@@ -264,7 +251,7 @@ rejected-by-test false text e = absurd (cc)
 ambiguous-target-has-other-components : (t : Components) → is_ambiguous t ≡ true
     → components (recompose t) ≡ t → ⊥
 ambiguous-target-has-other-components t e same =
-    search (rules, and_parts, components-are-split-of-text, absent-authority-has-no-slashes)
+    grind (arith, rules, components-are-split-of-text, false≢true)
 
 -- targets: the basic algorithm rejects a reference exactly if its target has no text
 pub rejection_is_of_other_components : (base reference : List ℕ)
