@@ -71,36 +71,6 @@ fn push_authority<U: Encoder, R: Encoder>(
     push_with_host(authority, host, to)
 }
 
-/// Returns the scheme of a text, if it has one.
-fn scheme_of<'a, K: Kind>(core: Core<K, &'a str>) -> Option<&'a str>
-    ensures { option_copied result ≡ (components (core_text core.entry)).scheme }
-{
-    match core.scheme() {
-        Some(scheme) => Some(scheme.as_str()),
-        None => None,
-    }
-}
-
-/// Returns the query of a text, if it has one.
-fn query_of<'a, K: Kind>(core: Core<K, &'a str>) -> Option<&'a str>
-    ensures { option_copied result ≡ (components (core_text core.entry)).query }
-{
-    match core.query() {
-        Some(query) => Some(query.as_str()),
-        None => None,
-    }
-}
-
-/// Returns the fragment of a text, if it has one.
-fn fragment_of<'a, K: Kind>(core: Core<K, &'a str>) -> Option<&'a str>
-    ensures { option_copied result ≡ (components (core_text core.entry)).fragment }
-{
-    match core.fragment() {
-        Some(fragment) => Some(fragment.as_str()),
-        None => None,
-    }
-}
-
 /// Returns a text with this authority, whose host is replaced, in place of its own.
 fn text_with_host<K: Kind, U: Encoder, R: Encoder>(
     alloc: Global,
@@ -112,12 +82,13 @@ fn text_with_host<K: Kind, U: Encoder, R: Encoder>(
         ≡ recompose (with_authority (components (core_text core.entry))
         (with_host (authority_text authority.entry) host.now))) }
 {
-    let mut text = String::with_capacity(alloc, core.as_str().len() + host.len())?;
-    push_marked("", scheme_of(core), ":", &mut text)?;
+    let (own, at) = (core.as_str(), core.positions());
+    let mut text = String::with_capacity(alloc, own.len() + host.len())?;
+    push_marked("", at.scheme(own), ":", &mut text)?;
     push_authority(authority, host, &mut text)?;
-    text.push_str(core.path().as_str())?;
-    push_marked("?", query_of(core), "", &mut text)?;
-    push_marked("#", fragment_of(core), "", &mut text)?;
+    text.push_str(at.path(own))?;
+    push_marked("?", at.query(own), "", &mut text)?;
+    push_marked("#", at.fragment(own), "", &mut text)?;
     Ok(text)
 }
 
