@@ -15,14 +15,6 @@ pub fn pair_count(query: EStr<'_, Query>) -> usize
     query.split('&').count()
 }
 
-/// A caller counts the segments of an absolute path.
-pub fn segment_count(path: EStr<'_, Path>) -> usize {
-    match path.segments_if_absolute() {
-        Some(segments) => segments.count(),
-        None => 0,
-    }
-}
-
 /// A caller counts the chunks that a path decodes to.
 pub fn decoded_chunk_count(path: EStr<'_, Path>) -> usize
     ensures { result ≡ length (chunks (text_of path.entry)) }

@@ -25,11 +25,6 @@ pub fn text<'a>(alloc: Global, text: Decode<'a>) -> Result<CowStr<'a>, DecodeErr
     text.to_string(alloc)
 }
 
-/// A caller gets a text to show, whatever bytes are decoded.
-pub fn shown<'a>(alloc: Global, text: Decode<'a>) -> Result<CowStr<'a>, AllocError> {
-    text.to_string_lossy(alloc)
-}
-
 /// A caller learns whether a text begins with an octet, by its first chunk.
 pub fn begins_with_an_octet(mut text: Decode<'_>) -> bool {
     match text.next() {

@@ -12,9 +12,7 @@ use fluent_uri::pct_enc::EStr;
 use fluent_uri::pct_enc::encoder::{IFragment, IPath, IRegName, Path, Query, RegName};
 use fluent_uri::resolve::ResolveError;
 use fluent_uri::{ConvertError, Iri, IriRef, ParseError, Reference, Uri, UriRef};
-use std::alloc::{AllocError, Global};
-use std::convert::{TryFrom, TryInto};
-use std::hash::{Hash, Hasher};
+use std::alloc::Global;
 
 /// A caller gets the text of a reference, by `String::from`.
 pub fn string_of<K: Kind>(value: Reference<K, String>) -> String
@@ -95,11 +93,6 @@ pub fn path_and_fragment<'a>(
     (value.path(), value.fragment())
 }
 
-/// A caller converts an IRI to a URI, by `to_uri`.
-pub fn encoded(alloc: Global, value: &Iri<String>) -> Result<Uri<String>, AllocError> {
-    value.to_uri(alloc)
-}
-
 /// A caller gets the target of an IRI reference against an IRI, the kind of its base, by
 /// `resolve_against`.
 pub fn target_of(
@@ -144,21 +137,6 @@ pub fn narrowest(value: IriRef<String>) -> Result<Uri<String>, (ConvertError, Ir
     ensures { IsOk result ↔ IsOfKind uri (iri_ref_text value) }
 {
     value.try_into()
-}
-
-/// A caller gets an IRI over a `&str` twice: it is copied.
-pub fn twice(value: Iri<&str>) -> (Iri<&str>, Iri<&str>) {
-    (value, value)
-}
-
-/// A caller asks whether an IRI is equal to another or less, by `==` and `<`.
-pub fn is_equal_or_less(value: &Iri<String>, other: &Iri<String>) -> bool {
-    value == other || value < other
-}
-
-/// A caller hashes a URI that owns its text.
-pub fn feed_hash<H: Hasher>(value: &Uri<String>, state: &mut H) {
-    value.hash(state)
 }
 
 /// A caller builds an IRI, beginning with its scheme.

@@ -17,11 +17,6 @@ pub fn is_rooted<E: PathEncoder>(path: EStr<'_, E>) -> bool {
     path.is_absolute() && !path.is_rootless()
 }
 
-/// A caller learns whether a text fits into its memory with one byte more.
-pub fn has_room<E: Encoder>(text: &EString<E>) -> bool {
-    text.len() < text.capacity()
-}
-
 /// A caller empties a text, and uses its memory again.
 pub fn emptied<E: Encoder>(text: &mut EString<E>) -> bool
     ensures result { result ≡ (length (owned_text text.new) == 0) }

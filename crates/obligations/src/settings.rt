@@ -2,7 +2,7 @@
 #![tactic(auto)]
 
 use fluent_uri::normalize::{
-    DefaultPorts, NormalizeError, Normalizer, RuleSet, SchemeRules, StandardRules, WithPorts,
+    DefaultPorts, NormalizeError, Normalizer, SchemeRules, StandardRules, WithPorts,
 };
 use fluent_uri::resolve::{ResolveError, Resolver};
 use fluent_uri::{Uri, UriRef};
@@ -46,41 +46,6 @@ pub fn normal_form_by_standards(
 /// A caller names the type of a `Normalizer` with default ports of its own.
 pub fn with_own_ports<P: SchemeRules>(ports: P) -> Normalizer<WithPorts<P, DefaultPorts>> {
     Normalizer::new().default_port_with(ports)
-}
-
-/// A caller makes a `Normalizer` by the set of rules that a flag chooses.
-pub fn normalizer_by_flag(standard: bool) -> Normalizer<RuleSet> {
-    let rules = if standard {
-        RuleSet::StandardRules
-    } else {
-        RuleSet::DefaultPorts
-    };
-    Normalizer::<DefaultPorts>::default().scheme_rules_with(rules)
-}
-
-/// A caller gets the targets of two references by one `Resolver`.
-pub fn both_targets(
-    alloc: Global,
-    base: Uri<&str>,
-    first: &UriRef<&str>,
-    second: &UriRef<&str>,
-) -> Result<(Uri<String>, Uri<String>), ResolveError> {
-    let resolver = Resolver::with_base(base);
-    Ok((
-        resolver.resolve(alloc, first)?,
-        resolver.resolve(alloc, second)?,
-    ))
-}
-
-/// A caller gets the target of a reference by a `Resolver` that rejects dot segments that
-/// underflow.
-pub fn target_without_underflow(
-    alloc: Global,
-    base: Uri<&str>,
-    reference: &UriRef<&str>,
-) -> Result<Uri<String>, ResolveError> {
-    let resolver = Resolver::with_base(base).allow_path_underflow(false);
-    resolver.resolve(alloc, reference)
 }
 
 /// A caller gets the normal form of the target of a reference by a `Resolver` and a `Normalizer`.
