@@ -13,6 +13,7 @@ use fluent_uri::pct_enc::encoder::{IFragment, IPath, IRegName, Path, Query, RegN
 use fluent_uri::resolve::ResolveError;
 use fluent_uri::{ConvertError, Iri, IriRef, ParseError, Reference, Uri, UriRef};
 use std::alloc::Global;
+use std::convert::{TryFrom, TryInto};
 
 /// A caller gets the text of a reference, by `String::from`.
 pub fn string_of<K: Kind>(value: Reference<K, String>) -> String
