@@ -1,8 +1,7 @@
 -- What is returned of a host in ASCII is the result that is defined.
 use Rattle.fluent_uri_c.proofs.Common.{◌≡◌, ℕ, true, List, [], arith, inl, inr, refl, sym, ap, ◌∙◌, subst, IsSomeAnd, Option, Some, None, Ok, Err, is_none, not, ok_or, option_map, is_utf8, cond-false, cond-true, false_from_ne_true, IsUtf8-from_is_utf8, is_utf8-from_IsUtf8, Components, components, recompose, Kind, Rejection, text_error}
 use Rattle.uri_ops.proofs.Offered.{ascii-bytes-are-utf8}
-use Rattle.uri_parts.specs.Authority.{authority_parts}
-use Rattle.uri_parts.specs.Connecting.{name_bytes}
+use Rattle.fluent_uri.specs.Prelude.{authority_parts, name_bytes}
 use Rattle.uri_idna.specs.declared.error.AsciiHostError.{AsciiHostError}
 use Rattle.uri_idna.specs.declared.error.AsciiHostError.TheVariants.{InvalidName, NameNotUtf8, OutOfMemory}
 use Rattle.uri_idna.specs.AsciiHosts.{IsAsciiHostError, ascii_host, ascii_host_of, is_unencoded_ascii}

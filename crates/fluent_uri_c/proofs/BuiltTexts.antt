@@ -1,15 +1,12 @@
 -- The text that is built of components has them again.
 use Rattle.fluent_uri_c.proofs.Common.{arith, ◌≡◌, ℕ, Bool, true, false, ◌&&◌, ◌||◌, not, List, [], ◌++◌, refl, sym, Option, Some, None, IfSome, codes, is_none, is_some, option_map, slice_index, unwrap_or, IsUtf8, and_from, and_parts, none-some, IsUtf8-append, IsUtf8-from_is_utf8, is_utf8-from_IsUtf8, Kind, absent_or_passes, BuilderParts, is_authority_text, is_scheme_text, is_text_for, meet_rules, Rejection, HasGivenComponents, HasValidAuthority, HasValidTail, error_of_building, given, given_authority, given_components, is_host_text, missing, path_rejection, together_rejection, in_component, rejected, first_rejection}
 use Rattle.std.specs.Char.{is_ascii_alphabetic}
-use Rattle.fluent_uri.specs.Authority.{AuthorityParts, IsAuthorityFor, authority_parts, recompose_authority}
-use Rattle.fluent_uri.specs.Components.{marked, starts}
+use Rattle.fluent_uri.specs.Prelude.{AuthorityParts, HasComponentSets, IsAuthorityFor, TableSet, authority_parts, digit_set, marked, recompose_authority, scheme_set, starts}
 use Rattle.fluent_uri.specs.Hosts.{host_kind, is_host}
-use Rattle.fluent_uri.specs.Sets.{TableSet, digit_set, scheme_set}
 use Rattle.fluent_uri.specs.Tokens.{is_valid_for}
 use Rattle.uri_parts.proofs.Offered.{authority_parts-are-unique, is_authority_for-complete, is_host-sound}
 use Rattle.uri_ops.specs.declared.build.error.BuildError.{BuildError}
 use Rattle.uri_ops.specs.Built.{build_error_of_path}
-use Rattle.uri_ops.specs.ComponentSets.{HasComponentSets}
 use Rattle.uri_ops.proofs.Offered.{authority-text-from-rule, accepted-parts-have-their-text, ascii-bytes-are-utf8, kind-sets-lack-authority-delimiters}
 use Rattle.fluent_uri_c.specs.declared.building.ComponentSpans.{ComponentSpans}
 

@@ -1,10 +1,7 @@
 -- Where a component ends whose characters are those of a set, and its error there.
 use Rattle.fluent_uri_c.proofs.Common.{common_steps, ◌≡◌, ℕ, ◌<◌, ◌≤◌, true, false, ◌&&◌, List, length, sym, ap, ◌∙◌, arith, zero-add, Some, None, IsTrue, IsUtf8, and_from, eq-eqb, is_utf8-from_IsUtf8, LacksPercent, TableSet, starts, is_text_for, parse_rejection, IsPossibleUtf8, component_error, is_possible_length}
-use Rattle.uri_pct.specs.Delimiters.{percent_sign}
-use Rattle.uri_pct.specs.Prefixes.{valid_prefix}
+use Rattle.fluent_uri.specs.Prelude.{is_next, percent_sign, scan_end, unexpected, valid_prefix}
 use Rattle.uri_pct.proofs.Offered.{is_valid_for_is_scanned_to_end, valid_prefix_is_at_most_length}
-use Rattle.uri_parts.specs.Errors.{unexpected}
-use Rattle.uri_parts.specs.Scanning.{is_next, scan_end}
 use Rattle.uri_parts.proofs.Offered.{text_ends_where_position_is_length}
 use Rattle.fluent_uri_c.proofs.ValidBytes.{utf8_error-of-utf8}
 

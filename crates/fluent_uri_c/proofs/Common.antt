@@ -11,9 +11,8 @@ pub use Rattle.std.specs.List.{position_or_len, fold, position}
 pub use Rattle.std.specs.Prelude.{IsSomeAnd, Option, Some, None, Ok, Err, is_none, ok_or, option_map, IsSome, slice_get, is_some, IfSome, codes, slice_index, unwrap_or, IsTrue, encode_utf8, slice_range, bytes_eq, nat_lt, Result, if◌then◌else◌, IsOk, option_and_then}
 pub use Rattle.std.specs.Result.{is_ok, result_ok, result_map_both}
 pub use Rattle.std.specs.Str.{is_utf8, IsUtf8, IsCharBoundary}
-pub use Rattle.fluent_uri.specs.Grammar.{absent_or_passes, iri, uri, is_scheme}
+pub use Rattle.fluent_uri.specs.Prelude.{Components, IsNormalFormOfTarget, IsOfKind, Kind, LacksPercent, Octet, TableSet, absent_or_passes, before_any, components, from_any, hexdig_set, iri, iri_ref, is_one_of, is_scheme, kind_by_flags, print, recompose, reference_text, rules_of_set, set_of, starts, uri}
 unfoldable pub use Rattle.fluent_uri.specs.Hosts.{host_kind}
-pub use Rattle.fluent_uri.specs.References.{reference_text}
 pub use Rattle.fluent_uri.specs.Tokens.{is_valid_for}
 pub use Rattle.fluent_uri_c.specs.Building.{HasGivenComponents, HasValidAuthority, HasValidTail, error_of_building, given, given_authority, given_components, missing, path_rejection, together_rejection}
 unfoldable pub use Rattle.fluent_uri_c.specs.Building.{is_host_text}
@@ -35,15 +34,8 @@ pub use Rattle.fluent_uri_c.specs.declared.parts.Parts.{Parts}
 pub use Rattle.uri_mend.specs.MendedParts.{mended}
 pub use Rattle.uri_ops.specs.BuilderParts.{BuilderParts, is_authority_text, meet_rules}
 unfoldable pub use Rattle.uri_ops.specs.BuilderParts.{is_scheme_text, is_text_for}
-pub use Rattle.uri_ops.specs.NormalTargets.{IsNormalFormOfTarget}
-pub use Rattle.uri_ops.specs.RuleSets.{rules_of_set}
 pub use Rattle.uri_ops.specs.declared.scheme_rules.RuleSet.{RuleSet}
 pub use Rattle.uri_parts.proofs.Offered.{authority_is_at_positions, fragment_is_at_positions, no_fragment_at_end, query_is_at_positions, path_is_at_positions}
-pub use Rattle.uri_parts.specs.Components.{Components, components, recompose, starts, before_any, from_any}
-pub use Rattle.uri_parts.specs.Grammar.{Kind, IsOfKind, iri_ref, kind_by_flags}
 pub use Rattle.uri_parts.specs.Hosts.{RegName, ipv6_value, is_future_address}
 unfoldable pub use Rattle.uri_parts.specs.Hosts.{ipv4_value, is_host, is_ipv_future}
 pub use Rattle.uri_parts.specs.declared.positions.Positions.{Positions}
-pub use Rattle.uri_pct.specs.Sets.{LacksPercent, TableSet, hexdig_set, is_one_of}
-pub use Rattle.uri_pct.specs.Tables.{set_of}
-pub use Rattle.uri_pct.specs.Tokens.{Octet, print}

@@ -1,9 +1,8 @@
 -- What resolving returns is the result that is defined.
 use Rattle.fluent_uri_c.proofs.Common.{arith, ◌≡◌, ◌⊎◌, ℕ, Bool, false, List, inl, inr, refl, sym, ap, ◌∙◌, subst, Result, Ok, Err, None, IsOk, IsTrue, result_map_both, false≢true, Components, components, Kind, IsNormalFormOfTarget, rules_of_set, RuleSet, Rejection, basic_resolve_rejection, rejected, resolve_rejection, IsReturnedAs, IsTargetReturned, Returned, basic_resolution, error_of_basic_target, error_of_target, normal_form_of, normal_resolution, normal_result, resolution, resolution_by, takes_memory_for_target, text_error}
-use Rattle.uri_parts.specs.Fragments.{IsWithFragment}
+use Rattle.fluent_uri.specs.Prelude.{IsErrorWithUnderflowAllowed, IsWithFragment}
 use Rattle.uri_ops.specs.declared.resolve.error.ResolveError.{ResolveError}
 use Rattle.uri_ops.specs.declared.resolve.error.ResolveError.TheVariants as Of
-use Rattle.uri_ops.specs.Resolving.{IsErrorWithUnderflowAllowed}
 use Rattle.uri_ops.specs.Target as Target
 use Rattle.uri_basic.specs.declared.error.BasicResolveError.{BasicResolveError}
 use Rattle.uri_basic.specs.declared.error.BasicResolveError.TheVariants as OfBasic

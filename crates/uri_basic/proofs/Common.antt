@@ -17,15 +17,7 @@ unfoldable pub use Rattle.uri_basic.specs.Removal.{output_of, run, remove_dot_se
 pub use Rattle.uri_basic.specs.Target.{basic_resolution_of_texts, is_ambiguous, target, merge, basic_resolution, PathStartsWithDoubleSlash}
 pub use Rattle.uri_ops.proofs.Offered.{string_len-is-length-of-bytes, appended-segments-lack-slashes, path-after-slash-appends-its-segments, property-of-absolute-path-by-segments, segments-of-dotless-path-are-dotless, directory-is-absolute, remove-dots-of-dotless, removing-dots-keeps-absolute, removing-dots-leaves-no-dot-segment, before_last_slash-of-slashless-is-empty, before_last_slash-of-slashless-tail, lacked-delimiters-fail-test, test-of-delimiters-gives-lacks, before_last_slash-passes-test, AllPass, is_dotless, pop, popped-segments-pass-test, segments-pass-true-test, end_of, next_output-passes-test, before_last_slash-of-slashed-is-popped, lacks_slash, segments-of-slashed-segments, segments-of-text-lack-slashes, slashed-of-append, slashed-of-push, slashed-of-segments-is-text-after-slash, NoSlashes, segments-of-text-are-not-none, first-segment-and-rest-lack-slashes, segments-of-joined-segments, slash-in-suffix-is-in-append, remove-dots-by-segments, merging-base-is-not-opaque, text-of-kind-has-needed-scheme, appended-absolute-path-is-absolute, option-that-is-some-has-no-none, authority-property-implies-other-if-some}
 unfoldable pub use Rattle.uri_ops.proofs.Offered.{closing, dotless_of, next_output, step_of, steps, slashed}
-pub use Rattle.uri_ops.specs.Dots.{is_empty, IsAbsolute, is_dot_segment, lacks_dot_segments, segments, up_to_last_slash, before_last_slash, has_slash, last_segment, EndsInSlash, or_slash, is_double_dot, is_single_dot}
+pub use Rattle.fluent_uri.specs.Prelude.{ArePackedPositionsOf, Components, EndsInSlash, IsAbemptyPath, IsAbsolute, IsLongestRun, IsOfKind, IsSplitOf, IsTextOf, Kind, Lacks, TableSet, authority_at, before_any, before_last_slash, components, components_of, delimited_length, dotless_if_absolute, dotted_target, from_any, guarded, has_authority, has_colon_in_first_segment, has_scheme, has_slash, host_end_of, is_dot_segment, is_double_dot, is_empty, is_one_of, is_opaque, is_single_dot, lacks_dot_segments, last_segment, marked, merged, or_slash, packed, positions_of, recompose, resolution_of, segments, starts, target_of, up_to_last_slash, with_final_path}
 unfoldable pub use Rattle.uri_ops.specs.Dots.{directory}
-pub use Rattle.uri_ops.specs.Resolving.{with_final_path, components_of}
-pub use Rattle.uri_ops.specs.Target.{guarded, is_opaque, dotless_if_absolute, dotted_target, merged, resolution_of, target_of}
 pub use Rattle.uri_parts.proofs.Offered.{components-are-split-of-text, equal-to-true-is-IsTrue, recompose-components}
-pub use Rattle.uri_parts.specs.Components.{from_any, starts, IsAbemptyPath, Lacks, Components, components, recompose, has_authority, IsSplitOf, has_scheme, before_any, marked}
-pub use Rattle.uri_parts.specs.Grammar.{has_colon_in_first_segment, IsOfKind, Kind, IsTextOf}
-pub use Rattle.uri_parts.specs.PackedPositions.{ArePackedPositionsOf, packed}
-pub use Rattle.uri_parts.specs.Positions.{authority_at, delimited_length, host_end_of, positions_of}
 pub use Rattle.uri_pct.proofs.Offered.{eq_true_from_IsTrue, not_some_is_none, some_is_not_none}
-pub use Rattle.uri_pct.specs.Models.ByteRuns.{IsLongestRun}
-pub use Rattle.uri_pct.specs.Sets.{is_one_of, TableSet}

@@ -3,8 +3,7 @@ use native.Mathlib.Omega.{arith}
 use Rattle.uri_basic.proofs.Common.{◌≡◌, ℕ, ◌<◌, List, [], ◌++◌, refl, sym, ap, ◌∙◌, ◌&&◌, ◌↔◌, inr, Bool, true, false, cond, length, subst, ⊎_elim, rules, append_assoc, codes, Option, Some, None, Ok, Err, IfSome, IfNone, is_some, is_none, IsUtf8, list_all, cond_both, cond-false, cond-true, cases_Bool, false≢true, and_from, or_left, is_one_of, Components, IsSplitOf, Lacks, IsAbemptyPath, components, has_authority, recompose, starts, IsOfKind, IsTextOf, Kind, components-are-split-of-text, equal-to-true-is-IsTrue, IsAbsolute, before_last_slash, has_slash, is_empty, last_segment, up_to_last_slash, lacked-delimiters-fail-test, test-of-delimiters-gives-lacks, before_last_slash-passes-test, text-of-kind-has-needed-scheme, option-that-is-some-has-no-none, authority-property-implies-other-if-some, output_of, remove_dot_segments, run, basic_resolution_of_texts, is_ambiguous, merge, target, PathStartsWithDoubleSlash}
 use Rattle.std.proofs.lemmas.List.Elements.{All-append}
 use Rattle.uri_parts.proofs.Offered.{only-split-is-components}
-use Rattle.uri_ops.specs.ComponentSets.{HasComponentSets}
-use Rattle.uri_ops.specs.NormalTargets.{reference_kind}
+use Rattle.fluent_uri.specs.Prelude.{HasComponentSets, reference_kind}
 use Rattle.uri_ops.proofs.Offered.{empty-text-is-set-text, is_set_text, ArePartsOfKind, components-of-kind-meet-grammar, recomposed-components-are-utf8, text-has-parts-of-kind, set-text-splits, set-texts-join-at-slash}
 use Rattle.uri_basic.proofs.Kept.{bytes-of-append-pass, removal-adds-no-delimiter, removal-keeps-absolute, removal-keeps-set-text, text-is-cut-at-last-slash}
 

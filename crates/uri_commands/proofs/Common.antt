@@ -6,9 +6,7 @@ pub use Rattle.std.proofs.lemmas.Grind.{common_steps}
 pub use Rattle.std.proofs.lemmas.List.{take-append-le, length-drop, take_more, take-map, take_rest}
 pub use Rattle.std.specs.Io.KnownBytes.{Appends, Keeps}
 pub use Rattle.std.specs.Prelude.{nat_lt, Ok, Err, IfSome, if◌then◌else◌, MatchOption, option_map, slice_get, IfErr, IfOk, IsOk, MatchResult, is_ok}
-pub use Rattle.fluent_uri.specs.Grammar.{Kind, IsOfKind, is_of_kind, uri, uri_ref, iri, iri_ref}
-pub use Rattle.fluent_uri.specs.RuleSets.{rules_of_set}
-pub use Rattle.fluent_uri.specs.Uris.{uri_ref_text, uri_text}
+pub use Rattle.fluent_uri.specs.Prelude.{IsOfKind, Kind, iri, iri_ref, is_of_kind, rules_of_set, uri, uri_ref, uri_ref_text, uri_text}
 pub use Rattle.fluent_uri.specs.declared.normalize.RuleSet.{RuleSet}
 pub use Rattle.uri_commands.specs.Commands.{Command, Parse, Normalize, Mend, Resolve, Links, output_of, texts, words_of, AreWordsOfLinks, AreWordsOfResolve, AreWordsOfTextCommand, AreWordsOfRuledLinks, AreWordsOfRuledNormalize, IsCommand, are_of_kind, kind_of_base, kind_of_references, Prints}
 unfoldable pub use Rattle.uri_commands.specs.Commands.{target_text}

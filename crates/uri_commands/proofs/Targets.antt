@@ -1,8 +1,7 @@
 -- The target that `resolve_against` returns is the one that is printed.
 use Rattle.uri_commands.proofs.Common.{◌≡◌, ℕ, List, Some, ap, Result, Ok, Err, IfOk, target_text}
 use Rattle.std.specs.Result.{result_ok}
-use Rattle.fluent_uri.specs.Components.{components}
-use Rattle.fluent_uri.specs.Target.{resolution_of}
+use Rattle.fluent_uri.specs.Prelude.{components, resolution_of}
 
 target_text-of-resolution : (base reference target : List ℕ)
     → resolution_of (components base) (components reference) ≡ Ok target

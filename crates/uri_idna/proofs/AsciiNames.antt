@@ -12,13 +12,9 @@ use Rattle.idna.specs.declared.options.Hyphens.TheVariants.{CheckFirstLast}
 use Rattle.idna.specs.declared.options.DnsLength.TheVariants.{VerifyAllowRootDot}
 use Rattle.idna.proofs.Uts46Lemmas.{All-to_ascii, IsOutputByte}
 use Rattle.idna.proofs.ValidityLemmas.{denies-STD3}
-use Rattle.uri_pct.specs.Sets.{IsSubset, LacksPercent, TableSet, unreserved_set}
+use Rattle.fluent_uri.specs.Prelude.{HasComponentSets, IsHostText, IsSubset, Kind, LacksPercent, TableSet, name_bytes, unreserved_set}
 use Rattle.uri_pct.proofs.Offered.{excludes}
-use Rattle.uri_parts.specs.Connecting.{name_bytes}
-use Rattle.uri_parts.specs.Grammar.{Kind}
 use Rattle.uri_parts.specs.Hosts.{HostKind, Ipv4, Ipv6, IpvFuture, RegName, host_kind}
-use Rattle.uri_ops.specs.ComponentSets.{HasComponentSets}
-use Rattle.uri_ops.specs.HostParts.{IsHostText}
 use Rattle.uri_ops.proofs.Offered.{valid-name-is-host, is_set_text, set-text-is-utf8, set-text-is-valid, ascii-in-test-is-set-text, is_ascii_in}
 use Rattle.uri_idna.specs.AsciiHosts.{ascii_host, ascii_host_of, ascii_name, dns_name, is_ascii_text}
 

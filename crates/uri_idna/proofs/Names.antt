@@ -5,9 +5,8 @@ use Rattle.std.specs.Str.{is_utf8}
 use Rattle.std.proofs.lemmas.Bool.{and_parts, cond-false, cond-true, false_from_ne_true}
 use Rattle.std.proofs.lemmas.Str.{IsUtf8-from_is_utf8}
 use Rattle.idna.specs.Uts46.{to_ascii}
-use Rattle.uri_pct.specs.Texts.{is_unencoded}
+use Rattle.fluent_uri.specs.Prelude.{is_unencoded, name_bytes}
 use Rattle.uri_pct.proofs.Offered.{unencoded_text_decodes_to_itself}
-use Rattle.uri_parts.specs.Connecting.{name_bytes}
 use Rattle.uri_ops.proofs.Offered.{ascii-bytes-are-utf8}
 use Rattle.uri_idna.specs.AsciiHosts.{ascii_name, dns_name, is_ascii_text, is_unencoded_ascii}
 

@@ -3,12 +3,9 @@ use Rattle.std.proofs.Common.{arith, ◌≡◌, ℕ, true, false, List, [], ◌+
 use Rattle.std.specs.Prelude.{Option, Some, None, IfNone, IfSome, IsSomeAnd, codes}
 use Rattle.std.specs.Str.{IsUtf8}
 use Rattle.std.proofs.lemmas.Str.{IsUtf8-append}
-use Rattle.uri_parts.specs.Authority.{AuthorityParts, IsAuthorityFor, authority_parts, recompose_authority}
-use Rattle.uri_parts.specs.Components.{Components, IsAbemptyPath, IsSplitOf, Lacks, components, has_scheme, marked, recompose}
-use Rattle.uri_parts.specs.Grammar.{IsOfKind, IsTextOf, Kind, components_meet_rules, is_authority}
+use Rattle.fluent_uri.specs.Prelude.{AuthorityParts, Components, HasComponentSets, IsAbemptyPath, IsAuthorityFor, IsOfKind, IsSplitOf, IsTextOf, Kind, Lacks, authority_parts, components, components_meet_rules, has_scheme, is_authority, marked, recompose, recompose_authority}
 use Rattle.uri_parts.proofs.Offered.{authority_parts-are-unique, components-are-split-of-text, is_authority_for-complete, is_authority_for-sound, only-split-is-components, recompose-components}
 use Rattle.uri_ops.specs.BuilderParts.{is_authority_text}
-use Rattle.uri_ops.specs.ComponentSets.{HasComponentSets}
 use Rattle.uri_ops.proofs.Offered.{authority-lacks-its-ends, authority-text-from-rule, authority-text-is-utf8, authority-text-meets-rule, ascii-bytes-are-utf8, authority-parts-are-utf8, kind-sets-lack-authority-delimiters, ArePartsOfKind, components-of-kind-meet-grammar, text-has-parts-of-kind}
 use Rattle.uri_idna.specs.AsciiHosts.{ascii_host}
 use Rattle.uri_idna.specs.AsciiReferences.{HasAsciiHost, IsAuthorityWithAsciiHost, IsWithAsciiHost, with_ascii_host, with_authority, with_host}

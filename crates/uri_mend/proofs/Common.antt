@@ -27,19 +27,10 @@ unfoldable pub use Rattle.uri_mend.specs.Trimming.{trimmed_link}
 pub use Rattle.uri_mend.specs.declared.component.TheConstants.{NEVER_HIGH, NEVER_LOW}
 pub use Rattle.uri_mend.specs.declared.link.Link.{Link}
 pub use Rattle.uri_ops.proofs.Offered.{components-of-utf8-are-utf8, grammar-gives-components-of-kind, AreUtf8, one-of-four-kinds-has-sets}
-pub use Rattle.uri_ops.specs.ComponentSets.{HasComponentSets}
-pub use Rattle.uri_ops.specs.Models.Places.{before_path}
+pub use Rattle.fluent_uri.specs.Prelude.{ArePackedPositionsOf, Char, Components, HasComponentSets, IsAbemptyPath, IsOfKind, IsSplitOf, IsTextOf, IsValidFor, Kind, Lacks, LacksPercent, Octet, TableSet, Token, absent_or_passes, after_authority, after_query, after_scheme, allows, allows_token, before_any, before_path, bytes_decoded_from, components, components_meet_rules, encode_char, from_any, has_authority, has_colon_in_first_segment, has_scheme, is_authority, is_of_kind, is_one_of, is_path_char, is_query_char, is_scheme, kind_by_flags, marked, packed, print, recompose, set_of, starts, text_of_token, tokens, valid_prefix, when}
 pub use Rattle.uri_parts.proofs.Offered.{before_any-past-other, from_any-past-other, cut-at-end-of-text-without-marks, text-is-cut-at-first-mark, from_any-at-mark, before_any-at-mark, IsEmptyOrMarked, recompose-components, components-are-split-of-text, equal-parts-make-equal-components, only-split-is-components}
-pub use Rattle.uri_parts.specs.Components.{recompose, before_any, from_any, components, starts, when, has_scheme, has_authority, after_scheme, after_authority, marked, after_query, Components, Lacks, IsSplitOf, IsAbemptyPath}
-pub use Rattle.uri_parts.specs.Grammar.{Kind, is_scheme, IsTextOf, has_colon_in_first_segment, IsOfKind, absent_or_passes, is_authority, components_meet_rules, kind_by_flags, is_of_kind}
-pub use Rattle.uri_parts.specs.PackedPositions.{ArePackedPositionsOf, packed}
 pub use Rattle.uri_pct.proofs.Offered.{is_eight_bit, utf8_bytes_are_eight_bit, octets_are_allowed_if_pct_encoded, encoded_char_is_printable, allowed_char_is_printed_literally, disallowed_char_is_encoded_as_octets, print-append, octets_decode_to_their_bytes, has_bit_past_ascii_is_false, has_bit-only-ascii, lacks_percent, is_no_ascii_byte, hexdigit_is_ascii, HasEncoding, char_has_encoding, char_past_ascii_begins_past_ascii, encoded_chars_begin_with_same_hex_digits, excludes, valid_prefix-ends-by-mark, is_valid_for_is_scanned_to_end, valid_prefix_by_first_byte, AreAscii, first_mark_is_at_boundary, length_before_marks, test_holds_of_each, AreAscii-by-test}
-pub use Rattle.uri_pct.specs.Encoding.{encode_char}
 unfoldable pub use Rattle.uri_pct.specs.Masks.{has_bit}
-pub use Rattle.uri_pct.specs.Prefixes.{valid_prefix}
 unfoldable pub use Rattle.uri_pct.specs.Prefixes.{begins_with_hex_digits, valid_prefix_from}
-pub use Rattle.uri_pct.specs.Sets.{TableSet, allows, LacksPercent, is_one_of, is_path_char, is_query_char}
 unfoldable pub use Rattle.uri_pct.specs.Sets.{allows_past_ascii}
-pub use Rattle.uri_pct.specs.Tables.{set_of}
-pub use Rattle.uri_pct.specs.Tokens.{Octet, print, text_of_token, IsValidFor, Token, Char, allows_token, tokens, bytes_decoded_from}
 unfoldable pub use Rattle.uri_pct.specs.Tokens.{is_pct_encoded, is_valid_for, tokens_from_chars}

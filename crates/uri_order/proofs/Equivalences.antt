@@ -6,9 +6,7 @@ use Rattle.std.specs.Cmp.{tied_itself}
 use Rattle.std.specs.Cmp.Lexicographic.{nat_list_cmp_total, slice_cmp}
 use Rattle.std.specs.Ordering.{is_eq, nat_cmp}
 use Rattle.std.specs.Str.{IsUtf8}
-use Rattle.uri_parts.specs.Grammar.{Kind, IsOfKind, IsTextOf}
-use Rattle.uri_ops.specs.ComponentSets.{HasComponentSets}
-use Rattle.uri_ops.specs.SchemeRules.{Rules}
+use Rattle.fluent_uri.specs.Prelude.{HasComponentSets, IsOfKind, IsTextOf, Kind, Rules}
 use Rattle.uri_ops.proofs.Offered.{same-normal-text-same-meaning}
 use Rattle.uri_order.specs.NormalForms.{AreEquivalent, normal_form}
 

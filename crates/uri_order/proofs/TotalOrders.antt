@@ -4,9 +4,7 @@ use Rattle.std.proofs.lemmas.Bool.{false≢true}
 use Rattle.std.specs.Cmp.{IsTotalOrder, tied_itself, upto}
 use Rattle.std.specs.Cmp.Lexicographic.{on_texts}
 use Rattle.std.specs.Ordering.{is_gt, is_le, ordering_reverse}
-use Rattle.uri_parts.specs.Grammar.{IsTextOf, Kind}
-use Rattle.uri_ops.specs.ComponentSets.{HasComponentSets}
-use Rattle.uri_ops.specs.SchemeRules.{Rules}
+use Rattle.fluent_uri.specs.Prelude.{HasComponentSets, IsTextOf, Kind, Rules}
 use Rattle.uri_order.specs.NormalForms.{AreEquivalent, normal_form}
 use Rattle.uri_order.specs.TotalOrders.{IsTotalOrderBy, order_by}
 use Rattle.uri_order.proofs.Equivalences.{equal_in_order_if_equal, equivalent_if_forms_are_equal}

@@ -9,8 +9,7 @@ use Rattle.std.proofs.lemmas.List.Elements.{All-from_get_or}
 use Rattle.std.proofs.lemmas.List.Folds.{drop_split}
 use Rattle.std.proofs.lemmas.List.Sums.{list_all-from_AllPass}
 use Rattle.std.proofs.lemmas.Slice.{between_is}
-use Rattle.fluent_uri.specs.Texts.{lacks}
-use Rattle.uri_pct.specs.Models.ByteRuns.{IsLongestRun}
+use Rattle.fluent_uri.specs.Prelude.{IsLongestRun, lacks}
 use Rattle.uri_query.specs.Pairs.{nonempty_substrings, text_after_equals, text_before_equals, those_with_bytes}
 use Rattle.uri_query.specs.Places.{value_of_pair}
 use Rattle.uri_query.proofs.Cuts.{text_after_equals-append, text_before_equals-append, text_before_equals-of-whole}

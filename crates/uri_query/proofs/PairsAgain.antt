@@ -10,12 +10,8 @@ use Rattle.std.proofs.lemmas.List.Elements.{filter-append}
 use Rattle.std.proofs.lemmas.List.Folds.{list_all-append}
 use Rattle.std.proofs.lemmas.List.Splits.{length-slice_split}
 use Rattle.std.proofs.lemmas.Str.{encode_ascii, utf8_lossy-IsUtf8, IsUtf8-string_bytes}
-use Rattle.fluent_uri.specs.Dots.{is_empty}
-use Rattle.fluent_uri.specs.Encoding.{encode_char, encode_text}
-use Rattle.fluent_uri.specs.Pieces.{lossy_text}
+use Rattle.fluent_uri.specs.Prelude.{Octet, bytes_decoded_from, encode_char, encode_text, is_empty, lacks, lossy_text, print, text_of_token, tokens}
 use Rattle.fluent_uri.specs.Sets.{allows, allows_past_ascii, data_set}
-use Rattle.fluent_uri.specs.Texts.{lacks}
-use Rattle.fluent_uri.specs.Tokens.{Octet, bytes_decoded_from, print, text_of_token, tokens}
 use Rattle.fluent_uri.proofs.Calling.{calling, lossy_text-is-utf8_lossy}
 use Rattle.uri_query.specs.Pairs.{append_pair, data_text, decode_nonempty_substrings, decode_pair, decode_pairs, decode_text, pair_text, pair_texts, query_from, query_text, text_after_equals, text_before_equals}
 use Rattle.uri_query.specs.declared.pairs.Pair.{Pair}

@@ -23,9 +23,7 @@ unfoldable pub use Rattle.std.specs.List.{IsDistinct}
 pub use Rattle.std.specs.Prelude.{IsTrue, IfOk, not, ◌&&◌, nat_lt, Ok, Err, slice_get, if◌then◌else◌, ◌||◌, IfErr, slice_range, codes, option_map, option_and_then, map, bytes_eq, unwrap_or, slice_index, OnErr, OnOk, ◌↔◌, nat_le}
 pub use Rattle.std.specs.Str.{IsAscii, encode_utf8_all, IsUtf8, all_scalars}
 unfoldable pub use Rattle.std.specs.Str.{is_utf8, chars}
-pub use Rattle.fluent_uri.specs.Components.{components, Components, recompose}
-pub use Rattle.fluent_uri.specs.Grammar.{is_of_kind, IsTextOf, Kind, IsOfKind, uri_ref}
-pub use Rattle.fluent_uri.specs.References.{reference_text}
+pub use Rattle.fluent_uri.specs.Prelude.{Components, IsOfKind, IsTextOf, Kind, components, is_of_kind, recompose, reference_text, uri_ref}
 pub use Rattle.fluent_uri.specs.declared.ParseError.{ParseError}
 pub use Rattle.uri_commands.proofs.Offered.{AppendsPrefix-after-Appends, AppendsPrefix-of-longer, AppendsPrefix-of-kept, AppendsPrefix-then-Keeps, AppendsPrefix-after-Keeps, on-ok}
 pub use Rattle.uri_commands.specs.Ends.{is_output_failure, has_output_failed}

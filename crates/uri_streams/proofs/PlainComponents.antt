@@ -1,12 +1,7 @@
 -- The components of a text of a kind have no character that JSON escapes.
 use Rattle.uri_streams.proofs.Common.{◌≡◌, ℕ, zero, suc, ◌<◌, ◌≤◌, ◌&&◌, ◌||◌, not, Bool, true, false, List, [], ◌∷◌, ◌++◌, refl, sym, ap, ◌∙◌, subst, arith, ⊎_elim, codes, Option, Some, None, IsScalar, encode_utf8, list_all, IsUtf8, chars, all_scalars, encode_utf8_all, and_parts, and_from, cases_lt, nat_tests, Decides-below_and, list_all-append, chars-append, IsUtf8-append, encode_ascii, encodes-chars, scalars-chars, is_unescaped, kind_named, KindName}
 use Rattle.uri_pct.proofs.Offered.{IfSome-weaken, IfSome-combine, excludes}
-use Rattle.uri_pct.specs.Sets.{TableSet, LacksPercent, is_one_of, digit_set, scheme_set}
-use Rattle.uri_pct.specs.Tokens.{IsValidFor}
-use Rattle.uri_parts.specs.Authority.{AuthorityParts, authority_parts}
-use Rattle.uri_parts.specs.Components.{components, Lacks, marked}
-use Rattle.uri_parts.specs.Grammar.{Kind, IsTextOf, is_authority, kind_by_flags}
-use Rattle.uri_parts.specs.Hosts.{HostKind, Ipv4, Ipv6, IpvFuture, RegName, IsHost, bracketed}
+use Rattle.fluent_uri.specs.Prelude.{AuthorityParts, HostKind, Ipv4, Ipv6, IpvFuture, IsHost, IsTextOf, IsValidFor, Kind, Lacks, LacksPercent, RegName, TableSet, authority_parts, bracketed, components, digit_set, is_authority, is_one_of, kind_by_flags, marked, scheme_set}
 use Rattle.uri_parts.proofs.Offered.{is_authority_for-sound, ipv4-text-lacks-name-marks, ipv6-text-lacks-excluded-marks, ipvfuture-text-lacks-excluded-marks, address-in-brackets-is-utf8, valid_text_lacks_excluded_marks}
 use Rattle.uri_ops.proofs.Offered.{is_set_text, set-text-is-utf8, set-text-is-valid, authority-parts-are-utf8, components-of-utf8-are-utf8, grammar-gives-components-of-kind, lacked-delimiters-fail-test}
 use Rattle.uri_commands.specs.declared.kinds.KindName.TheVariants as kinds

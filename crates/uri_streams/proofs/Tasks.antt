@@ -1,8 +1,6 @@
 -- The result under a task, by its command.
 use Rattle.uri_streams.proofs.Common.{arith, ◌≡◌, ℕ, true, List, Result, Ok, Err, IfOk, refl, ap, subst, Some, codes, ◌++◌, IsOfKind, Kind, is_of_kind, uri_ref, ParseError, error_text, kind_named, LineResult, Error, normalize_result, IsResult, result_in, HasMet, Known, Remembers, text_if_new, link_result, no_text_result, noted_result, text_result, unique_result, no_text_message, Task, NoField, NotUtf8, TooLong}
-use Rattle.fluent_uri.specs.Refusals.{refusal}
-use Rattle.fluent_uri.specs.RuleSets.{rules_of_set}
-use Rattle.fluent_uri.specs.SchemeRules.{Rules}
+use Rattle.fluent_uri.specs.Prelude.{Rules, refusal, rules_of_set}
 use Rattle.fluent_uri.specs.declared.normalize.RuleSet.{RuleSet}
 use Rattle.uri_links.specs.Outcomes.{outcome_of}
 use Rattle.uri_streams.specs.declared.line_result.LineResult.{LineResult as Returned}

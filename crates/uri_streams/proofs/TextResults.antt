@@ -1,8 +1,6 @@
 -- What a kind's calls return is the result of a text.
 use Rattle.uri_streams.proofs.Common.{◌≡◌, ◌≢◌, ℕ, true, false, List, Result, Ok, Err, [], ◌++◌, Some, refl, ap, sym, ◌∙◌, components, Kind, IsOfKind, is_of_kind, ParseError, ◌↔◌, IfOk, if◌then◌else◌, unwrap_or, option_map, false_from_ne_true, error_text, resolve_error_text, LineResult, Text, Error, parse_message, parsed_result, resolution_result, target_result, result_in, Refused}
-use Rattle.fluent_uri.specs.Refusals.{refusal}
-use Rattle.fluent_uri.specs.Resolving.{IsErrorWithUnderflowAllowed}
-use Rattle.fluent_uri.specs.Target.{resolution_of_texts}
+use Rattle.fluent_uri.specs.Prelude.{IsErrorWithUnderflowAllowed, refusal, resolution_of_texts}
 use Rattle.fluent_uri.specs.declared.resolve.ResolveError.{ResolveError}
 use Rattle.fluent_uri.specs.declared.resolve.ResolveError.TheVariants as errors
 use Rattle.uri_commands.specs.declared.refusal.CommandError.TheVariants.{Target}

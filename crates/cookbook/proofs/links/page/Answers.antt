@@ -1,7 +1,6 @@
 use Rattle.std.proofs.Common.{ap, sym, ◌∙◌}
 use Rattle.fluent_uri.proofs.Calling.{resolution_is_target}
-use Rattle.fluent_uri.specs.Target.{resolution_of_texts}
-use Rattle.fluent_uri.specs.Uris.{uri_text}
+use Rattle.fluent_uri.specs.Prelude.{resolution_of_texts, uri_text}
 use Rattle.cookbook.proofs.links.page.Goals as goal
 
 pub returns-clause-page : goal.returns-clause-page

@@ -1,7 +1,6 @@
 use Rattle.std.proofs.Common.{ap, arith, refl, sym, ◌∙◌}
 use Rattle.fluent_uri.proofs.Calling.{resolution_is_target}
-use Rattle.fluent_uri.specs.Target.{resolution_of_texts}
-use Rattle.fluent_uri.specs.Uris.{uri_ref_text, uri_text}
+use Rattle.fluent_uri.specs.Prelude.{resolution_of_texts, uri_ref_text, uri_text}
 use Rattle.cookbook.proofs.relative.short_link.Goals as goal
 
 pub returns-clause-back : goal.returns-clause-back

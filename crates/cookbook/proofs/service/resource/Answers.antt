@@ -1,15 +1,8 @@
 use Rattle.std.proofs.Common.{◌≡◌, ◌∙◌, ℕ, Bool, true, false, List, refl, sym, ap}
 use Rattle.std.specs.Prelude.{Option, Some, None, is_some, ◌≢◌}
 use Rattle.std.proofs.lemmas.Option.{same_Some}
-use Rattle.fluent_uri.specs.AuthorityTexts.{authority_text}
-use Rattle.fluent_uri.specs.BuilderParts.{AddsOrFails, BuilderParts, as_components, no_parts, parts_text, with_authority, with_path, with_query, with_scheme}
-use Rattle.fluent_uri.specs.BuilderStates.{contents_of, parts_in_state}
+use Rattle.fluent_uri.specs.Prelude.{AddsOrFails, BuilderParts, Components, as_components, authority_text, components, contents_of, no_parts, parts_in_state, parts_text, scheme_text, text_of, uri, uri_text, with_authority, with_path, with_query, with_scheme}
 use Rattle.fluent_uri.specs.Built.{IsTextOfParts, build_error_of_path, refusal}
-use Rattle.fluent_uri.specs.Components.{Components, components}
-use Rattle.fluent_uri.specs.EncodedTexts.{text_of}
-use Rattle.fluent_uri.specs.Grammar.{uri}
-use Rattle.fluent_uri.specs.Schemes.{scheme_text}
-use Rattle.fluent_uri.specs.Uris.{uri_text}
 use Rattle.fluent_uri.specs.declared.build.BuildError.{BuildError}
 use Rattle.fluent_uri.specs.declared.build.BuildError.TheVariants.{OutOfMemory}
 use Rattle.fluent_uri.proofs.Outcomes.{IfErr-of-only-error, false-from-None-is-Some}

@@ -1,6 +1,5 @@
 use Rattle.fluent_uri_c.proofs.Common.{◌≡◌, ◌≤◌, ◌&&◌, ◌∙◌, List, Some, ap, arith, false, length, refl, subst, ℕ, sym, IsCharBoundary, IsCharBoundary-start, set_of}
-use Rattle.uri_parts.specs.Scanning.{is_next}
-use Rattle.uri_pct.specs.Delimiters.{percent_sign}
+use Rattle.fluent_uri.specs.Prelude.{is_next, percent_sign}
 use Rattle.fluent_uri_c.proofs.CharacterErrors.{IsScanned, other-character-is-error, scan-is-within, scanned-bytes, scanned-text-has-no-error, scanned-text-passes}
 use Rattle.fluent_uri_c.proofs.rules.read_characters.Goals as goal
 

@@ -1,6 +1,5 @@
 use Rattle.uri_basic.proofs.Common.{◌≡◌, ◌-◌, ◌++◌, [], ap, arith, length, refl, rules, string_bytes, sym, ◌∙◌, codes, components, marked, packed, positions_of, components_of, string_len-is-length-of-bytes, target}
-use Rattle.uri_parts.specs.CoreTexts.{core_text}
-use Rattle.uri_ops.specs.Models.Places.{before_path}
+use Rattle.fluent_uri.specs.Prelude.{before_path, core_text}
 use Rattle.uri_basic.proofs.TargetPlaces.{fragment-fits-in-target, fragment-of-target, written-target-is-at}
 use Rattle.uri_basic.proofs.target_text.target_text.Goals as goal
 

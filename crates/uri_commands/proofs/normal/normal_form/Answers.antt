@@ -1,6 +1,5 @@
 use Rattle.uri_commands.proofs.Common.{subst, rules_of_set}
-use Rattle.fluent_uri.specs.Normalizers.{HasNormalText}
-use Rattle.fluent_uri.specs.References.{reference_text}
+use Rattle.fluent_uri.specs.Prelude.{HasNormalText, reference_text}
 use Rattle.uri_commands.proofs.NormalForms.{normal_form_is}
 use Rattle.uri_commands.proofs.normal.normal_form.Goals as goal
 

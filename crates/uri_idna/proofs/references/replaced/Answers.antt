@@ -1,10 +1,7 @@
 use Rattle.std.proofs.Common.{arith, ◌∙◌, ap}
 use Rattle.std.specs.Prelude.{string_bytes}
-use Rattle.uri_parts.specs.AuthorityTexts.{authority_text}
-use Rattle.uri_parts.specs.Components.{components, recompose}
-use Rattle.uri_parts.specs.CoreTexts.{core_text}
+use Rattle.fluent_uri.specs.Prelude.{authority_text, components, core_text, recompose, reference_text}
 use Rattle.uri_ops.proofs.Offered.{one-of-four-kinds-has-sets}
-use Rattle.fluent_uri.specs.References.{reference_text}
 use Rattle.uri_idna.specs.AsciiReferences.{with_authority, with_host}
 use Rattle.uri_idna.proofs.Replaced.{replaced-text-has-ascii-host, replaced-text-is-of-kind}
 use Rattle.uri_idna.proofs.references.replaced.Goals as goal

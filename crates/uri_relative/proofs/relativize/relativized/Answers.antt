@@ -1,6 +1,5 @@
 use Rattle.uri_relative.proofs.Common.{string_bytes, subst, sym, ap, ◌∙◌, arith, components, recompose, core_text, IsOfKind, IsReferenceTo, settled, reference_components, reference_to}
-use Rattle.uri_parts.specs.PackedPositions.{packed}
-use Rattle.fluent_uri.specs.References.{reference_text}
+use Rattle.fluent_uri.specs.Prelude.{packed, reference_text}
 use Rattle.uri_relative.proofs.Leading.{reference-leads-back-to-target, reference-leads-to-target, reference-is-no-longer-than-target, reference-is-relative}
 use Rattle.uri_relative.proofs.ShortestTexts.{reference-is-shortest}
 use Rattle.uri_relative.proofs.relativize.relativized.Goals as goal

@@ -1,8 +1,7 @@
 use Rattle.std.proofs.Common.{arith, ℕ, List, [], ap, refl, subst, ◌∙◌}
-use Rattle.fluent_uri.specs.RuleSets.{rules_of_set}
+use Rattle.fluent_uri.specs.Prelude.{HasNormalText, rules_of_set}
 use Rattle.uri_commands.proofs.Offered.{normal_form_is}
 use Rattle.uri_commands.specs.Kinds.{normal_form_of}
-use Rattle.uri_ops.specs.Normalizers.{HasNormalText}
 use Rattle.uri_streams.proofs.TextResults.{parsed_result-of-error, parsed_result-of-kind}
 use Rattle.uri_streams.specs.Results.{LineResult, Text, normalize_result}
 use Rattle.uri_streams.specs.Returned.{result_in}

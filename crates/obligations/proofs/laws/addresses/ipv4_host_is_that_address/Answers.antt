@@ -1,6 +1,5 @@
 use Rattle.std.proofs.Common.{sym, subst}
-use Rattle.fluent_uri.specs.Addresses.{ipv4_octets}
-use Rattle.fluent_uri.specs.Hosts.{Ipv4, IsIpv4Text}
+use Rattle.fluent_uri.specs.Prelude.{Ipv4, IsIpv4Text, ipv4_octets}
 use Rattle.obligations.proofs.laws.addresses.ipv4_host_is_that_address.Goals as goal
 
 pub returns : goal.returns

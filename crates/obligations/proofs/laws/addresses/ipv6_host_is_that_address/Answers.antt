@@ -1,6 +1,5 @@
 use Rattle.std.specs.Net.Text.{ipv6_text}
-use Rattle.fluent_uri.specs.Addresses.{ipv6_segments}
-use Rattle.fluent_uri.specs.Hosts.{Ipv6}
+use Rattle.fluent_uri.specs.Prelude.{Ipv6, ipv6_segments}
 use Rattle.obligations.proofs.laws.addresses.ipv6_host_is_that_address.Goals as goal
 
 pub returns : goal.returns

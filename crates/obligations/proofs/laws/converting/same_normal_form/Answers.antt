@@ -1,7 +1,5 @@
 use Rattle.std.proofs.Common.{ap, sym, ◌∙◌}
-use Rattle.fluent_uri.specs.Grammar.{iri}
-use Rattle.fluent_uri.specs.Normal.{normal_text}
-use Rattle.fluent_uri.specs.SchemeRules.{default_rules, meaning_under}
+use Rattle.fluent_uri.specs.Prelude.{default_rules, iri, meaning_under, normal_text}
 use Rattle.obligations.proofs.laws.converting.same_normal_form.Goals as goal
 
 pub returns-clause-equal : goal.returns-clause-equal

@@ -1,9 +1,6 @@
 use Rattle.std.proofs.Common.{◌≡◌, ◌∙◌, ℕ, false, List, [], sym, ap}
 use Rattle.std.specs.Prelude.{codes}
-use Rattle.fluent_uri.specs.AuthorityTexts.{authority_text}
-use Rattle.fluent_uri.specs.BuilderParts.{AddsOrFails, BuilderParts, no_parts, parts_text, with_authority, with_path, with_query, with_fragment}
-use Rattle.fluent_uri.specs.BuilderStates.{contents_of, parts_in_state}
-use Rattle.fluent_uri.specs.EncodedTexts.{text_of}
+use Rattle.fluent_uri.specs.Prelude.{AddsOrFails, BuilderParts, authority_text, contents_of, no_parts, parts_in_state, parts_text, text_of, with_authority, with_fragment, with_path, with_query}
 use Rattle.fluent_uri.proofs.Outcomes.{false-from-None-is-Some}
 use Rattle.obligations.proofs.laws.empty.reference_of_empty_components.Goals as goal
 

@@ -1,6 +1,5 @@
 use Rattle.std.proofs.Common.{refl, subst}
-use Rattle.fluent_uri.specs.Grammar.{IsTextOf, uri, uri_ref}
-use Rattle.fluent_uri.specs.SchemeRules.{default_rules}
+use Rattle.fluent_uri.specs.Prelude.{IsTextOf, default_rules, uri, uri_ref}
 use Rattle.obligations.proofs.laws.equivalence.same_links_after_a_move.Goals as goal
 
 pub returns : goal.returns

@@ -1,6 +1,5 @@
 use Rattle.std.proofs.Common.{subst}
-use Rattle.fluent_uri.specs.Grammar.{IsTextOf, iri}
-use Rattle.fluent_uri.specs.SchemeRules.{default_rules}
+use Rattle.fluent_uri.specs.Prelude.{IsTextOf, default_rules, iri}
 use Rattle.obligations.proofs.laws.equivalence.sent_as_a_uri.Goals as goal
 
 pub returns : goal.returns

@@ -1,5 +1,4 @@
-use Rattle.fluent_uri.specs.Grammar.{uri}
-use Rattle.fluent_uri.specs.StandardRules.{standard_rules}
+use Rattle.fluent_uri.specs.Prelude.{standard_rules, uri}
 use Rattle.obligations.proofs.laws.ordering.links_are_in_a_total_order.Goals as goal
 
 pub returns : goal.returns
