@@ -1,6 +1,6 @@
 -- What proofs import from std, from lower crates and from `specs/`: the modules that three
 -- files or more use.
-pub use Rattle.std.proofs.Common.{◌≡◌, ℕ, ◌<◌, ◌≤◌, true, false, eqb, ltb, List, [], ◌∷◌, ◌++◌, map, refl, sym, ap, ◌∙◌, arith, ⊎_elim, zero, suc, ◌+◌, ◌*◌, length, take, drop, append_assoc, ◌-◌, not, ◌&&◌, get_or, subst, length-drop, ◌||◌, length-append, inl, Bool, lit<, cond, string_bytes, ◌/◌, ◌%◌, ◌^◌, bit_and, w8, replicate, rules}
+pub use Rattle.std.proofs.Common.{◌≡◌, ℕ, ◌<◌, ◌≤◌, true, false, eqb, ltb, List, [], ◌∷◌, ◌++◌, map, refl, sym, ap, ◌∙◌, arith, ⊎_elim, zero, suc, ◌+◌, ◌*◌, length, take, drop, append_assoc, ◌-◌, not, ◌&&◌, get_or, subst, length-drop, ◌||◌, length-append, Bool, lit<, cond, string_bytes, ◌/◌, ◌%◌, ◌^◌, bit_and, w8, replicate, rules}
 pub use Rattle.std.proofs.Math.Seq.{take-add, take-append-add, take-nil, take-append_seam, drop-append_seam, drop-append-add}
 pub use Rattle.std.proofs.lemmas.Bool.{cases_Bool, cases_lt, cond-true, cond-false, and_parts, and_from, agree_below_at, ltb-true, le-ltb, eqb-true, leb-true, not-true, not_from_false, and_left, and_right, both_ways, ne_eqb, or_cases, not-false, or_parts, false≢true}
 pub use Rattle.std.proofs.lemmas.Bool.Decides.{nat_tests}

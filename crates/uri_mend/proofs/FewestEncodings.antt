@@ -1,7 +1,7 @@
 -- Mending percent-encodes no more than it must: each other reference that percent-encodes
 -- characters of the text percent-encodes those that mending does. And mended components decode to
 -- what they did.
-use Rattle.uri_mend.proofs.Common.{arith, ◌≡◌, ℕ, true, List, [], ◌∷◌, ◌++◌, map, refl, sym, ap, subst, ◌∙◌, Option, Some, None, IfSome, option_map, list_all, flat_map, IsUtf8, and_parts, list_all-append, TableSet, LacksPercent, Token, Char, Octet, allows_token, tokens, is_valid_for, components, Kind, IsTextOf, HasComponentSets, components-of-utf8-are-utf8, grammar-gives-components-of-kind, mend_token, mended, link_components, mended_components}
+use Rattle.uri_mend.proofs.Common.{arith, ◌≡◌, ℕ, true, List, [], ◌∷◌, ◌++◌, map, refl, sym, ap, subst, ◌∙◌, Option, IfSome, option_map, list_all, flat_map, IsUtf8, and_parts, list_all-append, TableSet, LacksPercent, Token, Char, Octet, allows_token, tokens, is_valid_for, components, Kind, IsTextOf, HasComponentSets, components-of-utf8-are-utf8, grammar-gives-components-of-kind, mend_token, mended, link_components, mended_components}
 use Rattle.uri_ops.proofs.Offered.{is_set_text, set-text-is-valid}
 use Rattle.uri_mend.specs.Encodings.{decoded, DecodeAlike, IsTokenOrItsOctets, AreEncodedAs, IsPartEncodedAs, AreComponentsEncodedAs}
 use Rattle.uri_mend.proofs.MendedTokens.{tokens-of-mended-text, mended-text-decodes-alike}
@@ -9,8 +9,7 @@ use Rattle.uri_mend.proofs.MendedReferences.{link-components-are-mendable}
 
 mended-token-is-token-or-its-octets : (set : TableSet) (t : Token)
     → IsTokenOrItsOctets t (mend_token set t)
-mended-token-is-token-or-its-octets set (Char c) = grind arith
-mended-token-is-token-or-its-octets set (Octet value) = refl
+mended-token-is-token-or-its-octets set t = grind arith
 
 mended-tokens-are-encoded : (set : TableSet) (ts : List Token)
     → AreEncodedAs ts (flat_map (mend_token set) ts)
@@ -81,24 +80,19 @@ valid-encoding-encodes-mended-text set text other lacks u valid h =
 -- fewest encodings: the same of a component that may be absent
 mended-part-is-encoded : (set : TableSet) (o : Option (List ℕ)) → LacksPercent set
     → IfSome o IsUtf8 → IsPartEncodedAs o (option_map (mended set) o)
-mended-part-is-encoded set None lacks u = tt
-mended-part-is-encoded set (Some x) lacks u = mended-text-is-encoded set x lacks u
+mended-part-is-encoded set o lacks u = grind (arith, mended-text-is-encoded)
 
 -- fewest encodings: the same of an encoding of a component that may be absent
 valid-part-encodes-mended-part : (set : TableSet) (o other : Option (List ℕ)) → LacksPercent set
     → IfSome o IsUtf8 → IfSome other (λ x. is_set_text set x ≡ true) → IsPartEncodedAs o other
     → IsPartEncodedAs (option_map (mended set) o) other
-valid-part-encodes-mended-part set None None lacks u valid h = tt
-valid-part-encodes-mended-part set None (Some y) lacks u valid h = h
-valid-part-encodes-mended-part set (Some x) None lacks u valid h = h
-valid-part-encodes-mended-part set (Some x) (Some y) lacks u valid h =
-    valid-encoding-encodes-mended-text set x y lacks u (set-text-is-valid set y valid) h
+valid-part-encodes-mended-part set o other lacks u valid h =
+    grind (arith, valid-encoding-encodes-mended-text, set-text-is-valid)
 
 -- fewest encodings: a component that may be absent decodes alike
 mended-part-decodes-alike : (set : TableSet) (o : Option (List ℕ)) → LacksPercent set
     → IfSome o IsUtf8 → option_map decoded (option_map (mended set) o) ≡ option_map decoded o
-mended-part-decodes-alike set None lacks u = refl
-mended-part-decodes-alike set (Some x) lacks u = ap Some (mended-text-decodes-alike set x lacks u)
+mended-part-decodes-alike set o lacks u = grind (arith, mended-text-decodes-alike)
 
 module _ (kind : Kind) (sets : HasComponentSets kind) (text : List ℕ) (u : IsUtf8 text) where
   -- mended components decode to what those of the text do

@@ -41,8 +41,7 @@ leading-colon-ends-false-scheme text = grind (arith, starts, from_any-at-mark, b
 -- links: a text without a false scheme does not begin with `:`
 no-false-scheme-means-no-leading-colon : (text : List ℕ) → has_false_scheme text ≡ false
     → starts 58 text ≡ false
-no-false-scheme-means-no-leading-colon [] e = refl
-no-false-scheme-means-no-leading-colon (c ∷ text) e = grind (arith, leading-colon-ends-false-scheme)
+no-false-scheme-means-no-leading-colon text e = grind (arith, leading-colon-ends-false-scheme)
 
 pub scheme-of-link-is-scheme : (text : List ℕ)
     → IfSome (link_components text).scheme (λ s. is_scheme s ≡ true)

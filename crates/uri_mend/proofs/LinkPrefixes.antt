@@ -1,4 +1,5 @@
 -- A text whose prefix shows where its path begins: the prefix has its scheme and its authority.
+use Rattle.std.proofs.lemmas.Grind.{common_steps}
 use Rattle.uri_mend.proofs.Common.{◌≡◌, ℕ, ◌+◌, ◌-◌, ◌<◌, ◌≤◌, Bool, true, false, not, List, [], ◌∷◌, ◌++◌, ◌||◌, ◌&&◌, length, take, drop, refl, sym, ap, subst, ◌∙◌, arith, ⊎_elim, length-append, list_any, codes, IfSome, None, Option, Some, is_some, IsCharBoundary, IsUtf8, drop-append_seam, take-append_seam, both_ways, cases_Bool, cond-true, cond-false, drop-append-le, length-take-le, IsCharBoundary-at_seam, is_one_of, Components, components, after_authority, after_scheme, before_any, from_any, has_authority, has_scheme, marked, recompose, starts, when, Kind, IsOfKind, is_scheme, ArePackedPositionsOf, packed, before_any-at-mark, before_any-past-other, from_any-at-mark, from_any-past-other, only-split-is-components, before_path, IsLink, with_ends_at, can_be_mended, has_false_scheme, link_components, IsMendedByPieces, IsPathMendedByPieces, dot_segment_if, mended_path, mended_tail, query_of_tail, Link}
 use Rattle.uri_parts.specs.Positions.{positions_of}
 use Rattle.uri_parts.specs.declared.packed_positions.PackedPositions.{PackedPositions}
@@ -40,14 +41,11 @@ cut-at-mark-of-prefix marks (c ∷ p) s some = ⊎_elim
 
 starts-of-prefix : (mark : ℕ) (p s : List ℕ) → is_some_text p ≡ true
     → starts mark (p ++ s) ≡ starts mark p
-starts-of-prefix mark [] s some = absurd (both_ways _ refl some)
-starts-of-prefix mark (c ∷ p) s some = refl
+starts-of-prefix mark p s some = grind (arith, both_ways)
 
 -- prefixes: two bytes decide whether an authority follows
 authority-of-prefix : (p s : List ℕ) → 2 ≤ length p → has_authority (p ++ s) ≡ has_authority p
-authority-of-prefix [] s l = absurd (omega arith)
-authority-of-prefix (a ∷ []) s l = absurd (omega arith)
-authority-of-prefix (a ∷ b ∷ p) s l = refl
+authority-of-prefix p s l = grind (arith, common_steps)
 
 authority-has-two-bytes : (p : List ℕ) → has_authority p ≡ true → 2 ≤ length p
 authority-has-two-bytes [] e = absurd (both_ways _ refl e)
@@ -129,8 +127,7 @@ text-with-mark-is-cut marks (c ∷ p) e = ⊎_elim
 
 authority-begins-with-mark : (p : List ℕ) → has_authority p ≡ true
     → is_some_text (from_any (codes ":/?#") p) ≡ true
-authority-begins-with-mark [] e = absurd (both_ways _ refl e)
-authority-begins-with-mark (a ∷ p) e = grind (arith, from_any-at-mark)
+authority-begins-with-mark p e = grind (arith, both_ways, from_any-at-mark)
 
 path-starts-after-prefix : (p : List ℕ) (before : PackedPositions) → ArePackedPositionsOf p before
     → before.path_start ≡ length (before_path (components p))

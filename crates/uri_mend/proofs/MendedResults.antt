@@ -1,5 +1,5 @@
 -- The reference that a text is mended to has all that is said of one.
-use Rattle.uri_mend.proofs.Common.{◌≡◌, ◌+◌, length, true, false, refl, sym, ap, ◌∙◌, subst, List, ℕ, ◌≤◌, arith, length-append, length-take-le, Bool, IfSome, None, Option, Some, ◌++◌, ◌-◌, drop, option_map, take, IsUtf8, LacksPercent, TableSet, Components, components, Kind, IsOfKind, components_meet_rules, HasComponentSets, components-of-utf8-are-utf8, grammar-gives-components-of-kind, IsLink, mended, dot_segment_if, mended_tail, Link, can_be_mended, has_false_scheme, link_components, mended_components, mended_text, with_dot_segment}
+use Rattle.uri_mend.proofs.Common.{◌≡◌, ◌+◌, length, true, false, refl, sym, ap, ◌∙◌, subst, List, ℕ, ◌≤◌, arith, length-append, length-take-le, Bool, IfSome, None, Option, ◌++◌, ◌-◌, drop, option_map, take, IsUtf8, LacksPercent, TableSet, Components, components, Kind, IsOfKind, components_meet_rules, HasComponentSets, components-of-utf8-are-utf8, grammar-gives-components-of-kind, IsLink, mended, dot_segment_if, mended_tail, Link, can_be_mended, has_false_scheme, link_components, mended_components, mended_text, with_dot_segment}
 use Rattle.uri_ops.proofs.Offered.{recomposed-components-are-utf8}
 use Rattle.uri_mend.specs.Encodings.{AreComponentsEncodedAs, DecodeAlike}
 use Rattle.uri_mend.specs.Mended.{IsMended}
@@ -13,8 +13,7 @@ use Rattle.uri_mend.proofs.Unchanged.{text-of-kind-can-be-mended, text-of-kind-i
 -- mending: a component that is mended, or none, is UTF-8
 mended-part-is-utf8 : (set : TableSet) (o : Option (List ℕ)) → LacksPercent set → IfSome o IsUtf8
     → IfSome (option_map (mended set) o) IsUtf8
-mended-part-is-utf8 set None lacks h = tt
-mended-part-is-utf8 set (Some x) lacks h = mended-text-is-utf8 set x lacks h
+mended-part-is-utf8 set o lacks h = grind (arith, mended-text-is-utf8)
 
 pub pieces-are-mended-text : (kind : Kind) → HasComponentSets kind → (text : List ℕ) (link : Link)
     → IsLink text link → (dot_segment_if link.has_false_scheme ++ take link.path_start text)

@@ -9,9 +9,8 @@ pub mended-by-first-of-chars : (set : TableSet) (c : ℕ) (cs : List ℕ)
     → (eqb c 37 && begins_with_hex_digits cs) ≡ false
     → mended_from_chars set (c ∷ cs) ≡ print (encode_char set c) ++ mended_from_chars set cs
 unfolding mended_from_chars begins_with_hex_digits is_pct_encoded
-mended-by-first-of-chars set c [] e = sym (append-nil (print (encode_char set c)))
-mended-by-first-of-chars set c (d ∷ []) e = refl
-mended-by-first-of-chars set c (d ∷ f ∷ cs) e = cond-false _ _ _ e
+mended-by-first-of-chars set c cs e =
+    grind (arith, append-nil, mended_from_chars, begins_with_hex_digits, is_pct_encoded, cond-false)
 
 -- mended components: an octet at the start is unchanged
 pub mended-by-first-octet : (set : TableSet) (c high low : ℕ) (cs : List ℕ)

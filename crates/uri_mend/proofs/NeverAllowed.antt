@@ -35,20 +35,8 @@ pub record HasMendedSets (kind : Kind) : Type 0 where
 kind-by-flags-has-mended-sets : (international needs_scheme : Bool)
     → HasMendedSets (kind_by_flags international needs_scheme)
 unfolding has_bit
-kind-by-flags-has-mended-sets false needs_scheme = record {
-  path = never-is-no-path-char;
-  query = never-is-no-query-char;
-  fragment = never-is-no-query-char;
-  path_marks = refl;
-  query_marks = refl;
-}
-kind-by-flags-has-mended-sets true needs_scheme = record {
-  path = never-is-no-path-char;
-  query = never-is-no-query-char;
-  fragment = never-is-no-query-char;
-  path_marks = refl;
-  query_marks = refl;
-}
+kind-by-flags-has-mended-sets international needs_scheme =
+    grind (arith, never-is-no-path-char, never-is-no-query-char, has_bit)
 
 -- sets: a kind that is equal to one of the four has them
 pub known-kind-has-mended-sets : (kind same : Kind)

@@ -1,6 +1,6 @@
 -- What mending leaves as it is: a text of the kind; and what it refuses: a scheme and an authority
 -- that begin no text of the kind.
-use Rattle.uri_mend.proofs.Common.{◌≡◌, ℕ, Bool, true, false, not, List, [], ◌++◌, refl, sym, ap, ◌∙◌, ◌&&◌, ◌||◌, arith, inl, codes, Option, Some, None, IfSome, IfNone, is_some, option_map, IsUtf8, and_parts, and_from, append-nil, TableSet, LacksPercent, Components, components, recompose, marked, starts, IsSplitOf, IsAbemptyPath, has_scheme, before_any, Kind, IsOfKind, is_of_kind, absent_or_passes, is_scheme, is_authority, components_meet_rules, recompose-components, only-split-is-components, HasComponentSets, before_path, components-of-utf8-are-utf8, grammar-gives-components-of-kind, mended, has_false_scheme, link_components, mended_components, mended_text, can_be_mended}
+use Rattle.uri_mend.proofs.Common.{◌≡◌, ℕ, Bool, true, false, not, List, [], ◌++◌, sym, ap, ◌∙◌, ◌&&◌, ◌||◌, arith, codes, Option, None, IfSome, IfNone, is_some, option_map, IsUtf8, and_parts, and_from, append-nil, TableSet, LacksPercent, Components, components, recompose, marked, starts, IsSplitOf, IsAbemptyPath, has_scheme, before_any, Kind, IsOfKind, is_of_kind, absent_or_passes, is_scheme, is_authority, components_meet_rules, recompose-components, only-split-is-components, HasComponentSets, before_path, components-of-utf8-are-utf8, grammar-gives-components-of-kind, mended, has_false_scheme, link_components, mended_components, mended_text, can_be_mended}
 use Rattle.uri_pct.proofs.Offered.{empty_text_is_valid}
 use Rattle.uri_ops.proofs.Offered.{is_set_text, set-text-is-valid, set-text-is-utf8}
 use Rattle.uri_mend.proofs.MendedSteps.{valid-text-is-its-own-mended-text}
@@ -25,12 +25,10 @@ prefix-components-are-text-before-path p =
 
 empty-path-follows-authority : (o : Option (List ℕ)) (P : List ℕ → Type 0) (path : List ℕ)
     → IfSome o (λ a. P a × IsAbemptyPath path) → IfSome o (λ a. P a × IsAbemptyPath [])
-empty-path-follows-authority None P path h = tt
-empty-path-follows-authority (Some a) P path h = (h.0, inl refl)
+empty-path-follows-authority o P path h = grind arith
 
 holds-without-part : {A : Type 0} (o : Option A) (P : Type 0) → P → IfNone o P
-holds-without-part None P h = h
-holds-without-part (Some a) P h = tt
+holds-without-part e g h = grind arith
 
 -- mending: a scheme and an authority are a split of their text
 pub prefix-components-are-split : (p : Components) → AreMendable p
@@ -44,11 +42,7 @@ prefix-components-are-split p m =
 rules-of-prefix : (a s n there : Bool)
     → (((((true && a) && true) && true) && true) && (s || (not n && (there || true))))
     ≡ (a && (s || not n))
-rules-of-prefix false s n there = refl
-rules-of-prefix true true n there = refl
-rules-of-prefix true false true there = refl
-rules-of-prefix true false false true = refl
-rules-of-prefix true false false false = refl
+rules-of-prefix a s n there = grind arith
 
 -- mending: what is before the path is of the kind exactly if the authority passes, and the scheme
 -- is there if it is needed
@@ -72,8 +66,7 @@ prefix-is-of-kind-iff-mendable kind text u =
     (prefix_components p) (prefix-components-are-split p m)) ∙ prefix-rules kind p m
 
 rule-on-schemes : (s n r : Bool) → (s || (not n && r)) ≡ true → (s || not n) ≡ true
-rule-on-schemes true n r h = refl
-rule-on-schemes false n r h = (and_parts (not n) r h).0
+rule-on-schemes s n r h = grind arith
 
 text-of-kind-has-no-leading-colon : (kind : Kind) (text : List ℕ) → IsOfKind kind text
     → starts 58 text ≡ false
@@ -98,8 +91,7 @@ link-components-of-text-of-kind kind text h =
 valid-part-is-unchanged : (set : TableSet) (o : Option (List ℕ)) → LacksPercent set
     → set.pct_encoded ≡ true → IfSome o (λ x. is_set_text set x ≡ true)
     → option_map (mended set) o ≡ o
-valid-part-is-unchanged set None lacks octets h = refl
-valid-part-is-unchanged set (Some x) lacks octets h =
+valid-part-is-unchanged set o lacks octets h =
     grind (arith, valid-text-is-its-own-mended-text, set-text-is-utf8, set-text-is-valid)
 
 equal-ends-make-equal-components : (p : Components) {path : List ℕ}

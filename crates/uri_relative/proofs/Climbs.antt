@@ -1,5 +1,6 @@
 -- Where a path of `../` leads to.
-use Rattle.uri_relative.proofs.Common.{◌≡◌, ℕ, zero, suc, ◌+◌, Bool, true, false, cond, eqb, List, [], ◌∷◌, ◌++◌, length, take, drop, refl, sym, ap, subst, ◌∙◌, arith, append_assoc, inl, inr, ◌||◌, codes, append-nil, take-append-drop, list_all-append, and_parts, false≢true, nat_tests, IsAbemptyPath, is_empty, IsAbsolute, EndsInSlash, lacks_dot_segments, segments, remove_dot_segments, underflows, directory, pop, pop-undoes-push, pushed-segments-are-not-none, AllPass, is_dotless, step_of, next_output, parent-of-dotless-is-pop, slashed, NoSlashes, lacks_slash, segments-of-slashed-segments, segments-of-text-are-not-none, directory-by-segments, path-after-slash-appends-its-segments, appended-segments-lack-slashes, property-of-path-to-slash-by-segments, property-of-absolute-path-by-segments, segments-of-dotless-path-are-dotless, remove-dots-of-dotless, dotless-path-does-not-underflow, empty-text-is-nil, removing-dots-after-directory, underflow-after-directory, double_dots, slashes, relative_path, relative_from, IsSharedPrefix}
+use Rattle.std.proofs.lemmas.Grind.{common_steps}
+use Rattle.uri_relative.proofs.Common.{◌≡◌, ℕ, zero, suc, ◌+◌, Bool, true, false, cond, eqb, List, [], ◌∷◌, ◌++◌, length, take, drop, refl, sym, ap, subst, ◌∙◌, arith, append_assoc, inr, ◌||◌, codes, append-nil, take-append-drop, list_all-append, and_parts, false≢true, nat_tests, IsAbemptyPath, is_empty, IsAbsolute, EndsInSlash, lacks_dot_segments, segments, remove_dot_segments, underflows, directory, pop, pop-undoes-push, pushed-segments-are-not-none, AllPass, is_dotless, step_of, next_output, parent-of-dotless-is-pop, slashed, NoSlashes, lacks_slash, segments-of-slashed-segments, segments-of-text-are-not-none, directory-by-segments, path-after-slash-appends-its-segments, appended-segments-lack-slashes, property-of-path-to-slash-by-segments, property-of-absolute-path-by-segments, segments-of-dotless-path-are-dotless, remove-dots-of-dotless, dotless-path-does-not-underflow, empty-text-is-nil, removing-dots-after-directory, underflow-after-directory, double_dots, slashes, relative_path, relative_from, IsSharedPrefix}
 use Rattle.std.proofs.lemmas.List.Splits.{length-slice_split}
 use Rattle.uri_ops.proofs.Offered.{is_none, underflows_at}
 
@@ -92,8 +93,7 @@ equal-lists-have-equal-tails xs ys e = cc
 -- general fact on texts, for directories of relativized paths of relativized paths of relativized
 -- paths of relativized paths: one that ends in `/` is not empty
 text-with-slash-is-not-empty : (prefix : List ℕ) → [] ≡ prefix ++ codes "/" → ⊥
-text-with-slash-is-not-empty [] e = cc
-text-with-slash-is-not-empty (c ∷ prefix) e = cc
+text-with-slash-is-not-empty prefix e = grind (arith, common_steps)
 
 -- relativized paths: the last segment of two lists is that of the second
 pop-removes-from-last-part : (xs ys : List (List ℕ)) → is_none ys ≡ false → pop (xs ++ ys)
@@ -148,9 +148,8 @@ directory-of-dotless-segments s rest lack dotless =
 -- relativized paths: a directory at the start of an absolute path is absolute
 prefix-of-absolute-path-is-absolute : (prefix below : List ℕ) → EndsInSlash prefix
     → IsAbsolute (prefix ++ below) → IsAbsolute prefix
-prefix-of-absolute-path-is-absolute [] below closed h = absurd
-    (text-with-slash-is-not-empty closed.0 closed.1)
-prefix-of-absolute-path-is-absolute (c ∷ prefix) below closed h = h
+prefix-of-absolute-path-is-absolute prefix below closed h =
+    grind (arith, text-with-slash-is-not-empty)
 
 module _ {X : Type 0} (f : List ℕ → X) (by : FollowsDotsFromDirectory f) where
   -- `../` for each directory leads up by that many directories
@@ -174,11 +173,7 @@ module _ {X : Type 0} (f : List ℕ → X) (by : FollowsDotsFromDirectory f) whe
       (none misread : Bool) → (none ≡ true → rest ≡ []) → AllPass is_dotless xs → NoSlashes xs
       → f (dir xs ++ cond none (codes ".") (cond misread (codes "./" ++ rest) rest))
       ≡ f (dir xs ++ rest)
-  path-without-double-dots-leads-to-rest xs rest true misread h dotless lack =
-      by.stay xs [] dotless lack (inl refl) ∙ ap (λ t. f (dir xs ++ t)) (sym (h refl))
-  path-without-double-dots-leads-to-rest xs rest false true h dotless lack = by.stay xs
-      (47 ∷ rest) dotless lack (inr refl)
-  path-without-double-dots-leads-to-rest xs rest false false h dotless lack = refl
+  path-without-double-dots-leads-to-rest xs rest none misread h dotless lack = grind (arith, by)
 
   path-with-double-dots-leads-up : (ys xs : List (List ℕ)) (y rest : List ℕ) (none : Bool)
       → (none ≡ true → rest ≡ []) → AllPass is_dotless (xs ++ y ∷ ys) → NoSlashes (xs ++ y ∷ ys) → f

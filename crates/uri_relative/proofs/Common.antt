@@ -1,6 +1,6 @@
 -- What proofs import from std, from lower crates and from `specs/`: the modules that three
 -- files or more use.
-pub use Rattle.std.proofs.Common.{◌≡◌, ℕ, zero, suc, ◌+◌, ◌-◌, Bool, true, false, cond, eqb, List, [], ◌∷◌, ◌++◌, length, take, drop, refl, sym, ap, subst, ◌∙◌, arith, append_assoc, inl, inr, ◌||◌, codes, append-nil, take-append-drop, ◌≤◌, length-append, option_map, is_some, IfSome, Option, Some, None, not, ◌&&◌, ⊎_elim, ◌<◌, rules, IfNone, Ok, IsUtf8, ◌*◌, ◌/◌, get_or, ◌⊎◌, ◌==◌, ◌≢◌, bytes_eq, Decides, IsCharBoundary, nat_lt, length-drop, lit<, OnOk, Result, Err, drop_at, take_at, string_bytes, IfOk, is_none}
+pub use Rattle.std.proofs.Common.{◌≡◌, ℕ, zero, suc, ◌+◌, ◌-◌, Bool, true, false, cond, eqb, List, [], ◌∷◌, ◌++◌, length, take, drop, refl, sym, ap, subst, ◌∙◌, arith, append_assoc, inl, inr, ◌||◌, codes, append-nil, take-append-drop, ◌≤◌, length-append, option_map, is_some, IfSome, Option, Some, None, not, ◌&&◌, ⊎_elim, ◌<◌, rules, IfNone, Ok, IsUtf8, ◌*◌, ◌/◌, get_or, ◌⊎◌, ◌==◌, ◌≢◌, bytes_eq, Decides, IsCharBoundary, nat_lt, length-drop, lit<, OnOk, Result, drop_at, take_at, string_bytes, IfOk, is_none}
 pub use Rattle.std.proofs.Math.Bool.{and-false}
 pub use Rattle.std.proofs.lemmas.Bool.{and_parts, false≢true, both_ways, not-true, or_cases, and_from, cond_both, or_left, cond-false, cond-true, leb-true, not_from_false, or_parts, cases_Bool, not-false, and_left, and_right, false_from_ne_true, lt-leb, not_from_true, or_from, eq-eqb, eqb-true, lt-ltb, or_right}
 pub use Rattle.std.proofs.lemmas.Bool.Decides.{nat_tests, Decides-like}

@@ -14,8 +14,7 @@ pub record AuthorityBeginsAfter (n : ℕ) (places : AuthorityPositions) : Type 0
 pub authority-begins-after-scheme : (n : ℕ) (authority : Option (List ℕ))
     (places : AuthorityPositions)
     → Some places ≡ option_map (authority_at (n + 2)) authority → AuthorityBeginsAfter n places
-authority-begins-after-scheme n None places e = absurd (none-some places (sym e))
-authority-begins-after-scheme n (Some a) places e = grind (arith, nat_tests, same_Some)
+authority-begins-after-scheme n authority places e = grind (arith, none-some, nat_tests, same_Some)
 
 -- relativized references: the positions of an authority, moved back by n, are those in a text
 -- without the bytes before its `//`
@@ -24,10 +23,8 @@ pub authority-positions-without-scheme : (n : ℕ) (authority : Option (List ℕ
     → moved.start ≡ places.start - n → moved.host_start ≡ places.host_start - n
     → moved.host_end ≡ places.host_end - n → moved.end ≡ places.end - n
     → Some moved ≡ option_map (authority_at 2) authority
-authority-positions-without-scheme n None places moved e start host_start host_end end = absurd
-    (none-some places (sym e))
-authority-positions-without-scheme n (Some a) places moved e start host_start host_end end =
-    grind (arith, nat_tests, same_Some)
+authority-positions-without-scheme n authority places moved e start host_start host_end end =
+    grind (arith, none-some, nat_tests, same_Some)
 
 -- relativized references: an authority begins n + 2 bytes into a text with a scheme of n bytes
 -- (with its `:`)
@@ -39,8 +36,7 @@ authority-positions-of-components t n places m e =
 
 absent-authority-has-no-positions : (n m : ℕ) (authority : Option (List ℕ))
     → None ≡ option_map (authority_at n) authority → None ≡ option_map (authority_at m) authority
-absent-authority-has-no-positions n m None e = refl
-absent-authority-has-no-positions n m (Some a) e = absurd (none-some (authority_at n a) e)
+absent-authority-has-no-positions n m authority e = grind (arith, none-some)
 
 pub no-authority-positions-no-authority : (t : Components) → (positions_of t).authority ≡ None
     → None ≡ option_map (authority_at 2) t.authority
@@ -113,10 +109,8 @@ positions-without-scheme t p n authority start end query at m a s e q =
 
 pub query-end-by-length : (n : ℕ) (query : Option (List ℕ)) → is_some query ≡ true
     → Some (n + length (marked (codes "?") query [])) ≡ option_map (λ q. n + 1 + length q) query
-query-end-by-length n None e = absurd (false≢true e)
-query-end-by-length n (Some q) e = ap Some (omega (arith, length-append q []))
+query-end-by-length n query e = grind (arith, false≢true, length-append)
 
 pub no-query-no-query-end : (n : ℕ) (query : Option (List ℕ)) → is_some query ≡ false
     → None ≡ option_map (λ q. n + 1 + length q) query
-no-query-no-query-end n None e = refl
-no-query-no-query-end n (Some q) e = absurd (false≢true (sym e))
+no-query-no-query-end n query e = grind (arith, false≢true)

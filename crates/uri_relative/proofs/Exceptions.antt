@@ -1,5 +1,5 @@
 -- The targets that no reference without a scheme and an authority leads to: RFC 3986, section 5.2.
-use Rattle.uri_relative.proofs.Common.{◌≡◌, ℕ, Bool, true, false, not, ◌&&◌, ◌||◌, List, [], ◌∷◌, refl, sym, ap, ◌∙◌, ⊎_elim, inl, inr, arith, is_none, is_some, and_parts, both_ways, not-true, or_cases, slash, Components, IsAbemptyPath, components, recompose, starts, equal-to-true-is-IsTrue, IsAbsolute, is_empty, is_opaque, is_opaque_rejection, target_of, ok-result-has-no-opaque-rejection, result_or_target_error, target-text-has-target-components, NeedsSchemeOrAuthority, without_fragment, is_rootless, has_emptied_path, needs_authority, settled, would_inherit_query, joined_path, settled-text-has-settled-components}
+use Rattle.uri_relative.proofs.Common.{◌≡◌, ℕ, Bool, true, false, not, ◌&&◌, ◌||◌, List, refl, sym, ap, ◌∙◌, ⊎_elim, arith, is_none, is_some, and_parts, both_ways, not-true, or_cases, slash, Components, IsAbemptyPath, components, recompose, starts, equal-to-true-is-IsTrue, IsAbsolute, is_empty, is_opaque, is_opaque_rejection, target_of, ok-result-has-no-opaque-rejection, result_or_target_error, target-text-has-target-components, NeedsSchemeOrAuthority, without_fragment, is_rootless, has_emptied_path, needs_authority, settled, would_inherit_query, joined_path, settled-text-has-settled-components}
 use Rattle.uri_relative.proofs.RootedTargets.{base-that-is-not-opaque-is-rooted}
 use Rattle.uri_relative.proofs.JoinedPaths.{target-path-stays-absolute, nonempty-joined-path-is-absolute, path-joined-to-absolute-is-absolute}
 use Rattle.uri_relative.proofs.ReferenceForms.{IsPathForm, reference-without-authority-is-path-form}
@@ -7,12 +7,10 @@ use Rattle.uri_relative.proofs.ReferenceForms.{IsPathForm, reference-without-aut
 -- relativized references: a path that may be after an authority, and is not empty, begins with `/`
 nonempty-abempty-path-is-absolute : (path : List ℕ) → IsAbemptyPath path → is_empty path ≡ false
     → IsAbsolute path
-nonempty-abempty-path-is-absolute path (inl e) h = absurd (both_ways _ h (ap is_empty e))
-nonempty-abempty-path-is-absolute path (inr e) h = e
+nonempty-abempty-path-is-absolute path e h = grind (arith, both_ways, is_empty)
 
 path-with-slash-is-not-empty : (path : List ℕ) → starts slash path ≡ true → is_empty path ≡ true → ⊥
-path-with-slash-is-not-empty [] e h = cc
-path-with-slash-is-not-empty (c ∷ path) e h = cc
+path-with-slash-is-not-empty path e h = grind arith
 
 -- relativized references: a base that is not opaque, without an authority, has an absolute path; t:
 -- the target

@@ -1,5 +1,5 @@
 -- The forms of references that lead to a target: RFC 3986, sections 4.2 and 5.2.2.
-use Rattle.uri_relative.proofs.Common.{◌≡◌, ℕ, ◌+◌, ◌≤◌, ◌<◌, Bool, true, false, not, List, [], ◌++◌, ◌&&◌, ◌||◌, ◌∷◌, length, refl, sym, ap, ◌∙◌, subst, arith, rules, codes, Option, None, Some, IfSome, IfNone, is_some, length-append, and-false, and_from, and_parts, both_ways, cond_both, or_left, cond-false, cond-true, false≢true, IsUtf8-nil, nat_tests, slash, Components, IsAbemptyPath, IsSplitOf, Lacks, marked, has_authority, has_scheme, recompose, starts, Kind, components_meet_rules, has_colon_in_first_segment, absent_or_passes, is_authority, is_scheme, TableSet, allows, IsAbsolute, lacks_dot_segments, underflows_if_absolute, guarded, is_opaque, is_fragment_only, dotted_target, validity-splits-at-slash, absolute-path-is-slash-and-rest, IsDotlessTargetOf, IsReferenceTo, IsUnguarded, NeedsPath, after_path, from_authority, IsRelativeTo, needs_authority, IsPathTo, IsShortestPath, Shortest}
+use Rattle.uri_relative.proofs.Common.{◌≡◌, ℕ, ◌+◌, ◌≤◌, ◌<◌, Bool, true, false, not, List, [], ◌++◌, ◌&&◌, ◌||◌, ◌∷◌, length, refl, sym, ap, ◌∙◌, subst, arith, rules, codes, Option, None, IfSome, IfNone, is_some, length-append, and-false, and_from, and_parts, both_ways, cond_both, or_left, cond-false, cond-true, false≢true, IsUtf8-nil, nat_tests, slash, Components, IsAbemptyPath, IsSplitOf, Lacks, marked, has_authority, has_scheme, recompose, starts, Kind, components_meet_rules, has_colon_in_first_segment, absent_or_passes, is_authority, is_scheme, TableSet, allows, IsAbsolute, lacks_dot_segments, underflows_if_absolute, guarded, is_opaque, is_fragment_only, dotted_target, validity-splits-at-slash, absolute-path-is-slash-and-rest, IsDotlessTargetOf, IsReferenceTo, IsUnguarded, NeedsPath, after_path, from_authority, IsRelativeTo, needs_authority, IsPathTo, IsShortestPath, Shortest}
 use Rattle.uri_pct.specs.Tokens.{is_valid_for}
 use Rattle.uri_pct.proofs.Offered.{empty_text_is_valid}
 use Rattle.uri_parts.proofs.Offered.{IsEmptyOrMarked-query_text}
@@ -39,8 +39,7 @@ reference-without-authority-is-relative base t r s a = λ _. λ _. λ _. λ _. (
 scheme-adds-two-bytes-at-least : (o : Option (List ℕ)) (rest : List ℕ) → is_some o ≡ true
     → IfSome o (λ s. (0 < length s) × Lacks (codes ":/?#") s)
     → 2 + length rest ≤ length (marked [] o (codes ":") ++ rest)
-scheme-adds-two-bytes-at-least None rest e h = absurd (false≢true e)
-scheme-adds-two-bytes-at-least (Some s) rest e h = grind (arith, nat_tests, length-append)
+scheme-adds-two-bytes-at-least o rest e h = grind (arith, false≢true, nat_tests, length-append)
 
 property-holds-without-guard : (P : List ℕ → Type 0) (a : Option (List ℕ)) (path whole : List ℕ)
     → guarded a path ≡ whole → (P (codes "/." ++ path) → P path) → P whole → P path
@@ -111,8 +110,7 @@ module _ (kind : Kind) (prefers : Bool) (base t : Components) (w : IsDotlessTarg
   -- `//`, where the target has an authority
   network-path-has-no-scheme : (o : Option (List ℕ)) (rest : List ℕ) → is_some o ≡ true
       → has_scheme (marked (codes "//") o [] ++ rest) ≡ false
-  network-path-has-no-scheme None rest e = absurd (false≢true e)
-  network-path-has-no-scheme (Some a) rest e = refl
+  network-path-has-no-scheme o rest e = grind (arith, false≢true)
 
   network-form-is-reference : base.scheme ≡ t.scheme → is_some t.authority ≡ true
       → IsRelativeTo base t (record t { scheme = None })

@@ -27,9 +27,8 @@ shared-prefix-has-same-slash base path last n h e same = sym
 -- relativized paths: two absolute paths share their first `/`; n: where they first differ
 pub absolute-paths-share-a-byte : (base path : List ℕ) (n : ℕ) → IsAbsolute base → IsAbsolute path
     → (n < length base → n < length path → get_or base n 0 ≡ get_or path n 0 → ⊥) → 0 < n
-absolute-paths-share-a-byte base path zero h k most =
+absolute-paths-share-a-byte base path n h k most =
     grind (arith, nat_tests, absolute-path-is-slash-and-rest)
-absolute-paths-share-a-byte base path (suc n) h k most = omega arith
 
 -- relativized paths: the last byte of a shared prefix is `/` (47)
 prefix-to-slash-has-slash-last : (text : List ℕ) (m : ℕ) → m ≤ length text

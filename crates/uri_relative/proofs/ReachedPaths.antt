@@ -42,9 +42,7 @@ path-without-double-dots-is-no-longer : (rest x : List ℕ) (none misread : Bool
     → (none ≡ false → length rest ≤ length x)
     → (none ≡ false → misread ≡ true → length rest + 2 ≤ length x)
     → length (cond none (codes ".") (cond misread (codes "./" ++ rest) rest)) ≤ length x
-path-without-double-dots-is-no-longer rest x true misread some h room = omega (arith, some)
-path-without-double-dots-is-no-longer rest x false true some h room = omega (arith, room refl refl)
-path-without-double-dots-is-no-longer rest x false false some h room = h refl
+path-without-double-dots-is-no-longer rest x none misread some h room = grind arith
 
 -- lengths of relativized paths: one with k + 1 `../` and a rest is no longer than x, by a count;
 -- spare: a byte too many
@@ -83,9 +81,8 @@ no-byte-is-spare-for-some-rest : (spare : ℕ) (d : List ℕ) (ds up : List (Lis
     → (spare ≡ 0) ⊎ ((d ∷ ds ≡ [] ∷ []) × (0 < length up))
     → is_empty (d ++ slashed ds) ≡ false → spare ≡ 0
 unfolding slashed
-no-byte-is-spare-for-some-rest spare d ds up (inl e) some = e
-no-byte-is-spare-for-some-rest spare d ds up (inr h) some =
-    grind (arith, equal-segments-have-equal-rest)
+no-byte-is-spare-for-some-rest spare d ds up h some =
+    grind (arith, slashed, equal-segments-have-equal-rest)
 
 -- lengths of relativized paths: there is room for a `./` if the rest below a directory needs one
 room-for-leading-dot-or-not-needed : (s d : List ℕ) (segs ds : List (List ℕ)) (enough : Type 0)
@@ -205,8 +202,7 @@ text-by-segments-is-reached-by-short-path output segs s x dotless lack e some ro
 pub nonempty-segments-have-first : (segs : List (List ℕ)) → is_none segs ≡ false
     → (s : List ℕ) × (rest : List (List ℕ)) × (segs ≡ s ∷ rest)
 unfolding is_none
-nonempty-segments-have-first [] e = absurd (false≢true (sym e))
-nonempty-segments-have-first (s ∷ rest) e = (s, rest, refl)
+nonempty-segments-have-first segs e = grind (arith, false≢true, is_none)
 
 -- relativized paths: a relative path no longer than x can replace x after a directory (output)
 pub leads : (output : List (List ℕ)) (x : List ℕ) → AllPass is_dotless output → NoSlashes output

@@ -1,5 +1,5 @@
 -- A target leads back to the reference that it was resolved from, or to another that leads there.
-use Rattle.uri_relative.proofs.Common.{◌≡◌, ℕ, Bool, true, false, List, refl, sym, ap, ◌∙◌, arith, None, Ok, is_some, None-from-not-is_some, Components, components, recompose, is_opaque_rejection, resolution_of_texts, target_of, ok-result-has-no-opaque-rejection, result_or_target_error, target-text-has-target-components, LeadsTo, without_fragment, settled}
+use Rattle.uri_relative.proofs.Common.{◌≡◌, ℕ, Bool, true, false, List, sym, ap, ◌∙◌, arith, None, Ok, is_some, None-from-not-is_some, Components, components, recompose, is_opaque_rejection, resolution_of_texts, target_of, ok-result-has-no-opaque-rejection, result_or_target_error, target-text-has-target-components, LeadsTo, without_fragment, settled}
 use Rattle.uri_relative.proofs.Settled.{final-path-is-idempotent}
 
 -- relativized references: where base and reference resolve, the base has no fragment; fragment,
@@ -7,8 +7,7 @@ use Rattle.uri_relative.proofs.Settled.{final-path-is-idempotent}
 outcome-without-error-has-no-fragment : (fragment opaque : Bool) (x y : List ℕ)
     → result_or_target_error fragment opaque x ≡ Ok y → fragment ≡ false
 unfolding result_or_target_error
-outcome-without-error-has-no-fragment true opaque x y e = cc
-outcome-without-error-has-no-fragment false opaque x y e = refl
+outcome-without-error-has-no-fragment fragment opaque x y e = grind (arith, result_or_target_error)
 
 components-without-fragment-stay : (c : Components) → c.fragment ≡ None → without_fragment c ≡ c
 components-without-fragment-stay c e = ap (λ f. let b : Components = record c { fragment = f } in b)

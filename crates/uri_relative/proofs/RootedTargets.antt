@@ -1,12 +1,10 @@
 -- Which targets need an authority in their reference, and which bases have a rooted path: RFC 3986,
 -- section 5.2.2.
-use Rattle.uri_relative.proofs.Common.{◌≡◌, ◌≢◌, ℕ, Bool, true, false, List, [], ◌&&◌, sym, ap, ◌∙◌, inl, inr, ⊎_elim, arith, codes, Option, None, Some, IfSome, is_some, is_none, both_ways, cases_Bool, false≢true, not-false, nat_tests, slash, Components, IsAbemptyPath, Lacks, components, starts, Kind, not_some_is_none, eq_true_from_IsTrue, components-are-split-of-text, equal-to-true-is-IsTrue, is_opaque, empty-text-is-nil, IsDotlessTargetOf, NeedsPath, needs_authority}
+use Rattle.uri_relative.proofs.Common.{◌≡◌, ◌≢◌, ℕ, Bool, true, false, List, [], ◌&&◌, sym, ap, ◌∙◌, inr, ⊎_elim, arith, codes, Option, IfSome, is_some, is_none, both_ways, cases_Bool, false≢true, not-false, nat_tests, slash, Components, IsAbemptyPath, Lacks, components, starts, Kind, not_some_is_none, eq_true_from_IsTrue, components-are-split-of-text, equal-to-true-is-IsTrue, is_opaque, empty-text-is-nil, IsDotlessTargetOf, NeedsPath, needs_authority}
 
 abempty-path-without-slash-is-empty : (path : List ℕ) → IsAbemptyPath path → starts slash path
     ≡ false → path ≡ []
-abempty-path-without-slash-is-empty path (inl e) h = e
-abempty-path-without-slash-is-empty path (inr e) h = absurd
-    (both_ways _ h (eq_true_from_IsTrue _ e))
+abempty-path-without-slash-is-empty path e h = grind (arith, both_ways, eq_true_from_IsTrue)
 
 rootless-path-without-authority-needs-one : (base t : Components) → is_some t.authority ≡ false
     → starts slash t.path ≡ false → needs_authority base t ≡ true
@@ -21,8 +19,7 @@ empty-path-after-authority-needs-authority base t n a opaque some e =
 -- targets to relativize: the path after an authority (a) is empty or begins with `/`
 path-after-authority-is-abempty : (a : Option (List ℕ)) (path : List ℕ) → is_some a ≡ true
     → IfSome a (λ x. Lacks (codes "/?#") x × IsAbemptyPath path) → IsAbemptyPath path
-path-after-authority-is-abempty None path e h = absurd (false≢true e)
-path-after-authority-is-abempty (Some a) path e h = h.1
+path-after-authority-is-abempty a path e h = grind (arith, false≢true)
 
 -- targets to relativize: one without a leading `/` in its path needs a reference with a scheme or
 -- an authority

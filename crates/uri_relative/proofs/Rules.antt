@@ -1,5 +1,5 @@
 -- Which reference is chosen.
-use Rattle.uri_relative.proofs.Common.{◌≡◌, ℕ, ◌<◌, ◌≤◌, Bool, true, false, not, ◌&&◌, List, [], length, ◌+◌, drop, refl, sym, ap, ◌∙◌, arith, Option, None, Some, bytes_eq, is_none, is_some, Decides, and_from, and_left, and_parts, and_right, both_ways, cond-false, cond-true, false_from_ne_true, lt-leb, not_from_true, or_from, Decides-like, slash, Components, starts, lacks_dot_segments, or_slash, remove_dot_segments, guarded, is_opaque, remove-dots-of-dotless, IsUnguarded, NeedsPath, from_authority, IsLongestPrefix, IsSharedPrefix, relative_path, slashes, has_same_authority, has_same_query, has_same_scheme, path_from_base, reference_components, shortest_or_preferred_path, has_same_authority_and_path}
+use Rattle.uri_relative.proofs.Common.{◌≡◌, ℕ, ◌<◌, ◌≤◌, Bool, true, false, not, ◌&&◌, List, [], length, ◌+◌, drop, sym, ap, ◌∙◌, arith, Option, None, Some, bytes_eq, is_none, is_some, Decides, and_from, and_left, and_parts, and_right, both_ways, cond-false, cond-true, false_from_ne_true, lt-leb, not_from_true, or_from, Decides-like, slash, Components, starts, lacks_dot_segments, or_slash, remove_dot_segments, guarded, is_opaque, remove-dots-of-dotless, IsUnguarded, NeedsPath, from_authority, IsLongestPrefix, IsSharedPrefix, relative_path, slashes, has_same_authority, has_same_query, has_same_scheme, path_from_base, reference_components, shortest_or_preferred_path, has_same_authority_and_path}
 use Rattle.std.specs.Option.{option_eq}
 use Rattle.std.proofs.lemmas.Slice.Eq.{bytes_eq-Decides}
 use Rattle.uri_relative.proofs.Climbs.{remove_dot_segments-follows-dots}
@@ -48,11 +48,7 @@ unguarded-path-is-without-dots t path u =
 
 -- relativized references: comparing two components decides whether they are equal
 option-test-decides-equality : (p q : Option (List ℕ)) → Decides (option_eq bytes_eq p q) (p ≡ q)
-option-test-decides-equality None None = (λ _. refl, λ _. refl)
-option-test-decides-equality None (Some b) = (λ e. cc, λ e. cc)
-option-test-decides-equality (Some a) None = (λ e. cc, λ e. cc)
-option-test-decides-equality (Some a) (Some b) = Decides-like _ (ap Some) (λ e. cc)
-    (bytes_eq-Decides a b)
+option-test-decides-equality p q = grind (arith, Decides-like, bytes_eq-Decides)
 
 -- general fact on booleans, for the choice of a reference, in relativizing, in relativizing, in
 -- relativizing, in relativizing: a test of what is refuted fails

@@ -1,6 +1,6 @@
 -- Targets of which no dot segment is left to remove: RFC 3986, section 5.2.2.
 use Rattle.std.proofs.lemmas.Grind.{common_steps}
-use Rattle.uri_relative.proofs.Common.{◌≡◌, ℕ, Bool, true, false, cond, List, [], ◌∷◌, ◌++◌, ◌&&◌, arith, drop, eqb, refl, sym, ap, ◌∙◌, ⊎_elim, codes, Option, None, Some, IfNone, is_some, is_none, IsCharBoundary, IsUtf8, and-false, and_parts, cases_Bool, cond-true, cond-false, false≢true, nat_tests, eq_true_from_IsTrue, slash, Components, starts, has_authority, equal-to-true-is-IsTrue, IsAbsolute, lacks_dot_segments, remove_dot_segments, underflows, with_final_path, dotless_if_absolute, underflows_if_absolute, guarded, removing-dots-keeps-absolute, removing-dots-leaves-no-dot-segment, remove-dots-of-dotless, dotless-path-does-not-underflow, two-slashes-begin-with-slash, guard-is-removed-as-dot-segment, dotless_if_absolute-is-idempotent, absolute-path-is-slash-and-rest, IsUnguarded, is_guarded}
+use Rattle.uri_relative.proofs.Common.{◌≡◌, ℕ, Bool, true, false, cond, List, ◌∷◌, ◌++◌, ◌&&◌, arith, drop, refl, sym, ap, ◌∙◌, ⊎_elim, codes, Option, None, IfNone, is_some, is_none, IsCharBoundary, IsUtf8, and-false, cases_Bool, cond-true, cond-false, false≢true, nat_tests, eq_true_from_IsTrue, slash, Components, starts, has_authority, equal-to-true-is-IsTrue, IsAbsolute, lacks_dot_segments, remove_dot_segments, underflows, with_final_path, dotless_if_absolute, underflows_if_absolute, guarded, removing-dots-keeps-absolute, removing-dots-leaves-no-dot-segment, remove-dots-of-dotless, dotless-path-does-not-underflow, two-slashes-begin-with-slash, guard-is-removed-as-dot-segment, dotless_if_absolute-is-idempotent, absolute-path-is-slash-and-rest, IsUnguarded, is_guarded}
 use Rattle.uri_relative.proofs.Climbs.{underflows-follows-dots}
 use Rattle.uri_relative.proofs.Ways.{guard-counts-as-no-segment, rootless-path-has-no-authority}
 
@@ -25,10 +25,8 @@ finish-keeps-rootless-path a path e = grind (arith, rootless-path-has-no-authori
 guarded-path-does-not-underflow : (path : List ℕ) (guard : Bool) → IsAbsolute path
     → underflows path ≡ false
     → underflows_if_absolute (cond guard (codes "/." ++ path) path) ≡ false
-guarded-path-does-not-underflow path true h e = guard-counts-as-no-segment underflows
-    underflows-follows-dots path h ∙ e
-guarded-path-does-not-underflow path false h e = ap (λ u. starts slash path && u) e
-    ∙ and-false (starts slash path)
+guarded-path-does-not-underflow path guard h e =
+    grind (arith, guard-counts-as-no-segment, underflows-follows-dots, starts, slash, and-false)
 
 finished-absolute-path-does-not-underflow : (a : Option (List ℕ)) (path : List ℕ) → IsAbsolute path
     → underflows_if_absolute (finish a path) ≡ false
@@ -56,8 +54,7 @@ settled-target-does-not-underflow t done = grind (arith, finished-path-does-not-
 -- a: the authority
 pub path-without-slashes-needs-no-guard : (a : Option (List ℕ)) (path : List ℕ)
     → IfNone a (has_authority path ≡ false) → guarded a path ≡ path
-path-without-slashes-needs-no-guard None path e = cond-false _ _ _ e
-path-without-slashes-needs-no-guard (Some a) path e = refl
+path-without-slashes-needs-no-guard a path e = grind (arith, cond-false)
 
 -- targets to relativize: an absolute path without dot segments stays; a: the authority
 finish-keeps-dotless-path : (a : Option (List ℕ)) (path : List ℕ)
@@ -101,8 +98,7 @@ path-without-dots-is-unguarded t h e guards =
 -- targets to relativize: a path after an authority gets no guard `/.`; a: the authority
 path-after-authority-gets-no-guard : (a : Option (List ℕ)) (path : List ℕ) → is_some a ≡ true
     → guarded a path ≡ path
-path-after-authority-gets-no-guard None path e = absurd (false≢true e)
-path-after-authority-gets-no-guard (Some a) path e = refl
+path-after-authority-gets-no-guard a path e = grind (arith, false≢true)
 
 -- targets to relativize: the path after an authority has no guard `/.` to leave out
 pub path-after-authority-is-unguarded : (t : Components) → is_some t.authority ≡ true
@@ -116,8 +112,7 @@ path-after-authority-is-unguarded t some h done =
 -- targets to relativize: without an authority (a), a path is guarded as it is for None
 guard-is-that-without-authority : (a : Option (List ℕ)) (path : List ℕ) → is_some a ≡ false
     → guarded a path ≡ guarded None path
-guard-is-that-without-authority None path e = refl
-guard-is-that-without-authority (Some a) path e = absurd (false≢true (sym e))
+guard-is-that-without-authority a path e = grind (arith, false≢true)
 
 guard-is-dot-segment : (rest : List ℕ) → lacks_dot_segments (codes "/." ++ 47 ∷ rest) ≡ false
 guard-is-dot-segment rest = refl
@@ -142,10 +137,7 @@ path-after-guard-is-unguarded t rest none h done whole double =
 
 guarded-path-is-guard-and-path : (path : List ℕ) → is_guarded path ≡ true
     → (path ≡ codes "/." ++ drop 2 path) × (has_authority (drop 2 path) ≡ true)
-guarded-path-is-guard-and-path [] e = absurd (false≢true e)
-guarded-path-is-guard-and-path (a ∷ []) e =
-    absurd (false≢true (and_parts (eqb a 47 && false) false (and_parts _ false e).0).1)
-guarded-path-is-guard-and-path (a ∷ b ∷ rest) e = grind (arith, nat_tests)
+guarded-path-is-guard-and-path path e = grind (arith, false≢true, false, nat_tests)
 
 pub path-without-guard-is-unguarded : (t : Components) → is_some t.authority ≡ false
     → IsAbsolute t.path

@@ -1,5 +1,6 @@
 -- What the segments of a path make of a directory, against the segments that they share: RFC 3986,
 -- section 5.2.4.
+use Rattle.std.proofs.lemmas.Grind.{common_steps}
 use Rattle.uri_relative.proofs.Common.{◌≡◌, ◌⊎◌, ℕ, ◌+◌, ◌*◌, ◌<◌, ◌≤◌, Bool, true, false, List, [], ◌∷◌, ◌++◌, ◌||◌, length, refl, sym, ap, ◌∙◌, arith, append_assoc, inl, inr, length-append, append-nil, and-false, false≢true, nat_tests, is_double_dot, is_single_dot, single-dot-is-not-empty, closing, end_of, pop, pop-undoes-push, step_of, steps, next_output, slashed}
 use Rattle.uri_relative.proofs.Climbs.{segments-are-all-but-last-and-last}
 use Rattle.uri_relative.proofs.Shrinking.{segments_left, length-of-first-segment-and-rest, no-segments-have-length-zero}
@@ -26,9 +27,7 @@ pub record SharesDirectoryPrefix (output left segs : List (List ℕ)) : Type 0 w
       ⊎ (3 * length up + length (slashed down) + 2 ≤ length (slashed segs) + spare)))
 
 double-dot-segment-has-two-bytes : (s : List ℕ) → is_double_dot s ≡ true → 1 < length s
-double-dot-segment-has-two-bytes [] e = absurd (false≢true e)
-double-dot-segment-has-two-bytes (c ∷ []) e = grind (arith, false≢true, and-false)
-double-dot-segment-has-two-bytes (c ∷ d ∷ s) e = omega arith
+double-dot-segment-has-two-bytes s e = grind (arith, common_steps, false≢true, and-false)
 
 staying-segment-shares-directory-prefix : (s : List ℕ) (output : List (List ℕ)) → 0 < length s
     → SharesDirectoryPrefix output (output ++ [] ∷ []) (s ∷ [])
@@ -99,8 +98,7 @@ last-segment-shares-directory-prefix false false s output one two = record {
 
 no-byte-is-spare-without-climb : (spare : ℕ) (down : List (List ℕ))
     → (spare ≡ 0) ⊎ ((down ≡ [] ∷ []) × (0 < 0)) → spare ≡ 0
-no-byte-is-spare-without-climb spare down (inl e) = e
-no-byte-is-spare-without-climb spare down (inr h) = absurd (omega (arith, h.1))
+no-byte-is-spare-without-climb spare down h = grind arith
 
 -- relativized paths: if the rest of a path, after segment s, goes up from s or stays in it, the
 -- path shares a prefix with the directory; spare: a byte too many
@@ -158,9 +156,7 @@ pushed-segment-shares-directory-prefix s output left segs prefix (u ∷ us) down
 spare-byte-stays-with-one-more-climb : (spare : ℕ) (up down : List (List ℕ)) (last : List ℕ)
     → (spare ≡ 0) ⊎ ((down ≡ [] ∷ []) × (0 < length up))
     → (spare ≡ 0) ⊎ ((down ≡ [] ∷ []) × (0 < length (up ++ last ∷ [])))
-spare-byte-stays-with-one-more-climb spare up down last (inl e) = inl e
-spare-byte-stays-with-one-more-climb spare up down last (inr h) =
-    inr (h.0, omega (arith, length-append up (last ∷ [])))
+spare-byte-stays-with-one-more-climb spare up down last h = grind (arith, length-append)
 
 -- relativized paths: what holds of the prefix shared after a segment does so before it; single,
 -- double: whether it is `.`, or `..`

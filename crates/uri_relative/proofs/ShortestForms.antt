@@ -1,6 +1,6 @@
 -- No reference that leads to a target is shorter than the one that is written, where the base's
 -- path has no dot segment: RFC 3986, sections 4.2 and 5.2.2.
-use Rattle.uri_relative.proofs.Common.{◌≡◌, ℕ, ◌+◌, ◌≤◌, Bool, true, false, not, List, [], ◌&&◌, ◌||◌, length, refl, sym, ap, ◌∙◌, arith, ⊎_elim, length-append, codes, Option, None, Some, IfNone, is_none, is_some, and_parts, both_ways, cases_Bool, cond-false, cond-true, false≢true, not-true, nat_tests, eq_true_from_IsTrue, none-is-not-some, slash, Components, IsAbemptyPath, has_authority, marked, recompose, starts, Kind, has_colon_in_first_segment, IsAbsolute, is_empty, lacks_dot_segments, remove_dot_segments, dotless_if_absolute, guarded, is_fragment_only, is_opaque, remove-dots-of-dotless, guard-is-removed-as-dot-segment, dotless_if_absolute-is-idempotent, IsUnguarded, NeedsPath, after_path, from_authority, joined_path, Shortest}
+use Rattle.uri_relative.proofs.Common.{◌≡◌, ℕ, ◌+◌, ◌≤◌, Bool, true, false, not, List, [], ◌&&◌, ◌||◌, length, refl, sym, ap, ◌∙◌, arith, ⊎_elim, length-append, codes, Option, None, IfNone, is_none, is_some, and_parts, both_ways, cases_Bool, cond-false, cond-true, false≢true, not-true, nat_tests, eq_true_from_IsTrue, none-is-not-some, slash, Components, IsAbemptyPath, has_authority, marked, recompose, starts, Kind, has_colon_in_first_segment, IsAbsolute, is_empty, lacks_dot_segments, remove_dot_segments, dotless_if_absolute, guarded, is_fragment_only, is_opaque, remove-dots-of-dotless, guard-is-removed-as-dot-segment, dotless_if_absolute-is-idempotent, IsUnguarded, NeedsPath, after_path, from_authority, joined_path, Shortest}
 use Rattle.uri_relative.proofs.JoinedPaths.{target-path-stays-absolute, nonempty-joined-path-is-absolute}
 use Rattle.uri_relative.proofs.Settled.{finish-keeps-rootless-path, path-without-slashes-needs-no-guard}
 use Rattle.uri_relative.proofs.Shrinking.{length-of-recompose, no-slashes-without-authority}
@@ -40,10 +40,7 @@ module _ (kind : Kind) (b t : Components) where
   -- the target, where the base is opaque
   accepted-reference-passes-second-test : (a c d : Bool) → a ≡ true → c ≡ false
       → (a && not (c || d)) ≡ false → d ≡ true
-  accepted-reference-passes-second-test true false true e f h = refl
-  accepted-reference-passes-second-test true false false e f h = absurd (false≢true (sym h))
-  accepted-reference-passes-second-test true true d e f h = absurd (false≢true (sym f))
-  accepted-reference-passes-second-test false c d e f h = absurd (false≢true e)
+  accepted-reference-passes-second-test a c d e f h = grind (arith, false≢true)
 
   fragment-only-reference-lacks-other-parts : (o : Components) → is_fragment_only o ≡ true
       → (is_none o.authority ≡ true) × (is_empty o.path ≡ true) × (is_none o.query ≡ true)
@@ -51,8 +48,7 @@ module _ (kind : Kind) (b t : Components) where
 
   part-is-not-both-present-and-absent : (a : Option (List ℕ)) → is_some a ≡ true
       → is_none a ≡ true → ⊥
-  part-is-not-both-present-and-absent None e f = false≢true e
-  part-is-not-both-present-and-absent (Some x) e f = false≢true f
+  part-is-not-both-present-and-absent a e f = grind (arith, false≢true)
 
   pub target-is-shortest-for-opaque-base : is_opaque b ≡ true → NeedsPath b t
       → Shortest kind b t (length (recompose t))
@@ -148,15 +144,11 @@ module _ (kind : Kind) (b t : Components) where
 
   first-segment-has-no-colon-without-scheme : (a c d : Bool) → a ≡ false → c ≡ false
       → (a || (c || not d)) ≡ true → d ≡ false
-  first-segment-has-no-colon-without-scheme false false false e f h = refl
-  first-segment-has-no-colon-without-scheme false false true e f h = absurd (false≢true h)
-  first-segment-has-no-colon-without-scheme false true d e f h = absurd (false≢true (sym f))
-  first-segment-has-no-colon-without-scheme true c d e f h = absurd (false≢true (sym e))
+  first-segment-has-no-colon-without-scheme a c d e f h = grind (arith, false≢true)
 
   authority-adds-two-bytes-at-least : (a : Option (List ℕ)) → is_some a ≡ true
       → 2 ≤ length (marked (codes "//") a [])
-  authority-adds-two-bytes-at-least None e = absurd (false≢true e)
-  authority-adds-two-bytes-at-least (Some x) e = grind (arith, nat_tests, length-append)
+  authority-adds-two-bytes-at-least a e = grind (arith, false≢true, nat_tests, length-append)
 
   pub path-form-is-shortest : (path : List ℕ) (n : ℕ) → IsAbemptyPath b.path → is_opaque b ≡ false
       → lacks_dot_segments b.path ≡ true → IfNone b.authority (has_authority b.path ≡ false)

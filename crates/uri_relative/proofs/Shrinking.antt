@@ -1,5 +1,5 @@
 -- Removing dot segments makes room for the guard `/.` that is then put before a path.
-use Rattle.uri_relative.proofs.Common.{◌≡◌, ◌⊎◌, ℕ, ◌+◌, ◌<◌, ◌≤◌, Bool, true, false, eqb, List, [], ◌∷◌, ◌++◌, ◌||◌, length, refl, sym, ap, ◌∙◌, arith, inl, inr, ⊎_elim, length-append, codes, Option, None, Some, IfNone, is_some, both_ways, cases_Bool, false≢true, or_parts, nat_tests, Components, components, has_authority, marked, recompose, starts, components-are-split-of-text, recompose-components, equal-to-true-is-IsTrue, IsAbsolute, has_slash, is_double_dot, is_single_dot, remove_dot_segments, with_final_path, dotless_if_absolute, guarded, length-of-slashed-append-is-sum, popped-segments-are-no-longer, property-of-absolute-path-by-segments, removing-dots-lengthens-no-path, dotless_of, closing, end_of, pop, step_of, steps, next_output, NoSlashes, first-segment-and-rest-lack-slashes, remove-dots-by-segments, slashed, settled}
+use Rattle.uri_relative.proofs.Common.{◌≡◌, ◌⊎◌, ℕ, ◌+◌, ◌<◌, ◌≤◌, Bool, true, false, eqb, List, [], ◌∷◌, ◌++◌, ◌||◌, length, refl, sym, ap, ◌∙◌, arith, inl, inr, ⊎_elim, length-append, codes, Option, IfNone, is_some, both_ways, cases_Bool, false≢true, or_parts, nat_tests, Components, components, has_authority, marked, recompose, starts, components-are-split-of-text, recompose-components, equal-to-true-is-IsTrue, IsAbsolute, has_slash, is_double_dot, is_single_dot, remove_dot_segments, with_final_path, dotless_if_absolute, guarded, length-of-slashed-append-is-sum, popped-segments-are-no-longer, property-of-absolute-path-by-segments, removing-dots-lengthens-no-path, dotless_of, closing, end_of, pop, step_of, steps, next_output, NoSlashes, first-segment-and-rest-lack-slashes, remove-dots-by-segments, slashed, settled}
 use Rattle.uri_relative.proofs.Settled.{finish-keeps-rootless-path}
 
 pub length-of-first-segment-and-rest : (s : List ℕ) (rest : List (List ℕ))
@@ -58,8 +58,7 @@ kept-first-or-room-within-greater-length : (s : List ℕ) (output segs : List (L
     → ((tail : List (List ℕ)) × (segments_left output segs ≡ s ∷ tail))
     ⊎ (length (slashed (segments_left output segs)) + 2 ≤ n)
 unfolding Keeps
-kept-first-or-room-within-greater-length s output segs n (inl kept) h = inl kept
-kept-first-or-room-within-greater-length s output segs n (inr room) h = inr (omega (arith, room, h))
+kept-first-or-room-within-greater-length s output segs n e h = grind (arith, Keeps)
 
 -- lengths of paths to relativize: one segment (t) after the first (s), which isn't empty, keeps it
 -- or leaves two bytes less; single, double: whether it is `.`, or `..`
@@ -162,9 +161,8 @@ one-segment-has-no-double-slash : (single double : Bool) (c : ℕ) (s : List ℕ
     → has_authority (slashed (next_output single double [] (c ∷ s) ++ end_of (single || double)))
     ≡ false
 unfolding next_output pop slashed
-one-segment-has-no-double-slash true double c s free = refl
-one-segment-has-no-double-slash false true c s free = refl
-one-segment-has-no-double-slash false false c s free = (or_parts (eqb c 47) (has_slash s) free).0
+one-segment-has-no-double-slash single double c s free =
+    grind (arith, next_output, pop, slashed, or_parts)
 
 -- lengths of paths to relativize: if removing dot segments makes `//` first, two bytes are gone, as
 -- many as the guard `/.` takes
@@ -198,13 +196,11 @@ guarded-path-is-no-longer-with-room a p q h room = grind arith
 
 path-after-authority-is-no-longer : (a : Option (List ℕ)) (p q : List ℕ) → is_some a ≡ true
     → length q ≤ length p → length (guarded a q) ≤ length p
-path-after-authority-is-no-longer None p q e h = absurd (false≢true e)
-path-after-authority-is-no-longer (Some a) p q e h = h
+path-after-authority-is-no-longer a p q e h = grind (arith, false≢true)
 
 pub no-slashes-without-authority : (a : Option (List ℕ)) (p : List ℕ)
     → IfNone a (has_authority p ≡ false) → is_some a ≡ false → has_authority p ≡ false
-no-slashes-without-authority None p h e = h
-no-slashes-without-authority (Some a) p h e = absurd (false≢true (sym e))
+no-slashes-without-authority a p h e = grind (arith, false≢true)
 
 -- lengths of targets to relativize: the path with its dot segments removed and a guard added is no
 -- longer; a: the authority

@@ -1,5 +1,5 @@
 -- The two paths that lead to a path.
-use Rattle.uri_relative.proofs.Common.{◌≡◌, ℕ, zero, suc, ◌+◌, ◌<◌, ◌≤◌, Bool, true, false, not, cond, eqb, List, [], ◌∷◌, ◌++◌, ◌&&◌, length, take, drop, get_or, refl, sym, ap, ◌∙◌, subst, inr, arith, lit<, append_assoc, codes, None, OnOk, Result, Ok, Err, length-drop, take-append-drop, IsCharBoundary-after_ascii, list_all-append, and_parts, cond-false, nat_tests, slash, TableSet, allows, is_one_of, starts, has_authority, has_colon_in_first_segment, is_empty, IsAbsolute, lacks_dot_segments, directory, remove_dot_segments, underflows, guarded, merged, is_set_text, set-text-from-utf8, set-text-is-valid, remove-dots-of-dotless, dotless-path-does-not-underflow, dot-is-set-text, guarded-set-text-is-set-text, slashed, absolute-path-is-slash-and-rest, double_dots, relative_path, relative_from, needs_leading_dot, slashes, IsSharedPrefix, IsPathTo, joined_path}
+use Rattle.uri_relative.proofs.Common.{◌≡◌, ℕ, zero, suc, ◌+◌, ◌<◌, ◌≤◌, Bool, true, false, not, cond, List, [], ◌++◌, length, take, drop, get_or, refl, sym, ap, ◌∙◌, subst, inr, arith, lit<, append_assoc, codes, None, OnOk, Result, length-drop, take-append-drop, IsCharBoundary-after_ascii, list_all-append, and_parts, cond-false, nat_tests, slash, TableSet, allows, is_one_of, starts, has_authority, has_colon_in_first_segment, is_empty, IsAbsolute, lacks_dot_segments, directory, guarded, merged, is_set_text, set-text-from-utf8, set-text-is-valid, remove-dots-of-dotless, dotless-path-does-not-underflow, dot-is-set-text, guarded-set-text-is-set-text, slashed, absolute-path-is-slash-and-rest, double_dots, relative_path, relative_from, needs_leading_dot, slashes, IsSharedPrefix, IsPathTo, joined_path}
 use Rattle.std.specs.List.{list_all}
 use Rattle.std.specs.Str.{IsUtf8, IsCharBoundary, chars}
 use Rattle.uri_pct.specs.Tokens.{is_valid_for, tokens_from_chars}
@@ -47,8 +47,7 @@ relative_path-is-relative (suc n) rest =
 -- relativized paths: one that does not begin with `/` does not begin with `//`
 pub rootless-path-has-no-authority : (way : List ℕ) → starts slash way ≡ false
     → has_authority way ≡ false
-rootless-path-has-no-authority [] e = refl
-rootless-path-has-no-authority (c ∷ way) e = ap (λ b. b && eqb (get_or way 0 0) 47) e
+rootless-path-has-no-authority way e = grind arith
 
 relative-path-is-merged : (base way : List ℕ) → IsRelative way → joined_path base way
     ≡ merged base way
@@ -182,8 +181,7 @@ pub pushed-path-leads-to-path : {A E : Type 0} (result : Result A E)
     (pushes short least : List ℕ → Type 0) (way given path : List ℕ) → OnOk result (pushes way)
     → IsPathTo given path way → short way → least way
     → OnOk result ((way : List ℕ) × pushes way × IsPathTo given path way × short way × least way)
-pushed-path-leads-to-path (Ok a) pushes short least way given path e w s l = (way, e, w, s, l)
-pushed-path-leads-to-path (Err a) pushes short least way given path e w s l = tt
+pushed-path-leads-to-path h pushes short least way given path e w s l = grind arith
 
 -- relativized paths: a character begins after the last shared slash (47)
 pub boundary-after-last-slash : (path bytes : List ℕ) (last : ℕ) → bytes ≡ path → IsUtf8 path
