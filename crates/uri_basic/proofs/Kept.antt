@@ -1,5 +1,6 @@
 -- What holds of a path without its dot segments, by its segments.
-use Rattle.uri_basic.proofs.Common.{◌≡◌, ℕ, Bool, true, false, not, List, [], ◌∷◌, ◌++◌, drop, refl, sym, ap, subst, ◌∙◌, append_assoc, cond, inl, inr, ⊎_elim, rules, codes, ◌==◌, list_all, and_from, and_parts, cases_Bool, cond-true, cond-false, cond_both, eqb-true, false≢true, or_cases, or_parts, append-nil, list_all-append, TableSet, is_one_of, IsAbemptyPath, Lacks, IsAbsolute, before_last_slash, has_slash, is_empty, last_segment, segments, lacked-delimiters-fail-test, test-of-delimiters-gives-lacks, before_last_slash-passes-test, AllPass, segments-pass-true-test, NoSlashes, segments-of-text-are-not-none, slashed, segments-of-text-lack-slashes, first-segment-and-rest-lack-slashes, slashed-of-segments-is-text-after-slash, appended-absolute-path-is-absolute, eq_true_from_IsTrue, IsDirectoryOrNothing, after_segment, parent, remove_dot_segments}
+use native.Mathlib.Omega.{arith}
+use Rattle.uri_basic.proofs.Common.{◌≡◌, ℕ, Bool, true, false, not, List, [], ◌∷◌, ◌++◌, refl, sym, ap, subst, ◌∙◌, append_assoc, cond, inl, inr, ⊎_elim, rules, codes, ◌==◌, list_all, and_from, and_parts, cases_Bool, cond-true, cond-false, cond_both, eqb-true, false≢true, or_cases, or_parts, append-nil, list_all-append, TableSet, is_one_of, IsAbemptyPath, Lacks, IsAbsolute, before_last_slash, has_slash, is_empty, last_segment, segments, lacked-delimiters-fail-test, test-of-delimiters-gives-lacks, before_last_slash-passes-test, AllPass, segments-pass-true-test, NoSlashes, segments-of-text-are-not-none, slashed, segments-of-text-lack-slashes, first-segment-and-rest-lack-slashes, slashed-of-segments-is-text-after-slash, appended-absolute-path-is-absolute, eq_true_from_IsTrue, IsDirectoryOrNothing, after_segment, parent, remove_dot_segments}
 use Rattle.uri_ops.proofs.Offered.{empty-text-is-set-text, is_set_text, set-text-splits, set-texts-join-at-slash, joined-segments-of-set-text-are-set-texts, is_none}
 use Rattle.uri_basic.proofs.Segments.{after-segment-keeps, kept_of, path-left-by-segments, path-left-of-path, parent-is-directory}
 
@@ -8,9 +9,8 @@ property-of-text-with-segments : (P : List ℕ → Type 0)
     → (path : List ℕ) (segs : List (List ℕ)) → slashed segs ≡ 47 ∷ path → is_none segs ≡ false
     → NoSlashes segs → P path
 unfolding slashed is_none
-property-of-text-with-segments P each path [] e some lack = absurd (false≢true (sym some))
-property-of-text-with-segments P each path (s ∷ rest) e some lack =
-    subst P (ap (drop 1) e) (each s rest lack)
+property-of-text-with-segments P each path segs e some lack =
+    grind (arith, false≢true, slashed, is_none)
 
 -- paths: what holds of a first segment and others, each after a `/`, holds of any path
 pub property-of-path-by-segments : (P : List ℕ → Type 0)
@@ -157,8 +157,7 @@ module _ (set : TableSet) (slash : set.ascii 47 ≡ true) where
 
 prefix-of-rooted-path-is-rooted : (path : List ℕ) → IsAbemptyPath path
     → IsAbemptyPath (before_last_slash path)
-prefix-of-rooted-path-is-rooted [] h = inl refl
-prefix-of-rooted-path-is-rooted (c ∷ rest) h = search (rules, cond_both)
+prefix-of-rooted-path-is-rooted path h = grind (arith, rules, cond_both)
 
 -- paths: a path that is empty or begins with `/` begins with `/` if one is after it
 rooted-path-with-slash-is-absolute : (path : List ℕ) → IsAbemptyPath path

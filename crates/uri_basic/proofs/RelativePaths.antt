@@ -155,15 +155,12 @@ path-is-merged-after-directory o (c ∷ path) way e h dotless =
 
 -- relativized paths: the path to merge with is `/` if it is empty, and begins with `/`
 path-or-slash-is-absolute : (path : List ℕ) → IsAbemptyPath path → IsAbsolute (or_slash path)
-path-or-slash-is-absolute [] h = refl
-path-or-slash-is-absolute (c ∷ path) h = ⊎_elim (λ none. absurd (cons_is_not_nil c path none))
-    (λ absolute. absolute) h
+path-or-slash-is-absolute path h = grind (arith, cons_is_not_nil)
 
 -- relativized paths: a path with `/` for an empty one has no dot segment, if it has none itself
 path-or-slash-is-dotless : (path : List ℕ) → lacks_dot_segments path ≡ true
     → lacks_dot_segments (or_slash path) ≡ true
-path-or-slash-is-dotless [] e = refl
-path-or-slash-is-dotless (c ∷ path) e = e
+path-or-slash-is-dotless path e = grind arith
 
 relative-path-leads-to-path : (base : Components) (path : List ℕ) → is_opaque base ≡ false
     → IsAbemptyPath base.path → lacks_dot_segments base.path ≡ true → IsFinalPath path

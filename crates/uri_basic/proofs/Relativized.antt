@@ -1,6 +1,6 @@
 -- What the references of `relativize` lead to by the basic algorithm: RFC 3986, section 5.2.
 use native.Mathlib.Omega.{arith}
-use Rattle.uri_basic.proofs.Common.{◌≡◌, ℕ, Bool, true, false, not, cond, List, [], ◌&&◌, refl, sym, ap, ◌∙◌, subst, ⊎_elim, rules, IfSome, None, Ok, Option, Some, bytes_eq, codes, is_some, and_parts, both_ways, cases_Bool, cond-false, cond-true, cond_both, false≢true, not-false, bytes_eq-Decides, eq_true_from_IsTrue, Components, IsSplitOf, Lacks, components, recompose, starts, components-are-split-of-text, equal-to-true-is-IsTrue, recompose-components, IsAbsolute, lacks_dot_segments, with_final_path, guarded, is_opaque, removing-dots-keeps-absolute, removing-dots-leaves-no-dot-segment, test-of-delimiters-gives-lacks, has_literal_dot_segment, basic_resolution, basic_resolution_of_texts, target}
+use Rattle.uri_basic.proofs.Common.{◌≡◌, ℕ, Bool, true, false, not, cond, List, [], ◌&&◌, refl, sym, ap, ◌∙◌, subst, ⊎_elim, rules, IfSome, None, Ok, Option, bytes_eq, codes, is_some, and_parts, both_ways, cases_Bool, cond-false, cond-true, cond_both, false≢true, not-false, bytes_eq-Decides, eq_true_from_IsTrue, Components, IsSplitOf, Lacks, components, recompose, starts, components-are-split-of-text, equal-to-true-is-IsTrue, recompose-components, IsAbsolute, lacks_dot_segments, with_final_path, guarded, is_opaque, removing-dots-keeps-absolute, removing-dots-leaves-no-dot-segment, test-of-delimiters-gives-lacks, has_literal_dot_segment, basic_resolution, basic_resolution_of_texts, target}
 use Rattle.std.specs.Option.{option_eq}
 use Rattle.uri_pct.specs.Delimiters.{slash}
 use Rattle.uri_parts.proofs.Offered.{only-split-is-components}
@@ -16,10 +16,7 @@ use Rattle.uri_basic.proofs.SameRemovals.{removal-of-path-without-dots}
 
 components-that-pass-test-are-equal : (p q : Option (List ℕ)) → option_eq bytes_eq p q ≡ true
     → p ≡ q
-components-that-pass-test-are-equal None None e = refl
-components-that-pass-test-are-equal None (Some b) e = absurd (false≢true e)
-components-that-pass-test-are-equal (Some a) None e = absurd (false≢true e)
-components-that-pass-test-are-equal (Some a) (Some b) e = ap Some ((bytes_eq-Decides a b).0 e)
+components-that-pass-test-are-equal p q e = grind (arith, false≢true, bytes_eq-Decides)
 
 -- targets to relativize: a target with a scheme, without removable dot segments, and with none of
 -- `.` and `..`

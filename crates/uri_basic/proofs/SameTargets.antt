@@ -1,6 +1,6 @@
 -- Where nothing deviates, the basic algorithm and `Resolver` have the same target.
 use native.Mathlib.Omega.{arith}
-use Rattle.uri_basic.proofs.Common.{◌≡◌, ℕ, true, false, not, List, [], refl, sym, ap, subst, rules, ◌∙◌, ◌&&◌, ⊎_elim, None, Ok, Option, Some, is_none, is_some, and_from, and_right, cases_Bool, cond-true, cond-false, and_left, false≢true, not_from_false, Components, components, recompose, starts, equal-to-true-is-IsTrue, directory, is_double_dot, is_empty, last_segment, dotless_if_absolute, dotted_target, guarded, is_opaque, merged, resolution_of, target_of, remove-dots-of-dotless, merging-base-is-not-opaque, not_some_is_none, some_is_not_none, NothingDeviates, has_encoded_dot_segment, has_literal_dot_segment, is_merged, takes_base_path, remove_dot_segments, basic_resolution, basic_resolution_of_texts, is_ambiguous, merge, target}
+use Rattle.uri_basic.proofs.Common.{◌≡◌, ℕ, true, false, not, List, [], refl, ap, subst, rules, ◌∙◌, ◌&&◌, ⊎_elim, Ok, Option, is_none, is_some, and_from, and_right, cases_Bool, cond-true, cond-false, and_left, false≢true, not_from_false, Components, components, recompose, starts, equal-to-true-is-IsTrue, directory, is_double_dot, is_empty, last_segment, dotless_if_absolute, dotted_target, guarded, is_opaque, merged, resolution_of, target_of, remove-dots-of-dotless, merging-base-is-not-opaque, not_some_is_none, some_is_not_none, NothingDeviates, has_encoded_dot_segment, has_literal_dot_segment, is_merged, takes_base_path, remove_dot_segments, basic_resolution, basic_resolution_of_texts, is_ambiguous, merge, target}
 use Rattle.uri_ops.proofs.Offered.{empty-text-is-nil, resolution-is-unique}
 use Rattle.uri_relative.specs.Leading.{LeadsTo, settled, without_fragment}
 use Rattle.uri_basic.proofs.SameRemovals.{removal-of-path-without-dots, same-removal}
@@ -19,9 +19,7 @@ same-target base r d t is_d is_t path same whole clear = grind (arith, rules, gu
 
 pub base-with-empty-path-has-authority : (o : Option (List ℕ)) (path : List ℕ)
     → (is_none o && not (starts 47 path)) ≡ false → path ≡ [] → is_some o ≡ true
-base-with-empty-path-has-authority None path e h =
-    absurd (false≢true (sym e ∙ ap (λ t. not (starts 47 t)) h))
-base-with-empty-path-has-authority (Some a) path e h = refl
+base-with-empty-path-has-authority o path e h = grind (arith, false≢true, starts)
 
 same-merged-path : (base : Components) (path : List ℕ) → is_opaque base ≡ false
     → is_double_dot (last_segment base.path) ≡ false → merged base.path path ≡ merge base path

@@ -1,5 +1,5 @@
 -- Where the components of a target are.
-use Rattle.uri_basic.proofs.Common.{◌≡◌, ℕ, ◌+◌, ◌-◌, ◌≤◌, true, false, List, [], ◌++◌, length, rules, ap, arith, option_map, unwrap_or, Err, IfOk, None, Ok, Option, Result, Some, codes, is_some, IsUtf8, both_ways, cond_both, length-append, Components, components, marked, recompose, starts, IsOfKind, Kind, ArePackedPositionsOf, packed, authority_at, delimited_length, host_end_of, positions_of, recompose-components, is_empty, text-of-kind-has-needed-scheme, basic_resolution_of_texts, is_ambiguous, target}
+use Rattle.uri_basic.proofs.Common.{◌≡◌, ℕ, ◌+◌, ◌-◌, ◌≤◌, true, false, List, [], ◌++◌, length, rules, ap, arith, option_map, unwrap_or, IfOk, Ok, Option, Result, Some, codes, is_some, IsUtf8, both_ways, cond_both, length-append, Components, components, marked, recompose, starts, IsOfKind, Kind, ArePackedPositionsOf, packed, authority_at, delimited_length, host_end_of, positions_of, recompose-components, is_empty, text-of-kind-has-needed-scheme, basic_resolution_of_texts, is_ambiguous, target}
 use Rattle.uri_parts.specs.declared.packed_positions.PackedPositions.{PackedPositions}
 use Rattle.uri_parts.specs.declared.positions.AuthorityPositions.{AuthorityPositions}
 use Rattle.uri_ops.specs.Models.Places.{before_path}
@@ -10,8 +10,7 @@ use Rattle.uri_basic.proofs.Targets.{basic-target-has-its-components, result-by-
 -- general fact on results, for targets: what follows from two facts of a value
 pub if-both-ok : {T E : Type 0} (result : Result T E) (P Q R : T → Type 0)
     → ((made : T) → P made → Q made → R made) → IfOk result P → IfOk result Q → IfOk result R
-if-both-ok (Ok made) P Q R f p q = f made p q
-if-both-ok (Err error) P Q R f p q = tt
+if-both-ok h e g k f p q = grind arith
 
 -- targets: what the basic algorithm returns has the positions that the target has; the texts are
 -- what the code holds of the base, in two steps, and of the reference
@@ -67,9 +66,8 @@ host-within-parts : (scheme authority : Option (List ℕ)) (rest : List ℕ)
     ≤ length (marked [] scheme (codes ":") ++ (marked (codes "//") authority [] ++ rest)))
     × (host_end_after scheme authority
     ≤ length (marked [] scheme (codes ":") ++ (marked (codes "//") authority [] ++ rest)))
-host-within-parts scheme None rest h = (omega arith, omega arith)
-host-within-parts scheme (Some a) rest h =
-    search (rules, length-append, length-with-delimiter-after)
+host-within-parts scheme authority rest h =
+    grind (arith, rules, length-append, length-with-delimiter-after)
 
 pub host-is-within-text : (text : List ℕ) (own : PackedPositions)
     → ((a : List ℕ) → (components text).authority ≡ Some a → host_end_of a ≤ length a)

@@ -115,8 +115,7 @@ target-is-splittable b t base r some is_base is_reference =
 
 unambiguous-path-is-no-authority : (o : Option (List ℕ)) (path : List ℕ)
     → (is_none o && has_authority path) ≡ false → IfNone o (has_authority path ≡ false)
-unambiguous-path-is-no-authority None path h = h
-unambiguous-path-is-no-authority (Some a) path h = tt
+unambiguous-path-is-no-authority o path h = grind arith
 
 -- targets: the components of a target's text are those of the target, if its path is not parsed as
 -- an authority (RFC 3986, sections 3.3, 5.2.2 and 5.3)
@@ -221,8 +220,7 @@ module _ (kind : Kind) (sets : HasComponentSets kind) where
 pub result-by-test : (test : Bool) (text other : List ℕ)
     → cond test (Err PathStartsWithDoubleSlash) (Ok text) ≡ Ok other
     → (test ≡ false) × (text ≡ other)
-result-by-test true text other e = absurd (cc)
-result-by-test false text other e = (refl, cc)
+result-by-test test text other e = grind arith
 
 -- targets: what the basic algorithm returns is a text of its base's kind; the texts are what the
 -- code holds of the base and of the reference, in two steps
@@ -243,8 +241,7 @@ basic-result-is-of-kind kind of_reference sets needs tables b r held_base held_r
 rejected-by-test : (test : Bool) (text : List ℕ)
     → cond test (Err PathStartsWithDoubleSlash) (Ok text) ≡ Err PathStartsWithDoubleSlash
     → test ≡ true
-rejected-by-test true text e = refl
-rejected-by-test false text e = absurd (cc)
+rejected-by-test test text e = grind arith
 
 -- targets: what a path with two slashes and no authority is parsed as
 ambiguous-target-has-other-components : (t : Components) → is_ambiguous t ≡ true
