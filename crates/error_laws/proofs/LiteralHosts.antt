@@ -83,13 +83,11 @@ valid-text-goes-on set lacks x y h u v =
 
 ended-text-is-empty : (xs : List ℕ) → is_end xs ≡ true → xs ≡ []
 unfolding is_end
-ended-text-is-empty [] e = refl
-ended-text-is-empty (x ∷ xs) e = absurd (false≢true e)
+ended-text-is-empty xs e = grind (arith, is_end, false≢true)
 
 option-with-end-is-that-end : (n : ℕ) (o : Option ℕ) → option_map_or (λ end. eqb end n) o false
     ≡ true → o ≡ Some n
-option-with-end-is-that-end n None e = absurd (false≢true e)
-option-with-end-is-that-end n (Some end) e = ap Some (eqb-true end n e)
+option-with-end-is-that-end n o e = grind (arith, false≢true, eqb-true)
 
 module _ (text : List ℕ) where
   -- what is before a position, and the mark there

@@ -113,13 +113,11 @@ module _ (text : List ℕ) (radix most i : ℕ) (le : i ≤ length text) where
 same-next-if-same-for-value : (f g : ℕ → Option ℕ) (o : Option ℕ)
     → ((n : ℕ) → o ≡ Some n → f n ≡ g n)
     → option_and_then f o ≡ option_and_then g o
-same-next-if-same-for-value f g None h = refl
-same-next-if-same-for-value f g (Some n) h = h n refl
+same-next-if-same-for-value f g o h = grind arith
 
 value-after-two-steps : (P : ℕ → Type 0) (f : ℕ → Option ℕ) (o : Option ℕ) (end : ℕ)
     → option_and_then f o ≡ Some end → ((n : ℕ) → o ≡ Some n → f n ≡ Some end → P end) → P end
-value-after-two-steps P f None end e h = absurd (none-some end e)
-value-after-two-steps P f (Some n) end e h = h n refl e
+value-after-two-steps P f o end e h = grind (arith, none-some)
 
 module _ (text : List ℕ) where
   abbrev pub closing : List ℕ

@@ -31,8 +31,7 @@ module _ (text : List ℕ) (n : ℕ) where
       → j ≤ i → Outcome late P i e
       → ((other : List ℕ) → Alike n text other → P other → Q other × (f other ≡ e other))
       → Outcome late Q j f
-  carry true P Q i j e f le o h = grind (arith, nat_tests)
-  carry false P Q i j e f le o h = grind (arith, nat_tests)
+  carry late P Q i j e f le o h = grind (arith, nat_tests)
 
   -- the text ends there, or goes on in this way
   pub stop : (P : List ℕ → Type 0) (i : ℕ) (error : List ℕ → OptionalParseError) (more : List ℕ)
@@ -56,9 +55,8 @@ Follows false marks i n other = At marks i other
 pub follows-with-more-marks : (late : Bool) (some all : List ℕ) (i n : ℕ) (other : List ℕ)
     → ((c : ℕ) → is_one_of some c ≡ true → is_one_of all c ≡ true)
     → Follows late some i n other → Follows late all i n other
-follows-with-more-marks true some all i n other more h = h
-follows-with-more-marks false some all i n other more h =
-    empty-or-marked-for-more-marks some all (drop i other) more h
+follows-with-more-marks late some all i n other more h =
+    grind (arith, empty-or-marked-for-more-marks)
 
 module _ (n : ℕ) (text other : List ℕ) (w : Alike n text other) where
   -- a mark that is shared
@@ -70,8 +68,7 @@ module _ (n : ℕ) (text other : List ℕ) (w : Alike n text other) where
   pub shared-mark-follows : (late : Bool) (mark : ℕ) (marks : List ℕ) (i : ℕ)
       → is_one_of marks mark ≡ true → i < n → is_next text mark i ≡ true
       → Follows late marks i n other
-  shared-mark-follows true mark marks i m l e = l
-  shared-mark-follows false mark marks i m l e = shared-mark-is-at mark marks i m l e
+  shared-mark-follows late mark marks i m l e = grind (arith, shared-mark-is-at)
 
   -- a byte that is no mark is not next, up to the mark, if it is not in the text
   pub other-byte-is-not-next : (late : Bool) (mark : ℕ) (marks : List ℕ) (i k : ℕ)

@@ -18,9 +18,7 @@ last-colon-is-colon text (suc n) l = ⊎_elim
 pub last-colon-is-before-position : (text : List ℕ) (n : ℕ) → 0 < last_colon text n
     → last_colon text n < n
 unfolding last_colon
-last-colon-is-before-position text zero l = absurd (omega arith)
-last-colon-is-before-position text (suc n) l = last_colon_is_below_position text (suc n)
-    (omega arith)
+last-colon-is-before-position text n l = grind (arith, last_colon, last_colon_is_below_position)
 
 pub last-colon-is-shared : (n : ℕ) (text other : List ℕ) → Alike n text other → (k : ℕ) → k ≤ n
     → last_colon other k ≡ last_colon text k

@@ -27,8 +27,7 @@ position-after-slashes text i a h =
 -- error law: a text that is empty or begins with `?` or `#` has no `/` (47) first
 no-slash-at-path-end : (xs : List ℕ) → IsEmptyOrMarked (codes "?#") xs
     → eqb (get_or xs 0 0) 47 ≡ false
-no-slash-at-path-end [] m = refl
-no-slash-at-path-end (b ∷ xs) m = begins-with-no-other 47 (codes "?#") (b ∷ xs) refl m
+no-slash-at-path-end xs m = grind (arith, begins-with-no-other, codes)
 
 -- error law: a text that is alike up to the end of its path begins with no `//` there either
 no-slashes-alike : (n : ℕ) (text other : List ℕ) → Alike n text other → (i k : ℕ) → i ≤ k → k ≤ n
