@@ -1,5 +1,5 @@
 -- What the basic algorithm returns is the result of a text.
-use Rattle.uri_streams.proofs.Common.{arith, ◌≡◌, ◌≢◌, ℕ, List, Result, Ok, Err, refl, sym, ap, subst, IfOk, components, Text, Error, basic_resolution_result, basic_target_result, double_slash_message, result_in, PathStartsWithDoubleSlash}
+use Rattle.uri_streams.proofs.Common.{arith, ◌≡◌, ◌≢◌, ℕ, List, Result, Ok, sym, ap, subst, IfOk, components, Text, Error, basic_resolution_result, basic_target_result, double_slash_message, result_in, PathStartsWithDoubleSlash}
 use Rattle.uri_basic.specs.declared.error.BasicResolveError.{BasicResolveError}
 use Rattle.uri_basic.specs.declared.error.BasicResolveError.TheVariants as errors
 use Rattle.uri_basic.specs.Resolving.{IsBasicError}
@@ -20,9 +20,7 @@ basic_target_result-of-error : (base reference : List ℕ) (e : BasicResolveErro
     → IsBasicError (components base) (components reference) e → e ≢ errors.OutOfMemory
     → Error double_slash_message ≡ basic_target_result base reference
 unfolding basic_target_result
-basic_target_result-of-error base reference errors.PathStartsWithDoubleSlash is some =
-    ap basic_resolution_result (sym is)
-basic_target_result-of-error base reference errors.OutOfMemory is some = absurd (some refl)
+basic_target_result-of-error base reference e is some = grind (arith, basic_target_result)
 
 -- lines: an error of the basic algorithm, but for lack of memory, is the one that is defined for
 -- base and reference
@@ -32,6 +30,5 @@ pub basic_target_result-of-returned-error : {E : Type 0} (base given reference :
     → IfOk result (λ line_result. line_result ≡ returned.Error PathStartsWithDoubleSlash)
     → IfOk result (λ line_result. e ≢ errors.OutOfMemory)
     → IfOk result (λ line_result. result_in line_result ≡ basic_target_result base reference)
-basic_target_result-of-returned-error base given reference e (Ok line_result) same is error some =
+basic_target_result-of-returned-error base given reference e h same is error some =
     grind (arith, basic_target_result-of-error, components)
-basic_target_result-of-returned-error base given reference e (Err failure) same is error some = tt

@@ -1,11 +1,10 @@
 -- What `check` writes for each line, and for the lines of an input.
-use Rattle.uri_streams.proofs.Common.{arith, ◌≡◌, ◌+◌, ◌++◌, ◌⊎◌, ℕ, Bool, true, false, cond, List, [], ◌∷◌, refl, ap, sym, subst, ◌∙◌, inl, inr, length, Option, Some, None, not, ◌&&◌, nat_lt, Result, Ok, Err, slice_get, if◌then◌else◌, AllPass, concat, filter, list_all, is_utf8, list_all-from_AllPass, and_parts, is_of_kind, cut_at_field, cut_of, cut_without_other_fields, field_cut, fields_of, end_byte, line_text, error_output, is_error, is_last, is_stop, line_cut, line_output, line_result, output_of, processed, processed_lines, result_output, kind_named, LineResult, passed_if, passes_check, Known, cut_result, given_text, KindName, NoField, NotUtf8, TooLong, Job}
+use Rattle.uri_streams.proofs.Common.{arith, ◌≡◌, ◌+◌, ◌++◌, ◌⊎◌, ℕ, Bool, true, false, cond, List, [], ◌∷◌, refl, ap, sym, subst, ◌∙◌, inl, inr, length, Option, Some, None, not, ◌&&◌, nat_lt, Result, Err, slice_get, if◌then◌else◌, AllPass, concat, filter, list_all, list_all-from_AllPass, and_parts, is_of_kind, cut_at_field, cut_of, cut_without_other_fields, field_cut, fields_of, line_text, is_error, is_last, is_stop, line_cut, line_output, line_result, output_of, processed, processed_lines, result_output, kind_named, LineResult, passed_if, passes_check, Known, cut_result, KindName, TooLong, Job}
 use Rattle.uri_streams.specs.Checks.{AreMergedFrom, checking, has_text_of_kind, is_passed, is_text_of_kind, is_within_maximum, lines_for, lines_within_maximum, output_for, passes_over_errors}
 use Rattle.uri_streams.specs.declared.fault.NoText.{NoText}
 use Rattle.uri_streams.specs.declared.job.Field.{Field}
 use Rattle.uri_streams.specs.declared.job.OnError.{OnError}
-use Rattle.uri_streams.specs.declared.job.OnError.TheVariants.{Drop, Line, Stderr, Stop}
-use Rattle.uri_streams.proofs.MergedLines.{AreMergedFrom-passed, lines_of-some-lines}
+use Rattle.uri_streams.proofs.MergedLines.{AreMergedFrom-passed, lines_of-concat, AreLines-filtered, AreLines-of-input}
 
 -- whether the command gets no text since the line is too long
 abbrev is_too_long : Result (List ℕ) NoText → Bool
@@ -55,17 +54,7 @@ line_cut-past-maximum job line past =
 output-of-passed : (errors : OnError) (line before after : List ℕ) (b : Bool)
     → (result_output errors line before (passed_if b) after ≡ (if b then line else []))
     × ((is_error (passed_if b) && is_stop errors) ≡ false)
-output-of-passed errors line before after true = (refl, refl)
-output-of-passed errors line before after false = (refl, refl)
-
--- lines: an error that is passed over is not written, and ends no run
-error_output-passed-over : (errors : OnError) (before message after : List ℕ)
-    → passes_over_errors errors ≡ true
-    → (error_output errors before message after ≡ []) × (is_stop errors ≡ false)
-error_output-passed-over Line before message after over = absurd (cc)
-error_output-passed-over Drop before message after over = (refl, refl)
-error_output-passed-over Stderr before message after over = (refl, refl)
-error_output-passed-over Stop before message after over = absurd (cc)
+output-of-passed errors line before after b = grind arith
 
 module _ (job : Job) (kind : KindName) (is_inverted : Bool) where
   abbrev check : Job
@@ -77,31 +66,14 @@ module _ (job : Job) (kind : KindName) (is_inverted : Bool) where
 
   -- lines: what is not of the kind passes if `--invert` is given
   passed_if-not-of-kind : passed_if is_inverted ≡ passed_if (passes false)
-  passed_if-not-of-kind = at is_inverted
-    where
-      at : (b : Bool) → passed_if b ≡ passed_if (if b then not false else false)
-      at true = refl
-      at false = refl
+  passed_if-not-of-kind = grind (arith, false)
 
   -- lines: the result of `check` for what it gets of a line that is not too long
   cut_result-of-check : (known : Known) (text : Result (List ℕ) NoText) → is_too_long text ≡ false
       → cut_result check known text ≡ (passed_if (passes (is_text_of_kind job kind text)), known)
   unfolding passes_check
-  cut_result-of-check known (Ok bytes) short = at (is_utf8 bytes)
-    where
-      given : List ℕ
-      given = given_text check bytes
-
-      at : (b : Bool) → ◌≡◌ {A = LineResult × Known}
-          (if b then (passed_if (passes_check (kind_named kind) is_inverted given), known)
-          else (passed_if is_inverted, known))
-          (passed_if (passes (b && is_of_kind (kind_named kind) given)), known)
-      at true = refl
-      at false = ap (λ r. (r, known)) passed_if-not-of-kind
-  cut_result-of-check known (Err (TooLong most)) short = absurd (cc)
-  cut_result-of-check known (Err (NoField before)) short =
-      ap (λ r. (r, known)) passed_if-not-of-kind
-  cut_result-of-check known (Err (NotUtf8 index)) short = ap (λ r. (r, known)) passed_if-not-of-kind
+  cut_result-of-check known text short =
+      grind (arith, kind_named, kind, passes, false, passed_if-not-of-kind, passes_check)
 
   -- lines: `check` writes the line if it passes, and else nothing, and goes on
   abbrev WritesIfPassed : ℕ → Known → List ℕ → Type 0
@@ -126,8 +98,7 @@ module _ (job : Job) (kind : KindName) (is_inverted : Bool) where
   WritesIfPassed-past : (number : ℕ) (known : Known) (line : List ℕ)
       → is_within_maximum job line ≡ false → passes_over_errors job.errors ≡ true
       → WritesIfPassed number known line
-  WritesIfPassed-past number known line past over =
-      grind (arith, line_cut-past-maximum, error_output-passed-over)
+  WritesIfPassed-past number known line past over = grind (arith, line_cut-past-maximum)
 
   -- no line that is too long ends the run or is written, or there is none
   abbrev pub IsQuiet : List (List ℕ) → Type 0
@@ -178,8 +149,8 @@ module _ (job : Job) (kind : KindName) (is_inverted : Bool) where
   lines_for-check : (input : List ℕ) → IsQuiet (lines_for job input)
       → lines_for job (output_for check input)
       ≡ filter (is_passed job kind is_inverted) (lines_for job input)
-  lines_for-check input quiet = ap (lines_for job) (output_for-check input quiet)
-      ∙ lines_of-some-lines (end_byte job.is_null) (is_passed job kind is_inverted) input
+  lines_for-check input quiet =
+      grind (arith, output_for-check, lines_of-concat, AreLines-filtered, AreLines-of-input, kind)
 
 -- lines: the outputs of `check` and its inverse are merged from the lines that are not too long
 pub AreMergedFrom-checks : (job : Job) (kind : KindName) (input : List ℕ)

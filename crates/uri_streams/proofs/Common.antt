@@ -5,7 +5,7 @@ pub use Rattle.std.proofs.Common.{◌≡◌, ℕ, Bool, true, false, cond, List,
 pub use Rattle.std.proofs.KnownBytes.{Appends-kept, Appends-nil, Appends-trans, Keeps-refl, Keeps-trans, Consumes-nil, Consumes-kept, Consumes-trans}
 pub use Rattle.std.proofs.Math.Seq.{drop-cons, drop-length, take-add, take-suc, take-append-add, take-nil}
 pub use Rattle.std.proofs.lemmas.Bool.{and_parts, false_from_ne_true, cond-true, cond-false, and_from, cases_lt, both_ways, not-true}
-pub use Rattle.std.proofs.lemmas.Bool.Decides.{nat_tests, Decides-below_and, same_from_decides, Decides-like}
+pub use Rattle.std.proofs.lemmas.Bool.Decides.{nat_tests, Decides-below_and, Decides-like}
 pub use Rattle.std.proofs.lemmas.Grind.{common_steps}
 pub use Rattle.std.proofs.lemmas.List.{drop_more, append-nil, take-append-drop, take_rest, take-append-le, length-take, nil_from_length, drop-drop, length-map, map-id}
 pub use Rattle.std.proofs.lemmas.List.Concat.{flat_map-append}
@@ -42,7 +42,7 @@ unfoldable pub use Rattle.uri_streams.specs.JsonTexts.{hex_number}
 pub use Rattle.uri_streams.specs.JsonValues.{text_members, with_present, present, named_components, components_value, query_value, pair_value, pair_elements}
 pub use Rattle.uri_streams.specs.Lines.{end_byte, has_return, line_text, lines_of, prepend_to_first_line, ends_with_return, return_after}
 pub use Rattle.uri_streams.specs.Models.{IsCutLine, bytes_output, FailsInWriting, HasWrittenSoFar, KeepsFailures, ProcessedSoFar, StepFails, IsBufferedLine, ReadsFirstLine, IsStepOf, ReadsPartOfLine, Steps, WritesLineOutput, WritesOutputPrefix, WritesResult, bytes_report, FindsEnd, WritesLine}
-pub use Rattle.uri_streams.specs.Outputs.{error_output, is_error, is_last, is_stop, line_cut, line_output, line_result, output_of, processed, result_output, line_ending, ProcessedLine, processed_in, errors_of, line_report, error_count, tallies_after, tallies_of, line_end, result_report, reported_error, error_report}
+pub use Rattle.uri_streams.specs.Outputs.{is_error, is_last, is_stop, line_cut, line_output, line_result, output_of, processed, result_output, line_ending, ProcessedLine, processed_in, errors_of, line_report, error_count, tallies_after, tallies_of, line_end, result_report, reported_error, error_report}
 unfoldable pub use Rattle.uri_streams.specs.Outputs.{processed_lines}
 pub use Rattle.uri_streams.specs.Queries.{pairs_of_query, pair_json, following_pairs_json, pairs_json, hex_digit, control_json, escaped_char, escaped_text}
 unfoldable pub use Rattle.uri_streams.specs.Queries.{query_json}

@@ -1,27 +1,13 @@
 -- A line that is kept in part is an error as the whole is: it is too long either way.
-use Rattle.uri_streams.proofs.Common.{◌≡◌, ◌<◌, ◌≤◌, ◌+◌, ◌-◌, ℕ, Bool, true, false, cond, List, refl, ap, sym, ◌∙◌, length, take, arith, inl, inr, ◌⊎◌, ⊎_elim, length-take-le, take_all, lt-ltb, ltb-true, ltb-false, Err, nat_lt, ends_with_byte, strip_last, Cut, cut_without_other_fields, end_byte, has_return, line_text, bytes_output, line_cut, Known, TooLong, Job}
+use Rattle.uri_streams.proofs.Common.{◌≡◌, ◌<◌, ◌≤◌, ◌+◌, ◌-◌, ℕ, Bool, true, false, List, refl, ap, sym, ◌∙◌, length, take, arith, inl, inr, ◌⊎◌, ⊎_elim, length-take-le, take_all, lt-ltb, ltb-true, ltb-false, Err, nat_lt, strip_last, Cut, cut_without_other_fields, line_text, bytes_output, line_cut, Known, TooLong, Job}
 
 -- lines: without its end, a line is one byte shorter at most
 stripped : (byte : ℕ) (xs : List ℕ) → length xs ≤ length (strip_last byte xs) + 1
-stripped byte xs = at (ends_with_byte byte xs)
-  where
-    shorter : length xs ≤ length (take (length xs - 1) xs) + 1
-    shorter = omega (arith, length-take-le (length xs - 1) xs (omega arith))
-
-    at : (b : Bool) → length xs ≤ length (cond b (take (length xs - 1) xs) xs) + 1
-    at true = shorter
-    at false = omega arith
+stripped byte xs = grind (arith, length-take-le, false)
 
 -- lines: the text of a line is two bytes shorter at most; is_null: whether lines end with NUL
 text_length : (is_null : Bool) (line : List ℕ) → length line ≤ length (line_text is_null line) + 2
-text_length is_null line = at (has_return is_null line)
-  where
-    text : List ℕ
-    text = strip_last (end_byte is_null) line
-
-    at : (b : Bool) → length line ≤ length (cond b (strip_last 13 text) text) + 2
-    at true = omega (arith, stripped (end_byte is_null) line, stripped 13 text)
-    at false = omega (arith, stripped (end_byte is_null) line)
+text_length is_null line = grind (arith, stripped, false)
 
 line-is-whole-or-too-long : (job : Job) (limit : ℕ) (line : List ℕ) → limit ≡ job.max_line + 3
     → (take limit line ≡ line) ⊎ ((job.max_line < length (line_text job.is_null (take limit line)))

@@ -44,8 +44,7 @@ ends_with_return-before-newline bs ended = at (nat_lt 0 (length text)) refl
 -- lines: whether a line that its end byte ends has a `\r` (13) before that
 has_return-of-ended : (is_null : Bool) (bs : List ℕ) → ends_with_byte (end_byte is_null) bs ≡ true
     → has_return is_null bs ≡ (not is_null && (get_or bs (length bs - 1 - 1) 0 == 13))
-has_return-of-ended true bs ended = refl
-has_return-of-ended false bs ended =
+has_return-of-ended is_null bs ended =
     grind (arith, strip_last-of-ended, ends_with_return-before-newline)
 
 drop-but-last : (bs : List ℕ) → 0 < length bs
@@ -108,8 +107,7 @@ end_of false bs ended = at (get_or bs (length bs - 1 - 1) 0 == 13) refl
         ∙ sym (ap (line_ending false) (has_return-of-ended false bs ended ∙ is))
 
 flag-is-number : (b : Bool) → bool_byte b ≡ cond b 1 0
-flag-is-number true = refl
-flag-is-number false = refl
+flag-is-number b = grind arith
 
 -- lines: the bytes before the end of a line, and before a `\r` there, are its text; `before` is the
 -- position of the last byte but one

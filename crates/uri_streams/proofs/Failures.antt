@@ -28,10 +28,7 @@ use Rattle.uri_streams.proofs.Reports.{Reports-then-nothing, ReportsPrefix-after
 -- writers of `urilines`: what is appended after nothing was is appended; a, b, c: what is held
 pub Appends-after-Keeps : (a b c : Option (List ℕ)) (bs : List ℕ) → Keeps a b → Appends b c bs
     → Appends a c bs
-Appends-after-Keeps None b c bs k p = tt
-Appends-after-Keeps (Some xs) None c bs k p = absurd k
-Appends-after-Keeps (Some xs) (Some ys) None bs k p = absurd p
-Appends-after-Keeps (Some xs) (Some ys) (Some zs) bs k p = p ∙ ap (λ l. l ++ bs) k
+Appends-after-Keeps a b c bs k p = grind arith
 
 -- streams: a failure after the lines that were processed so far; b: what is left to read before it;
 -- h, i: what the writer holds, d, e: the error output, s, t: what the observer saw, when the run
@@ -50,8 +47,7 @@ module _ (job : Job) (number : ℕ) (task : Task) (xs : List ℕ) (b h i : Optio
       → Consumes (Some so.rest) left part → All (λ x. x ≢ end_byte job.is_null) part
       → Appends h j (output_of job so.lines) → Reports d f (errors_of job so.lines)
       → WritesWholeLines job xs left h j d f
-  left_with None j f part consumes none written reported = absurd consumes
-  left_with (Some later) j f part consumes none written reported = grind arith
+  left_with left j f part consumes none written reported = grind arith
 
 -- streams: where a line fails after the lines before it were written, the output is a prefix;
 -- a, b, c: what is left to read, h, i, j: what the writer holds, d, e, f: the error output,
@@ -115,17 +111,7 @@ EndsFlushed-after-WritesOutput job None c h i j d e s t tally (Ok same) output k
 EndsFlushed-after-WritesOutput job None c h i j d e s t tally (Err cause) output kept is fails =
     record { output = tt; stops = tt }
 EndsFlushed-after-WritesOutput job (Some xs) c h i j d e s t tally (Ok same) output kept is fails =
-    let whole = Appends-kept h i j (output_of job (processed_in job xs)) output.0 kept in
-    record {
-      output = subst (WritesOutput job (Some xs) h j d e s t) (sym is) (
-        whole,
-        output.1,
-        output.2,
-        output.3,
-        output.4,
-      );
-      stops = tt;
-    }
+    grind (arith, Appends-kept)
 EndsFlushed-after-WritesOutput job (Some xs) c h i j d e s t tally (Err cause) output kept is
     fails =
     let whole = Appends-kept h i j (output_of job (processed_in job xs)) output.0 kept in
@@ -150,17 +136,8 @@ pub KeepsFailures-passed-on : {T R W : Type 0} (result : Result T Cause) (cause 
     → (is_input_cause cause ≡ true → KeepsFinalError reader_new.error)
     → (is_output_cause cause ≡ true → KeepsFinalError writer_new.error)
     → KeepsFailures result reader reader_new writer writer_new
-KeepsFailures-passed-on (Ok value) cause reader reader_mid reader_new writer writer_mid writer_new
-    is same same' reading writing read_error write_error = absurd is
-KeepsFailures-passed-on (Err x) cause reader reader_mid reader_new writer writer_mid writer_new
-    is same same' reading writing read_error write_error = record {
-      reading = reading ∙ ap (λ b. is_input_cause cause || b) same
-          ∙ ap (λ k. is_input_cause k || reader.has_failed) (sym is);
-      writing = writing ∙ ap (λ b. is_output_cause cause || b) same'
-          ∙ ap (λ k. is_output_cause k || writer.has_failed) (sym is);
-      read_error = λ input. read_error (ap is_input_cause (sym is) ∙ input);
-      write_error = λ output. write_error (ap is_output_cause (sym is) ∙ output);
-    }
+KeepsFailures-passed-on h cause reader reader_mid reader_new writer writer_mid writer_new is same same' reading writing read_error write_error =
+    grind arith
 
 -- failures: a call that fails in nothing but writing keeps its failures, if the reader has failed
 -- no more than before; writer_mid: before the call

@@ -55,9 +55,7 @@ fields_of-without-delimiter d xs none = slice_split_none (λ b. eqb b d) xs
 -- so it is with one byte x before
 joined : (d x : ℕ) (xs : List ℕ) (fs : List (List ℕ)) → fields_after_delimiters d fs ≡ d ∷ xs
     → fields_after_delimiters d (onto_first x fs) ≡ d ∷ x ∷ xs
-joined d x xs [] e = absurd (cc)
-joined d x xs (f ∷ fs) e =
-    let tail : f ++ fields_after_delimiters d fs ≡ xs = cc in ap (λ l. d ∷ x ∷ l) tail
+joined d x xs fs e = grind arith
 
 -- fields: if the fields of a line are right, they are so with one byte x before it
 after-cons : (d x : ℕ) (xs : List ℕ) → fields_after_delimiters d (fields_of d xs) ≡ d ∷ xs

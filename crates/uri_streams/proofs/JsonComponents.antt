@@ -41,23 +41,8 @@ find_present name (one ∷ others) = if bytes_eq one.0 name then first_present o
 present-text-is-found : (name : List ℕ) (named : List (List ℕ × Option (List ℕ)))
     → find_named name (present named) ≡ find_present name named
 present-text-is-found name [] = refl
-present-text-is-found name (one ∷ others) = at one.1
-    ∙ ap (λ o. if bytes_eq one.0 name then first_present one.1 o else o)
-    (present-text-is-found name others)
-  where
-    same : (b : Bool) (o : Option (List ℕ)) → o ≡ (if b then o else o)
-    same true o = refl
-    same false o = refl
-
-    at : (o : Option (List ℕ)) → find_named name (with_present one.0 o (present others))
-        ≡ (if bytes_eq one.0 name then first_present o (find_named name (present others))
-        else find_named name (present others))
-    at None = same (bytes_eq one.0 name) (find_named name (present others))
-    at (Some text) = refl
-
-text-without-others-is-first : (o : Option (List ℕ)) → first_present o None ≡ o
-text-without-others-is-first None = refl
-text-without-others-is-first (Some text) = refl
+present-text-is-found name (one ∷ others) =
+    grind (arith, present-text-is-found name others, false, with_present, present)
 
 abbrev components_in : List (List ℕ × List ℕ) → Components
 components_in named = record {
@@ -69,8 +54,7 @@ components_in named = record {
 }
 
 components-are-found-by-name : (p : Components) → components_in (present (named_components p)) ≡ p
-components-are-found-by-name p =
-    grind (arith, present-text-is-found, present, text-without-others-is-first)
+components-are-found-by-name p = grind (arith, present-text-is-found, present)
 
 -- lines of JSON: whether the names need no escape
 abbrev are_plain_names : List (List ℕ × Option (List ℕ)) → Bool
@@ -135,12 +119,8 @@ present-names-hold : (P : List ℕ → Type 0) (named : List (List ℕ × Option
     → AllByRecursion P (map (λ one. one.0) named)
     → AllByRecursion P (map (λ one. one.0) (present named))
 present-names-hold P [] h = h
-present-names-hold P (one ∷ others) (p, h) = at one.1 (present-names-hold P others h)
-  where
-    at : (o : Option (List ℕ)) → AllByRecursion P (map (λ one. one.0) (present others))
-        → AllByRecursion P (map (λ one. one.0) (with_present one.0 o (present others)))
-    at None more = more
-    at (Some text) more = (p, more)
+present-names-hold P (one ∷ others) (p, h) =
+    grind (arith, present-names-hold P others h, present, with_present)
 
 present-names-are-distinct : (named : List (List ℕ × Option (List ℕ)))
     → IsDistinct bytes_eq (map (λ one. one.0) named)

@@ -1,6 +1,7 @@
 -- The lines of JSON represent the components of a text of a kind, and the pairs of a query. So they
 -- determine them.
-use Rattle.uri_streams.proofs.Common.{◌≡◌, ℕ, List, [], ◌∷◌, refl, sym, ap, ◌∙◌, subst, Option, Some, None, map, AllByRecursion, flat_map, encode_utf8, IsUtf8, is_utf8, chars, recursion_from_All, IsUtf8-append, IsUtf8-encode, IsUtf8-nil, IsUtf8-from_is_utf8, decode_pair, components, recompose, IsTextOf, json_of, JsonValue, IsJsonTextOf, components_value, query_value, pairs_of_query, query_json, kind_named, KindName}
+use native.Mathlib.Omega.{arith}
+use Rattle.uri_streams.proofs.Common.{◌≡◌, ℕ, List, [], ◌∷◌, refl, sym, ap, ◌∙◌, subst, Option, map, AllByRecursion, flat_map, encode_utf8, IsUtf8, is_utf8, chars, recursion_from_All, IsUtf8-append, IsUtf8-encode, IsUtf8-nil, IsUtf8-from_is_utf8, decode_pair, components, recompose, IsTextOf, json_of, JsonValue, IsJsonTextOf, components_value, query_value, pairs_of_query, query_json, kind_named, KindName}
 use Rattle.std.specs.Str.Lossy.{replacement_bytes}
 use Rattle.uri_pct.specs.Pieces.{Piece, WellFormed, IllFormed, IsOfCharacter, char_of, lossy_piece, lossy_text, utf8_pieces}
 use Rattle.uri_pct.proofs.Offered.{utf8_pieces-are-of-characters}
@@ -56,8 +57,7 @@ decoded-pairs-are-utf8 (piece ∷ pieces) =
     (lossy-text-is-utf8 _, lossy-text-is-utf8 _, decoded-pairs-are-utf8 pieces)
 
 pairs-of-query-are-utf8 : (query : Option (List ℕ)) → AreUtf8 (pairs_of_query query)
-pairs-of-query-are-utf8 None = tt
-pairs-of-query-are-utf8 (Some query) = decoded-pairs-are-utf8 _
+pairs-of-query-are-utf8 query = grind (arith, decoded-pairs-are-utf8)
 
 pub query-line-is-json-array : (query : Option (List ℕ))
     → IsJsonTextOf (query_value query) (query_json query)

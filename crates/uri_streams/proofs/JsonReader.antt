@@ -1,5 +1,5 @@
 -- A reader of JSON's values, for the proof that a JSON text represents one value.
-use Rattle.uri_streams.proofs.Common.{◌≡◌, ℕ, zero, suc, ◌+◌, ◌<◌, ◌≤◌, ◌==◌, Bool, true, false, List, [], ◌∷◌, ◌++◌, length, get_or, drop, append_assoc, refl, ap, ◌∙◌, arith, codes, if◌then◌else◌, JsonValue, False, Null, True, Object, Array, Number, String, Elements, EndOfArray, Element, Members, EndOfObject, Member, ◌then◌, IsStructural, RepresentsString, RepresentsValue, RepresentsMoreElements, RepresentsMoreMembers}
+use Rattle.uri_streams.proofs.Common.{◌≡◌, ℕ, zero, suc, ◌+◌, ◌<◌, ◌≤◌, ◌==◌, Bool, true, false, List, [], ◌++◌, length, get_or, drop, append_assoc, refl, ap, ◌∙◌, arith, codes, if◌then◌else◌, JsonValue, False, Null, True, Object, Array, Number, String, Elements, EndOfArray, Element, Members, EndOfObject, Member, ◌then◌, IsStructural, RepresentsString, RepresentsValue, RepresentsMoreElements, RepresentsMoreMembers}
 use Rattle.uri_streams.proofs.JsonStrings.{read_characters, characters-are-read, string-begins-text}
 use Rattle.uri_streams.proofs.JsonTokens.{skip, is_number_character, EndsNumber, BeginsStructural, structural-begins-text, read_number, after_number, number-is-not-empty}
 
@@ -90,25 +90,15 @@ abbrev mutual
       suc (length name + more_steps v + steps_of_members members + 2)
 
 pub elements-take-steps : (elements : Elements) → steps_of_elements elements ≤ 0 → ⊥
-elements-take-steps EndOfArray l = omega arith
-elements-take-steps (Element v elements) l = omega arith
+elements-take-steps elements l = grind arith
 
 pub members-take-steps : (members : Members) → steps_of_members members ≤ 0 → ⊥
-members-take-steps EndOfObject l = omega arith
-members-take-steps (Member name v members) l = omega arith
+members-take-steps members l = grind arith
 
 -- reading JSON: the value of a text is read as one
 pub represented-value-is-a-value : (v : JsonValue) (x : List ℕ) → RepresentsValue v x
     → is_no_value v ≡ false
-represented-value-is-a-value False x h = refl
-represented-value-is-a-value Null x h = refl
-represented-value-is-a-value True x h = refl
-represented-value-is-a-value (Object members) x h = refl
-represented-value-is-a-value (Array elements) x h = refl
-represented-value-is-a-value (Number []) x (e, h) =
-    absurd (omega (arith, number-is-not-empty x h, ap length e))
-represented-value-is-a-value (Number (c ∷ d)) x h = refl
-represented-value-is-a-value (String cs) x h = refl
+represented-value-is-a-value v x h = grind (arith, number-is-not-empty)
 
 pub comma-begins-text : (x rest : List ℕ) → IsStructural (codes ",") x
     → BeginsStructural 44 (x ++ rest) rest

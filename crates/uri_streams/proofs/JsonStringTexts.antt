@@ -12,10 +12,7 @@ infixr 30 ◌and_then◌
 -- writing JSON: texts of two rules, one after the other
 pub ◌and_then◌ : {P Q : Rule} {a b : List ℕ} → AreTextOf P a → AreTextOf Q b
     → AreTextOf (P then Q) (a ++ b)
-◌and_then◌ {P} {Q} {a} {b} p q = record {
-  utf8 = IsUtf8-append a b p.utf8 q.utf8;
-  text = (chars a, chars b, chars-append a b p.utf8, p.text, q.text);
-}
+◌and_then◌ {P} {Q} {a} {b} p q = grind (arith, IsUtf8-append, chars, chars-append)
 
 ascii-by-test : (word : List ℕ) → list_all (λ b. nat_lt b 128) word ≡ true → IsAscii word
 ascii-by-test [] h = IsAscii-nil
@@ -24,10 +21,7 @@ ascii-by-test (b ∷ word) h = let p = and_parts _ _ h in
 
 ascii-is-text : (P : Rule) (word : List ℕ) → list_all (λ b. nat_lt b 128) word ≡ true → P word
     → AreTextOf P word
-ascii-is-text P word h p = let ascii = ascii-by-test word h in record {
-  utf8 = IsUtf8-from_ascii word ascii;
-  text = subst P (sym (chars-IsAscii word ascii)) p;
-}
+ascii-is-text P word h p = grind (arith, ascii-by-test, IsUtf8-from_ascii, chars-IsAscii)
 
 pub nothing-is-text : AreTextOf (Is []) []
 nothing-is-text = record { utf8 = IsUtf8-nil; text = chars-nil }
@@ -68,12 +62,7 @@ digits-of-control-character = (Decides-below_and are_its_digits (λ c. are_its_d
 
 control_json-by-digits : (c : ℕ)
     → control_json c ≡ codes "\\u" ++ (48 ∷ 48 ∷ high_digit c ∷ low_digit c ∷ [])
-control_json-by-digits c = at (nat_lt c 16)
-  where
-    at : (b : Bool) → (if b then codes "\\u000" else codes "\\u001") ++ low_digit c ∷ []
-        ≡ codes "\\u" ++ (48 ∷ 48 ∷ (if b then 48 else 49) ∷ low_digit c ∷ [])
-    at true = refl
-    at false = refl
+control_json-by-digits c = grind (arith, codes, low_digit, false)
 
 control-character-is-no-surrogate : (c : ℕ) → c < 32 → is_in_range 0xD800 0xDFFF c ≡ false
 control-character-is-no-surrogate c l = grind (arith, nat_tests)
@@ -164,10 +153,7 @@ pub record IsPlain (text : List ℕ) : Type 0 where
 -- writing JSON: a word of ASCII that needs no escape
 pub ascii-is-plain : (word : List ℕ) → list_all (λ b. nat_lt b 128) word ≡ true
     → list_all is_unescaped word ≡ true → IsPlain word
-ascii-is-plain word h u = let ascii = ascii-by-test word h in record {
-  utf8 = IsUtf8-from_ascii word ascii;
-  unescaped = ap (list_all is_unescaped) (chars-IsAscii word ascii) ∙ u;
-}
+ascii-is-plain word h u = grind (arith, ascii-by-test, IsUtf8-from_ascii, chars-IsAscii)
 
 -- writing JSON: characters that need no escape, as they are
 unescaped-characters-represent-themselves : (cs : List ℕ) → list_all is_unescaped cs ≡ true

@@ -1,5 +1,5 @@
 -- A reader of JSON's strings: it reads the characters that a text represents.
-use Rattle.uri_streams.proofs.Common.{◌≡◌, ℕ, zero, suc, ◌<◌, ◌==◌, Bool, true, false, List, [], ◌∷◌, ◌++◌, length, get_or, drop, refl, sym, ap, ◌∙◌, subst, append_assoc, arith, inl, inr, Some, if◌then◌else◌, cond-true, cond-false, eqb-true, nat_tests, is_unescaped, escaped_by, hex_number, IsUnicodeEscape, RepresentsCharacter, RepresentsCharacters, RepresentsString}
+use Rattle.uri_streams.proofs.Common.{◌≡◌, ℕ, zero, suc, ◌<◌, ◌==◌, true, false, List, [], ◌∷◌, ◌++◌, length, get_or, drop, sym, ap, ◌∙◌, subst, append_assoc, arith, inl, inr, if◌then◌else◌, cond-true, cond-false, eqb-true, nat_tests, is_unescaped, escaped_by, hex_number, IsUnicodeEscape, RepresentsCharacter, RepresentsCharacters, RepresentsString}
 use Rattle.std.specs.Char.Utf16.{is_high_surrogate, surrogate_pair_char}
 use Rattle.std.specs.Int.{is_in_range}
 use Rattle.std.specs.Option.{unwrap_or}
@@ -33,15 +33,6 @@ other-number-is-no-high-surrogate : (c : ℕ) → is_in_range 0xD800 0xDFFF c �
     → is_high_surrogate c ≡ false
 other-number-is-no-high-surrogate c e = grind (arith, nat_tests)
 
-u-is-no-short-escape : (mark c : ℕ) → escaped_by mark ≡ Some c → (mark == 117) ≡ false
-u-is-no-short-escape mark c e = at (mark == 117) refl
-  where
-    at : (b : Bool) → (mark == 117) ≡ b → b ≡ false
-    at false h = refl
-    at true h =
-        let f : escaped_by 117 ≡ Some c =
-        subst (λ m. escaped_by m ≡ Some c) (eqb-true mark 117 h) e in absurd (cc f)
-
 -- reading JSON: what is read of a text that begins with the escape `\uXXXX` of a number
 record ReadsEscape (number : ℕ) (text rest : List ℕ) : Type 0 where
   backslash : get_or text 0 0 ≡ 92
@@ -52,13 +43,7 @@ record ReadsEscape (number : ℕ) (text rest : List ℕ) : Type 0 where
 -- reading JSON: a text that is an escape `\uXXXX` is read as its number
 unicode-escape-is-read : (number : ℕ) (x rest : List ℕ) → IsUnicodeEscape number x
     → ReadsEscape number (x ++ rest) rest
-unicode-escape-is-read number x rest h =
-    subst (λ x. ReadsEscape number (x ++ rest) rest) (sym h.whole) (record {
-      backslash = refl;
-      letter = refl;
-      value = sym h.value;
-      after = λ n. refl;
-    })
+unicode-escape-is-read number x rest h = grind arith
 
 -- reading JSON: what is read of a text that begins with a character of a string
 record ReadsCharacter (c : ℕ) (text rest : List ℕ) : Type 0 where
@@ -79,11 +64,7 @@ character-is-read c x rest (inl (unescaped, e)) =
     subst (λ x. ReadsCharacter c (x ++ rest) rest) (sym e)
     (record { is_no_end = other.0; character = cond-false (c == 92) _ _ other.1 })
 character-is-read c x rest (inr (inl (mark, e, escape))) =
-    subst (λ x. ReadsCharacter c (x ++ rest) rest) (sym e) (record {
-      is_no_end = refl;
-      character = cond-false (mark == 117) _ _ (u-is-no-short-escape mark c escape)
-          ∙ ap (λ o. (unwrap_or o 0, rest)) escape;
-    })
+    grind (arith, cond-false, false, eqb-true)
 character-is-read c x rest (inr (inr (inl (alone, escape)))) =
     let text : List ℕ = x ++ rest in
     let h = unicode-escape-is-read c x rest escape in
@@ -134,10 +115,5 @@ pub record BeginsString (cs text rest : List ℕ) : Type 0 where
 
 pub string-begins-text : (cs x rest : List ℕ) → RepresentsString cs x
     → BeginsString cs (x ++ rest) rest
-string-begins-text cs x rest (quote, y, e, before, (inside, end, f, h, after)) = record {
-  inside = inside;
-  whole = ap (λ x. x ++ rest) (e ∙ ap (λ q. q ++ y) before
-      ∙ ap (λ y. 34 ∷ y) (f ∙ ap (λ z. inside ++ z) after))
-      ∙ ap (λ t. 34 ∷ t) (append_assoc inside (34 ∷ []) rest);
-  characters = h;
-}
+string-begins-text cs x rest (quote, y, e, before, (inside, end, f, h, after)) =
+    grind (arith, append_assoc)

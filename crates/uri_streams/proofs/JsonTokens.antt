@@ -1,5 +1,5 @@
 -- Whitespace, structural characters and numbers of a JSON text, and what is read of them.
-use Rattle.uri_streams.proofs.Common.{◌≡◌, ℕ, ◌<◌, Bool, true, false, List, [], ◌∷◌, ◌++◌, length, get_or, length-append, refl, sym, ap, ◌∙◌, subst, append_assoc, arith, inl, inr, codes, if◌then◌else◌, is_ascii_digit, list_all, cond-true, cond-false, and_parts, and_from, nat_tests, list_all-append, Rule, ◌then◌, Is, IsOneOf, IsOptional, is_whitespace, IsWhitespace, IsStructural, AreDigits, AreSomeDigits, IsInteger, IsNumber}
+use Rattle.uri_streams.proofs.Common.{◌≡◌, ℕ, ◌<◌, Bool, true, false, List, [], ◌∷◌, ◌++◌, length, get_or, length-append, refl, sym, ap, ◌∙◌, subst, append_assoc, arith, codes, if◌then◌else◌, is_ascii_digit, list_all, cond-true, cond-false, and_parts, and_from, nat_tests, list_all-append, Rule, ◌then◌, Is, IsOneOf, IsOptional, is_whitespace, IsWhitespace, IsStructural, AreDigits, AreSomeDigits, IsInteger, IsNumber}
 use Rattle.fluent_uri.specs.Sets.{is_one_of}
 
 -- reading JSON: the text without the whitespace that begins it
@@ -21,16 +21,13 @@ is_number_character c = is_one_of (codes "0123456789+-.eE") c
 abbrev pub EndsNumber : List ℕ → Type 0
 EndsNumber text = is_number_character (get_or text 0 0) ≡ false
 
-whitespace-is-in-no-number : (c : ℕ) → is_whitespace c ≡ true → is_number_character c ≡ false
-whitespace-is-in-no-number c e = grind (arith, nat_tests)
-
 number-has-no-whitespace : (c : ℕ) → is_number_character c ≡ true → is_whitespace c ≡ false
 number-has-no-whitespace c e = grind (arith, nat_tests)
 
 pub whitespace-ends-number : (space rest : List ℕ) → IsWhitespace space → EndsNumber rest
     → EndsNumber (space ++ rest)
 whitespace-ends-number [] rest h e = e
-whitespace-ends-number (c ∷ space) rest h e = whitespace-is-in-no-number c (and_parts _ _ h).0
+whitespace-ends-number (c ∷ space) rest h e = grind (arith, nat_tests)
 
 -- reading JSON: the text begins with the structural character mark, and then goes on as the rest
 pub record BeginsStructural (mark : ℕ) (text rest : List ℕ) : Type 0 where
@@ -89,8 +86,7 @@ then-is-of-numbers p q x (a, b, e, h, k) = ap (list_all is_number_character) e
 -- reading JSON: no text, or one with characters of numbers only
 optional-is-of-numbers : {P : Rule} → ((x : List ℕ) → P x → AreOfNumbers x) → (x : List ℕ)
     → IsOptional P x → AreOfNumbers x
-optional-is-of-numbers p x (inl e) = ap (list_all is_number_character) e
-optional-is-of-numbers p x (inr h) = p x h
+optional-is-of-numbers p x h = grind arith
 
 word-is-of-numbers : (word : List ℕ) → AreOfNumbers word → (x : List ℕ) → Is word x → AreOfNumbers x
 word-is-of-numbers word h x e = ap (list_all is_number_character) e ∙ h
@@ -115,8 +111,7 @@ some-digits-are-of-numbers = then-is-of-numbers
     (one-is-of-numbers (codes "0123456789") (λ c e. grind (arith, nat_tests))) digits-are-of-numbers
 
 integer-is-of-numbers : (x : List ℕ) → IsInteger x → AreOfNumbers x
-integer-is-of-numbers x (inl e) = ap (list_all is_number_character) e
-integer-is-of-numbers x (inr h) =
+integer-is-of-numbers x h =
     grind (arith, then-is-of-numbers, one-is-of-numbers, digits-are-of-numbers)
 
 number-is-of-numbers : (x : List ℕ) → IsNumber x → AreOfNumbers x
@@ -129,20 +124,8 @@ number-is-of-numbers = then-is-of-numbers
     (optional-is-of-numbers (one-is-of-numbers (codes "-+") (λ c e. grind (arith, nat_tests))))
     some-digits-are-of-numbers)))))
 
-integer-is-not-empty : (x : List ℕ) → IsInteger x → 0 < length x
-integer-is-not-empty x (inl e) = omega (arith, ap length e)
-integer-is-not-empty x (inr (a, b, e, (c, f, h), k)) =
-    omega (arith, ap length e, ap length f, length-append a b)
-
 pub number-is-not-empty : (x : List ℕ) → IsNumber x → 0 < length x
-number-is-not-empty x (a, y, e, h, (b, z, f, i, k)) = omega (
-  arith,
-  ap length e,
-  ap length f,
-  length-append a y,
-  length-append b z,
-  integer-is-not-empty b i,
-)
+number-is-not-empty x (a, y, e, h, (b, z, f, i, k)) = grind (arith, length-append)
 
 -- reading JSON: a number is read up to its end
 pub record ReadsNumber (x text rest : List ℕ) : Type 0 where

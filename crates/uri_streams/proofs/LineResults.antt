@@ -1,24 +1,19 @@
 -- The result of bytes, and that of the text that they are.
-use Rattle.uri_streams.proofs.Common.{arith, ◌≡◌, ℕ, Bool, false, true, List, ap, sym, IsUtf8, if◌then◌else◌, is_utf8, IsUtf8-from_is_utf8, is_utf8-from_IsUtf8, false_from_ne_true, LineResult, Known, bytes_result, given_text, no_text_result, text_kind, text_result, NotUtf8, Job}
+use Rattle.uri_streams.proofs.Common.{arith, ◌≡◌, ℕ, Bool, false, true, List, IsUtf8, if◌then◌else◌, IsUtf8-from_is_utf8, is_utf8-from_IsUtf8, false_from_ne_true, LineResult, Known, bytes_result, given_text, no_text_result, text_kind, text_result, NotUtf8, Job}
 use Rattle.std.specs.Str.Lossy.{utf8_valid_len}
 use Rattle.uri_commands.specs.MendedLinks.{mended_link}
 
 -- lines: the result of bytes in UTF-8 is that of the text that they give
 bytes_result-of-utf8 : (job : Job) (known : Known) (bytes : List ℕ) → IsUtf8 bytes
     → text_result job.command known (given_text job bytes) ≡ bytes_result job known bytes
-bytes_result-of-utf8 job known bytes is =
-    sym (ap (λ b. if b then text_result job.command known (given_text job bytes)
-    else (no_text_result job.command (NotUtf8 (utf8_valid_len bytes)), known))
-    (is_utf8-from_IsUtf8 bytes is))
+bytes_result-of-utf8 job known bytes is = grind (arith, text_result, is_utf8-from_IsUtf8)
 
 -- lines: the result of bytes that are not UTF-8 is the one that is defined for these
 pub bytes_result-of-non-utf8 : (job : Job) (known : Known) (bytes : List ℕ) → ¬ (IsUtf8 bytes)
     → (no_text_result job.command (NotUtf8 (utf8_valid_len bytes)), known)
     ≡ bytes_result job known bytes
 bytes_result-of-non-utf8 job known bytes is_not =
-    sym (ap (λ b. if b then text_result job.command known (given_text job bytes)
-    else (no_text_result job.command (NotUtf8 (utf8_valid_len bytes)), known))
-    (false_from_ne_true (is_utf8 bytes) (λ yes. is_not (IsUtf8-from_is_utf8 bytes yes))))
+    grind (arith, text_result, false_from_ne_true, IsUtf8-from_is_utf8)
 
 -- lines: what a command gets of a text, if it is mended first or not
 given_result_if : Job → Known → List ℕ → Bool → LineResult × Known

@@ -1,11 +1,11 @@
 -- What `mended` returned of a link is the result of its line.
-use Rattle.uri_streams.proofs.Common.{arith, ◌≡◌, ◌≢◌, ℕ, Bool, true, false, true≢false, List, Result, Ok, Err, refl, ap, sym, ◌∙◌, IfOk, if◌then◌else◌, string_bytes, Kind, ParseError, is_output_failure, kind_named, error_text, KindName, LineResult, Text, Error, mend_result, parse_message, result_in, Refused}
+use Rattle.uri_streams.proofs.Common.{arith, ◌≡◌, ◌≢◌, ℕ, Bool, true, false, true≢false, List, Result, ap, sym, ◌∙◌, IfOk, if◌then◌else◌, string_bytes, Kind, ParseError, is_output_failure, kind_named, error_text, KindName, LineResult, Text, Error, mend_result, parse_message, result_in, Refused}
 use Rattle.std.specs.Prelude.{String}
 use Rattle.uri_commands.specs.Commands.{Mend}
 use Rattle.uri_commands.specs.MendedLinks.{mended_link}
 use Rattle.uri_commands.specs.Refusals.{IsErrorOfCommand}
 use Rattle.uri_commands.specs.declared.refusal.CommandError.{CommandError}
-use Rattle.uri_commands.specs.declared.refusal.CommandError.TheVariants.{Text as TextError, Base, Reference, Target, OutOfMemory, OutputFailed}
+use Rattle.uri_commands.specs.declared.refusal.CommandError.TheVariants.{Text as TextError, OutOfMemory}
 use Rattle.uri_mend.specs.Mending.{can_be_mended, mended_text}
 use Rattle.uri_mend.specs.Refusing.{IsMendErrorOf}
 use Rattle.uri_mend.specs.Trimming.{trimmed_link}
@@ -24,12 +24,7 @@ IsRejection-of-error : (name : KindName) (text : List ℕ) (why : CommandError)
     → IsErrorOfCommand (Mend name text) why → is_output_failure why ≡ false → why ≢ OutOfMemory
     → IsRejection name text why
 unfolding IsRejection
-IsRejection-of-error name text (TextError error) is written some = (error, refl, is)
-IsRejection-of-error name text (Base error) is written some = absurd is
-IsRejection-of-error name text (Reference error) is written some = absurd is
-IsRejection-of-error name text (Target error) is written some = absurd is
-IsRejection-of-error name text OutOfMemory is written some = absurd (some refl)
-IsRejection-of-error name text OutputFailed is written some = absurd (true≢false written)
+IsRejection-of-error name text why is written some = grind (arith, IsRejection, true≢false)
 
 -- lines: what `urilines mend` writes, if a link can be mended or not
 mend_result_if : Kind → List ℕ → Bool → LineResult
@@ -59,9 +54,8 @@ pub mend_result-of-returned-error : {E : Type 0} (name : KindName) (text : List 
     → IfOk result (λ line_result. why ≢ OutOfMemory)
     → IfOk result (λ line_result. result_in line_result ≡ mend_result (kind_named name) text)
 unfolding IsRejection
-mend_result-of-returned-error name text why (Ok line_result) is written error some =
+mend_result-of-returned-error name text why h is written error some =
     grind (arith, IsRejection-of-error, mend_result-of-error, kind_named)
-mend_result-of-returned-error name text why (Err failure) is written error some = tt
 
 mended_link_if : Kind → List ℕ → Bool → List ℕ
 mended_link_if kind text mendable =
@@ -80,6 +74,5 @@ pub mended_link-of-trimmed : {A E : Type 0} (name : KindName) (text : List ℕ) 
     → IfOk result (λ link. why ≢ OutOfMemory)
     → IfOk result (λ link. string_bytes link ≡ mended_link (kind_named name) text)
 unfolding IsRejection mended_link mended_link_if
-mended_link-of-trimmed name text why (Ok link) is written trimmed some =
+mended_link-of-trimmed name text why h is written trimmed some =
     grind (arith, IsRejection-of-error, kind_named)
-mended_link-of-trimmed name text why (Err failure) is written trimmed some = tt

@@ -1,12 +1,11 @@
 -- The lines of an input, some of them put together, and lists of lines that are merged.
-use Rattle.uri_streams.proofs.Common.{common_steps, arith, ◌≡◌, ◌++◌, ◌⊎◌, ℕ, Bool, true, false, cond, eqb, List, [], ◌∷◌, refl, ap, sym, subst, ◌∙◌, inl, inr, not, ◌&&◌, concat, filter, lines_of, prepend_to_first_line}
+use Rattle.uri_streams.proofs.Common.{common_steps, arith, ◌≡◌, ◌++◌, ◌⊎◌, ℕ, Bool, true, false, cond, eqb, List, [], ◌∷◌, refl, ap, ◌∙◌, inl, inr, not, ◌&&◌, concat, filter, lines_of, prepend_to_first_line}
 use Rattle.uri_streams.specs.Checks.{AreMergedFrom}
 
 -- lines: a byte is put before the first of some, and so before them all
 concat-of-prepended : (x : ℕ) (lines : List (List ℕ))
     → concat (prepend_to_first_line x lines) ≡ x ∷ concat lines
-concat-of-prepended x [] = refl
-concat-of-prepended x (line ∷ lines) = refl
+concat-of-prepended x lines = grind arith
 
 -- lines: those of an input, put together, are the input
 pub concat-of-lines : (end : ℕ) (xs : List ℕ) → concat (lines_of end xs) ≡ xs
@@ -52,13 +51,10 @@ lines_of-unended-line end (x ∷ xs) (lacks, inr more) =
 -- lines: a byte that ends no line is put before the first
 AreLines-prepended : (end x : ℕ) (lines : List (List ℕ)) → eqb x end ≡ false → AreLines end lines
     → AreLines end (prepend_to_first_line x lines)
-AreLines-prepended end x [] lacks are = inr ((lacks, inl refl), refl)
-AreLines-prepended end x (line ∷ lines) lacks (inl (ended, more)) = inl (inr (lacks, ended), more)
-AreLines-prepended end x (line ∷ lines) lacks (inr (unended, none)) =
-    inr ((lacks, inr unended), none)
+AreLines-prepended end x lines lacks are = grind arith
 
 -- lines: those of an input end with the byte, but perhaps the last
-AreLines-of-input : (end : ℕ) (xs : List ℕ) → AreLines end (lines_of end xs)
+pub AreLines-of-input : (end : ℕ) (xs : List ℕ) → AreLines end (lines_of end xs)
 AreLines-of-input end [] = tt
 AreLines-of-input end (x ∷ xs) = at (eqb x end) refl (AreLines-of-input end xs)
   where
@@ -68,7 +64,7 @@ AreLines-of-input end (x ∷ xs) = at (eqb x end) refl (AreLines-of-input end xs
     at true is rest = inl (inl (is, refl), rest)
     at false lacks rest = AreLines-prepended end x (lines_of end xs) lacks rest
 
-AreLines-filtered : (end : ℕ) (keeps : List ℕ → Bool) (lines : List (List ℕ))
+pub AreLines-filtered : (end : ℕ) (keeps : List ℕ → Bool) (lines : List (List ℕ))
     → AreLines end lines → AreLines end (filter keeps lines)
 AreLines-filtered end keeps [] are = tt
 AreLines-filtered end keeps (line ∷ lines) (inl (ended, more)) =
@@ -78,27 +74,16 @@ AreLines-filtered end keeps (line ∷ lines) (inl (ended, more)) =
         → AreLines end (cond b (line ∷ filter keeps lines) (filter keeps lines))
     at true rest = inl (ended, rest)
     at false rest = rest
-AreLines-filtered end keeps (line ∷ lines) (inr (unended, none)) = at (keeps line)
-  where
-    at : (b : Bool)
-        → AreLines end (cond b (line ∷ filter keeps lines) (filter keeps lines))
-    at true = inr (unended, ap (filter keeps) none)
-    at false = subst (λ l. AreLines end (filter keeps l)) (sym none) tt
+AreLines-filtered end keeps (line ∷ lines) (inr (unended, none)) = grind (arith, false)
 
 -- lines: put together, they are the lines of what they make
-lines_of-concat : (end : ℕ) (lines : List (List ℕ)) → AreLines end lines
+pub lines_of-concat : (end : ℕ) (lines : List (List ℕ)) → AreLines end lines
     → lines_of end (concat lines) ≡ lines
 lines_of-concat end [] are = refl
 lines_of-concat end (line ∷ lines) (inl (ended, more)) =
     grind (arith, lines_of-after-ended-line, lines_of-concat end lines more)
 lines_of-concat end (line ∷ lines) (inr (unended, none)) =
     grind (arith, common_steps, lines_of-unended-line)
-
--- lines: some lines of an input, put together, are the lines of what they make
-pub lines_of-some-lines : (end : ℕ) (keeps : List ℕ → Bool) (xs : List ℕ)
-    → lines_of end (concat (filter keeps (lines_of end xs))) ≡ filter keeps (lines_of end xs)
-lines_of-some-lines end keeps xs = lines_of-concat end (filter keeps (lines_of end xs))
-    (AreLines-filtered end keeps (lines_of end xs) (AreLines-of-input end xs))
 
 -- lines: those that pass a test, and those that do not, are merged from the lines; `within`: a test
 -- that each has to pass

@@ -1,5 +1,5 @@
 -- What is kept of parts of a line that are read one after the other.
-use Rattle.uri_streams.proofs.Common.{common_steps, ◌≡◌, ◌<◌, ◌≤◌, ◌+◌, ◌-◌, ℕ, Bool, true, false, List, ◌++◌, Option, Some, None, IfSome, cond, drop, length, take, min, ap, arith, refl, subst, sym, ◌∙◌, take-take, take_all, length-take-le, ltb-true, ltb-false, ◌≢◌, All, eqb, eq-eqb, get_or-take, nat_lt, slice_index, OnErr, OnOk, Result, Ok, Err, ends_with_byte, take_through, DropsConsumable, DropsThrough, Consumes, IsAtEnd, Keeps, prepend_known, take-append-drop, take-append-le, length-take, append-nil, All-from_get_or, take-append-add, ends_with_return, IsBufferedLine, ReadsFirstLine}
+use Rattle.uri_streams.proofs.Common.{common_steps, ◌≡◌, ◌<◌, ◌≤◌, ◌+◌, ◌-◌, ℕ, Bool, true, false, List, ◌++◌, Option, Some, None, IfSome, cond, drop, length, take, min, ap, arith, refl, subst, sym, ◌∙◌, take-take, take_all, length-take-le, ltb-true, ltb-false, ◌≢◌, All, eqb, eq-eqb, get_or-take, nat_lt, slice_index, OnErr, OnOk, Result, ends_with_byte, take_through, DropsConsumable, DropsThrough, Consumes, IsAtEnd, Keeps, prepend_known, take-append-drop, take-append-le, length-take, append-nil, All-from_get_or, take-append-add, ends_with_return, IsBufferedLine, ReadsFirstLine}
 use Rattle.std.proofs.Transfers.{StopsAt-take}
 
 -- general fact on lists, for lines: as much of a prefix is taken as there is room for
@@ -69,20 +69,16 @@ Consumes-buffered false buffer (Some xs) new n within drops = at new (drops with
 
 -- general fact on results, for lines read in parts: what holds always holds after an error
 pub OnErr-of-any : {T E : Type 0} (result : Result T E) (P : Type 0) → P → OnErr result P
-OnErr-of-any (Ok value) P p = tt
-OnErr-of-any (Err error) P p = p
+OnErr-of-any h e p = grind arith
 
 -- general fact on results, for a run: what holds always holds after a success
 pub OnOk-of-any : {T E : Type 0} (result : Result T E) (P : Type 0) → P → OnOk result P
-OnOk-of-any (Ok value) P p = p
-OnOk-of-any (Err error) P p = tt
+OnOk-of-any h e p = grind arith
 
 -- lines: at the end of the bytes nothing is dropped through the end of a line; a, c: what is left
 -- before and after
 pub Keeps-at-end : (end : ℕ) (a c : Option (List ℕ)) → IsAtEnd a → DropsThrough a c end → Keeps a c
-Keeps-at-end end None c none drops = tt
-Keeps-at-end end (Some xs) None none drops = absurd cc
-Keeps-at-end end (Some xs) (Some ys) none drops = grind arith
+Keeps-at-end end a c none drops = grind arith
 
 -- lines: the first line of a buffer is up to and including the first byte that ends a line
 pub IsBufferedLine-up-to : (end byte index : ℕ) (buffer line : List ℕ) → byte ≡ end

@@ -102,17 +102,11 @@ plain-sets-by-flags true needs_scheme = record {
 
 -- plain components: no set of a kind that has a name has such a character
 plain-sets : (name : KindName) → HasPlainSets (kind_named name)
-plain-sets kinds.Uri = plain-sets-by-flags false true
-plain-sets kinds.UriRef = plain-sets-by-flags false false
-plain-sets kinds.Iri = plain-sets-by-flags true true
-plain-sets kinds.IriRef = plain-sets-by-flags true false
+plain-sets name = grind (arith, plain-sets-by-flags, false)
 
 appended-texts-are-plain : (xs ys : List ℕ) → IsPlain xs → IsPlain ys → IsPlain (xs ++ ys)
-appended-texts-are-plain xs ys h k = record {
-  utf8 = IsUtf8-append xs ys h.utf8 k.utf8;
-  unescaped = ap (list_all is_unescaped) (chars-append xs ys h.utf8)
-      ∙ list_all-append is_unescaped (chars xs) (chars ys) ∙ and_from _ _ h.unescaped k.unescaped;
-}
+appended-texts-are-plain xs ys h k =
+    grind (arith, IsUtf8-append, chars-append, list_all-append, chars, and_from)
 
 -- plain components: the empty text is plain
 nothing-is-plain : IsPlain []

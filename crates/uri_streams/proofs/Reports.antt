@@ -1,6 +1,6 @@
 -- What the error output of a run got, and what its observer saw.
 use Rattle.uri_streams.proofs.Common.{common_steps}
-use Rattle.std.proofs.Common.{◌≡◌, ◌+◌, ◌++◌, ℕ, Bool, true, false, List, [], ◌∷◌, refl, ap, sym, ◌∙◌, subst, Option, Some, None, length, arith, true≢false, cond, zero-add}
+use Rattle.std.proofs.Common.{◌≡◌, ◌+◌, ◌++◌, ℕ, Bool, true, false, List, [], ◌∷◌, refl, ap, ◌∙◌, subst, Option, length, arith, true≢false, cond, zero-add}
 use Rattle.std.specs.Prelude.{if◌then◌else◌}
 use Rattle.std.proofs.lemmas.List.{append-nil}
 use Rattle.std.proofs.lemmas.List.Sums.{sum_by-append}
@@ -32,8 +32,7 @@ ReportsPrefix-after-Reports a b c text more first second = (
 
 not-failed-before : (b c : ErrorOutput) (more : List ℕ) (y : Bool) → b.has_failed ≡ y
     → ReportsPrefix b c more → c.has_failed ≡ false → b.has_failed ≡ false
-not-failed-before b c more true is second fine = absurd (true≢false (sym (second.1 is).0 ∙ fine))
-not-failed-before b c more false is second fine = is
+not-failed-before b c more y is second fine = grind (arith, true≢false)
 
 -- error output: a second text is reported after the first
 pub Reports-after-Reports : (a b c : ErrorOutput) (text more : List ℕ) → Reports a b text
@@ -54,19 +53,13 @@ pub ReportsPrefix-of-longer : (a b : ErrorOutput) (text more : List ℕ) → Rep
 ReportsPrefix-of-longer a b text more prefix =
     (AppendsPrefix-of-longer a.held b.held text more prefix.0, prefix.1)
 
-pub ReportsPrefix-of-nothing : (a b : ErrorOutput) (text : List ℕ) → Reports a b []
-    → ReportsPrefix a b text
-ReportsPrefix-of-nothing a b text nothing = ReportsPrefix-of-longer a b [] text nothing.0
-
 pub Sees-nothing : (seen : Option (List Tally)) → Sees seen seen []
-Sees-nothing None = tt
-Sees-nothing (Some before) = ap Some (sym (append-nil before))
+Sees-nothing seen = grind (arith, append-nil)
 
 -- observers: they see more after what they saw
 pub Sees-after-Sees : (a b c : Option (List Tally)) (tallies more : List Tally) → Sees a b tallies
     → Sees b c more → Sees a c (tallies ++ more)
-Sees-after-Sees None b c tallies more first second = tt
-Sees-after-Sees (Some before) b c tallies more first second = grind (arith, common_steps)
+Sees-after-Sees a b c tallies more first second = grind (arith, common_steps)
 
 -- the tally of so many lines and errors
 abbrev tally : ℕ → ℕ → Tally

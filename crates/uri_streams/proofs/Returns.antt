@@ -1,5 +1,5 @@
 -- Whether a `\r` is before the end of a line that is read in parts.
-use Rattle.uri_streams.proofs.Common.{common_steps, ◌≡◌, ◌≢◌, ◌<◌, ◌-◌, ◌++◌, ℕ, Bool, true, false, cond, List, [], All, refl, ap, sym, ◌∙◌, length, length-append, take, arith, get_or, append-nil, ltb-true, ltb-false, eqb-true, eq-eqb, ◌==◌, ends_with_byte, strip_last, ◌&&◌, nat_lt, not, take-append-add, nil_from_length, All-get_or, false_from_ne_true, end_byte, ends_with_return, has_return, return_after, line_ending}
+use Rattle.uri_streams.proofs.Common.{common_steps, ◌≡◌, ◌≢◌, ◌<◌, ◌-◌, ◌++◌, ℕ, Bool, true, false, cond, List, [], All, refl, ap, sym, ◌∙◌, length, length-append, take, arith, get_or, append-nil, ltb-true, ltb-false, eqb-true, eq-eqb, ◌==◌, ends_with_byte, strip_last, ◌&&◌, nat_lt, take-append-add, nil_from_length, All-get_or, false_from_ne_true, ends_with_return, return_after}
 use Rattle.std.specs.Io.{IsEmptyOrEndsWith}
 
 -- lines: the last byte of two lists is that of the second, where that has one
@@ -11,20 +11,7 @@ ends_with_byte-append byte xs ys some = grind (arith, common_steps)
 strip_last-append : (byte : ℕ) (xs ys : List ℕ) → 0 < length ys
     → strip_last byte (xs ++ ys) ≡ xs ++ strip_last byte ys
 strip_last-append byte xs ys some =
-    ap (λ b. cond b (take (length (xs ++ ys) - 1) (xs ++ ys)) (xs ++ ys))
-    (ends_with_byte-append byte xs ys
-    some)
-    ∙ at (ends_with_byte byte ys)
-  where
-    shorter : take (length (xs ++ ys) - 1) (xs ++ ys) ≡ xs ++ take (length ys - 1) ys
-    shorter =
-        ap (λ n. take n (xs ++ ys)) (omega (arith, length-append xs ys, some))
-        ∙ take-append-add xs ys (length ys - 1)
-
-    at : (b : Bool) → cond b (take (length (xs ++ ys) - 1) (xs ++ ys)) (xs ++ ys)
-        ≡ xs ++ cond b (take (length ys - 1) ys) ys
-    at true = shorter
-    at false = refl
+    grind (arith, common_steps, ends_with_byte-append, length-append, take-append-add, false)
 
 ends_with_byte-of-lacking : (byte : ℕ) (xs : List ℕ) → All (λ x. x ≢ byte) xs
     → ends_with_byte byte xs ≡ false
@@ -105,9 +92,3 @@ return_after-last-part end was done part is none ends = at (nat_lt 0 (length par
         ∙ sym (ap (λ c. c && ends_with_byte 13 (strip_last end (done ++ part)))
         (ap (λ l. ends_with_byte end (done ++ l)) empty ∙ ap (ends_with_byte end) (append-nil done)
         ∙ ends_with_byte-of-lacking end done none))
-
-pub output-end-is-line-end : (is_null is_return : Bool) (line : List ℕ)
-    → is_return ≡ ends_with_return (end_byte is_null) line
-    → line_ending is_null (not is_null && is_return) ≡ line_ending is_null (has_return is_null line)
-output-end-is-line-end true is_return line is = refl
-output-end-is-line-end false is_return line is = ap (line_ending false) is

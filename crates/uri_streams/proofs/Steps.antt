@@ -29,8 +29,7 @@ use Rattle.uri_streams.proofs.Cuts.{StandsFor, StandsFor-of-limited-line, bytes_
 use Rattle.uri_streams.proofs.Parts.{Consumes-buffered}
 use Rattle.uri_commands.proofs.Offered.{AppendsPrefix-after-Keeps, AppendsPrefix-of-longer, AppendsPrefix-of-kept}
 use Rattle.uri_streams.proofs.Failures.{Appends-after-Keeps, KeepsFailures-in-writing}
-use Rattle.uri_streams.proofs.Reports.{ReportsPrefix-of-longer, ReportsPrefix-of-nothing}
-use Rattle.uri_streams.proofs.Returns.{output-end-is-line-end}
+use Rattle.uri_streams.proofs.Reports.{ReportsPrefix-of-longer}
 use Rattle.uri_streams.proofs.Streams.{processed_lines-of-first-line, lines_after_first}
 
 -- lines: the first line of known bytes is taken, these bytes stand for it, and this is what ends
@@ -49,24 +48,15 @@ pub HasLine-of-read : (job : Job) (left left_new : Option (List ℕ)) (byte : �
     → end ≡ line_ending job.is_null (not job.is_null && is_return)
     → IfSome read (ReadsFirstLine left left_new byte (job.max_line + 3) line)
     → HasLine job left left_new line_is end
-HasLine-of-read job None left_new byte line line_is end read is_return e l r ends taken =
-    record { taken = tt }
-HasLine-of-read job (Some xs) left_new byte line line_is end read is_return e l r ends taken =
+HasLine-of-read job left left_new byte line line_is end read is_return e l r ends taken =
     grind (arith, StandsFor-of-limited-line, output-end-is-line-end)
 
 HasLine-of-whole-line : (job : Job) (left left_new : Option (List ℕ)) (line end : List ℕ)
     → IfSome left (λ xs. line ≡ take_through (end_byte job.is_null) xs)
     × DropsThrough left left_new (end_byte job.is_null) → 0 < length line
     → end ≡ line_end job line → HasLine job left left_new line end
-HasLine-of-whole-line job None left_new line end all some ends = record { taken = tt }
-HasLine-of-whole-line job (Some xs) left_new line end all some ends = record {
-  taken = (
-    take_through_nonempty (end_byte job.is_null) xs (omega (arith, some, ap length all.0)),
-    inl all.0,
-    all.1,
-    ends ∙ ap (line_end job) all.0,
-  );
-}
+HasLine-of-whole-line job left left_new line end all some ends =
+    grind (arith, take_through_nonempty)
 
 pub HasLine-buffered : (job : Job) (unknown : Bool) (buffer : List ℕ)
     (inner left_new : Option (List ℕ)) (line end : List ℕ)
@@ -192,9 +182,7 @@ module _ (job : Job) (number : ℕ) (task task_new : Task) (line end : List ℕ)
       → ReportsPrefix err err_new (result_report job.errors number (result_in made))
       → IfOk result (WritesLineOutput job number task line end held held_new err err_new task_new)
       × IfErr result (WritesOutputPrefix job number task line end held held_new err err_new)
-  writes-output-of-cut (Ok step) (output, shown, counts, error, last) prefix reported =
-      grind (arith, made_is, reported_is)
-  writes-output-of-cut (Err cause) output prefix reported = grind (arith, made_is, reported_is)
+  writes-output-of-cut result output prefix reported = grind (arith, made_is, reported_is)
 
 -- streams: a call is a step of a run if it writes the output of the first line that is left, or
 -- fails in that; writer_mid: before the output is written
@@ -236,6 +224,5 @@ pub StepFails-in-reading : (job : Job) (before : ℕ) (task : Task)
     → StepFails job before task left left_new held held_new err err_new cause
 StepFails-in-reading job before task None left_new held held_new err err_new cause stopped kept
     none = record { failed = tt }
-StepFails-in-reading job before task (Some xs) left_new held held_new err err_new cause stopped kept
-    none =
-    grind (arith, common_steps, AppendsPrefix-of-kept, ReportsPrefix-of-nothing)
+StepFails-in-reading job before task (Some xs) left_new held held_new err err_new cause stopped kept none =
+    grind (arith, common_steps, AppendsPrefix-of-kept, ReportsPrefix-of-longer)

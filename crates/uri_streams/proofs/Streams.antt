@@ -7,12 +7,7 @@ use Rattle.uri_streams.proofs.Reports.{Reports-after-Reports, Reports-nothing, R
 -- lines: the first is up to the first end, and the others are after it
 lines-step : (end x : ℕ) (xs : List ℕ) → lines_of end (x ∷ xs)
     ≡ take_through end (x ∷ xs) ∷ lines_of end (drop_through end (x ∷ xs))
-lines-step end x [] = at (eqb x end)
-  where
-    at : (b : Bool) → cond b ((x ∷ []) ∷ []) ((x ∷ []) ∷ [])
-        ≡ cond b (x ∷ []) (x ∷ []) ∷ lines_of end (cond b [] [])
-    at true = refl
-    at false = refl
+lines-step end x [] = grind (arith, false)
 lines-step end x (y ∷ ys) = at (eqb x end) (lines-step end y ys)
   where
     at : (b : Bool) → lines_of end (y ∷ ys)
@@ -224,8 +219,7 @@ module _ (job : Job) (number : ℕ) (task task_new : Task) (b c h i j : Option (
       → HasWrittenSoFar job number task a b h i d e s t tally
       → Steps job number task b c i j e f task_new step → step.is_last ≡ false
       → HasWrittenSoFar job (number + 1) task_new a c h j d f s u tally_new
-  HasWrittenSoFar-after-step None so st more = record { so_far = tt }
-  HasWrittenSoFar-after-step (Some xs) so st more = grind (arith, so_far, stepped)
+  HasWrittenSoFar-after-step a so st more = grind (arith, so_far, stepped)
 
   -- streams: after the last step the whole output is written
   pub HasWrittenSoFar-then-last-step : (a : Option (List ℕ))

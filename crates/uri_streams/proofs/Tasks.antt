@@ -68,11 +68,8 @@ pub link_result-of-outcome : {E : Type 0} (set : RuleSet) (base : List ℕ)
     → IfOk result (λ line_result.
     (result_in line_result, known_new) ≡ link_result set base known text)
 unfolding link_result
-link_result-of-outcome set base known known_new text reference rules (Err error) p of_kind
-    same is = tt
-link_result-of-outcome set base known known_new text reference rules
-    (Ok line_result) p of_kind same is =
-    grind arith
+link_result-of-outcome set base known known_new text reference rules h p of_kind same is =
+    grind (arith, link_result)
 
 -- lines: what `urilines links` writes of a text that is no reference is the error that is defined
 -- for it
@@ -85,9 +82,7 @@ link_result-of-error set base known text e not_of_kind is =
 
 pub command-of-each : (own : LineCommand) (command : Command) (known : Known)
     → Remembers (tasks.Each own) command known → Each own ≡ command
-command-of-each own (Each other) known is = ap Each is
-command-of-each own (Unique kind set hasher) known is = absurd is
-command-of-each own (Links base set) known is = absurd is
+command-of-each own command known is = grind arith
 
 -- lines: a line without a text is an error for the task of `unique`
 pub no_text_result-of-unique : (own : UniqueTask) (command : Command) (known : Known)

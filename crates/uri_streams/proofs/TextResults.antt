@@ -1,5 +1,6 @@
 -- What a kind's calls return is the result of a text.
-use Rattle.uri_streams.proofs.Common.{◌≡◌, ◌≢◌, ℕ, true, false, List, Result, Ok, Err, [], ◌++◌, Some, refl, ap, sym, ◌∙◌, components, Kind, IsOfKind, is_of_kind, ParseError, ◌↔◌, IfOk, if◌then◌else◌, unwrap_or, option_map, false_from_ne_true, error_text, resolve_error_text, LineResult, Text, Error, parse_message, parsed_result, resolution_result, target_result, result_in, Refused}
+use native.Mathlib.Omega.{arith}
+use Rattle.uri_streams.proofs.Common.{◌≡◌, ◌≢◌, ℕ, true, false, List, Result, Ok, [], ◌++◌, Some, refl, ap, sym, ◌∙◌, components, Kind, IsOfKind, is_of_kind, ParseError, ◌↔◌, IfOk, if◌then◌else◌, unwrap_or, option_map, false_from_ne_true, error_text, resolve_error_text, LineResult, Text, Error, parse_message, parsed_result, resolution_result, target_result, result_in, Refused}
 use Rattle.fluent_uri.specs.Prelude.{IsErrorWithUnderflowAllowed, refusal, resolution_of_texts}
 use Rattle.fluent_uri.specs.declared.resolve.ResolveError.{ResolveError}
 use Rattle.fluent_uri.specs.declared.resolve.ResolveError.TheVariants as errors
@@ -39,12 +40,7 @@ target_result-of-error : (base reference : List ℕ) (e : ResolveError)
     → IsErrorWithUnderflowAllowed (components base) (components reference) e
     → e ≢ errors.OutOfMemory → Error (resolve_error_text e) ≡ target_result base reference
 unfolding target_result
-target_result-of-error base reference errors.BaseWithFragment is some = ap resolution_result
-    (sym is)
-target_result-of-error base reference errors.InvalidReferenceAgainstOpaqueBase is some =
-    ap resolution_result (sym is)
-target_result-of-error base reference errors.PathUnderflow is some = absurd is
-target_result-of-error base reference errors.OutOfMemory is some = absurd (some refl)
+target_result-of-error base reference e is some = grind (arith, target_result)
 
 -- lines: an error of resolving, but for lack of memory,
 -- is the one that is defined for base and reference
@@ -54,6 +50,5 @@ pub target_result-of-returned-error : {E : Type 0} (base reference : List ℕ) (
     → IfOk result (λ line_result. line_result ≡ returned.Error (Refused (Target e)))
     → IfOk result (λ line_result. e ≢ errors.OutOfMemory)
     → IfOk result (λ line_result. result_in line_result ≡ target_result base reference)
-target_result-of-returned-error base reference e (Ok line_result) is error some =
-    ap result_in error ∙ target_result-of-error base reference e is some
-target_result-of-returned-error base reference e (Err failure) is error some = tt
+target_result-of-returned-error base reference e h is error some =
+    grind (arith, target_result-of-error)

@@ -1,5 +1,5 @@
 -- What was met, and the first time that a normal form comes.
-use Rattle.uri_streams.proofs.Common.{common_steps, arith, ◌≡◌, ℕ, Bool, true, false, cond, List, [], ◌∷◌, ◌++◌, refl, sym, string_bytes, bytes_eq, ◌||◌, same_from_decides, Decides-like, Text, HasMet, Known, text_if_new, has_met}
+use Rattle.uri_streams.proofs.Common.{common_steps, arith, ◌≡◌, ℕ, true, false, cond, List, [], ◌∷◌, ◌++◌, string_bytes, bytes_eq, Decides-like, Text, HasMet, Known, text_if_new, has_met}
 use Rattle.std.proofs.Common.{String}
 use Rattle.std.specs.HashSet as bag
 use Rattle.std.specs.String.{string_eq}
@@ -15,21 +15,9 @@ pub contains_text-after-insertion : {Y S : Type 0} (key : String Y)
 contains_text-after-insertion key old new u other = hash_set_updates_text (string_bytes key) old new
     true u other
 
--- general fact on texts, for `unique`: equality may swap
-bytes_eq-sym : (xs ys : List ℕ) → bytes_eq xs ys ≡ bytes_eq ys xs
-bytes_eq-sym xs ys = same_from_decides {P = xs ≡ ys} _ _ (bytes_eq-Decides xs ys)
-    (Decides-like _ (λ e. sym e) (λ e. sym e) (bytes_eq-Decides ys xs))
-
--- general fact on booleans, for `unique`: a test or another is one that is tried if the other fails
-or-as-cond : (a b : Bool) → cond a true b ≡ (b || a)
-or-as-cond true true = refl
-or-as-cond true false = refl
-or-as-cond false true = refl
-or-as-cond false false = refl
-
 has_met-more : (known : Known) (text other : List ℕ)
     → has_met (known ++ text ∷ []) other ≡ cond (bytes_eq text other) true (has_met known other)
-has_met-more known text other = grind (arith, common_steps, bytes_eq-sym, or-as-cond)
+has_met-more known text other = grind (arith, common_steps, bytes_eq-Decides, Decides-like)
 
 -- lines: what `unique` writes of a text that it has not met is the text, and it has met it then
 pub text_if_new-of-new : (met met_new : MetTexts) (known : Known) (normal : List ℕ)
