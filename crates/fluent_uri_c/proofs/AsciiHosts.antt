@@ -1,11 +1,11 @@
 -- What is returned of a host in ASCII is the result that is defined.
-use Rattle.fluent_uri_c.proofs.Common.{◌≡◌, ℕ, true, List, [], arith, inl, inr, refl, sym, ap, ◌∙◌, subst, IsSomeAnd, Option, Some, None, Ok, Err, is_none, not, ok_or, option_map, is_utf8, cond-false, cond-true, false_from_ne_true, IsUtf8-from_is_utf8, is_utf8-from_IsUtf8, Components, components, recompose, Kind, Rejection, text_error}
+use Rattle.fluent_uri_c.proofs.Common.{◌≡◌, ℕ, true, List, [], arith, inl, inr, refl, sym, ap, ◌∙◌, subst, IsSomeAnd, Option, Some, None, Ok, Err, is_none, not, ok_or, cond-true, false_from_ne_true, IsUtf8-from_is_utf8, is_utf8-from_IsUtf8, components, Kind, Rejection, text_error}
 use Rattle.uri_ops.proofs.Offered.{ascii-bytes-are-utf8}
-use Rattle.fluent_uri.specs.Prelude.{authority_parts, name_bytes}
+use Rattle.uri_parts.specs.Authority.{authority_parts}
 use Rattle.uri_idna.specs.declared.error.AsciiHostError.{AsciiHostError}
 use Rattle.uri_idna.specs.declared.error.AsciiHostError.TheVariants.{InvalidName, NameNotUtf8, OutOfMemory}
-use Rattle.uri_idna.specs.AsciiHosts.{IsAsciiHostError, ascii_host, ascii_host_of, is_unencoded_ascii}
-use Rattle.uri_idna.specs.AsciiReferences.{IsAsciiHostErrorOf, ascii_components, with_authority}
+use Rattle.uri_idna.specs.AsciiHosts.{IsAsciiHostError, ascii_host, is_unencoded_ascii}
+use Rattle.uri_idna.specs.AsciiReferences.{IsAsciiHostErrorOf, with_authority}
 use Rattle.uri_idna.proofs.Offered.{name_not_utf8_has_no_ascii_form, unencoded_ascii_name_stays}
 use Rattle.fluent_uri_c.specs.AsciiHosts.{ascii_host_or_error, ascii_host_rejection, ascii_uri_of_kind, ascii_uri_or_error, host_or_empty, no_ascii_host, takes_memory_for_host}
 use Rattle.fluent_uri_c.proofs.HostNames.{empty_is_name}
@@ -18,18 +18,12 @@ IsRejectedHost host error =
 
 name-not-utf8-is-rejected : (host : List ℕ) → IsAsciiHostError host NameNotUtf8
     → IsRejectedHost host NameNotUtf8
-name-not-utf8-is-rejected host is = (
-  ap (λ kind. ascii_host_of kind host) is.0 ∙ name_not_utf8_has_no_ascii_form host is.1,
-  cond-false _ _ _ (false_from_ne_true (is_utf8 (name_bytes host))
-      (λ e. is.1 (IsUtf8-from_is_utf8 (name_bytes host) e))),
-)
+name-not-utf8-is-rejected host is =
+    grind (arith, name_not_utf8_has_no_ascii_form, IsUtf8-from_is_utf8)
 
 invalid-name-is-rejected : (host : List ℕ) → IsAsciiHostError host InvalidName
     → IsRejectedHost host InvalidName
-invalid-name-is-rejected host is = (
-  ap (λ kind. ascii_host_of kind host) is.0 ∙ is.1.1,
-  cond-true _ _ _ (is_utf8-from_IsUtf8 (name_bytes host) is.1.0),
-)
+invalid-name-is-rejected host is = grind (arith, cond-true, is_utf8-from_IsUtf8)
 
 rejected-host-has-error : (host : List ℕ) (error : AsciiHostError) → IsRejectedHost host error
     → ascii_host_or_error host ≡ Err (ascii_host_rejection error)
@@ -45,12 +39,10 @@ host-error-is-defined host InvalidName is =
 host-error-is-defined host OutOfMemory is =
     inl (refl, ap not (false_from_ne_true (is_unencoded_ascii host) is.1))
 
-empty-host-stays : ascii_host_or_error [] ≡ Ok []
-empty-host-stays = grind (arith, empty_is_name, unencoded_ascii_name_stays, ascii-bytes-are-utf8)
-
 pub host-without-authority-is-empty : (authority : Option (List ℕ)) → authority ≡ None
     → ascii_host_or_error (host_or_empty authority) ≡ Ok []
-host-without-authority-is-empty authority none = rw none empty-host-stays
+host-without-authority-is-empty authority none =
+    grind (arith, empty_is_name, unencoded_ascii_name_stays, ascii-bytes-are-utf8)
 
 pub authority-error-is-defined : (authority : Option (List ℕ)) (text : List ℕ)
     (error : AsciiHostError) (why : Rejection) → authority ≡ Some text
@@ -67,18 +59,10 @@ rejected-authority : (authority : Option (List ℕ)) (error : AsciiHostError)
 rejected-authority None error of_host is = is
 rejected-authority (Some authority) error of_host is = of_host (authority_parts authority).host is
 
-no-form-of-rejected-authority : (c : Components) (authority : Option (List ℕ))
-    (error : AsciiHostError)
-    → IsSomeAnd authority (λ a. IsRejectedHost (authority_parts a).host error)
-    → (option_map recompose (ascii_components c authority) ≡ None)
-    × (no_ascii_host (host_or_empty authority) ≡ ascii_host_rejection error)
-no-form-of-rejected-authority c None error is = absurd is
-no-form-of-rejected-authority c (Some authority) error is = grind (arith, with_authority)
-
 rejected-text-has-error : (text : List ℕ) (error : AsciiHostError)
     → IsSomeAnd (components text).authority (λ a. IsRejectedHost (authority_parts a).host error)
     → ascii_uri_or_error text ≡ Err (ascii_host_rejection error)
-rejected-text-has-error text error is = grind (arith, components, no-form-of-rejected-authority)
+rejected-text-has-error text error is = grind (arith, components, with_authority)
 
 text-error-is-defined : (text : List ℕ) (error : AsciiHostError) → IsAsciiHostErrorOf text error
     → IsErrorOf true (ascii_uri_or_error text) (ascii_host_rejection error)

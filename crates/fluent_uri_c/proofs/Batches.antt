@@ -30,12 +30,8 @@ module _ (at : ℕ → Option (List ℕ)) (n position : ℕ) (bytes : List ℕ)
   joined_results-of-one-more = let step : n + 1 ≡ suc n = omega arith in ap (joined_results at) step
 
   joined_results-length-of-one-more : length (joined_results at (n + 1)) ≡ position + length bytes
-  joined_results-length-of-one-more = omega (
-    arith,
-    ap length joined_results-of-one-more,
-    length-append (joined_results at n) (bytes_of (at n)),
-    ap length made,
-  )
+  joined_results-length-of-one-more =
+      grind (arith, joined_results-of-one-more, length-append, at, bytes_of, made)
 
   -- the buffer, after one more result
   pub buffer-of-one-more-result : (old out next : List ℕ) → out

@@ -8,12 +8,8 @@ pub bit_of-same : (bytes : List ℕ) (i value : ℕ) → i / 8 < length bytes
 bit_of-same bytes i value inside =
     ap (λ byte. bit_at byte (i % 8)) (get_or-set_same bytes (i / 8) value 0 inside)
 
--- columns for C: two indexes have the same byte and bit only if they are one
-same_index : (i j : ℕ) → j / 8 ≡ i / 8 → j % 8 ≡ i % 8 → j ≡ i
-same_index i j e m = omega arith
-
 -- columns for C: a byte written for index i leaves the bit of every other index j
 pub bit_of-other : (bytes : List ℕ) (i value j : ℕ) → i / 8 < length bytes → j ≢ i
     → ((bit : ℕ) → bit < 8 → bit ≢ i % 8 → bit_at value bit ≡ bit_at (get_or bytes (i / 8) 0) bit)
     → bit_of (set bytes (i / 8) value) j ≡ bit_of bytes j
-bit_of-other bytes i value j inside apart kept = grind (arith, common_steps, set, same_index)
+bit_of-other bytes i value j inside apart kept = grind (arith, common_steps, set)

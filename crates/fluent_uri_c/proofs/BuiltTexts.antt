@@ -1,5 +1,5 @@
 -- The text that is built of components has them again.
-use Rattle.fluent_uri_c.proofs.Common.{arith, ◌≡◌, ℕ, Bool, true, false, ◌&&◌, ◌||◌, not, List, [], ◌++◌, refl, sym, Option, Some, None, IfSome, codes, is_none, is_some, option_map, slice_index, unwrap_or, IsUtf8, and_from, and_parts, none-some, IsUtf8-append, IsUtf8-from_is_utf8, is_utf8-from_IsUtf8, Kind, absent_or_passes, BuilderParts, is_authority_text, is_scheme_text, is_text_for, meet_rules, Rejection, HasGivenComponents, HasValidAuthority, HasValidTail, error_of_building, given, given_authority, given_components, is_host_text, missing, path_rejection, together_rejection, in_component, rejected, first_rejection}
+use Rattle.fluent_uri_c.proofs.Common.{arith, ◌≡◌, ℕ, Bool, true, false, ◌&&◌, ◌||◌, not, List, [], ◌++◌, refl, Option, Some, None, IfSome, codes, is_none, is_some, option_map, slice_index, unwrap_or, IsUtf8, and_from, and_parts, none-some, IsUtf8-append, IsUtf8-from_is_utf8, is_utf8-from_IsUtf8, Kind, absent_or_passes, BuilderParts, is_authority_text, is_scheme_text, is_text_for, meet_rules, Rejection, HasGivenComponents, HasValidAuthority, HasValidTail, error_of_building, given, given_authority, given_components, is_host_text, missing, path_rejection, together_rejection, in_component, rejected, first_rejection}
 use Rattle.std.specs.Char.{is_ascii_alphabetic}
 use Rattle.fluent_uri.specs.Prelude.{AuthorityParts, HasComponentSets, IsAuthorityFor, TableSet, authority_parts, digit_set, marked, recompose_authority, scheme_set, starts}
 use Rattle.fluent_uri.specs.Hosts.{host_kind, is_host}
@@ -49,8 +49,7 @@ marked-is-utf8 set before after (Some x) b a e =
 
 passing-is-valid : (set : TableSet) (part : Option (List ℕ))
     → absent_or_passes part (is_text_for set) ≡ true → IfSome part (λ x. is_valid_for set x ≡ true)
-passing-is-valid set None e = tt
-passing-is-valid set (Some x) e = (text-for-set set x e).1
+passing-is-valid set part e = grind (arith, text-for-set)
 
 -- building for C: userinfo, host and port, each by its rule, are an authority, which has them again
 recomposed-authority-has-its-parts : (kind : Kind) → HasComponentSets kind
@@ -91,37 +90,30 @@ pub given-authority-is-valid : (kind : Kind) → HasComponentSets kind
     → absent_or_passes host (is_host_text kind.reg_name) ≡ true
     → absent_or_passes (given text spans.port) (is_text_for digit_set) ≡ true
     → HasValidAuthority kind text spans
-given-authority-is-valid kind sets text spans None e u h d = rw e tt
-given-authority-is-valid kind sets text spans (Some host) e u h d =
+given-authority-is-valid kind sets text spans host e u h d =
     grind (arith, recomposed-authority-has-its-parts)
 
 valid-authority-passes : (kind : Kind) (authority : Option AuthorityParts)
     → IfSome authority (λ parts. (is_authority_text kind (recompose_authority parts) ≡ true)
     × (authority_parts (recompose_authority parts) ≡ parts))
     → absent_or_passes (option_map recompose_authority authority) (is_authority_text kind) ≡ true
-valid-authority-passes kind None valid = refl
-valid-authority-passes kind (Some parts) valid = valid.0
+valid-authority-passes kind authority valid = grind arith
 
 valid-authority-has-its-parts : (kind : Kind) (authority : Option AuthorityParts)
     → IfSome authority (λ parts. (is_authority_text kind (recompose_authority parts) ≡ true)
     × (authority_parts (recompose_authority parts) ≡ parts))
     → IfSome authority (λ parts. authority_parts (recompose_authority parts) ≡ parts)
-valid-authority-has-its-parts kind None valid = tt
-valid-authority-has-its-parts kind (Some parts) valid = valid.1
+valid-authority-has-its-parts kind authority valid = grind arith
 
 no-scheme-is-missing : (needs : Bool) (scheme : Option (List ℕ)) (other : Option Rejection)
     → first_rejection (missing 5 (needs && is_none scheme)) other ≡ None
     → ((is_some scheme || not needs) ≡ true) × (other ≡ None)
-no-scheme-is-missing true (Some x) other e = (refl, e)
-no-scheme-is-missing true None other e = absurd (none-some _ (sym e))
-no-scheme-is-missing false (Some x) other e = (refl, e)
-no-scheme-is-missing false None other e = (refl, e)
+no-scheme-is-missing needs scheme other e = grind (arith, none-some)
 
 -- building for C: what is not there after a function was not there before it
 none-before-map : (o : Option BuildError) (f : BuildError → Rejection) → option_map f o ≡ None
     → o ≡ None
-none-before-map None f e = refl
-none-before-map (Some x) f e = absurd (none-some _ (sym e))
+none-before-map o f e = grind (arith, none-some)
 
 pub built-text-has-given-components : (kind : Kind) → HasComponentSets kind
     → (text : List ℕ) (spans : ComponentSpans)

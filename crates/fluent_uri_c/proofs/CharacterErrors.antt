@@ -1,5 +1,5 @@
 -- Where a component ends whose characters are those of a set, and its error there.
-use Rattle.fluent_uri_c.proofs.Common.{common_steps, ◌≡◌, ℕ, ◌<◌, ◌≤◌, true, false, ◌&&◌, List, length, sym, ap, ◌∙◌, arith, zero-add, Some, None, IsTrue, IsUtf8, and_from, eq-eqb, is_utf8-from_IsUtf8, LacksPercent, TableSet, starts, is_text_for, parse_rejection, IsPossibleUtf8, component_error, is_possible_length}
+use Rattle.fluent_uri_c.proofs.Common.{common_steps, ◌≡◌, ℕ, ◌<◌, ◌≤◌, true, false, ◌&&◌, List, length, sym, ◌∙◌, arith, zero-add, Some, None, IsTrue, IsUtf8, and_from, eq-eqb, is_utf8-from_IsUtf8, LacksPercent, TableSet, starts, is_text_for, parse_rejection, IsPossibleUtf8, component_error, is_possible_length}
 use Rattle.fluent_uri.specs.Prelude.{is_next, percent_sign, scan_end, unexpected, valid_prefix}
 use Rattle.uri_pct.proofs.Offered.{is_valid_for_is_scanned_to_end, valid_prefix_is_at_most_length}
 use Rattle.uri_parts.proofs.Offered.{text_ends_where_position_is_length}
@@ -13,11 +13,7 @@ pub record IsScanned (set : TableSet) (text : List ℕ) (end : ℕ) : Type 0 whe
 
 pub scanned-bytes : (set : TableSet) (bytes text : List ℕ) (end : ℕ) → IsPossibleUtf8 bytes
     → text ≡ bytes → end ≡ scan_end text set 0 → IsScanned set bytes end
-scanned-bytes set bytes text end accepted same here = record {
-  utf8 = accepted.0;
-  possible = accepted.1;
-  here = here ∙ ap (λ (t : List ℕ). scan_end t set 0) same;
-}
+scanned-bytes set bytes text end accepted same here = grind arith
 
 module _ (set : TableSet) (text : List ℕ) (end : ℕ) (is : IsScanned set text end) where
   prefix : end ≡ valid_prefix set text

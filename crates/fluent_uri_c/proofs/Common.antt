@@ -8,26 +8,25 @@ pub use Rattle.std.proofs.lemmas.List.{length-map, length-replicate, drop-drop, 
 pub use Rattle.std.proofs.lemmas.Option.{none-some, slice_get_read, same_Some}
 pub use Rattle.std.proofs.lemmas.Str.{IsUtf8-from_is_utf8, is_utf8-from_IsUtf8, IsUtf8-append, IsUtf8-drop, utf8_valid_len-IsUtf8, IsCharBoundary-start, IsUtf8-from_ascii}
 pub use Rattle.std.specs.List.{position_or_len, fold, position}
-pub use Rattle.std.specs.Prelude.{IsSomeAnd, Option, Some, None, Ok, Err, is_none, ok_or, option_map, IsSome, slice_get, is_some, IfSome, codes, slice_index, unwrap_or, IsTrue, encode_utf8, slice_range, bytes_eq, nat_lt, Result, if◌then◌else◌, IsOk, option_and_then}
+pub use Rattle.std.specs.Prelude.{IsSomeAnd, Option, Some, None, Ok, Err, is_none, ok_or, option_map, IsSome, slice_get, is_some, IfSome, codes, slice_index, unwrap_or, IsTrue, encode_utf8, slice_range, bytes_eq, nat_lt, Result, IsOk, option_and_then}
 pub use Rattle.std.specs.Result.{is_ok, result_ok, result_map_both}
 pub use Rattle.std.specs.Str.{is_utf8, IsUtf8, IsCharBoundary}
-pub use Rattle.fluent_uri.specs.Prelude.{Components, IsNormalFormOfTarget, IsOfKind, Kind, LacksPercent, Octet, TableSet, absent_or_passes, before_any, components, from_any, hexdig_set, iri, iri_ref, is_one_of, is_scheme, kind_by_flags, print, recompose, reference_text, rules_of_set, set_of, starts, uri}
+pub use Rattle.fluent_uri.specs.Prelude.{Components, IsNormalFormOfTarget, IsOfKind, Kind, LacksPercent, Octet, TableSet, absent_or_passes, before_any, components, from_any, hexdig_set, iri, iri_ref, is_one_of, is_scheme, kind_by_flags, print, reference_text, rules_of_set, set_of, starts}
 unfoldable pub use Rattle.fluent_uri.specs.Hosts.{host_kind}
 pub use Rattle.fluent_uri.specs.Tokens.{is_valid_for}
 pub use Rattle.fluent_uri_c.specs.Building.{HasGivenComponents, HasValidAuthority, HasValidTail, error_of_building, given, given_authority, given_components, missing, path_rejection, together_rejection}
 unfoldable pub use Rattle.fluent_uri_c.specs.Building.{is_host_text}
 pub use Rattle.fluent_uri_c.specs.Columns.{Buffers, IsColumn, bit_of, buffers, bytes_of, joined_results, number_of_bool, column_of, text_in, call_result_bytes, result_in}
-pub use Rattle.fluent_uri_c.specs.Errors.{in_component, rejected, parse_rejection, mend_rejection, error_of_kind, in_reference, number_of, rejected_at, basic_resolve_rejection, resolve_rejection}
+pub use Rattle.fluent_uri_c.specs.Errors.{in_component, rejected, parse_rejection, mend_rejection, error_of_kind, number_of, basic_resolve_rejection, resolve_rejection}
 pub use Rattle.fluent_uri_c.specs.Fnv.{fnv_bytes, fnv_write}
-pub use Rattle.fluent_uri_c.specs.Kinds.{base_numbered, iri_numbered, kind_numbered}
+pub use Rattle.fluent_uri_c.specs.Kinds.{iri_numbered, kind_numbered}
 pub use Rattle.fluent_uri_c.specs.Lines.{is_newline, lines_of, HasConsumed, IsFullAt, LeavesLines, LineBuffers, TakesMemoryAt, newline, error_number_at, number_returned, written_at, line_buffers}
 pub use Rattle.fluent_uri_c.specs.Mends.{mended_link_result, mended_result, takes_memory_for_link, mend_link_result, mend_result, unmendable_error}
-pub use Rattle.fluent_uri_c.specs.Options.{basic_choice, path_preference, rules_choice}
 pub use Rattle.fluent_uri_c.specs.Outcomes.{outcome_of_batch, outcome_of_text, written}
 pub use Rattle.fluent_uri_c.specs.Relatives.{relativize_result, reference_from}
-pub use Rattle.fluent_uri_c.specs.Results.{text_error, first_rejection, IsPossibleUtf8, component_error, component_refusal, is_possible_length, Returned, utf8_error, normal_result, rejection_or_result, IsReturnedOrDenied, second_text_error, with_base, decode_result, encode_result, error_of_basic_target, error_of_target, resolution_by, is_out_of_memory, length_error, normalize_result, resolve_result, resolve_normalized_result, to_uri_result, with_valid_number, normal_target_from, target_from, IsPossibleText, IsReturnedAs, IsTargetReturned, takes_memory_for_target}
+pub use Rattle.fluent_uri_c.specs.Results.{text_error, first_rejection, IsPossibleUtf8, component_error, is_possible_length, Returned, utf8_error, normal_result, rejection_or_result, IsReturnedOrDenied, second_text_error, with_base, decode_result, encode_result, error_of_basic_target, error_of_target, resolution_by, is_out_of_memory, length_error, normalize_result, resolve_result, resolve_normalized_result, to_uri_result, with_valid_number, normal_target_from, IsPossibleText, IsReturnedAs, IsTargetReturned, takes_memory_for_target}
 unfoldable pub use Rattle.fluent_uri_c.specs.Results.{normal_form_of, basic_resolution, normal_resolution, resolution}
-pub use Rattle.fluent_uri_c.specs.Spans.{parse_error, AreSpansOf, IsSpan, absent, authority_host_number, authority_start, fragment_start, host_of, host_start, path_start, port_of, port_start, query_start, userinfo_of, ArePartsOf, rejected_parts}
+pub use Rattle.fluent_uri_c.specs.Spans.{AreSpansOf, IsSpan, absent, authority_host_number, authority_start, fragment_start, host_of, host_start, path_start, port_of, port_start, query_start, userinfo_of, ArePartsOf, rejected_parts}
 pub use Rattle.fluent_uri_c.specs.Values.{HasPartsFirst, LeavesValueOrDenied}
 pub use Rattle.fluent_uri_c.specs.declared.errors.Rejection.{Rejection}
 pub use Rattle.fluent_uri_c.specs.declared.parts.Parts.{Parts}

@@ -1,6 +1,6 @@
 -- A component, mended from left to right: what a scan passes stays, and the character where it
 -- stops becomes octets.
-use Rattle.fluent_uri_c.proofs.Common.{common_steps, ◌≡◌, ℕ, ◌+◌, ◌-◌, ◌<◌, ◌≤◌, true, List, ◌++◌, length, take, drop, map, sym, ap, ◌∙◌, arith, ⊎_elim, encode_utf8, slice_range, IsUtf8, IsCharBoundary, cases_lt, drop-drop, IsUtf8-drop, TableSet, LacksPercent, Octet, print, mended}
+use Rattle.fluent_uri_c.proofs.Common.{common_steps, ◌≡◌, ℕ, ◌+◌, ◌-◌, ◌<◌, ◌≤◌, true, List, ◌++◌, length, drop, map, sym, ap, ◌∙◌, arith, ⊎_elim, encode_utf8, slice_range, IsUtf8, IsCharBoundary, cases_lt, drop-drop, IsUtf8-drop, TableSet, LacksPercent, Octet, print, mended}
 use Rattle.std.proofs.lemmas.List.Edits.{between_none}
 use Rattle.uri_pct.specs.Prefixes.{valid_prefix}
 use Rattle.uri_mend.proofs.Offered.{nothing-is-scanned-after-scan, scanned-prefix-is-unchanged, unscanned-char-is-encoded}
@@ -9,10 +9,6 @@ use Rattle.uri_mend.proofs.Offered.{nothing-is-scanned-after-scan, scanned-prefi
 abbrev octets_between : List ℕ → ℕ → ℕ → List ℕ
 octets_between text start end = print (map Octet (slice_range text start end))
 
-char-is-part-of-text : (text : List ℕ) (end next c : ℕ) → end ≤ next → next ≤ length text
-    → drop end text ≡ encode_utf8 c ++ drop next text → slice_range text end next ≡ encode_utf8 c
-char-is-part-of-text text end next c order inside joined = grind (arith, common_steps)
-
 module _ (set : TableSet) (lacks : LacksPercent set) (octets : set.pct_encoded ≡ true)
     (text : List ℕ) (u : IsUtf8 text) where
   -- what a scan passes stays
@@ -20,23 +16,15 @@ module _ (set : TableSet) (lacks : LacksPercent set) (octets : set.pct_encoded �
       → end ≡ done + valid_prefix set (drop done text)
       → mended set (drop done text) ≡ slice_range text done end ++ mended set (drop end text)
   scanned-run-stays done end at here =
-      let rest : List ℕ = drop done text in
-      let n = valid_prefix set rest in
-      let size : n ≡ end - done = omega (arith, here) in
-      scanned-prefix-is-unchanged set lacks octets rest (IsUtf8-drop text done u at)
-      ∙ ap (λ k. take k rest ++ mended set (drop n rest)) size
-      ∙ ap (λ t. take (end - done) rest ++ mended set t)
-      (drop-drop n done text ∙ ap (λ k. drop k text) (sym here))
+      grind (arith, set, scanned-prefix-is-unchanged, lacks, octets, IsUtf8-drop, drop-drop)
 
   -- the character where a scan stops becomes octets
   char-after-run-becomes-octets : (end next c : ℕ) → IsCharBoundary text end → end ≤ next
       → next ≤ length text → valid_prefix set (drop end text) ≡ 0
       → drop end text ≡ encode_utf8 c ++ drop next text
       → mended set (drop end text) ≡ octets_between text end next ++ mended set (drop next text)
-  char-after-run-becomes-octets end next c at order inside stop joined = unscanned-char-is-encoded
-      set lacks octets (drop end text) (drop next text) c (IsUtf8-drop text end u at) joined stop
-      ∙ ap (λ bytes. print (map Octet bytes) ++ mended set (drop next text))
-      (sym (char-is-part-of-text text end next c order inside joined))
+  char-after-run-becomes-octets end next c at order inside stop joined =
+      grind (arith, common_steps, unscanned-char-is-encoded, set, lacks, octets, IsUtf8-drop)
 
   -- what is left at a position, by what a scan passes and the character after that, if there is one
   pub mended-rest-by-run-and-char : (done end next : ℕ) → IsCharBoundary text done

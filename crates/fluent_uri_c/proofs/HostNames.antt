@@ -1,5 +1,5 @@
 -- A host that begins with neither a digit nor a `[` is a name.
-use Rattle.fluent_uri_c.proofs.Common.{◌≡◌, ℕ, ◌<◌, ◌≤◌, ◌==◌, false, not, List, [], ◌∷◌, length, arith, lit≤, None, IsTrue, slice_index, not-true, RegName, host_kind, ipv4_value}
+use Rattle.fluent_uri_c.proofs.Common.{◌≡◌, ℕ, ◌<◌, ◌≤◌, ◌==◌, false, not, List, length, arith, lit≤, None, IsTrue, slice_index, not-true, RegName, host_kind, ipv4_value}
 use Rattle.std.specs.Char.{digit_value, is_ascii_digit}
 use Rattle.std.specs.Net.Reader.{read_ipv4, read_octet}
 use Rattle.std.proofs.NetLemmas.Numbers.{NoDigit, read_number_empty}
@@ -14,24 +14,14 @@ no_digit c e = grind arith
 
 pub empty_is_name : (host : List ℕ) → length host < 1 → host_kind host ≡ RegName
 unfolding host_kind
-empty_is_name [] h = rw (no_ipv4 [] (lit≤ tt))
-empty_is_name (c ∷ rest) h = absurd (omega arith)
+empty_is_name host h = grind (arith, no_ipv4, lit≤, host_kind)
 
 -- exports for C: a host that begins with neither a digit nor `[` (91) is a registered name
 pub begins_as_name : (host : List ℕ) → is_ascii_digit (slice_index host 0) ≡ false
     → IsTrue (not (slice_index host 0 == 91)) → host_kind host ≡ RegName
 unfolding host_kind
-begins_as_name [] digit bracket = rw (no_ipv4 [] (lit≤ tt))
-begins_as_name (c ∷ rest) digit bracket =
-    rw (not-true _ bracket, no_ipv4 (c ∷ rest) (no_digit c digit))
+begins_as_name host digit bracket = grind (arith, no_ipv4, lit≤, host_kind, not-true, no_digit)
 
 -- exports for C: so is one that begins with a byte after `[` (91), as a letter in lower case
 pub begins_after_bracket : (host : List ℕ) → 91 < slice_index host 0 → host_kind host ≡ RegName
-begins_after_bracket host h = begins_as_name host (no-digit (slice_index host 0) h)
-    (not-from-false (slice_index host 0) h)
-  where
-    no-digit : (c : ℕ) → 91 < c → is_ascii_digit c ≡ false
-    no-digit c h = grind (arith, nat_tests, h)
-
-    not-from-false : (c : ℕ) → 91 < c → IsTrue (not (c == 91))
-    not-from-false c h = grind (arith, nat_tests, h)
+begins_after_bracket host h = grind (arith, begins_as_name, false, nat_tests)

@@ -1,7 +1,7 @@
 -- What mending returns is the result that is defined.
-use Rattle.fluent_uri_c.proofs.Common.{arith, ◌≡◌, ◌⊎◌, ℕ, Bool, List, inl, inr, refl, sym, IsTrue, None, Ok, Err, is_ok, Kind, Rejection, mend_rejection, rejected, mended_link_result, mended_result, takes_memory_for_link, Returned, utf8_error}
+use Rattle.fluent_uri_c.proofs.Common.{arith, ◌≡◌, ◌⊎◌, ℕ, Bool, List, IsTrue, None, Ok, Err, is_ok, Kind, Rejection, mend_rejection, rejected, mended_link_result, mended_result, takes_memory_for_link, Returned, utf8_error}
 use Rattle.uri_mend.specs.declared.error.MendError.{MendError}
-use Rattle.uri_mend.specs.declared.error.MendError.TheVariants.{OutOfMemory, Unmendable}
+use Rattle.uri_mend.specs.declared.error.MendError.TheVariants.{OutOfMemory}
 use Rattle.uri_mend.specs.Mended.{IsMended}
 use Rattle.uri_mend.specs.Refusing.{IsLinkErrorOf, IsMendErrorOf}
 use Rattle.uri_mend.specs.Trimming.{trimmed_link}
@@ -22,33 +22,16 @@ abbrev pub IsErrorOf : Bool → Returned → Rejection → Type 0
 IsErrorOf takes_memory returned why =
     ((why ≡ rejected Of.OutOfMemory) × IsTrue takes_memory) ⊎ (returned ≡ Err why)
 
-mended_result-of-parsed-error : (kind : Kind) (text : List ℕ) (error : MendError)
-    → None ≡ utf8_error text → IsMendErrorOf kind text error
-    → IsErrorOf (is_ok (mended_result kind text)) (mended_result kind text) (mend_rejection error)
-mended_result-of-parsed-error kind text (Unmendable error) valid is =
-    inr (rw (sym valid, is.0, is.1) refl)
-mended_result-of-parsed-error kind text OutOfMemory valid is = inl (refl, rw (sym valid, is) refl)
-
 -- exports for C: if mending fails, memory is out or the rejection is the one that is defined
 pub mended_result-of-error : (kind : Kind) (bytes text : List ℕ) (error : MendError)
     (why : Rejection) → None ≡ utf8_error bytes → text ≡ bytes → IsMendErrorOf kind text error
     → why ≡ mend_rejection error
     → IsErrorOf (is_ok (mended_result kind bytes)) (mended_result kind bytes) why
-mended_result-of-error kind bytes text error why valid same is e =
-    grind (arith, mended_result-of-parsed-error)
-
-mended_link_result-of-parsed-error : (kind : Kind) (text : List ℕ) (error : MendError)
-    → None ≡ utf8_error text → IsLinkErrorOf kind text error → IsErrorOf
-    (takes_memory_for_link kind text) (mended_link_result kind text) (mend_rejection error)
-mended_link_result-of-parsed-error kind text (Unmendable error) valid is =
-    inr (rw (sym valid, is.0, is.1) refl)
-mended_link_result-of-parsed-error kind text OutOfMemory valid (inl is) = grind arith
-mended_link_result-of-parsed-error kind text OutOfMemory valid (inr is) = grind arith
+mended_result-of-error kind bytes text error why valid same is e = grind arith
 
 -- exports for C: if mending a link fails, memory is out or the rejection is the one that is defined
 pub mended_link_result-of-error : (kind : Kind) (bytes text : List ℕ) (error : MendError)
     (why : Rejection) → None ≡ utf8_error bytes → text ≡ bytes → IsLinkErrorOf kind text error
     → why ≡ mend_rejection error
     → IsErrorOf (takes_memory_for_link kind bytes) (mended_link_result kind bytes) why
-mended_link_result-of-error kind bytes text error why valid same is e =
-    grind (arith, mended_link_result-of-parsed-error)
+mended_link_result-of-error kind bytes text error why valid same is e = grind arith

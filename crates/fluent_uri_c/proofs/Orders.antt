@@ -23,17 +23,13 @@ normal_result-of-text : (set : RuleSet) (kind : Kind) (bytes text : List ℕ)
     → normal_result set kind bytes ≡ Ok (normal_form_of set kind text)
 normal_result-of-text set kind bytes text none same = grind arith
 
-keys-in-order : (one other one_key other_key : Option (List ℕ)) (order : Ordering) → one ≡ one_key
-    → other ≡ other_key → order_of_keys one_key other_key order ≡ order_of_keys one other order
-keys-in-order one other one_key other_key order e f = grind arith
-
 pub order-of-two-texts : (set : RuleSet) (kind : Kind) (one other first second : List ℕ)
     (order : Ordering) → None ≡ text_error kind one → first ≡ one → None ≡ text_error kind other
     → second ≡ other → byte_order (normal_form_of set kind first) (normal_form_of set kind second)
     ≡ order_of_keys (result_ok (normal_result set kind one))
     (result_ok (normal_result set kind other)) order
 order-of-two-texts set kind one other first second order none same no_other same_other =
-    grind (arith, keys-in-order, normal_result-of-text)
+    grind (arith, normal_result-of-text)
 
 same-bytes-are-equal-in-order : (one other : List ℕ)
     → (byte_order one other ≡ Equal) ↔ (one ≡ other)
@@ -47,10 +43,7 @@ same-bytes-are-equal-in-order one other =
 same-keys : (one other : Option (List ℕ)) (raw raw_other : List ℕ) → (order_of_keys one other
     (byte_order raw raw_other) ≡ Equal) ↔ (((normal : List ℕ) × ((one ≡ Some normal)
     × (other ≡ Some normal))) ⊎ ((one ≡ None) × ((other ≡ None) × (raw ≡ raw_other))))
-same-keys (Some one) (Some other) raw raw_other = grind (arith, same-bytes-are-equal-in-order)
-same-keys (Some one) None raw raw_other = grind arith
-same-keys None (Some other) raw raw_other = grind arith
-same-keys None None raw raw_other = grind (arith, same-bytes-are-equal-in-order)
+same-keys one other raw raw_other = grind (arith, same-bytes-are-equal-in-order)
 
 pub equal-keys-are-one : (kind options : ℕ) (one other : List ℕ) (order : Ordering)
     → order ≡ key_order kind options one other → (order ≡ Equal) ↔ AreOneKey kind options one other

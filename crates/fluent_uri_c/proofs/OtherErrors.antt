@@ -1,16 +1,13 @@
 -- No call is defined to return that memory is out: that comes from a denied request alone.
-use Rattle.fluent_uri_c.proofs.Common.{arith, ◌≡◌, ℕ, Bool, true, false, List, refl, ◌==◌, Option, Some, None, Result, Ok, Err, IsTrue, ◌⊎◌, if◌then◌else◌, nat_lt, option_map, length, result_map_both, components, Kind, RuleSet, Rejection, error_of_kind, in_reference, number_of, parse_rejection, rejected, rejected_at, iri_numbered, mend_link_result, mend_result, unmendable_error, relativize_result, IsReturnedOrDenied, Returned, second_text_error, with_base, basic_resolution, component_error, component_refusal, decode_result, encode_result, error_of_basic_target, error_of_target, resolution_by, first_rejection, is_out_of_memory, is_possible_length, length_error, normal_form_of, normal_resolution, normalize_result, rejection_or_result, resolution, resolve_result, resolve_normalized_result, text_error, to_uri_result, utf8_error, with_valid_number}
-use Rattle.std.specs.Str.Lossy.{utf8_valid_len}
+use Rattle.fluent_uri_c.proofs.Common.{arith, ◌≡◌, ℕ, Bool, false, List, refl, ◌==◌, Option, Some, None, Result, Err, IsTrue, ◌⊎◌, option_map, result_map_both, components, Kind, RuleSet, Rejection, error_of_kind, number_of, parse_rejection, rejected, iri_numbered, mend_link_result, mend_result, unmendable_error, relativize_result, IsReturnedOrDenied, Returned, second_text_error, with_base, basic_resolution, decode_result, encode_result, error_of_basic_target, error_of_target, first_rejection, is_out_of_memory, length_error, normal_form_of, normal_resolution, normalize_result, rejection_or_result, resolution, resolve_result, resolve_normalized_result, text_error, to_uri_result, utf8_error, with_valid_number}
 use Rattle.uri_parts.specs.declared.error.ParseError.{ParseError}
 use Rattle.uri_parts.specs.declared.error.ParseErrorKind.{ParseErrorKind}
-use Rattle.uri_parts.specs.declared.error.ParseErrorKind.TheVariants.{InvalidPctEncodedOctet, UnexpectedChar, InvalidIpv6Addr}
 use Rattle.uri_parts.specs.Refusals.{refusal}
 use Rattle.uri_ops.specs.Target as Target
 use Rattle.uri_relative.specs.Leading.{without_fragment}
 use Rattle.uri_basic.specs.Target as Basic
-use Rattle.uri_mend.specs.Mending.{can_be_mended}
-use Rattle.fluent_uri_c.specs.declared.errors.Error.TheVariants.{OutOfMemory, InvalidArgument, NotUtf8}
-use Rattle.fluent_uri_c.specs.Sets.{decoding_set, encoding_set}
+use Rattle.fluent_uri_c.specs.declared.errors.Error.TheVariants.{OutOfMemory}
+use Rattle.fluent_uri_c.specs.Sets.{encoding_set}
 
 -- exports for C: whether a rejection, if there is one, is that memory is out
 abbrev option_is_memory : Option Rejection → Bool
@@ -19,49 +16,28 @@ option_is_memory (Some why) = number_of why.error == 8
 
 of_rejection_or_result : (o : Option Rejection) (r : Returned) → option_is_memory o ≡ false
     → is_out_of_memory r ≡ false → is_out_of_memory (rejection_or_result o r) ≡ false
-of_rejection_or_result None r p q = q
-of_rejection_or_result (Some why) r p q = p
+of_rejection_or_result o r p q = grind arith
 
 of_first_rejection : (o other : Option Rejection) → option_is_memory o ≡ false
     → option_is_memory other ≡ false → option_is_memory (first_rejection o other) ≡ false
-of_first_rejection None other p q = q
-of_first_rejection (Some why) other p q = p
-
-of_in_reference : (o : Option Rejection) → option_is_memory o ≡ false
-    → option_is_memory (option_map in_reference o) ≡ false
-of_in_reference None p = refl
-of_in_reference (Some why) p = p
+of_first_rejection o other p q = grind arith
 
 of_valid_number : {A : Type 0} → (o : Option A) (f : A → Returned)
     → ((a : A) → is_out_of_memory (f a) ≡ false) → is_out_of_memory (with_valid_number o f) ≡ false
-of_valid_number None f h = refl
-of_valid_number (Some a) f h = h a
+of_valid_number o f h = grind arith
 
 of_kind : (kind : ParseErrorKind) → (number_of (error_of_kind kind) == 8) ≡ false
-of_kind InvalidPctEncodedOctet = refl
-of_kind UnexpectedChar = refl
-of_kind InvalidIpv6Addr = refl
+of_kind kind = grind arith
 
 of_parse_error : (o : Option ParseError) → option_is_memory (option_map parse_rejection o) ≡ false
 of_parse_error None = refl
 of_parse_error (Some e) = of_kind e.kind
 
-of_length_test : (b : Bool)
-    → option_is_memory (if b then None else Some (rejected InvalidArgument)) ≡ false
-of_length_test true = refl
-of_length_test false = refl
-
 of_length_error : (bytes : List ℕ) → option_is_memory (length_error bytes) ≡ false
-of_length_error bytes = of_length_test (is_possible_length bytes)
-
-of_utf8_test : (b : Bool) (n : ℕ)
-    → option_is_memory (if b then Some (rejected_at NotUtf8 n) else None) ≡ false
-of_utf8_test true n = refl
-of_utf8_test false n = refl
+of_length_error bytes = grind arith
 
 of_utf8_error : (bytes : List ℕ) → option_is_memory (utf8_error bytes) ≡ false
-of_utf8_error bytes = of_first_rejection (length_error bytes) _ (of_length_error bytes)
-    (of_utf8_test (nat_lt (utf8_valid_len bytes) (length bytes)) (utf8_valid_len bytes))
+of_utf8_error bytes = grind (arith, of_first_rejection, of_length_error)
 
 of_text_error : (kind : Kind) (bytes : List ℕ) → option_is_memory (text_error kind bytes) ≡ false
 of_text_error kind bytes = of_first_rejection (utf8_error bytes) _ (of_utf8_error bytes)
@@ -69,28 +45,21 @@ of_text_error kind bytes = of_first_rejection (utf8_error bytes) _ (of_utf8_erro
 
 of_second_text : (kind : Kind) (bytes : List ℕ)
     → option_is_memory (second_text_error kind bytes) ≡ false
-of_second_text kind bytes = of_in_reference (text_error kind bytes) (of_text_error kind bytes)
+of_second_text kind bytes = grind (arith, of_text_error)
 
 of_base : (n : ℕ) (base : List ℕ) (result : Kind → Returned)
     → ((kind : Kind) → is_out_of_memory (result kind) ≡ false)
     → is_out_of_memory (with_base n base result) ≡ false
 of_base n base result h = grind (arith, of_valid_number, of_rejection_or_result, of_text_error)
 
-of_unmendable : (b : Bool) (o : Option ParseError)
-    → option_is_memory (if b then None else option_map parse_rejection o) ≡ false
-of_unmendable true o = refl
-of_unmendable false o = of_parse_error o
-
 of_mending : (kind : Kind) (bytes link : List ℕ)
     → option_is_memory (first_rejection (utf8_error bytes) (unmendable_error kind link)) ≡ false
-of_mending kind bytes link = of_first_rejection (utf8_error bytes) _ (of_utf8_error bytes)
-    (of_unmendable (can_be_mended kind link) (refusal kind link))
+of_mending kind bytes link =
+    grind (arith, of_first_rejection, of_utf8_error, of_parse_error, refusal)
 
 of_target_error : (r : Result (List ℕ) Target.TargetError)
     → is_out_of_memory (result_map_both (λ target. target) error_of_target r) ≡ false
-of_target_error (Ok target) = refl
-of_target_error (Err Target.BaseWithFragment) = refl
-of_target_error (Err Target.InvalidReferenceAgainstOpaqueBase) = refl
+of_target_error r = grind arith
 
 of_resolution : (base reference : List ℕ) → is_out_of_memory (resolution base reference) ≡ false
 unfolding resolution
@@ -99,8 +68,7 @@ of_resolution base reference = of_target_error
 
 of_basic_target_error : (r : Result (List ℕ) Basic.BasicTargetError)
     → is_out_of_memory (result_map_both (λ target. target) error_of_basic_target r) ≡ false
-of_basic_target_error (Ok target) = refl
-of_basic_target_error (Err Basic.PathStartsWithDoubleSlash) = refl
+of_basic_target_error r = grind arith
 
 of_basic_resolution : (base reference : List ℕ)
     → is_out_of_memory (basic_resolution base reference) ≡ false
@@ -108,15 +76,9 @@ unfolding basic_resolution
 of_basic_resolution base reference =
     of_basic_target_error (Basic.basic_resolution_of_texts base reference)
 
-of_resolution_by : (is_basic : Bool) (base reference : List ℕ)
-    → is_out_of_memory (resolution_by is_basic base reference) ≡ false
-of_resolution_by true base reference = of_basic_resolution base reference
-of_resolution_by false base reference = of_resolution base reference
-
 of_mapped_text : (f : List ℕ → List ℕ) (r : Returned) → is_out_of_memory r ≡ false
     → is_out_of_memory (result_map_both f (λ why. why) r) ≡ false
-of_mapped_text f (Ok text) p = refl
-of_mapped_text f (Err why) p = p
+of_mapped_text f r p = grind arith
 
 of_normal_resolution : (set : RuleSet) (kind : Kind) (base reference : List ℕ)
     → is_out_of_memory (normal_resolution set kind base reference) ≡ false
@@ -139,28 +101,12 @@ to_uri_result-is-other n text = of_valid_number (iri_numbered n) _
 -- exports for C: resolving is not defined to return that memory is out
 pub resolve_result-is-other : (n options : ℕ) (base reference : List ℕ)
     → is_out_of_memory (resolve_result n options base reference) ≡ false
-resolve_result-is-other n options base reference =
-    grind (
-      arith,
-      of_valid_number,
-      of_base,
-      of_rejection_or_result,
-      of_second_text,
-      of_resolution_by,
-    )
+resolve_result-is-other n options base reference = grind (arith, of_basic_resolution, of_resolution)
 
 -- exports for C: resolving and normalising are not defined to return that memory is out
 pub resolve_normalized_result-is-other : (n options : ℕ) (base reference : List ℕ)
     → is_out_of_memory (resolve_normalized_result n options base reference) ≡ false
-resolve_normalized_result-is-other n options base reference =
-    grind (
-      arith,
-      of_valid_number,
-      of_base,
-      of_rejection_or_result,
-      of_second_text,
-      of_normal_resolution,
-    )
+resolve_normalized_result-is-other n options base reference = grind (arith, of_normal_resolution)
 
 -- exports for C: relativizing is not defined to return that memory is out
 pub relativize_result-is-other : (n options : ℕ) (base target : List ℕ)
@@ -171,9 +117,7 @@ relativize_result-is-other n options base target =
 -- exports for C: decoding is not defined to return that memory is out
 pub decode_result-is-other : (n : ℕ) (text : List ℕ)
     → is_out_of_memory (decode_result n text) ≡ false
-decode_result-is-other n text = of_valid_number (decoding_set n) _
-    (λ set. of_rejection_or_result (component_error set text) _ (of_first_rejection
-    (utf8_error text) _ (of_utf8_error text) (of_parse_error (component_refusal set text))) refl)
+decode_result-is-other n text = grind arith
 
 -- exports for C: encoding is not defined to return that memory is out
 pub encode_result-is-other : (n : ℕ) (bytes : List ℕ)

@@ -18,8 +18,7 @@ IsSpan-of-positions text begin start end (Some part) here place =
 -- parts for C: a component that a text doesn't have is the absent span
 pub IsSpan-of-absent : (text : List ℕ) (begin : ℕ) (part : Option (List ℕ)) → part ≡ None
     → IsSpan text begin part absent
-IsSpan-of-absent text begin None e = refl
-IsSpan-of-absent text begin (Some part) e = absurd (none-some _ (sym e))
+IsSpan-of-absent text begin part e = grind (arith, none-some)
 
 start_of_authority : (part : Option (List ℕ)) (n : ℕ) (a : AuthorityPositions)
     → option_map (authority_at n) part ≡ Some a → a.start ≡ n
@@ -36,19 +35,7 @@ authority-start-of-positions text p a at here = start_of_authority (components t
 within : (text part : List ℕ) (start end : ℕ) → slice_range text start end ≡ part
     → end ≡ start + length part → (i j : ℕ) → j ≤ length part
     → slice_range text (start + i) (start + j) ≡ slice_range part i j
-within text part start end at ends i j inside =
-    let rest : List ℕ = drop start text in
-    let n : (start + j) - (start + i) ≡ j - i = omega arith in
-    let m : end - start ≡ length part = omega arith in
-    let whole : take (length part) rest ≡ part = ap (λ k. take k rest) (sym m) ∙ at in
-    ap (λ k. take k (drop (start + i) text)) n ∙ ap (take (j - i)) (sym (drop-drop i start text))
-    ∙ between_is rest i j ∙ ap (drop i) (sym (take-take j (length part) rest inside))
-    ∙ sym (between_is (take (length part) rest) i j) ∙ ap (λ p. slice_range p i j) whole
-
-component-without-length-is-absent : (part : Option (List ℕ)) → delimited_length 1 part ≡ 0
-    → part ≡ None
-component-without-length-is-absent None e = refl
-component-without-length-is-absent (Some part) e = absurd (omega arith)
+within text part start end at ends i j inside = grind (arith, drop-drop, between_is, take-take)
 
 -- parts for C: an authority of a text, at its positions
 record Inside (kind : Kind) (text : List ℕ) (a : AuthorityPositions) : Type 0 where
@@ -132,8 +119,7 @@ module _ (kind : Kind) (text : List ℕ) (p : Positions) (a : AuthorityPositions
 
   pub userinfo-span-if-absent : a.host_start ≤ a.start
       → IsSpan text (authority_start text) (userinfo_of (components text).authority) absent
-  userinfo-span-if-absent more = absent-span userinfo_of (authority_start text)
-      (component-without-length-is-absent _ (omega (arith, host_starts)))
+  userinfo-span-if-absent more = grind (arith, absent-span, host_starts)
 
   host_begins : a.host_start ≡ host_start text
   host_begins = omega (

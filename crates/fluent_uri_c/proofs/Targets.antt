@@ -1,5 +1,5 @@
 -- What resolving returns is the result that is defined.
-use Rattle.fluent_uri_c.proofs.Common.{arith, ◌≡◌, ◌⊎◌, ℕ, Bool, false, List, inl, inr, refl, sym, ap, ◌∙◌, subst, Result, Ok, Err, None, IsOk, IsTrue, result_map_both, false≢true, Components, components, Kind, IsNormalFormOfTarget, rules_of_set, RuleSet, Rejection, basic_resolve_rejection, rejected, resolve_rejection, IsReturnedAs, IsTargetReturned, Returned, basic_resolution, error_of_basic_target, error_of_target, normal_form_of, normal_resolution, normal_result, resolution, resolution_by, takes_memory_for_target, text_error}
+use Rattle.fluent_uri_c.proofs.Common.{arith, ◌≡◌, ◌⊎◌, ℕ, Bool, false, List, sym, ap, ◌∙◌, subst, Result, Ok, Err, None, IsOk, IsTrue, result_map_both, false≢true, Components, components, Kind, IsNormalFormOfTarget, rules_of_set, RuleSet, Rejection, basic_resolve_rejection, rejected, resolve_rejection, IsReturnedAs, IsTargetReturned, Returned, basic_resolution, error_of_basic_target, error_of_target, normal_form_of, normal_resolution, normal_result, resolution, resolution_by, takes_memory_for_target, text_error}
 use Rattle.fluent_uri.specs.Prelude.{IsErrorWithUnderflowAllowed, IsWithFragment}
 use Rattle.uri_ops.specs.declared.resolve.error.ResolveError.{ResolveError}
 use Rattle.uri_ops.specs.declared.resolve.error.ResolveError.TheVariants as Of
@@ -25,8 +25,7 @@ resolution-of-target base bare reference target is e = ap returned_of
 -- exports for C: mapping a result keeps whether there is a value
 is_ok_mapped : {A B E F : Type 0} (f : A → B) (g : E → F) (r : Result A E) → IsOk r
     → IsOk (result_map_both f g r)
-is_ok_mapped f g (Ok x) h = refl
-is_ok_mapped f g (Err e) h = absurd (false≢true h)
+is_ok_mapped f g e h = grind (arith, false≢true)
 
 -- exports for C: an error of a call whose result is defined is that memory is out, where there is a
 -- text, or the defined one
@@ -37,11 +36,7 @@ returned_of-error : (b r : Components) (error : ResolveError)
     → IsErrorWithUnderflowAllowed b r error
     → IsErrorOf (returned_of (Target.resolution_of b r)) (resolve_rejection error)
 unfolding returned_of
-returned_of-error b r Of.BaseWithFragment h = inr (ap returned_of h)
-returned_of-error b r Of.InvalidReferenceAgainstOpaqueBase h = inr (ap returned_of h)
-returned_of-error b r Of.PathUnderflow h = absurd h
-returned_of-error b r Of.OutOfMemory h =
-    inl (refl, is_ok_mapped (λ target. target) error_of_target _ h)
+returned_of-error b r error h = grind (arith, returned_of, is_ok_mapped)
 
 -- exports for C: if resolving against the base without its fragment (bare) fails, memory is out or
 -- the error is the one that is defined
@@ -107,8 +102,7 @@ basic_resolution-of-target base given reference target same e =
 takes_memory_for_basic : (r : Result (List ℕ) Basic.BasicTargetError)
     → IsTrue (takes_memory_for_target (basic_of r))
 unfolding basic_of
-takes_memory_for_basic (Ok target) = refl
-takes_memory_for_basic (Err Basic.PathStartsWithDoubleSlash) = refl
+takes_memory_for_basic r = grind (arith, basic_of)
 
 -- exports for C: an error of a call that resolves is that memory is out, where it takes memory, or
 -- the defined one
@@ -120,9 +114,7 @@ IsTargetErrorOf returned why =
 basic_of-error : (b r : Components) (error : BasicResolveError) → IsBasicError b r error
     → IsTargetErrorOf (basic_of (Basic.basic_resolution b r)) (basic_resolve_rejection error)
 unfolding basic_of
-basic_of-error b r OfBasic.PathStartsWithDoubleSlash h = inr (ap basic_of h)
-basic_of-error b r OfBasic.OutOfMemory h =
-    inl (refl, takes_memory_for_basic (Basic.basic_resolution b r))
+basic_of-error b r error h = grind (arith, basic_of, takes_memory_for_basic)
 
 -- exports for C: if the basic algorithm fails, memory is out or the error is the one that is
 -- defined
@@ -134,21 +126,10 @@ unfolding basic_resolution basic_of
 basic_resolution-of-error base given reference why error same e h =
     grind (arith, basic_of-error, components)
 
-ok-takes-memory : (returned : Returned) → IsOk returned → IsTrue (takes_memory_for_target returned)
-ok-takes-memory (Ok target) h = refl
-ok-takes-memory (Err why) h = absurd (false≢true h)
-
-returned-if-returned-as : {T : Type 0} → (bytes : T → List ℕ) (returned : Returned)
-    (made : Result T Rejection) → IsReturnedAs bytes returned made
-    → IsTargetReturned bytes returned made
-returned-if-returned-as bytes returned (Ok value) h = h
-returned-if-returned-as bytes returned (Err why) h = grind (arith, ok-takes-memory)
-
 -- exports for C: what is returned without the basic algorithm is what a call that resolves may
 -- return
 pub target-is-returned : {T : Type 0} → (bytes : T → List ℕ) (base reference : List ℕ)
     (is_basic : Bool) (made : Result T Rejection) → is_basic ≡ false
     → IsReturnedAs bytes (resolution base reference) made
     → IsTargetReturned bytes (resolution_by is_basic base reference) made
-target-is-returned bytes base reference is_basic made e h =
-    rw e (returned-if-returned-as bytes (resolution base reference) made h)
+target-is-returned bytes base reference is_basic made e h = grind (arith, false≢true)

@@ -1,17 +1,15 @@
 -- What is written of lines, and what a batch of them leaves.
-use Rattle.fluent_uri_c.proofs.Common.{◌≡◌, ◌≢◌, ℕ, zero, suc, ◌+◌, ◌<◌, ◌≤◌, List, [], ◌∷◌, ◌++◌, length, take, drop, refl, sym, ap, ◌∙◌, arith, append_assoc, length-append, true, false, Bool, ◌⊎◌, inl, inr, Some, None, IsSome, IsTrue, cond, slice_get, nat_lt, position, position_or_len, result_ok, drop-append_seam, take-append_seam, drop-drop, length-take-le, none-some, same_Some, bytes_of, joined_results, kind_numbered, rules_choice, outcome_of_batch, HasConsumed, IsFullAt, LeavesLines, LineBuffers, TakesMemoryAt, is_newline, lines_of, newline, error_number_at, number_returned, written_at, is_possible_length, normalize_result}
+use Rattle.fluent_uri_c.proofs.Common.{◌≡◌, ◌≢◌, ℕ, ◌+◌, ◌<◌, ◌≤◌, List, [], ◌∷◌, ◌++◌, length, take, drop, sym, ap, ◌∙◌, arith, append_assoc, length-append, false, Bool, ◌⊎◌, Some, None, IsTrue, cond, slice_get, nat_lt, position, position_or_len, result_ok, drop-append_seam, take-append_seam, drop-drop, length-take-le, none-some, same_Some, bytes_of, joined_results, outcome_of_batch, HasConsumed, IsFullAt, LeavesLines, LineBuffers, TakesMemoryAt, is_newline, lines_of, newline, error_number_at, number_returned, written_at, is_possible_length, normalize_result}
 use Rattle.fluent_uri_c.specs.declared.outcome.Outcome.{Outcome}
 use Rattle.fluent_uri_c.specs.Endings.{EndsAt}
 
 -- lines for C: a value that is there only if b is true is that value
 cond_some : (b : Bool) (n k : ℕ) → Some k ≡ cond b (Some n) None → k ≡ n
-cond_some true n k e = same_Some k n e
-cond_some false n k e = absurd (none-some k (sym e))
+cond_some b n k e = grind (arith, same_Some, none-some)
 
 -- lines for C: without a value the test b is false
 cond_none : (b : Bool) (n : ℕ) → None ≡ cond b (Some n) None → b ≡ false
-cond_none true n e = absurd (none-some n e)
-cond_none false n e = refl
+cond_none b n e = grind (arith, none-some)
 
 pub first-newline-found : (rest : List ℕ) (k : ℕ) → Some k ≡ position is_newline rest
     → k ≡ position_or_len is_newline rest
@@ -62,18 +60,6 @@ pub error_number_at-of-line : (kind options : ℕ) (input line : List ℕ) (n nu
     → slice_get (lines_of input) n ≡ Some line → Some number ≡ error_number_at kind options input n
 error_number_at-of-line kind options input line n number made here = rw here (ap Some made)
 
-valid_kind : (kind : ℕ) → kind ≤ 3 → IsSome (kind_numbered kind)
-valid_kind zero h = refl
-valid_kind (suc zero) h = refl
-valid_kind (suc (suc zero)) h = refl
-valid_kind (suc (suc (suc zero))) h = refl
-valid_kind (suc (suc (suc (suc n)))) h = absurd (omega arith)
-
--- lines for C: the options are none, or that for the rules of schemes
-valid_options : (options : ℕ) → (options ≡ 0) ⊎ (options ≡ 2) → IsSome (rules_choice options)
-valid_options options (inl none) = rw none refl
-valid_options options (inr rules) = rw rules refl
-
 pub consumed-before-line : (input : List ℕ) (done start : ℕ) → done < length (lines_of input)
     → start ≤ length input → drop done (lines_of input) ≡ lines_of (drop start input)
     → HasConsumed input done start
@@ -98,6 +84,5 @@ pub leaves_lines : (kind options : ℕ) (input : List ℕ) (old new : LineBuffer
     (slice_get (lines_of input)) (TakesMemoryAt kind options input)
     (IsFullAt kind options input old.bytes old.errors which needed) done number
     → HasConsumed input done consumed → LeavesLines kind options input old new outcome returned
-leaves_lines kind options input old new outcome number which needed done at consumed returned valid
-    chosen possible same is full bytes total errors others end left =
-    grind (arith, valid_kind, valid_options)
+leaves_lines kind options input old new outcome number which needed done at consumed returned valid chosen possible same is full bytes total errors others end left =
+    grind arith
