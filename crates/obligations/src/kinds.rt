@@ -12,7 +12,7 @@ use fluent_uri::pct_enc::EStr;
 use fluent_uri::pct_enc::encoder::{IFragment, IPath, IRegName, Path, Query, RegName};
 use fluent_uri::resolve::ResolveError;
 use fluent_uri::{ConvertError, Iri, IriRef, ParseError, Reference, Uri, UriRef};
-use std::alloc::Global;
+use std::alloc::{AllocError, Global};
 use std::convert::{TryFrom, TryInto};
 
 /// A caller gets the text of a reference, by `String::from`.
@@ -92,6 +92,11 @@ pub fn path_and_fragment<'a>(
     value: IriRef<&'a str>,
 ) -> (EStr<'a, IPath>, Option<EStr<'a, IFragment>>) {
     (value.path(), value.fragment())
+}
+
+/// A caller converts an IRI to a URI, by `to_uri`.
+pub fn encoded(alloc: Global, value: &Iri<String>) -> Result<Uri<String>, AllocError> {
+    value.to_uri(alloc)
 }
 
 /// A caller gets the target of an IRI reference against an IRI, the kind of its base, by

@@ -48,6 +48,31 @@ pub fn with_own_ports<P: SchemeRules>(ports: P) -> Normalizer<WithPorts<P, Defau
     Normalizer::new().default_port_with(ports)
 }
 
+/// A caller gets the targets of two references by one `Resolver`.
+pub fn both_targets(
+    alloc: Global,
+    base: Uri<&str>,
+    first: &UriRef<&str>,
+    second: &UriRef<&str>,
+) -> Result<(Uri<String>, Uri<String>), ResolveError> {
+    let resolver = Resolver::with_base(base);
+    Ok((
+        resolver.resolve(alloc, first)?,
+        resolver.resolve(alloc, second)?,
+    ))
+}
+
+/// A caller gets the target of a reference by a `Resolver` that rejects dot segments that
+/// underflow.
+pub fn target_without_underflow(
+    alloc: Global,
+    base: Uri<&str>,
+    reference: &UriRef<&str>,
+) -> Result<Uri<String>, ResolveError> {
+    let resolver = Resolver::with_base(base).allow_path_underflow(false);
+    resolver.resolve(alloc, reference)
+}
+
 /// A caller gets the normal form of the target of a reference by a `Resolver` and a `Normalizer`.
 pub fn normal_target(
     alloc: Global,
