@@ -1,5 +1,5 @@
 -- Whether a `\r` is before the end of a line that is read in parts.
-use Rattle.uri_streams.proofs.Common.{common_steps, ◌≡◌, ◌≢◌, ◌<◌, ◌-◌, ◌++◌, ℕ, Bool, true, false, cond, List, [], All, refl, ap, sym, ◌∙◌, length, length-append, take, arith, get_or, append-nil, ltb-true, ltb-false, eqb-true, eq-eqb, ◌==◌, ends_with_byte, strip_last, ◌&&◌, nat_lt, take-append-add, nil_from_length, All-get_or, false_from_ne_true, ends_with_return, return_after}
+use Rattle.uri_streams.proofs.Common.{common_steps, ◌≡◌, ◌≢◌, ◌<◌, ◌-◌, ◌++◌, ℕ, Bool, true, false, cond, List, [], All, refl, ap, sym, ◌∙◌, length, length-append, take, arith, get_or, append-nil, ltb-true, ltb-false, eqb-true, eq-eqb, ◌==◌, ends_with_byte, strip_last, ◌&&◌, nat_lt, take-append-add, nil_from_length, All-get_or, false_from_ne_true, ends_with_return, return_after, not, end_byte, has_return, line_ending}
 use Rattle.std.specs.Io.{IsEmptyOrEndsWith}
 
 -- lines: the last byte of two lists is that of the second, where that has one
@@ -92,3 +92,9 @@ return_after-last-part end was done part is none ends = at (nat_lt 0 (length par
         ∙ sym (ap (λ c. c && ends_with_byte 13 (strip_last end (done ++ part)))
         (ap (λ l. ends_with_byte end (done ++ l)) empty ∙ ap (ends_with_byte end) (append-nil done)
         ∙ ends_with_byte-of-lacking end done none))
+
+pub output-end-is-line-end : (is_null is_return : Bool) (line : List ℕ)
+    → is_return ≡ ends_with_return (end_byte is_null) line
+    → line_ending is_null (not is_null && is_return) ≡ line_ending is_null (has_return is_null line)
+output-end-is-line-end true is_return line is = refl
+output-end-is-line-end false is_return line is = ap (line_ending false) is

@@ -30,6 +30,7 @@ use Rattle.uri_streams.proofs.Parts.{Consumes-buffered}
 use Rattle.uri_commands.proofs.Offered.{AppendsPrefix-after-Keeps, AppendsPrefix-of-longer, AppendsPrefix-of-kept}
 use Rattle.uri_streams.proofs.Failures.{Appends-after-Keeps, KeepsFailures-in-writing}
 use Rattle.uri_streams.proofs.Reports.{ReportsPrefix-of-longer}
+use Rattle.uri_streams.proofs.Returns.{output-end-is-line-end}
 use Rattle.uri_streams.proofs.Streams.{processed_lines-of-first-line, lines_after_first}
 
 -- lines: the first line of known bytes is taken, these bytes stand for it, and this is what ends
