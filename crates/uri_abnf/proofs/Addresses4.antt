@@ -1,5 +1,5 @@
 -- The rules dec-octet and IPv4address.
-use Rattle.uri_abnf.proofs.Common.{◌≡◌, ℕ, List, [], ◌∷◌, ◌++◌, refl, sym, ap, subst, ◌∙◌, inl, inr, ⊎_elim, arith, ◌≤◌, ◌<◌, ◌+◌, ◌*◌, ◌-◌, ◌/◌, ◌%◌, append_assoc, codes, decimal, IsDotted, cases_lt, Abnf, Has, lit, times, ◌⋅◌, ◌⋯◌, dec-octet, IPv4address, DIGIT}
+use Rattle.uri_abnf.proofs.Common.{◌≡◌, ℕ, zero, suc, List, [], ◌∷◌, ◌++◌, refl, sym, ap, subst, ◌∙◌, inl, inr, ⊎_elim, arith, ◌≤◌, ◌<◌, ◌+◌, ◌*◌, ◌-◌, ◌/◌, ◌%◌, append_assoc, codes, decimal, IsDotted, cases_lt, Abnf, Has, lit, times, ◌⋅◌, ◌⋯◌, dec-octet, IPv4address, DIGIT}
 use Rattle.std.proofs.lemmas.Fmt.{decimal_digit, decimal_step}
 use Rattle.uri_abnf.proofs.Texts.{letterless-has}
 
@@ -48,7 +48,10 @@ record IsTwoDigits (t : List ℕ) : Type 0 where
 
 twice : (t : List ℕ) → Has (times 2 DIGIT) t → IsTwoDigits t
 unfolding DIGIT
-twice t h = grind (arith, DIGIT)
+twice t (zero, lo, hi, k) = absurd (omega arith)
+twice t (suc zero, lo, hi, k) = absurd (omega arith)
+twice t (suc (suc zero), lo, hi, (x, y, e, (a, f, p, q), (z, w, g, (b, h, r, s), i))) = grind arith
+twice t (suc (suc (suc n)), lo, hi, k) = absurd (omega arith)
 
 twice-is-had : (a b : ℕ) → 48 ≤ a → a ≤ 57 → 48 ≤ b → b ≤ 57 → Has (times 2 DIGIT) (a ∷ b ∷ [])
 unfolding DIGIT

@@ -1,5 +1,4 @@
 -- The rule IPv6address.
-use Rattle.std.proofs.lemmas.Grind.{common_steps}
 use Rattle.uri_abnf.proofs.Common.{◌≡◌, ℕ, zero, suc, Bool, true, false, List, [], ◌∷◌, ◌++◌, refl, sym, ap, subst, ◌∙◌, inl, inr, ⊎_elim, arith, ◌≤◌, ◌<◌, ◌+◌, append_assoc, append-nil, length, codes, digit_value, is_ascii_hexdigit, IsDotted, IsGroup, IsGroups, IsGroupsAfter, IsColonHex, false≢true, nat_tests, Abnf, Has, IsPower, opt, times, upto, lit, ◌⋅◌, h16, ls32, IPv6address, HEXDIG}
 use Rattle.std.specs.Str.Parse.{AllDigits, digits_value}
 use Rattle.std.specs.Net.Addr.{segments_of}
@@ -161,7 +160,9 @@ head-shape lead t s (s2 ∷ segments) (inl (g, rest, e, i, r)) = after-group h16
 head-shape lead t s segments (inr (last, octets, no_ipv4, e, d, f)) = absurd (false≢true no_ipv4)
 
 one-tail : (lead t : List ℕ) (s : ℕ) → IsGroupsAfter true lead t (s ∷ []) → IsAfter lead (Has h16) t
-one-tail lead t s h = grind (arith, after-last-group)
+one-tail lead t s (inl (g, rest, e, i, r)) = after-last-group lead t g rest s e r i
+one-tail lead t s (inr (last, octets, yes_ipv4, e, d, f)) =
+    let v = ap segments_of d.value in absurd (cc (f, v))
 
 tail-shape : (lead t : List ℕ) (s s2 : ℕ) (segments : List ℕ)
     → IsGroupsAfter true lead t (s ∷ s2 ∷ segments) → IsAfter lead
@@ -303,7 +304,8 @@ one-head-is-had x (s ∷ []) g l =
 one-head-is-had x (s ∷ s2 ∷ head) g l = absurd (omega arith)
 
 no-head-is-nil : (x head : List ℕ) → IsGroups false x head → length head ≤ 0 → x ≡ []
-no-head-is-nil x head g l = grind (arith, common_steps)
+no-head-is-nil x [] g l = g
+no-head-is-nil x (s ∷ head) g l = absurd (omega arith)
 
 shape-once : (t : List ℕ) → IsShape ls32 1 t → Has (h16 ⋅ lit ":" ⋅ ls32) t
 shape-once t s =

@@ -137,7 +137,10 @@ module _ (r : Rules) (kind : Kind) (w : Fit r kind) where
       (host_kind t, is_host-sound kind.reg_name t (cond-false _ _ _ no ∙ or_right _ _ v.1))
 
   literal-is-host : (t : List ℕ) (h : HostKind) → IsLiteral t h → IsHost kind.reg_name t h
-  literal-is-host t h l = grind arith
+  literal-is-host t (Ipv6 segments) l = l
+  literal-is-host t IpvFuture l = l
+  literal-is-host t (Ipv4 octets) l = absurd l
+  literal-is-host t RegName l = absurd l
 
   pub host-gives : (t : List ℕ) → IsOf r.host t → (h : HostKind) × IsHost kind.reg_name t h
   host-gives t l = ⊎_elim

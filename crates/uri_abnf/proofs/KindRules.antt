@@ -18,7 +18,9 @@ module _ (r : Rules) (kind : Kind) (w : Fit r kind) where
 
   path-rule-gives : (s a : Option (List ℕ)) (path : List ℕ)
       → IsOf (path_rule r (unrooted_path_rule r s) a) path → IsPathOf s a path
-  path-rule-gives s a path l = grind arith
+  path-rule-gives s (Some x) path l = grind arith
+  path-rule-gives (Some y) None path l = grind arith
+  path-rule-gives None None path l = grind arith
 
   path-rule-has : (s a : Option (List ℕ)) (path : List ℕ) → IsPathOf s a path
       → IsOf (path_rule r (unrooted_path_rule r s) a) path
@@ -45,7 +47,9 @@ module _ (r : Rules) (kind : Kind) (w : Fit r kind) where
   no-scheme : (s a : Option (List ℕ)) (path tail : List ℕ) → IsPathOf s a path
       → IsEmptyOrMarked (codes "?#") tail → IfNone s
       (has_scheme (marked [] s (codes ":") ++ (marked (codes "//") a [] ++ (path ++ tail))) ≡ false)
-  no-scheme s a path tail p e = grind (arith, no_scheme)
+  no-scheme (Some y) a path tail p e = tt
+  no-scheme None (Some x) path tail p e = refl
+  no-scheme None None path tail p e = grind (arith, no_scheme)
 
   -- the components of a derivation are a split of the text
   derived-is-split : (t : List ℕ) (p : Components) → IsDerived r t p → IsSplitOf t p

@@ -1,5 +1,4 @@
 -- The rules on paths are what the kinds ask of a path: RFC 3986, section 3.3.
-use Rattle.std.proofs.lemmas.Grind.{common_steps}
 use Rattle.uri_abnf.proofs.Common.{◌≡◌, ℕ, zero, suc, true, false, List, [], ◌∷◌, ◌++◌, refl, sym, ap, subst, ◌∙◌, inl, inr, ⊎_elim, arith, ◌<◌, length, ◌⊎◌, ◌↔◌, ◌==◌, codes, IsTrue, list_any, IsUtf8, chars, encode_utf8_all, false≢true, eqb-true, nat_tests, encodes-chars, IsUtf8-nil, TableSet, is_one_of, IsValidFor, Lacks, IsAbemptyPath, has_authority, starts, has_colon_in_first_segment, valid_text_lacks_excluded_marks, Abnf, Has, IsOf, any, some, opt, times, lit, ◌⋅◌, ◌∣◌}
 use Rattle.std.proofs.lemmas.List.Folds.{list_any-append}
 use Rattle.uri_pct.proofs.Offered.{excludes}
@@ -25,7 +24,8 @@ pub record PathSets (path : TableSet) : Type 0 where
   pub octets : has_octets nc ≡ has_octets pc
 
 empty-or-not : (s : List ℕ) → (s ≡ []) ⊎ (0 < length s)
-empty-or-not s = grind (arith, common_steps)
+empty-or-not [] = inl refl
+empty-or-not (c ∷ s) = inr (omega arith)
 
 begins-with-slash : (t r : List ℕ) → t ≡ 47 ∷ r → IsTrue (starts 47 t)
 begins-with-slash t r e = subst (λ z. IsTrue (starts 47 z)) (sym e) refl
@@ -42,11 +42,13 @@ second-byte-is-no-slash b x y h =
 
 no-authority : (t s m : List ℕ) → t ≡ s ++ m → 0 < length s → Lacks (codes "/?#") s
     → has_authority t ≡ false
-no-authority t s m e n h = grind (arith, common_steps, first-byte-is-no-slash)
+no-authority t [] m e n h = absurd (omega arith)
+no-authority t (b ∷ s) m e n h = ap has_authority e ∙ first-byte-is-no-slash b s m h
 
 no-authority-after-slash : (t s m : List ℕ) → t ≡ 47 ∷ (s ++ m) → 0 < length s
     → Lacks (codes "/?#") s → has_authority t ≡ false
-no-authority-after-slash t s m e n h = grind (arith, common_steps, second-byte-is-no-slash)
+no-authority-after-slash t [] m e n h = absurd (omega arith)
+no-authority-after-slash t (b ∷ s) m e n h = ap has_authority e ∙ second-byte-is-no-slash b s m h
 
 lacking-has-no-colon : (s : List ℕ) → Lacks (codes ":/?#") s → list_any (λ c. c == 58) s ≡ false
 lacking-has-no-colon [] h = refl
@@ -56,11 +58,16 @@ lacking-has-no-colon (b ∷ s) h =
     grind (arith, nat_tests)
 
 slash-has-no-colon : (t : List ℕ) → IsTrue (starts 47 t) → has_colon_in_first_segment t ≡ false
-slash-has-no-colon t e = grind (arith, eqb-true)
+slash-has-no-colon [] e = refl
+slash-has-no-colon (c ∷ t) e = ap (λ n. has_colon_in_first_segment (n ∷ t)) (eqb-true c 47 e)
 
 rooted-has-no-segment : (t s m : List ℕ) → IsTrue (starts 47 t) → t ≡ s ++ m
     → Lacks (codes "/?#") s → s ≡ []
-rooted-has-no-segment t s m r e h = grind (arith, common_steps, codes, false, starts, nat_tests)
+rooted-has-no-segment t [] m r e h = refl
+rooted-has-no-segment t (b ∷ s) m r e h =
+    let i : is_one_of (codes "/?#") b ≡ false = h 0 0 (omega arith) in
+    let j : (b == 47) ≡ true = sym (ap (starts 47) e) ∙ r in
+    absurd (grind (arith, nat_tests))
 
 -- characters that are encoded without a `:` have none
 no-char-is-colon : (c : ℕ) (t : List ℕ) → list_any (λ b. b == 58) (encode_utf8_all (c ∷ t)) ≡ false

@@ -4,7 +4,7 @@ use Rattle.std.proofs.Math.Utf8.{low_scalar}
 use Rattle.uri_abnf.proofs.Elements.{IsElement, has_char, has_octets, class-has, char-is-had}
 use Rattle.uri_abnf.proofs.Sets.{scheme-set}
 use Rattle.uri_abnf.proofs.Texts.{cut-gives, cut-is-had, rule-gives, rule-is-had}
-use Rattle.uri_abnf.proofs.Tokens.{Tokens, char, any-gives-tokens, tokens-are-any, tokens-are-valid, valid-are-tokens}
+use Rattle.uri_abnf.proofs.Tokens.{Tokens, char, octet, any-gives-tokens, tokens-are-any, tokens-are-valid, valid-are-tokens}
 
 abbrev scheme-char : Abnf
 scheme-char = ALPHA ∣ DIGIT ∣ lit "+" ∣ lit "-" ∣ lit "."
@@ -29,7 +29,8 @@ unfolding ALPHA DIGIT
 schemes-have-no-octets = refl
 
 tokens-after-char : (c : ℕ) (t : List ℕ) → Tokens scheme-char (c ∷ t) → Tokens scheme-char t
-tokens-after-char c t h = grind (arith, false≢true, schemes-have-no-octets)
+tokens-after-char c t (char p r) = r
+tokens-after-char c _ (octet o e a b r) = absurd (false≢true (sym schemes-have-no-octets ∙ o))
 
 chars-after-ascii : (b : ℕ) (r : List ℕ) → b < 128 → IsUtf8 (b ∷ r) → chars (b ∷ r) ≡ b ∷ chars r
 chars-after-ascii b r h u = chars_past_char (b ∷ r) r b u

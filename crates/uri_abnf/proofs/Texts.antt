@@ -1,5 +1,5 @@
 -- The languages of expressions over texts in UTF-8.
-use Rattle.uri_abnf.proofs.Common.{◌≡◌, ℕ, true, List, [], ◌∷◌, ◌++◌, refl, sym, ap, ◌∙◌, inl, inr, ⊎_elim, arith, ◌<◌, ◌⊎◌, map, codes, get_or, drop, to_ascii_lowercase, IsUtf8, chars, encode_utf8_all, all_scalars, and_parts, and_from, nat_tests, encodes-append, chars-append, chars-encodes, encodes-chars, scalars-chars, IsUtf8-append, IsUtf8-nil, Abnf, Rule, Literal, Has, IsOf, ◌⋅◌, ◌∣◌, opt, times}
+use Rattle.uri_abnf.proofs.Common.{◌≡◌, ℕ, zero, suc, true, List, [], ◌∷◌, ◌++◌, refl, sym, ap, ◌∙◌, inl, inr, ⊎_elim, arith, ◌<◌, ◌⊎◌, map, codes, get_or, drop, to_ascii_lowercase, IsUtf8, chars, encode_utf8_all, all_scalars, and_parts, and_from, nat_tests, encodes-append, chars-append, chars-encodes, encodes-chars, scalars-chars, IsUtf8-append, IsUtf8-nil, Abnf, Rule, Literal, Has, IsOf, ◌⋅◌, ◌∣◌, opt, times}
 use Prim.Native.String.{String}
 
 -- characters that are cut are the characters of texts that are cut
@@ -64,7 +64,8 @@ pub right-is-had : (a b : Abnf) (text : List ℕ) → IsOf b text → IsOf (a �
 right-is-had a b text l = record { utf8 = l.utf8; has = inr l.has }
 
 has-times-0 : (a : Abnf) (cs : List ℕ) → Has (times 0 a) cs → cs ≡ []
-has-times-0 a cs h = grind arith
+has-times-0 a cs (zero, l, m, e) = e
+has-times-0 a cs (suc n, l, m, p) = absurd (omega arith)
 
 pub text-of-no-chars : (text : List ℕ) → IsUtf8 text → chars text ≡ [] → text ≡ []
 text-of-no-chars text u e = sym (encodes-chars text u) ∙ ap encode_utf8_all e

@@ -55,7 +55,8 @@ module _ (g : Abnf) (element : IsElement g) where
   power-is-not-nil n cs (x, y, e, h, q) f = grind (arith, element-gives)
 
   power-of-text : (n : ℕ) (cs : List ℕ) → IsPower (Has g) n cs → (cs ≡ [] → ⊥) → 1 ≤ n
-  power-of-text n cs e h = grind arith
+  power-of-text zero cs e h = absurd (h e)
+  power-of-text (suc n) cs p h = omega arith
 
 module _ (g : Abnf) (set : TableSet) (w : IsSetOf g set) where
   allowed-char-is-not-percent : (c : ℕ) → allows set c ≡ true → (c == 37) ≡ false
