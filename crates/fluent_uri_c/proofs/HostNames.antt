@@ -24,4 +24,4 @@ begins_as_name host digit bracket = grind (arith, no_ipv4, lit≤, host_kind, no
 
 -- exports for C: so is one that begins with a byte after `[` (91), as a letter in lower case
 pub begins_after_bracket : (host : List ℕ) → 91 < slice_index host 0 → host_kind host ≡ RegName
-begins_after_bracket host h = grind (arith, begins_as_name, false, nat_tests)
+begins_after_bracket host h = grind (arith, begins_as_name, nat_tests)

@@ -84,5 +84,6 @@ pub leaves_lines : (kind options : ℕ) (input : List ℕ) (old new : LineBuffer
     (slice_get (lines_of input)) (TakesMemoryAt kind options input)
     (IsFullAt kind options input old.bytes old.errors which needed) done number
     → HasConsumed input done consumed → LeavesLines kind options input old new outcome returned
-leaves_lines kind options input old new outcome number which needed done at consumed returned valid chosen possible same is full bytes total errors others end left =
+leaves_lines kind options input old new outcome number which needed done at consumed returned valid
+    chosen possible same is full bytes total errors others end left =
     grind arith

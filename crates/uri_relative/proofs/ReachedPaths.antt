@@ -120,7 +120,8 @@ parts-are-reached-by-short-path : (output left segs prefix up down : List (List 
     ⊎ ((down ≡ [] ∷ []) ⊎ (BeginWithSameSegment (s ∷ segs) down
     ⊎ (3 * length up + length (slashed down) + 2 ≤ length (slashed (s ∷ segs)) + spare)))
     → IsReachedByShortPath output (s ++ slashed segs) (slashed left)
-parts-are-reached-by-short-path output left segs prefix up [] s spare free some rootless colon e f few down why cost first =
+parts-are-reached-by-short-path output left segs prefix up [] s spare free some rootless colon e f
+    few down why cost first =
     grind arith
 parts-are-reached-by-short-path output left segs prefix [] (d ∷ ds) s spare free some rootless colon
     e f few down why cost first =

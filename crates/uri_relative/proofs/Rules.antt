@@ -35,7 +35,8 @@ pub relative-path-by-longest-prefix : (given base path bytes others rest : List 
     → last < length bytes → IsSharedPrefix (last + 1) bytes others
     → IsLongestPrefix (last + 1) bytes others → double_dots ≡ slashes (drop (last + 1) base)
     → rest ≡ drop (last + 1) path → relative_path double_dots rest ≡ path_from_base given path
-relative-path-by-longest-prefix given base path bytes others rest last double_dots root e f h shared longest g k =
+relative-path-by-longest-prefix given base path bytes others rest last double_dots root e f h shared
+    longest g k =
     grind (arith, longest-shared-prefix-has-shared_directory_len)
 
 pub unguarded-path-is-without-dots : (t : Components) (path : List ℕ) → IsUnguarded t path

@@ -137,7 +137,7 @@ path-after-guard-is-unguarded t rest none h done whole double =
 
 guarded-path-is-guard-and-path : (path : List ℕ) → is_guarded path ≡ true
     → (path ≡ codes "/." ++ drop 2 path) × (has_authority (drop 2 path) ≡ true)
-guarded-path-is-guard-and-path path e = grind (arith, false≢true, false, nat_tests)
+guarded-path-is-guard-and-path path e = grind (arith, false≢true, nat_tests)
 
 pub path-without-guard-is-unguarded : (t : Components) → is_some t.authority ≡ false
     → IsAbsolute t.path

@@ -128,7 +128,7 @@ pub no-longer-than-both-paths-is-shortest : (given base path way : List ℕ) (la
     → directory base ≡ directory given → IsAbsolute base → lacks_dot_segments base ≡ true
     → IsLastSharedSlash base path last → length way ≤ length (guarded None path)
     → length way ≤ length (relative_from (last + 1) base path) → IsShortestPath given path way
-no-longer-than-both-paths-is-shortest given base path way last same absolute dotless w root relative =
+no-longer-than-both-paths-is-shortest given base path way last same absolute dotless w root other =
     grind (arith, path-from-root-is-shortest-absolute-path, relative-path-is-shortest-rootless-path)
 
 -- lengths of paths to relativize: the one from the root is shorter than a longer relative one;

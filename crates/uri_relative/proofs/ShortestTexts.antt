@@ -32,5 +32,6 @@ pub reference-is-shortest : (kind : Kind) (prefers : Bool)
     → IsOfKind kind target → base ≡ base' → target ≡ target' → made' ≡ made → prefers ≡ false
     → IsReferenceTo kind prefers (components base) (settled target) (components made)
     → IsShortest kind base' target' made'
-reference-is-shortest kind prefers base target made base' target' made' needs of_base of_target e f h p w =
+reference-is-shortest kind prefers base target made base' target' made' needs of_base of_target e f
+    h p w =
     grind (arith, reference-text-is-shortest, kind-that-needs-scheme-has-one)

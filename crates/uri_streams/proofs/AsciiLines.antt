@@ -3,12 +3,12 @@ use Rattle.uri_streams.proofs.Common.{arith, ◌≡◌, ℕ, Bool, false, List, 
 use Rattle.uri_streams.specs.declared.line_ends.Line.{Line}
 
 strip_last-ascii : (byte : ℕ) (xs : List ℕ) → IsAscii xs → IsAscii (strip_last byte xs)
-strip_last-ascii byte xs ascii = grind (arith, IsAscii-take, false)
+strip_last-ascii byte xs ascii = grind (arith, IsAscii-take)
 
 -- lines: the text of an ASCII line, without its end, is ASCII; is_null: whether lines end with NUL
 pub line_text-ascii : (is_null : Bool) (line : List ℕ) → IsAscii line
     → IsAscii (line_text is_null line)
-line_text-ascii is_null line ascii = grind (arith, strip_last-ascii, false)
+line_text-ascii is_null line ascii = grind (arith, strip_last-ascii)
 
 pub IsCutLine-of-text : (is_null : Bool) (line : Line)
     → line.text.now ≡ line_text is_null line.bytes.now

@@ -66,14 +66,14 @@ module _ (job : Job) (kind : KindName) (is_inverted : Bool) where
 
   -- lines: what is not of the kind passes if `--invert` is given
   passed_if-not-of-kind : passed_if is_inverted ≡ passed_if (passes false)
-  passed_if-not-of-kind = grind (arith, false)
+  passed_if-not-of-kind = grind arith
 
   -- lines: the result of `check` for what it gets of a line that is not too long
   cut_result-of-check : (known : Known) (text : Result (List ℕ) NoText) → is_too_long text ≡ false
       → cut_result check known text ≡ (passed_if (passes (is_text_of_kind job kind text)), known)
   unfolding passes_check
   cut_result-of-check known text short =
-      grind (arith, kind_named, kind, passes, false, passed_if-not-of-kind, passes_check)
+      grind (arith, kind_named, kind, passes, passed_if-not-of-kind, passes_check)
 
   -- lines: `check` writes the line if it passes, and else nothing, and goes on
   abbrev WritesIfPassed : ℕ → Known → List ℕ → Type 0

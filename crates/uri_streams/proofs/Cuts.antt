@@ -3,11 +3,11 @@ use Rattle.uri_streams.proofs.Common.{◌≡◌, ◌<◌, ◌≤◌, ◌+◌, �
 
 -- lines: without its end, a line is one byte shorter at most
 stripped : (byte : ℕ) (xs : List ℕ) → length xs ≤ length (strip_last byte xs) + 1
-stripped byte xs = grind (arith, length-take-le, false)
+stripped byte xs = grind (arith, length-take-le)
 
 -- lines: the text of a line is two bytes shorter at most; is_null: whether lines end with NUL
 text_length : (is_null : Bool) (line : List ℕ) → length line ≤ length (line_text is_null line) + 2
-text_length is_null line = grind (arith, stripped, false)
+text_length is_null line = grind (arith, stripped)
 
 line-is-whole-or-too-long : (job : Job) (limit : ℕ) (line : List ℕ) → limit ≡ job.max_line + 3
     → (take limit line ≡ line) ⊎ ((job.max_line < length (line_text job.is_null (take limit line)))

@@ -136,7 +136,8 @@ pub KeepsFailures-passed-on : {T R W : Type 0} (result : Result T Cause) (cause 
     → (is_input_cause cause ≡ true → KeepsFinalError reader_new.error)
     → (is_output_cause cause ≡ true → KeepsFinalError writer_new.error)
     → KeepsFailures result reader reader_new writer writer_new
-KeepsFailures-passed-on h cause reader reader_mid reader_new writer writer_mid writer_new is same same' reading writing read_error write_error =
+KeepsFailures-passed-on h cause reader reader_mid reader_new writer writer_mid writer_new is same
+    same' reading writing read_error write_error =
     grind arith
 
 -- failures: a call that fails in nothing but writing keeps its failures, if the reader has failed

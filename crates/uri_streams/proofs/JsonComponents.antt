@@ -42,7 +42,7 @@ present-text-is-found : (name : List ℕ) (named : List (List ℕ × Option (Lis
     → find_named name (present named) ≡ find_present name named
 present-text-is-found name [] = refl
 present-text-is-found name (one ∷ others) =
-    grind (arith, present-text-is-found name others, false, with_present, present)
+    grind (arith, present-text-is-found name others, with_present, present)
 
 abbrev components_in : List (List ℕ × List ℕ) → Components
 components_in named = record {

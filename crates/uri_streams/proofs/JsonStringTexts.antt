@@ -62,7 +62,7 @@ digits-of-control-character = (Decides-below_and are_its_digits (λ c. are_its_d
 
 control_json-by-digits : (c : ℕ)
     → control_json c ≡ codes "\\u" ++ (48 ∷ 48 ∷ high_digit c ∷ low_digit c ∷ [])
-control_json-by-digits c = grind (arith, codes, low_digit, false)
+control_json-by-digits c = grind (arith, codes, low_digit)
 
 control-character-is-no-surrogate : (c : ℕ) → c < 32 → is_in_range 0xD800 0xDFFF c ≡ false
 control-character-is-no-surrogate c l = grind (arith, nat_tests)

@@ -64,7 +64,7 @@ character-is-read c x rest (inl (unescaped, e)) =
     subst (λ x. ReadsCharacter c (x ++ rest) rest) (sym e)
     (record { is_no_end = other.0; character = cond-false (c == 92) _ _ other.1 })
 character-is-read c x rest (inr (inl (mark, e, escape))) =
-    grind (arith, cond-false, false, eqb-true)
+    grind (arith, cond-false, eqb-true)
 character-is-read c x rest (inr (inr (inl (alone, escape)))) =
     let text : List ℕ = x ++ rest in
     let h = unicode-escape-is-read c x rest escape in

@@ -74,7 +74,7 @@ AreLines-filtered end keeps (line ∷ lines) (inl (ended, more)) =
         → AreLines end (cond b (line ∷ filter keeps lines) (filter keeps lines))
     at true rest = inl (ended, rest)
     at false rest = rest
-AreLines-filtered end keeps (line ∷ lines) (inr (unended, none)) = grind (arith, false)
+AreLines-filtered end keeps (line ∷ lines) (inr (unended, none)) = grind arith
 
 -- lines: put together, they are the lines of what they make
 pub lines_of-concat : (end : ℕ) (lines : List (List ℕ)) → AreLines end lines

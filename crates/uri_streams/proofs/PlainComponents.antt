@@ -102,7 +102,7 @@ plain-sets-by-flags true needs_scheme = record {
 
 -- plain components: no set of a kind that has a name has such a character
 plain-sets : (name : KindName) → HasPlainSets (kind_named name)
-plain-sets name = grind (arith, plain-sets-by-flags, false)
+plain-sets name = grind (arith, plain-sets-by-flags)
 
 appended-texts-are-plain : (xs ys : List ℕ) → IsPlain xs → IsPlain ys → IsPlain (xs ++ ys)
 appended-texts-are-plain xs ys h k =

@@ -11,7 +11,7 @@ ends_with_byte-append byte xs ys some = grind (arith, common_steps)
 strip_last-append : (byte : ℕ) (xs ys : List ℕ) → 0 < length ys
     → strip_last byte (xs ++ ys) ≡ xs ++ strip_last byte ys
 strip_last-append byte xs ys some =
-    grind (arith, common_steps, ends_with_byte-append, length-append, take-append-add, false)
+    grind (arith, common_steps, ends_with_byte-append, length-append, take-append-add)
 
 ends_with_byte-of-lacking : (byte : ℕ) (xs : List ℕ) → All (λ x. x ≢ byte) xs
     → ends_with_byte byte xs ≡ false

@@ -225,5 +225,6 @@ pub StepFails-in-reading : (job : Job) (before : ℕ) (task : Task)
     → StepFails job before task left left_new held held_new err err_new cause
 StepFails-in-reading job before task None left_new held held_new err err_new cause stopped kept
     none = record { failed = tt }
-StepFails-in-reading job before task (Some xs) left_new held held_new err err_new cause stopped kept none =
+StepFails-in-reading job before task (Some xs) left_new held held_new err err_new cause stopped kept
+    none =
     grind (arith, common_steps, AppendsPrefix-of-kept, ReportsPrefix-of-longer)

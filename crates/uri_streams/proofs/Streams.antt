@@ -7,7 +7,7 @@ use Rattle.uri_streams.proofs.Reports.{Reports-after-Reports, Reports-nothing, R
 -- lines: the first is up to the first end, and the others are after it
 lines-step : (end x : ℕ) (xs : List ℕ) → lines_of end (x ∷ xs)
     ≡ take_through end (x ∷ xs) ∷ lines_of end (drop_through end (x ∷ xs))
-lines-step end x [] = grind (arith, false)
+lines-step end x [] = grind arith
 lines-step end x (y ∷ ys) = at (eqb x end) (lines-step end y ys)
   where
     at : (b : Bool) → lines_of end (y ∷ ys)

@@ -44,7 +44,8 @@ module _ (set : TableSet) where
   chars-of-one-character c scalar = ap chars (sym (append-nil (encode_utf8 c)))
       ∙ chars-encodes (c ∷ []) (and_from _ true scalar refl)
 
-  pub decoded_parts-of-token-chunks : (run : List ℕ) (ts : List Token) → list_all is_printable ts ≡ true
+  pub decoded_parts-of-token-chunks : (run : List ℕ) (ts : List Token)
+      → list_all is_printable ts ≡ true
       → decoded_parts set (parts_from run (chunks_of_tokens ts)) ≡ decode_after_run set run ts
   unfolding chunks_of_tokens parts_from decode_after_run
   decoded_parts-of-token-chunks run [] e = decoded_parts-of-octet-run run

@@ -85,7 +85,8 @@ pub pushed-components-have-positions : (p : Components) (parts : Option Authorit
       path_end = stop;
       query_end = query;
     } in x) ≡ positions_by_authority_parts p parts
-pushed-components-have-positions p parts o0 o1 o2 o3 start stop end query authority e0 e1 e2 e3 starts stops ends lies queries =
+pushed-components-have-positions p parts o0 o1 o2 o3 start stop end query authority e0 e1 e2 e3
+    starts stops ends lies queries =
     grind (arith, common_steps)
 
 -- positions in a normal text or target: a prefix, a path and a query that are appended have the

@@ -56,7 +56,7 @@ character-with-first-byte-46-is-dot c more bytes e = encode_same c 46 more bytes
 hex-digits-of-46-are-2E : (h l : ℕ) → is_ascii_hexdigit h ≡ true → is_ascii_hexdigit l ≡ true
     → 16 * digit_value h + digit_value l ≡ 46 → (h ≡ 50) × ((l ≡ 69) ⊎ (l ≡ 101))
 hex-digits-of-46-are-2E h l e f g =
-    grind (arith, hexdigit_value_is_below_16, nat_tests, cases_Bool, eqb-true, false)
+    grind (arith, hexdigit_value_is_below_16, nat_tests, cases_Bool, eqb-true)
 
 equal-lists-have-equal-heads-and-tails : (x y : ℕ) (xs ys : List ℕ) → x ∷ xs ≡ y ∷ ys → (x ≡ y)
     × (xs ≡ ys)

@@ -128,7 +128,8 @@ bytes-without-slash-dot-add-no-dot-start bytes i (suc n) within dotless none =
       take-one-more-byte,
       byte-that-is-no-dot-adds-no-dot-start,
       slash-last-is_after_slash,
-      bytes-without-slash-dot-add-no-dot-start bytes i n (omega (arith, within)) dotless (λ k h. none k (omega (arith, h))),
+      bytes-without-slash-dot-add-no-dot-start bytes i n (omega (arith, within)) dotless
+          (λ k h. none k (omega (arith, h))),
     )
 
 first-byte-is-no-dot-start : (bytes : List ℕ) → has_dot_start_after_slash false (take 1 bytes)

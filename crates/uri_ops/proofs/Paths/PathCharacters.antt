@@ -48,7 +48,7 @@ directory-passes-test p slash path e =
 pub lacked-delimiters-fail-test : (marks text : List ℕ) → Lacks marks text
     → list_all (λ c. not (is_one_of marks c)) text ≡ true
 lacked-delimiters-fail-test marks text h =
-    grind (arith, list_all-from_AllPass, All-weaker, false, not_from_false)
+    grind (arith, list_all-from_AllPass, All-weaker, not_from_false)
 
 -- paths: if no character is one of the delimiters, the text lacks them
 pub test-of-delimiters-gives-lacks : (marks text : List ℕ)

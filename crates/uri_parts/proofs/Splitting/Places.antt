@@ -42,7 +42,7 @@ component-before-mark-is-slice : (text before part suffix : List ℕ) (start end
     → text ≡ before ++ (part ++ suffix) → start ≡ length before → end ≡ start + length part
     → IsCharBoundary text start → IsEmptyOrMarked (codes ":/?#") suffix
     → IsComponentAt text start end (Some part)
-component-before-mark-is-slice text before part suffix start end whole at_start at_end starts begins =
+component-before-mark-is-slice text before part suffix start end whole at_start at_end starts mark =
     grind (arith, common_steps)
 
 -- positions: a component with a delimiter before it,

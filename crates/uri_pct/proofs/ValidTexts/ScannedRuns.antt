@@ -29,7 +29,7 @@ module _ (set : TableSet) (lacks : LacksPercent set) (pct : set.pct_encoded ≡ 
   digits_of_octet_are_no_percent k o = grind (arith, nat_tests)
 
   no_octet_goes_on_after_character : (k : ℕ) → IsFresh k → oct k ≡ false → IsFresh (k + 1)
-  no_octet_goes_on_after_character k fresh none j l h = grind (arith, false)
+  no_octet_goes_on_after_character k fresh none j l h = grind arith
 
   no_octet_goes_on_after_octet : (k : ℕ) → oct k ≡ true → IsFresh (k + 3)
   no_octet_goes_on_after_octet k o j l h =

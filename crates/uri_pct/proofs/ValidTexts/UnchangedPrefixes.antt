@@ -135,7 +135,8 @@ pub encoded_text_after_two_runs : (set : TableSet) (out mid new text all : List 
     - start) (drop start text) → new ≡ mid ++ print (map Octet (take (next - end) (drop end text)))
     → out ++ print (encode_text set (drop start text)) ≡ all
     → new ++ print (encode_text set (drop next text)) ≡ all
-encoded_text_after_two_runs set out mid new text all start end next kept refused copied written whole =
+encoded_text_after_two_runs set out mid new text all start end next kept refused copied written
+    whole =
     grind (arith, nat_tests, append_assoc)
 
 pub encoded_text_at_end : (set : TableSet) (out text all : List ℕ) (done : ℕ) → length text ≤ done
