@@ -1,6 +1,6 @@
 //! The normal text of a value under the rules of its scheme, read from its end (RFC 3986, section
 //! 6.2.3).
-ghost use Rattle.std.specs.Prelude.{◌≡◌, ◌↔◌, option_map, true};
+ghost use Rattle.std.specs.Prelude.{◌≡◌, ◌↔◌, ◌<◌, ◌≤◌, drop, option_map, true};
 ghost use Rattle.uri_parts.specs.Prelude.{authority_text, components, core_text};
 ghost use Rattle.uri_ops.specs.FromEnd.Addresses.{ipv6_host_of};
 ghost use Rattle.uri_ops.specs.Models.RuledComponents.{ruled_components};
@@ -10,7 +10,7 @@ ghost use Rattle.uri_ops.specs.SchemeRules.{meaning_under};
 use crate::normalize::ruled_parts::{ruled_authority, ruled_path};
 use crate::read_back::normal_authority::ipv6_host_of;
 use crate::read_back::normal_back::{NormalBack, normal_back};
-use crate::read_back::{ReadBack, is_read_as};
+use crate::read_back::{BLOCK, ReadBack, is_read_as, put_short};
 use crate::scheme_rules::SchemeRules;
 use uri_parts::component::Authority;
 use uri_parts::core_text::Core;
@@ -19,6 +19,7 @@ use uri_parts::kind::Kind;
 /// Returns the normal text of a value under the rules of its scheme. `authority` is what
 /// `ruled_authority` returns for it, and `address` is the normal text of its host if that is an
 /// IPv6 address, and else empty.
+#[inline(always)]
 pub fn ruled_back<'a, K: Kind, S: SchemeRules>(
     core: Core<K, &'a str>,
     authority: Option<Authority<'a, K::UserinfoE, K::RegNameE>>,
@@ -36,8 +37,31 @@ pub fn ruled_back<'a, K: Kind, S: SchemeRules>(
     normal_back(core, authority, ruled_path(core, rules), rules, address)
 }
 
-/// Returns whether the normal text of a value, which it reads from its end, is this one.
-pub fn has_normal_text<K: Kind, S: SchemeRules>(core: Core<K, &str>, rules: &S, text: &[u8]) -> bool
+/// Puts the normal text of a value at the end of the block. Returns where it begins, or 0 if it is
+/// as long as the block or longer.
+pub fn put_normal_text<K: Kind, S: SchemeRules>(
+    core: Core<K, &str>,
+    rules: &S,
+    block: &mut [u8; BLOCK],
+) -> usize
+    ensures text { 0 < result → drop result block.new
+        ≡ normal_text (meaning_under K.kind (S.rules_of rules.now) (core_text core.entry)) }
+    ensures within { result ≤ 1024 }
+{
+    let authority = ruled_authority(core, rules);
+    let (host, end) = ipv6_host_of(authority);
+    put_short(ruled_back(core, authority, rules, &host[..end]), block)
+}
+
+/// Returns whether the normal text of a value, which it reads from its end block by block, is this
+/// one.
+#[cold]
+#[inline(never)]
+fn is_read_as_normal_text<K: Kind, S: SchemeRules>(
+    core: Core<K, &str>,
+    rules: &S,
+    text: &[u8],
+) -> bool
     ensures { (result ≡ true) ↔ (normal_text (meaning_under K.kind (S.rules_of rules.now)
         (core_text core.entry)) ≡ text.now) }
 {
@@ -45,4 +69,17 @@ pub fn has_normal_text<K: Kind, S: SchemeRules>(core: Core<K, &str>, rules: &S, 
     let (host, end) = ipv6_host_of(authority);
     let mut back = ruled_back(core, authority, rules, &host[..end]);
     is_read_as(&mut back, text)
+}
+
+/// Returns whether the normal text of a value is this one. Takes no memory.
+pub fn has_normal_text<K: Kind, S: SchemeRules>(core: Core<K, &str>, rules: &S, text: &[u8]) -> bool
+    ensures { (result ≡ true) ↔ (normal_text (meaning_under K.kind (S.rules_of rules.now)
+        (core_text core.entry)) ≡ text.now) }
+{
+    let mut block = [0; BLOCK];
+    let start = put_normal_text(core, rules, &mut block);
+    if start == 0 {
+        return is_read_as_normal_text(core, rules, text);
+    }
+    &block[start..] == text
 }
