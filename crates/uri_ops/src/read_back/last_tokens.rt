@@ -81,6 +81,25 @@ fn is_ascii_in_no_octet(bytes: &[u8], at: usize) -> bool
     bytes[at].is_ascii() && (at < 2 || bytes[at - 2] != b'%')
 }
 
+/// Returns whether the eight bytes before `end` are ASCII, and the second byte before each of them
+/// is not `%`. No byte ends the loop, so that it becomes vector instructions.
+#[inline(always)]
+fn is_ascii_run(bytes: &[u8], end: usize) -> bool
+    requires least { 10 ≤ end }
+    requires within { end ≤ length bytes.now }
+    ensures ascii { result ≡ true → (k : ℕ) → end ≤ k + 8 → k < end
+        → slice_index bytes.now k < 128 }
+    ensures outside { result ≡ true → (k : ℕ) → end ≤ k + 10 → k + 2 < end
+        → slice_index bytes.now k ≢ percent_sign }
+{
+    let block = &bytes[end - 10..end];
+    let mut is_run = true;
+    for i in 0..8 {
+        is_run &= (block[i + 2] < 128) & (block[i] != b'%');
+    }
+    is_run
+}
+
 /// Returns where the ASCII begins, from `least` on, that ends a text and is in no octet.
 pub(crate) fn ascii_suffix_start(bytes: &[u8], least: usize) -> usize
     requires { least ≤ length bytes.now }
@@ -88,6 +107,9 @@ pub(crate) fn ascii_suffix_start(bytes: &[u8], least: usize) -> usize
     ensures least { least ≤ result }
 {
     let mut start = bytes.len();
+    while start >= 10 && start - least >= 8 && is_ascii_run(bytes, start) {
+        start -= 8;
+    }
     while start > least && is_ascii_in_no_octet(bytes, start - 1) {
         start -= 1;
     }

@@ -10,3 +10,12 @@ invariant-loop-start l = record {
 
 abbrev pub decreases-loop-start : goal.decreases-loop-start
 decreases-loop-start l = l.start
+
+abbrev pub invariant-loop-start-2 : goal.invariant-loop-start-2
+invariant-loop-start-2 l = record {
+  suffix : IsAsciiSuffix l.bytes l.start;
+  least : l.least ≤ l.start;
+}
+
+abbrev pub decreases-loop-start-2 : goal.decreases-loop-start-2
+decreases-loop-start-2 l = l.start
