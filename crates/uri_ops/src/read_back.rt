@@ -37,15 +37,12 @@ pub trait ReadBack: Copy + Drop {
         ensures end { 0 < result → unread self.new ≡ [] };
 
     /// Puts all that is left of the text into the block before `end`. Returns where it begins, or 0
-    /// if there is no room for it and one byte more.
-    ///
-    /// The text is taken by value, so that the parts of one that is joined are never in memory.
+    /// if there is no room for it and one byte more. By value no part of a text is in memory.
     #[inline(always)]
     fn put_whole(self, block: &mut [u8; BLOCK], end: usize) -> usize
         requires { end ≤ 1024 }
         ensures text { 0 < result → drop result block.new ≡ unread self ++ drop end block.old }
         ensures within { result ≤ end }
-        ensures long { result ≡ 0 → end ≤ length (unread self) }
     {
         let mut text = self;
         text.read_back(block, end)
@@ -107,17 +104,6 @@ pub fn take_last_block<A: ReadBack>(text: &mut A, block: &mut [u8; BLOCK]) -> us
     ensures length { length (drop result block.new) + result ≡ 1024 }
 {
     text.read_back(block, BLOCK)
-}
-
-/// Puts a text at the end of the block. Returns where it begins, or 0 if it is as long as the block
-/// or longer.
-#[inline(always)]
-pub(crate) fn put_short<A: ReadBack>(text: A, block: &mut [u8; BLOCK]) -> usize
-    ensures text { 0 < result → drop result block.new ≡ A.unread text }
-    ensures within { result ≤ 1024 }
-    ensures long { result ≡ 0 → 1024 ≤ length (A.unread text) }
-{
-    text.put_whole(block, BLOCK)
 }
 
 /// Returns whether a text, which it reads from its end, is another one.

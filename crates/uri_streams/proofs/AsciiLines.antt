@@ -1,5 +1,5 @@
 -- A line that is ASCII, and its text.
-use Rattle.uri_streams.proofs.Common.{arith, ◌≡◌, ℕ, Bool, false, List, ◌-◌, IsTrue, IsAscii-take, strip_last, IsAscii, line_text, IsCutLine}
+use Rattle.uri_streams.proofs.Common.{arith, ◌≡◌, ℕ, Bool, List, ◌-◌, IsTrue, IsAscii-take, strip_last, IsAscii, line_text, IsCutLine}
 use Rattle.uri_streams.specs.declared.line_ends.Line.{Line}
 
 strip_last-ascii : (byte : ℕ) (xs : List ℕ) → IsAscii xs → IsAscii (strip_last byte xs)

@@ -66,37 +66,3 @@ pub rest_of_block_is_text : (start : ℕ) (text block : List ℕ) → length blo
     → drop start block ≡ text → take (1024 - start) (drop start block) ≡ text
 rest_of_block_is_text start text block size is =
     take_all (1024 - start) (drop start block) (omega (arith, size, length-drop start block)) ∙ is
-
--- blocks: a text of which a block got no byte to spare is no shorter than the room that there was
-pub text_is_no_shorter_than_room : (size end start : ℕ) (text left before after : List ℕ)
-    → length before ≡ size → length after ≡ size → end ≤ size
-    → text ++ drop end before ≡ left ++ drop start after → start ≡ 0 → end ≤ length text
-text_is_no_shorter_than_room size end start text left before after m n within e none =
-    omega (
-      arith,
-      ap length e,
-      length-append text (drop end before),
-      length-append left (drop start after),
-      length-drop end before,
-      length-drop start after,
-      m,
-      n,
-    )
-
-pub joined_texts_are_no_shorter_than_room : (size end start : ℕ) (front back before after : List ℕ)
-    → length before ≡ size → length after ≡ size → end ≤ size
-    → (0 < start → drop start after ≡ back ++ drop end before) → (start ≡ 0 → end ≤ length back)
-    → start ≤ end → start ≤ length front → end ≤ length (front ++ back)
-joined_texts_are_no_shorter_than_room size end start front back before after m n within read none le
-    few =
-    let both = length-append front back in
-    ⊎_elim (λ some. let whole = ap length (read some) in omega (
-      arith,
-      whole,
-      length-append back (drop end before),
-      length-drop end before,
-      length-drop start after,
-      m,
-      n,
-      both,
-    )) (λ h. let long = none (omega arith) in omega (arith, long, both)) (cases_lt 0 start)

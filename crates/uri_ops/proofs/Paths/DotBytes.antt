@@ -1,5 +1,5 @@
 -- A dot segment is one that decodes to the bytes of one dot or of two.
-use Rattle.uri_ops.proofs.Common.{common_steps, ◌≡◌, ℕ, ◌+◌, ◌*◌, Bool, true, false, eqb, List, [], ◌∷◌, ◌++◌, length, refl, sym, ap, subst, ◌∙◌, arith, ◌&&◌, ⊎_elim, inl, inr, ◌⊎◌, codes, bytes_eq, encode_utf8, digit_value, is_ascii_hexdigit, list_any, chars, IsUtf8, encode_utf8_all, append-nil, length-append, encodes-chars, length-encode, len_utf8_bounds, encode_ascii, encode_same, cases_Bool, and_parts, or_cases, false≢true, false_from_ne_true, eqb-true, nat_tests, tokens, tokens_from_chars, bytes_decoded_from, is_pct_encoded, dots, is_single_dot, is_double_dot, hexdigit_value_is_below_16}
+use Rattle.uri_ops.proofs.Common.{common_steps, ◌≡◌, ℕ, ◌+◌, ◌*◌, Bool, true, eqb, List, [], ◌∷◌, ◌++◌, length, refl, sym, ap, subst, ◌∙◌, arith, ◌&&◌, ⊎_elim, inl, inr, ◌⊎◌, codes, bytes_eq, encode_utf8, digit_value, is_ascii_hexdigit, list_any, chars, IsUtf8, encode_utf8_all, append-nil, length-append, encodes-chars, length-encode, len_utf8_bounds, encode_ascii, encode_same, cases_Bool, and_parts, or_cases, false≢true, false_from_ne_true, eqb-true, nat_tests, tokens, tokens_from_chars, bytes_decoded_from, is_pct_encoded, dots, is_single_dot, is_double_dot, hexdigit_value_is_below_16}
 use Rattle.uri_ops.proofs.Paths.Segments.{equal-bytes-are-equal}
 
 -- dot segments: the text is one of the forms of a dot, `.`, `%2E` and `%2e`

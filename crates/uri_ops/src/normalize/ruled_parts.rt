@@ -9,8 +9,8 @@ ghost use Rattle.uri_ops.specs.Models.RuledComponents.{has_default_host, has_roo
 ghost use Rattle.uri_ops.specs.Normal.{default_port_of, normal_scheme};
 ghost use Rattle.uri_ops.specs.SchemeRules.{is_localhost, is_scheme_of};
 
+use crate::read_back::is_read_as;
 use crate::read_back::normal_authority::{authority_back, ipv6_host_of};
-use crate::read_back::{BLOCK, put_short};
 use crate::scheme_rules::SchemeRules;
 use uri_parts::component::{Authority, Scheme};
 use uri_parts::core_text::Core;
@@ -56,10 +56,8 @@ fn is_localhost<U: Encoder, R: Encoder, S: SchemeRules>(
 {
     let authority = Some(authority);
     let (host, end) = ipv6_host_of(authority);
-    let mut block = [0; BLOCK];
-    let text = authority_back(authority, scheme, rules, &host[..end]);
-    let start = put_short(text, &mut block);
-    start > 0 && &block[start..] == b"//localhost".as_slice()
+    let mut text = authority_back(authority, scheme, rules, &host[..end]);
+    is_read_as(&mut text, b"//localhost")
 }
 
 /// Returns whether the rules of a scheme leave out the host of an authority.

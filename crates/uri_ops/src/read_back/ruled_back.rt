@@ -10,7 +10,7 @@ ghost use Rattle.uri_ops.specs.SchemeRules.{meaning_under};
 use crate::normalize::ruled_parts::{ruled_authority, ruled_path};
 use crate::read_back::normal_authority::ipv6_host_of;
 use crate::read_back::normal_back::{NormalBack, normal_back};
-use crate::read_back::{BLOCK, ReadBack, is_read_as, put_short};
+use crate::read_back::{BLOCK, ReadBack, is_read_as};
 use crate::scheme_rules::SchemeRules;
 use uri_parts::component::Authority;
 use uri_parts::core_text::Core;
@@ -50,25 +50,7 @@ pub fn put_normal_text<K: Kind, S: SchemeRules>(
 {
     let authority = ruled_authority(core, rules);
     let (host, end) = ipv6_host_of(authority);
-    put_short(ruled_back(core, authority, rules, &host[..end]), block)
-}
-
-/// Returns whether the normal text of a value, which it reads from its end block by block, is this
-/// one.
-#[cold]
-#[inline(never)]
-fn is_read_as_normal_text<K: Kind, S: SchemeRules>(
-    core: Core<K, &str>,
-    rules: &S,
-    text: &[u8],
-) -> bool
-    ensures { (result ≡ true) ↔ (normal_text (meaning_under K.kind (S.rules_of rules.now)
-        (core_text core.entry)) ≡ text.now) }
-{
-    let authority = ruled_authority(core, rules);
-    let (host, end) = ipv6_host_of(authority);
-    let mut back = ruled_back(core, authority, rules, &host[..end]);
-    is_read_as(&mut back, text)
+    ruled_back(core, authority, rules, &host[..end]).put_whole(block, BLOCK)
 }
 
 /// Returns whether the normal text of a value is this one. Takes no memory.
@@ -79,7 +61,10 @@ pub fn has_normal_text<K: Kind, S: SchemeRules>(core: Core<K, &str>, rules: &S, 
     let mut block = [0; BLOCK];
     let start = put_normal_text(core, rules, &mut block);
     if start == 0 {
-        return is_read_as_normal_text(core, rules, text);
+        let authority = ruled_authority(core, rules);
+        let (host, end) = ipv6_host_of(authority);
+        let mut back = ruled_back(core, authority, rules, &host[..end]);
+        return is_read_as(&mut back, text);
     }
     &block[start..] == text
 }
