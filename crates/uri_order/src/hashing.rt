@@ -1,6 +1,5 @@
 //! Texts written into a hasher.
-ghost use Rattle.std.specs.Prelude.{◌≡◌};
-ghost use Rattle.std.specs.List.{fold};
+ghost use Rattle.std.specs.Prelude.{◌≡◌, fold};
 ghost use Rattle.uri_order.specs.HashedTexts.{hashed_text};
 
 use std::hash::Hasher;

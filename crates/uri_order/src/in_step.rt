@@ -5,7 +5,7 @@ ghost use Rattle.std.specs.Ordering.{nat_cmp};
 ghost use Rattle.uri_order.specs.Ends.{AreEnds};
 
 use std::cmp::Ordering;
-use uri_ops::read_back::{BLOCK, ReadBack, take_last_block};
+use uri_ops::read_back::ReadBack;
 
 /// Which of two texts ends first, where both are read from their ends in step.
 #[derive(Drop)]
@@ -73,34 +73,4 @@ pub(crate) fn cmp_long<A: ReadBack, B: ReadBack>(one: A, other: B) -> Ordering
         Ends::Second(rest) => cmp_shorter(one, rest, other),
         Ends::First(rest) => cmp_shorter(other, rest, one).reverse(),
     }
-}
-
-/// Returns the order of a text, which it reads from its end, and another one, byte by byte, if the
-/// text is shorter than a block.
-pub(crate) fn cmp_short<A: ReadBack>(text: &mut A, other: &[u8]) -> Option<Ordering>
-    ensures { IfSome result (λ order. order ≡ slice_cmp nat_cmp (A.unread text.old) other.now) }
-{
-    let mut block = [0; BLOCK];
-    let start = take_last_block(text, &mut block);
-    if start == 0 {
-        return None;
-    }
-    Some(block[start..].cmp(other))
-}
-
-/// Returns the order of two texts, byte by byte. Those that are shorter than a block are compared
-/// as wholes.
-pub(crate) fn cmp<A: ReadBack, B: ReadBack>(one: A, other: B) -> Ordering
-    ensures { result ≡ slice_cmp nat_cmp (A.unread one) (B.unread other) }
-{
-    let mut left = one;
-    let mut other_left = other;
-    let mut block = [0; BLOCK];
-    let start = take_last_block(&mut left, &mut block);
-    if start > 0 {
-        if let Some(order) = cmp_short(&mut other_left, &block[start..]) {
-            return order.reverse();
-        }
-    }
-    cmp_long(one, other)
 }

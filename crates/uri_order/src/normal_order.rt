@@ -1,7 +1,6 @@
 //! The order of normal forms, without making them (RFC 3986, sections 6.2.2 and 6.2.3).
-ghost use Rattle.std.specs.Prelude.{◌≡◌, ◌↔◌, ℕ, List, true};
+ghost use Rattle.std.specs.Prelude.{◌≡◌, ◌↔◌, ℕ, List, true, fold};
 ghost use Rattle.std.specs.Cmp.Lexicographic.{slice_cmp};
-ghost use Rattle.std.specs.List.{fold};
 ghost use Rattle.std.specs.Ordering.{nat_cmp};
 ghost use Rattle.fluent_uri.specs.Prelude.{reference_text};
 ghost use Rattle.uri_order.specs.HashedTexts.{hashed_text};

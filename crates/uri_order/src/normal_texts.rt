@@ -1,22 +1,21 @@
 //! Normal texts compared and hashed (RFC 3986, sections 6.2.2 and 6.2.3). The text of a value that
 //! is found to be its own normal text is read as it is; any other normal text is read from its end.
-ghost use Rattle.std.specs.Prelude.{◌≡◌, ◌↔◌, IfSome, true};
+ghost use Rattle.std.specs.Prelude.{◌≡◌, ◌↔◌, IfSome, true, fold};
 ghost use Rattle.std.specs.Cmp.Lexicographic.{slice_cmp};
-ghost use Rattle.std.specs.List.{fold};
 ghost use Rattle.std.specs.Ordering.{nat_cmp};
 ghost use Rattle.uri_parts.specs.Prelude.{IsTextOf, core_text};
 ghost use Rattle.uri_order.specs.HashedTexts.{hashed_text};
 ghost use Rattle.uri_order.specs.NormalForms.{AreEquivalent, normal_form};
 
 use crate::hashing::{hash_back, hash_bytes};
-use crate::in_step::{cmp, cmp_long, cmp_short};
+use crate::in_step::cmp_long;
 use std::cmp::Ordering;
 use std::hash::Hasher;
 use uri_ops::normalize::ruled_parts::ruled_authority;
 use uri_ops::normalize::unchanged::is_found_normal;
-use uri_ops::read_back::literal_back::LiteralBack;
+use uri_ops::read_back::BLOCK;
 use uri_ops::read_back::normal_authority::ipv6_host_of;
-use uri_ops::read_back::ruled_back::{has_normal_text, ruled_back};
+use uri_ops::read_back::ruled_back::{has_normal_text, put_normal_text, ruled_back};
 use uri_ops::scheme_rules::SchemeRules;
 use uri_parts::core_text::Core;
 use uri_parts::kind::Kind;
@@ -44,25 +43,28 @@ fn unchanged_text<'a, K: Kind, S: SchemeRules>(core: Core<K, &'a str>, rules: &S
     Some(text)
 }
 
-/// Returns the order of the normal text of a value, which it reads from its end, and another text.
-fn cmp_normal_text<K: Kind, S: SchemeRules>(core: Core<K, &str>, rules: &S, text: &[u8]) -> Ordering
-    ensures { result ≡ slice_cmp nat_cmp
-        (normal_form K.kind (S.rules_of rules.now) (core_text core.entry)) text.now }
+/// Returns the order of the normal text of a value and another text, byte by byte, if the normal
+/// text is shorter than a block.
+fn cmp_short<K: Kind, S: SchemeRules>(
+    core: Core<K, &str>,
+    rules: &S,
+    text: &[u8],
+) -> Option<Ordering>
+    ensures { IfSome result (λ order. order ≡ slice_cmp nat_cmp
+        (normal_form K.kind (S.rules_of rules.now) (core_text core.entry)) text.now) }
 {
-    let authority = ruled_authority(core, rules);
-    let (host, end) = ipv6_host_of(authority);
-    let mut back = ruled_back(core, authority, rules, &host[..end]);
-    match cmp_short(&mut back, text) {
-        Some(order) => order,
-        None => {
-            let back = ruled_back(core, authority, rules, &host[..end]);
-            cmp_long(back, LiteralBack::copied(text))
-        }
+    let mut block = [0; BLOCK];
+    let start = put_normal_text(core, rules, &mut block);
+    if start == 0 {
+        return None;
     }
+    Some(block[start..].cmp(text))
 }
 
-/// Returns the order of the normal texts of two values, which it reads from their ends.
-fn cmp_back<K: Kind, S: SchemeRules>(
+/// Returns the order of the normal texts of two values, which it reads from their ends byte by byte.
+#[cold]
+#[inline(never)]
+fn cmp_long_texts<K: Kind, S: SchemeRules>(
     one: Core<K, &str>,
     other: Core<K, &str>,
     rules: &S,
@@ -77,7 +79,29 @@ fn cmp_back<K: Kind, S: SchemeRules>(
     let text = ruled_back(one, authority, rules, &host[..end]);
     let authority = ruled_authority(other, rules);
     let (host, end) = ipv6_host_of(authority);
-    cmp(text, ruled_back(other, authority, rules, &host[..end]))
+    cmp_long(text, ruled_back(other, authority, rules, &host[..end]))
+}
+
+/// Returns the order of the normal texts of two values, of which neither is found to be its own.
+fn cmp_back<K: Kind, S: SchemeRules>(
+    one: Core<K, &str>,
+    other: Core<K, &str>,
+    rules: &S,
+) -> Ordering
+    ensures { let rules = S.rules_of rules.now in
+        result ≡ slice_cmp nat_cmp
+        (normal_form K.kind rules (core_text one.entry))
+        (normal_form K.kind rules (core_text other.entry)) }
+{
+    let mut block = [0; BLOCK];
+    let start = put_normal_text(one, rules, &mut block);
+    if start == 0 {
+        return cmp_long_texts(one, other, rules);
+    }
+    match cmp_short(other, rules, &block[start..]) {
+        Some(order) => order.reverse(),
+        None => cmp_long_texts(one, other, rules),
+    }
 }
 
 /// Returns whether the normal texts of two values are equal.
@@ -130,8 +154,14 @@ fn cmp_texts<K: Kind, S: SchemeRules>(
 {
     match (unchanged_text(one, rules), unchanged_text(other, rules)) {
         (Some(first), Some(second)) => first.cmp(second),
-        (Some(text), None) => cmp_normal_text(other, rules, text.as_bytes()).reverse(),
-        (None, Some(text)) => cmp_normal_text(one, rules, text.as_bytes()),
+        (Some(text), None) => match cmp_short(other, rules, text.as_bytes()) {
+            Some(order) => order.reverse(),
+            None => cmp_long_texts(one, other, rules),
+        },
+        (None, Some(text)) => match cmp_short(one, rules, text.as_bytes()) {
+            Some(order) => order,
+            None => cmp_long_texts(one, other, rules),
+        },
         (None, None) => cmp_back(one, other, rules),
     }
 }
@@ -168,6 +198,12 @@ pub(crate) fn hash_normal<K: Kind, S: SchemeRules, H: Hasher>(
 {
     if let Some(text) = unchanged_text(core, rules) {
         hash_bytes(text.as_bytes(), state);
+        return;
+    }
+    let mut block = [0; BLOCK];
+    let start = put_normal_text(core, rules, &mut block);
+    if start > 0 {
+        hash_bytes(&block[start..], state);
         return;
     }
     let authority = ruled_authority(core, rules);
