@@ -7,9 +7,29 @@ use fluent_uri::pct_enc::EStr;
 use fluent_uri::pct_enc::encoder::Encoder;
 use fluent_uri::{ConvertError, Iri, IriRef, Reference, Uri, UriRef};
 use std::alloc::{AllocError, Global};
-use uri_parts::kind::{self, IriKind, IriRefKind};
+use uri_parts::kind::{self, IriKind, IriRefKind, UriRefKind};
 
 const NO_CONVERSION: RowError = RowError::Malformed("no such conversion");
+
+/// Calls `narrowed` for the conversion to a kind. It is a macro, since the calls differ by type.
+macro_rules! narrowed_to {
+    ($kind:ident; $alloc:expr, $value:expr, $owned:expr, $words:expr) => {
+        narrowed($alloc, $value, $kind::try_from($value), $kind::try_from($owned), $words)
+    };
+}
+
+/// Appends to a row's result a URI reference or an IRI as another kind, or the error.
+macro_rules! convert_middle {
+    ($alloc:expr, $value:expr, $to:expr, $words:expr) => {{
+        let value = $value;
+        let owned = value.to_owned($alloc)?;
+        match $to {
+            Kind::Uri => narrowed_to!(Uri; $alloc, value, owned, $words),
+            Kind::IriRef => widened(IriRef::from(value), IriRef::from(owned), $words),
+            _ => Err(NO_CONVERSION),
+        }
+    }};
+}
 
 /// Appends to a row's result the text as another kind, borrowed and, where it differs, owned.
 pub(crate) fn convert(
@@ -21,8 +41,8 @@ pub(crate) fn convert(
 ) -> Result<(), RowError> {
     match from {
         Kind::Uri => convert_uri(alloc, parsed(text)?, to, words),
-        Kind::UriRef => convert_uri_ref(alloc, parsed(text)?, to, words),
-        Kind::Iri => convert_iri(alloc, parsed(text)?, to, words),
+        Kind::UriRef => convert_middle!(alloc, parsed::<UriRefKind>(text)?, to, words),
+        Kind::Iri => convert_middle!(alloc, parsed::<IriKind>(text)?, to, words),
         Kind::IriRef => convert_iri_ref(alloc, parsed(text)?, to, words),
     }
 }
@@ -40,43 +60,6 @@ fn convert_uri(
         Kind::Iri => widened(Iri::from(value), Iri::from(owned), words),
         Kind::IriRef => widened(IriRef::from(value), IriRef::from(owned), words),
         Kind::Uri => Err(NO_CONVERSION),
-    }
-}
-
-/// Calls `narrowed` for the conversion to a kind. It is a macro, since the calls differ by type.
-macro_rules! narrowed_to {
-    ($kind:ident; $alloc:expr, $value:expr, $owned:expr, $words:expr) => {
-        narrowed($alloc, $value, $kind::try_from($value), $kind::try_from($owned), $words)
-    };
-}
-
-/// Appends to a row's result a URI reference as another kind, or the error.
-fn convert_uri_ref(
-    alloc: Global,
-    value: UriRef<&str>,
-    to: Kind,
-    words: &mut Words,
-) -> Result<(), RowError> {
-    let owned = value.to_owned(alloc)?;
-    match to {
-        Kind::Uri => narrowed_to!(Uri; alloc, value, owned, words),
-        Kind::IriRef => widened(IriRef::from(value), IriRef::from(owned), words),
-        _ => Err(NO_CONVERSION),
-    }
-}
-
-/// Appends to a row's result an IRI as another kind, or the error.
-fn convert_iri(
-    alloc: Global,
-    value: Iri<&str>,
-    to: Kind,
-    words: &mut Words,
-) -> Result<(), RowError> {
-    let owned = value.to_owned(alloc)?;
-    match to {
-        Kind::Uri => narrowed_to!(Uri; alloc, value, owned, words),
-        Kind::IriRef => widened(IriRef::from(value), IriRef::from(owned), words),
-        _ => Err(NO_CONVERSION),
     }
 }
 
