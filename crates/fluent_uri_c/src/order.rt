@@ -1,6 +1,5 @@
 //! The order and the hash of texts by their normal forms, without memory.
-ghost use Rattle.std.specs.Prelude.{◌≡◌, ◌↔◌, ◌≤◌, ℕ, List, Ok, is_some, true};
-ghost use Rattle.std.specs.Option.{unwrap_or};
+ghost use Rattle.std.specs.Prelude.{◌≡◌, ◌↔◌, ◌≤◌, ℕ, List, Ok, is_some, true, unwrap_or};
 ghost use Rattle.std.specs.Result.{result_ok};
 ghost use Rattle.fluent_uri_c.specs.Orders.{AreOneKey, byte_order, hash_of_bytes, key_hash, key_order, normal_key, order_number, order_of_keys, seeded};
 ghost use Rattle.fluent_uri_c.specs.Results.{normal_result, normalize_result};
@@ -82,23 +81,6 @@ fn are_bytes_own_normal_form<K: Kind>(rules: RuleSet, text: &[u8]) -> bool
     }
 }
 
-/// Returns whether bytes are a text that is its own normal form, by the kind and the options with
-/// these numbers of the header.
-fn is_own_normal_form_by_numbers(kind: u32, options: u32, text: &[u8]) -> bool
-    ensures { (result ≡ true) ↔ (normalize_result kind options text.now ≡ Ok text.now) }
-{
-    let Some(rules) = rule_set(options) else {
-        return false;
-    };
-    match kind {
-        0 => are_bytes_own_normal_form::<UriKind>(rules, text),
-        1 => are_bytes_own_normal_form::<UriRefKind>(rules, text),
-        2 => are_bytes_own_normal_form::<IriKind>(rules, text),
-        3 => are_bytes_own_normal_form::<IriRefKind>(rules, text),
-        _ => false,
-    }
-}
-
 /// Returns 1 exactly if a text is of the kind and its own normal form, and else 0. Takes no memory.
 #[unsafe(no_mangle)]
 pub extern "C" fn fluent_uri_is_normal(kind: u32, options: u32, text: &[u8]) -> u32
@@ -108,11 +90,17 @@ pub extern "C" fn fluent_uri_is_normal(kind: u32, options: u32, text: &[u8]) -> 
     if !is_possible_length(text) {
         return Error::InvalidArgument.number();
     }
-    if is_own_normal_form_by_numbers(kind, options, text) {
-        1
-    } else {
-        0
-    }
+    let Some(rules) = rule_set(options) else {
+        return 0;
+    };
+    let is_normal = match kind {
+        0 => are_bytes_own_normal_form::<UriKind>(rules, text),
+        1 => are_bytes_own_normal_form::<UriRefKind>(rules, text),
+        2 => are_bytes_own_normal_form::<IriKind>(rules, text),
+        3 => are_bytes_own_normal_form::<IriRefKind>(rules, text),
+        _ => false,
+    };
+    if is_normal { 1 } else { 0 }
 }
 
 /// Returns a hasher that begins with this seed.
