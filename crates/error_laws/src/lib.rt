@@ -1,8 +1,7 @@
 //! Laws of the errors that parsing returns, each the contract of a function that does nothing.
 #![tactic(auto)]
 
-ghost use Rattle.std.specs.Prelude.{◌≡◌, ℕ, List, false, true, map, take, Some};
-ghost use Rattle.std.specs.Str.{IsUtf8};
+ghost use Rattle.std.specs.Prelude.{◌≡◌, ℕ, List, false, true, map, take, Some, IsUtf8};
 ghost use Rattle.uri_parts.specs.declared.error.ParseError.{ParseError};
 ghost use Rattle.uri_parts.specs.Prelude.{error_index, iri, iri_ref, refusal, uri, uri_ref};
 ghost use Rattle.error_laws.specs.ViablePrefixes.{IsViablePrefix, has_late_error};

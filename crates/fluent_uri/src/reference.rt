@@ -1,7 +1,6 @@
 //! `Reference`: a text of one of the four kinds (RFC 3986, sections 3 and 4.1; RFC 3987, section
 //! 2.2).
-ghost use Rattle.std.specs.Prelude.{◌≡◌, Some, string_bytes, ⊤, refl};
-ghost use Rattle.std.specs.Str.{IsUtf8};
+ghost use Rattle.std.specs.Prelude.{◌≡◌, Some, string_bytes, ⊤, refl, IsUtf8};
 ghost use Rattle.uri_parts.specs.Prelude.{IsOfKind, core_text};
 ghost use Rattle.uri_ops.proofs.Offered.{one-of-four-kinds-has-sets};
 ghost use Rattle.fluent_uri.specs.Parses.{Parses, ParsesOwned};

@@ -1,6 +1,5 @@
 //! Bytes that are ASCII, in blocks.
-ghost use Rattle.std.specs.Prelude.{◌+◌, ◌<◌, ◌≤◌, ℕ, IsTrue, length, slice_index};
-ghost use Rattle.std.specs.Str.{IsAscii};
+ghost use Rattle.std.specs.Prelude.{◌+◌, ◌<◌, ◌≤◌, ℕ, IsTrue, length, slice_index, IsAscii};
 
 use std::simd::prelude::*;
 

@@ -1,6 +1,5 @@
 //! Components of which some octets are percent-encoded already, mended (RFC 3986, section 2.4).
-ghost use Rattle.std.specs.Prelude.{◌≡◌, ◌++◌, ◌<◌, ◌≤◌, ℕ, IfOk, IsTrue, drop, encode_utf8, length, string_bytes, true};
-ghost use Rattle.std.specs.Str.{IsCharBoundary};
+ghost use Rattle.std.specs.Prelude.{◌≡◌, ◌++◌, ◌<◌, ◌≤◌, ℕ, IfOk, IsTrue, drop, encode_utf8, length, string_bytes, true, IsCharBoundary};
 ghost use Rattle.uri_pct.specs.Prelude.{set_of};
 ghost use Rattle.uri_mend.specs.MendedParts.{mended};
 ghost use Rattle.fluent_uri_c.specs.Outcomes.{LeavesText};

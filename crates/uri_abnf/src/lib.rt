@@ -5,8 +5,7 @@
 //! function that does nothing: code whose proof needs it calls the function.
 #![tactic(auto)]
 
-ghost use Rattle.std.specs.Prelude.{◌≡◌, ◌↔◌, ℕ, List, [], ◌∷◌, None, true, false, map};
-ghost use Rattle.std.specs.Str.{IsUtf8};
+ghost use Rattle.std.specs.Prelude.{◌≡◌, ◌↔◌, ℕ, List, [], ◌∷◌, None, true, false, map, IsUtf8};
 ghost use Rattle.uri_pct.specs.Prelude.{IsValidFor, TableSet, digit_set, is_decodable, is_unreserved};
 ghost use Rattle.uri_parts.specs.Prelude.{AuthorityParts, Components, Ipv4, Ipv6, IpvFuture, IsHost, IsOfKind, IsTextOf, Kind, RegName, authority_parts, bracketed, components, iri, iri_ref, is_authority, is_scheme, uri, uri_ref};
 ghost use Rattle.uri_abnf.specs.Abnf.{Has, IsOf};

@@ -1,6 +1,5 @@
 //! The removal of dot segments from any path (RFC 3986, section 5.2.4), as it is printed.
-ghost use Rattle.std.specs.Prelude.{◌≡◌, ◌<◌, ◌≤◌, ◌++◌, ◌-◌, ℕ, List, IfOk, OnOk, bytes_eq, codes, drop, false, length, slice_index, string_bytes, take};
-ghost use Rattle.std.specs.Str.{IsUtf8};
+ghost use Rattle.std.specs.Prelude.{◌≡◌, ◌<◌, ◌≤◌, ◌++◌, ◌-◌, ℕ, List, IfOk, OnOk, bytes_eq, codes, drop, false, length, slice_index, string_bytes, take, IsUtf8};
 ghost use Rattle.uri_pct.specs.Prelude.{Pushes, slash};
 ghost use Rattle.uri_ops.specs.Prelude.{EndsInSlash, before_last_slash, has_slash, up_to_last_slash};
 ghost use Rattle.uri_basic.specs.Models.Directories.{IsDirectoryOrNothing, after_segment, parent, path_left};

@@ -1,7 +1,6 @@
 //! The line for words that make no command.
-ghost use Rattle.std.specs.Prelude.{◌≡◌, ◌||◌, IsTrue, not};
+ghost use Rattle.std.specs.Prelude.{◌≡◌, ◌||◌, IsTrue, not, flat_map};
 ghost use Rattle.std.specs.Io.KnownBytes.{Appends};
-ghost use Rattle.std.specs.List.{flat_map};
 ghost use Rattle.uri_commands.specs.Prefixes.{AppendsPrefix};
 ghost use Rattle.uri_commands.specs.Refusals.{usage_line};
 

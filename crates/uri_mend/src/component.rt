@@ -1,6 +1,5 @@
 //! Components, mended (RFC 3986, sections 2.1 and 2.4).
-ghost use Rattle.std.specs.Prelude.{◌≡◌, ◌+◌, ◌-◌, ◌<◌, ◌≤◌, ◌&&◌, ◌||◌, ◌++◌, ℕ, [], IfOk, drop, false, length, map, nat_lt, not, slice_index, take, true};
-ghost use Rattle.std.specs.Str.{IsCharBoundary};
+ghost use Rattle.std.specs.Prelude.{◌≡◌, ◌+◌, ◌-◌, ◌<◌, ◌≤◌, ◌&&◌, ◌||◌, ◌++◌, ℕ, [], IfOk, drop, false, length, map, nat_lt, not, slice_index, take, true, IsCharBoundary};
 ghost use Rattle.uri_pct.specs.Prelude.{Octet, allows, has_bit, is_one_of, print, set_of, text_of_token, valid_prefix};
 ghost use Rattle.uri_parts.specs.Prelude.{before_any, from_any};
 ghost use Rattle.uri_mend.specs.MendedParts.{mended};

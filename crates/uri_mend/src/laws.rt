@@ -1,7 +1,5 @@
 //! Laws of the definitions. A law is a function that does nothing, and its contract states the law.
-ghost use Rattle.std.specs.Prelude.{◌≡◌, List, false, option_map, ℕ};
-ghost use Rattle.std.specs.List.{flat_map};
-ghost use Rattle.std.specs.Str.{IsUtf8};
+ghost use Rattle.std.specs.Prelude.{◌≡◌, List, false, option_map, ℕ, flat_map, IsUtf8};
 ghost use Rattle.uri_pct.specs.Prelude.{LacksPercent, TableSet, tokens};
 ghost use Rattle.uri_parts.specs.Prelude.{IsOfKind, Kind, components};
 ghost use Rattle.uri_ops.specs.Prelude.{ascii_kind, encode_past_ascii};

@@ -1,7 +1,6 @@
 //! A text that is no reference, perhaps, cut before its path (RFC 3986, appendix B).
-ghost use Rattle.std.specs.Prelude.{◌≡◌, ◌++◌, ◌-◌, ◌<◌, ◌≤◌, [], IfSome, codes, false, is_some, length, not, take, true};
+ghost use Rattle.std.specs.Prelude.{◌≡◌, ◌++◌, ◌-◌, ◌<◌, ◌≤◌, [], IfSome, codes, false, is_some, length, not, take, true, IsCharBoundary};
 ghost use Rattle.std.specs.List.{list_any};
-ghost use Rattle.std.specs.Str.{IsCharBoundary};
 ghost use Rattle.uri_pct.specs.Prelude.{is_one_of};
 ghost use Rattle.uri_parts.specs.Prelude.{ArePackedPositionsOf, IsOfKind, Kind, after_authority, after_scheme};
 ghost use Rattle.uri_ops.specs.Prelude.{before_path};

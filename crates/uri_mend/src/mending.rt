@@ -1,6 +1,5 @@
 //! The reference that a text is mended to (RFC 3986, sections 4.2 and 5.3).
-ghost use Rattle.std.specs.Prelude.{◌≡◌, ◌↔◌, ◌≤◌, ◌+◌, IfErr, IfOk, IfSome, IsOk, IsOkAnd, Some, codes, drop, is_some, length, string_bytes, take, true};
-ghost use Rattle.std.specs.Str.{IsCharBoundary, IsUtf8};
+ghost use Rattle.std.specs.Prelude.{◌≡◌, ◌↔◌, ◌≤◌, ◌+◌, IfErr, IfOk, IfSome, IsOk, IsOkAnd, Some, codes, drop, is_some, length, string_bytes, take, true, IsCharBoundary, IsUtf8};
 ghost use Rattle.uri_parts.specs.Prelude.{ArePackedPositionsOf, IsErrorIn, IsOfKind, core_text, from_any, is_of_kind, refusal};
 ghost use Rattle.fluent_uri.specs.Prelude.{held_text, reference_text};
 ghost use Rattle.uri_mend.specs.declared.error.MendError.TheVariants.{OutOfMemory};

@@ -1,6 +1,5 @@
 //! The path, the query and the fragment of a text, mended.
-ghost use Rattle.std.specs.Prelude.{◌≡◌, ◌+◌, ◌-◌, ◌<◌, ◌≤◌, ◌++◌, ◌∷◌, [], IfOk, IfSome, List, codes, drop, false, is_some, length, true, ℕ};
-ghost use Rattle.std.specs.Str.{IsCharBoundary};
+ghost use Rattle.std.specs.Prelude.{◌≡◌, ◌+◌, ◌-◌, ◌<◌, ◌≤◌, ◌++◌, ◌∷◌, [], IfOk, IfSome, List, codes, drop, false, is_some, length, true, ℕ, IsCharBoundary};
 ghost use Rattle.uri_pct.specs.Prelude.{has_bit, set_of};
 ghost use Rattle.uri_parts.specs.Prelude.{from_any, starts};
 ghost use Rattle.uri_mend.specs.Progress.{IsProgress, are_marks, mended_so_far};

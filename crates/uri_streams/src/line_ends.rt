@@ -1,7 +1,6 @@
 //! What ends a line, and a line with its text.
-ghost use Rattle.std.specs.Prelude.{◌≡◌, ◌&&◌, IsTrue, not};
+ghost use Rattle.std.specs.Prelude.{◌≡◌, ◌&&◌, IsTrue, not, IsAscii};
 ghost use Rattle.std.specs.Io.BufRead.{ends_with_byte, strip_last};
-ghost use Rattle.std.specs.Str.{IsAscii};
 ghost use Rattle.uri_streams.specs.Lines.{end_byte, has_return};
 ghost use Rattle.uri_streams.specs.Models.{IsCutLine};
 ghost use Rattle.uri_streams.specs.Outputs as outputs;

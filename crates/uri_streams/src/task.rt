@@ -1,6 +1,5 @@
 //! A command with what it remembers of earlier lines.
-ghost use Rattle.std.specs.Prelude.{◌≡◌, [], ℕ, List, IfOk, IsTrue, string_bytes};
-ghost use Rattle.std.specs.Str.{IsAscii};
+ghost use Rattle.std.specs.Prelude.{◌≡◌, [], ℕ, List, IfOk, IsTrue, string_bytes, IsAscii};
 ghost use Rattle.fluent_uri.specs.Prelude.{rules_of_set, uri_ref_text, uri_text};
 ghost use Rattle.uri_commands.specs.Links.{text_at};
 ghost use Rattle.uri_commands.specs.MendedLinks.{mended_link};

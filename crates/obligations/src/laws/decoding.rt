@@ -1,6 +1,5 @@
 //! Percent-encoded texts of which some items are taken (RFC 3986, section 2.1).
-ghost use Rattle.std.specs.Prelude.{◌≡◌, IfOk, drop};
-ghost use Rattle.std.specs.List.{flat_map};
+ghost use Rattle.std.specs.Prelude.{◌≡◌, IfOk, drop, flat_map};
 ghost use Rattle.fluent_uri.specs.Prelude.{chunk_bytes, chunks, cow_items, text_of};
 
 use fluent_uri::pct_enc::encoder::Path;

@@ -1,6 +1,5 @@
 //! Texts that are mended (RFC 3986, sections 2.1 and 4.2).
-ghost use Rattle.std.specs.Prelude.{◌≡◌, ℕ, List, option_map, true};
-ghost use Rattle.std.specs.List.{flat_map};
+ghost use Rattle.std.specs.Prelude.{◌≡◌, ℕ, List, option_map, true, flat_map};
 ghost use Rattle.fluent_uri.specs.Prelude.{IsOfKind, ascii_kind, components, encode_past_ascii, iri_ref, path_set, tokens, uri_ref, uri_ref_text};
 ghost use Rattle.uri_mend.specs.MendedParts.{mend_token, mended};
 ghost use Rattle.uri_mend.specs.Mending.{link_components, mended_text};

@@ -1,6 +1,5 @@
 //! Parsing (RFC 3986, section 4.1), and the errors of texts (`docs/PARSE_ERRORS.md`).
-ghost use Rattle.std.specs.Prelude.{◌≡◌, ◌≤◌, ℕ, is_none, take};
-ghost use Rattle.std.specs.Str.{IsCharBoundary};
+ghost use Rattle.std.specs.Prelude.{◌≡◌, ◌≤◌, ℕ, is_none, take, IsCharBoundary};
 ghost use Rattle.fluent_uri.specs.Prelude.{IsValidFor, path_set, refusal, valid_prefix};
 
 use fluent_uri::kind::Kind;
