@@ -31,8 +31,9 @@ define internal <16 x i8> @pshufb(<16 x i8> %bytes, <16 x i8> %indices) alwaysin
 }
 declare <16 x i8> @llvm.wasm.swizzle(<16 x i8>, <16 x i8>)
 """
-# The parser of a kind, which is inlined on x86-64. Inlined here too, the core has 102 kB by gzip.
-PARSER = r'(?m)^(define internal void @"uri_parts::parse::parse::<[^"]*>"\([^\n]*\)) #\d+ \{$'
+# What is inlined on x86-64: the parser of a kind, and the reader of a normal text. Inlined here too,
+# the core has 102 kB by gzip for the one, and 99 for the other.
+INLINED = ("uri_parts::parse::parse", "uri_ops::read_back::ruled_back::ruled_back")
 
 
 def once(text, old, new):
@@ -52,11 +53,13 @@ def without_pshufb(text):
     return text.replace(PSHUFB, "@pshufb") + SHUFFLE
 
 
-def with_one_parser(text):
-    """The text with the parser of each kind as a function that all exports call."""
-    text, count = re.subn(PARSER, r"\1 noinline nounwind {", text)
-    if not count:
-        raise Failed("there is no parser")
+def with_calls(text):
+    """The text with what is inlined on x86-64 as functions that all exports call, for each kind."""
+    for name in INLINED:
+        defined = rf'(?m)^(define internal void @"{name}::<[^"]*>"\([^\n]*\)) #\d+ \{{$'
+        text, count = re.subn(defined, r"\1 noinline nounwind {", text)
+        if not count:
+            raise Failed(f"there is no function {name}")
     return text
 
 
@@ -80,6 +83,6 @@ def retargeted(text):
     """The module for wasm64."""
     text = once(text, f'target triple = "{TRIPLES[0]}"', f'target triple = "{TRIPLES[1]}"')
     text = once(text, f'target datalayout = "{LAYOUTS[0]}"', f'target datalayout = "{LAYOUTS[1]}"')
-    text = with_one_parser(without_pshufb(re.sub(ATTRIBUTES, "", text)))
+    text = with_calls(without_pshufb(re.sub(ATTRIBUTES, "", text)))
     stop_on_unknown(text)
     return text
