@@ -1,5 +1,6 @@
 //! Normal texts compared and hashed (RFC 3986, sections 6.2.2 and 6.2.3). The text of a value that
-//! is found to be its own normal text is read as it is; any other normal text is read from its end.
+//! is found to be its own normal text is read as it is; any other normal text is read from its end,
+//! block by block.
 ghost use Rattle.std.specs.Prelude.{◌≡◌, ◌↔◌, IfSome, true, fold};
 ghost use Rattle.std.specs.Cmp.Lexicographic.{slice_cmp};
 ghost use Rattle.std.specs.Ordering.{nat_cmp};
@@ -61,7 +62,7 @@ fn cmp_short<K: Kind, S: SchemeRules>(
     Some(block[start..].cmp(text))
 }
 
-/// Returns the order of the normal texts of two values, which it reads from their ends byte by byte.
+/// Returns the order of the normal texts of two values, which it reads from their ends in blocks.
 #[cold]
 #[inline(never)]
 fn cmp_long_texts<K: Kind, S: SchemeRules>(
