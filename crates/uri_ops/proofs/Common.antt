@@ -5,10 +5,10 @@ pub use Rattle.std.proofs.Math.Bool.{or-false, or_assoc, and-false}
 pub use Rattle.std.proofs.Math.Seq.{take-add, take-append_seam, drop-append_seam, take-append-add, take-suc, take-length}
 pub use Rattle.std.proofs.Math.Utf8.{low_scalar}
 pub use Rattle.std.proofs.NetLemmas.Alphabet.{IsDigitOrDot}
-pub use Rattle.std.proofs.lemmas.Bool.{cases_Bool, cases_lt, cond-true, cond-false, and_parts, and_from, lt-ltb, both_ways, eqb-true, or_right, le-ltb, not-true, not_from_false, ltb-true, false_from_ne_true, and_right, cond_both, and_left, false≢true, agree_below_at, ne_eqb, or_parts, or_from, leb-true, or_left, not-false, or_cases, and_cases, ltb-false, true≢false, lt-leb, agree_below, eqb-false}
+pub use Rattle.std.proofs.lemmas.Bool.{cases_Bool, cases_lt, cond-true, cond-false, and_parts, and_from, lt-ltb, both_ways, eqb-true, or_right, le-ltb, not-true, not_from_false, ltb-true, false_from_ne_true, and_right, cond_both, and_left, false≢true, agree_below_at, ne_eqb, or_parts, or_from, leb-true, or_left, not-false, or_cases, and_cases, ltb-false, true≢false, lt-leb, agree_below}
 pub use Rattle.std.proofs.lemmas.Bool.Decides.{nat_tests, Decides-eqb, Decides-and, Decides-like}
 pub use Rattle.std.proofs.lemmas.Grind.{common_steps}
-pub use Rattle.std.proofs.lemmas.List.{append-nil, map-append, length-drop, take_all, nil_from_length, take-append-drop, get_or_append_left, get_or_at, length-take, drop_all, take-append-le, drop_more, get_or-drop, take_at, drop_at, take_more, get_or_past, length-replicate, drop-drop, length-map, get_or-take, length-take-le, take-take, drop-append-le, get_or-append-add, length-set, take_more_set}
+pub use Rattle.std.proofs.lemmas.List.{append-nil, map-append, length-drop, take_all, nil_from_length, take-append-drop, get_or_append_left, get_or_at, length-take, drop_all, take-append-le, drop_more, get_or-drop, take_at, drop_at, get_or_past, length-replicate, drop-drop, length-map, get_or-take, length-take-le, take-take, drop-append-le, get_or-append-add, length-set, take_more_set}
 pub use Rattle.std.proofs.lemmas.List.Concat.{flat_map-append}
 pub use Rattle.std.proofs.lemmas.List.Elements.{All-weaker, All-nil, All-cons, All-append, All-replicate, All-get_or, All-head, All-tail, All-from_get_or}
 pub use Rattle.std.proofs.lemmas.List.Folds.{list_all-append, list_any-append}

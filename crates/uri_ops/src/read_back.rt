@@ -1,5 +1,5 @@
-//! Texts that are read from their end, a byte or a block at a time, without memory.
-ghost use Rattle.std.specs.Prelude.{◌≡◌, ◌↔◌, ◌+◌, ◌≤◌, ◌<◌, ◌++◌, ◌∷◌, ℕ, List, [], None, IfSome, drop, length, true};
+//! Texts that are read from their end, a block at a time, without memory.
+ghost use Rattle.std.specs.Prelude.{◌≡◌, ◌↔◌, ◌+◌, ◌≤◌, ◌<◌, ◌++◌, ℕ, List, [], drop, length, true};
 ghost use Rattle.uri_ops.specs.FromEnd.Blocks.{IsLastBlock};
 
 pub(crate) mod held;
@@ -20,12 +20,6 @@ pub const BLOCK: usize = 1024;
 /// A text that is read from its end. What is left of it is `unread`.
 pub trait ReadBack: Copy + Drop {
     ghost unread: { Self → List ℕ };
-
-    /// Takes the last byte that is left of the text, if there is one.
-    fn next_back(&mut self) -> Option<u8>
-        ensures some { IfSome result (λ byte. unread self.old ≡ unread self.new ++ byte ∷ []) }
-        ensures none { result ≡ None → unread self.old ≡ [] }
-        ensures end { result ≡ None → unread self.new ≡ [] };
 
     /// Takes the last bytes that are left of the text and puts them into the block before `end`,
     /// until the block is full or nothing is left. Returns where they begin.
@@ -58,15 +52,6 @@ pub struct Joined<A, B> {
 
 impl<A: ReadBack, B: ReadBack> ReadBack for Joined<A, B> {
     ghost unread = { λ text. A.unread text.front ++ B.unread text.back };
-
-    /// Takes the last byte of the second text, or of the first if nothing is left of the second.
-    #[inline(always)]
-    fn next_back(&mut self) -> Option<u8> {
-        match self.back.next_back() {
-            Some(byte) => Some(byte),
-            None => self.front.next_back(),
-        }
-    }
 
     /// Takes the last bytes of the second text, and then of the first if nothing is left of the
     /// second.

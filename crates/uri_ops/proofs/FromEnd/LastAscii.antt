@@ -1,6 +1,6 @@
 -- A component that ends in ASCII: its last characters are written as they are, but for case, and its
 -- last octet is decoded by itself.
-use Rattle.uri_ops.proofs.Common.{common_steps, ◌≡◌, ℕ, ◌-◌, ◌<◌, inl, Bool, true, false, List, [], ◌∷◌, ◌++◌, length, take, drop, refl, sym, ap, ◌∙◌, subst, arith, ⊎_elim, append_assoc, length-append, flat_map, IsUtf8, cases_Bool, append-nil, get_or_at, length-drop, length-take, take-append-drop, take_all, flat_map-append, IsUtf8-append, encode_ascii, widest_set, decode_after_run, decode_octet, decode_piece, decode_run, encode_formatting, pieces_from, utf8_pieces, TableSet, is_unreserved, IsValidFor, Token, Char, Octet, print, byte_below_80_or_from_c0_is_no_continuation, utf8_pieces_are_cut_at_non_continuation, ascii_char_separates_encode_formatting, IsAsciiSuffix, LacksPercentThird, cased, normal_component, lowered_code_if, lowered_if}
+use Rattle.uri_ops.proofs.Common.{common_steps, ◌≡◌, ℕ, ◌-◌, ◌<◌, inl, Bool, true, false, List, [], ◌∷◌, ◌++◌, length, take, drop, refl, sym, ap, ◌∙◌, subst, arith, ⊎_elim, append_assoc, length-append, flat_map, IsUtf8, cases_Bool, get_or_at, length-drop, length-take, take-append-drop, take_all, flat_map-append, IsUtf8-append, encode_ascii, widest_set, decode_after_run, decode_octet, decode_piece, decode_run, encode_formatting, pieces_from, utf8_pieces, TableSet, is_unreserved, IsValidFor, Token, Char, Octet, print, byte_below_80_or_from_c0_is_no_continuation, utf8_pieces_are_cut_at_non_continuation, ascii_char_separates_encode_formatting, IsAsciiSuffix, LacksPercentThird, cased, normal_component, lowered_code_if, lowered_if}
 use Rattle.uri_pct.proofs.Offered.{ascii_byte_is_utf8}
 use Rattle.uri_ops.specs.FromEnd.LastTokens.{EndsIn}
 use Rattle.uri_ops.proofs.FromEnd.LastTokens.{last_char_is_last_token, no_octet_ends_text}
@@ -79,16 +79,9 @@ ascii_run_is_written_last set lowers before (c ∷ run) utf8 valid h =
     let ends : EndsIn longer before (Char c ∷ []) = last_char_is_last_token longer before c wide utf8
     (ap (λ t. before ++ t) (sym (encode_ascii c low))) rest.valid
     (no_octet_ends_text longer wide rest.valid (ascii_suffix_begins_in_no_octet before run c h)) in
-    let last : normal_component lowers set longer ≡ normal_component lowers set before
-    ++ lowered_code_if lowers c ∷ [] = sym (append-nil (normal_component lowers set longer))
-    ∙ last_ascii_is_written_last set lowers longer before [] [] c _ ends low refl refl refl ∙ ap
-    (λ t. t ++ lowered_code_if lowers c ∷ []) (append-nil (normal_component lowers set before)) in
+    let last = last_ascii_is_written_last set lowers longer before c ends low in
     record {
-      text = ap (normal_component lowers set) (sym whole)
-          ∙ rest.text ∙ ap (λ t. t ++ cased lowers run) last
-          ∙ append_assoc (normal_component lowers set before) (lowered_code_if lowers c
-          ∷ []) (cased lowers run) ∙ ap (λ t. normal_component lowers set before
-          ++ t) (sym (first_character_is_cased lowers c run));
+      text = grind (arith, common_steps, first_character_is_cased);
       valid = ends.valid;
     }
 

@@ -1,5 +1,5 @@
 -- The last token of a valid text: an octet if the third byte from the end is `%`, else a character.
-use Rattle.uri_ops.proofs.Common.{common_steps, ◌≡◌, ℕ, suc, ◌+◌, ◌-◌, ◌*◌, ◌<◌, ◌≤◌, ◌⊎◌, inl, inr, true, false, List, [], ◌∷◌, ◌++◌, length, get_or, take, drop, refl, sym, ap, ◌∙◌, subst, arith, ⊎_elim, append_assoc, eqb, list_all, IsScalar, encode_utf8, digit_value, is_ascii_hexdigit, chars, all_scalars, IsUtf8, cases_Bool, cond-true, cond-false, and_parts, and_from, and_right, ne_eqb, take-append-drop, drop_more, length-drop, get_or-drop, get_or_at, length-append, append-nil, take_at, drop_at, nil_from_length, take_all, take_more, list_all-append, chars-append, chars-nil, IsUtf8-take, IsUtf8-drop, IsCharBoundary-before_ascii, chars-encodes, cons_from_encodes, IsCharBoundary-from_take, encode_ascii, widest_set, Token, Char, Octet, is_pct_encoded, tokens_from_chars, tokens, allows_token, is_valid_for, IsValidFor, BeginsWithOctet, bytes_from_percent_begin_with_octet, valid_text_has_printable_tokens, EndInNoOctet, LacksPercentThird}
+use Rattle.uri_ops.proofs.Common.{common_steps, ◌≡◌, ℕ, suc, ◌+◌, ◌*◌, ◌≤◌, ◌⊎◌, inl, inr, true, false, List, [], ◌∷◌, ◌++◌, length, get_or, take, drop, refl, sym, ap, ◌∙◌, subst, arith, ⊎_elim, append_assoc, eqb, list_all, IsScalar, encode_utf8, digit_value, is_ascii_hexdigit, chars, all_scalars, IsUtf8, cases_Bool, cond-true, cond-false, and_parts, and_from, and_right, ne_eqb, take-append-drop, drop_more, length-drop, get_or-drop, get_or_at, length-append, append-nil, take_at, drop_at, nil_from_length, list_all-append, chars-append, chars-nil, IsUtf8-take, IsUtf8-drop, IsCharBoundary-before_ascii, chars-encodes, cons_from_encodes, IsCharBoundary-from_take, widest_set, Token, Char, Octet, is_pct_encoded, tokens_from_chars, tokens, allows_token, is_valid_for, IsValidFor, BeginsWithOctet, bytes_from_percent_begin_with_octet, valid_text_has_printable_tokens, EndInNoOctet, LacksPercentThird}
 use Rattle.uri_pct.specs.Representation.{RepresentsToken, Represents}
 use Rattle.uri_pct.proofs.Offered.{text_represents_its_printable_tokens, ascii_byte_is_first_of_chars}
 use Rattle.uri_ops.specs.FromEnd.LastTokens.{EndsIn}
@@ -218,18 +218,3 @@ pub equal_text_ends_in_same_octet : (bytes text prefix before : List ℕ) (value
     → bytes ≡ text → prefix ≡ before → value ≡ same → EndsIn bytes prefix (Octet value ∷ [])
     → EndsIn text before (Octet same ∷ [])
 equal_text_ends_in_same_octet bytes text prefix before value same e f g ends = grind (arith, tokens)
-
-pub last_ascii_is_last_token : (bytes text before : List ℕ) (c : ℕ) → bytes ≡ text
-    → before ≡ take (length bytes - 1) text → 0 < length bytes
-    → c ≡ get_or bytes (length bytes - 1) 0 → c < 128 → IsUtf8 text → IsUtf8 before
-    → IsValidFor widest_set text → LacksPercentThird bytes → EndsIn text before (Char c ∷ [])
-last_ascii_is_last_token bytes text before c same cut some last low u prefix valid none =
-    let m = length bytes - 1 in
-    let lacking : LacksPercentThird text = subst LacksPercentThird same none in
-    let joined : text ≡ before ++ encode_utf8 c =
-    sym (take_all (m + 1) text (omega (arith, ap length same)))
-    ∙ take_more text m 0 (omega (arith, ap length same)) ∙ ap (λ t. t ++ get_or text m 0
-    ∷ []) (sym cut) ∙ ap (λ b. before ++ b ∷ []) (ap (λ t. get_or t m 0) (sym same) ∙ sym last)
-    ∙ ap (λ t. before ++ t) (sym (encode_ascii c low)) in
-    last_char_is_last_token text before c u prefix joined valid
-    (no_octet_ends_text text u valid lacking)

@@ -108,14 +108,9 @@ ascii_char_is_written set true c low = ap print (ascii_char_is_lowered_alone set
 ascii_char_is_written set false c low = ap print (ascii_char_is_lowered_alone set false c low)
     ∙ append-nil (encode_utf8 c) ∙ encode_ascii c low
 
-pub last_ascii_is_written_last : (set : TableSet) (lowers : Bool) (text before held left : List ℕ)
-    (c byte : ℕ) → EndsIn text before (Char c ∷ []) → c < 128 → byte ≡ lowered_code_if lowers c
-    → held ≡ [] → left ≡ [] → normal_component lowers set text ++ held
-    ≡ (normal_component lowers set before ++ left) ++ byte ∷ []
-last_ascii_is_written_last set lowers text before held left c byte ends low same e f = ap
-    (λ t. normal_component lowers set text ++ t) e ∙ append-nil (normal_component lowers set text)
-    ∙ last_char_is_written_last set lowers text before c ends
-    ∙ ap (λ t. normal_component lowers set before ++ t) (ascii_char_is_written set lowers c low
-    ∙ ap (λ b. b ∷ []) (sym same))
-    ∙ ap (λ t. t ++ byte ∷ []) (sym (append-nil (normal_component lowers set before))
-    ∙ ap (λ t. normal_component lowers set before ++ t) (sym f))
+pub last_ascii_is_written_last : (set : TableSet) (lowers : Bool) (text before : List ℕ) (c : ℕ)
+    → EndsIn text before (Char c ∷ []) → c < 128 → normal_component lowers set text
+    ≡ normal_component lowers set before ++ lowered_code_if lowers c ∷ []
+last_ascii_is_written_last set lowers text before c ends low =
+    last_char_is_written_last set lowers text before c ends
+    ∙ ap (λ t. normal_component lowers set before ++ t) (ascii_char_is_written set lowers c low)

@@ -1,5 +1,5 @@
 //! The text of one token of a normal text, read from its end (RFC 3986, section 6.2.2).
-ghost use Rattle.std.specs.Prelude.{◌≡◌, ◌+◌, ◌≤◌, ◌<◌, ◌++◌, ◌∷◌, [], MatchOption, drop, encode_utf8, length, map};
+ghost use Rattle.std.specs.Prelude.{◌≡◌, ◌+◌, ◌≤◌, ◌<◌, ◌++◌, [], drop, encode_utf8, length, map};
 ghost use Rattle.uri_pct.specs.Prelude.{Octet, print, text_of_token};
 
 use crate::read_back::BLOCK;
@@ -93,18 +93,5 @@ impl Held {
         let start = put_back(false, &held[left..], block, end);
         self.len = left;
         start
-    }
-
-    /// Takes the last byte that is left.
-    #[inline(always)]
-    pub(crate) fn pop(&mut self) -> Option<u8>
-        ensures { MatchOption result ((held_text self.old ≡ []) × (held_text self.new ≡ []))
-            (λ byte. held_text self.old ≡ held_text self.new ++ byte ∷ []) }
-    {
-        if self.len == 0 {
-            return None;
-        }
-        self.len -= 1;
-        Some(self.bytes[self.len])
     }
 }

@@ -1,8 +1,8 @@
 //! The last token of a component, as normalising decodes it (RFC 3986, section 6.2.2.2; RFC 3987,
 //! section 5.3.2.3).
-ghost use Rattle.std.specs.Prelude.{◌≡◌, ◌≢◌, ◌+◌, ◌≤◌, ◌<◌, ◌∷◌, ℕ, [], IfSome, MatchOption, false, length, slice_index, true};
+ghost use Rattle.std.specs.Prelude.{◌≡◌, ◌≢◌, ◌+◌, ◌≤◌, ◌<◌, ◌∷◌, ℕ, [], MatchOption, length, slice_index, true};
 ghost use Rattle.uri_pct.specs.Prelude.{Char, IsValidFor, Octet, percent_sign, set_of, tokens, widest_set};
-ghost use Rattle.uri_ops.specs.FromEnd.LastTokens.{AreDecodable, AreNoDecodable, EndInNoOctet, EndsIn, EndsInDecodable, IsAsciiSuffix, LacksPercentThird, TokensEndInNoDecodable};
+ghost use Rattle.uri_ops.specs.FromEnd.LastTokens.{AreDecodable, AreNoDecodable, EndInNoOctet, EndsIn, EndsInDecodable, IsAsciiSuffix, TokensEndInNoDecodable};
 
 use std::str;
 use uri_pct::octet::octet_value;
@@ -40,34 +40,6 @@ pub(crate) fn split_last_char(text: &str) -> (&str, char)
         Some(ch) => (chars.as_str(), ch),
         None => unreachable!(),
     }
-}
-
-/// Returns whether the third byte from the end is `%`.
-#[inline(always)]
-fn has_percent_third(bytes: &[u8]) -> bool
-    ensures { result ≡ false → LacksPercentThird bytes.now }
-{
-    bytes.len() >= 3 && bytes[bytes.len() - 3] == b'%'
-}
-
-/// Returns the last character of the text, if it is ASCII and no octet ends the text, and the text
-/// before it.
-#[inline(always)]
-pub(crate) fn split_last_ascii(text: &str) -> Option<(&str, u8)>
-    requires { IsValidFor widest_set text.now }
-    ensures { IfSome result (λ found.
-        (found.1 < 128) × EndsIn text.now found.0.now (Char found.1 ∷ [])) }
-{
-    let bytes = text.as_bytes();
-    if bytes.is_empty() || has_percent_third(bytes) {
-        return None;
-    }
-    let end = bytes.len() - 1;
-    let byte = bytes[end];
-    if byte >= 128 {
-        return None;
-    }
-    Some((&text[..end], byte))
 }
 
 /// Returns whether the byte at an index is ASCII, and the second byte before it is not `%`.

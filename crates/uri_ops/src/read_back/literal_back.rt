@@ -57,23 +57,6 @@ impl<'a> ReadBack for LiteralBack<'a> {
 
     ghost unread = { literal_unread };
 
-    /// Takes the last byte that is left.
-    #[inline(always)]
-    fn next_back(&mut self) -> Option<u8> {
-        let text = self.text;
-        if text.is_empty() {
-            return None;
-        }
-        let end = text.len() - 1;
-        let byte = text[end];
-        self.text = &text[..end];
-        Some(if self.lowers {
-            byte.to_ascii_lowercase()
-        } else {
-            byte
-        })
-    }
-
     /// Takes the last bytes that are left.
     #[inline(always)]
     fn read_back(&mut self, block: &mut [u8; BLOCK], end: usize) -> usize {

@@ -7,27 +7,29 @@ ghost use Rattle.uri_ops.specs.Normal.{normal_path_text};
 ghost use Rattle.uri_ops.specs.Target.{guarded};
 ghost use Rattle.uri_ops.specs.FromEnd.PathBack.{path_unread};
 
+use crate::path::slashes::begins_with_two_slashes;
 use crate::read_back::literal_back::LiteralBack;
 use crate::read_back::path_back::PathBack;
-use crate::read_back::{Joined, ReadBack, join};
+use crate::read_back::{BLOCK, Joined, ReadBack, join};
 use uri_pct::encoder::PathEncoder;
 use uri_pct::pct_enc::EStr;
 
 /// The path after the guard `/.`, or after nothing.
 pub type NormalPathBack<'a> = Joined<LiteralBack<'a>, PathBack<'a>>;
 
-/// Returns whether a text begins with `//`. It is read to its start.
+/// Returns whether a text begins with `//`. It is read to its start. The first two bytes of a full
+/// block stay in it, since the text may begin there.
 fn is_read_with_two_slashes<A: ReadBack>(text: A) -> bool
     ensures { result ≡ has_authority (A.unread text) }
 {
     let mut text = text;
-    let mut first = 0;
-    let mut second = 0;
-    while let Some(byte) = text.next_back() {
-        second = first;
-        first = byte;
+    let mut block = [0; BLOCK];
+    let mut start = text.read_back(&mut block, BLOCK);
+    while start == 0 {
+        block.copy_within(..2, BLOCK - 2);
+        start = text.read_back(&mut block, BLOCK - 2);
     }
-    first == b'/' && second == b'/'
+    begins_with_two_slashes(&block[start..])
 }
 
 /// Returns what a normal text has before a path under a scheme: `/.` if the path would otherwise be

@@ -1,13 +1,12 @@
 //! A component of a normal text, read from its end (RFC 3986, section 6.2.2.2; RFC 3987, sections
 //! 4.1 and 5.3.2.3).
-ghost use Rattle.std.specs.Prelude.{◌≡◌, ◌≤◌, ◌<◌, ◌++◌, ◌∷◌, [], IfSome, None, drop, length};
+ghost use Rattle.std.specs.Prelude.{◌≡◌, ◌≤◌, ◌<◌, ◌++◌, [], drop, length};
 ghost use Rattle.uri_pct.specs.Prelude.{IsValidFor, set_of, widest_set};
 ghost use Rattle.uri_ops.specs.FromEnd.Held.{held_text};
 ghost use Rattle.uri_ops.specs.FromEnd.NormalComponents.{normal_component};
 
-use crate::normalize::literal_runs::lowered_code_if;
 use crate::read_back::held::Held;
-use crate::read_back::last_tokens::{ascii_suffix_start, split_last_ascii};
+use crate::read_back::last_tokens::ascii_suffix_start;
 use crate::read_back::literal_back::put_back;
 use crate::read_back::normal_tokens::split_last_token;
 use crate::read_back::{BLOCK, ReadBack};
@@ -41,29 +40,6 @@ impl<'a> OctetsBack<'a> {
         }
     }
 
-    /// Takes the last byte that is left, if there is one.
-    pub(crate) fn next_back(&mut self) -> Option<u8>
-        ensures some { IfSome result (λ byte.
-            octets_unread self.old ≡ octets_unread self.new ++ byte ∷ []) }
-        ensures none { result ≡ None → octets_unread self.old ≡ [] }
-        ensures end { result ≡ None → octets_unread self.new ≡ [] }
-    {
-        if let Some(byte) = self.held.pop() {
-            return Some(byte);
-        }
-        if self.rest.is_empty() {
-            return None;
-        }
-        if let Some((rest, byte)) = split_last_ascii(self.rest) {
-            self.rest = rest;
-            return Some(lowered_code_if(self.lowers, byte));
-        }
-        let (rest, held) = split_last_token(&self.table, self.lowers, self.rest);
-        self.rest = rest;
-        self.held = held;
-        self.held.pop()
-    }
-
     /// Takes the ASCII that ends what is left and is in no octet, or the last token, and puts its
     /// last bytes into the block before `end`. Returns where they begin.
     fn read_last(&mut self, block: &mut [u8; BLOCK], end: usize) -> usize
@@ -89,22 +65,6 @@ impl<'a> OctetsBack<'a> {
         self.rest = &rest[..start];
         put_back(self.lowers, &bytes[start..], block, end)
     }
-
-    /// Takes the last bytes that are left and puts them into the block before `end`. Returns where
-    /// they begin.
-    pub(crate) fn read_back(&mut self, block: &mut [u8; BLOCK], end: usize) -> usize
-        requires { end ≤ 1024 }
-        ensures text { octets_unread self.old ++ drop end block.old
-            ≡ octets_unread self.new ++ drop result block.new }
-        ensures within { result ≤ end }
-        ensures end { 0 < result → octets_unread self.new ≡ [] }
-    {
-        let mut start = self.held.read_back(block, end);
-        while start > 0 && !self.rest.is_empty() {
-            start = self.read_last(block, start);
-        }
-        start
-    }
 }
 
 impl<'a> ReadBack for OctetsBack<'a> {
@@ -112,13 +72,12 @@ impl<'a> ReadBack for OctetsBack<'a> {
 
     ghost unread = { octets_unread };
 
-    /// Takes the last byte that is left of the component, if there is one.
-    fn next_back(&mut self) -> Option<u8> {
-        OctetsBack::next_back(self)
-    }
-
     /// Takes the last bytes that are left of the component.
     fn read_back(&mut self, block: &mut [u8; BLOCK], end: usize) -> usize {
-        OctetsBack::read_back(self, block, end)
+        let mut start = self.held.read_back(block, end);
+        while start > 0 && !self.rest.is_empty() {
+            start = self.read_last(block, start);
+        }
+        start
     }
 }

@@ -108,21 +108,6 @@ impl<'a> ReadBack for PathBack<'a> {
 
     ghost unread = { path_unread };
 
-    /// Takes the last byte that is left of the path, if there is one.
-    fn next_back(&mut self) -> Option<u8> {
-        if let Some(byte) = self.segment.next_back() {
-            return Some(byte);
-        }
-        if !self.begin_segment() {
-            return None;
-        }
-        if let Some(byte) = self.segment.next_back() {
-            return Some(byte);
-        }
-        self.follows_slash = false;
-        Some(b'/')
-    }
-
     /// Takes the last bytes that are left of the path.
     #[tactic(auto, using(crate::proofs::FromEnd::Blocks::segment_is_read, crate::proofs::FromEnd::Blocks::slash_is_read))]
     fn read_back(&mut self, block: &mut [u8; BLOCK], end: usize) -> usize {

@@ -1,10 +1,16 @@
-use Rattle.uri_ops.proofs.Common.{◌≡◌, ◌++◌, ℕ, List, get_or, length}
+-- What is left and the block begin with `//` exactly if the text does. Nothing is left unless the
+-- block is full.
+use Rattle.uri_ops.proofs.Common.{◌≡◌, ◌≤◌, ◌<◌, ◌++◌, [], length, drop, has_authority}
 use Rattle.uri_ops.proofs.read_back.normal_path.is_read_with_two_slashes.Given as goal
 
-abbrev pub invariant-loop-byte : goal.invariant-loop-byte
-invariant-loop-byte g l = (end : List ℕ)
-    × ((g.A.ReadBack.unread l.fn.text ≡ g.A.ReadBack.unread l.text ++ end)
-    × ((l.first ≡ get_or end 0 0) × (l.second ≡ get_or end 1 0)))
+abbrev pub invariant-loop-start : goal.invariant-loop-start
+invariant-loop-start g l = record {
+  within : l.start ≤ 1024;
+  same : has_authority (g.A.ReadBack.unread l.fn.text)
+      ≡ has_authority (g.A.ReadBack.unread l.text ++ drop l.start l.block);
+  last : 0 < l.start → g.A.ReadBack.unread l.text ≡ [];
+}
 
-abbrev pub decreases-loop-byte : goal.decreases-loop-byte
-decreases-loop-byte g l = length (g.A.ReadBack.unread l.text)
+abbrev pub decreases-loop-start : goal.decreases-loop-start
+decreases-loop-start g l =
+    length (g.A.ReadBack.unread l.text ++ drop l.start l.block)

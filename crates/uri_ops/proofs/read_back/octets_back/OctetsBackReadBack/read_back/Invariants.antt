@@ -1,7 +1,7 @@
 -- The bytes that were taken are in the block from `start` on, and what was held is among them if
 -- the block is not full.
 use Rattle.uri_ops.proofs.Common.{◌≡◌, ◌≤◌, ◌<◌, ◌++◌, [], length, drop, held_text, octets_unread}
-use Rattle.uri_ops.proofs.read_back.octets_back.OctetsBack.read_back.Given as goal
+use Rattle.uri_ops.proofs.read_back.octets_back.OctetsBackReadBack.read_back.Given as goal
 
 abbrev pub invariant-loop-start : goal.invariant-loop-start
 invariant-loop-start l = record {
