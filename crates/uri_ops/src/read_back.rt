@@ -7,6 +7,7 @@ pub(crate) mod last_tokens;
 pub mod literal_back;
 pub mod normal_authority;
 pub mod normal_back;
+pub mod normal_block;
 pub(crate) mod normal_path;
 pub(crate) mod normal_tokens;
 pub(crate) mod octets_back;
@@ -29,18 +30,6 @@ pub trait ReadBack: Copy + Drop {
             ≡ unread self.new ++ drop result block.new }
         ensures within { result ≤ end }
         ensures end { 0 < result → unread self.new ≡ [] };
-
-    /// Puts all that is left of the text into the block before `end`. Returns where it begins, or 0
-    /// if there is no room for it and one byte more. By value no part of a text is in memory.
-    #[inline(always)]
-    fn put_whole(self, block: &mut [u8; BLOCK], end: usize) -> usize
-        requires { end ≤ 1024 }
-        ensures text { 0 < result → drop result block.new ≡ unread self ++ drop end block.old }
-        ensures within { result ≤ end }
-    {
-        let mut text = self;
-        text.read_back(block, end)
-    }
 }
 
 /// Two texts, one after the other.
@@ -62,13 +51,6 @@ impl<A: ReadBack, B: ReadBack> ReadBack for Joined<A, B> {
             return 0;
         }
         self.front.read_back(block, start)
-    }
-
-    /// Puts all that is left of the second text into the block, and then of the first.
-    #[inline(always)]
-    fn put_whole(self, block: &mut [u8; BLOCK], end: usize) -> usize {
-        let start = self.back.put_whole(block, end);
-        self.front.put_whole(block, start)
     }
 }
 

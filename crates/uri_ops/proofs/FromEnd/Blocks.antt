@@ -2,7 +2,7 @@
 use Rattle.uri_ops.proofs.Common.{common_steps, ◌≡◌, ◌↔◌, ℕ, ◌<◌, ◌≤◌, ◌+◌, ◌-◌, Bool, true, false, List, [], ◌∷◌, ◌++◌, length, take, drop, refl, sym, ap, ◌∙◌, arith, append_assoc, ⊎_elim, cases_lt, append-nil, length-append, get_or-take, length-drop, length-take-le, drop_all, drop_at, map-append, take-append-drop, take_all, to_ascii_lowercase, cased, has_authority}
 use Rattle.std.proofs.lemmas.List.{append_cancel_right}
 use Rattle.std.specs.List.{copy_within}
-use Rattle.uri_ops.specs.FromEnd.Blocks.{IsLastBlock}
+use Rattle.uri_ops.specs.FromEnd.Blocks.{IsLastBlock, IsPut}
 
 cased_texts_append : (lowers : Bool) (one other : List ℕ)
     → cased lowers (one ++ other) ≡ cased lowers one ++ cased lowers other
@@ -91,3 +91,17 @@ pub rest_of_block_is_text : (start : ℕ) (text block : List ℕ) → length blo
     → drop start block ≡ text → take (1024 - start) (drop start block) ≡ text
 rest_of_block_is_text start text block size is =
     take_all (1024 - start) (drop start block) (omega (arith, size, length-drop start block)) ∙ is
+
+-- blocks: a text is put before another one
+pub put_before : (text rest : List ℕ) (end middle start : ℕ) (before between after : List ℕ)
+    → start ≤ middle → IsPut rest end before middle between → IsPut text middle between start after
+    → IsPut (text ++ rest) end before start after
+put_before text rest end middle start before between after within put_rest put_text =
+    grind (arith, append_assoc)
+
+-- blocks: a text that was put is the slice from its start to where it ends
+pub put_text_is_slice : (text : List ℕ) (end start : ℕ) (before after : List ℕ)
+    → length before ≡ 1024 → length after ≡ 1024 → end ≤ 1024 → start ≤ end
+    → IsPut text end before start after → 0 < start → take (end - start) (drop start after) ≡ text
+put_text_is_slice text end start before after m n fits within put some =
+    grind (arith, common_steps)

@@ -1,5 +1,5 @@
 -- The components of a normal text, in the pieces that they are read in.
-use Rattle.uri_ops.proofs.Common.{arith, ◌≡◌, ℕ, Bool, true, false, List, [], ◌++◌, refl, sym, ap, ◌∙◌, eqb, length, option_map, Option, Some, None, is_some, str_to_ascii_lowercase, cond-false, cond-true, eqb-true, append-nil, nil_from_length, decode_unreserved, TableSet, print, is_some-option_map, Components, starts, Kind, host_kind, ipv4_value, ipv6_value, literal_kind, literal_of, name_kind, PortFunction, remove_dot_segments, components_meaning, host_meaning, host_text, normal_authority, normal_path, normal_path_text, guarded, normal_component}
+use Rattle.uri_ops.proofs.Common.{arith, ◌≡◌, ℕ, Bool, true, false, List, [], ◌++◌, refl, sym, ap, ◌∙◌, eqb, length, option_map, Option, Some, None, is_some, str_to_ascii_lowercase, cond-false, cond-true, eqb-true, append-nil, nil_from_length, decode_unreserved, TableSet, print, is_some-option_map, Components, starts, Kind, host_kind, ipv4_value, ipv6_value, literal_kind, literal_of, name_kind, PortFunction, remove_dot_segments, components_meaning, host_meaning, host_text, normal_authority, normal_path, normal_path_text, guarded, has_authority, normal_component}
 use Rattle.uri_ops.specs.FromEnd.Addresses.{ipv6_host_text}
 use Rattle.uri_ops.proofs.FromEnd.NormalTokens.{nothing_is_left}
 
@@ -36,6 +36,17 @@ pub normal_path_under_scheme : (set : TableSet) (scheme authority : Option (List
 normal_path_under_scheme set None authority path e s = cc
 normal_path_under_scheme set (Some scheme) authority path e s =
     ap (λ t. guarded authority (print (decode_unreserved set t))) (sym (cond-true _ _ _ s))
+
+-- normal paths: only one that would be parsed as an authority, where there is none, is guarded
+pub path_after_authority_is_unguarded : (authority : Option (List ℕ)) (path : List ℕ)
+    → is_some authority ≡ true → guarded authority path ≡ path
+path_after_authority_is_unguarded None path none = cc
+path_after_authority_is_unguarded (Some authority) path some = refl
+
+pub path_without_two_slashes_is_unguarded : (authority : Option (List ℕ)) (path : List ℕ)
+    → has_authority path ≡ false → guarded authority path ≡ path
+path_without_two_slashes_is_unguarded None path none = cond-false _ _ _ none
+path_without_two_slashes_is_unguarded (Some authority) path none = refl
 
 pub normal_path_of_components : (kind : Kind) (ports : PortFunction) (p : Components)
     → (let m = components_meaning kind ports p in

@@ -88,6 +88,9 @@ impl Held {
         ensures within { result ≤ end }
         ensures end { 0 < result → held_text self.new ≡ [] }
     {
+        if self.len == 0 {
+            return end;
+        }
         let held = &self.bytes[..self.len];
         let left = held.len() - held.len().min(end);
         let start = put_back(false, &held[left..], block, end);

@@ -2,6 +2,7 @@
 //! 4.1 and 5.3.2.3).
 ghost use Rattle.std.specs.Prelude.{◌≡◌, ◌≤◌, ◌<◌, ◌++◌, [], drop, length};
 ghost use Rattle.uri_pct.specs.Prelude.{IsValidFor, set_of, widest_set};
+ghost use Rattle.uri_ops.specs.FromEnd.Blocks.{IsPut};
 ghost use Rattle.uri_ops.specs.FromEnd.Held.{held_text};
 ghost use Rattle.uri_ops.specs.FromEnd.NormalComponents.{normal_component};
 
@@ -65,6 +66,27 @@ impl<'a> OctetsBack<'a> {
         self.rest = &rest[..start];
         put_back(self.lowers, &bytes[start..], block, end)
     }
+}
+
+/// Puts the normal text of a component into the block before `end`. Returns where it begins, or 0
+/// if there is no room for it and one byte more.
+///
+/// It is a function of its own, so that what is left of a component is in memory here alone.
+#[inline(never)]
+pub(crate) fn put_component(
+    table: &Table,
+    lowers: bool,
+    text: &str,
+    block: &mut [u8; BLOCK],
+    end: usize,
+) -> usize
+    requires valid { IsValidFor widest_set text.now }
+    requires end { end ≤ 1024 }
+    ensures text { IsPut (normal_component lowers (set_of table.now) text.now) end block.old
+        result block.new }
+    ensures within { result ≤ end }
+{
+    OctetsBack::new(table, lowers, text).read_back(block, end)
 }
 
 impl<'a> ReadBack for OctetsBack<'a> {

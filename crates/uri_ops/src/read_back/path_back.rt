@@ -1,14 +1,15 @@
 //! The path of a normal form, read from its end (RFC 3986, sections 6.2.2.2 and 6.2.2.3).
-ghost use Rattle.std.specs.Prelude.{◌≡◌, [], false, true, if◌then◌else◌};
+ghost use Rattle.std.specs.Prelude.{◌≡◌, ◌≤◌, [], false, true, if◌then◌else◌};
 ghost use Rattle.std.specs.Str.{is_utf8};
 ghost use Rattle.uri_pct.specs.Prelude.{IsValidFor, set_of, widest_set};
 ghost use Rattle.uri_ops.specs.Dots.{IsAbsolute, remove_dot_segments};
+ghost use Rattle.uri_ops.specs.FromEnd.Blocks.{IsPut};
 ghost use Rattle.uri_ops.specs.FromEnd.NormalComponents.{normal_component};
 ghost use Rattle.uri_ops.specs.FromEnd.SegmentsLeft.{is_abempty_path, segments_left};
 ghost use Rattle.uri_ops.specs.FromEnd.OctetsBack.{octets_unread};
 
 use crate::path::dot_segments::has_dot_segments;
-use crate::read_back::octets_back::OctetsBack;
+use crate::read_back::octets_back::{OctetsBack, put_component};
 use crate::read_back::segments_back::{ends_in_dot_segment, split_last_segment};
 use crate::read_back::{BLOCK, ReadBack};
 use uri_pct::table::Table;
@@ -123,4 +124,27 @@ impl<'a> ReadBack for PathBack<'a> {
         }
         end
     }
+}
+
+/// Puts the path of a normal form into the block before `end`. If `removes_dots`, it is without its
+/// dot segments. Returns where it begins, or 0 if there is no room for it and one byte more.
+pub(crate) fn put_decoded_path(
+    table: &Table,
+    path: &str,
+    removes_dots: bool,
+    block: &mut [u8; BLOCK],
+    end: usize,
+) -> usize
+    requires absolute { removes_dots ≡ true → IsAbsolute path.now }
+    requires valid { IsValidFor widest_set path.now }
+    requires end { end ≤ 1024 }
+    ensures text { IsPut (normal_component false (set_of table.now)
+        (if removes_dots then remove_dot_segments path.now else path.now))
+        end block.old result block.new }
+    ensures within { result ≤ end }
+{
+    if removes_dots && has_dot_segments(path) {
+        return PathBack::dotless(table, path).read_back(block, end);
+    }
+    put_component(table, false, path, block, end)
 }

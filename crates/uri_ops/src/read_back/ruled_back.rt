@@ -10,6 +10,7 @@ ghost use Rattle.uri_ops.specs.SchemeRules.{meaning_under};
 use crate::normalize::ruled_parts::{ruled_authority, ruled_path};
 use crate::read_back::normal_authority::ipv6_host_of;
 use crate::read_back::normal_back::{NormalBack, normal_back};
+use crate::read_back::normal_block::put_normal_text;
 use crate::read_back::{BLOCK, ReadBack, is_read_as};
 use crate::scheme_rules::SchemeRules;
 use uri_parts::component::Authority;
@@ -35,22 +36,6 @@ pub fn ruled_back<'a, K: Kind, S: SchemeRules>(
     // What `as_str` promises of the text is used by the proof.
     let _text = core.as_str();
     normal_back(core, authority, ruled_path(core, rules), rules, address)
-}
-
-/// Puts the normal text of a value at the end of the block. Returns where it begins, or 0 if it is
-/// as long as the block or longer.
-pub fn put_normal_text<K: Kind, S: SchemeRules>(
-    core: Core<K, &str>,
-    rules: &S,
-    block: &mut [u8; BLOCK],
-) -> usize
-    ensures text { 0 < result → drop result block.new
-        ≡ normal_text (meaning_under K.kind (S.rules_of rules.now) (core_text core.entry)) }
-    ensures within { result ≤ 1024 }
-{
-    let authority = ruled_authority(core, rules);
-    let (host, end) = ipv6_host_of(authority);
-    ruled_back(core, authority, rules, &host[..end]).put_whole(block, BLOCK)
 }
 
 /// Returns whether the normal text of a value is this one. Takes no memory.

@@ -1,0 +1,10 @@
+use Rattle.uri_ops.proofs.Common.{arith, holds}
+use Rattle.uri_ops.proofs.Meanings.BracketedHosts.{normal-name-is-lowered-decoded}
+use Rattle.uri_ops.proofs.Meanings.Decodable.{unbracketed-host-is-decodable}
+use Rattle.uri_ops.proofs.read_back.normal_block.put_host.Goals as goal
+
+pub put_component-requires-clause-valid : goal.put_component-requires-clause-valid
+put_component-requires-clause-valid g c = grind (arith, holds, unbracketed-host-is-decodable)
+
+pub returns-clause-text : goal.returns-clause-text
+returns-clause-text g c = grind (arith, normal-name-is-lowered-decoded)
