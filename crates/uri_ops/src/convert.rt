@@ -1,7 +1,6 @@
 //! Whether a value of one kind is one of another.
-ghost use Rattle.std.specs.Prelude.{◌≡◌, ◌↔◌, ℕ, List, None, is_some};
+ghost use Rattle.std.specs.Prelude.{◌≡◌, ◌↔◌, ℕ, List, None, is_some, IsUtf8};
 ghost use Rattle.std.specs.Result.{result_err};
-ghost use Rattle.std.specs.Str.{IsUtf8};
 ghost use Rattle.uri_parts.specs.Prelude.{IsOfKind, components, core_text, iri, iri_ref, uri, uri_ref};
 ghost use Rattle.uri_ops.specs.Conversions.{first_past_ascii, missing_scheme_error, not_ascii_error, uri_conversion_error};
 

@@ -1,6 +1,5 @@
 //! Laws of the definitions that contracts cite, each the contract of a function that does nothing.
-ghost use Rattle.std.specs.Prelude.{◌≡◌, ◌↔◌, ◌≤◌, ◌++◌, ◌||◌, ℕ, List, [], true, false, length, is_some};
-ghost use Rattle.std.specs.Str.{IsUtf8};
+ghost use Rattle.std.specs.Prelude.{◌≡◌, ◌↔◌, ◌≤◌, ◌++◌, ◌||◌, ℕ, List, [], true, false, length, is_some, IsUtf8};
 ghost use Rattle.uri_pct.specs.Prelude.{IsSubset, IsValidFor, LacksPercent, TableSet, decode_unreserved, number_sign, print, unreserved_set};
 ghost use Rattle.uri_parts.specs.Prelude.{AuthorityParts, HostKind, IsAbemptyPath, IsAuthorityFor, IsHost, IsInGrammar, IsOfKind, IsSplitOf, authority_parts, components, host_kind, iri, iri_ref, recompose, starts, uri, uri_ref};
 ghost use Rattle.uri_ops.specs.Dots.{is_empty, remove_dot_segments, underflows, directory, lacks_dot_segments, buffers_after_removal, IsAbsolute, EndsInSlash};

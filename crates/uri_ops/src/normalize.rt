@@ -1,6 +1,5 @@
 //! Normalising references (RFC 3986, sections 6.2.2 and 6.2.3; RFC 3987, section 5.3.2).
-ghost use Rattle.std.specs.Prelude.{◌≡◌, IfOk, IfErr, true, false, string_bytes};
-ghost use Rattle.std.specs.Str.{IsUtf8};
+ghost use Rattle.std.specs.Prelude.{◌≡◌, IfOk, IfErr, true, false, string_bytes, IsUtf8};
 ghost use Rattle.uri_parts.specs.Prelude.{ArePackedPositionsOf, IsOfKind, core_text};
 ghost use Rattle.uri_ops.specs.ComponentSets.{HasComponentSets};
 ghost use Rattle.uri_ops.specs.Normalizers.{HasNormalText, IsNormalForm, normalizer_allows_underflow, scheme_rules_of, text_underflows};

@@ -2,8 +2,7 @@
 //!
 //! What passes as a name and a port is a prefix of userinfo. So nothing is scanned again to
 //! distinguish the two, nor to find where and why an authority is rejected.
-ghost use Rattle.std.specs.Prelude.{◌≡◌, ◌≤◌, ◌+◌, drop, length, true, IfErr, IfOk, IfSome, OnOk, Some, Ok, IfNone, IsTrue, ◌<◌, false};
-ghost use Rattle.std.specs.Str.{IsCharBoundary};
+ghost use Rattle.std.specs.Prelude.{◌≡◌, ◌≤◌, ◌+◌, drop, length, true, IfErr, IfOk, IfSome, OnOk, Some, Ok, IfNone, IsTrue, ◌<◌, false, IsCharBoundary};
 ghost use Rattle.uri_pct.specs.Prelude.{left_bracket, valid_prefix};
 ghost use Rattle.uri_parts.specs.Models.AuthorityParsing.{port_length, name_and_port_length, name_ends_authority, host_end, host_and_port_length, further_userinfo_length};
 ghost use Rattle.std.specs.Option.{option_or};

@@ -1,7 +1,6 @@
 //! A text of a kind with the positions of its components: what every value of a kind holds.
-ghost use Rattle.std.specs.Prelude.{◌≡◌, ◌↔◌, [], IfErr, IfOk, IsOk, MatchResult, None, Some, is_some, option_map, true, ⊤};
+ghost use Rattle.std.specs.Prelude.{◌≡◌, ◌↔◌, [], IfErr, IfOk, IsOk, MatchResult, None, Some, is_some, option_map, true, ⊤, IsUtf8};
 ghost use Rattle.std.specs.Result.{result_err};
-ghost use Rattle.std.specs.Str.{IsUtf8};
 ghost use Rattle.uri_parts.specs.Components.{components};
 ghost use Rattle.uri_parts.specs.Errors.{IsErrorIn};
 ghost use Rattle.uri_parts.specs.Refusals.{refusal};

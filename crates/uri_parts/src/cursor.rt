@@ -1,7 +1,6 @@
 //! A position in a text.
-ghost use Rattle.std.specs.Prelude.{◌≡◌, ◌<◌, ◌+◌, ◌==◌, ℕ, Ok, drop, codes, OnOk, IfErr, IfOk, IsTrue, false, if◌then◌else◌, ⊤};
+ghost use Rattle.std.specs.Prelude.{◌≡◌, ◌<◌, ◌+◌, ◌==◌, ℕ, Ok, drop, codes, OnOk, IfErr, IfOk, IsTrue, false, if◌then◌else◌, ⊤, IsCharBoundary};
 ghost use Rattle.std.specs.Result.{result_err};
-ghost use Rattle.std.specs.Str.{IsCharBoundary};
 ghost use Rattle.uri_pct.specs.Prelude.{after, set_of, valid_prefix};
 ghost use Rattle.uri_parts.specs.Models.AuthorityParsing.{is_empty_or_begins_with_any};
 ghost use Rattle.uri_parts.specs.Components.{starts, has_authority, is_end};

@@ -1,10 +1,9 @@
 //! Addresses in brackets (RFC 3986, section 3.2.2).
-ghost use Rattle.std.specs.Prelude.{◌≡◌, ◌≤◌, ◌<◌, ◌+◌, length, IsTrue, IfSome, IfOk, IfErr, is_ok, drop, ◌||◌, ◌&&◌, not, nat_lt, Ok, Err, None, true, false, if◌then◌else◌};
+ghost use Rattle.std.specs.Prelude.{◌≡◌, ◌≤◌, ◌<◌, ◌+◌, length, IsTrue, IfSome, IfOk, IfErr, is_ok, drop, ◌||◌, ◌&&◌, not, nat_lt, Ok, Err, None, true, false, if◌then◌else◌, IsCharBoundary};
 ghost use Rattle.uri_parts.specs.Errors.{error_index};
 ghost use Rattle.uri_parts.specs.Components.{is_end, starts};
 ghost use Rattle.uri_parts.specs.LiteralErrors.{digits_end as digits_end_at, octet_end as octet_end_at, ipv4_end as ipv4_end_at, literal, groups_from, after_elision, ipv6_end as ipv6_end_at, cannot_begin_ipv6 as is_no_ipv6_at};
 ghost use Rattle.uri_parts.specs.Scanning.{scan_to_mark};
-ghost use Rattle.std.specs.Str.{IsCharBoundary};
 ghost use Rattle.uri_pct.specs.Prelude.{full_stop, hexdig_set, ipv_future_set, right_bracket, set_of};
 ghost use Rattle.uri_parts.specs.Models.LiteralGroups.{groups_of_end, EndsAtBoundary};
 ghost use Rattle.uri_parts.specs.Models.Literals.{LacksVersionLetter};

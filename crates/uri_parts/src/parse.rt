@@ -1,6 +1,5 @@
 //! The parser of the four kinds.
-ghost use Rattle.std.specs.Prelude.{◌≡◌, ◌↔◌, ◌<◌, IfErr, IfOk, IsOk, IsTrue, Some, None, ◌+◌, OnOk, drop};
-ghost use Rattle.std.specs.Str.{IsCharBoundary};
+ghost use Rattle.std.specs.Prelude.{◌≡◌, ◌↔◌, ◌<◌, IfErr, IfOk, IsOk, IsTrue, Some, None, ◌+◌, OnOk, drop, IsCharBoundary};
 ghost use Rattle.std.specs.Option.{option_or};
 ghost use Rattle.std.specs.Result.{result_err};
 ghost use Rattle.uri_parts.specs.Models.AuthorityParsing.{host_end, host_and_port_length};

@@ -1,6 +1,5 @@
 //! Ports as numbers (RFC 3986, section 3.2.3).
-ghost use Rattle.std.specs.Prelude.{◌≡◌, IfErr};
-ghost use Rattle.std.specs.Result.{OkIff};
+ghost use Rattle.std.specs.Prelude.{◌≡◌, IfErr, OkIff};
 ghost use Rattle.std.specs.Str.Parse.{error_kind};
 ghost use Rattle.std.specs.declared.num.IntErrorKind.TheVariants.{PosOverflow};
 ghost use Rattle.uri_parts.specs.Authority.{authority_parts};

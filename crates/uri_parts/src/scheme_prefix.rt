@@ -1,7 +1,6 @@
 //! How a text begins that is parsed: its scheme, and the `://` after it.
-ghost use Rattle.std.specs.Prelude.{◌≡◌, ◌+◌, ◌&&◌, IfSome, drop, slice_index, true, IsTrue, if◌then◌else◌};
+ghost use Rattle.std.specs.Prelude.{◌≡◌, ◌+◌, ◌&&◌, IfSome, drop, slice_index, true, IsTrue, if◌then◌else◌, IsCharBoundary};
 ghost use Rattle.std.specs.Char.{is_ascii_alphabetic};
-ghost use Rattle.std.specs.Str.{IsCharBoundary};
 ghost use Rattle.uri_pct.specs.Prelude.{after, colon, scheme_set, valid_prefix};
 ghost use Rattle.uri_parts.specs.Components.{starts, has_authority};
 ghost use Rattle.uri_parts.specs.Models.Cursors.{text_after_cursor, cursor_text, cursor_position};

@@ -1,6 +1,5 @@
 //! Percent-encoding of texts and bytes (RFC 3986, section 2.1).
-ghost use Rattle.std.specs.Prelude.{◌≡◌, ◌≤◌, ◌<◌, ◌++◌, ℕ, List, false, OnOk, OnErr, length, map, take, drop, encode_utf8, string_bytes};
-ghost use Rattle.std.specs.Str.{IsCharBoundary};
+ghost use Rattle.std.specs.Prelude.{◌≡◌, ◌≤◌, ◌<◌, ◌++◌, ℕ, List, false, OnOk, OnErr, length, map, take, drop, encode_utf8, string_bytes, IsCharBoundary};
 ghost use Rattle.uri_pct.specs.Encoding.{encode_text, encode_bytes, IsEncodedBy};
 ghost use Rattle.uri_pct.specs.Sets.{allows};
 ghost use Rattle.uri_pct.specs.Tables.{set_of};

@@ -1,6 +1,5 @@
 //! How far a table allows a text.
-ghost use Rattle.std.specs.Prelude.{◌≡◌, ◌<◌, ◌≤◌, ◌+◌, IsTrue, false, true, length, drop, slice_index};
-ghost use Rattle.std.specs.Str.{IsCharBoundary};
+ghost use Rattle.std.specs.Prelude.{◌≡◌, ◌<◌, ◌≤◌, ◌+◌, IsTrue, false, true, length, drop, slice_index, IsCharBoundary};
 ghost use Rattle.uri_pct.specs.Delimiters.{percent_sign};
 ghost use Rattle.uri_pct.specs.Masks.{has_bit as has_bit_of, has_bit};
 ghost use Rattle.uri_pct.specs.Models.ByteRuns.{IsLongestRun, is_char_byte};

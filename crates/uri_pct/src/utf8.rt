@@ -1,7 +1,6 @@
 //! Characters of a text in UTF-8.
-ghost use Rattle.std.specs.Prelude.{◌≡◌, ◌<◌, ◌+◌, ◌++◌, length, drop, encode_utf8};
+ghost use Rattle.std.specs.Prelude.{◌≡◌, ◌<◌, ◌+◌, ◌++◌, length, drop, encode_utf8, IsCharBoundary};
 ghost use Rattle.std.specs.Char.{len_utf8};
-ghost use Rattle.std.specs.Str.{IsCharBoundary};
 
 /// Returns the character that begins at `index`, a byte offset.
 #[doc(hidden)]

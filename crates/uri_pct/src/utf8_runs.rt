@@ -1,6 +1,5 @@
 //! Octets that are decoded as UTF-8.
-ghost use Rattle.std.specs.Prelude.{◌≡◌, ◌<◌, IfOk, OnOk, IsTrue, List, [], ◌∷◌, ◌++◌, length, map};
-ghost use Rattle.std.specs.Str.{IsUtf8};
+ghost use Rattle.std.specs.Prelude.{◌≡◌, ◌<◌, IfOk, OnOk, IsTrue, List, [], ◌∷◌, ◌++◌, length, map, IsUtf8};
 ghost use Rattle.uri_pct.specs.Chunks.{Chunk, Byte};
 ghost use Rattle.uri_pct.specs.Decodes.{chunk_of, undecoded};
 ghost use Rattle.uri_pct.specs.Models.Windows.{window_bytes};

@@ -1,11 +1,10 @@
 //! Hosts and ports as a builder takes them (RFC 3986, sections 3.2.2 and 3.2.3).
-ghost use Rattle.std.specs.Prelude.{◌≡◌, OnOk, true, ℕ, List};
+ghost use Rattle.std.specs.Prelude.{◌≡◌, OnOk, true, ℕ, List, decimal};
 ghost use Rattle.uri_pct.specs.Prelude.{Pushes, digit_set, text_of};
 ghost use Rattle.uri_ops.specs.HostParts.{IsHostText, ip_host};
 ghost use Rattle.std.specs.Net.Text.{ipv4_text, ipv6_text};
 ghost use Rattle.uri_parts.specs.Prelude.{bracketed, ipv4_octets, ipv6_segments};
 ghost use Rattle.uri_ops.specs.BuilderParts.{is_text_for};
-ghost use Rattle.std.specs.Fmt.{decimal};
 
 use std::alloc::AllocError;
 use std::fmt::Write;

@@ -1,6 +1,5 @@
 //! Texts whose characters past ASCII are replaced by their octets (RFC 3987, section 3.1).
-ghost use Rattle.std.specs.Prelude.{◌≡◌, ◌≤◌, ◌<◌, ◌+◌, ◌*◌, ◌++◌, [], IfOk, OnOk, length, take, option_map, slice_index, string_bytes};
-ghost use Rattle.std.specs.Str.{IsUtf8};
+ghost use Rattle.std.specs.Prelude.{◌≡◌, ◌≤◌, ◌<◌, ◌+◌, ◌*◌, ◌++◌, [], IfOk, OnOk, length, take, option_map, slice_index, string_bytes, IsUtf8};
 ghost use Rattle.uri_parts.specs.Prelude.{ArePackedPositionsOf, IsOfKind};
 ghost use Rattle.uri_ops.specs.Encoded.{encode_past_ascii};
 ghost use Rattle.uri_ops.specs.Models.EncodedPlaces.{ArePositionsOrdered, AreAuthorityPositionsOrdered, authority_positions_in_encoded, position_in_encoded, positions_in_encoded};

@@ -1,8 +1,7 @@
 //! Formatting characters of bidirectional text, which an IRI must not contain (RFC 3987, section
 //! 4.1).
-ghost use Rattle.std.specs.Prelude.{◌≡◌, ◌++◌, OnOk, string_bytes, take, drop};
+ghost use Rattle.std.specs.Prelude.{◌≡◌, ◌++◌, OnOk, string_bytes, take, drop, IsCharBoundary, chars};
 ghost use Rattle.std.specs.List.{list_any};
-ghost use Rattle.std.specs.Str.{IsCharBoundary, chars};
 ghost use Rattle.uri_pct.specs.Prelude.{encoded_formatting_char, encoded_formatting_text, is_bidi_formatting};
 
 use std::alloc::AllocError;

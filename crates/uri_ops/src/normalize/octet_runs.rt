@@ -1,7 +1,6 @@
 //! Long runs of octets of unreserved characters, decoded sixteen at a time (RFC 3986, section
 //! 6.2.2.2).
-ghost use Rattle.std.specs.Prelude.{◌≡◌, ◌≤◌, ◌+◌, ◌*◌, ◌++◌, IfOk, drop, length, string_bytes, take};
-ghost use Rattle.std.specs.Str.{IsAscii, IsCharBoundary};
+ghost use Rattle.std.specs.Prelude.{◌≡◌, ◌≤◌, ◌+◌, ◌*◌, ◌++◌, IfOk, drop, length, string_bytes, take, IsAscii, IsCharBoundary};
 ghost use Rattle.uri_pct.specs.Prelude.{IsValidFor, TableSet, widest_set};
 ghost use Rattle.uri_ops.specs.Models.Decodings.{decoded_text};
 

@@ -1,7 +1,6 @@
 //! Single octets of ASCII, decoded if unreserved (RFC 3986, sections 6.2.2.1 and 6.2.2.2).
-ghost use Rattle.std.specs.Prelude.{◌≡◌, ◌<◌, ◌&&◌, ◌∷◌, ◌+◌, ◌*◌, ℕ, [], Bool, IsTrue, MatchOption, OnOk, drop, false, if◌then◌else◌, length, nat_lt, slice_index, true};
+ghost use Rattle.std.specs.Prelude.{◌≡◌, ◌<◌, ◌&&◌, ◌∷◌, ◌+◌, ◌*◌, ℕ, [], Bool, IsTrue, MatchOption, OnOk, drop, false, if◌then◌else◌, length, nat_lt, slice_index, true, IsCharBoundary};
 ghost use Rattle.std.specs.Char.{digit_value, is_ascii_hexdigit};
-ghost use Rattle.std.specs.Str.{IsCharBoundary};
 ghost use Rattle.uri_pct.specs.Prelude.{IsValidFor, Octet, Pushes, decode_octet, is_unreserved, percent_sign, print, widest_set};
 ghost use Rattle.uri_ops.specs.Models.Decodings.{IsOctetAt, lowered_if, lowered_code_if};
 ghost use Rattle.uri_ops.specs.declared.normalize.octets.TheConstants.{LOWERED_CODES, UNRESERVED_CODES};

@@ -1,6 +1,5 @@
 //! The bytes of a text with room for more, so that each is appended without a test of the capacity.
-ghost use Rattle.std.specs.Prelude.{◌≡◌, ◌+◌, ◌≤◌, IsTrue, string_bytes};
-ghost use Rattle.std.specs.Str.{IsUtf8};
+ghost use Rattle.std.specs.Prelude.{◌≡◌, ◌+◌, ◌≤◌, IsTrue, string_bytes, IsUtf8};
 ghost use Rattle.std.specs.String.{string_capacity, string_len, string_vec};
 
 use std::mem;

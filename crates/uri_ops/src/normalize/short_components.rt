@@ -1,7 +1,6 @@
 //! Decoding of short components, byte by byte (RFC 3986, sections 6.2.2.1 and 6.2.2.2).
-ghost use Rattle.std.specs.Prelude.{◌≡◌, ◌+◌, ◌*◌, ◌≤◌, ◌++◌, ◌∷◌, [], Bool, IsTrue, drop, false, length, string_bytes, take, true, vec_capacity, vec_len};
+ghost use Rattle.std.specs.Prelude.{◌≡◌, ◌+◌, ◌*◌, ◌≤◌, ◌++◌, ◌∷◌, [], Bool, IsTrue, drop, false, length, string_bytes, take, true, vec_capacity, vec_len, IsAscii, IsCharBoundary};
 ghost use Rattle.std.specs.Char.{digit_value, is_ascii_hexdigit};
-ghost use Rattle.std.specs.Str.{IsAscii, IsCharBoundary};
 ghost use Rattle.uri_pct.specs.Prelude.{IsValidFor, LacksPastAscii, Octet, TableSet, decode_octet, is_unreserved, print, widest_set};
 ghost use Rattle.uri_ops.specs.Models.Decodings.{decoded_text, lowered_if};
 

@@ -1,7 +1,6 @@
 //! The removal of dot segments (RFC 3986, section 5.2.4).
-ghost use Rattle.std.specs.Prelude.{◌≡◌, ◌≤◌, ◌<◌, ◌++◌, ◌+◌, IfOk, OnOk, false, true, length, ℕ, ◌^◌, drop, not, take, string_bytes};
+ghost use Rattle.std.specs.Prelude.{◌≡◌, ◌≤◌, ◌<◌, ◌++◌, ◌+◌, IfOk, OnOk, false, true, length, ℕ, ◌^◌, drop, not, take, string_bytes, IsCharBoundary};
 ghost use Rattle.std.specs.Int.{bit_at};
-ghost use Rattle.std.specs.Str.{IsCharBoundary};
 ghost use Rattle.uri_pct.specs.Prelude.{Pushes};
 ghost use Rattle.uri_parts.specs.Prelude.{IsAbemptyPath};
 ghost use Rattle.uri_ops.specs.Models.Directories.{BeginsWith, EndsIn, IsDotlessDirectory, RemovalState, parent_directory};

@@ -1,7 +1,6 @@
 //! The start of a path: dot segments, recognised by their bytes, or other segments (RFC 3986,
 //! section 3.3).
-ghost use Rattle.std.specs.Prelude.{◌≡◌, ◌≤◌, ◌<◌, ◌==◌, ◌||◌, ◌+◌, ◌&&◌, length, drop, slice_index};
-ghost use Rattle.std.specs.Str.{IsCharBoundary};
+ghost use Rattle.std.specs.Prelude.{◌≡◌, ◌≤◌, ◌<◌, ◌==◌, ◌||◌, ◌+◌, ◌&&◌, length, drop, slice_index, IsCharBoundary};
 ghost use Rattle.uri_pct.specs.Prelude.{full_stop, slash};
 ghost use Rattle.uri_parts.specs.Prelude.{IsAbemptyPath};
 ghost use Rattle.uri_ops.specs.Models.LeadingSegments.{IsPrefixToSlashDot, DescribesLeadingDots, BeginsWithoutDotSegment, HasLengthAtCharBoundary, IsDotlessPrefix, begins_with_dot, dot_len, ends_segment};

@@ -1,6 +1,5 @@
 //! The slashes that a path begins with (RFC 3986, section 3.3).
-ghost use Rattle.std.specs.Prelude.{◌≡◌, ◌++◌, None, OnOk, drop, string_bytes, take};
-ghost use Rattle.std.specs.Str.{IsCharBoundary};
+ghost use Rattle.std.specs.Prelude.{◌≡◌, ◌++◌, None, OnOk, drop, string_bytes, take, IsCharBoundary};
 ghost use Rattle.uri_pct.specs.Prelude.{slash};
 ghost use Rattle.uri_parts.specs.Prelude.{has_authority, starts};
 ghost use Rattle.uri_ops.specs.Target.{guarded};

@@ -1,7 +1,6 @@
 //! A text with the positions of its components, and the substrings that a target takes from it (RFC
 //! 3986, section 5.3).
-ghost use Rattle.std.specs.Prelude.{◌≡◌, ◌≤◌, ◌+◌, ◌++◌, ℕ, List, [], codes, length, Some, None, is_some, option_map, take};
-ghost use Rattle.std.specs.Str.{IsUtf8};
+ghost use Rattle.std.specs.Prelude.{◌≡◌, ◌≤◌, ◌+◌, ◌++◌, ℕ, List, [], codes, length, Some, None, is_some, option_map, take, IsUtf8};
 ghost use Rattle.uri_parts.specs.Prelude.{ArePackedPositionsOf, ArePositionsOf, IsOfKind, authority_at, components, core_text, host_end_of, marked, packed, positions_of};
 ghost use Rattle.uri_ops.specs.Dots.{IsAbsolute};
 ghost use Rattle.uri_ops.specs.Models.Directories.{EndsIn};
