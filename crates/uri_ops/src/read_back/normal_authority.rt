@@ -30,7 +30,6 @@ pub type AuthorityBack<'a> = Joined<
 >;
 
 /// Returns a component, decoded, with its delimiters, or nothing if it is absent.
-#[inline(always)]
 pub(crate) fn part_back<'a, E: Encoder>(
     before: &'a [u8],
     part: Option<EStr<'a, E>>,
@@ -79,7 +78,6 @@ pub fn ipv6_host_of<U: Encoder, R: Encoder>(
 }
 
 /// Returns the host. `address` is its text if it is an IPv6 address, and else empty.
-#[inline(always)]
 fn host_back<'a, U: Encoder, R: Encoder>(
     authority: Authority<'a, U, R>,
     address: &'a [u8],
@@ -110,7 +108,6 @@ fn host_back<'a, U: Encoder, R: Encoder>(
 }
 
 /// Returns the port with its `:`, or nothing if it is absent, empty or the scheme's default.
-#[inline(always)]
 fn port_back<'a, U: Encoder, R: Encoder, S: SchemeRules>(
     authority: Authority<'a, U, R>,
     scheme: Option<Scheme<'_>>,
@@ -133,7 +130,6 @@ fn port_back<'a, U: Encoder, R: Encoder, S: SchemeRules>(
 
 /// Returns the authority after its `//`, or nothing if it is absent. `address` is the host's text
 /// if it is an IPv6 address, and else empty.
-#[inline(always)]
 pub(crate) fn authority_back<'a, U: Encoder, R: Encoder, S: SchemeRules>(
     authority: Option<Authority<'a, U, R>>,
     scheme: Option<Scheme<'_>>,

@@ -28,7 +28,6 @@ pub type NormalBack<'a> = Joined<
 >;
 
 /// Returns the scheme, in lower case, and its `:`, or nothing if it is absent.
-#[inline(always)]
 fn scheme_back<'a>(scheme: Option<Scheme<'a>>) -> SchemeBack<'a>
     ensures { ⟦<SchemeBack<'a> as ReadBack>⟧.unread result
         ≡ marked [] (normal_scheme (option_map scheme_text scheme.entry)) (codes ":") }
@@ -44,7 +43,6 @@ fn scheme_back<'a>(scheme: Option<Scheme<'a>>) -> SchemeBack<'a>
 
 /// Returns the normal text of a value with this authority and this path in place of its own.
 /// `address` is the host's normal text if it is an IPv6 address, and else empty.
-#[inline(always)]
 pub(crate) fn normal_back<'a, K: Kind, S: SchemeRules>(
     core: Core<K, &'a str>,
     authority: Option<Authority<'a, K::UserinfoE, K::RegNameE>>,

@@ -47,7 +47,6 @@ fn guard_before(has_authority: bool, path: PathBack<'_>) -> &'static [u8]
 
 /// Returns the normal path. Under a scheme a path that begins with `/` is without its dot segments,
 /// and after `/.` if it would be parsed as an authority.
-#[inline(always)]
 pub(crate) fn normal_path_back<'a, E: PathEncoder>(
     has_scheme: bool,
     has_authority: bool,

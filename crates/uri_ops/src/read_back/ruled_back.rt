@@ -20,7 +20,6 @@ use uri_parts::kind::Kind;
 /// Returns the normal text of a value under the rules of its scheme. `authority` is what
 /// `ruled_authority` returns for it, and `address` is the normal text of its host if that is an
 /// IPv6 address, and else empty.
-#[inline(always)]
 pub fn ruled_back<'a, K: Kind, S: SchemeRules>(
     core: Core<K, &'a str>,
     authority: Option<Authority<'a, K::UserinfoE, K::RegNameE>>,
