@@ -1,5 +1,5 @@
 -- The texts of a kind whose sets have no characters past ASCII have none.
-use Rattle.uri_ops.proofs.Common.{◌≡◌, ℕ, zero, suc, ◌<◌, Bool, true, false, eqb, ltb, List, [], ◌∷◌, ◌++◌, take, refl, sym, ap, subst, ◌∙◌, arith, ◌&&◌, ⊎_elim, codes, Option, Some, None, IfSome, is_ascii_hexdigit, is_ascii_digit, list_all, IsUtf8, list_all-append, cases_Bool, cases_lt, cond-true, cond-false, and_parts, and_from, lt-ltb, both_ways, eqb-true, nat_tests, TableSet, LacksPercent, allows_past_ascii, digit_set, is_userinfo_char, IsValidFor, allows_first, begins_with_hex_digits, first_char, valid_from, validity_of_tokens_is_validity_of_bytes, first_byte_past_ascii_is_allowed_by_its_char, hexdigit_is_ascii, Components, components, marked, recompose, Kind, is_authority, IsTextOf, HostKind, Ipv4, Ipv6, IpvFuture, RegName, IsHost, authority_parts, ipv6-text-is-address-text, is_authority_for-sound, address-in-brackets-is-utf8, recompose-components, IsComponentSet, HasComponentSets, ascii_set, ascii_kind, IfSome-weaken, IfSome-combine}
+use Rattle.uri_ops.proofs.Common.{◌≡◌, ℕ, zero, suc, ◌<◌, Bool, true, false, eqb, ltb, List, [], ◌∷◌, ◌++◌, take, refl, sym, ap, subst, ◌∙◌, arith, ◌&&◌, ⊎_elim, codes, Option, IfSome, is_ascii_digit, list_all, IsUtf8, list_all-append, cases_Bool, cases_lt, cond-true, cond-false, and_parts, and_from, lt-ltb, both_ways, eqb-true, TableSet, LacksPercent, allows_past_ascii, digit_set, is_userinfo_char, IsValidFor, allows_first, begins_with_hex_digits, first_char, valid_from, validity_of_tokens_is_validity_of_bytes, first_byte_past_ascii_is_allowed_by_its_char, hexdigit_is_ascii, Components, components, marked, recompose, Kind, is_authority, IsTextOf, HostKind, Ipv4, Ipv6, IpvFuture, RegName, IsHost, authority_parts, ipv6-text-is-address-text, is_authority_for-sound, address-in-brackets-is-utf8, recompose-components, IsComponentSet, HasComponentSets, ascii_set, ascii_kind, IfSome-weaken, IfSome-combine, common_steps}
 use Rattle.uri_ops.proofs.Meanings.AsciiCharacters.{valid_ascii_text}
 use Rattle.uri_ops.proofs.Meanings.HostMeanings.{ipvfuture-has-ascii-parts, ipvfuture-is-userinfo-characters}
 use Rattle.uri_ops.proofs.Meanings.AuthorityMeanings.{authority-parts-are-utf8}
@@ -19,10 +19,7 @@ append-of-ascii-is-ascii x y e f = list_all-append (λ c. ltb c 128) x y ∙ and
 octet-digits-are-ascii : (rest : List ℕ) → begins_with_hex_digits rest ≡ true
     → ascii (take 2 rest) ≡ true
 unfolding begins_with_hex_digits
-octet-digits-are-ascii [] e = refl
-octet-digits-are-ascii (h ∷ []) e =
-    and_from _ _ (lt-ltb h 128 (hexdigit_is_ascii h (and_parts (is_ascii_hexdigit h) _ e).0)) refl
-octet-digits-are-ascii (h ∷ l ∷ rest) e = grind (arith, nat_tests, hexdigit_is_ascii)
+octet-digits-are-ascii rest e = grind (arith, common_steps, hexdigit_is_ascii)
 
 module _ (set : TableSet) where
   ascii_set-allows-nothing-past-ascii : (c : ℕ) → allows_past_ascii (ascii_set set) c ≡ false
@@ -85,9 +82,8 @@ host-for-ascii_set-is-ascii names lacks text RegName u (valid, other) = text-for
 delimited-ascii-component-is-ascii : (before suffix : List ℕ) (o : Option (List ℕ))
     → ascii before ≡ true
     → ascii suffix ≡ true → IfSome o (λ x. ascii x ≡ true) → ascii (marked before o suffix) ≡ true
-delimited-ascii-component-is-ascii before suffix None e f h = refl
-delimited-ascii-component-is-ascii before suffix (Some x) e f h =
-    append-of-ascii-is-ascii (before ++ x) suffix (append-of-ascii-is-ascii before x e h) f
+delimited-ascii-component-is-ascii before suffix o e f h =
+    grind (arith, common_steps, append-of-ascii-is-ascii)
 
 module _ (kind : Kind) (sets : HasComponentSets kind) where
   abbrev kind_of_ascii : Kind

@@ -1,5 +1,5 @@
 -- An authority without characters past ASCII is one, and has the meaning of the authority.
-use Rattle.uri_ops.proofs.Common.{◌≡◌, ℕ, Bool, true, ltb, List, [], ◌∷◌, map, refl, sym, ap, subst, ◌∙◌, inl, inr, option_map, arith, codes, Option, Some, None, IfSome, is_ascii_digit, list_all, IsUtf8, IsDotted, list_all-append, list_all-from_AllPass, All-weaker, and_parts, and_from, nat_tests, IsDigitOrDot, TableSet, digit_set, is_userinfo_char, IsValidFor, decode_unreserved, lower_token, excludes, HostKind, Ipv4, Ipv6, IpvFuture, RegName, IsHost, bracketed, host_kind, ipv4_value, AuthorityParts, IsAuthorityFor, LackAuthorityDelimiters, authority_parts, recompose_authority, Kind, is_authority, is_authority_for-sound, is_authority_for-complete, authority_parts-are-unique, names_exclude_delimiters, is_address_char, is_address_text, ipv6-text-is-address-text, is_host-sound, lacking_text_does_not_begin_with, address-in-brackets-is-utf8, valid_text_lacks_excluded_marks, ipv4-text-is-digits-and-dots, IsComponentSet, HasComponentSets, encode_past_ascii, ascii_set, ascii_kind, Name, host_meaning, authority_meaning, IfSome-combine}
+use Rattle.uri_ops.proofs.Common.{◌≡◌, ℕ, Bool, true, ltb, List, [], ◌∷◌, map, refl, sym, ap, subst, ◌∙◌, inl, inr, option_map, arith, codes, Option, IfSome, is_ascii_digit, list_all, IsUtf8, IsDotted, list_all-append, list_all-from_AllPass, All-weaker, and_from, nat_tests, IsDigitOrDot, TableSet, digit_set, is_userinfo_char, IsValidFor, decode_unreserved, lower_token, excludes, HostKind, Ipv4, Ipv6, IpvFuture, RegName, IsHost, bracketed, host_kind, ipv4_value, AuthorityParts, IsAuthorityFor, LackAuthorityDelimiters, authority_parts, recompose_authority, Kind, is_authority, is_authority_for-sound, is_authority_for-complete, authority_parts-are-unique, names_exclude_delimiters, is_address_char, is_address_text, ipv6-text-is-address-text, is_host-sound, lacking_text_does_not_begin_with, address-in-brackets-is-utf8, valid_text_lacks_excluded_marks, ipv4-text-is-digits-and-dots, IsComponentSet, HasComponentSets, encode_past_ascii, ascii_set, ascii_kind, Name, host_meaning, authority_meaning, IfSome-combine, common_steps}
 use Rattle.uri_ops.proofs.Meanings.AllowedParts.{is_set_text, set-text-from-utf8, set-text-is-utf8, set-text-is-valid}
 use Rattle.uri_ops.proofs.Meanings.AsciiCharacters.{is_ascii_in, valid_ascii_text}
 use Rattle.uri_ops.proofs.Meanings.HostMeanings.{address-characters-are-ascii, ipvfuture-has-ascii-parts, ipvfuture-is-userinfo-characters, meaning-of-name-is-lowered-decoded, unbracketed-valid-text-is-name}
@@ -23,9 +23,7 @@ pub text-passing-ascii-test-is-ascii : (test : ℕ → Bool) (text : List ℕ)
     → list_all (is_ascii_in test) text ≡ true → list_all (λ c. ltb c 128) text ≡ true
 text-passing-ascii-test-is-ascii test [] e = refl
 text-passing-ascii-test-is-ascii test (c ∷ text) e =
-    let p = and_parts (is_ascii_in test c) (list_all (is_ascii_in test) text) e in
-    and_from _ _ (and_parts (ltb c 128) (test c) p.0).0
-    (text-passing-ascii-test-is-ascii test text p.1)
+    grind (arith, common_steps, test, (text-passing-ascii-test-is-ascii test text))
 
 pub bracketed-ascii-address-is-ascii : (address : List ℕ) → list_all (λ c. ltb c 128) address ≡ true
     → list_all (λ c. ltb c 128) (bracketed address) ≡ true
@@ -136,23 +134,20 @@ port-digits-are-unchanged-when-encoded text u e = ascii-text-is-its-own-encoding
 -- IRIs as URIs: encoding characters past ASCII leaves the port, if there is one
 port-is-unchanged-when-encoded : (port : Option (List ℕ)) → IfSome port IsUtf8
     → IfSome port (IsValidFor digit_set) → option_map encode_past_ascii port ≡ port
-port-is-unchanged-when-encoded None u h = refl
-port-is-unchanged-when-encoded (Some digits) u h =
-    ap Some (port-digits-are-unchanged-when-encoded digits u h)
+port-is-unchanged-when-encoded port u h =
+    grind (arith, common_steps, port-digits-are-unchanged-when-encoded)
 
 -- IRIs as URIs: if a component, when there is one, has P, its encoded form has what P implies
 encoded-component-has-property : (o : Option (List ℕ)) (P Q : List ℕ → Type 0) → ((x : List ℕ)
     → P x → Q (encode_past_ascii x)) → IfSome o P → IfSome (option_map encode_past_ascii o) Q
-encoded-component-has-property None P Q f h = tt
-encoded-component-has-property (Some x) P Q f h = f x h
+encoded-component-has-property o q r f h = grind (arith, common_steps)
 
 -- IRIs as URIs: a component has the same decoded form after its characters past ASCII are encoded
 pub decode_unreserved-encoded_option : (set : TableSet) (o : Option (List ℕ))
     → IfSome o (λ x. is_set_text set x ≡ true) → option_map
     (decode_unreserved set) (option_map encode_past_ascii o) ≡ option_map (decode_unreserved set) o
-decode_unreserved-encoded_option set None h = refl
-decode_unreserved-encoded_option set (Some x) h = ap Some
-    (decode_unreserved-of-encoded-text set x h)
+decode_unreserved-encoded_option set o h =
+    grind (arith, common_steps, decode_unreserved-of-encoded-text)
 
 module _ (kind : Kind) (sets : HasComponentSets kind) (a : List ℕ) (u : IsUtf8 a)
     (e : is_authority kind a ≡ true) where

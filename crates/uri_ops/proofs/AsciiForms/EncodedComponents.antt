@@ -1,5 +1,5 @@
 -- The components of a text without characters past ASCII are those of the text, without them.
-use Rattle.uri_ops.proofs.Common.{◌≡◌, ℕ, ◌<◌, Bool, true, false, not, ltb, List, length, refl, sym, ap, ◌∙◌, ◌&&◌, option_map, arith, codes, Option, Some, None, IfSome, IfNone, list_all, IsUtf8, nat_tests, Components, IsSplitOf, Lacks, IsAbemptyPath, marked, starts, has_scheme, from_any, components, recompose, components-are-split-of-text, only-split-is-components, utf8_before_marks, encode_past_ascii}
+use Rattle.uri_ops.proofs.Common.{◌≡◌, ℕ, ◌<◌, Bool, true, false, not, ltb, List, length, refl, sym, ap, ◌∙◌, ◌&&◌, option_map, arith, codes, Option, Some, None, IfSome, IfNone, list_all, IsUtf8, nat_tests, Components, IsSplitOf, Lacks, IsAbemptyPath, marked, starts, has_scheme, from_any, components, recompose, components-are-split-of-text, only-split-is-components, utf8_before_marks, encode_past_ascii, common_steps}
 use Rattle.uri_ops.proofs.Meanings.TextParts.{AreUtf8, scheme-ends-are-ascii, components-of-utf8-are-utf8}
 use Rattle.uri_ops.proofs.AsciiForms.EncodedPaths.{encoding-of-append-is-append, encoding-of-nil-is-nil, ascii-text-is-its-own-encoding, encoding-keeps-lacked-delimiters, encoding-keeps-leading-delimiter, encoding-keeps-emptiness, encoding-keeps-two-slashes, encoding-and-cutting-swap}
 use Rattle.uri_ops.proofs.Paths.DotRuns.{not-empty-has-length}
@@ -77,8 +77,7 @@ encoded-query-lacks-its-end (Some q) u h = encoding-keeps-lacked-delimiters (cod
 -- x, y: the test before and after
 absent-component-is-absent-when-encoded : (o : Option (List ℕ)) (x y : Bool)
     → y ≡ x → IfNone o (x ≡ false) → IfNone (option_map encode_past_ascii o) (y ≡ false)
-absent-component-is-absent-when-encoded None x y e h = e ∙ h
-absent-component-is-absent-when-encoded (Some a) x y e h = tt
+absent-component-is-absent-when-encoded o x y e h = grind (arith, common_steps, h)
 
 encoded-text-splits-into-encoded-components : (text : List ℕ) (p : Components) → IsUtf8 text
     → AreUtf8 p → IsSplitOf text p → IsSplitOf (encode_past_ascii text) (encoded_components p)

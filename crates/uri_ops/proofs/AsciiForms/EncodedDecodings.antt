@@ -1,5 +1,5 @@
 -- If a text is allowed, so is its form without characters past ASCII, and both decode to the same.
-use Rattle.uri_ops.proofs.Common.{◌≡◌, ℕ, true, List, [], ◌∷◌, ◌++◌, map, refl, sym, ap, ◌∙◌, ⊎_elim, encode_utf8, list_all, flat_map, append-nil, list_all-append, cases_lt, cond-true, cond-false, and_parts, and_from, or_right, lt-ltb, le-ltb, TableSet, allows, allows_past_ascii, Token, Char, Octet, tokens, allows_token, is_valid_for, is_decodable, decode_run, decode_after_run, decode_tokens, encode_formatting, decode_unreserved, ascii_char_is_allowed_iff_in_set, char_past_ascii_is_allowed_by_flags, allowed_past_ascii_is_scalar, decodable_char_octets_split_decoding, octets_before_tokens_lengthen_run, encode_past_ascii, ascii_set}
+use Rattle.uri_ops.proofs.Common.{◌≡◌, ℕ, true, List, [], ◌∷◌, ◌++◌, map, refl, sym, ap, ◌∙◌, ⊎_elim, encode_utf8, list_all, flat_map, append-nil, list_all-append, cases_lt, cond-true, cond-false, and_parts, and_from, or_right, lt-ltb, le-ltb, TableSet, allows, allows_past_ascii, Token, Char, Octet, tokens, allows_token, is_valid_for, is_decodable, decode_run, decode_after_run, decode_tokens, encode_formatting, decode_unreserved, ascii_char_is_allowed_iff_in_set, char_past_ascii_is_allowed_by_flags, allowed_past_ascii_is_scalar, decodable_char_octets_split_decoding, octets_before_tokens_lengthen_run, encode_past_ascii, ascii_set, arith, common_steps}
 use Rattle.uri_ops.proofs.Meanings.AllowedParts.{is_set_text, set-text-from-utf8, set-text-is-utf8, set-text-is-valid}
 use Rattle.uri_ops.proofs.AsciiForms.EncodedTokens.{encoded_token, tokens-of-encoded-text, encoded-text-is-utf8}
 
@@ -13,18 +13,16 @@ module _ (set : TableSet) (octets : set.pct_encoded ≡ true) where
       → list_all (allows_token (ascii_set set)) (flat_map encoded_token ts) ≡ true
   ascii_set-allows-encoded-tokens [] e = refl
   ascii_set-allows-encoded-tokens (Octet value ∷ ts) e =
-      let p = and_parts set.pct_encoded (list_all (allows_token set) ts) e in
-      and_from _ _ octets (ascii_set-allows-encoded-tokens ts p.1)
+      grind (arith, common_steps, (ascii_set-allows-encoded-tokens ts))
   ascii_set-allows-encoded-tokens (Char c ∷ ts) e =
-      let p = and_parts (allows set c) (list_all (allows_token set) ts) e in
-      list_all-append
-      (allows_token (ascii_set set)) (encoded_token (Char c)) (flat_map encoded_token ts)
-      ∙ and_from _ _ (⊎_elim (λ h. ap (list_all (allows_token (ascii_set set))) (cond-true _ _ _
-      (lt-ltb c 128 h)) ∙ and_from _ true (ascii_char_is_allowed_iff_in_set (ascii_set set) c h
-      ∙ sym (ascii_char_is_allowed_iff_in_set set c h) ∙ p.0) refl)
-      (λ h. ap (list_all (allows_token (ascii_set set))) (cond-false _ _ _ (le-ltb c 128 h))
-      ∙ ascii_set-allows-octets (encode_utf8 c))
-      (cases_lt c 128)) (ascii_set-allows-encoded-tokens ts p.1)
+      grind (
+        arith,
+        common_steps,
+        list_all-append,
+        ascii_char_is_allowed_iff_in_set,
+        ascii_set-allows-octets,
+        (ascii_set-allows-encoded-tokens ts),
+      )
 
   pub encoded-part-is-valid-for-ascii_set : (text : List ℕ) → is_set_text set text ≡ true
       → is_set_text (ascii_set set) (encode_past_ascii text) ≡ true

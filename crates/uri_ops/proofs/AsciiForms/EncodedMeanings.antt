@@ -1,6 +1,6 @@
 -- A text without characters past ASCII is of the kind of URIs that goes with its kind. It is
 -- equivalent to the text that it was made from.
-use Rattle.uri_ops.proofs.Common.{◌≡◌, ℕ, true, false, eqb, ltb, not, List, refl, ap, ◌∙◌, ◌&&◌, ◌||◌, option_map, arith, codes, Option, Some, None, IfSome, is_some, list_all, list_any, IsUtf8, decode_unreserved, AreAscii-by-test, Components, before_any, Kind, is_scheme, is_authority, has_colon_in_first_segment, components_meet_rules, IsTextOf, utf8_before_marks, HasComponentSets, PortFunction, authority_meaning, dotless_path, components_meaning, meaning_of, Rules, meaning_under, under_rules, encode_past_ascii, ascii_kind}
+use Rattle.uri_ops.proofs.Common.{◌≡◌, ℕ, true, false, eqb, ltb, not, List, refl, ap, ◌∙◌, ◌&&◌, ◌||◌, option_map, arith, codes, Option, Some, None, IfSome, is_some, list_all, list_any, IsUtf8, decode_unreserved, AreAscii-by-test, Components, before_any, Kind, is_scheme, is_authority, has_colon_in_first_segment, components_meet_rules, IsTextOf, utf8_before_marks, HasComponentSets, PortFunction, authority_meaning, dotless_path, components_meaning, meaning_of, Rules, meaning_under, under_rules, encode_past_ascii, ascii_kind, common_steps}
 use Rattle.uri_ops.proofs.Paths.PathCharacters.{lacked-delimiters-fail-test, test-of-delimiters-gives-lacks}
 use Rattle.uri_ops.proofs.Meanings.Lacking.{lacks_any-gives-lacks, lacks-gives-lacks_any}
 use Rattle.uri_ops.proofs.Meanings.AllowedParts.{is_set_text, set-text-is-utf8}
@@ -47,9 +47,8 @@ module _ (kind : Kind) (sets : HasComponentSets kind) where
   encoded-authority-if-some-is-of-ascii_kind : (o : Option (List ℕ)) → IfSome o (λ a. IsUtf8 a
       × (is_authority kind a ≡ true)) → IfSome (option_map encode_past_ascii o) (λ a. IsUtf8 a
       × (is_authority (ascii_kind kind) a ≡ true))
-  encoded-authority-if-some-is-of-ascii_kind None h = tt
-  encoded-authority-if-some-is-of-ascii_kind (Some a) h =
-      (encoded-text-is-utf8 a h.0, encoded-authority-is-of-ascii_kind kind sets a h.0 h.1)
+  encoded-authority-if-some-is-of-ascii_kind o h =
+      grind (arith, common_steps, encoded-text-is-utf8, encoded-authority-is-of-ascii_kind)
 
   encoding-keeps-scheme-or-colon-rule : (scheme authority : Option (List ℕ)) (path : List ℕ)
       → is_set_text kind.path path ≡ true → (is_some scheme
@@ -57,10 +56,8 @@ module _ (kind : Kind) (sets : HasComponentSets kind) where
       ≡ true → (is_some (option_map encode_past_ascii scheme)
       || (not kind.needs_scheme && (is_some (option_map encode_past_ascii authority)
       || not (has_colon_in_first_segment (encode_past_ascii path))))) ≡ true
-  encoding-keeps-scheme-or-colon-rule (Some s) authority path part h = refl
-  encoding-keeps-scheme-or-colon-rule None (Some a) path part h = h
-  encoding-keeps-scheme-or-colon-rule None None path part h =
-      grind (arith, encoding-adds-no-colon-first, set-text-is-utf8)
+  encoding-keeps-scheme-or-colon-rule scheme authority path part h =
+      grind (arith, common_steps, encoding-adds-no-colon-first, set-text-is-utf8)
 
   encoded-components-are-of-ascii_kind : (p : Components) → ArePartsOfKind kind p
       → ArePartsOfKind (ascii_kind kind) (encoded_components p)
@@ -87,9 +84,8 @@ module _ (kind : Kind) (sets : HasComponentSets kind) where
       → IfSome o (λ a. IsUtf8 a × (is_authority kind a ≡ true))
       → option_map (authority_meaning kind default) (option_map encode_past_ascii o)
       ≡ option_map (authority_meaning kind default) o
-  encoding-keeps-optional-authority-meaning default None h = refl
-  encoding-keeps-optional-authority-meaning default (Some a) h =
-      ap Some (encoding-keeps-authority-meaning kind sets a h.0 h.1 default)
+  encoding-keeps-optional-authority-meaning default o h =
+      grind (arith, common_steps, encoding-keeps-authority-meaning)
 
   encoding-keeps-path-meaning : (scheme : Option (List ℕ)) (path : List ℕ)
       → is_set_text kind.path path ≡ true → decode_unreserved kind.path (dotless_path scheme

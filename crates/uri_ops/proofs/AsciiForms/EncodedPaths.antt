@@ -1,5 +1,5 @@
 -- Without characters past ASCII a text has the same marks, and a path the same dot segments.
-use Rattle.uri_ops.proofs.Common.{◌≡◌, ℕ, ◌<◌, ◌≤◌, nat_lt, Bool, true, false, eqb, ltb, not, List, [], ◌∷◌, ◌++◌, map, refl, sym, ap, subst, ◌∙◌, arith, ◌&&◌, ⊎_elim, append-nil, lit<, codes, Option, is_ascii_hexdigit, list_all, flat_map, IsUtf8, is_utf8, encode_utf8_all, all_scalars, IsUtf8-from_is_utf8, is_utf8-from_IsUtf8, map-append, flat_map-append, list_all-append, cases_Bool, cases_lt, cond-true, cond-false, and_parts, and_from, ltb-true, lt-ltb, le-ltb, not_from_false, false_from_ne_true, both_ways, and_right, nat_tests, is_one_of, test_holds_of_each, Lacks, starts, has_authority, before_any, from_any, IsAbemptyPath, IsEmptyOrMarked, text-is-cut-at-first-mark, cut-at-end-of-text-without-marks, utf8_around_ascii_byte, is_empty, has_slash, remove_dot_segments, underflows, directory, IsAbsolute, dotless_if_absolute, guarded, encode_byte_past_ascii, encode_past_ascii}
+use Rattle.uri_ops.proofs.Common.{◌≡◌, ℕ, ◌<◌, ◌≤◌, nat_lt, Bool, true, false, eqb, ltb, not, List, [], ◌∷◌, ◌++◌, map, refl, sym, ap, subst, ◌∙◌, arith, ◌&&◌, ⊎_elim, append-nil, lit<, codes, Option, is_ascii_hexdigit, list_all, flat_map, IsUtf8, is_utf8, encode_utf8_all, all_scalars, IsUtf8-from_is_utf8, is_utf8-from_IsUtf8, map-append, flat_map-append, list_all-append, cases_Bool, cases_lt, cond-true, cond-false, and_parts, and_from, ltb-true, lt-ltb, le-ltb, not_from_false, false_from_ne_true, both_ways, and_right, nat_tests, is_one_of, test_holds_of_each, Lacks, starts, has_authority, before_any, from_any, IsAbemptyPath, IsEmptyOrMarked, text-is-cut-at-first-mark, cut-at-end-of-text-without-marks, utf8_around_ascii_byte, is_empty, has_slash, remove_dot_segments, underflows, directory, IsAbsolute, dotless_if_absolute, guarded, encode_byte_past_ascii, encode_past_ascii, common_steps}
 use Rattle.std.specs.Prelude.{is_none as is_absent}
 use Rattle.uri_ops.proofs.Paths.Segments.{AllPass, dotless_of, parent}
 use Rattle.uri_ops.proofs.Paths.SlashedSegments.{slashed, NoSlashes, first-segment-and-rest-lack-slashes, remove-dots-by-segments, underflows-by-segments, directory-by-segments}
@@ -100,17 +100,15 @@ encoding-keeps-lacked-delimiters marks not_in_octets text u lacks = test-of-deli
 -- IRIs as URIs: a text begins with a delimiter (mark) exactly if it does when encoded
 pub encoding-keeps-leading-delimiter : (mark : ℕ) → is_outside_octets mark ≡ true → (x : List ℕ)
     → starts mark (encode_past_ascii x) ≡ starts mark x
-encoding-keeps-leading-delimiter mark not_in_octets [] = ap (starts mark) encoding-of-nil-is-nil
-encoding-keeps-leading-delimiter mark not_in_octets (b ∷ x) =
-    ⊎_elim (λ h. ap (starts mark) (encoding-starts-with-ascii-byte b x h))
-    (λ h. ap (starts mark) (encoding-starts-with-octet b x h)
-    ∙ percent mark not_in_octets ∙ sym (past mark b not_in_octets h)) (cases_lt b 128)
-  where
-    percent : (mark : ℕ) → is_outside_octets mark ≡ true → eqb 37 mark ≡ false
-    percent mark e = grind (arith, nat_tests)
-
-    past : (mark b : ℕ) → is_outside_octets mark ≡ true → 128 ≤ b → eqb b mark ≡ false
-    past mark b e h = grind (arith, nat_tests)
+encoding-keeps-leading-delimiter mark not_in_octets o =
+    grind (
+      arith,
+      common_steps,
+      mark,
+      encoding-of-nil-is-nil,
+      encoding-starts-with-ascii-byte,
+      encoding-starts-with-octet,
+    )
 
 -- IRIs as URIs: exactly the empty text is empty after encoding
 pub encoding-keeps-emptiness : (x : List ℕ) → is_empty (encode_past_ascii x) ≡ is_empty x

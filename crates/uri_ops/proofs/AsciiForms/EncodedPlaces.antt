@@ -215,18 +215,15 @@ module _ (kind : Kind) (sets : HasComponentSets kind) (text : List ℕ) (w : IsT
       → IfSome o (λ a. IsUtf8 a × (is_authority kind a ≡ true))
       → IfSome (option_map (authority_at (before + 2)) o)
       (AreAuthorityPositionsOrdered (before + delimited_length 2 o))
-  authority-positions-are-in-order before None h = tt
-  authority-positions-are-in-order before (Some a) h =
+  authority-positions-are-in-order before o h =
       grind (arith, common_steps, is_authority_for-sound, length-with-delimiter-after)
 
   query-end-is-in-order : (place : ℕ) (o : Option (List ℕ)) (end : ℕ) (before suffix : List ℕ)
       → place ≡ length before → end ≡ length (before ++ (marked (codes "?") o [] ++ suffix))
       → (place ≤ unwrap_or (option_map (λ q. place + 1 + length q) o) place)
       × (unwrap_or (option_map (λ q. place + 1 + length q) o) place ≤ end)
-  query-end-is-in-order place None end before suffix k e =
-      (omega arith, omega (arith, k, e, length-append before suffix))
-  query-end-is-in-order place (Some q) end before suffix k e =
-      grind (arith, common_steps, length-with-delimiter-before)
+  query-end-is-in-order place o end before suffix k e =
+      grind (arith, common_steps, length-append, length-with-delimiter-before)
 
   pub positions-are-ordered : (positions : Positions) → ArePositionsOf text positions
       → ArePositionsOrdered (length text) positions

@@ -1,5 +1,5 @@
 -- Without characters past ASCII a base and a reference come to the same target without them.
-use Rattle.uri_ops.proofs.Common.{◌≡◌, ℕ, Bool, true, false, List, [], ◌∷◌, ◌++◌, refl, sym, ap, subst, ◌∙◌, ◌&&◌, arith, Option, Some, None, Result, Ok, Err, is_some, is_none, is_ok, result_map_both, list_all, IsUtf8, is_utf8, IsUtf8-append, IsUtf8-nil, IsUtf8-from_is_utf8, is_utf8-from_IsUtf8, cond_both, and_parts, and_from, false≢true, nat_tests, Components, starts, IsAbemptyPath, components, recompose, components-are-split-of-text, components_of_parts, is_empty, underflows, directory, TargetError, is_opaque_rejection, merged, dotted_target, dotless_if_absolute, guarded, target_of, target_underflows, resolution_of, encode_past_ascii, IsTargetOfEncoded, IsErrorForEncoded, IsTarget, IsErrorFor, ResolveError, is_none-option_map, is_some-option_map, not_some_is_none}
+use Rattle.uri_ops.proofs.Common.{◌≡◌, ℕ, Bool, true, false, List, [], ◌∷◌, ◌++◌, refl, sym, ap, subst, ◌∙◌, ◌&&◌, arith, Option, None, Result, Ok, is_some, is_none, is_ok, result_map_both, list_all, IsUtf8, is_utf8, IsUtf8-append, IsUtf8-nil, IsUtf8-from_is_utf8, is_utf8-from_IsUtf8, cond_both, and_parts, and_from, nat_tests, Components, starts, IsAbemptyPath, components, recompose, components-are-split-of-text, components_of_parts, is_empty, underflows, directory, TargetError, is_opaque_rejection, dotted_target, dotless_if_absolute, guarded, target_of, target_underflows, resolution_of, encode_past_ascii, IsTargetOfEncoded, IsErrorForEncoded, IsTarget, IsErrorFor, ResolveError, is_none-option_map, is_some-option_map, not_some_is_none, common_steps}
 use Rattle.uri_ops.proofs.Paths.Segments.{AllPass, appended-segments-pass-test}
 use Rattle.uri_ops.proofs.Paths.SlashedSegments.{slashed, directory-by-segments, parent-segments-pass-test}
 use Rattle.uri_ops.proofs.Paths.DotLaws.{property-of-absolute-path-by-segments, rooted}
@@ -42,11 +42,6 @@ directory-of-utf8-is-utf8 = rooted (λ path. IsUtf8 path → IsUtf8 (directory p
     (parent-segments-pass-test is_utf8 (s ∷ rest) (segments-of-utf8-path-are-utf8 s rest u))
     (and_from _ _ (is_utf8-from_IsUtf8 [] IsUtf8-nil) refl)))))
 
-merging-and-encoding-swap : (path p : List ℕ) → IsAbemptyPath path → IsUtf8 path
-    → merged (encode_past_ascii path) (encode_past_ascii p) ≡ encode_past_ascii (merged path p)
-merging-and-encoding-swap path p h u =
-    grind (arith, nat_tests, directory-and-encoding-swap, encoding-of-append-is-append)
-
 -- IRIs as URIs: a reference without scheme and authority (p, q, f: its path, query and fragment)
 -- has the same target before dot segments are removed, encoded
 dotted_target-of-encoded-without-authority : (base : Components) (p : List ℕ) (q f : Option
@@ -58,7 +53,9 @@ dotted_target-of-encoded-without-authority base p q f u rooted =
       arith,
       encoding-keeps-emptiness,
       encoding-keeps-leading-delimiter,
-      merging-and-encoding-swap,
+      directory-and-encoding-swap,
+      encoding-of-append-is-append,
+      nat_tests,
     )
 
 -- IRIs as URIs: a base and a reference (s, a, p, q, f: its components) have the same target before
@@ -68,10 +65,8 @@ dotted_target-of-encoded-components : (base : Components) (s a : Option (List �
     → AreUtf8 base → (is_none s ≡ true → is_empty p ≡ false → IsAbemptyPath base.path)
     → dotted_target (encoded_components base) (encoded_components (components_of_parts s a p q f))
     ≡ encoded_components (dotted_target base (components_of_parts s a p q f))
-dotted_target-of-encoded-components base (Some s) a p q f u rooted = refl
-dotted_target-of-encoded-components base None (Some a) p q f u rooted = refl
-dotted_target-of-encoded-components base None None p q f u rooted =
-    grind (arith, nat_tests, dotted_target-of-encoded-without-authority)
+dotted_target-of-encoded-components base s a p q f u rooted =
+    grind (arith, common_steps, dotted_target-of-encoded-without-authority)
 
 -- IRIs as URIs, targets: the path of a target, before its dot segments are removed, is UTF-8
 dotted_target-path-is-utf8 : (base r : Components) → AreUtf8 base → AreUtf8 r → (is_none r.scheme
@@ -185,14 +180,12 @@ target-is-target-of-encoded allowed b t target u v h = (
 
 ok-result-has-target : (r : Result (List ℕ) TargetError) → is_ok r ≡ true → (target : List ℕ)
     × (r ≡ Ok target)
-ok-result-has-target (Ok target) e = (target, refl)
-ok-result-has-target (Err z) e = absurd (false≢true e)
+ok-result-has-target r e = grind (arith, common_steps)
 
 -- IRIs as URIs: resolving returns a target exactly if it does for the encoded texts
 encoding-keeps-whether-ok : (r : Result (List ℕ) TargetError)
     → is_ok (result_map_both encode_past_ascii (λ (refusal : TargetError). refusal) r) ≡ is_ok r
-encoding-keeps-whether-ok (Ok target) = refl
-encoding-keeps-whether-ok (Err z) = refl
+encoding-keeps-whether-ok r = grind (arith, common_steps)
 
 -- IRIs as URIs: an error of resolving is the error for the encoded texts; allowed: whether
 -- underflows are; b, t: base and reference

@@ -63,33 +63,20 @@ bytes-past-ascii-encode-to-octets : (bs : List ℕ) → list_all is_no_ascii_byt
     → flat_map encode_byte_past_ascii bs ≡ flat_map octet_text bs
 bytes-past-ascii-encode-to-octets [] e = refl
 bytes-past-ascii-encode-to-octets (b ∷ bs) e =
-    let p = and_parts (is_no_ascii_byte b) (list_all is_no_ascii_byte bs) e in
-    ap (λ t. t ++ flat_map encode_byte_past_ascii bs) (cond-false _ _ _ (not_low b p.0))
-    ∙ ap (λ t. octet_text b ++ t) (bytes-past-ascii-encode-to-octets bs p.1)
-  where
-    not_low : (b : ℕ) → is_no_ascii_byte b ≡ true → ltb b 128 ≡ false
-    not_low b e = grind (arith, nat_tests)
-
-encoding-of-character-bytes : (c : ℕ) → flat_map encode_byte_past_ascii (encode_utf8 c)
-    ≡ encoded_char c
-encoding-of-character-bytes c =
-    grind (
-      arith,
-      common_steps,
-      bytes-past-ascii-encode-to-octets,
-      character-past-ascii-has-no-ascii-byte,
-    )
+    grind (arith, common_steps, is_no_ascii_byte, (bytes-past-ascii-encode-to-octets bs))
 
 encoding-is-character-by-character : (cs : List ℕ) → encode_past_ascii (encode_utf8_all cs)
     ≡ encoded_chars cs
 unfolding encode_past_ascii encoded_chars
 encoding-is-character-by-character [] = refl
 encoding-is-character-by-character (c ∷ cs) =
-    grind (arith, common_steps, encoding-of-character-bytes, encoding-is-character-by-character cs)
-
-hex-digit-glyphs-are-ascii : (v : ℕ) → v < 256
-    → (ltb (digit_glyph true (v / 16)) 128 && ltb (digit_glyph true (v % 16)) 128) ≡ true
-hex-digit-glyphs-are-ascii v h = grind (arith, nat_tests, agree_below_at)
+    grind (
+      arith,
+      common_steps,
+      bytes-past-ascii-encode-to-octets,
+      character-past-ascii-has-no-ascii-byte,
+      encoding-is-character-by-character cs,
+    )
 
 abbrev is_ascii_byte : ℕ → Bool
 is_ascii_byte c = ltb c 128
@@ -97,7 +84,7 @@ is_ascii_byte c = ltb c 128
 octet_text-of-byte-is-ascii : (b : ℕ) → is_byte b ≡ true → list_all is_ascii_byte (octet_text b)
     ≡ true
 unfolding is_byte
-octet_text-of-byte-is-ascii b e = grind (arith, nat_tests, hex-digit-glyphs-are-ascii)
+octet_text-of-byte-is-ascii b e = grind (arith, nat_tests, agree_below_at)
 
 octet_texts-of-bytes-are-ascii : (bs : List ℕ) → list_all is_byte bs ≡ true
     → list_all is_ascii_byte (flat_map octet_text bs) ≡ true
@@ -135,9 +122,7 @@ tokens-begin-with-literal-character : (c : ℕ) (cs : List ℕ)
     → (eqb c 37 && begins_with_hex_digits cs) ≡ false
     → tokens_from_chars (c ∷ cs) ≡ Char c ∷ tokens_from_chars cs
 unfolding tokens_from_chars is_pct_encoded begins_with_hex_digits
-tokens-begin-with-literal-character c [] e = refl
-tokens-begin-with-literal-character c (d ∷ []) e = refl
-tokens-begin-with-literal-character c (h ∷ l ∷ cs) e = cond-false _ _ _ e
+tokens-begin-with-literal-character c cs e = grind (arith)
 
 -- IRIs as URIs, tokens: a `%XX` at the start is the octet of its byte
 tokens-begin-with-octet : (b : ℕ) (cs : List ℕ) → is_byte b ≡ true
@@ -167,9 +152,8 @@ encoded-past-ascii-begins-with-percent c cs h = ap (λ t. get_or (t ++ encoded_c
 encoding-keeps-leading-hex-digit : (cs : List ℕ)
     → is_ascii_hexdigit (get_or (encoded_chars cs) 0 0) ≡ is_ascii_hexdigit (get_or cs 0 0)
 unfolding encoded_chars
-encoding-keeps-leading-hex-digit [] = refl
-encoding-keeps-leading-hex-digit (c ∷ cs) =
-    grind (arith, nat_tests, encoded-past-ascii-begins-with-percent, past_ascii_is_no_hexdigit)
+encoding-keeps-leading-hex-digit cs =
+    grind (arith, common_steps, encoded-past-ascii-begins-with-percent)
 
 -- IRIs as URIs: a text begins with two hexadecimal digits exactly if it does when encoded
 encoding-keeps-two-leading-hex-digits : (cs : List ℕ) → begins_with_hex_digits (encoded_chars cs)
@@ -207,8 +191,7 @@ pct-encoded-is-percent-and-hex-digits c h l e = e
 
 empty-text-begins-with-no-hex-digits : (cs : List ℕ) → cs ≡ [] → begins_with_hex_digits cs ≡ false
 unfolding begins_with_hex_digits
-empty-text-begins-with-no-hex-digits [] e = refl
-empty-text-begins-with-no-hex-digits (c ∷ cs) e = cc
+empty-text-begins-with-no-hex-digits cs e = grind (arith, common_steps)
 
 one-character-is-not-two-hex-digits : (d : ℕ) → begins_with_hex_digits (d ∷ []) ≡ false
 unfolding begins_with_hex_digits

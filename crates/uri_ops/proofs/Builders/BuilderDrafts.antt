@@ -1,5 +1,5 @@
 -- What each step of a builder makes of its draft: the text of the parts so changed.
-use Rattle.uri_ops.proofs.Common.{common_steps, ◌≡◌, ℕ, Bool, true, false, List, ◌++◌, length, sym, ap, ◌∙◌, append_assoc, refl, string_bytes, arith, codes, Some, is_none, IsUtf8, is_utf8-from_IsUtf8, and_parts, and_from, false≢true, nat_tests, TableSet, is_valid_for, is_scheme, Draft, Lengths, AddsOrFails, AddsUnlessFailed, BuilderParts, is_scheme_text, is_text_for, with_authority, with_fragment, with_path, with_query, with_scheme, draft_parts, lacks_query_and_fragment, lacks_all, lacks_authority, lacks_path, after_part, parts_in}
+use Rattle.uri_ops.proofs.Common.{common_steps, ◌≡◌, ℕ, Bool, true, false, List, ◌++◌, length, sym, ap, ◌∙◌, append_assoc, refl, string_bytes, arith, codes, Some, is_none, IsUtf8, is_utf8-from_IsUtf8, and_parts, and_from, nat_tests, TableSet, is_valid_for, is_scheme, Draft, Lengths, AddsOrFails, AddsUnlessFailed, BuilderParts, is_scheme_text, is_text_for, with_authority, with_fragment, with_path, with_query, with_scheme, draft_parts, lacks_query_and_fragment, lacks_all, lacks_authority, lacks_path, after_part, parts_in}
 use Rattle.uri_ops.proofs.Builders.BuilderSteps.{text-with-authority-is-draft, text-with-fragment-is-draft, text-with-path-is-draft, text-with-query-is-draft, text-with-scheme-is-draft}
 use Rattle.uri_ops.proofs.Builders.Drafting.{IsDraftOfParts, absent-part-has-no-length}
 
@@ -17,9 +17,7 @@ step-adds-to-contents change given part contents taken made new keeps same from 
         ∙ ap (λ x. change x contents) same
 
     located : (f : Bool) → new.failed ≡ f → contents.failed ≡ true → new.failed ≡ true
-    located true e marked = e
-    located false e marked = absurd (false≢true
-        (sym e ∙ ap (λ p. p.failed) (added e) ∙ keeps ∙ marked))
+    located f e marked = grind (arith, common_steps, e)
 
 -- building: a valid text in UTF-8 is one that a builder may write for the set
 pub valid_utf8_is_text_for_set : (set : TableSet) (x : List ℕ)

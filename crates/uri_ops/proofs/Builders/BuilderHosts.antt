@@ -1,5 +1,5 @@
 -- The hosts and ports that a builder takes are hosts, and digits.
-use Rattle.uri_ops.proofs.Common.{◌≡◌, ℕ, ◌<◌, ◌^◌, Bool, true, ltb, List, [], ◌∷◌, refl, arith, inl, inr, codes, digit_value, is_ascii_digit, decimal, list_all, IsUtf8, and_from, nat_tests, All-weaker, list_all-from_AllPass, IsDigitOrDot, TableSet, LacksPercent, digit_set, is_valid_for, excludes, Ipv4, Ipv6, IsIpv4Text, IsIpv6Text, bracketed, host_kind, ipv6-text-is-address-text, is_host-sound, lacking_text_does_not_begin_with, valid_text_lacks_excluded_marks, ipv4-text-is-digits-and-dots, is_text_for, IsHostText}
+use Rattle.uri_ops.proofs.Common.{◌≡◌, ℕ, ◌<◌, ◌^◌, Bool, true, ltb, List, [], ◌∷◌, refl, arith, codes, digit_value, is_ascii_digit, decimal, list_all, IsUtf8, and_from, nat_tests, All-weaker, list_all-from_AllPass, IsDigitOrDot, TableSet, LacksPercent, digit_set, is_valid_for, excludes, Ipv4, Ipv6, IsIpv4Text, IsIpv6Text, bracketed, host_kind, ipv6-text-is-address-text, is_host-sound, lacking_text_does_not_begin_with, valid_text_lacks_excluded_marks, ipv4-text-is-digits-and-dots, is_text_for, IsHostText, common_steps}
 use Rattle.std.specs.Str.Parse.{AllDigits}
 use Rattle.std.proofs.lemmas.Fmt.{decimal_is_IsNumeral}
 use Rattle.std.proofs.lemmas.Str.Parse.{digit_from_value}
@@ -15,8 +15,7 @@ any_ascii c = ltb c 128
 -- building: the characters of an IPv4 address are ASCII
 digit-or-dot-is-ascii : (c : ℕ) → IsDigitOrDot c → is_ascii_in any_ascii c ≡ true
 unfolding any_ascii
-digit-or-dot-is-ascii c (inl range) = grind (arith, nat_tests)
-digit-or-dot-is-ascii c (inr dot) = grind (arith, nat_tests)
+digit-or-dot-is-ascii c o = grind (arith, common_steps)
 
 pub ipv4-text-is-host : (names : TableSet) (text octets : List ℕ) → IsIpv4Text text octets
     → IsHostText names text

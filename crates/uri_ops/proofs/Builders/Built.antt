@@ -1,6 +1,6 @@
 -- The text of a builder's parts is of its kind, with these components, exactly if nothing is
 -- rejected.
-use Rattle.uri_ops.proofs.Common.{◌≡◌, ℕ, ◌<◌, Bool, true, false, not, ◌&&◌, ◌||◌, List, [], ◌∷◌, ◌++◌, length, refl, sym, ap, subst, ◌∙◌, inl, inr, cond, string_bytes, arith, codes, Option, Some, None, IfSome, IfNone, is_some, unwrap_or, slice_index, is_ascii_alphabetic, IsUtf8, IsUtf8-from_is_utf8, and_parts, and_from, cond-true, cond-false, false≢true, not-true, not_from_false, nat_tests, TableSet, scheme_set, is_valid_for, positions_of, IsSplitOf, IsAbemptyPath, Lacks, has_authority, has_scheme, components, marked, starts, IsOfKind, Kind, components_meet_rules, has_colon_in_first_segment, absent_or_passes, is_authority, is_scheme, query_text, IsEmptyOrMarked-query_text, components-are-split-of-text, equal-to-true-is-IsTrue, scheme_set_lacks_percent, scheme_set_excludes_delimiters, valid_text_lacks_excluded_marks, only-split-is-components, scheme-rule-holds-without-need, BuilderParts, MeetsOrFailed, as_components, is_authority_text, is_scheme_text, is_text_for, meet_rules, parts_text, IsTextOfParts, refusal, build_error_of_path, HasComponentSets, is_empty, Draft, draft_parts, is_at_end, eq_true_from_IsTrue, authority_has_abempty_path}
+use Rattle.uri_ops.proofs.Common.{◌≡◌, ℕ, ◌<◌, Bool, true, false, not, ◌&&◌, ◌||◌, List, [], ◌++◌, length, refl, sym, ap, subst, ◌∙◌, cond, string_bytes, arith, codes, Option, Some, None, IfSome, IfNone, is_some, unwrap_or, slice_index, is_ascii_alphabetic, IsUtf8, IsUtf8-from_is_utf8, and_parts, false≢true, TableSet, scheme_set, is_valid_for, positions_of, IsSplitOf, IsAbemptyPath, Lacks, has_authority, has_scheme, components, marked, starts, IsOfKind, Kind, components_meet_rules, has_colon_in_first_segment, absent_or_passes, is_authority, is_scheme, query_text, components-are-split-of-text, equal-to-true-is-IsTrue, scheme_set_lacks_percent, scheme_set_excludes_delimiters, valid_text_lacks_excluded_marks, only-split-is-components, scheme-rule-holds-without-need, BuilderParts, MeetsOrFailed, as_components, is_authority_text, is_scheme_text, is_text_for, meet_rules, parts_text, IsTextOfParts, refusal, build_error_of_path, HasComponentSets, is_empty, Draft, draft_parts, is_at_end, eq_true_from_IsTrue, authority_has_abempty_path, common_steps}
 use Rattle.uri_ops.specs.declared.build.error.BuildError.{BuildError}
 use Rattle.uri_ops.specs.declared.build.error.BuildError.TheVariants.{FirstPathSegmentContainsColon, NonemptyRootlessPath, PathStartsWithDoubleSlash}
 use Rattle.uri_ops.proofs.Builders.PartRules.{in-order-parts-pass-their-test}
@@ -29,8 +29,7 @@ scheme-text-is-utf8-scheme x e = let p = and_parts _
 -- what a test implies holds of a part that passes it, if there is one
 passing-option-has-property : (o : Option (List ℕ)) (test : List ℕ → Bool) (P : List ℕ → Type 0)
     → ((x : List ℕ) → test x ≡ true → P x) → absent_or_passes o test ≡ true → IfSome o P
-passing-option-has-property None test P f h = tt
-passing-option-has-property (Some x) test P f h = f x h
+passing-option-has-property o test q f h = grind (arith, common_steps)
 
 -- building: a path that passes its test, or the empty one for none, is UTF-8 and valid
 passing-path-is-set-text : (set : TableSet) (o : Option (List ℕ))
@@ -56,54 +55,41 @@ some-is-not-none e = false≢true (sym (ap is_some e))
 
 -- building: if a test alone decides an error (x) and there is none, the test passed
 no-error-means-test-passed : (t : Bool) (x : BuildError) → cond t None (Some x) ≡ None → t ≡ true
-no-error-means-test-passed true x e = refl
-no-error-means-test-passed false x e = absurd (some-is-not-none e)
+no-error-means-test-passed t x e = grind (arith, common_steps, some-is-not-none)
 
 -- building: if a test decides an error (x) and there is none,
 -- the test failed and the rest has no error
 no-error-means-no-cause : (t : Bool) (x : BuildError) (rest : Option BuildError)
     → cond t (Some x) rest ≡ None → (t ≡ false) × (rest ≡ None)
-no-error-means-no-cause true x rest e = absurd (some-is-not-none e)
-no-error-means-no-cause false x rest e = (refl, e)
+no-error-means-no-cause t x rest e = grind (arith, common_steps, some-is-not-none)
 
 -- building: a path that is empty or whose first byte is `/` (47) may be after an authority
 empty-or-slash-first-is-abempty : (path : List ℕ) → (is_empty path || starts 47 path) ≡ true
     → IsAbemptyPath path
-empty-or-slash-first-is-abempty [] e = inl refl
-empty-or-slash-first-is-abempty (c ∷ path) e = inr (equal-to-true-is-IsTrue _ e)
+empty-or-slash-first-is-abempty path e = grind (arith, common_steps, equal-to-true-is-IsTrue)
 
 -- building: a path that may be after an authority is empty or has `/` (47) as its first byte
 abempty-is-empty-or-slash-first : (path : List ℕ) → IsAbemptyPath path
     → (is_empty path || starts 47 path) ≡ true
-abempty-is-empty-or-slash-first [] r = refl
-abempty-is-empty-or-slash-first (c ∷ path) (inl e) = grind (arith, false≢true, is_empty)
-abempty-is-empty-or-slash-first (c ∷ path) (inr t) = eq_true_from_IsTrue _ t
+abempty-is-empty-or-slash-first path r = grind (arith, common_steps, eq_true_from_IsTrue)
 
 path-without-build-error-is-accepted : (scheme authority : Option (List ℕ)) (path : List ℕ)
     → first_build_error scheme authority path ≡ None → IsAcceptedPath scheme authority path
 unfolding first_build_error
-path-without-build-error-is-accepted scheme (Some a) path e = record {
-  rooted = empty-or-slash-first-is-abempty path (no-error-means-test-passed _ _ e);
-  no_authority = tt;
-  no_colon = or_true scheme;
-}
-  where
-    or_true : (o : Option (List ℕ)) → (is_some o || true) ≡ true
-    or_true None = refl
-    or_true (Some x) = refl
-path-without-build-error-is-accepted None None path e =
-    grind (arith, nat_tests, no-error-means-no-cause, not_from_false)
-path-without-build-error-is-accepted (Some s) None path e =
-    grind (arith, nat_tests, no-error-means-no-cause)
+path-without-build-error-is-accepted scheme authority path e =
+    grind (
+      arith,
+      common_steps,
+      empty-or-slash-first-is-abempty,
+      no-error-means-test-passed,
+      no-error-means-no-cause,
+    )
 
 accepted-path-has-no-build-error : (scheme authority : Option (List ℕ)) (path : List ℕ)
     → IsAcceptedPath scheme authority path → first_build_error scheme authority path ≡ None
 unfolding first_build_error
-accepted-path-has-no-build-error scheme (Some a) path p = cond-true _ _ _
-    (abempty-is-empty-or-slash-first path p.rooted)
-accepted-path-has-no-build-error None None path p = cond-false _ _ _ p.no_authority
-    ∙ cond-false _ _ _ (not-true _ p.no_colon)
-accepted-path-has-no-build-error (Some s) None path p = cond-false _ _ _ p.no_authority
+accepted-path-has-no-build-error scheme authority path p =
+    grind (arith, common_steps, abempty-is-empty-or-slash-first)
 
 refusal-is-first_build_error : (p : BuilderParts)
     → refusal p ≡ first_build_error p.scheme p.authority (unwrap_or p.path [])
@@ -114,8 +100,7 @@ refusal-is-first_build_error p = refl
 -- there, or may be missing before the path
 scheme-rule-from-need-and-colon-rules : (needs s r : Bool)
     → (s || not needs) ≡ true → (s || r) ≡ true → (s || (not needs && r)) ≡ true
-scheme-rule-from-need-and-colon-rules needs true r a b = refl
-scheme-rule-from-need-and-colon-rules needs false r a b = and_from _ _ a b
+scheme-rule-from-need-and-colon-rules needs s r a b = grind (arith, common_steps)
 
 module _ (kind : Kind) (sets : HasComponentSets kind) (p : BuilderParts)
     (rules : meet_rules kind p ≡ true) where
@@ -155,9 +140,8 @@ module _ (kind : Kind) (sets : HasComponentSets kind) (p : BuilderParts)
       → absent_or_passes authority (is_authority_text kind) ≡ true
       → IfSome authority (λ a. IsAbemptyPath path)
       → IfSome authority (λ a. Lacks (codes "/?#") a × IsAbemptyPath path)
-  authority-lacks-ends-before-abempty-path None path h r = tt
-  authority-lacks-ends-before-abempty-path (Some a) path h r =
-      (authority-lacks-its-ends kind sets a h, r)
+  authority-lacks-ends-before-abempty-path authority path h r =
+      grind (arith, common_steps, authority-lacks-its-ends)
 
   scheme-text-lacks-its-ends : (scheme : Option (List ℕ)) → absent_or_passes scheme is_scheme_text
       ≡ true → IfSome scheme (λ s. (0 < length s) × Lacks (codes ":/?#") s)
@@ -174,11 +158,8 @@ module _ (kind : Kind) (sets : HasComponentSets kind) (p : BuilderParts)
       (path : List ℕ) (query fragment : Option (List ℕ)) → IsAcceptedPath scheme authority path
       → IfNone scheme (has_scheme (marked [] scheme (codes ":")
       ++ (marked (codes "//") authority [] ++ (path ++ query_text query fragment))) ≡ false)
-  accepted-parts-without-scheme-have-none (Some s) authority path query fragment pass = tt
-  accepted-parts-without-scheme-have-none None (Some a) path query fragment pass = refl
-  accepted-parts-without-scheme-have-none None None path query fragment pass =
-      no_scheme path (query_text query fragment) (not-true _ pass.no_colon)
-      (IsEmptyOrMarked-query_text query fragment)
+  accepted-parts-without-scheme-have-none scheme authority path query fragment pass =
+      grind (arith, no_scheme, query_text)
 
   accepted-parts-are-split-of-text : (needs : (is_some p.scheme || not kind.needs_scheme) ≡ true)
       → IsAcceptedPath p.scheme p.authority path_or_empty

@@ -1,5 +1,5 @@
 -- Each step of a builder knows where the host is in the authority.
-use Rattle.uri_ops.proofs.Common.{common_steps, ◌≡◌, ℕ, ◌+◌, Bool, true, false, List, [], ◌∷◌, ◌++◌, length, refl, sym, ap, subst, ◌∙◌, arith, length-append, codes, Option, Some, None, IfSome, option_map, unwrap_or, option_map_or, IsUtf8, IsUtf8-from_is_utf8, and_parts, false≢true, nat_tests, TableSet, digit_set, is_valid_for, AuthorityParts, authority_parts, is_authority_for, Kind, absent_or_passes, host_end_of, host_start_of, delimited_length, is_authority_for-sound, Draft, Lengths, AddsUnlessFailed, BuilderParts, MeetsOrFailed, is_authority_text, is_text_for, lacks_host_and_port, lacks_port, with_authority, with_more_authority, draft_parts, ends_in_authority, is_in_order, HasComponentSets, is_empty, IsHostText, IsHostAtIfSome, IsHostAt, HasRightHostRange}
+use Rattle.uri_ops.proofs.Common.{common_steps, ◌≡◌, ℕ, ◌+◌, Bool, true, false, List, [], ◌∷◌, ◌++◌, length, refl, sym, ap, subst, ◌∙◌, arith, length-append, codes, Option, IfSome, option_map, unwrap_or, option_map_or, IsUtf8, IsUtf8-from_is_utf8, and_parts, false≢true, nat_tests, TableSet, digit_set, is_valid_for, AuthorityParts, authority_parts, is_authority_for, Kind, absent_or_passes, host_end_of, host_start_of, delimited_length, is_authority_for-sound, Draft, Lengths, AddsUnlessFailed, BuilderParts, MeetsOrFailed, is_authority_text, is_text_for, lacks_host_and_port, lacks_port, with_authority, with_more_authority, draft_parts, ends_in_authority, is_in_order, HasComponentSets, is_empty, IsHostText, IsHostAtIfSome, IsHostAt, HasRightHostRange}
 use Rattle.uri_ops.specs.declared.build.places.HostRange.{HostRange}
 use Rattle.uri_ops.proofs.Builders.BuilderAuthorities.{authority-text-meets-rule, host-extends-authority, port-extends-authority, userinfo-begins-authority}
 use Rattle.uri_ops.proofs.Builders.Drafting.{meet_rules-gives-rules}
@@ -33,8 +33,7 @@ empty-authority-has-host-range place s t = record { start = s; end = t; inside =
 
 pub host-range-of-some-authority : (place : HostRange) (o : Option (List ℕ))
     → IsHostAtIfSome place o → IfSome o (IsHostAt place)
-host-range-of-some-authority place None has = tt
-host-range-of-some-authority place (Some a) has = has a refl
+host-range-of-some-authority place o has = grind (arith, common_steps)
 
 -- building: if positions are those of the host in the authority, if there is one,
 -- they pass the test for an option
@@ -71,9 +70,7 @@ module _ (kind : Kind) (needs : Bool) (d e : Draft) (x : List ℕ) (takes : List
       → option_map_or takes o false ≡ true → IfSome o (IsHostAt d.host)
       → option_map length (option_map (λ t. t ++ x) o) ≡ e.lengths.authority
       → IfSome (option_map (λ t. t ++ x) o) (IsHostAt e.host)
-  host-range-of-appended-authority whole None rule t at len = absurd (false≢true t)
-  host-range-of-appended-authority whole (Some a) rule t at len = step whole a rule t at
-      (ap (λ o. unwrap_or o 0) (sym len))
+  host-range-of-appended-authority whole q rule t at len = grind (arith, common_steps)
 
   pub host-range-of-longer-authority : HasRightHostRange d → HasRightHostRange e
   host-range-of-longer-authority knows whole =

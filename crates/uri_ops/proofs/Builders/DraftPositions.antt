@@ -1,6 +1,5 @@
 -- Where the parts of a builder are in its text.
-use Rattle.uri_ops.proofs.Common.{common_steps, ◌≡◌, ℕ, ◌+◌, ◌≤◌, List, length, subst, arith, string_bytes, option_map, false, Option, Some, None, IfSome, nat_tests, positions_of, Draft, Lengths, BuilderParts, as_components, parts_text, draft_parts, lengths_of, IsHostAt, HasRightHostRange, positions_from_lengths, delimited_len}
-use Rattle.uri_ops.specs.declared.build.places.HostRange.{HostRange}
+use Rattle.uri_ops.proofs.Common.{common_steps, ◌≡◌, ◌+◌, ◌≤◌, length, subst, arith, string_bytes, option_map, false, IfSome, nat_tests, positions_of, Draft, Lengths, BuilderParts, as_components, parts_text, draft_parts, lengths_of, IsHostAt, HasRightHostRange, positions_from_lengths, delimited_len}
 use Rattle.uri_ops.proofs.Builders.DraftHosts.{host-range-of-some-authority}
 
 -- building: the parts with their delimiters, up to the query, are no longer than the text
@@ -8,16 +7,6 @@ part-lengths-are-within-text : (p : BuilderParts) → delimited_len 1 (option_ma
     + delimited_len 2 (option_map length p.authority) + delimited_len 0 (option_map length p.path)
     + delimited_len 1 (option_map length p.query) ≤ length (parts_text p)
 part-lengths-are-within-text p = grind (arith, common_steps)
-
-host-start-is-within-authority-length : (host : HostRange) (o : Option (List ℕ))
-    → IfSome o (IsHostAt host) → IfSome (option_map length o) (λ n. host.start ≤ n)
-host-start-is-within-authority-length host None h = tt
-host-start-is-within-authority-length host (Some a) h = omega (arith, h.start, h.end, h.inside)
-
-host-end-is-within-authority-length : (host : HostRange) (o : Option (List ℕ))
-    → IfSome o (IsHostAt host) → IfSome (option_map length o) (λ n. host.end ≤ n)
-host-end-is-within-authority-length host None h = tt
-host-end-is-within-authority-length host (Some a) h = h.inside
 
 module _ (d : Draft) (whole : d.failed ≡ false) (knows : HasRightHostRange d) where
   abbrev parts : BuilderParts
@@ -48,9 +37,7 @@ module _ (d : Draft) (whole : d.failed ≡ false) (knows : HasRightHostRange d) 
       ≤ length t) text-of-parts-is-draft-text (part-lengths-are-within-text parts))
 
   pub host-start-is-in-authority : IfSome d.lengths.authority (λ n. d.host.start ≤ n)
-  host-start-is-in-authority =
-      grind (arith, nat_tests, host, counted, host-start-is-within-authority-length)
+  host-start-is-in-authority = grind (arith, nat_tests, host, counted)
 
   pub host-end-is-in-authority : IfSome d.lengths.authority (λ n. d.host.end ≤ n)
-  host-end-is-in-authority =
-      grind (arith, nat_tests, host, counted, host-end-is-within-authority-length)
+  host-end-is-in-authority = grind (arith, nat_tests, host, counted)

@@ -1,25 +1,21 @@
 -- The text of the parts of a builder: parsing it gives the parts, and a text with these parts is
 -- such a text.
-use Rattle.uri_ops.proofs.Common.{common_steps, ◌≡◌, ℕ, ◌+◌, Bool, true, false, List, [], ◌++◌, length, refl, sym, ap, ◌∙◌, arith, append_assoc, append-nil, codes, Option, Some, None, option_map, unwrap_or, is_none, and_from, false≢true, drop-append_seam, take-append_seam, nat_tests, marked, recompose, Kind, absent_or_passes, components_of_parts, Lengths, BuilderParts, is_authority_text, is_scheme_text, is_text_for, meet_rules, parts_text, IsDraft, after_part, lengths_of, part_in, parts_in}
+use Rattle.uri_ops.proofs.Common.{common_steps, ◌≡◌, ℕ, ◌+◌, Bool, true, false, List, [], ◌++◌, length, refl, sym, ap, ◌∙◌, arith, append_assoc, append-nil, codes, Option, Some, None, option_map, unwrap_or, is_none, and_from, drop-append_seam, take-append_seam, nat_tests, marked, recompose, Kind, absent_or_passes, components_of_parts, Lengths, BuilderParts, is_authority_text, is_scheme_text, is_text_for, meet_rules, parts_text, IsDraft, after_part, lengths_of, part_in, parts_in}
 
 -- building: a component with its delimiters (before,
 -- suffix) is passed over by its length, to the rest
 after_part-skips-delimited-component : (before suffix : List ℕ) (marks : ℕ)
     → marks ≡ length before + length suffix → (o : Option (List ℕ)) (rest : List ℕ)
     → after_part marks (option_map length o) (marked before o suffix ++ rest) ≡ rest
-after_part-skips-delimited-component before suffix marks e None rest = refl
-after_part-skips-delimited-component before suffix marks e (Some x) rest =
-    grind (arith, common_steps)
+after_part-skips-delimited-component before suffix marks e rest q = grind (arith, common_steps)
 
 part_in-finds-delimited-component : (before suffix : List ℕ) (o : Option (List ℕ)) (rest : List ℕ)
     → part_in (length before) (option_map length o) (marked before o suffix ++ rest) ≡ o
-part_in-finds-delimited-component before suffix None rest = refl
-part_in-finds-delimited-component before suffix (Some x) rest =
-    grind (arith, nat_tests, append_assoc, drop-append_seam, take-append_seam)
+part_in-finds-delimited-component before suffix o rest =
+    grind (arith, common_steps, append_assoc, drop-append_seam, take-append_seam)
 
 path-is-component-without-delimiters : (o : Option (List ℕ)) → unwrap_or o [] ≡ marked [] o []
-path-is-component-without-delimiters None = refl
-path-is-component-without-delimiters (Some x) = sym (append-nil x)
+path-is-component-without-delimiters o = grind (arith, common_steps, append-nil)
 
 builder-parts-of-equal-components : {s1 s2 a1 a2 p1 p2 q1 q2 f1 f2 : Option (List ℕ)}
     {failed : Bool}
@@ -101,8 +97,7 @@ rules-give-meet_rules kind p r = and_from _ _ r.scheme
 
 pub absent-part-has-no-length : (mark : ℕ) (n : Option ℕ) (text : List ℕ)
     → is_none (part_in mark n text) ≡ true → n ≡ None
-absent-part-has-no-length mark None text e = refl
-absent-part-has-no-length mark (Some n) text e = absurd (false≢true e)
+absent-part-has-no-length mark n text e = grind (arith, common_steps)
 
 pub recompose-with-query-appended : (scheme authority : Option (List ℕ)) (path x : List ℕ)
     → recompose (components_of_parts scheme authority path None None) ++ (codes "?" ++ x)

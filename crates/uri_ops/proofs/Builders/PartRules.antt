@@ -1,5 +1,5 @@
 -- What each step keeps of a builder's parts: each meets its rule, and they are at the next place.
-use Rattle.uri_ops.proofs.Common.{◌≡◌, ℕ, Bool, true, false, ◌&&◌, ◌||◌, List, [], ◌++◌, refl, sym, ap, ◌∙◌, arith, Option, Some, None, is_some, is_none, option_map, option_map_or, and_parts, and_from, false≢true, nat_tests, Kind, absent_or_passes, AddsUnlessFailed, BuilderParts, MeetsOrFailed, is_authority_text, is_scheme_text, is_text_for, meet_rules, with_authority, with_fragment, with_more_authority, with_path, with_query, with_scheme, any_authority, ends_in_authority, has_path, has_path_before_fragment, has_path_last, has_needed_scheme, is_fresh, lacks_query_and_fragment, lacks_all, lacks_authority, lacks_path, is_in_order, is_empty, second-holds-if-first-is-false}
+use Rattle.uri_ops.proofs.Common.{◌≡◌, ℕ, Bool, true, false, ◌&&◌, List, [], ◌++◌, refl, sym, ap, ◌∙◌, arith, Option, is_some, is_none, option_map, option_map_or, and_parts, and_from, false≢true, nat_tests, Kind, absent_or_passes, AddsUnlessFailed, BuilderParts, MeetsOrFailed, is_authority_text, is_scheme_text, is_text_for, meet_rules, with_authority, with_fragment, with_more_authority, with_path, with_query, with_scheme, any_authority, ends_in_authority, has_path, has_path_before_fragment, has_path_last, has_needed_scheme, is_fresh, lacks_query_and_fragment, lacks_all, lacks_authority, lacks_path, is_in_order, is_empty, second-holds-if-first-is-false, common_steps}
 use Rattle.uri_ops.proofs.Builders.BuilderGrowth.{ExtendsAuthority}
 use Rattle.uri_ops.proofs.Builders.Drafting.{rules-give-meet_rules, meet_rules-gives-rules}
 
@@ -32,14 +32,7 @@ pub in-order-parts-end-in-authority : (takes : List ℕ → Bool) (needs : Bool)
     → is_in_order (ends_in_authority takes) needs p ≡ true → p.failed ≡ false
     → ends_in_authority any_authority p ≡ true
 in-order-parts-end-in-authority takes needs p h whole =
-    let q = and_parts (option_map_or takes p.authority false) (lacks_path p)
-    (in-order-parts-pass-the-test (ends_in_authority takes) needs p h whole) in
-    and_from _ _ (there p.authority q.0) q.1
-  where
-    there : (o : Option (List ℕ)) → option_map_or takes o false ≡ true
-        → option_map_or any_authority o false ≡ true
-    there None e = e
-    there (Some a) e = refl
+    grind (arith, common_steps, in-order-parts-pass-the-test)
 
 -- building: after a path there is neither query nor fragment yet;
 -- the Bool is whether the kind needs a scheme
@@ -70,12 +63,7 @@ module _ (change : BuilderParts → BuilderParts) (p q : BuilderParts)
       → (p.failed ≡ false → (has_needed_scheme needs (change p) && test (change p)) ≡ true)
       → is_in_order test needs q ≡ true
   unfolding is_in_order
-  changed-parts-are-in-order test needs then = located q.failed refl
-    where
-      located : (f : Bool) → q.failed ≡ f → (f || (has_needed_scheme needs q && test q)) ≡ true
-      located true e = refl
-      located false e = ap (λ r. has_needed_scheme needs r && test r) (adds e)
-          ∙ then (failure-is-kept e)
+  changed-parts-are-in-order test needs then = grind (arith, common_steps, then, failure-is-kept)
 
 module _ (kind : Kind) (needs : Bool) (p q : BuilderParts) (x : List ℕ) where
   pub parts-with-scheme-meet-rules : AddsUnlessFailed (with_scheme x) p q
@@ -168,14 +156,11 @@ module _ (kind : Kind) (needs : Bool) (p q : BuilderParts) (x : List ℕ) (takes
 
   pub parts-with-longer-authority-are-in-order : is_in_order (ends_in_authority then) needs q ≡ true
   unfolding is_in_order
-  parts-with-longer-authority-are-in-order = located q.failed refl
-    where
-      located : (f : Bool) → q.failed ≡ f
-          → (f || (has_needed_scheme needs q && ends_in_authority then q)) ≡ true
-      located true f = refl
-      located false f =
-          let e = failure-is-kept (with_more_authority x) p q adds refl f in
-          let h = in-order-parts-pass-their-test (ends_in_authority takes) needs p before e in
-          ap (λ r. has_needed_scheme needs r && ends_in_authority then r) (adds f)
-          ∙ and_from _ _ h.0 (and_from _ _ (authority-of-parts-is-extended f e).next
-          (and_parts (option_map_or takes p.authority false) (lacks_path p) h.1).1)
+  parts-with-longer-authority-are-in-order =
+      grind (
+        arith,
+        common_steps,
+        failure-is-kept,
+        in-order-parts-pass-their-test,
+        authority-of-parts-is-extended,
+      )

@@ -1,13 +1,12 @@
 -- Texts that are read from their ends in blocks.
-use Rattle.uri_ops.proofs.Common.{common_steps, ◌≡◌, ◌↔◌, ℕ, ◌<◌, ◌≤◌, ◌+◌, ◌-◌, Bool, true, false, List, [], ◌∷◌, ◌++◌, length, take, drop, refl, sym, ap, ◌∙◌, arith, append_assoc, ⊎_elim, cases_lt, append-nil, length-append, get_or-take, length-drop, length-take-le, drop_all, drop_at, map-append, take-append-drop, take_all, to_ascii_lowercase, cased, has_authority}
+use Rattle.uri_ops.proofs.Common.{common_steps, ◌≡◌, ◌↔◌, ℕ, ◌<◌, ◌≤◌, ◌+◌, ◌-◌, Bool, List, [], ◌∷◌, ◌++◌, length, take, drop, sym, ap, ◌∙◌, arith, append_assoc, ⊎_elim, cases_lt, append-nil, length-append, get_or-take, length-drop, length-take-le, drop_all, drop_at, map-append, take-append-drop, take_all, cased, has_authority}
 use Rattle.std.proofs.lemmas.List.{append_cancel_right}
 use Rattle.std.specs.List.{copy_within}
 use Rattle.uri_ops.specs.FromEnd.Blocks.{IsLastBlock, IsPut}
 
 cased_texts_append : (lowers : Bool) (one other : List ℕ)
     → cased lowers (one ++ other) ≡ cased lowers one ++ cased lowers other
-cased_texts_append true one other = map-append to_ascii_lowercase one other
-cased_texts_append false one other = refl
+cased_texts_append lowers one other = grind (arith, common_steps, map-append)
 
 -- texts that are copied: a text is what is left of it, and then what was read
 pub literal_is_read : (lowers : Bool) (n : ℕ) (text before after : List ℕ)
@@ -43,12 +42,6 @@ pub last_block_is_taken_off_both : (size : ℕ) (text left block other rest : Li
 last_block_is_taken_off_both size text left block other rest a e =
     grind (arith, append_cancel_right)
 
-first_two_bytes_decide : (left block : List ℕ)
-    → has_authority (left ++ block) ≡ has_authority (left ++ take 2 block)
-first_two_bytes_decide [] block = grind (arith, get_or-take)
-first_two_bytes_decide (a ∷ []) block = grind (arith, get_or-take)
-first_two_bytes_decide (a ∷ b ∷ left) block = refl
-
 first_two_bytes_are_copied : (n : ℕ) (block : List ℕ) → n + 2 ≡ length block
     → drop n (copy_within block 0 2 n) ≡ take 2 block
 first_two_bytes_are_copied n block size =
@@ -59,7 +52,7 @@ pub first_two_bytes_of_block_decide : (n start : ℕ) (left block kept : List �
     → n + 2 ≡ length block → kept ≡ copy_within block 0 2 n
     → has_authority (left ++ drop start block) ≡ has_authority (left ++ drop n kept)
 first_two_bytes_of_block_decide n start left block kept full size e =
-    grind (arith, first_two_bytes_decide, first_two_bytes_are_copied)
+    grind (arith, get_or-take, common_steps, first_two_bytes_are_copied)
 
 pub first_two_bytes_are_fewer : (n start : ℕ) (left block kept read : List ℕ) → start + 2 < n
     → n + 2 ≡ length block → length kept ≡ length block → left ++ drop n kept ≡ read

@@ -1,6 +1,6 @@
 -- A component that ends in ASCII: its last characters are written as they are, but for case, and its
 -- last octet is decoded by itself.
-use Rattle.uri_ops.proofs.Common.{common_steps, ◌≡◌, ℕ, ◌-◌, ◌<◌, inl, Bool, true, false, List, [], ◌∷◌, ◌++◌, length, take, drop, refl, sym, ap, ◌∙◌, subst, arith, ⊎_elim, append_assoc, length-append, flat_map, IsUtf8, cases_Bool, get_or_at, length-drop, length-take, take-append-drop, take_all, flat_map-append, IsUtf8-append, encode_ascii, widest_set, decode_after_run, decode_octet, decode_piece, decode_run, encode_formatting, pieces_from, utf8_pieces, TableSet, is_unreserved, IsValidFor, Token, Char, Octet, print, byte_below_80_or_from_c0_is_no_continuation, utf8_pieces_are_cut_at_non_continuation, ascii_char_separates_encode_formatting, IsAsciiSuffix, LacksPercentThird, cased, normal_component, lowered_code_if, lowered_if}
+use Rattle.uri_ops.proofs.Common.{common_steps, ◌≡◌, ℕ, ◌-◌, ◌<◌, inl, Bool, List, [], ◌∷◌, ◌++◌, length, take, drop, refl, sym, ap, ◌∙◌, subst, arith, ⊎_elim, append_assoc, length-append, flat_map, IsUtf8, cases_Bool, get_or_at, length-drop, length-take, take-append-drop, take_all, flat_map-append, IsUtf8-append, encode_ascii, widest_set, decode_after_run, decode_octet, decode_piece, decode_run, encode_formatting, pieces_from, utf8_pieces, TableSet, is_unreserved, IsValidFor, Token, Char, Octet, print, byte_below_80_or_from_c0_is_no_continuation, utf8_pieces_are_cut_at_non_continuation, ascii_char_separates_encode_formatting, IsAsciiSuffix, LacksPercentThird, cased, normal_component, lowered_code_if, lowered_if}
 use Rattle.uri_pct.proofs.Offered.{ascii_byte_is_utf8}
 use Rattle.uri_ops.specs.FromEnd.LastTokens.{EndsIn}
 use Rattle.uri_ops.proofs.FromEnd.LastTokens.{last_char_is_last_token, no_octet_ends_text}
@@ -46,8 +46,7 @@ last_ascii_octet_is_written_last set lowers text before b ends low =
 
 first_character_is_cased : (lowers : Bool) (c : ℕ) (run : List ℕ)
     → cased lowers (c ∷ run) ≡ lowered_code_if lowers c ∷ cased lowers run
-first_character_is_cased true c run = refl
-first_character_is_cased false c run = refl
+first_character_is_cased lowers c run = grind (arith, common_steps)
 
 ascii_suffix_without_first_byte : (before run : List ℕ) (c : ℕ) → IsAsciiSuffix (before ++ c
     ∷ run) (length before) → IsAsciiSuffix ((before ++ c ∷ []) ++ run) (length (before ++ c ∷ []))

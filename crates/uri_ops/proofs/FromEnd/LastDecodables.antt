@@ -15,10 +15,7 @@ same_octets_have_same_values [] [] e = refl
 same_octets_have_same_values [] (b ∷ es) e = cc
 same_octets_have_same_values (b ∷ bs) [] e = cc
 same_octets_have_same_values (b ∷ bs) (f ∷ es) e =
-    let head : b ≡ f = cc in
-    let tail : map Octet bs ≡ map Octet es = cc in
-    let rest : bs ≡ es = same_octets_have_same_values bs es tail in
-    cc
+    grind (arith, common_steps, (same_octets_have_same_values bs es))
 
 octets_end_octets : (before : List Token) (bs es : List ℕ)
     → map Octet bs ≡ before ++ map Octet es → (xs : List ℕ) × (bs ≡ xs ++ es)

@@ -49,8 +49,7 @@ one_more_byte_keeps_or_lengthens (Some ranges) b xs v = ⊎_elim (λ same.
 
 no_bytes_have_no_pieces : (k : ℕ) → pieces_from k [] ≡ []
 unfolding pieces_from
-no_bytes_have_no_pieces zero = refl
-no_bytes_have_no_pieces (suc k) = refl
+no_bytes_have_no_pieces k = grind (arith, common_steps)
 
 no_pieces_after_all_bytes : (k : ℕ) (bytes : List ℕ) → length bytes ≤ k → pieces_from k bytes ≡ []
 no_pieces_after_all_bytes k bytes all = pieces_from_are_pieces_after_skipped_bytes k bytes

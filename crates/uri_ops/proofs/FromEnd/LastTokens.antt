@@ -18,8 +18,7 @@ percent_is_no_second_digit c d = and_right _ _ (and_right _ _ refl)
 char_before_percent_is_own_token : (c : ℕ) (ds : List ℕ)
     → tokens_from_chars (c ∷ 37 ∷ ds) ≡ Char c ∷ tokens_from_chars (37 ∷ ds)
 unfolding tokens_from_chars
-char_before_percent_is_own_token c [] = refl
-char_before_percent_is_own_token c (d ∷ ds) = cond-false _ _ _ (percent_is_no_first_digit c d)
+char_before_percent_is_own_token c ds = grind (arith, common_steps, percent_is_no_first_digit)
 
 -- cuts of valid texts: `%` (37) separates the tokens before it from those from it on
 percent_separates_tokens_of_chars : (cs ds : List ℕ)

@@ -1,5 +1,5 @@
 -- The components of a normal text, in the pieces that they are read in.
-use Rattle.uri_ops.proofs.Common.{arith, ◌≡◌, ℕ, Bool, true, false, List, [], ◌++◌, refl, sym, ap, ◌∙◌, eqb, length, option_map, Option, Some, None, is_some, str_to_ascii_lowercase, cond-false, cond-true, eqb-true, append-nil, nil_from_length, decode_unreserved, TableSet, print, is_some-option_map, Components, starts, Kind, host_kind, ipv4_value, ipv6_value, literal_kind, literal_of, name_kind, PortFunction, remove_dot_segments, components_meaning, host_meaning, host_text, normal_authority, normal_path, normal_path_text, guarded, has_authority, normal_component}
+use Rattle.uri_ops.proofs.Common.{arith, ◌≡◌, ℕ, Bool, true, false, List, [], ◌++◌, refl, sym, ap, ◌∙◌, eqb, length, option_map, Option, is_some, str_to_ascii_lowercase, eqb-true, append-nil, nil_from_length, decode_unreserved, TableSet, print, is_some-option_map, Components, starts, Kind, host_kind, PortFunction, remove_dot_segments, components_meaning, host_meaning, host_text, normal_authority, normal_path_text, guarded, has_authority, normal_component, common_steps, codes, marked, default_port_of, normal_authority_with_delimiter, normal_part, normal_scheme, normal_text}
 use Rattle.uri_ops.specs.FromEnd.Addresses.{ipv6_host_text}
 use Rattle.uri_ops.proofs.FromEnd.NormalTokens.{nothing_is_left}
 
@@ -33,63 +33,47 @@ pub normal_path_under_scheme : (set : TableSet) (scheme authority : Option (List
     (path : List ℕ) → is_some scheme ≡ true → starts 47 path ≡ true
     → guarded authority (print (decode_unreserved set (remove_dot_segments path)))
     ≡ normal_path_text set scheme authority path
-normal_path_under_scheme set None authority path e s = cc
-normal_path_under_scheme set (Some scheme) authority path e s =
-    ap (λ t. guarded authority (print (decode_unreserved set t))) (sym (cond-true _ _ _ s))
+normal_path_under_scheme set scheme authority path e s = grind (arith, common_steps)
 
 -- normal paths: only one that would be parsed as an authority, where there is none, is guarded
 pub path_after_authority_is_unguarded : (authority : Option (List ℕ)) (path : List ℕ)
     → is_some authority ≡ true → guarded authority path ≡ path
-path_after_authority_is_unguarded None path none = cc
-path_after_authority_is_unguarded (Some authority) path some = refl
+path_after_authority_is_unguarded authority path none = grind (arith, common_steps)
 
 pub path_without_two_slashes_is_unguarded : (authority : Option (List ℕ)) (path : List ℕ)
     → has_authority path ≡ false → guarded authority path ≡ path
-path_without_two_slashes_is_unguarded None path none = cond-false _ _ _ none
-path_without_two_slashes_is_unguarded (Some authority) path none = refl
+path_without_two_slashes_is_unguarded authority path none = grind (arith, common_steps)
 
-pub normal_path_of_components : (kind : Kind) (ports : PortFunction) (p : Components)
-    → (let m = components_meaning kind ports p in
-    normal_path_text kind.path p.scheme (option_map normal_authority m.authority) p.path
-    ≡ normal_path m)
-normal_path_of_components kind ports p = grind (arith, is_some-option_map)
+-- normal texts: the pieces, of components and sets found equal to these, are the whole text
+pub pieces_are_normal_text : (kind : Kind) (ports : PortFunction) (p : Components)
+    (scheme query fragment : Option (List ℕ)) (path_set query_set fragment_set : TableSet)
+    → scheme ≡ p.scheme → query ≡ p.query → fragment ≡ p.fragment → path_set ≡ kind.path
+    → query_set ≡ kind.query → fragment_set ≡ kind.fragment
+    → marked [] (normal_scheme scheme) (codes ":")
+    ++ (normal_authority_with_delimiter kind (default_port_of ports scheme) p.authority
+    ++ (normal_path_text path_set p.scheme
+    (option_map normal_authority (components_meaning kind ports p).authority) p.path
+    ++ (marked (codes "?") (normal_part query_set query) []
+    ++ marked (codes "#") (normal_part fragment_set fragment) [])))
+    ≡ normal_text (components_meaning kind ports p)
+pieces_are_normal_text kind ports p scheme query fragment path_set parts_set last_set s q f a b c =
+    grind (arith, is_some-option_map)
 
 -- normal hosts: a host without brackets is no IPv6 address
 pub name_has_no_address : (host : List ℕ) → starts 91 host ≡ false
     → ipv6_host_text (host_kind host) ≡ []
 unfolding host_kind
-name_has_no_address host s = ap ipv6_host_text (cond-false _ _ _ s) ∙ by_value (ipv4_value host)
-  where
-    by_value : (value : Option (List ℕ)) → ipv6_host_text (name_kind value) ≡ []
-    by_value None = refl
-    by_value (Some octets) = refl
+name_has_no_address host s = grind (arith, common_steps)
 
 -- normal hosts: a host in brackets that is no IPv6 address is in lower case
 pub host_without_address_is_lowered : (names : TableSet) (host : List ℕ) → starts 91 host ≡ true
     → ipv6_host_text (host_kind host) ≡ []
     → str_to_ascii_lowercase host ≡ host_text (host_meaning names host (host_kind host))
 unfolding host_kind
-host_without_address_is_lowered names host s none =
-    let kind = cond-true _ _ _ s in
-    by_value (ipv6_value (literal_of host)) (sym (ap ipv6_host_text kind) ∙ none)
-    ∙ sym (ap (λ k. host_text (host_meaning names host k)) kind)
-  where
-    by_value : (value : Option (List ℕ)) → ipv6_host_text (literal_kind value) ≡ []
-        → str_to_ascii_lowercase host ≡ host_text (host_meaning names host (literal_kind value))
-    by_value None e = refl
-    by_value (Some segments) e = cc
+host_without_address_is_lowered names host s none = grind (arith, common_steps)
 
 pub host_with_address_is_its_text : (names : TableSet) (host : List ℕ) → starts 91 host ≡ true
     → (ipv6_host_text (host_kind host) ≡ [] → ⊥)
     → ipv6_host_text (host_kind host) ≡ host_text (host_meaning names host (host_kind host))
 unfolding host_kind
-host_with_address_is_its_text names host s some =
-    let kind = cond-true _ _ _ s in
-    ap ipv6_host_text kind ∙ by_value (ipv6_value (literal_of host)) (λ e. some
-    (ap ipv6_host_text kind ∙ e)) ∙ sym (ap (λ k. host_text (host_meaning names host k)) kind)
-  where
-    by_value : (value : Option (List ℕ)) → (ipv6_host_text (literal_kind value) ≡ [] → ⊥)
-        → ipv6_host_text (literal_kind value)
-        ≡ host_text (host_meaning names host (literal_kind value))
-    by_value None f = absurd (f refl)
-    by_value (Some segments) f = refl
+host_with_address_is_its_text names host s some = grind (arith, common_steps)

@@ -84,10 +84,7 @@ last_octet_is_written_last set lowers text before value ends none =
 empty_component_is_empty : (lowers : Bool) (set : TableSet) (text : List ℕ) → text ≡ []
     → normal_component lowers set text ≡ []
 unfolding decode_after_run decode_run pieces_from
-empty_component_is_empty true set text e =
-    ap (λ ts. print (lowered_if true (decoded set ts))) (empty_text_has_no_tokens text e)
-empty_component_is_empty false set text e =
-    ap (λ ts. print (lowered_if false (decoded set ts))) (empty_text_has_no_tokens text e)
+empty_component_is_empty lowers set text e = grind (arith, common_steps, empty_text_has_no_tokens)
 
 pub nothing_is_left : (lowers : Bool) (set : TableSet) (text held : List ℕ)
     → eqb (length text) 0 ≡ true → held ≡ [] → normal_component lowers set text ++ held ≡ []

@@ -1,5 +1,5 @@
 -- Paths that are read from their end: their segments are decoded one by one.
-use Rattle.uri_ops.proofs.Common.{common_steps, arith, ◌≡◌, ℕ, Bool, true, false, cond, List, [], ◌∷◌, ◌++◌, refl, sym, ap, ◌∙◌, subst, codes, IsUtf8, append-nil, widest_set, TableSet, unreserved_set, IsValidFor, every_set_is_subset_of_widest, IsAbsolute, remove_dot_segments, print_decoded, normal_component, segments_left}
+use Rattle.uri_ops.proofs.Common.{common_steps, arith, ◌≡◌, ℕ, Bool, true, false, cond, List, [], ◌∷◌, ◌++◌, refl, ap, ◌∙◌, subst, codes, IsUtf8, append-nil, widest_set, TableSet, unreserved_set, IsValidFor, every_set_is_subset_of_widest, IsAbsolute, remove_dot_segments, print_decoded, normal_component, segments_left}
 use Rattle.uri_ops.proofs.Meanings.AllowedParts.{decoding-splits-at-slash, empty-text-is-set-text, print_decoded-of-nil-is-nil, set-text-from-utf8, set-text-is-utf8, set-text-is-valid}
 use Rattle.uri_ops.proofs.Paths.DecodedPaths.{dotless-set-text-is-set-text, set-text-splits}
 use Rattle.uri_ops.proofs.FromEnd.SegmentsLeft.{segments_left-of-nothing}
@@ -52,10 +52,8 @@ module _ (set : TableSet) where
   component-with-last-slash : (dot : Bool) (left : List ℕ) → IsUtf8 left
       → normal_component false set (left ++ cond dot (codes "/") [])
       ≡ normal_component false set left ++ (cond dot (codes "/") [] ++ [])
-  component-with-last-slash true left u = component-with-segment left [] u
-      ∙ ap (λ t. normal_component false set left ++ 47 ∷ t) component-of-nothing
-  component-with-last-slash false left u = ap (normal_component false set) (append-nil left)
-      ∙ sym (append-nil (normal_component false set left))
+  component-with-last-slash dot left u =
+      grind (arith, common_steps, component-with-segment, component-of-nothing, append-nil)
 
   pub unread-of-dotted-path : (text octets : List ℕ) → octets ≡ normal_component false set text
       → normal_component false set (segments_left []) ++ ([] ++ octets)

@@ -1,5 +1,5 @@
 -- The segments that are left of a path, from the last one.
-use Rattle.uri_ops.proofs.Common.{common_steps, ◌≡◌, ℕ, zero, suc, ◌+◌, Bool, true, false, cond, not, List, [], ◌∷◌, ◌++◌, ◌-◌, ◌<◌, ◌||◌, length, eqb, refl, sym, ap, subst, ◌∙◌, add-one, inl, inr, ⊎_elim, arith, lit<, Option, Some, None, MatchOption, Bor, length-append, codes, and_from, and_parts, cond-false, cond-true, false≢true, not-true, not_from_false, or_right, lacks, eq_true_from_IsTrue, IsAbemptyPath, cons_is_not_nil, equal-to-true-is-IsTrue, IsAbsolute, before_last_slash, has_slash, is_dot_segment, is_empty, is_double_dot, is_single_dot, remove_dot_segments, is_abempty_path, segments_left, with_segment, without_last_segments}
+use Rattle.uri_ops.proofs.Common.{common_steps, ◌≡◌, ℕ, zero, suc, ◌+◌, Bool, true, false, cond, List, [], ◌∷◌, ◌++◌, ◌-◌, ◌<◌, length, refl, sym, ap, subst, ◌∙◌, add-one, arith, lit<, Option, Some, None, MatchOption, Bor, length-append, codes, and_from, cond-false, cond-true, false≢true, not_from_false, or_right, lacks, eq_true_from_IsTrue, IsAbemptyPath, cons_is_not_nil, equal-to-true-is-IsTrue, IsAbsolute, before_last_slash, has_slash, is_dot_segment, is_empty, is_double_dot, is_single_dot, remove_dot_segments, is_abempty_path, segments_left, with_segment, without_last_segments}
 use Rattle.std.specs.Str.Pattern.{RFindsChar, SplitsAroundMatch}
 use Rattle.uri_pct.proofs.Offered.{rsplit_once_cuts_at_last}
 use Rattle.uri_ops.proofs.Paths.Segments.{closing, closing-of-append, dotless_of, dotless_of-with-empty-last, end_of, next_output, step_of, appended-segments-pass-test, steps, segments-after-steps-pass-test}
@@ -30,10 +30,8 @@ with_segment-by-steps : (single double : Bool) (output : List (List ℕ)) (s : L
     → NoSlashes output → slashed (next_output single double output s) ≡ cond single
     (slashed output) (cond double (before_last_slash (slashed output)) (slashed output ++ 47 ∷ s))
 unfolding next_output
-with_segment-by-steps true double output s lack = refl
-with_segment-by-steps false true output s lack =
-    sym (before_last_slash-of-slashed-is-popped output lack)
-with_segment-by-steps false false output s lack = slashed-of-push output s
+with_segment-by-steps single double output s lack =
+    grind (arith, common_steps, before_last_slash-of-slashed-is-popped, slashed-of-push)
 
 pushed-segments-lack-slashes : (xs : List (List ℕ)) (s : List ℕ)
     → NoSlashes xs → has_slash s ≡ false → NoSlashes (xs ++ s ∷ [])
@@ -73,8 +71,7 @@ segments_left-with-segment = property-of-path-by-segments
 -- removing dot segments: a last dot segment leaves a `/`
 slashed-of-end : (dot : Bool) → slashed (end_of dot) ≡ cond dot (codes "/") []
 unfolding slashed
-slashed-of-end true = refl
-slashed-of-end false = refl
+slashed-of-end dot = grind (arith, common_steps)
 
 removing-dots-of-pushed-segment : (xs : List (List ℕ))
     → NoSlashes xs → (s : List ℕ) → has_slash s ≡ false → remove_dot_segments (slashed xs ++ 47 ∷ s)
@@ -117,20 +114,17 @@ module _ (s left : List ℕ) where
       → has_slash s ≡ false → (climbs : ℕ) → (climbs ≡ 0 → ⊥)
       → without_last_segments climbs (with_segment left s) ≡ without_last_segments (climbs - 1) left
   unfolding without_last_segments
-  other-segment-is-taken e free zero some = absurd (some refl)
-  other-segment-is-taken e free (suc climbs) some =
-      grind (arith, common_steps, other-segment-is-left, before_last_slash-of-append)
+  other-segment-is-taken e free o some =
+      grind (arith, common_steps, some, other-segment-is-left, before_last_slash-of-append)
 
 text-lacking-slash-has-none : (text : List ℕ) → lacks 47 text ≡ true → has_slash text ≡ false
 text-lacking-slash-has-none [] e = refl
 text-lacking-slash-has-none (c ∷ text) e =
-    let p = and_parts (not (eqb c 47)) (lacks 47 text) e in
-    ap (λ b. b || has_slash text) (not-true _ p.0) ∙ text-lacking-slash-has-none text p.1
+    grind (arith, common_steps, (text-lacking-slash-has-none text))
 
 path-lacking-slash-is-empty : (path : List ℕ) → IsAbemptyPath path → lacks 47 path ≡ true
     → path ≡ []
-path-lacking-slash-is-empty [] h e = refl
-path-lacking-slash-is-empty (c ∷ path) h e = grind (arith, lacks, eq_true_from_IsTrue)
+path-lacking-slash-is-empty path h e = grind (arith, common_steps, eq_true_from_IsTrue)
 
 -- paths: what is before the last `/` of a path, and the segment after it
 pub record IsCutAtLastSlash (path prefix segment : List ℕ) : Type 0 where
@@ -141,9 +135,7 @@ pub record IsCutAtLastSlash (path prefix segment : List ℕ) : Type 0 where
 
 prefix-before-slash-is-rooted : (prefix segment : List ℕ) → IsAbemptyPath (prefix ++ 47 ∷ segment)
     → IsAbemptyPath prefix
-prefix-before-slash-is-rooted [] segment h = inl refl
-prefix-before-slash-is-rooted (c ∷ prefix) segment h = ⊎_elim
-    (λ e. absurd (cons_is_not_nil c (prefix ++ 47 ∷ segment) e)) (λ a. inr a) h
+prefix-before-slash-is-rooted prefix segment h = grind (arith, common_steps, cons_is_not_nil)
 
 -- paths: what `rsplit_once` returns for a path that is empty or begins with `/`
 pub cut-at-last-slash : (path : List ℕ)
@@ -166,8 +158,7 @@ absolute-path-is-not-empty path h e = false≢true (eq_true_from_IsTrue _ (subst
 
 -- paths: one that passes the test is empty or begins with `/`
 pub abempty-path-by-test : (path : List ℕ) → is_abempty_path path ≡ true → IsAbemptyPath path
-abempty-path-by-test [] e = inl refl
-abempty-path-by-test (c ∷ path) e = inr (equal-to-true-is-IsTrue _ e)
+abempty-path-by-test path e = grind (arith, common_steps, equal-to-true-is-IsTrue)
 
 pub abempty-path-passes-test : (path : List ℕ) → IsAbemptyPath path → is_abempty_path path ≡ true
 abempty-path-passes-test = rooted (λ path. is_abempty_path path ≡ true) refl

@@ -48,8 +48,7 @@ ipv6-segments-fit-16-bits text segments (inr h) = subst Fit16Bits (sym h.value) 
 
 ipv6-text-has-eight-segments : (text segments : List ℕ) → IsColonHex text segments
     → length segments ≡ 8
-ipv6-text-has-eight-segments text segments (inl h) = h.1
-ipv6-text-has-eight-segments text segments (inr h) = grind (arith, common_steps)
+ipv6-text-has-eight-segments text segments o = grind (arith, common_steps)
 
 -- meanings of hosts: the text of an IPv6 address by RFC 5952 has the same eight numbers
 pub ipv6_text-has-its-segments : (text segments : List ℕ) → IsColonHex text segments

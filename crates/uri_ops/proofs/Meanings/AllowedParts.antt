@@ -1,5 +1,5 @@
 -- Texts that a set allows, cut at `/`, and their decoded forms as printed.
-use Rattle.uri_ops.proofs.Common.{◌≡◌, ℕ, Bool, true, false, eqb, List, [], ◌∷◌, ◌++◌, refl, ap, ◌∙◌, ◌&&◌, lit<, arith, is_ascii_hexdigit, list_all, chars, IsUtf8, is_utf8, IsUtf8-from_is_utf8, is_utf8-from_IsUtf8, IsUtf8-nil, chars-append, encode_ascii, flat_map-append, list_all-append, cond-false, and_right, and_parts, and_from, nat_tests, TableSet, LacksPercent, IsSubset, unreserved_set, allows, Token, Char, tokens, tokens_from_chars, bytes_decoded_from, is_pct_encoded, print, allows_token, is_valid_for, IsValidFor, is_printable, decode_unreserved, decode_run, decode_after_run, decode_tokens, encode_formatting, pieces_from, print_decoded, printed_tokens_parse_to_themselves, printed_tokens_are_utf8, char_but_percent_is_its_own_token, valid_text_has_printable_tokens, printed_decode_unreserved_stays_valid, decode_unreserved_keeps_bytes, char_separates_decoded_tokens, ascii_char_separates_encode_formatting}
+use Rattle.uri_ops.proofs.Common.{◌≡◌, ℕ, Bool, true, false, eqb, List, [], ◌∷◌, ◌++◌, refl, ap, ◌∙◌, ◌&&◌, lit<, arith, is_ascii_hexdigit, list_all, chars, IsUtf8, is_utf8, IsUtf8-from_is_utf8, is_utf8-from_IsUtf8, IsUtf8-nil, chars-append, encode_ascii, flat_map-append, list_all-append, cond-false, and_right, and_parts, and_from, nat_tests, TableSet, LacksPercent, IsSubset, unreserved_set, allows, Token, Char, tokens, tokens_from_chars, bytes_decoded_from, is_pct_encoded, print, allows_token, is_valid_for, IsValidFor, is_printable, decode_unreserved, decode_run, decode_after_run, decode_tokens, encode_formatting, pieces_from, print_decoded, printed_tokens_parse_to_themselves, printed_tokens_are_utf8, char_but_percent_is_its_own_token, valid_text_has_printable_tokens, printed_decode_unreserved_stays_valid, decode_unreserved_keeps_bytes, char_separates_decoded_tokens, ascii_char_separates_encode_formatting, common_steps}
 use Rattle.uri_pct.proofs.Offered.{decode_unreserved_is_idempotent, decode_unreserved_keeps_tokens_printable}
 
 -- a text in UTF-8 that the set allows
@@ -105,8 +105,7 @@ tokens_from_chars-splits-at-slash (c ∷ h ∷ l ∷ cs) ds =
 -- meanings of paths: the first character of a text that begins with `/` (47) is `/`
 chars-of-leading-slash : (y : List ℕ) → chars (47 ∷ y) ≡ 47 ∷ chars y
 unfolding chars
-chars-of-leading-slash [] = refl
-chars-of-leading-slash (b ∷ y) = refl
+chars-of-leading-slash y = grind (arith, common_steps)
 
 -- meanings, by tokens: those of a text with a `/` (47) are those on each side of it, and it
 tokens-split-at-slash : (x y : List ℕ) → IsUtf8 x → tokens (x ++ 47 ∷ y)

@@ -1,6 +1,6 @@
 -- Texts without octets and without characters past ASCII, such as schemes, and the same in lower
 -- case.
-use Rattle.uri_ops.proofs.Common.{◌≡◌, ℕ, zero, suc, Bool, true, false, eqb, ltb, List, [], ◌∷◌, refl, sym, ap, ◌∙◌, arith, slice_index, is_ascii_alphabetic, to_ascii_lowercase, list_all, IsUtf8, IsAscii, str_to_ascii_lowercase, IsUtf8-from_ascii, lowercase_ascii, lowercase-lowercase, and_left, and_right, and_from, cond-false, eqb-true, both_ways, false_from_ne_true, and_parts, cond-true, lt-ltb, ltb-true, nat_tests, TableSet, LacksPercent, is_scheme_char, valid_from, validity_by_first_byte, validity_of_tokens_is_validity_of_bytes, ascii_first_byte_is_allowed_iff_in_set, is_scheme}
+use Rattle.uri_ops.proofs.Common.{◌≡◌, ℕ, zero, suc, Bool, true, false, eqb, ltb, List, [], ◌∷◌, refl, sym, ap, ◌∙◌, arith, slice_index, is_ascii_alphabetic, to_ascii_lowercase, list_all, IsUtf8, IsAscii, str_to_ascii_lowercase, IsUtf8-from_ascii, lowercase_ascii, lowercase-lowercase, and_left, and_right, and_from, cond-false, eqb-true, both_ways, false_from_ne_true, and_parts, cond-true, lt-ltb, ltb-true, nat_tests, TableSet, LacksPercent, is_scheme_char, valid_from, validity_by_first_byte, validity_of_tokens_is_validity_of_bytes, ascii_first_byte_is_allowed_iff_in_set, is_scheme, common_steps}
 pub use Rattle.uri_parts.proofs.Offered.{is_ascii_in, valid_ascii_text}
 use Rattle.uri_ops.proofs.Meanings.AllowedParts.{is_set_text, set-text-from-utf8}
 
@@ -72,10 +72,7 @@ pub ascii-passes-wider-test : (test wide : ℕ → Bool) → ((c : ℕ) → test
     → list_all (is_ascii_in wide) text ≡ true
 ascii-passes-wider-test test wide within [] e = refl
 ascii-passes-wider-test test wide within (c ∷ text) e =
-    let p = and_parts (is_ascii_in test c) (list_all (is_ascii_in test) text) e in
-    let q = and_parts (ltb c 128) (test c) p.0 in
-    and_from _ _ (and_from _ _ q.0 (within c q.1))
-    (ascii-passes-wider-test test wide within text p.1)
+    grind (arith, common_steps, test, within, (ascii-passes-wider-test test wide within text))
 
 pub lowered-ascii-passes-test : (test : ℕ → Bool) → ((c : ℕ) → test c ≡ true
     → test (to_ascii_lowercase c) ≡ true) → (text : List ℕ) → list_all (is_ascii_in test) text
@@ -97,14 +94,9 @@ pub lowered-scheme-character-is-scheme-character : (c : ℕ) → is_scheme_char 
     → is_scheme_char (to_ascii_lowercase c) ≡ true
 lowered-scheme-character-is-scheme-character c e = grind (arith, nat_tests)
 
-lowered-letter-is-letter : (c : ℕ) → is_ascii_alphabetic c ≡ true
-    → is_ascii_alphabetic (to_ascii_lowercase c) ≡ true
-lowered-letter-is-letter c e = grind (arith, nat_tests)
-
 pub lowered-text-keeps-leading-letter : (text : List ℕ) → is_ascii_alphabetic (slice_index text 0)
     ≡ true → is_ascii_alphabetic (slice_index (str_to_ascii_lowercase text) 0) ≡ true
-lowered-text-keeps-leading-letter [] e = e
-lowered-text-keeps-leading-letter (c ∷ text) e = lowered-letter-is-letter c e
+lowered-text-keeps-leading-letter text e = grind (arith, common_steps, e)
 
 -- meanings of schemes: `%` (37) is not a character of a scheme
 pub percent-is-no-scheme-character : is_scheme_char 37 ≡ false

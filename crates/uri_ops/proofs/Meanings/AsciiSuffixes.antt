@@ -62,8 +62,7 @@ unreserved-octet-is-its-code lowers value e =
 
 pub reserved-octet-is-written : (lowers : Bool) (value : ℕ) → is_unreserved value ≡ false
     → text_of_token (Octet value) ≡ print (lowered_if lowers (decode_octet (Octet value) ∷ []))
-reserved-octet-is-written true value e = rw e (sym (append-nil (text_of_token (Octet value))))
-reserved-octet-is-written false value e = rw e (sym (append-nil (text_of_token (Octet value))))
+reserved-octet-is-written lowers value e = grind (arith, common_steps, append-nil)
 
 octet-text-is-ascii : (value : ℕ) → value < 256 → IsAscii (text_of_token (Octet value))
 octet-text-is-ascii value small = subst IsAscii (octet_entry_is_printed_octet value small)

@@ -77,16 +77,13 @@ recomposed-authority-is-utf8 p u = IsUtf8-append _ _ (userinfo-with-at-sign-is-u
 
 userinfo-with-at-sign-lacks-authority-ends : (userinfo : Option (List ℕ))
     → IfSome userinfo (Lacks (codes "/?#")) → Lacks (codes "/?#") (marked [] userinfo (codes "@"))
-userinfo-with-at-sign-lacks-authority-ends None h = test-of-delimiters-gives-lacks
-    (codes "/?#") [] refl
-userinfo-with-at-sign-lacks-authority-ends (Some user) h = joined-texts-lack-marks (codes "/?#")
-    user (codes "@") h (test-of-delimiters-gives-lacks (codes "/?#") (codes "@") refl)
+userinfo-with-at-sign-lacks-authority-ends userinfo h =
+    grind (arith, common_steps, test-of-delimiters-gives-lacks, joined-texts-lack-marks)
 
 port-with-colon-lacks-authority-ends : (port : Option (List ℕ)) → IfSome port (Lacks (codes "/?#"))
     → Lacks (codes "/?#") (marked (codes ":") port [])
-port-with-colon-lacks-authority-ends None h = test-of-delimiters-gives-lacks (codes "/?#") [] refl
-port-with-colon-lacks-authority-ends (Some digits) h =
-    grind (arith, common_steps, joined-texts-lack-marks, test-of-delimiters-gives-lacks)
+port-with-colon-lacks-authority-ends port h =
+    grind (arith, common_steps, test-of-delimiters-gives-lacks, joined-texts-lack-marks)
 
 -- meanings of authorities: if no component has a `/`, `?` or `#`, the recomposed authority has none
 pub authority-text-lacks-its-ends : (p : AuthorityParts) → IfSome p.userinfo (Lacks (codes "/?#"))
@@ -99,28 +96,19 @@ authority-text-lacks-its-ends p user host port = joined-texts-lack-marks (codes 
 
 port_meaning-keeps-property : (default : Option ℕ) (port : Option (List ℕ)) (P : List ℕ → Type 0)
     → IfSome port P → IfSome (port_meaning default port) P
-port_meaning-keeps-property default None P h = tt
-port_meaning-keeps-property default (Some digits) P h = kept
-    (is_empty digits || is_default default digits)
-  where
-    kept : (t : Bool) → IfSome (cond t None (Some digits)) P
-    kept true = tt
-    kept false = h
+port_meaning-keeps-property default port o h = grind (arith, common_steps)
 
 -- meanings of ports: an unchanged port is its own meaning without a default; t: whether it is left
 -- out
 unchanged-port-is-its-bare-meaning : (default : Option ℕ) (digits : List ℕ) (t : Bool)
     → (is_empty digits || is_default default digits) ≡ t
     → port_meaning None (cond t None (Some digits)) ≡ cond t None (Some digits)
-unchanged-port-is-its-bare-meaning default digits true e = refl
-unchanged-port-is-its-bare-meaning default [] false e = cc
-unchanged-port-is-its-bare-meaning default (d ∷ digits) false e = refl
+unchanged-port-is-its-bare-meaning default digits t e = grind (arith, common_steps)
 
 port_meaning-is-its-own-bare-meaning : (default : Option ℕ) (port : Option (List ℕ))
     → port_meaning None (port_meaning default port) ≡ port_meaning default port
-port_meaning-is-its-own-bare-meaning default None = refl
-port_meaning-is-its-own-bare-meaning default (Some digits) = unchanged-port-is-its-bare-meaning
-    default digits (is_empty digits || is_default default digits) refl
+port_meaning-is-its-own-bare-meaning default port =
+    grind (arith, common_steps, unchanged-port-is-its-bare-meaning)
 
 module _ (kind : Kind) (sets : HasComponentSets kind) (default : Option ℕ) (a : List ℕ)
     (u : IsUtf8 a) (e : is_authority kind a ≡ true) where

@@ -1,5 +1,5 @@
 -- What is written of a part, as it is or with its letters lowered.
-use Rattle.uri_ops.proofs.Common.{common_steps, ◌≡◌, ℕ, ◌≤◌, Bool, true, false, List, [], ◌∷◌, ◌++◌, map, refl, sym, ap, subst, ◌∙◌, arith, slice_index, list_all, flat_map, All, encode_utf8, to_ascii_lowercase, chars, encode_utf8_all, all_scalars, IsUtf8, str_to_ascii_lowercase, and_parts, and_from, or_parts, leb-true, nat_tests, append-nil, All-nil, All-cons, All-head, All-tail, encodes-chars, scalars-chars, chars-encodes, encode_char, encode_text, encode_piece, ArePastAscii, Piece, IsOfCharacter, utf8_pieces, is_decodable, decode_piece, lower_token, TableSet, allows, allows_past_ascii, is_unreserved, Char, Octet, print, utf8_pieces-are-of-characters, char_has_encoding, char_past_ascii_begins_past_ascii, is_no_ascii_byte, lowered_if, lowered_text_if, lowering_keeps_octets, lowercase_keeps_char_past_ascii}
+use Rattle.uri_ops.proofs.Common.{common_steps, ◌≡◌, ℕ, ◌≤◌, Bool, true, false, List, [], ◌∷◌, ◌++◌, map, refl, sym, ap, subst, ◌∙◌, arith, slice_index, list_all, flat_map, All, encode_utf8, to_ascii_lowercase, chars, encode_utf8_all, all_scalars, IsUtf8, str_to_ascii_lowercase, or_parts, nat_tests, append-nil, All-head, All-tail, encodes-chars, scalars-chars, chars-encodes, encode_char, encode_text, encode_piece, ArePastAscii, Piece, IsOfCharacter, utf8_pieces, is_decodable, decode_piece, lower_token, TableSet, allows, allows_past_ascii, is_unreserved, Char, Octet, print, utf8_pieces-are-of-characters, char_has_encoding, char_past_ascii_begins_past_ascii, is_no_ascii_byte, lowered_if, lowered_text_if, lowering_keeps_octets, lowercase_keeps_char_past_ascii}
 use Rattle.uri_pct.proofs.Offered.{pieces_of_text_are_encoded_as_text}
 
 -- meanings in lower case: literal tokens are written as the UTF-8 of their characters
@@ -21,8 +21,7 @@ bytes-past-ascii-are-unchanged-when-lowered (b ∷ bytes) past = ap (λ x. x ∷
 
 bytes-without-ascii-are-past-ascii : (bytes : List ℕ) → list_all is_no_ascii_byte bytes ≡ true
     → ArePastAscii bytes
-bytes-without-ascii-are-past-ascii [] e = All-nil (λ x. 128 ≤ x)
-bytes-without-ascii-are-past-ascii (b ∷ bytes) e = grind (arith, common_steps, All-cons, leb-true)
+bytes-without-ascii-are-past-ascii bytes e = grind (arith, common_steps)
 
 character-past-ascii-is-unchanged-when-lowered : (c : ℕ)
     → 128 ≤ c → map to_ascii_lowercase (encode_utf8 c) ≡ encode_utf8 c
@@ -74,9 +73,7 @@ lowered-scalars-are-scalars : (cs : List ℕ) → all_scalars cs ≡ true
     → all_scalars (map to_ascii_lowercase cs) ≡ true
 lowered-scalars-are-scalars [] e = refl
 lowered-scalars-are-scalars (c ∷ cs) e =
-    let p = and_parts _ (all_scalars cs) e in
-    and_from _ _ (and_parts _ true (lowered-scalar-is-scalar c (and_from _ true p.0 refl))).0
-    (lowered-scalars-are-scalars cs p.1)
+    grind (arith, common_steps, lowered-scalar-is-scalar, (lowered-scalars-are-scalars cs))
 
 chars-of-lowered-text-are-lowered : (text : List ℕ) → IsUtf8 text
     → chars (str_to_ascii_lowercase text) ≡ map to_ascii_lowercase (chars text)
@@ -102,16 +99,11 @@ not-unreserved-is-unchanged-when-lowered : (c : ℕ) → is_unreserved c ≡ fal
     → to_ascii_lowercase c ≡ c
 not-unreserved-is-unchanged-when-lowered c e = grind (arith, nat_tests)
 
-lowered-unreserved-is-unreserved : (c : ℕ) → is_unreserved c ≡ true
-    → is_unreserved (to_ascii_lowercase c) ≡ true
-lowered-unreserved-is-unreserved c e = grind (arith, nat_tests)
-
 -- meanings in lower case: percent-encoded octets have no letters to lower; lowers: whether letters
 -- are lowered
 pub octets-are-unchanged-when-lowered : (lowers : Bool) (bytes : List ℕ)
     → lowered_if lowers (map Octet bytes) ≡ map Octet bytes
-octets-are-unchanged-when-lowered true bytes = lowering_keeps_octets bytes
-octets-are-unchanged-when-lowered false bytes = refl
+octets-are-unchanged-when-lowered lowers bytes = grind (arith, common_steps, lowering_keeps_octets)
 
 module _ (decodable set : TableSet) (same : AllowsDecodable decodable set) where
   decoding-pieces-is-encoding-them : (ps : List Piece) → All IsOfCharacter ps
@@ -130,12 +122,8 @@ module _ (decodable set : TableSet) (same : AllowsDecodable decodable set) where
   lowered-decodable-is-decodable : (c : ℕ) → is_decodable set c ≡ true
       → is_decodable set (to_ascii_lowercase c) ≡ true
   unfolding is_decodable
-  lowered-decodable-is-decodable c e = grind (
-    arith,
-    nat_tests,
-    lowered-unreserved-is-unreserved,
-    not-unreserved-is-unchanged-when-lowered,
-  )
+  lowered-decodable-is-decodable c e =
+      grind (arith, nat_tests, not-unreserved-is-unchanged-when-lowered)
 
   undecodable-is-unchanged-when-lowered : (c : ℕ) → is_decodable set c ≡ false
       → to_ascii_lowercase c ≡ c

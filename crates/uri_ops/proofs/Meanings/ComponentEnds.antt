@@ -1,5 +1,5 @@
 -- Where components end: the marks that a set excludes, and the texts that begin with no scheme.
-use Rattle.uri_ops.proofs.Common.{◌≡◌, ℕ, Bool, true, false, eqb, not, nat_lt, List, [], ◌∷◌, ◌++◌, take, drop, refl, sym, ap, ◌∙◌, ◌&&◌, ⊎_elim, arith, codes, is_ascii_hexdigit, list_all, list_any, cases_Bool, and_parts, and_from, and_left, or_parts, or_left, both_ways, not_from_false, nat_tests, TableSet, is_one_of, excludes, length_before_mark_at_start_is_zero, length_before_marks_counts_other_byte, starts, has_scheme, before_any, from_any, has_colon_in_first_segment, Kind, IsEmptyOrMarked, HasComponentSets}
+use Rattle.uri_ops.proofs.Common.{◌≡◌, ℕ, Bool, true, false, eqb, not, nat_lt, List, [], ◌∷◌, ◌++◌, take, drop, refl, sym, ap, ◌∙◌, ◌&&◌, ⊎_elim, arith, codes, is_ascii_hexdigit, list_all, list_any, cases_Bool, and_parts, and_from, and_left, or_parts, nat_tests, TableSet, is_one_of, excludes, length_before_mark_at_start_is_zero, length_before_marks_counts_other_byte, starts, has_scheme, before_any, from_any, has_colon_in_first_segment, Kind, IsEmptyOrMarked, HasComponentSets, common_steps}
 
 -- meanings of components: an ASCII character other than `%` and hexadecimal digits, as a delimiter
 abbrev pub is_outside_octets : ℕ → Bool
@@ -11,11 +11,7 @@ pub ends-are-excluded-from-set : (marks : List ℕ) (set : TableSet)
     → list_any set.ascii marks ≡ false → excludes set marks ≡ true
 ends-are-excluded-from-set [] set e f = refl
 ends-are-excluded-from-set (m ∷ marks) set e f =
-    let p = and_parts (is_outside_octets m) (list_all is_outside_octets marks) e in
-    let q = and_parts (nat_lt m 128) _ p.0 in
-    let r = or_parts (set.ascii m) (list_any set.ascii marks) f in
-    and_from _ _ (and_from _ _ q.0 (and_from _ _ (not_from_false _ r.0) q.1))
-    (ends-are-excluded-from-set marks set p.1 r.1)
+    grind (arith, common_steps, set.ascii, (ends-are-excluded-from-set marks set))
 
 pub fewer-characters-are-excluded-too : (some more : List ℕ) (set : TableSet)
     → excludes set (some ++ more) ≡ true → excludes set some ≡ true
@@ -50,9 +46,7 @@ path-without-colon-meets-no-colon-first (c ∷ path) tail e begins =
 
     first : (c : ℕ) (path : List ℕ) → has_colon_in_first_segment (c ∷ path) ≡ false
         → eqb c 58 ≡ false
-    first c path e = ⊎_elim (λ h. absurd (both_ways _ e
-        (ap (list_any (λ d. eqb d 58)) (before_other c path (colon_no_slash c h)) ∙ or_left _ _ h)))
-        (λ h. h) (cases_Bool (eqb c 58))
+    first c path e = grind (arith, common_steps, before_other, colon_no_slash)
 
 -- recomposing meanings: a path whose first segment has no `:` has no scheme, whatever query or
 -- fragment follows it

@@ -1,5 +1,5 @@
 -- Texts in which each `%` begins an octet.
-use Rattle.uri_ops.proofs.Common.{◌≡◌, ℕ, Bool, true, false, not, eqb, List, refl, subst, arith, inl, inr, Option, Some, None, IsDotted, nat_tests, All-weaker, list_all-from_AllPass, IsDigitOrDot, widest_set, TableSet, LacksPercent, set_of, IsValidFor, every_set_is_subset_of_widest, valid_for_superset, starts, ipv4_value, is_host, reg_name_host_is_valid, ipv4_value-sound, ipv4-text-is-digits-and-dots}
+use Rattle.uri_ops.proofs.Common.{◌≡◌, ℕ, Bool, true, false, not, eqb, List, refl, subst, arith, Option, Some, None, IsDotted, All-weaker, list_all-from_AllPass, IsDigitOrDot, widest_set, TableSet, LacksPercent, set_of, IsValidFor, every_set_is_subset_of_widest, valid_for_superset, starts, ipv4_value, is_host, reg_name_host_is_valid, ipv4_value-sound, ipv4-text-is-digits-and-dots, common_steps}
 use Rattle.uri_pct.specs.declared.table.Table.{Table}
 use Rattle.uri_pct.proofs.Offered.{lacks_percent}
 use Rattle.uri_ops.proofs.Meanings.AllowedParts.{set-text-is-valid}
@@ -17,8 +17,7 @@ is_no_percent c = not (eqb c 37)
 
 -- meanings of hosts: the characters of an IPv4 address are not `%`
 digit-or-dot-is-no-percent : (c : ℕ) → IsDigitOrDot c → is_ascii_in is_no_percent c ≡ true
-digit-or-dot-is-no-percent c (inl range) = grind (arith, nat_tests)
-digit-or-dot-is-no-percent c (inr dot) = grind (arith, nat_tests)
+digit-or-dot-is-no-percent c o = grind (arith, common_steps)
 
 -- meanings of hosts: an IPv4 address may be decoded, as it has no `%`
 dotted-decimal-is-decodable : (text octets : List ℕ) → IsDotted text octets

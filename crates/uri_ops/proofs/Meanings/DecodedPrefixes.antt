@@ -1,6 +1,6 @@
 -- A prefix of a text is decoded by itself if it consists of characters and octets of ASCII. If the
 -- set has no characters past ASCII, every octet may be in it.
-use Rattle.uri_ops.proofs.Common.{common_steps, ◌≡◌, ℕ, ◌+◌, ◌*◌, ◌-◌, ◌<◌, Bool, true, ◌&&◌, false, eqb, ltb, not, List, [], ◌∷◌, ◌++◌, length, get_or, take, drop, map, ◌≤◌, add-zero, refl, sym, ap, subst, ◌∙◌, arith, ◌||◌, ◌⊎◌, append_assoc, digit_value, is_ascii_hexdigit, chars, IsUtf8, IsCharBoundary, ne_eqb, or_parts, not-true, nat_tests, append-nil, take-append-drop, drop-drop, length-drop, get_or-drop, drop_all, drop_more, map-append, list_all-append, IsUtf8-take, IsUtf8-drop, IsCharBoundary-from_rest, IsCharBoundary-after_ascii, widest_set, LacksPastAscii, decode_octet, decode_after_run, lower_token, TableSet, lacks, Octet, tokens, tokens_from_chars, print, is_valid_for, IsValidFor, len_before_percent, bytes_from_percent_begin_with_octet, boundary_after_octet, tokens_after_unencoded_prefix, first_percent_is_at_boundary, prefix_len_bytes_pass, take_then_take_is_take_of_sum, IsOctetAt, KeepsPrefixWhenDecoded, cased_append, lowered_if, lowered_text_if, decoded_text}
+use Rattle.uri_ops.proofs.Common.{common_steps, ◌≡◌, ℕ, ◌+◌, ◌*◌, ◌-◌, ◌<◌, Bool, true, false, eqb, ltb, not, List, [], ◌∷◌, ◌++◌, length, get_or, take, drop, ◌≤◌, add-zero, refl, sym, ap, subst, ◌∙◌, arith, ◌||◌, ◌⊎◌, append_assoc, digit_value, is_ascii_hexdigit, chars, IsUtf8, IsCharBoundary, ne_eqb, or_parts, not-true, nat_tests, append-nil, take-append-drop, drop-drop, length-drop, get_or-drop, drop_all, drop_more, map-append, list_all-append, IsUtf8-take, IsUtf8-drop, IsCharBoundary-from_rest, IsCharBoundary-after_ascii, widest_set, LacksPastAscii, decode_octet, decode_after_run, TableSet, lacks, Octet, tokens, tokens_from_chars, print, is_valid_for, IsValidFor, len_before_percent, bytes_from_percent_begin_with_octet, boundary_after_octet, tokens_after_unencoded_prefix, first_percent_is_at_boundary, prefix_len_bytes_pass, take_then_take_is_take_of_sum, IsOctetAt, KeepsPrefixWhenDecoded, cased_append, lowered_if, lowered_text_if, decoded_text}
 use Rattle.uri_ops.proofs.Meanings.Cased.{print-lowers-characters}
 use Rattle.uri_ops.proofs.Meanings.DecodedParts.{decode_run-of-nil-is-nil}
 use Rattle.uri_ops.proofs.Meanings.DecodedOctets.{decode_tokens-after-chars, first-octet-token-is-decoded-alone}
@@ -172,9 +172,7 @@ unset-flags-lack-past-ascii set some e none = or_parts set.ucschar set.iprivate
 
 pub decoded-empty-text-is-empty : (lowers : Bool) (set : TableSet) → decoded_text lowers set [] ≡ []
 unfolding tokens_from_chars chars decode_after_run
-decoded-empty-text-is-empty true set = ap (λ ts. print (map lower_token ts))
-    (decode_run-of-nil-is-nil set)
-decoded-empty-text-is-empty false set = ap print (decode_run-of-nil-is-nil set)
+decoded-empty-text-is-empty lowers set = grind (arith, common_steps, decode_run-of-nil-is-nil)
 
 -- meanings, decoded: the last prefix that is copied completes what is appended; done, end: where it
 -- begins and ends
@@ -188,8 +186,7 @@ last-prefix-is-pushed lowers set text out new whole done end order over prefix p
 
 -- meanings, decoded: if the first byte of a text is not `%` (37), the prefix of one byte has none
 lacks_first : (text : List ℕ) → eqb (get_or text 0 0) 37 ≡ false → lacks 37 (take 1 text) ≡ true
-lacks_first [] e = refl
-lacks_first (c ∷ text) e = ap (λ x. not x && true) e
+lacks_first text e = grind (arith, common_steps)
 
 -- meanings, decoded: an ASCII character that is not `%` (37) is a prefix without octets
 ascii_prefix : (text : List ℕ) → IsUtf8 text → IsValidFor widest_set text → 0 < length text

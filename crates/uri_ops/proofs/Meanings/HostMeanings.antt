@@ -1,5 +1,5 @@
 -- A host that is printed from its meaning is a host, and has that meaning.
-use Rattle.uri_ops.proofs.Common.{common_steps, ◌≡◌, ℕ, ◌<◌, true, false, ltb, List, [], ◌∷◌, ◌++◌, map, refl, sym, ap, subst, ◌∙◌, arith, inl, inr, codes, Option, Some, None, is_ascii_hexdigit, to_ascii_lowercase, list_all, IsUtf8, str_to_ascii_lowercase, IsDotted, ipv6_text, map-append, length-map, All-weaker, list_all-from_AllPass, and_parts, and_from, or_right, cond-false, ltb-true, nat_tests, IsUtf8-append, IsDigitOrDot, TableSet, is_one_of, ipv_future_set, is_userinfo_char, is_unreserved, print, is_valid_for, lower_token, decode_unreserved, excludes, printed_tokens_are_utf8, printed_tokens_are_valid_iff_allowed, lowered_tokens_are_printable, lowered_tokens_are_allowed, lowering_tokens_is_idempotent, decode_unreserved_keeps_tokens_allowed, Lacks, starts, HostKind, Ipv4, Ipv6, IpvFuture, RegName, IsHost, IsIpvFuture, bracketed, host_kind, is_host, ipv4_value, name_kind, utf8_around_ascii_byte, valid_text_lacks_excluded_marks, is_address_char, is_address_text, ipv6-text-is-address-text, joined-texts-lack-marks, ipv6-text-lacks-excluded-marks, ipvfuture-text-lacks-excluded-marks, hexdigit_is_userinfo_char, ipv4-text-is-digits-and-dots, is_host-sound, is_host-complete, lacking_text_does_not_begin_with, address-in-brackets-is-utf8, IsComponentSet, HostMeaning, FutureAddress, Name, host_meaning, host_text}
+use Rattle.uri_ops.proofs.Common.{common_steps, ◌≡◌, ℕ, ◌<◌, true, false, ltb, List, [], ◌∷◌, ◌++◌, map, refl, sym, ap, subst, ◌∙◌, arith, codes, Option, is_ascii_hexdigit, to_ascii_lowercase, list_all, IsUtf8, str_to_ascii_lowercase, IsDotted, ipv6_text, map-append, length-map, All-weaker, list_all-from_AllPass, and_parts, or_right, cond-false, ltb-true, nat_tests, IsUtf8-append, IsDigitOrDot, TableSet, is_one_of, ipv_future_set, is_userinfo_char, is_unreserved, print, is_valid_for, lower_token, decode_unreserved, excludes, printed_tokens_are_utf8, printed_tokens_are_valid_iff_allowed, lowered_tokens_are_printable, lowered_tokens_are_allowed, lowering_tokens_is_idempotent, decode_unreserved_keeps_tokens_allowed, Lacks, starts, HostKind, Ipv4, Ipv6, IpvFuture, RegName, IsHost, IsIpvFuture, bracketed, host_kind, is_host, ipv4_value, name_kind, utf8_around_ascii_byte, valid_text_lacks_excluded_marks, is_address_char, is_address_text, ipv6-text-is-address-text, joined-texts-lack-marks, ipv6-text-lacks-excluded-marks, ipvfuture-text-lacks-excluded-marks, hexdigit_is_userinfo_char, ipv4-text-is-digits-and-dots, is_host-sound, is_host-complete, lacking_text_does_not_begin_with, address-in-brackets-is-utf8, IsComponentSet, HostMeaning, FutureAddress, Name, host_meaning, host_text}
 use Rattle.uri_pct.proofs.Offered.{decoding_keeps_lowered_decoded_text}
 use Rattle.uri_parts.proofs.Offered.{utf8_after_ascii_byte}
 use Rattle.uri_ops.proofs.Meanings.AddressNumbers.{ipv6_text-has-its-segments}
@@ -35,9 +35,7 @@ pub address-characters-are-ascii : (text : List ℕ) → list_all is_address_cha
     → list_all (is_ascii_in is_address_char) text ≡ true
 address-characters-are-ascii [] e = refl
 address-characters-are-ascii (c ∷ text) e =
-    let p = and_parts (is_address_char c) (list_all is_address_char text) e in
-    and_from _ _ (and_from _ _ (address-character-is-ascii c p.0) p.0)
-    (address-characters-are-ascii text p.1)
+    grind (arith, common_steps, address-character-is-ascii, (address-characters-are-ascii text))
 
 -- meanings of hosts: the text of an IP address is UTF-8
 pub address-text-is-utf8 : (text : List ℕ) → is_address_text text ≡ true → IsUtf8 text
@@ -129,8 +127,7 @@ module _ (names : TableSet) (w : IsComponentSet (codes "/?#[]@:") names)
   pub meaning-of-name-is-lowered-decoded : (text : List ℕ) (value : Option (List ℕ))
       → host_meaning names text (name_kind value)
       ≡ Name (map lower_token (decode_unreserved names text))
-  meaning-of-name-is-lowered-decoded text None = refl
-  meaning-of-name-is-lowered-decoded text (Some octets) = refl
+  meaning-of-name-is-lowered-decoded text value = grind (arith, common_steps)
 
   pub unbracketed-valid-text-is-name : (text : List ℕ) → starts 91 text ≡ false
       → is_valid_for names text ≡ true
@@ -165,8 +162,7 @@ module _ (names : TableSet) (w : IsComponentSet (codes "/?#[]@:") names)
       }
 
   digit-or-dot-is-unreserved : (c : ℕ) → IsDigitOrDot c → is_ascii_in is_unreserved c ≡ true
-  digit-or-dot-is-unreserved c (inl range) = grind (arith, nat_tests)
-  digit-or-dot-is-unreserved c (inr dot) = grind (arith, nat_tests)
+  digit-or-dot-is-unreserved c o = grind (arith, common_steps)
 
   percent-is-not-unreserved : is_unreserved 37 ≡ false
   percent-is-not-unreserved = refl

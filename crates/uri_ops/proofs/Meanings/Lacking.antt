@@ -1,5 +1,5 @@
 -- Which characters a part lacks: its decoded form lacks them too.
-use Rattle.uri_ops.proofs.Common.{◌≡◌, ℕ, zero, suc, Bool, true, false, cond, eqb, not, List, [], ◌∷◌, ◌++◌, refl, sym, ap, ◌∙◌, arith, ◌&&◌, ⊎_elim, list_all, list_any, flat_map, continuation_len, cases_Bool, and_parts, and_from, or_parts, or_from, not-true, not_from_false, false_from_ne_true, nat_tests, TableSet, LacksPercent, IsSubset, unreserved_set, is_unreserved, is_one_of, allows_past_ascii, Token, Char, Octet, print, Piece, WellFormed, IllFormed, utf8_pieces, is_decodable, decode_piece, decode_run, decode_after_run, is_never_literal, formatting_as_octets, encode_formatting, begins_with_hex_digits, allows_first, excludes, valid_from, validity_of_tokens_is_validity_of_bytes, valid_text_lacks_excluded_marks, print_decoded}
+use Rattle.uri_ops.proofs.Common.{◌≡◌, ℕ, zero, suc, Bool, true, false, cond, eqb, not, List, [], ◌∷◌, ◌++◌, refl, sym, ap, ◌∙◌, arith, ◌&&◌, ⊎_elim, list_all, list_any, flat_map, continuation_len, cases_Bool, or_parts, not_from_false, false_from_ne_true, nat_tests, TableSet, LacksPercent, IsSubset, unreserved_set, is_unreserved, is_one_of, allows_past_ascii, Token, Char, Octet, print, Piece, utf8_pieces, is_decodable, decode_piece, decode_run, decode_after_run, is_never_literal, formatting_as_octets, encode_formatting, begins_with_hex_digits, allows_first, excludes, valid_from, validity_of_tokens_is_validity_of_bytes, valid_text_lacks_excluded_marks, print_decoded, common_steps}
 use Rattle.uri_ops.proofs.Paths.PathCharacters.{lacked-delimiters-fail-test}
 use Rattle.uri_ops.proofs.Meanings.AllowedParts.{is_set_text, set-text-from-utf8, set-text-is-utf8, set-text-is-valid, decoded-set-text-is-set-text}
 
@@ -73,8 +73,7 @@ text-without-character-is-for-set_without m set lacks text e f =
 decode_piece-for-set_without : (m : ℕ) (set : TableSet) (p : Piece)
     → decode_piece (set_without m set) p ≡ decode_piece set p
 unfolding is_decodable allows_past_ascii
-decode_piece-for-set_without m set (WellFormed bytes) = refl
-decode_piece-for-set_without m set (IllFormed bytes) = refl
+decode_piece-for-set_without m set p = grind (arith, common_steps)
 
 decode_run-for-set_without : (m : ℕ) (set : TableSet) (run : List ℕ)
     → decode_run (set_without m set) run ≡ decode_run set run
@@ -96,8 +95,7 @@ decode_after_run-for-set_without m set run (Char c ∷ ts) =
 formatting_as_octets-for-set_without : (m : ℕ) (set : TableSet) (t : Token)
     → formatting_as_octets (set_without m set) t ≡ formatting_as_octets set t
 unfolding is_never_literal
-formatting_as_octets-for-set_without m set (Char c) = refl
-formatting_as_octets-for-set_without m set (Octet value) = refl
+formatting_as_octets-for-set_without m set t = grind (arith, common_steps)
 
 encode_formatting-for-set_without : (m : ℕ) (set : TableSet) (ts : List Token)
     → encode_formatting (set_without m set) ts ≡ encode_formatting set ts
@@ -123,17 +121,13 @@ pub lacks_any-gives-lacks : (m : ℕ) (text : List ℕ) → lacks_any (m ∷ [])
     → has_character m text ≡ false
 lacks_any-gives-lacks m [] e = refl
 lacks_any-gives-lacks m (c ∷ text) e =
-    let p = and_parts (not (is_one_of (m ∷ []) c)) (lacks_any (m ∷ []) text) e in
-    or_from _ _ (sym (is_one_of-one-is-equality c m) ∙ not-true _ p.0)
-    (lacks_any-gives-lacks m text p.1)
+    grind (arith, common_steps, is_one_of-one-is-equality, (lacks_any-gives-lacks m text))
 
 pub lacks-gives-lacks_any : (m : ℕ) (text : List ℕ)
     → has_character m text ≡ false → lacks_any (m ∷ []) text ≡ true
 lacks-gives-lacks_any m [] e = refl
 lacks-gives-lacks_any m (c ∷ text) e =
-    let p = or_parts (eqb c m) (has_character m text) e in
-    and_from _ _ (not_from_false _ (is_one_of-one-is-equality c m ∙ p.0))
-    (lacks-gives-lacks_any m text p.1)
+    grind (arith, common_steps, is_one_of-one-is-equality, (lacks-gives-lacks_any m text))
 
 module _ (m : ℕ) (set : TableSet) (lacks : LacksPercent set) (wide : IsSubset unreserved_set set)
     (reserved : is_unreserved m ≡ false) (outside : excludes (set_without m set) (m ∷ [])

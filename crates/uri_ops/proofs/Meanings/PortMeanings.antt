@@ -1,6 +1,6 @@
 -- The meaning under a port function is a function of the bare meaning.
 use Rattle.std.proofs.lemmas.Grind.{common_steps}
-use Rattle.uri_ops.proofs.Common.{◌≡◌, ℕ, List, refl, sym, ap, ◌∙◌, Option, Some, None, arith, cond-false, nat_tests, Kind, PortFunction, is_empty, AuthorityMeaning, Meaning, port_meaning, authority_meaning, meaning_of, bare_meaning_of, under}
+use Rattle.uri_ops.proofs.Common.{◌≡◌, ℕ, List, sym, ap, ◌∙◌, Option, None, arith, nat_tests, Kind, PortFunction, AuthorityMeaning, Meaning, port_meaning, authority_meaning, meaning_of, bare_meaning_of, under, common_steps}
 
 -- meanings of ports: the authority's meaning with its port under this default
 abbrev pub with_default : Option ℕ → AuthorityMeaning → AuthorityMeaning
@@ -14,8 +14,7 @@ bare-authority-meaning-with_default kind default authority = grind (arith, nat_t
 -- meanings of ports: leaving a default port out twice is leaving it out once
 port_meaning-is-idempotent : (default : Option ℕ) (port : Option (List ℕ))
     → port_meaning default (port_meaning default port) ≡ port_meaning default port
-port_meaning-is-idempotent default None = refl
-port_meaning-is-idempotent default (Some digits) = grind (arith, cond-false, is_empty)
+port_meaning-is-idempotent default port = grind (arith, common_steps)
 
 -- meanings of ports: twice without a default port, an authority's meaning is as once without it
 with_default-is-idempotent : (default : Option ℕ) (a : AuthorityMeaning)

@@ -1,22 +1,15 @@
 -- Two meanings have the same parts exactly if they are equal.
-use Rattle.uri_ops.proofs.Common.{◌≡◌, Bool, List, Option, Some, None, refl, ap, bytes_eq, option_eq, Decides-eqb, Decides-and, Decides-like, bytes_eq-Decides, slice_eq-Decides, HostMeaning, Address, FutureAddress, Name, AuthorityMeaning, Meaning, Token, Char, Octet}
+use Rattle.uri_ops.proofs.Common.{◌≡◌, Bool, List, Option, refl, ap, bytes_eq, option_eq, Decides-and, Decides-like, bytes_eq-Decides, slice_eq-Decides, HostMeaning, Address, FutureAddress, Name, AuthorityMeaning, Meaning, Token, arith, common_steps}
 use Rattle.std.specs.Bool.{Decides}
 use Rattle.uri_ops.specs.SameMeanings.{same_token, same_tokens, same_host, same_authority, same_meaning}
 
 -- equal meanings: comparing two options decides whether they are equal, if E does for values
 option_eq-decides-equality : {A : Type 0} (E : A → A → Bool) → ((a b : A) → Decides (E a b) (a ≡ b))
     → (p q : Option A) → Decides (option_eq E p q) (p ≡ q)
-option_eq-decides-equality E d None None = (λ _. refl, λ _. refl)
-option_eq-decides-equality E d None (Some b) = (λ e. cc, λ e. cc)
-option_eq-decides-equality E d (Some a) None = (λ e. cc, λ e. cc)
-option_eq-decides-equality E d (Some a) (Some b) = Decides-like (E a b) (ap Some) (λ e. cc) (d a b)
+option_eq-decides-equality o d b p = grind (arith, common_steps, d)
 
 same_token-decides-equality : (a b : Token) → Decides (same_token a b) (a ≡ b)
-same_token-decides-equality (Char a) (Char b) = Decides-like _ (ap Char) (λ e. cc) (Decides-eqb a b)
-same_token-decides-equality (Octet a) (Octet b) = Decides-like _ (ap Octet) (λ e. cc)
-    (Decides-eqb a b)
-same_token-decides-equality (Char a) (Octet b) = (λ e. cc, λ e. cc)
-same_token-decides-equality (Octet a) (Char b) = (λ e. cc, λ e. cc)
+same_token-decides-equality a b = grind (arith, common_steps)
 
 -- equal meanings: comparing two lists of tokens decides whether they are equal
 same_tokens-decides-equality : (a b : List Token) → Decides (same_tokens a b) (a ≡ b)

@@ -1,5 +1,5 @@
 -- The components of a text of a kind: each is in UTF-8 and meets its rule, and they are cut apart.
-use Rattle.uri_ops.proofs.Common.{◌≡◌, ℕ, Bool, true, false, not, List, drop, refl, arith, ◌&&◌, ◌||◌, ⊎_elim, codes, IfSome, is_some, IsUtf8, cases_Bool, nat_tests, AreAscii, AreAscii-by-test, Components, starts, from_any, after_scheme, after_authority, after_query, components, when, Kind, is_scheme, has_colon_in_first_segment, is_authority, components_meet_rules, IfSome-combine, utf8_before_marks}
+use Rattle.uri_ops.proofs.Common.{◌≡◌, ℕ, Bool, true, not, List, drop, refl, arith, ◌&&◌, ◌||◌, ⊎_elim, codes, IfSome, is_some, IsUtf8, cases_Bool, nat_tests, AreAscii, AreAscii-by-test, Components, starts, from_any, after_scheme, after_authority, after_query, components, when, Kind, is_scheme, has_colon_in_first_segment, is_authority, components_meet_rules, IfSome-combine, utf8_before_marks, common_steps}
 use Rattle.uri_parts.proofs.Offered.{utf8_from_marks, utf8_after_mark, utf8_after_slashes, utf8_after_authority, utf8_after_scheme}
 use Rattle.uri_ops.proofs.Meanings.AllowedParts.{is_set_text, set-text-from-utf8, set-text-is-valid}
 
@@ -31,8 +31,7 @@ pub record AreUtf8 (p : Components) : Type 0 where
 -- meanings of components: a component that is found if a test passes is UTF-8
 optional-text-is-utf8 : (test : Bool) (text : List ℕ) → (test ≡ true → IsUtf8 text)
     → IfSome (when test text) IsUtf8
-optional-text-is-utf8 true text u = u refl
-optional-text-is-utf8 false text u = tt
+optional-text-is-utf8 test text u = grind (arith, common_steps, u)
 
 pub scheme-ends-are-ascii : AreAscii (codes ":/?#")
 scheme-ends-are-ascii = AreAscii-by-test (codes ":/?#") refl

@@ -1,5 +1,5 @@
 -- The unreserved characters, entry by entry, and one that is written.
-use Rattle.uri_ops.proofs.Common.{◌≡◌, ℕ, ◌<◌, ◌≤◌, Bool, true, false, List, [], ◌∷◌, cond, eqb, get_or, refl, arith, append-nil, encode_utf8, to_ascii_lowercase, agree_below_at, eqb-true, lowercase_ascii, nat_tests, decode_octet, is_unreserved, Octet, print, lowered_if, lowered_code_if}
+use Rattle.uri_ops.proofs.Common.{◌≡◌, ℕ, ◌<◌, ◌≤◌, Bool, true, false, List, [], ◌∷◌, cond, eqb, get_or, refl, arith, append-nil, encode_utf8, agree_below_at, eqb-true, lowercase_ascii, nat_tests, decode_octet, is_unreserved, Octet, print, lowered_if, lowered_code_if, common_steps}
 use Rattle.uri_ops.specs.declared.normalize.octets.TheConstants.{LOWERED_CODES, UNRESERVED_CODES}
 
 -- meanings, decoded by a table: the constant with the code of each ASCII byte that is unreserved
@@ -31,8 +31,7 @@ ascii-entry-is-unreserved lowers b small ascii = grind (arith, nat_tests, code_t
 
 pub lowered-code-of-ascii-is-ascii : (lowers : Bool) (b : ℕ) → b < 128
     → lowered_code_if lowers b < 128
-lowered-code-of-ascii-is-ascii true b small = lowercase_ascii b small
-lowered-code-of-ascii-is-ascii false b small = small
+lowered-code-of-ascii-is-ascii lowers b small = grind (arith, common_steps, lowercase_ascii)
 
 pub entry-past-ascii-is-not-unreserved : (lowers : Bool) (b : ℕ)
     → b < 128 → 128 ≤ get_or (code_table lowers) b 0 → is_unreserved b ≡ false
@@ -44,6 +43,4 @@ entry-past-ascii-is-not-unreserved lowers b small past =
 pub unreserved-octet-prints-its-code : (lowers : Bool) (value : ℕ) → is_unreserved value ≡ true
     → print (lowered_if lowers (decode_octet (Octet value) ∷ []))
     ≡ encode_utf8 (lowered_code_if lowers value)
-unreserved-octet-prints-its-code true value e = rw e
-    (append-nil (encode_utf8 (to_ascii_lowercase value)))
-unreserved-octet-prints-its-code false value e = rw e (append-nil (encode_utf8 value))
+unreserved-octet-prints-its-code lowers value e = grind (arith, common_steps, append-nil)

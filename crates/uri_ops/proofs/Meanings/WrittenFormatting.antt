@@ -1,6 +1,6 @@
 -- Where a printed text has its formatting characters as octets, the tokens that were printed have.
 use Rattle.std.proofs.lemmas.Grind.{common_steps}
-use Rattle.uri_ops.proofs.Common.{◌≡◌, ℕ, ◌≤◌, Bool, true, false, eqb, List, [], ◌∷◌, ◌++◌, length, take, drop, refl, sym, ap, ◌∙◌, arith, ◌&&◌, ◌||◌, encode_utf8, list_all, list_any, flat_map, chars, encode_utf8_all, IsUtf8, take-append_seam, drop-append_seam, cond-false, and_parts, or_parts, or_from, false_from_ne_true, both_ways, nat_tests, append-nil, flat_map-append, list_any-append, encodes-chars, widest_set, is_bidi_formatting, is_printable, formatting_as_octets, encode_formatting, decode_tokens, decode_unreserved, encoded_formatting_char, encoded_formatting_text, TableSet, allows, allows_past_ascii, is_ucschar, is_iprivate, Token, Char, Octet, tokens, text_of_token, print, IsValidFor, valid_text_has_printable_tokens, lowered_tokens_are_printable, ascii_char_is_no_formatting_char, never_literal_is_formatting_if_both_flags, encode_formatting_commutes_with_lowering, chars_of_token, chars_of_printed_tokens, printed_tokens_are_utf8, decode_tokens_keeps_tokens_printable, lowered_if}
+use Rattle.uri_ops.proofs.Common.{◌≡◌, ℕ, ◌≤◌, Bool, true, false, eqb, List, [], ◌∷◌, ◌++◌, length, take, drop, refl, sym, ap, ◌∙◌, arith, ◌&&◌, ◌||◌, encode_utf8, list_all, list_any, flat_map, chars, encode_utf8_all, IsUtf8, take-append_seam, drop-append_seam, and_parts, or_parts, or_from, false_from_ne_true, both_ways, nat_tests, append-nil, flat_map-append, list_any-append, encodes-chars, widest_set, is_bidi_formatting, is_printable, formatting_as_octets, encode_formatting, decode_tokens, decode_unreserved, encoded_formatting_char, encoded_formatting_text, TableSet, allows, allows_past_ascii, is_ucschar, is_iprivate, Token, Char, Octet, tokens, text_of_token, print, IsValidFor, valid_text_has_printable_tokens, lowered_tokens_are_printable, ascii_char_is_no_formatting_char, never_literal_is_formatting_if_both_flags, encode_formatting_commutes_with_lowering, chars_of_token, chars_of_printed_tokens, printed_tokens_are_utf8, decode_tokens_keeps_tokens_printable, lowered_if, common_steps}
 use Rattle.uri_pct.proofs.Offered.{encode_formatting_without_flags_keeps_tokens}
 
 -- meanings, bidirectional text: a formatting character is from U+200E to U+202E, so it begins with
@@ -38,9 +38,7 @@ characters-without-formatting-are-unchanged : (cs : List ℕ) → list_any is_bi
     → flat_map encoded_formatting_char cs ≡ encode_utf8_all cs
 characters-without-formatting-are-unchanged [] e = refl
 characters-without-formatting-are-unchanged (c ∷ cs) e =
-    let p = or_parts (is_bidi_formatting c) (list_any is_bidi_formatting cs) e in
-    ap (λ x. x ++ flat_map encoded_formatting_char cs) (cond-false _ _ _ p.0)
-    ∙ ap (λ x. encode_utf8 c ++ x) (characters-without-formatting-are-unchanged cs p.1)
+    grind (arith, common_steps, (characters-without-formatting-are-unchanged cs))
 
 pub text-without-formatting-is-unchanged : (text : List ℕ) → IsUtf8 text
     → list_any is_bidi_formatting (chars text) ≡ false → encoded_formatting_text text ≡ text
@@ -128,10 +126,7 @@ decoding-without-formatting-is-complete lowers set text none = ap (λ ts. print
 
 -- general fact on booleans, for meanings of bidirectional text: `ucschar` decides on U+200E
 second-flag-does-not-matter : (u p : Bool) → ((u && true) || (p && false)) ≡ u
-second-flag-does-not-matter true true = refl
-second-flag-does-not-matter true false = refl
-second-flag-does-not-matter false true = refl
-second-flag-does-not-matter false false = refl
+second-flag-does-not-matter u p = grind (arith, common_steps)
 
 pub set_allows_formatting_by_ucschar : (set : TableSet) → allows set 0x200E ≡ set.ucschar
 unfolding allows_past_ascii is_ucschar is_iprivate

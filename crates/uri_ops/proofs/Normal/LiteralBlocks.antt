@@ -1,5 +1,5 @@
 -- Blocks of a text by a test of its indices: what a mask of lanes says of those of a block.
-use Rattle.uri_ops.proofs.Common.{◌≡◌, ℕ, ◌+◌, ◌-◌, ◌/◌, ◌^◌, ◌<◌, ◌≤◌, Bool, true, false, not, eqb, ap, sym, ◌∙◌, ◌&&◌, ◌||◌, List, length, map, get_or, refl, bit_and, bit_or, arith, w64, ⊎_elim, subst, pow_mono, bit_at, trailing_zeros, cases_lt, bit_of_right_shift, is_set_bit, equality_mask_is_below_2_16, mask_bit_is_equality_of_byte, is_literal_at}
+use Rattle.uri_ops.proofs.Common.{◌≡◌, ℕ, ◌+◌, ◌-◌, ◌/◌, ◌^◌, ◌<◌, ◌≤◌, Bool, true, not, eqb, ap, sym, ◌∙◌, ◌&&◌, ◌||◌, List, length, map, get_or, bit_and, bit_or, arith, w64, ⊎_elim, subst, pow_mono, bit_at, trailing_zeros, cases_lt, bit_of_right_shift, is_set_bit, equality_mask_is_below_2_16, mask_bit_is_equality_of_byte, is_literal_at, common_steps}
 use Rattle.std.specs.Int.Bits.{and_lt}
 use Rattle.std.specs.Simd.Lanes.{chunk, mask_l}
 use Rattle.std.proofs.lemmas.Nat.{or_lt, shr_below}
@@ -59,11 +59,7 @@ module _ (test : ℕ → Bool) (start i w mask : ℕ) (m : MarksIndices test i w
 
 special-is-not-literal : (special slash dot : Bool) → (special || (slash && dot))
     ≡ not (not special && not (dot && slash))
-special-is-not-literal true slash dot = refl
-special-is-not-literal false true true = refl
-special-is-not-literal false true false = refl
-special-is-not-literal false false true = refl
-special-is-not-literal false false false = refl
+special-is-not-literal special slash dot = grind (arith, common_steps)
 
 -- literal blocks: the masks of a block of a text: of `%`, of the byte E2, of dots, and of a `/`
 -- before each byte

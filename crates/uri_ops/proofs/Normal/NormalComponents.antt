@@ -1,7 +1,7 @@
 -- The components of a normal text: they meet the grammar, are cut apart where the text is, and have
 -- the meaning that the text was printed from.
 use Rattle.uri_parts.proofs.Offered.{valid_ascii_text}
-use Rattle.uri_ops.proofs.Common.{◌≡◌, ℕ, ◌<◌, Bool, true, false, cond, not, List, [], ◌∷◌, ◌++◌, length, refl, ap, ◌∙◌, ◌&&◌, ◌||◌, arith, option_map, codes, Option, Some, None, IfSome, IfNone, is_some, slice_index, option_and_then, is_ascii_alphabetic, IsUtf8, str_to_ascii_lowercase, and_parts, not-true, not_from_false, false≢true, nat_tests, TableSet, scheme_set, print, is_valid_for, decode_unreserved, excludes, Components, IsSplitOf, Lacks, IsAbemptyPath, marked, has_scheme, has_authority, recompose, Kind, is_scheme, has_colon_in_first_segment, is_authority, query_text, scheme_set_lacks_percent, scheme_set_excludes_delimiters, valid_text_lacks_excluded_marks, dotless_if_absolute, guarded, IsComponentSet, HasComponentSets, PortFunction, authority_meaning, dotless_path, components_meaning, normal_authority, normal_components, print_decoded}
+use Rattle.uri_ops.proofs.Common.{◌≡◌, ℕ, ◌<◌, Bool, true, false, cond, not, List, [], ◌++◌, length, refl, ap, ◌∙◌, ◌&&◌, ◌||◌, arith, option_map, codes, Option, Some, None, IfSome, IfNone, is_some, slice_index, option_and_then, is_ascii_alphabetic, IsUtf8, str_to_ascii_lowercase, and_parts, nat_tests, TableSet, scheme_set, print, is_valid_for, decode_unreserved, excludes, Components, IsSplitOf, Lacks, IsAbemptyPath, marked, has_scheme, has_authority, recompose, Kind, is_scheme, has_colon_in_first_segment, is_authority, query_text, scheme_set_lacks_percent, scheme_set_excludes_delimiters, valid_text_lacks_excluded_marks, dotless_if_absolute, guarded, IsComponentSet, HasComponentSets, PortFunction, authority_meaning, dotless_path, components_meaning, normal_authority, normal_components, print_decoded, common_steps}
 use Rattle.uri_ops.proofs.Meanings.ComponentEnds.{no_scheme, path-set-excludes-its-ends, query-set-excludes-its-end}
 use Rattle.uri_ops.proofs.Meanings.PortMeanings.{authority_meaning-from-bare-meaning}
 use Rattle.uri_ops.proofs.Targeting.Targets.{guarded-path-without-authority-has-no-two-slashes, dotless-abempty-path-is-abempty}
@@ -43,8 +43,7 @@ lowered-scheme-part-is-scheme-part (Some s) h =
 
 pub text-with-first-letter-is-not-empty : (s : List ℕ) → is_ascii_alphabetic (slice_index s 0)
     ≡ true → 0 < length s
-text-with-first-letter-is-not-empty [] e = absurd (false≢true e)
-text-with-first-letter-is-not-empty (c ∷ s) e = omega arith
+text-with-first-letter-is-not-empty s e = grind (arith, common_steps)
 
 scheme-part-is-not-empty-and-lacks-ends : (scheme : Option (List ℕ)) → IfSome scheme IsSchemePart
     → IfSome scheme (λ s. (0 < length s) × Lacks (codes ":/?#") s)
@@ -59,8 +58,7 @@ scheme-part-is-not-empty-and-lacks-ends (Some s) h =
 -- normal texts: a scheme, if there is one, in lower case twice is in lower case once
 pub lowering-scheme-is-idempotent : (scheme : Option (List ℕ)) → option_map str_to_ascii_lowercase
     (option_map str_to_ascii_lowercase scheme) ≡ option_map str_to_ascii_lowercase scheme
-lowering-scheme-is-idempotent None = refl
-lowering-scheme-is-idempotent (Some s) = ap Some (lowering-is-idempotent s)
+lowering-scheme-is-idempotent scheme = grind (arith, common_steps, lowering-is-idempotent)
 
 -- the decoded form of a component that may be absent, as printed
 module _ (set : TableSet) (marks : List ℕ) (w : IsComponentSet marks set) where
@@ -68,17 +66,15 @@ module _ (set : TableSet) (marks : List ℕ) (w : IsComponentSet marks set) wher
       → IfSome (option_map print (option_map (decode_unreserved set) o))
       (λ x. is_set_text set x ≡ true)
   unfolding print_decoded
-  normal-component-is-part None h = tt
-  normal-component-is-part (Some x) h = decoded-set-text-is-set-text set w.percent w.unreserved x h
+  normal-component-is-part o h = grind (arith, common_steps, decoded-set-text-is-set-text)
 
   pub normal-component-decodes-as-component : (o : Option (List ℕ))
       → IfSome o (λ x. is_set_text set x ≡ true)
       → option_map (decode_unreserved set) (option_map print (option_map (decode_unreserved set) o))
       ≡ option_map (decode_unreserved set) o
   unfolding print_decoded
-  normal-component-decodes-as-component None h = refl
-  normal-component-decodes-as-component (Some x) h = ap Some
-      (decode_unreserved-is-idempotent set w.percent x h)
+  normal-component-decodes-as-component o h =
+      grind (arith, common_steps, decode_unreserved-is-idempotent)
 
   pub part-lacks-excluded-characters : (some : List ℕ) → excludes set some ≡ true → (o : Option
       (List ℕ)) → IfSome o (λ x. is_set_text set x ≡ true) → IfSome o (λ x. Lacks some x)
@@ -98,13 +94,12 @@ module _ (set : TableSet) (w : IsComponentSet (codes "?#[]") set)
       → is_set_text set path ≡ true
       → is_set_text set (normal_path_of set scheme authority path) ≡ true
   unfolding print_decoded
-  normal-path-is-set-text None authority path h = decoded-set-text-is-set-text set w.percent
-      w.unreserved path h
-  normal-path-is-set-text (Some s) authority path h =
+  normal-path-is-set-text scheme authority path h =
       grind (
         arith,
-        guarded-set-text-is-set-text,
+        common_steps,
         decoded-set-text-is-set-text,
+        guarded-set-text-is-set-text,
         path-without-dots-is-set-text,
       )
 
@@ -152,9 +147,7 @@ module _ (kind : Kind) (sets : HasComponentSets kind) (keeps : NormalAuthorities
 
   normal-authority-if-some-is-of-kind : (default : Option ℕ) (o : Option (List ℕ))
       → IfSome o IsAuthorityPart → IfSome (printed default o) IsAuthorityPart
-  normal-authority-if-some-is-of-kind default None h = tt
-  normal-authority-if-some-is-of-kind default (Some a) h =
-      (keeps.utf8 default a h.0 h.1, keeps.meets default a h.0 h.1)
+  normal-authority-if-some-is-of-kind default o h = grind (arith, common_steps)
 
   normal-authority-lacks-ends-before-path :
       (default : Option ℕ) (scheme o : Option (List ℕ)) (path : List ℕ) → is_set_text kind.path path
@@ -169,16 +162,14 @@ module _ (kind : Kind) (sets : HasComponentSets kind) (keeps : NormalAuthorities
       (default : Option ℕ) (scheme o : Option (List ℕ)) (path : List ℕ) → is_set_text kind.path path
       ≡ true → IfNone o (has_authority path ≡ false) → IfNone (printed default o)
       (has_authority (normal_path_of kind.path scheme (printed default o) path) ≡ false)
-  normal-path-without-authority-has-none default scheme None path part h =
-      normal-path-begins-with-no-two-slashes kind.path sets.path sets.slash scheme path part h
-  normal-path-without-authority-has-none default scheme (Some a) path part h = tt
+  normal-path-without-authority-has-none default scheme o path part h =
+      grind (arith, common_steps, normal-path-begins-with-no-two-slashes)
 
   normal-authority-keeps-meaning : (default other : Option ℕ) → other ≡ default
       → (o : Option (List ℕ)) → IfSome o IsAuthorityPart → option_map (authority_meaning kind other)
       (printed default o) ≡ option_map (authority_meaning kind default) o
-  normal-authority-keeps-meaning default other e None h = refl
-  normal-authority-keeps-meaning default other e (Some a) h =
-      grind (arith, nat_tests, authority_meaning-from-bare-meaning)
+  normal-authority-keeps-meaning default other e q h =
+      grind (arith, common_steps, authority_meaning-from-bare-meaning)
 
   -- a scheme if the kind needs one, and no `:` in the first segment of a path that is alone
   abbrev meets_needs : Option (List ℕ) → Option (List ℕ) → List ℕ → Bool
@@ -196,10 +187,8 @@ module _ (kind : Kind) (sets : HasComponentSets kind) (keeps : NormalAuthorities
       (List ℕ)) (path : List ℕ) → is_set_text kind.path path ≡ true
       → meets_needs scheme o path ≡ true → meets_needs (option_map str_to_ascii_lowercase scheme)
       (printed default o) (normal_path_of kind.path scheme (printed default o) path) ≡ true
-  normal-components-keep-scheme-or-colon-rule default (Some s) o path part h = refl
-  normal-components-keep-scheme-or-colon-rule default None (Some a) path part h = h
-  normal-components-keep-scheme-or-colon-rule default None None path part h =
-      grind (arith, nat_tests, not_from_false, decoding-keeps-first-segment-without-colon, not-true)
+  normal-components-keep-scheme-or-colon-rule default scheme o path part h =
+      grind (arith, common_steps, decoding-keeps-first-segment-without-colon)
 
   normal-text-without-scheme-has-none : (default : Option ℕ) (scheme o : Option (List ℕ))
       (path : List ℕ) (query fragment : Option (List ℕ)) → is_set_text kind.path path ≡ true
@@ -207,9 +196,7 @@ module _ (kind : Kind) (sets : HasComponentSets kind) (keeps : NormalAuthorities
       (has_scheme (marked [] (option_map str_to_ascii_lowercase scheme) (codes ":")
       ++ (marked (codes "//") (printed default o) [] ++ (normal_path_of kind.path scheme
       (printed default o) path ++ query_text query fragment))) ≡ false)
-  normal-text-without-scheme-has-none default (Some s) o path query fragment part h = tt
-  normal-text-without-scheme-has-none default None (Some a) path query fragment part h = refl
-  normal-text-without-scheme-has-none default None None path query fragment part h =
+  normal-text-without-scheme-has-none default scheme o path query fragment part h =
       grind (arith, no_scheme, decoding-keeps-first-segment-without-colon)
 
   abbrev pub components_of_normal_text : Components → Components

@@ -1,5 +1,5 @@
 -- The pieces of a normal text, as they are appended one after the other.
-use Rattle.uri_ops.proofs.Common.{◌≡◌, ℕ, true, false, ◌&&◌, List, [], ◌∷◌, ◌++◌, refl, option_map, arith, codes, Option, Some, None, is_some, IsUtf8, false≢true, append_assoc, nat_tests, TableSet, is_absolute, decode_unreserved, IsValidFor, print, components, has_authority, starts, Kind, IsComponentSet, remove_dot_segments, meaning_of, normal_authority, normal_path, normal_path_text, PortFunction, guarded, print_decoded, is_some-option_map}
+use Rattle.uri_ops.proofs.Common.{◌≡◌, ℕ, true, false, ◌&&◌, List, ◌++◌, option_map, arith, codes, Option, is_some, IsUtf8, append_assoc, nat_tests, TableSet, is_absolute, decode_unreserved, IsValidFor, print, components, has_authority, starts, Kind, IsComponentSet, remove_dot_segments, meaning_of, normal_authority, normal_path, normal_path_text, PortFunction, guarded, print_decoded, is_some-option_map, common_steps}
 use Rattle.uri_ops.proofs.Meanings.AllowedParts.{set-text-from-utf8}
 use Rattle.uri_ops.proofs.Paths.DecodedStarts.{decoding-keeps-two-slashes}
 
@@ -14,9 +14,8 @@ pub path-with-dots-is-normal-when-decoded : (set : TableSet) → IsComponentSet 
     → (scheme authority : Option (List ℕ)) (path : List ℕ) → IsUtf8 path → IsValidFor set path
     → (is_some scheme && starts 47 path) ≡ false
     → normal_path_text set scheme authority path ≡ print (decode_unreserved set path)
-path-with-dots-is-normal-when-decoded set w None authority path utf8 valid e = refl
-path-with-dots-is-normal-when-decoded set w (Some s) authority path utf8 valid e =
-    grind (arith, decoded-path-keeps-two-slashes)
+path-with-dots-is-normal-when-decoded set w authority path o utf8 valid e =
+    grind (arith, common_steps, decoded-path-keeps-two-slashes)
 
 -- normal paths: if a path that begins with `/` is appended under a scheme, decoded, without its dot
 -- segments and after the guard that this needs, its normal form is appended
@@ -24,15 +23,12 @@ pub pushed-path-without-dots-is-normal : (set : TableSet) (scheme authority : Op
     (path old new : List ℕ) → is_some scheme ≡ true → starts 47 path ≡ true
     → new ≡ old ++ guarded authority (print (decode_unreserved set (remove_dot_segments path)))
     → new ≡ old ++ normal_path_text set scheme authority path
-pushed-path-without-dots-is-normal set None authority path old new some absolute pushed =
-    absurd (false≢true some)
-pushed-path-without-dots-is-normal set (Some s) authority path old new some absolute pushed =
-    grind arith
+pushed-path-without-dots-is-normal set scheme authority path old new some absolute pushed =
+    grind (arith, common_steps)
 
 pub is_some-of-mapped-twice : {A B C : Type 0} (f : A → B) (h : B → C) (o : Option A)
     → is_some (option_map h (option_map f o)) ≡ is_some o
-is_some-of-mapped-twice f h None = refl
-is_some-of-mapped-twice f h (Some x) = refl
+is_some-of-mapped-twice f h o = grind (arith, common_steps)
 
 pub five-appended-texts-are-one : (old s a p q f o1 o2 o3 o4 new : List ℕ) → o1 ≡ old ++ s → o2 ≡ o1
     ++ a → o3 ≡ o2 ++ p → o4 ≡ o3 ++ q → new ≡ o4 ++ f → new ≡ old ++ (s ++ (a ++ (p ++ (q ++ f))))
@@ -47,5 +43,4 @@ normal_path-by-components kind ports text = grind (arith, nat_tests, is_some-opt
 
 -- normal paths: beginning with `/` (47) is being absolute
 pub absolute-is-leading-slash : (path : List ℕ) → starts 47 path ≡ is_absolute path
-absolute-is-leading-slash [] = refl
-absolute-is-leading-slash (c ∷ path) = refl
+absolute-is-leading-slash path = grind (arith, common_steps)

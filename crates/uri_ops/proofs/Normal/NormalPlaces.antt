@@ -1,5 +1,5 @@
 -- Where the components of a normal text are.
-use Rattle.uri_ops.proofs.Common.{◌≡◌, ℕ, ◌+◌, true, List, refl, sym, ap, ◌∙◌, option_map, arith, option_and_then, Option, Some, None, IfSome, IsUtf8, str_to_ascii_lowercase, nat_tests, components, Kind, is_authority, IsTextOf, ArePackedPositionsOf, packed, authority_at, delimited_length, positions_of, HasComponentSets, authority_meaning, meaning_of, normal_authority, normal_components, normal_parts, normal_text, PortFunction, authority_parts_at, positions_by_authority_parts}
+use Rattle.uri_ops.proofs.Common.{◌≡◌, ℕ, ◌+◌, true, List, sym, ap, ◌∙◌, option_map, arith, option_and_then, Option, IfSome, IsUtf8, str_to_ascii_lowercase, components, Kind, is_authority, IsTextOf, ArePackedPositionsOf, packed, authority_at, delimited_length, positions_of, HasComponentSets, authority_meaning, meaning_of, normal_authority, normal_components, normal_parts, normal_text, PortFunction, authority_parts_at, positions_by_authority_parts, common_steps}
 use Rattle.uri_parts.specs.declared.packed_positions.PackedPositions.{PackedPositions}
 use Rattle.uri_ops.proofs.Meanings.AuthorityMeanings.{normal-authority-has-normal-parts}
 use Rattle.uri_ops.proofs.Normal.NormalTexts.{components-of-normal_text, text-has-parts-of-kind}
@@ -11,9 +11,8 @@ module _ (kind : Kind) (sets : HasComponentSets kind) (ports : PortFunction) whe
       → option_map (authority_parts_at place) (option_map normal_parts
       (option_map (authority_meaning kind default) o)) ≡ option_map (authority_at place)
       (option_map normal_authority (option_map (authority_meaning kind default) o))
-  normal-authority-positions-by-parts place default None h = refl
-  normal-authority-positions-by-parts place default (Some a) h =
-      grind (arith, nat_tests, positions-of-parts-are-of-text, normal-authority-has-normal-parts)
+  normal-authority-positions-by-parts place default o h =
+      grind (arith, common_steps, positions-of-parts-are-of-text, normal-authority-has-normal-parts)
 
   pub written-positions-are-of-normal-text : (text normal : List ℕ) (positions : PackedPositions)
       → IsTextOf kind text → normal ≡ normal_text (meaning_of kind ports text) → positions

@@ -1,6 +1,6 @@
 -- Texts without formatting characters whose octets are unchanged: byte by byte, and in the parts of
 -- a text.
-use Rattle.uri_ops.proofs.Common.{◌≡◌, ℕ, ◌+◌, ◌<◌, ◌≤◌, Bool, true, false, eqb, List, [], ◌∷◌, ◌++◌, not, length, get_or, refl, sym, ap, ◌∙◌, arith, ◌||◌, ◌&&◌, ⊎_elim, suc, ◌-◌, subst, Option, Some, None, IfSome, is_ascii_hexdigit, list_any, and_parts, and_from, cases_lt, not-true, not_from_false, or_from, or_left, or_parts, nat_tests, marked, HasUnchangedOctets, has_unchanged_octets, is_octet_unchanged_at, is_unchanged_octet, keeps_digits, is_dot_unchanged_at, is_literal_at, is_literal_byte, is_unchanged_at}
+use Rattle.uri_ops.proofs.Common.{◌≡◌, ℕ, ◌+◌, ◌<◌, ◌≤◌, Bool, true, false, eqb, List, [], ◌∷◌, ◌++◌, not, length, get_or, refl, sym, ap, ◌∙◌, arith, ◌||◌, ◌&&◌, ⊎_elim, suc, ◌-◌, subst, Option, IfSome, is_ascii_hexdigit, list_any, and_parts, and_from, cases_lt, not-true, not_from_false, or_from, or_left, or_parts, nat_tests, marked, HasUnchangedOctets, has_unchanged_octets, is_octet_unchanged_at, is_unchanged_octet, keeps_digits, is_dot_unchanged_at, is_literal_at, is_literal_byte, is_unchanged_at, common_steps}
 
 -- unchanged texts: at a byte that begins neither an octet nor a formatting character, a text is
 -- unchanged
@@ -67,9 +67,7 @@ dot-that-begins-no-segment-is-unchanged alone limit bs k dot e = and_from _ _
 digits-are-unchanged-by-index : (alone : Bool) (text : List ℕ)
     → is_unchanged_octet alone (get_or text 0 0) (get_or text 1 0) ≡ true
     → keeps_digits alone text ≡ true
-digits-are-unchanged-by-index alone [] e = refl
-digits-are-unchanged-by-index alone (high ∷ []) e = refl
-digits-are-unchanged-by-index alone (high ∷ low ∷ text) e = e
+digits-are-unchanged-by-index alone text e = grind (arith)
 
 head-is-unchanged-by-index : (alone : Bool) (b : ℕ) (text : List ℕ) → is_octet_unchanged_at alone (b
     ∷ text) 0 ≡ true → (not (eqb b 0xE2) && (not (eqb b 37) || keeps_digits alone text)) ≡ true
@@ -101,9 +99,7 @@ bytes-unchanged-by-index-are-unchanged alone (b ∷ text) each =
 
 digits-of-prefix-are-unchanged : (alone : Bool) (xs ys : List ℕ)
     → keeps_digits alone (xs ++ ys) ≡ true → keeps_digits alone xs ≡ true
-digits-of-prefix-are-unchanged alone [] ys e = refl
-digits-of-prefix-are-unchanged alone (high ∷ []) ys e = refl
-digits-of-prefix-are-unchanged alone (high ∷ low ∷ xs) ys e = e
+digits-of-prefix-are-unchanged alone xs ys e = grind (arith, common_steps)
 
 pub unchanged-text-splits : (alone : Bool) (xs ys : List ℕ) → HasUnchangedOctets alone (xs ++ ys)
     → HasUnchangedOctets alone xs × HasUnchangedOctets alone ys
@@ -125,9 +121,8 @@ unchanged-text-splits alone (b ∷ xs) ys e =
 pub delimited-component-of-unchanged-is-unchanged : (alone : Bool) (before suffix : List ℕ)
     (o : Option (List ℕ)) → HasUnchangedOctets alone (marked before o suffix) → IfSome o
     (HasUnchangedOctets alone)
-delimited-component-of-unchanged-is-unchanged alone before suffix None e = tt
-delimited-component-of-unchanged-is-unchanged alone before suffix (Some part) e =
-    grind (arith, unchanged-text-splits)
+delimited-component-of-unchanged-is-unchanged alone before suffix o e =
+    grind (arith, common_steps, unchanged-text-splits)
 
 -- unchanged texts: a text whose octets are unchanged has no E2, with which formatting
 -- characters begin

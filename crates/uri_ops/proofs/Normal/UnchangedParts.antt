@@ -1,5 +1,5 @@
 -- Parts of a text that are printed as they are: components whose octets are unchanged, and hosts.
-use Rattle.uri_ops.proofs.Common.{◌≡◌, ℕ, ◌+◌, ◌*◌, ◌≤◌, ◌<◌, Bool, true, false, eqb, ltb, List, [], ◌∷◌, ◌++◌, map, refl, sym, ap, subst, ◌∙◌, ◌&&◌, ◌||◌, append-nil, option_map, arith, length, take, drop, zero, suc, ⊎_elim, Option, Some, None, IfSome, digit_value, is_ascii_hexdigit, list_any, position_or_len, chars, IsUtf8, str_to_ascii_lowercase, and_parts, and_right, cases_Bool, cond-false, eqb-true, ltb-true, ne_eqb, not-true, or_cases, or_parts, nat_tests, take-append-drop, length-drop, IsUtf8-drop, widest_set, LacksPastAscii, encode_formatting, is_bidi_formatting, is_never_literal, lower_token, decode_unreserved, decode_after_run, decode_octet, decode_tokens, encoded_formatting_text, TableSet, LacksPercent, lacks, Char, IsValidFor, Octet, print, text_of_token, tokens, tokens_from_chars, BeginsWithOctet, boundary_after_octet, every_set_is_subset_of_widest, bytes_from_percent_begin_with_octet, tokens_after_unencoded_prefix, valid_for_superset, starts, Kind, host_kind, ipv4_value, name_kind, names_exclude_delimiters, HasComponentSets, host_meaning, decoded_text, HasUnchangedOctets, is_unchanged_octet, host_text}
+use Rattle.uri_ops.proofs.Common.{◌≡◌, ℕ, ◌+◌, ◌*◌, ◌≤◌, ◌<◌, Bool, true, false, eqb, ltb, List, [], ◌∷◌, ◌++◌, map, refl, sym, ap, subst, ◌∙◌, ◌&&◌, ◌||◌, append-nil, option_map, arith, length, take, drop, zero, suc, ⊎_elim, Option, IfSome, digit_value, is_ascii_hexdigit, list_any, position_or_len, chars, IsUtf8, str_to_ascii_lowercase, and_parts, cases_Bool, cond-false, eqb-true, ltb-true, ne_eqb, not-true, or_cases, nat_tests, take-append-drop, length-drop, IsUtf8-drop, widest_set, LacksPastAscii, encode_formatting, is_bidi_formatting, is_never_literal, lower_token, decode_unreserved, decode_after_run, decode_octet, decode_tokens, encoded_formatting_text, TableSet, LacksPercent, lacks, Char, IsValidFor, Octet, print, text_of_token, tokens, tokens_from_chars, BeginsWithOctet, boundary_after_octet, every_set_is_subset_of_widest, bytes_from_percent_begin_with_octet, tokens_after_unencoded_prefix, valid_for_superset, starts, Kind, host_kind, ipv4_value, name_kind, names_exclude_delimiters, HasComponentSets, host_meaning, decoded_text, HasUnchangedOctets, is_unchanged_octet, host_text, common_steps}
 use Rattle.uri_ops.proofs.Meanings.AuthorityMeanings.{kind-sets-lack-authority-delimiters}
 use Rattle.uri_ops.proofs.Meanings.Cased.{print-lowers-characters}
 use Rattle.uri_ops.proofs.Meanings.HostMeanings.{meaning-of-name-is-lowered-decoded}
@@ -102,19 +102,15 @@ module _ (set : TableSet) (alone : Bool) (none : alone ≡ true → LacksPastAsc
   pub unchanged-option-decodes-to-itself : LacksPercent set → (o : Option (List ℕ))
       → IfSome o IsUtf8 → IfSome o (IsValidFor set) → IfSome o (HasUnchangedOctets alone)
       → option_map print (option_map (decode_unreserved set) o) ≡ o
-  unchanged-option-decodes-to-itself percent None u v same = refl
-  unchanged-option-decodes-to-itself percent (Some text) u v same = ap Some
-      (unchanged-text-decodes-to-itself percent text u v same)
+  unchanged-option-decodes-to-itself percent q u v same =
+      grind (arith, common_steps, unchanged-text-decodes-to-itself)
 
 encode_formatting-keeps-literal-characters : (set : TableSet) (cs : List ℕ)
     → list_any is_bidi_formatting cs ≡ false → encode_formatting set (map Char cs) ≡ map Char cs
 unfolding is_never_literal
 encode_formatting-keeps-literal-characters set [] e = refl
 encode_formatting-keeps-literal-characters set (c ∷ cs) e =
-    let p = or_parts (is_bidi_formatting c) (list_any is_bidi_formatting cs) e in
-    ap (λ us. us ++ encode_formatting set (map Char cs))
-    (cond-false _ _ _ (and_right (set.ucschar && set.pct_encoded) (is_bidi_formatting c) p.0))
-    ∙ ap (λ us. Char c ∷ us) (encode_formatting-keeps-literal-characters set cs p.1)
+    grind (arith, common_steps, (encode_formatting-keeps-literal-characters set cs))
 
 text-without-octets-has-tokens-decoded : (set : TableSet) (text : List ℕ) → IsUtf8 text
     → lacks 37 text ≡ true → decode_tokens set (tokens text) ≡ map Char (chars text)

@@ -1,5 +1,5 @@
 -- Texts whose bytes up to the end of the host are unchanged: so are the scheme and the host.
-use Rattle.uri_ops.proofs.Common.{common_steps, ◌≡◌, ℕ, ◌+◌, ◌<◌, ◌≤◌, ◌||◌, Bool, true, eqb, not, List, [], ◌∷◌, ◌++◌, length, get_or, take, refl, sym, ap, ◌∙◌, append-nil, option_map, arith, codes, Option, Some, None, IfSome, unwrap_or, to_ascii_lowercase, list_all, str_to_ascii_lowercase, take-append-add, agree_below_at, and_from, and_parts, not-true, nat_tests, get_or-take, length-append, length-take-le, take-take, All-from_get_or, list_all-append, list_all-from_AllPass, lacks, authority_parts, recompose_authority, Components, marked, packed, authority_at, delimited_length, host_end_of, positions_of, IsUnchangedHost, is_literal_byte, is_unchanged_host_byte, normal_scheme}
+use Rattle.uri_ops.proofs.Common.{common_steps, ◌≡◌, ℕ, ◌+◌, ◌<◌, ◌≤◌, ◌||◌, Bool, true, not, List, [], ◌∷◌, ◌++◌, length, get_or, take, refl, sym, ap, ◌∙◌, append-nil, option_map, arith, codes, Option, Some, None, IfSome, unwrap_or, list_all, str_to_ascii_lowercase, take-append-add, agree_below_at, not-true, nat_tests, get_or-take, length-append, length-take-le, take-take, All-from_get_or, list_all-append, list_all-from_AllPass, lacks, authority_parts, recompose_authority, Components, marked, packed, authority_at, delimited_length, host_end_of, positions_of, IsUnchangedHost, is_literal_byte, is_unchanged_host_byte, normal_scheme}
 use Rattle.uri_pct.specs.Masks.{has_bit}
 use Rattle.uri_pct.specs.Models.ByteRuns.{IsLongestRun}
 use Rattle.uri_pct.proofs.Offered.{has_bit-only-ascii}
@@ -53,18 +53,14 @@ pub unchanged_bytes_are_lower : (text : List ℕ) → has_unchanged_host_bytes t
     → str_to_ascii_lowercase text ≡ text
 unchanged_bytes_are_lower [] e = refl
 unchanged_bytes_are_lower (b ∷ text) e =
-    let p = and_parts (is_unchanged_host_byte b) (has_unchanged_host_bytes text) e in
-    let same : to_ascii_lowercase b ≡ b = let h = p.0 in grind (arith, nat_tests) in
-    λ i. same i ∷ unchanged_bytes_are_lower text p.1 i
+    grind (arith, common_steps, (unchanged_bytes_are_lower text))
 
 -- unchanged bytes: an unchanged text has no `%` (37)
 unchanged-bytes-lack-percent : (text : List ℕ) → has_unchanged_host_bytes text ≡ true
     → lacks 37 text ≡ true
 unchanged-bytes-lack-percent [] e = refl
 unchanged-bytes-lack-percent (b ∷ text) e =
-    let p = and_parts (is_unchanged_host_byte b) (has_unchanged_host_bytes text) e in
-    let other : not (eqb b 37) ≡ true = (and_parts _ _ (and_parts _ _ p.0).1).0 in
-    and_from _ _ other (unchanged-bytes-lack-percent text p.1)
+    grind (arith, common_steps, (unchanged-bytes-lack-percent text))
 
 pub host_of_unchanged_bytes_is_unchanged : (host : List ℕ) → has_unchanged_host_bytes host ≡ true
     → IsUnchangedHost host
@@ -80,9 +76,8 @@ unchanged-prefix-splits n xs ys e = grind (arith, nat_tests, list_all-append, ta
 
 scheme-of-unchanged-bytes-is-unchanged : (scheme : Option (List ℕ))
     → has_unchanged_host_bytes (marked [] scheme (codes ":")) ≡ true → normal_scheme scheme ≡ scheme
-scheme-of-unchanged-bytes-is-unchanged None e = refl
-scheme-of-unchanged-bytes-is-unchanged (Some s) e = ap Some (unchanged_bytes_are_lower s
-    (and_parts _ _ (sym (list_all-append is_unchanged_host_byte s (codes ":")) ∙ e)).0)
+scheme-of-unchanged-bytes-is-unchanged scheme e =
+    grind (arith, common_steps, unchanged_bytes_are_lower, list_all-append)
 
 unchanged-prefix-of-authority-has-its-host : (a rest : List ℕ)
     → recompose_authority (authority_parts a) ≡ a → has_unchanged_host_bytes (take (host_end_of a)
@@ -123,18 +118,5 @@ unchanged-prefix-has-unchanged-scheme-and-host scheme (Some a) rest whole some e
 pub host-ends-before-path : (p : Components)
     → ((a : List ℕ) → p.authority ≡ Some a → recompose_authority (authority_parts a) ≡ a)
     → (packed (positions_of p)).host_end ≤ (positions_of p).path_start
-host-ends-before-path p whole = by-authority p.scheme p.authority whole
-  where
-    by-authority : (scheme authority : Option (List ℕ))
-        → ((a : List ℕ) → authority ≡ Some a → recompose_authority (authority_parts a) ≡ a)
-        → end_of_host scheme authority ≤ delimited_length 1 scheme + delimited_length 2 authority
-    by-authority scheme None whole = omega arith
-    by-authority scheme (Some a) whole =
-        let parts = authority_parts a in
-        let user = marked [] parts.userinfo (codes "@") in
-        let port = marked (codes ":") parts.port [] in
-        let long = length-with-delimiter-after parts.userinfo 64 in
-        let first = length-append user (parts.host ++ port) in
-        let second = length-append parts.host port in
-        let joined = ap length (whole a refl) in
-        omega (arith, long, first, second, joined)
+host-ends-before-path p whole =
+    grind (arith, common_steps, whole, length-with-delimiter-after, length-append)

@@ -1,5 +1,5 @@
 -- A text that is its own normal text, by what is asked of its bytes and its components.
-use Rattle.uri_ops.proofs.Common.{◌≡◌, ℕ, Bool, true, false, cond, List, [], ◌++◌, refl, sym, ap, subst, ◌∙◌, option_map, ⊎_elim, codes, Option, Some, None, IfSome, IfNone, is_some, IsUtf8, and_parts, cases_Bool, cond-false, decode_unreserved, TableSet, IsValidFor, print, IfSome-weaken, AuthorityParts, authority_parts, is_authority_for, recompose_authority, Components, IsSplitOf, components, has_authority, marked, recompose, starts, IsTextOf, Kind, is_authority, host_kind, is_host, PortFunction, is_authority_for-sound, components-are-split-of-text, HasComponentSets, authority_meaning, host_meaning, meaning_of, AreUnchanged, HasUnchangedOctets, IsUnchangedHost, IsUnchangedPort, KindLacksPastAscii, default_port_of, host_text, normal_authority, normal_path, normal_text, guarded}
+use Rattle.uri_ops.proofs.Common.{◌≡◌, ℕ, Bool, true, false, cond, List, [], ◌++◌, sym, ap, subst, ◌∙◌, option_map, ⊎_elim, codes, Option, IfSome, IfNone, is_some, IsUtf8, and_parts, cases_Bool, decode_unreserved, TableSet, IsValidFor, print, IfSome-weaken, AuthorityParts, authority_parts, is_authority_for, recompose_authority, Components, IsSplitOf, components, has_authority, marked, recompose, starts, IsTextOf, Kind, is_authority, host_kind, is_host, PortFunction, is_authority_for-sound, components-are-split-of-text, HasComponentSets, authority_meaning, host_meaning, meaning_of, AreUnchanged, HasUnchangedOctets, IsUnchangedHost, IsUnchangedPort, KindLacksPastAscii, default_port_of, host_text, normal_authority, normal_path, normal_text, guarded, arith, common_steps}
 use Rattle.uri_ops.proofs.Meanings.AllowedParts.{is_set_text, set-text-is-valid}
 use Rattle.uri_ops.proofs.Meanings.AuthorityMeanings.{PartsUtf8, authority-parts-are-utf8}
 use Rattle.uri_ops.proofs.Meanings.TextParts.{AreUtf8, ArePartsOfKind, components-of-utf8-are-utf8}
@@ -56,17 +56,14 @@ module _ (kind : Kind) (sets : HasComponentSets kind) (alone : Bool)
         → IfSome o (λ a. IsUnchangedHost (authority_parts a).host)
         → IfSome o (λ a. IsUnchangedPort default (authority_parts a).port)
         → option_map normal_authority (option_map (authority_meaning kind default) o) ≡ o
-    unchanged-authority-if-some-is-normal None h octets host port = refl
-    unchanged-authority-if-some-is-normal (Some a) h octets host port =
-        ap Some (unchanged-authority-is-its-normal-form a h.0 h.1 octets host port)
+    unchanged-authority-if-some-is-normal o h octets host port =
+        grind (arith, common_steps, unchanged-authority-is-its-normal-form)
 
 -- unchanged texts: a path gets no guard `/.` if it doesn't begin with `//` or follows an authority
 path-that-needs-no-guard-is-unchanged : (scheme authority : Option (List ℕ)) (path : List ℕ)
     → IfNone authority (has_authority path ≡ false)
     → cond (is_some scheme) (guarded authority path) path ≡ path
-path-that-needs-no-guard-is-unchanged None authority path h = refl
-path-that-needs-no-guard-is-unchanged (Some s) None path h = cond-false _ _ _ h
-path-that-needs-no-guard-is-unchanged (Some s) (Some a) path h = refl
+path-that-needs-no-guard-is-unchanged scheme authority path h = grind (arith, common_steps)
 
 pub unchanged-text-is-its-normal-text : (kind : Kind)
     → HasComponentSets kind → (alone : Bool) → (alone ≡ true → KindLacksPastAscii kind)

@@ -1,21 +1,18 @@
 -- A text that is put together of components has the positions that their lengths give.
-use Rattle.uri_ops.proofs.Common.{common_steps, ◌≡◌, ℕ, ◌+◌, List, [], ◌∷◌, ◌++◌, length, refl, ap, ◌∙◌, arith, length-append, option_map, codes, Option, Some, None, AuthorityPositions, Positions, AuthorityParts, authority_parts, recompose_authority, Components, marked, components, authority_at, delimited_length, positions_of, option_and_then, nat_tests, Kind, authority_meaning, meaning_of, normal_authority, normal_components, normal_parts, normal_part, normal_path_text, normal_scheme, normal_text, PortFunction, before_path, authority_parts_at, positions_by_authority_parts}
+use Rattle.uri_ops.proofs.Common.{common_steps, ◌≡◌, ℕ, ◌+◌, List, [], ◌∷◌, ◌++◌, length, ap, ◌∙◌, arith, length-append, option_map, codes, Option, AuthorityPositions, Positions, AuthorityParts, authority_parts, recompose_authority, Components, marked, components, authority_at, delimited_length, positions_of, option_and_then, nat_tests, Kind, authority_meaning, meaning_of, normal_authority, normal_components, normal_parts, normal_part, normal_path_text, normal_scheme, normal_text, PortFunction, before_path, authority_parts_at, positions_by_authority_parts}
 use Rattle.uri_ops.proofs.Normal.NormalPieces.{five-appended-texts-are-one, normal_path-by-components}
 
 -- positions in a normal text: a component with a delimiter after
 -- it has one byte more, or none if it is absent
 pub length-with-delimiter-after : (part : Option (List ℕ)) (mark : ℕ)
     → length (marked [] part (mark ∷ [])) ≡ delimited_length 1 part
-length-with-delimiter-after None mark = refl
-length-with-delimiter-after (Some s) mark = omega (arith, length-append s (mark ∷ []))
+length-with-delimiter-after part mark = grind (arith, common_steps, length-append)
 
 -- positions in a normal text: a component with a delimiter before
 -- it has that many bytes more, or none if it is absent
 pub length-with-delimiter-before : (mark : List ℕ) (part : Option (List ℕ))
     → length (marked mark part []) ≡ delimited_length (length mark) part
-length-with-delimiter-before mark None = refl
-length-with-delimiter-before mark (Some s) = omega
-    (arith, length-append (mark ++ s) [], length-append mark s)
+length-with-delimiter-before mark part = grind (arith, common_steps, length-append)
 
 -- positions in a normal text: userinfo, host and port that are appended have the positions of these
 -- parts; o0 to o3: the text between them
@@ -42,8 +39,7 @@ positions-with-parts-are-of-components c parts e = ap
 -- positions in a normal text: a component at position 0 ends at its length
 pub option_map-adding-zero-is-unchanged : (part : Option (List ℕ))
     → option_map (λ s. 0 + length s) part ≡ option_map length part
-option_map-adding-zero-is-unchanged None = refl
-option_map-adding-zero-is-unchanged (Some s) = ap Some (omega arith)
+option_map-adding-zero-is-unchanged part = grind (arith, common_steps)
 
 -- positions in a normal text: the path begins where the text before it ends
 pub length-before_path-is-path_start : (p : Components) → length (before_path p)
@@ -108,8 +104,7 @@ pushed-prefix-and-path-have-positions p o0 o2 o3 start stop end query authority 
 
 option_map-of-three-functions-splits : {A B C D : Type 0} (f : C → D) (h : B → C) (k : A → B)
     (o : Option A) → option_map (λ a. f (h (k a))) o ≡ option_map f (option_map h (option_map k o))
-option_map-of-three-functions-splits f h k None = refl
-option_map-of-three-functions-splits f h k (Some a) = refl
+option_map-of-three-functions-splits f h k o = grind (arith, common_steps)
 
 -- a normal text: its five components, appended one after the other, are the text, and have the
 -- positions of its components; old, o1 to o4, new: the text between them

@@ -1,5 +1,5 @@
 -- A reference's path after a directory without dot segments.
-use Rattle.uri_ops.proofs.Common.{common_steps, ◌≡◌, ◌<◌, ◌-◌, ◌+◌, ℕ, Bool, eqb, List, [], ◌∷◌, ◌++◌, length, take, append_assoc, drop, sym, ap, subst, ◌∙◌, arith, true, before_last_slash, is_empty, IsAbsolute, BeginsWith, EndsIn, IsDotlessDirectory, RemovalState, parent_directory, begins_with_dot, take-append-drop, IsSlashOrStart, false≢true}
+use Rattle.uri_ops.proofs.Common.{common_steps, ◌≡◌, ◌<◌, ◌-◌, ◌+◌, ℕ, Bool, eqb, List, ◌++◌, length, take, append_assoc, drop, sym, ap, subst, ◌∙◌, arith, true, before_last_slash, is_empty, IsAbsolute, BeginsWith, EndsIn, IsDotlessDirectory, RemovalState, parent_directory, begins_with_dot, take-append-drop, IsSlashOrStart}
 use Rattle.uri_ops.proofs.Targeting.Targets.{appended-absolute-path-is-absolute}
 use Rattle.uri_ops.proofs.Paths.LastSlashes.{before_last_slash-of-directory, text-is-empty-if-positions-are-equal, length-of-directory}
 
@@ -48,5 +48,4 @@ parent-of-directory-is-directory path kept rest underflowed h = grind arith
 
 pub path-beginning-with-dot-is-not-empty : (path : List ℕ) → begins_with_dot path ≡ true
     → 0 < length path
-path-beginning-with-dot-is-not-empty [] e = absurd (false≢true e)
-path-beginning-with-dot-is-not-empty (c ∷ path) e = omega arith
+path-beginning-with-dot-is-not-empty path e = grind (arith, common_steps)

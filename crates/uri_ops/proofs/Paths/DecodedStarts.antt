@@ -1,5 +1,5 @@
 -- The decoded form of a path, as printed, begins as the path does.
-use Rattle.uri_ops.proofs.Common.{arith, ◌≡◌, ℕ, true, false, eqb, List, [], ◌∷◌, ◌++◌, refl, sym, ap, ◌∙◌, ◌⊎◌, ⊎_elim, inl, inr, codes, list_any, chars, append-nil, cases_Bool, and_left, or_parts, or_from, eqb-true, false≢true, TableSet, LacksPercent, IsSubset, unreserved_set, tokens, tokens_from_chars, bytes_decoded_from, Lacks, starts, has_authority, before_any, has_colon_in_first_segment, cut-at-end-of-text-without-marks, is_empty, has_slash, print_decoded}
+use Rattle.uri_ops.proofs.Common.{arith, ◌≡◌, ℕ, true, false, eqb, List, [], ◌∷◌, ◌++◌, refl, sym, ap, ◌∙◌, ◌⊎◌, ⊎_elim, inl, inr, codes, list_any, chars, append-nil, cases_Bool, or_from, eqb-true, TableSet, LacksPercent, IsSubset, unreserved_set, tokens, tokens_from_chars, bytes_decoded_from, Lacks, starts, has_authority, before_any, has_colon_in_first_segment, cut-at-end-of-text-without-marks, is_empty, has_slash, print_decoded, common_steps}
 use Rattle.uri_ops.proofs.Paths.PathCharacters.{test-of-delimiters-gives-lacks}
 use Rattle.uri_ops.proofs.Meanings.AllowedParts.{is_set_text, set-text-is-utf8, print_decoded-of-nil-is-nil, decoding-keeps-decoded-bytes, decoding-splits-at-slash}
 use Rattle.uri_ops.proofs.Paths.DotBytes.{text-decoding-to-no-bytes-is-empty}
@@ -34,29 +34,24 @@ empty-text-decodes-to-no-bytes = refl
 
 -- paths: a text without `/` does not begin with it (47)
 slashless-text-begins-with-no-slash : (s : List ℕ) → has_slash s ≡ false → starts 47 s ≡ false
-slashless-text-begins-with-no-slash [] e = refl
-slashless-text-begins-with-no-slash (c ∷ s) e = (or_parts (eqb c 47) (has_slash s) e).0
+slashless-text-begins-with-no-slash s e = grind (arith, common_steps)
 
 -- paths: what is before the first `/` (47) is empty exactly if the text begins with it
 empty-segment-before-slash-begins-with-slash : (s y : List ℕ) → has_slash s ≡ false
     → starts 47 (s ++ 47 ∷ y) ≡ is_empty s
-empty-segment-before-slash-begins-with-slash [] y e = refl
-empty-segment-before-slash-begins-with-slash (c ∷ s) y e = (or_parts (eqb c 47) (has_slash s) e).0
+empty-segment-before-slash-begins-with-slash s y e = grind (arith, common_steps)
 
 -- paths: after a `/` (47), a second one makes the text begin with `//`, as an authority does
 pub second-slash-makes-two-slashes : (z : List ℕ) → has_authority (47 ∷ z) ≡ starts 47 z
-second-slash-makes-two-slashes [] = refl
-second-slash-makes-two-slashes (d ∷ z) = refl
+second-slash-makes-two-slashes z = grind (arith, common_steps)
 
 -- paths: a path that does not begin with `/` (47) does not begin with `//`
 pub no-leading-slash-no-two-slashes : (x : List ℕ) → starts 47 x ≡ false → has_authority x ≡ false
-no-leading-slash-no-two-slashes [] e = refl
-no-leading-slash-no-two-slashes (c ∷ x) e = and_left _ _ e
+no-leading-slash-no-two-slashes x e = grind (arith, common_steps)
 
 -- paths: a text that begins with `/` (47) is that and a rest y
 pub leading-slash-splits-off : (x : List ℕ) → starts 47 x ≡ true → (y : List ℕ) × (x ≡ 47 ∷ y)
-leading-slash-splits-off [] e = absurd (false≢true e)
-leading-slash-splits-off (c ∷ y) e = (y, ap (λ d. d ∷ y) (eqb-true c 47 e))
+leading-slash-splits-off x e = grind (arith, common_steps)
 
 slashless-text-lacks-slash-delimiter : (s : List ℕ) → has_slash s ≡ false → Lacks (codes "/") s
 slashless-text-lacks-slash-delimiter s e = test-of-delimiters-gives-lacks (codes "/") s

@@ -1,5 +1,5 @@
 -- A dot segment is one that decodes to the bytes of one dot or of two.
-use Rattle.uri_ops.proofs.Common.{common_steps, ◌≡◌, ℕ, ◌+◌, ◌*◌, Bool, true, eqb, List, [], ◌∷◌, ◌++◌, length, refl, sym, ap, subst, ◌∙◌, arith, ◌&&◌, ⊎_elim, inl, inr, ◌⊎◌, codes, bytes_eq, encode_utf8, digit_value, is_ascii_hexdigit, list_any, chars, IsUtf8, encode_utf8_all, append-nil, length-append, encodes-chars, length-encode, len_utf8_bounds, encode_ascii, encode_same, cases_Bool, and_parts, or_cases, false≢true, false_from_ne_true, eqb-true, nat_tests, tokens, tokens_from_chars, bytes_decoded_from, is_pct_encoded, dots, is_single_dot, is_double_dot, hexdigit_value_is_below_16}
+use Rattle.uri_ops.proofs.Common.{common_steps, ◌≡◌, ℕ, ◌+◌, ◌*◌, Bool, true, eqb, List, [], ◌∷◌, ◌++◌, length, refl, sym, ap, subst, ◌∙◌, arith, ◌&&◌, ⊎_elim, inl, inr, ◌⊎◌, codes, bytes_eq, encode_utf8, digit_value, is_ascii_hexdigit, list_any, chars, IsUtf8, encode_utf8_all, append-nil, length-append, encodes-chars, length-encode, len_utf8_bounds, encode_ascii, encode_same, cases_Bool, and_parts, false≢true, false_from_ne_true, eqb-true, nat_tests, tokens, tokens_from_chars, bytes_decoded_from, is_pct_encoded, dots, is_single_dot, is_double_dot, hexdigit_value_is_below_16}
 use Rattle.uri_ops.proofs.Paths.Segments.{equal-bytes-are-equal}
 
 -- dot segments: the text is one of the forms of a dot, `.`, `%2E` and `%2e`
@@ -9,10 +9,7 @@ pub record IsDot (text : List ℕ) : Type 0 where
 -- dot segments: a test that some dot passes is passed by one of `.`, `%2E` and `%2e`
 pub test-of-some-dot : (test : List ℕ → Bool) → list_any test dots ≡ true
     → (dot : List ℕ) × (IsDot dot × (test dot ≡ true))
-test-of-some-dot test e = ⊎_elim (λ h. (codes ".", (record { joined = inl refl }, h)))
-    (λ f. ⊎_elim (λ h. (codes "%2E", (record { joined = inr (inl refl) }, h))) (λ f. ⊎_elim
-    (λ h. (codes "%2e", (record { joined = inr (inr refl) }, h))) (λ f. absurd (false≢true f))
-    (or_cases _ _ f)) (or_cases _ _ f)) (or_cases (test (codes ".")) _ e)
+test-of-some-dot test e = grind (arith, common_steps, test)
 
 -- dot segments: what holds of `.`, `%2E` and `%2e` holds of each dot
 pub property-of-each-dot : (P : List ℕ → Type 0) → P (codes ".") → P (codes "%2E") → P (codes "%2e")
@@ -78,8 +75,7 @@ octet-decoding-to-46-is-dot c h l rest bytes e f =
   where
     encoded_dot : (c h l : ℕ) → c ≡ 37 → h ≡ 50 → (l ≡ 69) ⊎ (l ≡ 101)
         → (c ∷ h ∷ l ∷ [] ≡ codes "%2E") ⊎ (c ∷ h ∷ l ∷ [] ≡ codes "%2e")
-    encoded_dot c h l a b (inl k) = inl (cc)
-    encoded_dot c h l a b (inr k) = inr (cc)
+    encoded_dot c h l a b o = grind (arith, common_steps)
 
 character-decoding-to-46-is-dot : (c : ℕ) (rest bytes : List ℕ) → encode_utf8 c
     ++ bytes_decoded_from (tokens_from_chars rest) ≡ 46 ∷ bytes → BeginsWithDot (c ∷ rest) bytes
@@ -117,13 +113,8 @@ text-decoding-to-first-46-begins-with-dot (c ∷ h ∷ l ∷ rest) bytes e =
 text-decoding-to-no-bytes-has-no-characters : (cs : List ℕ)
     → bytes_decoded_from (tokens_from_chars cs) ≡ [] → cs ≡ []
 unfolding tokens_from_chars
-text-decoding-to-no-bytes-has-no-characters [] e = refl
-text-decoding-to-no-bytes-has-no-characters (c ∷ []) e = absurd
-    (utf8-of-character-is-not-empty c [] e)
-text-decoding-to-no-bytes-has-no-characters (c ∷ d ∷ []) e = absurd
-    (utf8-of-character-is-not-empty c _ e)
-text-decoding-to-no-bytes-has-no-characters (c ∷ h ∷ l ∷ rest) e =
-    grind (arith, nil-is-no-cons, utf8-of-character-is-not-empty)
+text-decoding-to-no-bytes-has-no-characters cs e =
+    grind (arith, common_steps, utf8-of-character-is-not-empty, nil-is-no-cons)
 
 dot-is-single-dot-segment : (cs : List ℕ) → IsDot cs → is_single_dot (encode_utf8_all cs) ≡ true
 unfolding encode_utf8

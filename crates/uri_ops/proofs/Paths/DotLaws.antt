@@ -1,5 +1,5 @@
 -- The laws of dot segments, on texts.
-use Rattle.uri_ops.proofs.Common.{◌≡◌, ℕ, ◌+◌, ◌<◌, ◌≤◌, Bool, true, false, List, [], ◌∷◌, ◌++◌, length, refl, sym, ap, subst, ◌∙◌, arith, ◌||◌, ⊎_elim, append_assoc, rules, codes, list_all, append-nil, length-append, and_parts, eqb-true, false≢true, IsAbemptyPath, is_single_dot, is_double_dot, is_dot_segment, segments, lacks_dot_segments, run, remove_dot_segments, underflows, directory, IsAbsolute, EndsInSlash, eq_true_from_IsTrue}
+use Rattle.uri_ops.proofs.Common.{◌≡◌, ℕ, ◌+◌, ◌<◌, ◌≤◌, Bool, true, false, List, [], ◌∷◌, ◌++◌, length, refl, sym, ap, subst, ◌∙◌, arith, ◌||◌, ⊎_elim, append_assoc, codes, list_all, append-nil, length-append, and_parts, eqb-true, false≢true, IsAbemptyPath, is_single_dot, is_double_dot, is_dot_segment, segments, lacks_dot_segments, run, remove_dot_segments, underflows, directory, IsAbsolute, EndsInSlash, eq_true_from_IsTrue, common_steps}
 use Rattle.uri_ops.proofs.Paths.Segments.{pop, is_none, next_output, step_of, steps, end_of, closing, dotless_of, parent, AllPass, is_dotless, pushed-segments-are-not-none, appended-segments-pass-test, segments-after-steps-pass-test, dotless_of-pass-test, dotless_of-of-dotless, dotless_of-is-dotless, dotless_of-with-empty-last, dotless_of-prefix-first, dotless_of-of-directory, dotless_of-is-not-empty}
 use Rattle.uri_ops.proofs.Paths.Underflows.{underflows_over, dotless-segments-do-not-underflow, segments-underflow-as-prefix-or-remainder, trailing-slash-changes-no-underflow, parent-underflows-as-segments}
 use Rattle.uri_ops.proofs.Paths.SlashedSegments.{slashed, lacks_slash, NoSlashes, slashed-of-append, slashed-of-push, remove-dots-by-segments, underflows-by-segments, directory-by-segments, parent-segments-pass-test, slashed-of-segments-is-text-after-slash, segments-of-text-lack-slashes, segments-of-text-are-not-none, segments-of-slashed-segments}
@@ -97,8 +97,7 @@ dotless-path-does-not-underflow = property-of-absolute-path-by-segments
 pub slashed-segments-are-absolute : (segs : List (List ℕ)) → is_none segs ≡ false
     → IsAbsolute (slashed segs)
 unfolding is_none slashed
-slashed-segments-are-absolute [] e = absurd (false≢true (sym e))
-slashed-segments-are-absolute (s ∷ rest) e = search rules
+slashed-segments-are-absolute segs e = grind (arith, common_steps)
 
 -- removing dot segments: none is left in an absolute path
 pub removing-dots-leaves-no-dot-segment : (path : List ℕ) → IsAbsolute path
@@ -252,16 +251,11 @@ pub popped-segments-are-no-longer : (xs : List (List ℕ)) → length (slashed (
 unfolding pop slashed
 popped-segments-are-no-longer [] = omega arith
 popped-segments-are-no-longer (s ∷ []) = omega arith
-popped-segments-are-no-longer (s ∷ t ∷ rest) = omega (
-  arith,
-  popped-segments-are-no-longer (t ∷ rest),
-  length-append s (slashed (pop (t ∷ rest))),
-  length-append s (slashed (t ∷ rest)),
-)
+popped-segments-are-no-longer (s ∷ t ∷ rest) =
+    grind (arith, common_steps, length-append, (popped-segments-are-no-longer (t ∷ rest)))
 
 dot-segment-is-not-empty : (s : List ℕ) → is_dot_segment s ≡ true → 0 < length s
-dot-segment-is-not-empty [] e = absurd (false≢true e)
-dot-segment-is-not-empty (c ∷ s) e = omega arith
+dot-segment-is-not-empty s e = grind (arith, common_steps)
 
 -- paths: a segment with its `/` has one byte more
 slashed-segment-is-one-longer : (s : List ℕ) → length (slashed (s ∷ [])) ≡ length s + 1
@@ -275,26 +269,16 @@ next_output-is-no-longer : (single double : Bool) (output : List (List ℕ)) (s 
     length (slashed (next_output single double output s ++ end_of (single || double)))
     ≤ length (slashed output) + length (slashed (s ∷ []))
 unfolding next_output
-next_output-is-no-longer true double output s h = omega (
-  arith,
-  h refl,
-  length-of-slashed-append-is-sum output ([] ∷ []),
-  slashed-segment-is-one-longer [],
-  slashed-segment-is-one-longer s,
-)
-next_output-is-no-longer false true output s h = omega (
-  arith,
-  h refl,
-  popped-segments-are-no-longer output,
-  length-of-slashed-append-is-sum (pop output) ([] ∷ []),
-  slashed-segment-is-one-longer [],
-  slashed-segment-is-one-longer s,
-)
-next_output-is-no-longer false false output s h = omega (
-  arith,
-  ap (λ t. length (slashed t)) (append-nil (output ++ s ∷ [])),
-  length-of-slashed-append-is-sum output (s ∷ []),
-)
+next_output-is-no-longer single double output s h =
+    grind (
+      arith,
+      common_steps,
+      h,
+      length-of-slashed-append-is-sum,
+      slashed-segment-is-one-longer,
+      popped-segments-are-no-longer,
+      append-nil,
+    )
 
 -- removing dot segments: the empty segment that a last dot segment leaves shortens no text
 segments-with-end_of-are-no-shorter : (xs : List (List ℕ)) (dot : Bool)

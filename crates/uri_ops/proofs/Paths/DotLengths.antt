@@ -1,5 +1,5 @@
 -- The number of bytes that a dot takes identifies it.
-use Rattle.uri_ops.proofs.Common.{◌≡◌, ℕ, ◌+◌, ◌-◌, ◌<◌, true, false, List, [], ◌∷◌, ◌++◌, length, take, drop, refl, sym, ap, subst, ◌∙◌, arith, inl, inr, append_assoc, rules, Bool, take-add, drop_at, take-append-drop, length-append, length-drop, take_all, false≢true, false_from_ne_true, bytes_eq, list_any, slice_range, IsAbemptyPath, dots, has_slash, is_dot_segment, is_double_dot, is_single_dot, BeginsWithoutDotSegment, dot_len, ends_segment}
+use Rattle.uri_ops.proofs.Common.{◌≡◌, ℕ, ◌+◌, ◌-◌, ◌<◌, true, false, List, ◌++◌, length, take, drop, refl, sym, ap, subst, ◌∙◌, arith, append_assoc, Bool, take-add, drop_at, take-append-drop, length-append, length-drop, take_all, false≢true, false_from_ne_true, bytes_eq, list_any, slice_range, IsAbemptyPath, dots, has_slash, is_dot_segment, is_double_dot, is_single_dot, BeginsWithoutDotSegment, dot_len, ends_segment, common_steps}
 use Rattle.uri_ops.proofs.Paths.DotBytes.{IsDot, property-of-each-dot, test-of-some-dot}
 use Rattle.uri_ops.proofs.Paths.Segments.{equal-bytes-are-equal}
 use Rattle.uri_ops.proofs.Paths.TakenSegments.{absolute-path-is-slash-and-rest}
@@ -18,17 +18,14 @@ prefix-of-dot_len-is-dot : (text : List ℕ) (n : ℕ) → n ≡ dot_len text �
 prefix-of-dot_len-is-dot text n is some = grind arith
 
 abempty-path-has-no-dot_len : (r : List ℕ) → IsAbemptyPath r → dot_len r ≡ 0
-abempty-path-has-no-dot_len r (inl e) = ap dot_len e
-abempty-path-has-no-dot_len r (inr h) = ap dot_len (absolute-path-is-slash-and-rest r h)
+abempty-path-has-no-dot_len r o = grind (arith, common_steps, absolute-path-is-slash-and-rest)
 
 abempty-path-ends-segment : (r : List ℕ) → IsAbemptyPath r → ends_segment r ≡ true
-abempty-path-ends-segment r (inl e) = ap ends_segment e
-abempty-path-ends-segment r (inr h) = ap ends_segment (absolute-path-is-slash-and-rest r h)
+abempty-path-ends-segment r o = grind (arith, common_steps, absolute-path-is-slash-and-rest)
 
 -- dot segments: where a segment ends, the rest is empty or begins with `/`
 pub path-that-ends-segment-is-abempty : (r : List ℕ) → ends_segment r ≡ true → IsAbemptyPath r
-path-that-ends-segment-is-abempty [] e = inl refl
-path-that-ends-segment-is-abempty (c ∷ r) e = inr (search (rules, e))
+path-that-ends-segment-is-abempty r e = grind (arith, common_steps)
 
 -- what is in the bytes of a path from a place on
 module _ (path bytes : List ℕ) (n : ℕ) (value : bytes ≡ path) where

@@ -1,30 +1,25 @@
 -- Removing dot segments ends with an empty input: each step consumes some of it.
-use Rattle.uri_ops.proofs.Common.{◌≡◌, ℕ, zero, suc, ◌+◌, ◌<◌, ◌≤◌, true, false, not, List, [], ◌∷◌, length, take, drop, refl, ap, ◌∙◌, arith, ⊎_elim, codes, prefix_len, cases_Bool, cond-true, cond-false, cond_both, false≢true, length-drop, length-take, nil_from_length, is_one_of, before_any, from_any, Buffers, is_empty, is_single_dot, is_double_dot, or_slash, step, run, buffers_after_removal}
+use Rattle.uri_ops.proofs.Common.{◌≡◌, ℕ, zero, suc, ◌+◌, ◌<◌, ◌≤◌, true, false, not, List, [], length, take, drop, ap, ◌∙◌, arith, ⊎_elim, codes, prefix_len, cases_Bool, cond-true, cond-false, cond_both, length-drop, length-take, nil_from_length, is_one_of, before_any, from_any, Buffers, is_empty, is_single_dot, is_double_dot, or_slash, step, run, buffers_after_removal, common_steps}
 
 -- dot segments: `.` has bytes
 pub single-dot-is-not-empty : (segment : List ℕ) → is_single_dot segment ≡ true → 0 < length segment
-single-dot-is-not-empty [] e = absurd (false≢true e)
-single-dot-is-not-empty (c ∷ rest) e = omega arith
+single-dot-is-not-empty segment e = grind (arith, common_steps)
 
 -- dot segments: `..` has bytes
 double-dot-is-not-empty : (segment : List ℕ) → is_double_dot segment ≡ true → 0 < length segment
-double-dot-is-not-empty [] e = absurd (false≢true e)
-double-dot-is-not-empty (c ∷ rest) e = omega arith
+double-dot-is-not-empty segment e = grind (arith, common_steps)
 
 or_slash-of-shorter-is-shorter : (rest : List ℕ) (n : ℕ) → length rest < n → 1 < n
     → length (or_slash rest) < n
-or_slash-of-shorter-is-shorter [] n h one = one
-or_slash-of-shorter-is-shorter (c ∷ rest) n h one = h
+or_slash-of-shorter-is-shorter rest n h one = grind (arith, common_steps, one)
 
 -- general fact on texts, for removing dot segments: one that is not empty has a length above 0
 pub not-empty-has-length : (text : List ℕ) → is_empty text ≡ false → 0 < length text
-not-empty-has-length [] e = absurd (false≢true (ap not e))
-not-empty-has-length (c ∷ rest) e = omega arith
+not-empty-has-length text e = grind (arith, common_steps)
 
 -- general fact on texts, for removing dot segments: one that is empty is the empty list
 pub empty-text-is-nil : (text : List ℕ) → is_empty text ≡ true → text ≡ []
-empty-text-is-nil [] e = refl
-empty-text-is-nil (c ∷ rest) e = absurd (false≢true e)
+empty-text-is-nil text e = grind (arith, common_steps)
 
 -- removing dot segments: without its first byte, a text is shorter, also if n more are taken away
 drop-after-first-byte-is-shorter : (n : ℕ) (input : List ℕ) → 0 < length input

@@ -99,8 +99,7 @@ byte-that-is-no-dot-adds-no-dot-start : (b : Bool) (t : List ℕ) (c : ℕ)
 unfolding has_dot_start_after_slash is_after_slash
 byte-that-is-no-dot-adds-no-dot-start b [] c e f = or_from (b && is_dot_start c) false f refl
 byte-that-is-no-dot-adds-no-dot-start b (d ∷ t) c e f =
-    let g = or_parts (b && is_dot_start d) (has_dot_start_after_slash (d == 47) t) e in
-    or_from _ _ g.0 (byte-that-is-no-dot-adds-no-dot-start (d == 47) t c g.1 f)
+    grind (arith, common_steps, (byte-that-is-no-dot-adds-no-dot-start (d == 47) t c))
 
 -- dot segments: after a text that ends with a byte c, a `/` is before exactly if c is one; the Bool
 -- is whether one is before the text
@@ -135,8 +134,7 @@ bytes-without-slash-dot-add-no-dot-start bytes i (suc n) within dotless none =
 first-byte-is-no-dot-start : (bytes : List ℕ) → has_dot_start_after_slash false (take 1 bytes)
     ≡ false
 unfolding has_dot_start_after_slash
-first-byte-is-no-dot-start [] = refl
-first-byte-is-no-dot-start (c ∷ rest) = refl
+first-byte-is-no-dot-start bytes = grind (arith, common_steps)
 
 -- paths: if no `/` before `.` or `%` is among the first i bytes, nor in a window of n that begins
 -- no later, none is up to its end

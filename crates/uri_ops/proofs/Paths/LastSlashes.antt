@@ -1,5 +1,5 @@
 -- The cut at the last `/` of what is in a text from a place on.
-use Rattle.uri_ops.proofs.Common.{common_steps, ◌≡◌, ℕ, suc, ◌+◌, ◌-◌, ◌<◌, ◌≤◌, true, false, eqb, List, [], ◌∷◌, ◌++◌, length, take, drop, get_or, refl, sym, ap, ◌∙◌, arith, append_assoc, drop-cons, cond, inl, inr, rules, tests, take-add, append-nil, take-append-drop, drop-drop, take_at, drop_at, take-append-le, length-append, length-take-le, cond-false, cond-true, or_parts, eqb-true, ne_eqb, false≢true, nat_tests, IsCharBoundary-after_ascii, codes, ◌==◌, IsUtf8, IsCharBoundary, IsAbemptyPath, is_empty, has_slash, is_double_dot, before_last_slash, last_segment, remove_dot_segments, directory, IsAbsolute, EndsInSlash, IsDotlessDirectory, parent_directory, IsSlashOrStart, eq_true_from_IsTrue}
+use Rattle.uri_ops.proofs.Common.{common_steps, ◌≡◌, ℕ, ◌+◌, ◌-◌, ◌<◌, ◌≤◌, true, false, eqb, List, [], ◌∷◌, ◌++◌, length, take, drop, get_or, refl, sym, ap, ◌∙◌, arith, append_assoc, cond, take-add, append-nil, take-append-drop, drop-drop, take_at, drop_at, take-append-le, length-append, length-take-le, cond-false, cond-true, or_parts, ne_eqb, IsCharBoundary-after_ascii, codes, ◌==◌, IsUtf8, IsCharBoundary, IsAbemptyPath, is_empty, has_slash, is_double_dot, before_last_slash, last_segment, remove_dot_segments, directory, IsAbsolute, EndsInSlash, IsDotlessDirectory, parent_directory, IsSlashOrStart, eq_true_from_IsTrue}
 use Rattle.uri_ops.proofs.Paths.DotStarts.{take-one-more-byte}
 use Rattle.uri_ops.proofs.Paths.TakenSegments.{trailing-double-dot-leaves-slash}
 use Rattle.uri_ops.proofs.Paths.SlashedSegments.{slash-in-suffix-is-in-append, before_last_slash-of-append, last_segment-of-append}
@@ -21,11 +21,7 @@ before_last_slash-of-slashless-is-empty (c ∷ ys) e = cond-false _ _ _
 -- paths: what is left from a `/` (47) on begins with it
 suffix-at-slash-begins-with-slash : (bytes : List ℕ) (end : ℕ)
     → end < length bytes → get_or bytes end 0 ≡ 47 → drop end bytes ≡ 47 ∷ drop (end + 1) bytes
-suffix-at-slash-begins-with-slash bytes end within slash = drop-cons bytes end 0 within
-    ∙ ap (λ n. get_or bytes end 0 ∷ drop n bytes) next ∙ ap (λ c. c ∷ drop (end + 1) bytes) slash
-  where
-    next : suc end ≡ end + 1
-    next = omega arith
+suffix-at-slash-begins-with-slash bytes end within slash = grind (arith, common_steps, within)
 
 -- paths: if the last `/` (47) is at end, what is before it from
 -- start on is as long as the positions are apart
@@ -73,23 +69,19 @@ last_segment-after-slash x y e = last_segment-of-append x (47 ∷ y) refl ∙ co
 directory-by-last-slash : (x y : List ℕ) → has_slash y ≡ false
     → directory (x ++ 47 ∷ y) ≡ cond (is_double_dot y) ((x ++ 47 ∷ y) ++ codes "/") (x ++ codes "/")
 unfolding directory
-directory-by-last-slash [] y e =
-    grind (arith, last_segment-after-slash, before_last_slash-of-slashless-tail)
-directory-by-last-slash (c ∷ x) y e =
+directory-by-last-slash x y e =
     grind (
       arith,
+      common_steps,
       last_segment-after-slash,
-      slash-in-suffix-is-in-append,
       before_last_slash-of-slashless-tail,
+      slash-in-suffix-is-in-append,
     )
 
 -- paths: in an absolute path, the position of a last slash is that of a `/` (47)
 pub slash-position-is-of-slash : (path : List ℕ) (slash : ℕ) → IsAbsolute path
     → IsSlashOrStart path 0 slash → (slash < length path) × (get_or path slash 0 ≡ 47)
-slash-position-is-of-slash [] slash h p = absurd (false≢true (eq_true_from_IsTrue _ h))
-slash-position-is-of-slash (c ∷ rest) slash h (p, inl e) =
-    (omega arith, ap (λ n. get_or (c ∷ rest) n 0) e ∙ eqb-true c 47 (eq_true_from_IsTrue _ h))
-slash-position-is-of-slash (c ∷ rest) slash h (p, inr q) = q
+slash-position-is-of-slash path slash h p = grind (arith, common_steps, eq_true_from_IsTrue)
 
 module _ (path : List ℕ) (slash : ℕ) (absolute : IsAbsolute path)
     (place : IsSlashOrStart path 0 slash) where
@@ -126,8 +118,7 @@ module _ (path : List ℕ) (slash : ℕ) (absolute : IsAbsolute path)
 pub empty-path-has-root-directory : (path : List ℕ) → (length path == 0) ≡ true → directory path
     ≡ codes "/"
 unfolding directory
-empty-path-has-root-directory [] e = refl
-empty-path-has-root-directory (c ∷ path) e = absurd (false≢true (search (rules, tests)))
+empty-path-has-root-directory path e = grind (arith, common_steps)
 
 -- the directory up to the last `/`, and a path that ends in a double dot, which is its own
 -- directory
@@ -165,13 +156,11 @@ length-of-directory path d = ap length d.1 ∙ length-append d.0 (codes "/")
 
 -- paths: the first byte of an absolute path is `/` (47)
 absolute-path-has-slash-first : (path : List ℕ) → IsAbsolute path → get_or path 0 0 ≡ 47
-absolute-path-has-slash-first [] h = absurd (false≢true (eq_true_from_IsTrue _ h))
-absolute-path-has-slash-first (c ∷ path) h = eqb-true c 47 (eq_true_from_IsTrue _ h)
+absolute-path-has-slash-first path h = grind (arith, common_steps, eq_true_from_IsTrue)
 
 pub text-is-empty-if-positions-are-equal : (text : List ℕ) (n m : ℕ) → n ≡ m + length text → eqb n m
     ≡ is_empty text
-text-is-empty-if-positions-are-equal [] n m e = grind (arith, nat_tests)
-text-is-empty-if-positions-are-equal (c ∷ text) n m e = ne_eqb n m (λ f. omega (arith, e, f))
+text-is-empty-if-positions-are-equal text n m e = grind (arith, common_steps, ne_eqb)
 
 module _ (text : List ℕ) (start : ℕ) (d : IsDotlessDirectory (drop start text)) where
   prefix : List ℕ

@@ -30,8 +30,7 @@ removal-state-has-directory path kept rest underflowed h some = grind arith
 
 pub rest-of-nonzero-length-has-bytes : (rest : List ℕ) → (length rest == 0) ≡ false
     → 0 < length rest
-rest-of-nonzero-length-has-bytes [] e = absurd (false≢true (sym e))
-rest-of-nonzero-length-has-bytes (c ∷ rest) e = omega arith
+rest-of-nonzero-length-has-bytes rest e = grind (arith, common_steps)
 
 -- removing dot segments, segment by segment: equal texts are in the same state;
 -- u, u': whether there was an underflow

@@ -1,5 +1,5 @@
 -- The characters of what is left of a path are the path's.
-use Rattle.uri_ops.proofs.Common.{common_steps, arith, ◌≡◌, ℕ, Bool, true, false, not, List, [], ◌∷◌, ◌++◌, refl, sym, ap, ◌∙◌, list_all, list_all-append, All-weaker, list_all-from_AllPass, and_parts, and_from, cond_both, not_from_false, is_one_of, Lacks, has_slash, before_last_slash, remove_dot_segments, directory, IsAbsolute}
+use Rattle.uri_ops.proofs.Common.{common_steps, arith, ◌≡◌, ℕ, Bool, true, false, not, List, [], ◌∷◌, ◌++◌, refl, sym, ap, ◌∙◌, list_all, list_all-append, All-weaker, list_all-from_AllPass, and_from, cond_both, not_from_false, is_one_of, Lacks, before_last_slash, remove_dot_segments, directory, IsAbsolute}
 use Rattle.uri_ops.proofs.Paths.Segments.{dotless_of, dotless_of-pass-test}
 use Rattle.uri_ops.proofs.Paths.SlashedSegments.{slashed, remove-dots-by-segments}
 use Rattle.uri_ops.proofs.Paths.DotLaws.{property-of-absolute-path-by-segments}
@@ -27,9 +27,7 @@ pub before_last_slash-passes-test : (p : ℕ → Bool) (text : List ℕ) → lis
     → list_all p (before_last_slash text) ≡ true
 before_last_slash-passes-test p [] e = refl
 before_last_slash-passes-test p (c ∷ rest) e =
-    let f = and_parts (p c) (list_all p rest) e in
-    cond_both (has_slash rest) (c ∷ before_last_slash rest) [] (λ t. list_all p t ≡ true)
-    (λ h. and_from _ _ f.0 (before_last_slash-passes-test p rest f.1)) (λ h. refl)
+    grind (arith, common_steps, p, cond_both, (before_last_slash-passes-test p rest))
 
 -- paths: a text with a `/` (47) after it passes a test that both pass
 text-with-last-slash-passes-test : (p : ℕ → Bool)

@@ -1,5 +1,5 @@
 -- The path of a meaning: removing its dot segments, guarding and decoding it again change nothing.
-use Rattle.uri_ops.proofs.Common.{◌≡◌, ℕ, true, eqb, List, [], ◌∷◌, ◌++◌, refl, sym, ap, subst, ◌∙◌, arith, lit<, codes, Option, IsUtf8, chars, low_scalar, IsUtf8-encode, encode_ascii, and_from, and_parts, eqb-true, TableSet, tokens_from_chars, is_valid_for, decode_unreserved, ascii_char_is_allowed_iff_in_set, starts, has_authority, remove_dot_segments, IsAbsolute, dotless_if_absolute, guarded, IsComponentSet, print_decoded, equal-to-true-is-IsTrue}
+use Rattle.uri_ops.proofs.Common.{◌≡◌, ℕ, true, List, [], ◌∷◌, ◌++◌, refl, sym, ap, subst, ◌∙◌, arith, lit<, codes, Option, IsUtf8, chars, low_scalar, IsUtf8-encode, encode_ascii, and_from, eqb-true, TableSet, tokens_from_chars, is_valid_for, decode_unreserved, ascii_char_is_allowed_iff_in_set, starts, has_authority, remove_dot_segments, IsAbsolute, dotless_if_absolute, guarded, IsComponentSet, print_decoded, equal-to-true-is-IsTrue, common_steps}
 use Rattle.uri_ops.proofs.Paths.Segments.{is_none, next_output, step_of, steps, dotless_of, dotless_of-prefix-first}
 use Rattle.uri_ops.proofs.Paths.SlashedSegments.{slashed, remove-dots-by-segments}
 use Rattle.uri_ops.proofs.Paths.DotLaws.{property-of-absolute-path-by-segments, removing-dots-keeps-absolute, removing_dots_is_idempotent}
@@ -35,8 +35,7 @@ removing-dots-removes-guard = property-of-absolute-path-by-segments
 -- paths: what begins with `//` begins with `/` (47)
 pub two-slashes-begin-with-slash : (path : List ℕ) → has_authority path ≡ true
     → starts 47 path ≡ true
-two-slashes-begin-with-slash [] e = e
-two-slashes-begin-with-slash (c ∷ path) e = (and_parts (eqb c 47) _ e).0
+two-slashes-begin-with-slash path e = grind (arith, common_steps, e)
 
 -- removing dot segments: the guard `/.` is removed as one
 pub guard-is-removed-as-dot-segment : (authority : Option (List ℕ)) (path : List ℕ)

@@ -1,6 +1,6 @@
 -- Removing dot segments from a path whose substrings are changed one after the other, as by
 -- decoding them.
-use Rattle.uri_ops.proofs.Common.{◌≡◌, ℕ, ◌<◌, Bool, true, false, List, [], ◌∷◌, ◌++◌, length, take, drop, refl, sym, ap, subst, ◌∙◌, ◌||◌, ⊎_elim, inl, inr, append_assoc, arith, rules, tests, codes, ◌==◌, eqb-true, false≢true, append-nil, drop_at, take-append-drop, take_at, TableSet, IsAbemptyPath, cons_is_not_nil, equal-to-true-is-IsTrue, IsComponentSet, before_last_slash, has_slash, is_double_dot, is_empty, is_single_dot, lacks_dot_segments, remove_dot_segments, underflows, IsCutAtSegment, RemovalState, IsDotlessDirectory, parent_directory, IsFirstSegment, IsDotlessPrefix, print_decoded, eq_true_from_IsTrue}
+use Rattle.uri_ops.proofs.Common.{◌≡◌, ℕ, ◌<◌, Bool, true, false, List, [], ◌∷◌, ◌++◌, length, take, drop, refl, sym, ap, subst, ◌∙◌, ◌||◌, ⊎_elim, inl, inr, append_assoc, arith, codes, ◌==◌, eqb-true, append-nil, drop_at, take-append-drop, take_at, TableSet, IsAbemptyPath, cons_is_not_nil, equal-to-true-is-IsTrue, IsComponentSet, before_last_slash, has_slash, is_double_dot, is_empty, is_single_dot, lacks_dot_segments, remove_dot_segments, underflows, IsCutAtSegment, RemovalState, IsDotlessDirectory, parent_directory, IsFirstSegment, IsDotlessPrefix, print_decoded, eq_true_from_IsTrue, common_steps}
 use Rattle.uri_ops.specs.Models.SegmentModes.{KeepsSlashesAndDots}
 use Rattle.uri_ops.proofs.Meanings.AllowedParts.{is_set_text, empty-text-is-set-text, set-text-is-utf8, decoding-splits-at-slash, print_decoded-of-nil-is-nil}
 use Rattle.uri_ops.proofs.Paths.DotLaws.{removing-dots-leaves-no-dot-segment, remove-dots-of-dotless}
@@ -49,8 +49,7 @@ abempty-path-begins-with-slash c text h = ⊎_elim (λ none. absurd (cons_is_not
     (λ a. eqb-true c 47 (eq_true_from_IsTrue _ a)) h
 
 pub text-with-bytes-is-not-empty : (text : List ℕ) → 0 < length text → is_empty text ≡ false
-text-with-bytes-is-not-empty [] some = absurd (omega (arith, some))
-text-with-bytes-is-not-empty (c ∷ text) some = refl
+text-with-bytes-is-not-empty text some = grind (arith, common_steps)
 
 module _ (change : List ℕ → List ℕ) (among : List ℕ → Bool)
     (p : KeepsSlashesAndDots change among) where
@@ -120,10 +119,8 @@ module _ (change : List ℕ → List ℕ) (among : List ℕ → Bool)
   pub removal-ends-with-nothing-left : (path kept rest : List ℕ) (underflowed : Bool)
       → RemovalState path kept (change rest) underflowed → (length rest == 0) ≡ true
       → (kept ≡ remove_dot_segments path) × (underflowed ≡ underflows path)
-  removal-ends-with-nothing-left path kept [] underflowed h e = removal-state-without-rest-is-done
-      path kept underflowed (subst (λ r. RemovalState path kept r underflowed) p.nothing h)
-  removal-ends-with-nothing-left path kept (c ∷ rest) underflowed h e = absurd
-      (false≢true (search (rules, tests)))
+  removal-ends-with-nothing-left path kept rest underflowed h e =
+      grind (arith, common_steps, removal-state-without-rest-is-done)
 
   -- one step further
   module _ (path kept rest : List ℕ) (underflowed : Bool)

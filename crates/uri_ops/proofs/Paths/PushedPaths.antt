@@ -1,20 +1,16 @@
 -- What is appended of a path without its dot segments, and of a reference's path after the
 -- directory of a base's path.
-use Rattle.uri_ops.proofs.Common.{common_steps, ◌≡◌, ◌<◌, ◌≤◌, ℕ, zero, suc, Bool, true, false, List, [], ◌∷◌, ◌++◌, length, take, drop, sym, ap, subst, ◌∙◌, ◌||◌, inr, arith, eqb-true, false≢true, eq_true_from_IsTrue, ◌==◌, IsUtf8, IsCharBoundary, IsCharBoundary-after_ascii, take-append-drop, take_at, drop_at, lacks_dot_segments, remove_dot_segments, underflows, directory, IsAbsolute, EndsInSlash, IsCutAtSegment, IsDotlessDirectory, RemovalState, begins_with_dot, merged}
+use Rattle.uri_ops.proofs.Common.{common_steps, ◌≡◌, ◌<◌, ◌≤◌, ℕ, Bool, true, false, List, [], ◌∷◌, ◌++◌, length, take, drop, sym, ap, subst, ◌∙◌, ◌||◌, inr, arith, eqb-true, false≢true, eq_true_from_IsTrue, IsUtf8, IsCharBoundary, IsCharBoundary-after_ascii, take-append-drop, take_at, drop_at, lacks_dot_segments, remove_dot_segments, underflows, directory, IsAbsolute, EndsInSlash, IsCutAtSegment, IsDotlessDirectory, RemovalState, begins_with_dot, merged}
 use Rattle.uri_ops.proofs.Paths.DotLaws.{directory-is-absolute, directory-ends-in-slash, removing-dots-keeps-absolute, removing-dots-and-directory-swap, prefix-dots-may-be-removed-first, removing-dots-leaves-no-dot-segment, remove-dots-of-dotless, path-underflows-as-prefix-or-remainder, dotless-path-does-not-underflow}
 
 -- paths: a prefix of an absolute path, one byte at least, is absolute
 pub prefix-of-absolute-path-is-absolute : (path : List ℕ) (n : ℕ) → IsAbsolute path → 0 < n
     → IsAbsolute (take n path)
-prefix-of-absolute-path-is-absolute path zero h some = absurd (omega (arith, some))
-prefix-of-absolute-path-is-absolute [] (suc n) h some = h
-prefix-of-absolute-path-is-absolute (c ∷ path) (suc n) h some = h
+prefix-of-absolute-path-is-absolute path n h some = grind (arith, common_steps)
 
 pub absolute-path-begins-with-no-dot : (path : List ℕ) → IsAbsolute path
     → (begins_with_dot path ≡ false) × (0 < length path)
-absolute-path-begins-with-no-dot [] h = absurd (false≢true (eq_true_from_IsTrue _ h))
-absolute-path-begins-with-no-dot (c ∷ path) h =
-    (ap (λ b. b == 46 || b == 37) (eqb-true c 47 (eq_true_from_IsTrue _ h)), omega arith)
+absolute-path-begins-with-no-dot path h = grind (arith, common_steps, eq_true_from_IsTrue)
 
 -- removing dot segments, segment by segment:
 -- at first a prefix of a path without dot segments is kept, and the rest is left

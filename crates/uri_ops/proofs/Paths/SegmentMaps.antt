@@ -1,6 +1,6 @@
 -- A change of segments that keeps which of them are dots may come before or after the removal of
 -- dot segments.
-use Rattle.uri_ops.proofs.Common.{arith, ◌≡◌, ℕ, Bool, true, false, cond, List, [], ◌∷◌, ◌++◌, map, refl, sym, ap, ◌∙◌, ◌||◌, list_all, map-append, and_parts, is_single_dot, is_double_dot}
+use Rattle.uri_ops.proofs.Common.{arith, ◌≡◌, ℕ, Bool, true, cond, List, [], ◌∷◌, ◌++◌, map, refl, sym, ap, ◌∙◌, list_all, map-append, and_parts, is_single_dot, is_double_dot, common_steps}
 use Rattle.uri_ops.proofs.Paths.Segments.{pop, is_none, next_output, step_of, steps, end_of, closing, dotless_of, parent, AllPass}
 use Rattle.uri_ops.proofs.Paths.Underflows.{underflows_at, underflows_over}
 
@@ -13,24 +13,20 @@ module _ (f : List ℕ → List ℕ) where
 
   is_none-of-mapped-segments : (xs : List (List ℕ)) → is_none (map f xs) ≡ is_none xs
   unfolding is_none
-  is_none-of-mapped-segments [] = refl
-  is_none-of-mapped-segments (s ∷ rest) = refl
+  is_none-of-mapped-segments xs = grind (arith, common_steps)
 
   next_output-and-map-swap : (single double : Bool) (output : List (List ℕ)) (s : List ℕ)
       → next_output single double (map f output) (f s) ≡ map f (next_output single double output s)
   unfolding next_output
-  next_output-and-map-swap true double output s = refl
-  next_output-and-map-swap false true output s = pop-and-map-swap output
-  next_output-and-map-swap false false output s = sym (map-append f output (s ∷ []))
+  next_output-and-map-swap single double output s =
+      grind (arith, common_steps, pop-and-map-swap, map-append)
 
   underflows_at-of-mapped-segments : (single double before : Bool) (output : List (List ℕ))
       → underflows_at single double before (map f output)
       ≡ underflows_at single double before output
   unfolding underflows_at
-  underflows_at-of-mapped-segments true double before output = refl
-  underflows_at-of-mapped-segments false true before output = ap (λ b. before || b)
-      (is_none-of-mapped-segments output)
-  underflows_at-of-mapped-segments false false before output = refl
+  underflows_at-of-mapped-segments single double before output =
+      grind (arith, common_steps, is_none-of-mapped-segments)
 
 -- dot segments: a change f of segments keeps whether the segment s is `.`, or `..`
 pub record KeepsDots (f : List ℕ → List ℕ) (s : List ℕ) : Type 0 where
@@ -54,8 +50,7 @@ module _ (f : List ℕ → List ℕ) (among : List ℕ → Bool)
       ∙ steps-and-map-swap (step_of output s) rest p.1
 
   end_of-and-map-swap : f [] ≡ [] → (dot : Bool) → end_of dot ≡ map f (end_of dot)
-  end_of-and-map-swap nil true = ap (λ t. t ∷ []) (sym nil)
-  end_of-and-map-swap nil false = refl
+  end_of-and-map-swap nil o = grind (arith, common_steps)
 
   closing-and-map-swap : f [] ≡ [] → (segs : List (List ℕ)) → AllPass among segs
       → closing (map f segs) ≡ map f (closing segs)
@@ -75,8 +70,7 @@ module _ (f : List ℕ → List ℕ) (among : List ℕ → Bool)
 
   last-double-dot-and-map-swap : (double : Bool) (s : List ℕ)
       → cond double (f s ∷ []) [] ≡ map f (cond double (s ∷ []) [])
-  last-double-dot-and-map-swap true s = refl
-  last-double-dot-and-map-swap false s = refl
+  last-double-dot-and-map-swap double s = grind (arith, common_steps)
 
   pub parent-and-map-swap : (segs : List (List ℕ)) → AllPass among segs
       → parent (map f segs) ≡ map f (parent segs)

@@ -114,10 +114,8 @@ pub next_output-passes-test : (p : List ℕ
     → Bool) (single double : Bool) (output : List (List ℕ)) (s : List ℕ) → AllPass p output
     → ((single || double) ≡ false → p s ≡ true) → AllPass p (next_output single double output s)
 unfolding next_output
-next_output-passes-test p true double output s e f = e
-next_output-passes-test p false true output s e f = popped-segments-pass-test p output e
-next_output-passes-test p false false output s e f =
-    appended-segments-pass-test p output (s ∷ []) e (and_from _ _ (f refl) refl)
+next_output-passes-test p single double output s e f =
+    grind (arith, common_steps, e, popped-segments-pass-test, appended-segments-pass-test, f)
 
 -- dot segments: what is left passes a test p that the output,
 -- and each kept segment (with q), passes
@@ -137,11 +135,7 @@ closing-segments-pass-test : (p : List ℕ → Bool) (segs : List (List ℕ)) �
     → AllPass p (closing segs)
 unfolding closing
 closing-segments-pass-test p [] e = refl
-closing-segments-pass-test p (s ∷ []) e = closed (is_dot_segment s)
-  where
-    closed : (b : Bool) → AllPass p (end_of b)
-    closed true = and_from _ _ e refl
-    closed false = refl
+closing-segments-pass-test p (s ∷ []) e = grind (arith, common_steps)
 closing-segments-pass-test p (s ∷ t ∷ rest) e = closing-segments-pass-test p (t ∷ rest) e
 
 -- dot segments: what is left passes a test p that the empty segment,
@@ -208,16 +202,14 @@ dotless_of-is-dotless segs = dotless_of-pass-test is_dotless
 pub dotless_of-prefix-first : (xs ys : List (List ℕ)) → is_none ys ≡ false
     → dotless_of (xs ++ ys) ≡ dotless_of (steps [] xs ++ ys)
 unfolding is_none
-dotless_of-prefix-first xs [] e = absurd (false≢true (sym e))
-dotless_of-prefix-first xs (y ∷ ys) e =
-    grind (arith, dotless_of-append, steps-of-dotless-append-all, steps_are_dotless)
+dotless_of-prefix-first xs ys e =
+    grind (arith, common_steps, dotless_of-append, steps-of-dotless-append-all, steps_are_dotless)
 
 -- removing dot segments: the steps over a last segment if it is `..` are a step, and else nothing
 steps-of-segment-if-double-dot : (b : Bool) (output : List (List ℕ)) (s : List ℕ)
     → steps output (cond b (s ∷ []) []) ≡ cond b (step_of output s) output
 unfolding steps
-steps-of-segment-if-double-dot true output s = refl
-steps-of-segment-if-double-dot false output s = refl
+steps-of-segment-if-double-dot b output s = grind (arith, common_steps)
 
 -- dot segments: after `..` the output is what is left with its end, without the last;
 -- single, double: whether it is `.`, or `..`
@@ -225,11 +217,8 @@ next_output-of-double-dot-is-popped : (single double : Bool) (output : List (Lis
     → (single ≡ true → double ≡ false) → cond double (next_output single double output s) output
     ≡ pop (next_output single double output s ++ end_of (single || double))
 unfolding next_output
-next_output-of-double-dot-is-popped true double output s only =
-    ap (λ b. cond b output output) (only refl) ∙ sym (pop-undoes-push output [])
-next_output-of-double-dot-is-popped false true output s only = sym (pop-undoes-push (pop output) [])
-next_output-of-double-dot-is-popped false false output s only =
-    sym (ap pop (append-nil (output ++ s ∷ [])) ∙ pop-undoes-push output s)
+next_output-of-double-dot-is-popped single double output s only =
+    grind (arith, common_steps, only, pop-undoes-push, append-nil)
 
 -- dot segments: the steps over all segments but the last leave what all leave, without the last
 steps-of-parent-are-popped-steps : (output : List (List ℕ)) (s : List ℕ) (rest : List (List ℕ))
@@ -263,18 +252,15 @@ dotless_of-of-directory s rest = dotless_of-with-empty-last (parent (s ∷ rest)
 pub pushed-segments-are-not-none : (xs : List (List ℕ)) (y : List ℕ) → is_none (xs ++ y ∷ [])
     ≡ false
 unfolding is_none
-pushed-segments-are-not-none [] y = refl
-pushed-segments-are-not-none (x ∷ xs) y = refl
+pushed-segments-are-not-none xs y = grind (arith, common_steps)
 
 -- dot segments: at the end one leaves a segment, an empty one; single, double:
 -- whether it is `.`, or `..`
 dot-segment-leaves-some-segment : (single double : Bool) (output : List (List ℕ)) (s : List ℕ)
     → is_none (next_output single double output s ++ end_of (single || double)) ≡ false
 unfolding next_output
-dot-segment-leaves-some-segment true double output s = pushed-segments-are-not-none output []
-dot-segment-leaves-some-segment false true output s = pushed-segments-are-not-none (pop output) []
-dot-segment-leaves-some-segment false false output s = ap is_none (append-nil (output ++ s ∷ []))
-    ∙ pushed-segments-are-not-none output s
+dot-segment-leaves-some-segment single double output s =
+    grind (arith, common_steps, pushed-segments-are-not-none, append-nil)
 
 -- dot segments: some segments leave one at least, with the empty one at the end
 steps-leave-some-segment : (output segs : List (List ℕ)) → is_none segs ≡ false

@@ -72,8 +72,7 @@ before_last_slash-of-slashed-is-popped (s ∷ t ∷ rest) e = before_last_slash-
 
 pub slashed-is-empty-if-no-segments : (xs : List (List ℕ)) → is_empty (slashed xs) ≡ is_none xs
 unfolding slashed is_none
-slashed-is-empty-if-no-segments [] = refl
-slashed-is-empty-if-no-segments (s ∷ rest) = refl
+slashed-is-empty-if-no-segments xs = grind (arith, common_steps)
 
 -- removing dot segments: the two buffers of section 5.2.4, and whether there was an underflow
 abbrev buffers : List ℕ → List ℕ → Bool → Buffers
@@ -89,13 +88,11 @@ or_empty_segment dot (t ∷ rest) = t ∷ rest
 or_slash-of-slashed-segments : (rest : List (List ℕ)) → or_slash (slashed rest)
     ≡ slashed (or_empty_segment true rest)
 unfolding slashed
-or_slash-of-slashed-segments [] = refl
-or_slash-of-slashed-segments (t ∷ rest) = refl
+or_slash-of-slashed-segments rest = grind (arith, common_steps)
 
 -- removing dot segments: what is left after another segment is as it is
 no-dot-leaves-segments-as-they-are : (rest : List (List ℕ)) → rest ≡ or_empty_segment false rest
-no-dot-leaves-segments-as-they-are [] = refl
-no-dot-leaves-segments-as-they-are (t ∷ rest) = refl
+no-dot-leaves-segments-as-they-are rest = grind (arith, common_steps)
 
 buffers-after-one-segment : (single double : Bool) (s : List ℕ) (rest output : List
     (List ℕ)) (before : Bool) → NoSlashes output
@@ -105,17 +102,16 @@ buffers-after-one-segment : (single double : Bool) (s : List ℕ) (rest output :
     ≡ buffers (slashed (or_empty_segment (single || double) rest))
     (slashed (next_output single double output s)) (underflows_at single double before output)
 unfolding next_output underflows_at
-buffers-after-one-segment true double s rest output before e =
-    ap (λ i. buffers i (slashed output) before) (or_slash-of-slashed-segments rest)
-buffers-after-one-segment false true s rest output before e =
+buffers-after-one-segment single double s rest output before e =
     grind (
       arith,
+      common_steps,
       or_slash-of-slashed-segments,
       before_last_slash-of-slashed-is-popped,
       slashed-is-empty-if-no-segments,
+      no-dot-leaves-segments-as-they-are,
+      slashed-of-push,
     )
-buffers-after-one-segment false false s rest output before e =
-    grind (arith, no-dot-leaves-segments-as-they-are, slashed-of-push)
 
 -- removing dot segments: a step of RFC 3986, section 5.2.4, takes one segment from the input
 step-takes-one-segment : (s : List ℕ) (rest output : List (List ℕ)) (before : Bool) → has_slash s
@@ -130,19 +126,15 @@ step-takes-one-segment s rest output before e f =
 run-of-empty-input-is-done : (n : ℕ) (output : List ℕ) (before : Bool)
     → run n (buffers [] output before) ≡ buffers [] output before
 unfolding run
-run-of-empty-input-is-done zero output before = refl
-run-of-empty-input-is-done (suc n) output before = refl
+run-of-empty-input-is-done n output before = grind (arith, common_steps)
 
 -- removing dot segments: the `/` that a dot segment at the end leaves becomes an empty segment
 run-of-closing-slash-appends-it : (n : ℕ) (dot : Bool) (output : List (List ℕ)) (before : Bool)
     → length (end_of dot) ≤ n → run n (buffers (slashed (end_of dot)) (slashed output) before)
     ≡ buffers [] (slashed (output ++ end_of dot)) before
 unfolding run slashed
-run-of-closing-slash-appends-it n false output before h = run-of-empty-input-is-done n
-    (slashed output) before ∙ ap (λ o. buffers [] (slashed o) before) (sym (append-nil output))
-run-of-closing-slash-appends-it zero true output before h = absurd (omega arith)
-run-of-closing-slash-appends-it (suc n) true output before h =
-    grind (arith, run-of-empty-input-is-done, slashed-of-push)
+run-of-closing-slash-appends-it n dot output before h =
+    grind (arith, common_steps, run-of-empty-input-is-done, append-nil, slashed-of-push)
 
 -- removing dot segments: enough steps of section 5.2.4 take all segments from the input
 run-takes-all-segments : (n : ℕ) (segs output : List (List ℕ)) (before : Bool) → NoSlashes segs
@@ -169,11 +161,7 @@ run-takes-all-segments (suc n) (s ∷ t ∷ rest) output before e f h =
 closing-has-at-most-one-segment : (segs : List (List ℕ)) → length (closing segs) ≤ 1
 unfolding closing
 closing-has-at-most-one-segment [] = omega arith
-closing-has-at-most-one-segment (s ∷ []) = end_short (is_dot_segment s)
-  where
-    end_short : (dot : Bool) → length (end_of dot) ≤ 1
-    end_short true = omega arith
-    end_short false = omega arith
+closing-has-at-most-one-segment (s ∷ []) = grind (arith, common_steps)
 closing-has-at-most-one-segment (s ∷ t ∷ rest) = closing-has-at-most-one-segment (t ∷ rest)
 
 slashed-is-no-shorter-than-segments : (segs : List (List ℕ)) → length segs ≤ length (slashed segs)
@@ -212,15 +200,13 @@ last_segment-of-append (c ∷ s) t e = cond-true _ _ _ (slash-in-suffix-is-in-ap
     ∙ last_segment-of-append s t e
 
 common-prefix-leaves-cond : (b : Bool) (s x y : List ℕ) → cond b (s ++ x) (s ++ y) ≡ s ++ cond b x y
-common-prefix-leaves-cond true s x y = refl
-common-prefix-leaves-cond false s x y = refl
+common-prefix-leaves-cond b s x y = grind (arith, common_steps)
 
 -- paths: a last `..`, kept in the directory, and a `/` after it, as text and as segments
 slashed-of-segment-if-double-dot : (b : Bool) (s : List ℕ)
     → cond b (slashed (s ∷ []) ++ 47 ∷ []) (47 ∷ []) ≡ slashed (cond b (s ∷ []) []) ++ 47 ∷ []
 unfolding slashed
-slashed-of-segment-if-double-dot true s = refl
-slashed-of-segment-if-double-dot false s = refl
+slashed-of-segment-if-double-dot b s = grind (arith, common_steps)
 
 -- paths: the directory (5.2.3), by the last segment, the path, and what is before its last `/`
 directory_text_of : List ℕ → List ℕ → List ℕ → List ℕ
@@ -263,11 +249,7 @@ pub parent-segments-pass-test : (p : List ℕ → Bool) (segs : List (List ℕ))
     → AllPass p (parent segs)
 unfolding parent
 parent-segments-pass-test p [] e = refl
-parent-segments-pass-test p (s ∷ []) e = passes (is_double_dot s)
-  where
-    passes : (b : Bool) → AllPass p (cond b (s ∷ []) [])
-    passes true = e
-    passes false = refl
+parent-segments-pass-test p (s ∷ []) e = grind (arith, common_steps, e)
 parent-segments-pass-test p (s ∷ t ∷ rest) e = let f = and_parts (p s) (list_all p (t ∷ rest)) e in
     and_from _ _ f.0 (parent-segments-pass-test p (t ∷ rest) f.1)
 
@@ -278,9 +260,8 @@ equal-lists-after-slash-have-equal-tails xs ys e = cc
 slashed-of-onto_first : (c : ℕ) (parts : List (List ℕ)) (text : List ℕ) → slashed parts ≡ 47 ∷ text
     → slashed (onto_first c parts) ≡ 47 ∷ c ∷ text
 unfolding slashed
-slashed-of-onto_first c [] text e = cc
-slashed-of-onto_first c (s ∷ parts) text e = ap (λ t. 47 ∷ c ∷ t)
-    (equal-lists-after-slash-have-equal-tails _ _ e)
+slashed-of-onto_first c parts text e =
+    grind (arith, common_steps, equal-lists-after-slash-have-equal-tails)
 
 -- paths: the segments of a text, each after a `/` (47), are `/` and the text
 pub slashed-of-segments-is-text-after-slash : (text : List ℕ) → slashed (segments text) ≡ 47 ∷ text
@@ -300,8 +281,7 @@ segments-of-text-lack-slashes (c ∷ text) = grind (arith, segments-of-text-lack
 
 onto_first-is-not-none : (c : ℕ) (parts : List (List ℕ)) → is_none (onto_first c parts) ≡ false
 unfolding is_none
-onto_first-is-not-none c [] = refl
-onto_first-is-not-none c (s ∷ parts) = refl
+onto_first-is-not-none c parts = grind (arith, common_steps)
 
 pub segments-of-text-are-not-none : (text : List ℕ) → is_none (segments text) ≡ false
 unfolding is_none

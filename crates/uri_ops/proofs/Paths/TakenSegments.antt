@@ -1,5 +1,5 @@
 -- The segments of a path, taken one after the other after a directory that has no dot segment.
-use Rattle.uri_ops.proofs.Common.{arith, ◌≡◌, ℕ, Bool, true, false, List, [], ◌∷◌, ◌++◌, drop, refl, sym, ap, ◌∙◌, ◌||◌, append-nil, and_from, eqb-true, false≢true, not_from_false, or_right, IsAbemptyPath, is_single_dot, is_double_dot, is_dot_segment, has_slash, segments, remove_dot_segments, underflows, IsAbsolute, eq_true_from_IsTrue}
+use Rattle.uri_ops.proofs.Common.{arith, ◌≡◌, ℕ, Bool, true, false, List, [], ◌∷◌, ◌++◌, drop, refl, sym, ap, ◌∙◌, ◌||◌, append-nil, and_from, eqb-true, not_from_false, or_right, IsAbemptyPath, is_single_dot, is_double_dot, is_dot_segment, has_slash, segments, remove_dot_segments, underflows, IsAbsolute, eq_true_from_IsTrue, common_steps}
 use Rattle.uri_ops.proofs.Paths.Segments.{is_none, step_of, steps, end_of, closing, dotless_of, AllPass, is_dotless, steps-of-dotless-append-all, dotless_of-append, dotless_of-with-empty-last, closing-of-append, next_output-passes-test, appended-segments-pass-test}
 use Rattle.uri_ops.proofs.Paths.Underflows.{underflows_at, underflows_over, underflows_over_is_or, dotless-segments-do-not-underflow, underflows_over-of-append, trailing-slash-changes-no-underflow}
 use Rattle.uri_ops.proofs.Paths.SlashedSegments.{slashed, lacks_slash, NoSlashes, slashed-of-push, remove-dots-by-segments, underflows-by-segments, slashed-of-segments-is-text-after-slash, segments-of-text-lack-slashes, segments-of-text-are-not-none, segments-of-joined-segments}
@@ -17,12 +17,11 @@ module _ (xs : List (List ℕ)) (dotless : AllPass is_dotless xs) (s : List ℕ)
   dotless_of-after-step-is-same : (ys : List (List ℕ)) → is_none ys ≡ false
       → dotless_of (xs ++ s ∷ ys) ≡ dotless_of (step_of xs s ++ ys)
   unfolding is_none steps closing
-  dotless_of-after-step-is-same [] e = absurd (false≢true (sym e))
-  dotless_of-after-step-is-same (y ∷ ys) e =
+  dotless_of-after-step-is-same ys e =
       grind (
         arith,
+        common_steps,
         dotless_of-append,
-        steps,
         steps-of-dotless-append-all,
         segments-after-step-are-dotless,
       )
@@ -101,9 +100,7 @@ segments-split-at-first-slash s r e = ap (λ t. segments (s ++ t))
 
 -- paths: an absolute path is `/` (47) and a rest
 pub absolute-path-is-slash-and-rest : (path : List ℕ) → IsAbsolute path → path ≡ 47 ∷ drop 1 path
-absolute-path-is-slash-and-rest [] h = absurd (false≢true (eq_true_from_IsTrue _ h))
-absolute-path-is-slash-and-rest (c ∷ rest) h = ap (λ d. d ∷ rest)
-    (eqb-true c 47 (eq_true_from_IsTrue _ h))
+absolute-path-is-slash-and-rest path h = grind (arith, common_steps, eq_true_from_IsTrue)
 
 module _ (xs : List (List ℕ)) (dotless : AllPass is_dotless xs) (lack : NoSlashes xs) (s : List ℕ)
     (free : has_slash s ≡ false) (dot : is_dot_segment s ≡ true) where

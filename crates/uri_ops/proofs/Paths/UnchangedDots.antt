@@ -49,18 +49,11 @@ octet-of-dot-is-not-unchanged : (alone : Bool) → is_unchanged_octet alone 50 6
 octet-of-dot-is-not-unchanged alone e =
     false≢true (and_parts (alone || true) false (and_parts true _ e).1).1
 
-digits-of-dot-are-not-unchanged : (alone : Bool) (high low : ℕ) → is_unchanged_octet alone high low
-    ≡ true → (eqb high 50 && (eqb low 69 || eqb low 101)) ≡ false
-digits-of-dot-are-not-unchanged alone high low same =
-    grind (arith, common_steps, octet-of-dot-is-not-unchanged)
-
 -- unchanged dots: a segment that begins with another octet than that of a dot is no dot segment
 segment-with-unchanged-octet-is-none : (alone : Bool) (s : List ℕ) → keeps_digits alone s ≡ true
     → is_dot_segment (37 ∷ s) ≡ false
-segment-with-unchanged-octet-is-none alone [] same = refl
-segment-with-unchanged-octet-is-none alone (high ∷ []) same = grind (arith, nat_tests)
-segment-with-unchanged-octet-is-none alone (high ∷ low ∷ s) same =
-    grind (arith, digits-of-dot-are-not-unchanged)
+segment-with-unchanged-octet-is-none alone s same =
+    grind (arith, octet-of-dot-is-not-unchanged, common_steps)
 
 -- unchanged dots: nor is one that goes on after a dot
 segment-that-goes-on-is-none : (d : ℕ) (s : List ℕ) → is_one_of (codes "./%") d ≡ false

@@ -1,5 +1,5 @@
 -- Which segments go above the root: a double dot where no segment is left.
-use Rattle.uri_ops.proofs.Common.{arith, ◌≡◌, ℕ, Bool, true, false, cond, List, [], ◌∷◌, ◌++◌, refl, ap, ◌∙◌, ◌||◌, list_all, and_parts, is_single_dot, is_double_dot}
+use Rattle.uri_ops.proofs.Common.{arith, ◌≡◌, ℕ, Bool, true, false, cond, List, [], ◌∷◌, ◌++◌, refl, ap, ◌∙◌, ◌||◌, list_all, and_parts, is_single_dot, is_double_dot, common_steps}
 use Rattle.uri_ops.proofs.Paths.Segments.{is_none, step_of, steps, parent, AllPass, is_dotless, steps-of-dotless-append-all, steps_are_dotless}
 
 -- a double dot meets an empty output, at this segment or before it
@@ -34,9 +34,7 @@ empty-segment-does-not-underflow before output = refl
 underflow-before-stays-at-segment : (single double : Bool) (output : List (List ℕ))
     → underflows_at single double true output ≡ true
 unfolding underflows_at
-underflow-before-stays-at-segment true double output = refl
-underflow-before-stays-at-segment false true output = refl
-underflow-before-stays-at-segment false false output = refl
+underflow-before-stays-at-segment single double output = grind (arith, common_steps)
 
 underflow-before-stays-over-segments : (output segs : List (List ℕ))
     → underflows_over true output segs ≡ true
@@ -92,18 +90,14 @@ trailing-slash-changes-no-underflow before output xs =
 only-double-dot-underflows : (single double before : Bool) (output : List (List ℕ)) → cond double
     (underflows_at single double before output) before ≡ underflows_at single double before output
 unfolding underflows_at
-only-double-dot-underflows true true before output = refl
-only-double-dot-underflows true false before output = refl
-only-double-dot-underflows false true before output = refl
-only-double-dot-underflows false false before output = refl
+only-double-dot-underflows single double before output = grind (arith, common_steps)
 
 -- dot segments: one segment s, if b, or none makes the underflow that it makes at s, or none
 underflows_over-segment-if-double-dot : (b before : Bool) (output : List (List ℕ)) (s : List ℕ)
     → underflows_over before output (cond b (s ∷ []) [])
     ≡ cond b (underflows_at (is_single_dot s) (is_double_dot s) before output) before
 unfolding underflows_over
-underflows_over-segment-if-double-dot true before output s = refl
-underflows_over-segment-if-double-dot false before output s = refl
+underflows_over-segment-if-double-dot b before output s = grind (arith, common_steps)
 
 -- paths: a directory underflows exactly if the segments of its path do; before: whether there was
 -- an underflow before

@@ -1,5 +1,5 @@
 -- The segments of a path as they are appended, decoded.
-use Rattle.uri_ops.proofs.Common.{◌≡◌, ℕ, true, List, [], ◌∷◌, ◌++◌, length, drop, refl, sym, ap, ◌∙◌, ◌&&◌, arith, codes, slice_index, ◌==◌, and_parts, eqb-true, false≢true, ne_eqb, decode_unreserved, TableSet, print, IsComponentSet, IsAbsolute, remove_dot_segments, underflows, IsDotlessDirectory, print_decoded}
+use Rattle.uri_ops.proofs.Common.{◌≡◌, ℕ, true, List, [], ◌∷◌, ◌++◌, length, drop, refl, sym, ap, ◌∙◌, ◌&&◌, arith, codes, slice_index, ◌==◌, ne_eqb, decode_unreserved, TableSet, print, IsComponentSet, IsAbsolute, remove_dot_segments, underflows, IsDotlessDirectory, print_decoded, common_steps}
 use Rattle.uri_ops.proofs.Meanings.AllowedParts.{is_set_text, print_decoded-of-nil-is-nil}
 use Rattle.uri_ops.proofs.Paths.LeftPaths.{slashed-dotless-segments-are-directory}
 use Rattle.uri_ops.proofs.Paths.DecodedPaths.{set-text-splits, removing-dots-and-decoding-swap, decoding-keeps-first-slash, decoding-keeps-underflow}
@@ -8,10 +8,7 @@ use Rattle.uri_ops.proofs.Paths.TakenSegments.{absolute-path-is-slash-and-rest}
 
 pub text-of-one-byte-slash-is-slash : (text : List ℕ)
     → (length text == 1 && slice_index text 0 == 47) ≡ true → text ≡ codes "/"
-text-of-one-byte-slash-is-slash [] e = absurd (false≢true e)
-text-of-one-byte-slash-is-slash (c ∷ []) e = ap (λ d. d ∷ []) (eqb-true c 47 e)
-text-of-one-byte-slash-is-slash (c ∷ d ∷ text) e = absurd (false≢true
-    (sym (ne_eqb (length (c ∷ d ∷ text)) 1 (λ h. omega (arith, h))) ∙ (and_parts _ _ e).0))
+text-of-one-byte-slash-is-slash text e = grind (arith, common_steps, ne_eqb)
 
 pub slash-decodes-to-slash : (set : TableSet) → print (decode_unreserved set (codes "/"))
     ≡ codes "/"

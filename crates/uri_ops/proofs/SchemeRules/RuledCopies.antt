@@ -1,5 +1,5 @@
 -- A text that is normal but for what the rules of its scheme change, copied with that changed.
-use Rattle.uri_ops.proofs.Common.{common_steps, ◌≡◌, ℕ, ◌+◌, ◌-◌, Bool, true, false, cond, List, [], ◌∷◌, ◌++◌, length, take, refl, sym, ap, subst, ◌∙◌, ◌&&◌, arith, append_assoc, length-append, Option, Some, None, option_map, codes, is_some, IsCharBoundary, IsUtf8, take-append_seam, Token, print, Components, components, marked, recompose, Kind, IsTextOf, packed, positions_of, boundary_after_mark, HasComponentSets, is_empty, AuthorityMeaning, Meaning, meaning_of, before_path, changed_components, has_default_host, has_root_path, is_text, ruled_text, normal_authority, normal_components, normal_scheme, normal_text, Rules, authority_under, has_no_token, is_scheme_of, meaning_under, path_under, root, under_rules, guarded, and_parts, false≢true, bytes_eq-Decides, recompose-components}
+use Rattle.uri_ops.proofs.Common.{common_steps, ◌≡◌, ℕ, ◌+◌, ◌-◌, Bool, true, false, cond, List, [], ◌++◌, length, take, refl, sym, ap, subst, ◌∙◌, ◌&&◌, arith, append_assoc, length-append, Option, Some, None, option_map, codes, is_some, IsCharBoundary, IsUtf8, take-append_seam, Token, print, Components, components, marked, recompose, Kind, IsTextOf, packed, positions_of, boundary_after_mark, HasComponentSets, is_empty, AuthorityMeaning, Meaning, meaning_of, before_path, changed_components, has_default_host, has_root_path, is_text, ruled_text, normal_authority, normal_components, normal_scheme, normal_text, Rules, authority_under, is_scheme_of, meaning_under, path_under, root, under_rules, guarded, and_parts, bytes_eq-Decides, recompose-components}
 use Rattle.uri_ops.proofs.Normal.NormalTexts.{components-of-normal_text}
 use Rattle.uri_ops.proofs.Paths.DotRuns.{empty-text-is-nil}
 use Rattle.uri_ops.proofs.SchemeRules.RuledMeanings.{map-cond, print-is-empty-without-tokens}
@@ -14,22 +14,7 @@ pub text-before-localhost : (scheme : Option (List ℕ)) (text : List ℕ) → I
     → text ≡ marked [] scheme (codes ":") ++ marked (codes "//") (Some (codes "localhost")) []
     → IsBeforeHost text (marked [] scheme (codes ":") ++ marked (codes "//") (Some []) []) 9
 text-before-localhost scheme text utf8 e =
-    let s = marked [] scheme (codes ":") in
-    let whole : text ≡ (s ++ codes "//") ++ codes "localhost" =
-    e ∙ sym (append_assoc s (codes "//") (codes "localhost")) in
-    let cut : text ≡ (s ++ codes "/") ++ 47 ∷ codes "localhost" =
-    e ∙ sym (append_assoc s (codes "/") (47 ∷ codes "localhost")) in
-    let m : length text - 9 ≡ length (s ++ codes "//") = omega
-    (arith, ap length whole, length-append (s ++ codes "//") (codes "localhost")) in
-    let n : length text - 9 ≡ length (s ++ codes "/") + 1 = omega
-    (arith, m, length-append s (codes "//"), length-append s (codes "/")) in
-    record {
-      cut = subst (IsCharBoundary text) (sym n) (subst (λ t. IsCharBoundary t
-          (length (s ++ codes "/") + 1)) (sym cut) (boundary_after_mark (s ++ codes "/")
-          (codes "localhost") 47 (omega arith) (subst IsUtf8 cut utf8)));
-      holds = ap (λ k. take k text) m ∙ ap (take (length (s ++ codes "//"))) whole
-          ∙ take-append_seam (s ++ codes "//") (codes "localhost");
-    }
+    grind (arith, common_steps, append_assoc, length-append, boundary_after_mark, take-append_seam)
 
 -- the copy of a text with these components, and with what the rules change
 module _ (drops_host adds_root : Bool) (p : Components)
@@ -54,9 +39,7 @@ module _ (drops_host adds_root : Bool) (p : Components)
 authority-under-rules : (local : Bool) (o : Option AuthorityMeaning)
     → option_map normal_authority (option_map (authority_under local) o) ≡ cond (local && is_text
     (codes "localhost") (option_map normal_authority o)) (Some []) (option_map normal_authority o)
-authority-under-rules true None = refl
-authority-under-rules false None = refl
-authority-under-rules local (Some a) = grind (arith, map-cond)
+authority-under-rules local o = grind (arith, common_steps, map-cond)
 
 path-under-rules : (rooted local : Bool) (o : Option AuthorityMeaning) (ts : List Token)
     → guarded (option_map normal_authority (option_map (authority_under local) o))
@@ -64,11 +47,8 @@ path-under-rules : (rooted local : Bool) (o : Option AuthorityMeaning) (ts : Lis
     ≡ (let path = guarded (option_map normal_authority o) (print ts) in
     cond ((rooted && is_some (option_map normal_authority o)) && is_empty path) (codes "/") path)
 unfolding lib.Utf8.encode
-path-under-rules false local None ts = refl
-path-under-rules true local None ts = refl
-path-under-rules false local (Some a) ts = refl
-path-under-rules true local (Some a) ts = map-cond print (has_no_token ts) root ts
-    ∙ ap (λ t. cond t (codes "/") (print ts)) (sym (print-is-empty-without-tokens ts))
+path-under-rules rooted local o ts =
+    grind (arith, common_steps, map-cond, print-is-empty-without-tokens)
 
 path-under-rules-of-scheme : (roots : List ℕ → Bool) (local : Bool) (scheme : Option (List ℕ))
     (o : Option AuthorityMeaning) (ts : List Token) → (let rooted = is_scheme_of roots scheme in
@@ -133,9 +113,7 @@ module _ (kind : Kind) (rules : Rules) (sets : HasComponentSets kind) (text : Li
 -- copies: what is asked of a text in which the rules change the host or the path
 pub default-host-is-localhost : (local : Bool) (o : Option (List ℕ))
     → (local && is_text (codes "localhost") o) ≡ true → o ≡ Some (codes "localhost")
-default-host-is-localhost local None e = absurd (false≢true (and_parts local false e).1)
-default-host-is-localhost local (Some a) e =
-    ap Some ((bytes_eq-Decides a (codes "localhost")).0 (and_parts local _ e).1)
+default-host-is-localhost local o e = grind (arith, common_steps, bytes_eq-Decides)
 
 pub path-for-root-is-empty : (rooted : Bool) (path : List ℕ)
     → (rooted && is_empty path) ≡ true → path ≡ []

@@ -1,5 +1,5 @@
 -- The authority and the path that the rules of schemes leave of a text.
-use Rattle.uri_ops.proofs.Common.{arith, ◌≡◌, ℕ, Bool, true, false, List, [], ◌∷◌, refl, ap, Option, Some, None, Components, components, Kind, IsTextOf, HasComponentSets, run, underflows, components_meaning, ruled_components, ruled_path, normal_text, path_underflows, Rules, meaning_under}
+use Rattle.uri_ops.proofs.Common.{arith, ◌≡◌, ℕ, Bool, List, ap, Option, Components, components, Kind, IsTextOf, HasComponentSets, run, underflows, components_meaning, ruled_components, ruled_path, normal_text, path_underflows, Rules, meaning_under, common_steps}
 use Rattle.uri_ops.proofs.Normal.NormalTexts.{text-has-parts-of-kind}
 use Rattle.uri_ops.proofs.SchemeRules.RuledTexts.{ruled_components-have-meaning-under}
 
@@ -14,13 +14,7 @@ ruled_components-have-normal-text kind rules sets text w =
 ruled-path-underflows-alike : (scheme : Option (List ℕ)) (rooted after : Bool) (path : List ℕ)
     → path_underflows scheme (ruled_path rooted after path) ≡ path_underflows scheme path
 unfolding underflows run
-ruled-path-underflows-alike None rooted after path = refl
-ruled-path-underflows-alike (Some s) true true [] = refl
-ruled-path-underflows-alike (Some s) true false [] = refl
-ruled-path-underflows-alike (Some s) false after [] = refl
-ruled-path-underflows-alike (Some s) true true (c ∷ path) = refl
-ruled-path-underflows-alike (Some s) true false (c ∷ path) = refl
-ruled-path-underflows-alike (Some s) false after (c ∷ path) = refl
+ruled-path-underflows-alike scheme rooted after path = grind (arith, common_steps)
 
 pub ruled-components-underflow-alike : (kind : Kind) (rules : Rules) (p : Components)
     → path_underflows p.scheme (ruled_components kind rules p).path

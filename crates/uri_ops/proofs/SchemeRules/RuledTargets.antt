@@ -1,5 +1,5 @@
 -- Resolving respects equivalence under the rules of schemes, so resolving and normalising swap.
-use Rattle.uri_ops.proofs.Common.{arith, ◌≡◌, ℕ, Bool, true, false, not, cond, List, [], ◌∷◌, refl, sym, ap, ◌∙◌, ◌&&◌, ◌||◌, Option, Some, None, option_map, codes, is_some, is_none, Result, Ok, Err, result_map_both, and-false, Components, components, recompose, starts, Kind, IsTextOf, HasComponentSets, directory, Meaning, components_meaning, meaning_of, normal_text, reference_kind, resolved_meaning, TargetError, is_opaque_rejection, is_fragment_only, dotted_target, target_of, components_of_parts, Rules, meaning_under, under_rules, ruled_authority, ruled_components, ruled_path, ruled_text}
+use Rattle.uri_ops.proofs.Common.{arith, ◌≡◌, ℕ, Bool, true, List, sym, ap, ◌∙◌, ◌||◌, Option, Some, None, is_some, Result, result_map_both, and-false, Components, components, recompose, Kind, IsTextOf, HasComponentSets, directory, Meaning, components_meaning, meaning_of, normal_text, reference_kind, resolved_meaning, TargetError, is_opaque_rejection, is_fragment_only, dotted_target, target_of, components_of_parts, Rules, meaning_under, under_rules, ruled_components, ruled_path, ruled_text, common_steps}
 use Rattle.uri_ops.proofs.Meanings.AllowedParts.{is_set_text}
 use Rattle.uri_ops.proofs.Normal.NormalTexts.{text-has-parts-of-kind}
 use Rattle.uri_ops.proofs.Targeting.JoinedMeanings.{target-path-has-meaning-of-joined, reference-kind-has-component-sets}
@@ -12,18 +12,7 @@ use Rattle.uri_ops.proofs.SchemeRules.RuledMeanings.{under_rules-is-idempotent}
 ruled-path-has-same-directory : (rooted after : Bool) (path : List ℕ)
     → directory (ruled_path rooted after path) ≡ directory path
 unfolding directory
-ruled-path-has-same-directory true true [] = refl
-ruled-path-has-same-directory true false [] = refl
-ruled-path-has-same-directory false after [] = refl
-ruled-path-has-same-directory rooted after (c ∷ path) =
-    ap (λ t. directory (cond t (codes "/") (c ∷ path))) (and-false (rooted && after))
-
-ruled-base-is-opaque-alike : (kind : Kind) (default : Option ℕ) (local rooted : Bool) (o : Option
-    (List ℕ)) (path : List ℕ) → (is_none (option_map (ruled_authority kind default local) o)
-    && not (starts 47 (ruled_path rooted (is_some o) path))) ≡ (is_none o && not (starts 47 path))
-ruled-base-is-opaque-alike kind default local rooted None path =
-    ap (λ t. not (starts 47 t)) (path-without-authority-is-ruled rooted path)
-ruled-base-is-opaque-alike kind default local rooted (Some a) path = refl
+ruled-path-has-same-directory rooted after path = grind (arith, common_steps, and-false)
 
 -- resolving under rules: a ruled reference is accepted by opaque bases if it was
 ruled-reference-passes-alike : (kind : Kind) (rules : Rules) (scheme authority : Option (List ℕ))
@@ -31,16 +20,14 @@ ruled-reference-passes-alike : (kind : Kind) (rules : Rules) (scheme authority :
     → (let r = components_of_parts scheme authority path query fragment in
     let s = ruled_components kind rules r in
     (is_some s.scheme || is_fragment_only s) ≡ (is_some r.scheme || is_fragment_only r))
-ruled-reference-passes-alike kind rules None authority path query fragment =
-    cc (components-without-scheme-are-ruled kind rules authority path query fragment)
-ruled-reference-passes-alike kind rules (Some s) authority path query fragment = refl
+ruled-reference-passes-alike kind rules scheme authority path query fragment =
+    grind (arith, common_steps, components-without-scheme-are-ruled)
 
 -- general fact on results, for resolving under rules: a target is mapped twice
 map-of-map : {A B C : Type 0} (f : B → C) (g : A → B) (x : Result A TargetError)
     → result_map_both (λ a. f (g a)) (λ (refusal : TargetError). refusal) x ≡ result_map_both f
     (λ (refusal : TargetError). refusal) (result_map_both g (λ (refusal : TargetError). refusal) x)
-map-of-map f g (Ok a) = refl
-map-of-map f g (Err e) = refl
+map-of-map f g x = grind (arith, common_steps)
 
 module _ (kind : Kind) (rules : Rules) (sets : HasComponentSets kind) where
   abbrev meaning : Components → Meaning
@@ -95,7 +82,8 @@ module _ (kind : Kind) (rules : Rules) (sets : HasComponentSets kind) where
   ruled-components-have-same-resolution base r valid h =
       grind (
         arith,
-        ruled-base-is-opaque-alike,
+        path-without-authority-is-ruled,
+        common_steps,
         ruled-reference-passes-alike,
         ruled-targets-mean-same,
       )

@@ -1,7 +1,7 @@
 -- A ruled text is a text with what the rules of its scheme change, not yet normal. Under default
 -- ports alone it has the meaning that the text has under the rules. So the laws of normal texts
 -- hold under any rules.
-use Rattle.uri_ops.proofs.Common.{arith, ◌≡◌, ℕ, Bool, true, false, cond, List, [], ◌∷◌, refl, ap, ◌∙◌, ◌&&◌, ◌||◌, Option, Some, None, option_map, not, rules, lit<, subst, codes, is_some, IfSome, IfNone, ◌↔◌, option_and_then, str_to_ascii_lowercase, IsUtf8, chars, IsUtf8-nil, All-cons, All-nil, cond_both, false≢true, tokens_from_chars, is_valid_for, TableSet, decode_unreserved, decode_run, decode_after_run, pieces_from, ascii_char_separates_encode_formatting, read_ipv4, read_octet, read_number, host_kind, ipv4_value, Components, IsSplitOf, Lacks, IsAbemptyPath, components, recompose, has_authority, has_scheme, starts, Kind, IsTextOf, is_authority, has_colon_in_first_segment, empty_is_authority, components-are-split-of-text, components_of_parts, only-split-is-components, HasComponentSets, IsComponentSet, is_empty, authority_meaning, dotless_path, components_meaning, meaning_of, normal_text, ruled_authority, ruled_components, ruled_path, ruled_text, print_decoded, Rules, empty_authority, has_no_token, is_localhost, is_scheme_of, root, authority_under, path_under, under_rules, meaning_under}
+use Rattle.uri_ops.proofs.Common.{arith, ◌≡◌, ℕ, Bool, true, false, cond, List, [], refl, ap, ◌∙◌, ◌&&◌, ◌||◌, Option, Some, None, option_map, not, rules, lit<, subst, codes, is_some, IfSome, IfNone, ◌↔◌, option_and_then, str_to_ascii_lowercase, IsUtf8, chars, All-cons, All-nil, cond_both, tokens_from_chars, is_valid_for, TableSet, decode_unreserved, decode_run, decode_after_run, pieces_from, ascii_char_separates_encode_formatting, read_ipv4, read_octet, read_number, host_kind, ipv4_value, Components, IsSplitOf, Lacks, IsAbemptyPath, components, recompose, has_authority, has_scheme, starts, Kind, IsTextOf, is_authority, has_colon_in_first_segment, empty_is_authority, components-are-split-of-text, components_of_parts, only-split-is-components, HasComponentSets, IsComponentSet, is_empty, authority_meaning, dotless_path, components_meaning, meaning_of, normal_text, ruled_authority, ruled_components, ruled_path, ruled_text, print_decoded, Rules, empty_authority, has_no_token, is_localhost, is_scheme_of, root, authority_under, path_under, under_rules, meaning_under, common_steps}
 use Rattle.uri_ops.proofs.Meanings.AllowedParts.{is_set_text, set-text-from-utf8, validity-splits-at-slash}
 use Rattle.uri_ops.proofs.Meanings.AsciiCharacters.{ascii-bytes-are-utf8}
 use Rattle.uri_ops.proofs.Meanings.TextParts.{ArePartsOfKind, components-of-kind-meet-grammar}
@@ -23,8 +23,7 @@ unfolding chars tokens_from_chars decode_after_run decode_run pieces_from
 slash-means-root set = ascii_char_separates_encode_formatting set [] 47 [] (lit< tt)
 
 text-with-slash-is-not-empty : (text : List ℕ) → starts 47 text ≡ true → is_empty text ≡ false
-text-with-slash-is-not-empty [] e = absurd (false≢true e)
-text-with-slash-is-not-empty (c ∷ text) e = refl
+text-with-slash-is-not-empty text e = grind (arith, common_steps)
 
 module _ (set : TableSet) (w : IsComponentSet (codes "?#[]") set)
     (slash : set.ascii 47 ≡ true) where
@@ -38,9 +37,8 @@ module _ (set : TableSet) (w : IsComponentSet (codes "?#[]") set)
   -- removing dot segments leaves a path that is not empty
   dotless-path-keeps-emptiness : (scheme : Option (List ℕ)) (path : List ℕ)
       → is_empty (dotless_path scheme path) ≡ is_empty path
-  dotless-path-keeps-emptiness None path = refl
-  dotless-path-keeps-emptiness (Some s) path =
-      grind (arith, text-with-slash-is-not-empty, removing-dots-keeps-leading-slash, starts)
+  dotless-path-keeps-emptiness scheme path =
+      grind (arith, common_steps, text-with-slash-is-not-empty, removing-dots-keeps-leading-slash)
 
   dotless-path-is-set-text : (scheme : Option (List ℕ)) (path : List ℕ)
       → is_set_text set path ≡ true → is_set_text set (dotless_path scheme path) ≡ true
@@ -49,9 +47,7 @@ module _ (set : TableSet) (w : IsComponentSet (codes "?#[]") set)
 
   slash-is-dotless : (scheme : Option (List ℕ))
       → decode_unreserved set (dotless_path scheme (codes "/")) ≡ root
-  slash-is-dotless None = slash-means-root set
-  slash-is-dotless (Some s) =
-      cc (remove-dots-of-dotless (codes "/") refl refl, slash-means-root set)
+  slash-is-dotless scheme = grind (arith, common_steps, slash-means-root, remove-dots-of-dotless)
 
   -- a ruled path means what the rules make of the path's meaning
   ruled_path-has-meaning-under : (rooted after : Bool) (scheme : Option (List ℕ))
@@ -80,8 +76,7 @@ ruled_authority-has-meaning-under kind default local (Some a) =
 -- rules: without a scheme, components are as they are
 ruled_authority-without-rule : (kind : Kind) (default : Option ℕ) (o : Option (List ℕ))
     → option_map (ruled_authority kind default false) o ≡ o
-ruled_authority-without-rule kind default None = refl
-ruled_authority-without-rule kind default (Some a) = refl
+ruled_authority-without-rule kind default o = grind (arith, common_steps)
 
 pub components-without-scheme-are-ruled : (kind : Kind) (rules : Rules)
     (authority : Option (List ℕ)) (path : List ℕ) (query fragment : Option (List ℕ))
@@ -92,16 +87,13 @@ components-without-scheme-are-ruled kind rules authority path query fragment =
 
 pub path-without-authority-is-ruled : (rooted : Bool) (path : List ℕ)
     → ruled_path rooted false path ≡ path
-path-without-authority-is-ruled true path = refl
-path-without-authority-is-ruled false path = refl
+path-without-authority-is-ruled rooted path = grind (arith, common_steps)
 
 ruled-authority-lacks-ends : (kind : Kind) (default : Option ℕ) (local rooted : Bool) (o : Option
     (List ℕ)) (path : List ℕ) → IfSome o (λ a. Lacks (codes "/?#") a × IsAbemptyPath path)
     → IfSome (option_map (ruled_authority kind default local) o) (λ a. Lacks (codes "/?#") a
     × IsAbemptyPath (ruled_path rooted (is_some o) path))
-ruled-authority-lacks-ends kind default local rooted None path h = tt
-ruled-authority-lacks-ends kind default local rooted (Some a) path h =
-    search (rules, cond_both, All-nil)
+ruled-authority-lacks-ends kind default local rooted o path h = grind (arith, cond_both)
 
 ruled-path-lacks-ends : (rooted after : Bool) (path : List ℕ) → Lacks (codes "?#") path
     → Lacks (codes "?#") (ruled_path rooted after path)
@@ -113,27 +105,21 @@ ruled-text-has-no-scheme : (kind : Kind) (rules : Rules) (scheme authority : Opt
     → IfNone scheme (has_scheme text ≡ false)
     → IfNone scheme (has_scheme (recompose (ruled_components kind rules
     (components_of_parts scheme authority path query fragment))) ≡ false)
-ruled-text-has-no-scheme kind rules None authority path query fragment text whole h =
-    cc (components-without-scheme-are-ruled kind rules authority path query fragment)
-ruled-text-has-no-scheme kind rules (Some s) authority path query fragment text whole h = tt
+ruled-text-has-no-scheme kind rules scheme authority path query fragment text whole h =
+    grind (arith, common_steps, components-without-scheme-are-ruled)
 
 ruled-path-has-no-authority : (kind : Kind) (default : Option ℕ) (local rooted : Bool)
     (o : Option (List ℕ)) (path : List ℕ) → IfNone o (has_authority path ≡ false)
     → IfNone (option_map (ruled_authority kind default local) o)
     (has_authority (ruled_path rooted (is_some o) path) ≡ false)
-ruled-path-has-no-authority kind default local rooted None path h =
-    ap has_authority (path-without-authority-is-ruled rooted path) ∙ h
-ruled-path-has-no-authority kind default local rooted (Some a) path h = tt
+ruled-path-has-no-authority kind default local rooted o path h =
+    grind (arith, common_steps, path-without-authority-is-ruled, h)
 
 ruled-authority-is-of-kind : (kind : Kind) (default : Option ℕ) (local : Bool)
     (o : Option (List ℕ)) → IfSome o (λ a. IsUtf8 a × (is_authority kind a ≡ true))
     → IfSome (option_map (ruled_authority kind default local) o)
     (λ a. IsUtf8 a × (is_authority kind a ≡ true))
-ruled-authority-is-of-kind kind default local None h = tt
-ruled-authority-is-of-kind kind default local (Some a) h =
-    cond_both (local && is_localhost (authority_meaning kind default a)) [] a
-    (λ t. IsUtf8 t × (is_authority kind t ≡ true))
-    (λ _. (IsUtf8-nil, empty_is_authority kind.userinfo kind.reg_name)) (λ _. h)
+ruled-authority-is-of-kind kind default local o h = grind (arith, cond_both, empty_is_authority)
 
 pub slash-is-set-text : (set : TableSet) → set.ascii 47 ≡ true → is_set_text set (codes "/") ≡ true
 unfolding is_valid_for chars tokens_from_chars

@@ -105,9 +105,8 @@ module _ (kind : Kind) (sets : HasComponentSets kind) (ports : PortFunction) whe
       (cond (is_some (option_map print (option_map (decode_unreserved kind.query) q)))
       (option_map print (option_map (decode_unreserved kind.query) q)) other)
       ≡ option_map (decode_unreserved kind.query) (cond (is_some q) q base)
-  chosen-normal-query-decodes-as-chosen None other base h e = e
-  chosen-normal-query-decodes-as-chosen (Some x) other base h e = normal-query-decodes-as-query
-      (Some x) h
+  chosen-normal-query-decodes-as-chosen q other base h e =
+      grind (arith, common_steps, e, normal-query-decodes-as-query)
 
   -- a reference without a scheme, an authority or a path, against a base with a scheme
   reference-without-path-has-same-target-meaning : (base : Components) (q f : Option (List ℕ))
@@ -224,10 +223,8 @@ module _ (kind : Kind) (sets : HasComponentSets kind) (ports : PortFunction) whe
       → is_set_text kind.path p ≡ true → (is_some (normal (components_of_parts s a p q f)).scheme
       || is_fragment_only (normal (components_of_parts s a p q f)))
       ≡ (is_some s || is_fragment_only (components_of_parts s a p q f))
-  normal-reference-is-fragment-only-as-reference (Some s) a p q f h = refl
-  normal-reference-is-fragment-only-as-reference None (Some a) p q f h = refl
-  normal-reference-is-fragment-only-as-reference None None p q f h =
-      grind (arith, nat_tests, normal-path-keeps-emptiness, is_none-option_map)
+  normal-reference-is-fragment-only-as-reference s a p q f h =
+      grind (arith, common_steps, normal-path-keeps-emptiness, is_none-option_map)
 
   pub normal-components-are-rejected-alike : (b : List ℕ) (ba : Option (List ℕ)) (bp : List ℕ)
       (bq bf : Option (List ℕ)) (s a : Option (List ℕ)) (p : List ℕ) (q f : Option (List ℕ))

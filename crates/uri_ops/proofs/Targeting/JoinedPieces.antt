@@ -1,5 +1,5 @@
 -- What a target has of a base and a reference (section 5.2.2), by what the reference has.
-use Rattle.uri_ops.proofs.Common.{common_steps, ◌≡◌, ℕ, ◌+◌, true, false, List, [], ◌∷◌, ◌++◌, length, refl, sym, ap, ◌∙◌, arith, ◌&&◌, append_assoc, option_map, codes, Option, Some, None, is_some, ◌==◌, cond-true, false≢true, ne_eqb, nat_tests, Components, IsAbemptyPath, components, marked, recompose, starts, components-are-split-of-text, before_path, directory, is_empty, remove_dot_segments, underflows, dotless_if_absolute, underflows_if_absolute, is_opaque_rejection, merged, eq_true_from_IsTrue, not_some_is_none}
+use Rattle.uri_ops.proofs.Common.{common_steps, ◌≡◌, ℕ, ◌+◌, true, false, List, [], ◌++◌, length, sym, ap, arith, ◌&&◌, append_assoc, option_map, codes, Option, Some, None, is_some, ◌==◌, cond-true, ne_eqb, nat_tests, Components, IsAbemptyPath, components, marked, recompose, starts, components-are-split-of-text, before_path, directory, is_empty, remove_dot_segments, underflows, dotless_if_absolute, underflows_if_absolute, is_opaque_rejection, merged, eq_true_from_IsTrue, not_some_is_none}
 use Rattle.uri_ops.proofs.Paths.DotLaws.{directory-is-absolute}
 use Rattle.uri_ops.proofs.Targeting.Swaps.{merging-base-is-not-opaque, base-that-is-not-opaque-has-abempty-path}
 use Rattle.uri_ops.proofs.Targeting.Targets.{appended-absolute-path-is-absolute}
@@ -39,23 +39,18 @@ prefix-path-and-suffix-recompose t o0 o1 o2 e1 e2 = grind (arith, nat_tests, app
 pub pushed-query-ends-at-length : (query : Option (List ℕ)) (o3 o4 : List ℕ) (end : ℕ)
     → is_some query ≡ true → o4 ≡ o3 ++ marked (codes "?") query []
     → end ≡ length o4 → Some end ≡ option_map (λ q. length o3 + 1 + length q) query
-pushed-query-ends-at-length None o3 o4 end some e n = absurd (false≢true some)
-pushed-query-ends-at-length (Some q) o3 o4 end some e n = grind (arith, common_steps)
+pushed-query-ends-at-length query o3 o4 end some e n = grind (arith, common_steps)
 
 -- general fact on texts, for targets: one of length 0 is empty
 pub zero-length-is-empty : (text : List ℕ) → (length text == 0) ≡ is_empty text
-zero-length-is-empty [] = refl
-zero-length-is-empty (c ∷ text) = ne_eqb (length (c ∷ text)) 0 (λ e. omega (arith, e))
+zero-length-is-empty text = grind (arith, common_steps, ne_eqb)
 
 -- targets: a query without its `?` is absent, and has no end
 pub empty-query-is-absent : (query : Option (List ℕ)) (text old : List ℕ)
     → text ≡ marked (codes "?") query [] → (length text == 0) ≡ true
     → None ≡ option_map (λ q. length old + 1 + length q) query
-empty-query-is-absent None text old is e = refl
-empty-query-is-absent (Some q) text old is e =
-    absurd (false≢true (sym (ap is_empty is) ∙ sym (zero-length-is-empty text) ∙ e))
+empty-query-is-absent query text old is e = grind (arith, common_steps, zero-length-is-empty)
 
 pub query-with-bytes-is-there : (query : Option (List ℕ)) (text : List ℕ)
     → text ≡ marked (codes "?") query [] → (length text == 0) ≡ false → is_some query ≡ true
-query-with-bytes-is-there None text is e = absurd (false≢true (sym e ∙ ap (λ t. length t == 0) is))
-query-with-bytes-is-there (Some q) text is e = refl
+query-with-bytes-is-there query text is e = grind (arith, common_steps)

@@ -1,16 +1,12 @@
 -- An equivalent base and reference have a target with the same normal form, or both pairs have no
 -- target.
-use Rattle.uri_ops.proofs.Common.{◌≡◌, ℕ, Bool, true, false, List, refl, sym, ap, subst, ◌∙◌, arith, Result, Ok, Err, IfErr, IsErrAnd, is_ok, result_map_both, false≢true, nat_tests, Components, components, Kind, IsTextOf, HasComponentSets, HasMeaningOf, HasTargetMeaning, IsErrorUnderSetting, IsNormalFormOfTarget, IsTargetOfMeanings, IsErrorOfMeanings, IsNormalTarget, IsNormalTargetError, reference_kind, resolved_meaning, IsNormalForm, Rules, meaning_under, IsTarget, IsErrorFor, IsErrorWithUnderflowAllowed, TargetError, BaseWithFragment, InvalidReferenceAgainstOpaqueBase, resolution_of, resolution_of_texts, ResolveError}
+use Rattle.uri_ops.proofs.Common.{◌≡◌, ℕ, Bool, true, List, refl, sym, ap, subst, ◌∙◌, arith, Result, Ok, Err, IfErr, IsErrAnd, is_ok, result_map_both, false≢true, nat_tests, Components, components, Kind, IsTextOf, HasComponentSets, HasMeaningOf, HasTargetMeaning, IsErrorUnderSetting, IsNormalFormOfTarget, IsTargetOfMeanings, IsErrorOfMeanings, IsNormalTarget, IsNormalTargetError, reference_kind, resolved_meaning, IsNormalForm, Rules, meaning_under, IsTarget, IsErrorFor, IsErrorWithUnderflowAllowed, TargetError, resolution_of, resolution_of_texts, ResolveError, common_steps}
 use Rattle.uri_ops.proofs.SchemeRules.RuledTargets.{resolving-respects-meaning}
-use Rattle.uri_ops.specs.declared.resolve.error.ResolveError.TheVariants as Of
 
 -- resolving: an underflow that is allowed is no error
 pub allowed-underflow-is-no-error : (base r : Components) (error : ResolveError)
     → IsErrorFor true base r error → IsErrorWithUnderflowAllowed base r error
-allowed-underflow-is-no-error base r Of.BaseWithFragment h = h
-allowed-underflow-is-no-error base r Of.InvalidReferenceAgainstOpaqueBase h = h
-allowed-underflow-is-no-error base r Of.PathUnderflow h = false≢true (sym h.1)
-allowed-underflow-is-no-error base r Of.OutOfMemory h = h
+allowed-underflow-is-no-error base r error h = grind (arith, common_steps, h)
 
 -- general fact on results, for errors of resolving: what an error is implies what is known of it
 pub if-error-from-error-and : {T E : Type 0} (r : Result T E) (P Q : E → Type 0)
@@ -32,8 +28,7 @@ module _ {A : Type 0} (f : List ℕ → A) where
   equal-err-results-have-equal-errors x y r d e = cc
 
   mapped-result-is-ok-as-result : (x : Result (List ℕ) TargetError) → is_ok (mapped x) ≡ is_ok x
-  mapped-result-is-ok-as-result (Ok u) = refl
-  mapped-result-is-ok-as-result (Err z) = refl
+  mapped-result-is-ok-as-result x = grind (arith, common_steps)
 
   pub equal-mapped-results-are-ok-alike : (x y : Result (List ℕ) TargetError) → mapped x ≡ mapped y
       → is_ok x ≡ is_ok y
@@ -67,12 +62,8 @@ pub same-resolution-error-with-underflow-allowed : (b r base reference : Compone
     → ((z : TargetError) → resolution_of base reference ≡ Err z → resolution_of b r ≡ Err z)
     → is_ok (resolution_of b r) ≡ is_ok (resolution_of base reference)
     → IsErrorWithUnderflowAllowed base reference error → IsErrorWithUnderflowAllowed b r error
-same-resolution-error-with-underflow-allowed b r base reference Of.BaseWithFragment f e h =
-    f BaseWithFragment h
-same-resolution-error-with-underflow-allowed b r base
-    reference Of.InvalidReferenceAgainstOpaqueBase f e h = f InvalidReferenceAgainstOpaqueBase h
-same-resolution-error-with-underflow-allowed b r base reference Of.PathUnderflow f e h = h
-same-resolution-error-with-underflow-allowed b r base reference Of.OutOfMemory f e h = e ∙ h
+same-resolution-error-with-underflow-allowed b r base reference error f e h =
+    grind (arith, common_steps)
 
 -- resolving: a base and a reference have one target at most
 pub resolution-is-unique : (r : Result (List ℕ) TargetError) (t u : List ℕ) → r ≡ Ok t → r ≡ Ok u
@@ -92,14 +83,13 @@ same-resolution-error-under-setting : (allowed : Bool) (b r base reference : Com
     → ((z : TargetError) → resolution_of base reference ≡ Err z → resolution_of b r ≡ Err z)
     → is_ok (resolution_of b r) ≡ is_ok (resolution_of base reference)
     → IsErrorFor allowed base reference error → IsErrorUnderSetting allowed b r error
-same-resolution-error-under-setting true b r base reference error f e h =
-    grind (arith, same-resolution-error-with-underflow-allowed, allowed-underflow-is-no-error)
-same-resolution-error-under-setting false b r base reference Of.BaseWithFragment f e h =
-    f BaseWithFragment h
-same-resolution-error-under-setting false b r base
-    reference Of.InvalidReferenceAgainstOpaqueBase f e h = f InvalidReferenceAgainstOpaqueBase h
-same-resolution-error-under-setting false b r base reference Of.PathUnderflow f e h = e ∙ h.0
-same-resolution-error-under-setting false b r base reference Of.OutOfMemory f e h = e ∙ h
+same-resolution-error-under-setting allowed b r base reference error f e h =
+    grind (
+      arith,
+      common_steps,
+      same-resolution-error-with-underflow-allowed,
+      allowed-underflow-is-no-error,
+    )
 
 module _ (kind of_reference : Kind) (sets : HasComponentSets kind)
     (needs : kind.needs_scheme ≡ true) (same : of_reference ≡ reference_kind kind)

@@ -1,5 +1,5 @@
 -- The errors for a reference in their order, or the accepted reference.
-use Rattle.uri_ops.proofs.Common.{◌≡◌, Bool, true, false, cond, refl, ap, Result, Ok, Err, result_map_both, TargetError, BaseWithFragment, InvalidReferenceAgainstOpaqueBase}
+use Rattle.uri_ops.proofs.Common.{◌≡◌, Bool, false, cond, Result, Ok, Err, result_map_both, TargetError, BaseWithFragment, InvalidReferenceAgainstOpaqueBase, arith, common_steps}
 
 unfoldable pub result_or_target_error : {A : Type 0} → Bool → Bool → A → Result A TargetError
 result_or_target_error fragment opaque x = cond fragment (Err BaseWithFragment)
@@ -11,24 +11,18 @@ pub map-of-result_or_error : {A B : Type 0} (f : A → B) (fragment opaque : Boo
     → result_map_both f (λ (refusal : TargetError). refusal)
     (result_or_target_error fragment opaque x) ≡ result_or_target_error fragment opaque (f x)
 unfolding result_or_target_error
-map-of-result_or_error f true opaque x = refl
-map-of-result_or_error f false true x = refl
-map-of-result_or_error f false false x = refl
+map-of-result_or_error f fragment opaque x = grind (arith, common_steps)
 
 -- resolving: what would be accepted makes no difference where it is rejected;
 -- fragment, opaque: whether the base has one, is opaque
 pub rejected-results-are-equal : {A : Type 0} (fragment opaque : Bool) (x y : A) → (opaque ≡ false
     → x ≡ y) → result_or_target_error fragment opaque x ≡ result_or_target_error fragment opaque y
 unfolding result_or_target_error
-rejected-results-are-equal true opaque x y e = refl
-rejected-results-are-equal false true x y e = refl
-rejected-results-are-equal false false x y e = ap Ok (e refl)
+rejected-results-are-equal fragment opaque x y e = grind (arith, common_steps, e)
 
 -- resolving: where a target is returned, the base is not opaque; fragment, opaque: whether the base
 -- has one, whether it is opaque
 pub ok-result-has-no-opaque-rejection : {A : Type 0} (fragment opaque : Bool) (x y : A)
     → result_or_target_error fragment opaque x ≡ Ok y → (opaque ≡ false) × (x ≡ y)
 unfolding result_or_target_error
-ok-result-has-no-opaque-rejection true opaque x y e = cc
-ok-result-has-no-opaque-rejection false true x y e = cc
-ok-result-has-no-opaque-rejection false false x y e = (refl, cc)
+ok-result-has-no-opaque-rejection fragment opaque x y e = grind (arith, common_steps)

@@ -1,6 +1,6 @@
 -- What a reference resolves to, against a base, is a function of the meanings of both, under default
 -- ports.
-use Rattle.uri_ops.proofs.Common.{◌≡◌, ℕ, true, false, not, List, sym, ap, ◌∙◌, ◌&&◌, inr, option_map, arith, codes, Option, Some, None, IfSome, Result, is_some, is_none, result_map_both, and_cases, cond_both, not-false, nat_tests, print, decode_unreserved, Components, Lacks, starts, IsAbemptyPath, components, recompose, Kind, IsTextOf, components-are-split-of-text, equal-to-true-is-IsTrue, components_of_parts, is_empty, TargetError, is_opaque, is_opaque_rejection, dotted_target, resolution_of_texts, target_of, HasComponentSets, PortFunction, Meaning, components_meaning, meaning_of, normal_components, reference_kind, is_some-option_map, none-is-not-some}
+use Rattle.uri_ops.proofs.Common.{◌≡◌, ℕ, true, false, not, List, sym, ap, ◌∙◌, ◌&&◌, option_map, arith, codes, Option, Some, IfSome, Result, is_some, is_none, result_map_both, and_cases, cond_both, not-false, nat_tests, print, decode_unreserved, Components, Lacks, starts, IsAbemptyPath, components, recompose, Kind, IsTextOf, components-are-split-of-text, equal-to-true-is-IsTrue, components_of_parts, is_empty, TargetError, is_opaque, is_opaque_rejection, dotted_target, resolution_of_texts, target_of, HasComponentSets, PortFunction, Meaning, components_meaning, meaning_of, normal_components, reference_kind, is_some-option_map, none-is-not-some, common_steps}
 use Rattle.uri_ops.proofs.Targeting.Targets.{target-text-has-target-components}
 use Rattle.uri_ops.proofs.Meanings.TextParts.{ArePartsOfKind}
 use Rattle.uri_ops.proofs.Normal.NormalTexts.{text-has-parts-of-kind}
@@ -30,9 +30,8 @@ merging-base-is-not-opaque base r e s p =
 pub base-that-is-not-opaque-has-abempty-path : (authority : Option (List ℕ)) (path : List ℕ)
     → (is_none authority && not (starts 47 path)) ≡ false
     → IfSome authority (λ a. Lacks (codes "/?#") a × IsAbemptyPath path) → IsAbemptyPath path
-base-that-is-not-opaque-has-abempty-path None path e h = inr
-    (equal-to-true-is-IsTrue _ (not-false _ e))
-base-that-is-not-opaque-has-abempty-path (Some a) path e h = h.1
+base-that-is-not-opaque-has-abempty-path authority path e h =
+    grind (arith, common_steps, equal-to-true-is-IsTrue, not-false)
 
 -- resolving: what the target of a base and a reference means under default ports alone, or why there
 -- is none

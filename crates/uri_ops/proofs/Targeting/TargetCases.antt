@@ -1,5 +1,5 @@
 -- Which case of the pseudocode a reference is, and the pieces of a target in each case.
-use Rattle.uri_ops.proofs.Common.{◌≡◌, ℕ, ◌+◌, true, false, List, [], ◌++◌, length, sym, ap, ◌∙◌, option_map, arith, codes, Option, is_some, cond-true, cond-false, nat_tests, AuthorityPositions, Components, components, marked, recompose, authority_at, positions_of, WithScheme, WithAuthority, EmptyPath, AbsolutePath, MergedPath, before_path, IsCaseOf, target_in_case, with_final_path, dotted_target, target_of, None-from-is_none, not_some_is_none}
+use Rattle.uri_ops.proofs.Common.{◌≡◌, ℕ, ◌+◌, true, false, List, [], ◌++◌, length, sym, ap, ◌∙◌, option_map, arith, codes, Option, is_some, nat_tests, AuthorityPositions, Components, components, marked, recompose, authority_at, positions_of, WithScheme, before_path, IsCaseOf, target_in_case, with_final_path, dotted_target, target_of, None-from-is_none, not_some_is_none, common_steps}
 use Rattle.uri_ops.specs.declared.resolve.target_case.TargetCase.{TargetCase}
 use Rattle.uri_ops.specs.Models.TargetCases.{with_authority}
 use Rattle.uri_ops.proofs.Normal.WrittenPlaces.{length-with-delimiter-after}
@@ -7,12 +7,7 @@ use Rattle.uri_ops.proofs.Targeting.Targets.{target-text-has-target-components}
 
 pub case-gives-line : (case : TargetCase) (base r : Components) → IsCaseOf r case
     → dotted_target base r ≡ target_in_case case base r
-case-gives-line WithScheme base r s = cond-true (is_some r.scheme) r _ s
-case-gives-line WithAuthority base r (s, a) = cond-false (is_some r.scheme) r _ s
-    ∙ cond-true (is_some r.authority) (with_authority base r) _ a
-case-gives-line EmptyPath base r (h, e) = grind (arith, nat_tests)
-case-gives-line AbsolutePath base r (h, e, n) = grind (arith, nat_tests)
-case-gives-line MergedPath base r (h, e, n) = grind (arith, nat_tests)
+case-gives-line case base r s = grind (arith, common_steps)
 
 pub base-scheme-before-reference-authority : (b r : Components) (scheme before : List ℕ)
     → is_some r.scheme ≡ false → scheme ≡ marked [] b.scheme (codes ":") → before ≡ before_path r

@@ -1,5 +1,5 @@
 -- The text of a target has the components that were put into it.
-use Rattle.uri_ops.proofs.Common.{◌≡◌, ℕ, ◌<◌, true, false, cond, List, [], ◌∷◌, ◌++◌, length, refl, ◌||◌, inr, rules, arith, codes, Option, Some, None, IfSome, IfNone, is_some, cond_both, false≢true, All-append, nat_tests, is_one_of, Components, IsSplitOf, Lacks, IsAbemptyPath, starts, has_authority, components, recompose, only-split-is-components, components-are-split-of-text, equal-to-true-is-IsTrue, is_empty, remove_dot_segments, directory, IsAbsolute, is_fragment_only, merged, dotted_target, dotless_if_absolute, guarded, target_of}
+use Rattle.uri_ops.proofs.Common.{◌≡◌, ℕ, ◌<◌, true, false, cond, List, ◌++◌, length, refl, ◌||◌, inr, arith, codes, Option, Some, None, IfSome, IfNone, is_some, cond_both, All-append, nat_tests, is_one_of, Components, IsSplitOf, Lacks, IsAbemptyPath, starts, has_authority, components, recompose, only-split-is-components, components-are-split-of-text, equal-to-true-is-IsTrue, is_empty, remove_dot_segments, directory, IsAbsolute, is_fragment_only, merged, dotted_target, dotless_if_absolute, guarded, target_of, common_steps}
 use Rattle.uri_ops.proofs.Paths.DotLaws.{removing-dots-keeps-absolute, directory-is-absolute}
 use Rattle.uri_ops.proofs.Paths.PathCharacters.{removing-dots-adds-no-character, directory-adds-no-character}
 
@@ -14,15 +14,13 @@ record IsSplittable (c : Components) : Type 0 where
 -- targets: an absolute path with any text after it is absolute
 pub appended-absolute-path-is-absolute : (path q : List ℕ) → IsAbsolute path
     → IsAbsolute (path ++ q)
-appended-absolute-path-is-absolute [] q h = absurd (false≢true (search rules))
-appended-absolute-path-is-absolute (c ∷ path) q h = h
+appended-absolute-path-is-absolute path q h = grind (arith, common_steps)
 
 -- general fact on options, for authorities of a target: what is known of the path after one implies
 -- another property of it
 pub authority-property-implies-other-if-some : (o : Option (List ℕ)) (P Q : Type 0) → (P → Q)
     → IfSome o (λ a. Lacks (codes "/?#") a × P) → IfSome o (λ a. Lacks (codes "/?#") a × Q)
-authority-property-implies-other-if-some None P Q f h = tt
-authority-property-implies-other-if-some (Some a) P Q f h = (h.0, f h.1)
+authority-property-implies-other-if-some o q r f h = grind (arith, common_steps, f)
 
 -- resolving: the components of a target by the table of RFC 3986, section 5.2.2, are split off
 -- again when its text is parsed
@@ -94,8 +92,7 @@ guarded-path-without-authority-has-no-two-slashes (Some a) path = tt
 -- its absence true
 pub option-that-is-some-has-no-none : (o : Option (List ℕ)) (P : Type 0) → is_some o ≡ true
     → IfNone o P
-option-that-is-some-has-no-none None P h = absurd (false≢true h)
-option-that-is-some-has-no-none (Some x) P h = tt
+option-that-is-some-has-no-none o q h = grind (arith, common_steps)
 
 -- resolving: a target's path without dot segments, guarded,
 -- is split off again when its text is parsed

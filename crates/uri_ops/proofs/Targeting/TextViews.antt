@@ -1,6 +1,6 @@
 -- The substrings of a text between the positions of its components.
 use Rattle.std.proofs.lemmas.Grind.{common_steps}
-use Rattle.uri_ops.proofs.Common.{◌≡◌, ℕ, ◌+◌, ◌-◌, ◌≤◌, true, List, [], ◌∷◌, ◌++◌, length, take, drop, refl, sym, ap, subst, ◌∙◌, arith, append_assoc, length-append, option_map, codes, Option, Some, None, IfSome, slice_range, IsUtf8, IsCharBoundary, drop-append_seam, take-append_seam, IsCharBoundary-from_drop, IsUtf8-append, IsUtf8-drop, nat_tests, AuthorityPositions, Positions, components, marked, Kind, is_authority, IsTextOf, ArePositionsOf, authority_at, before_fragment, host_end_of, host_is_at_positions, slice_range-from-start, boundary-at-fragment-mark, fragment_text, boundary_after_mark, before_hash, split-text-is-before-fragment-and-fragment, length-before_hash, slice-between-prefix-and-suffix, components-are-split-of-text, recompose-components, IsAbsolute, EndsIn, IsSlashOrStart, before_path}
+use Rattle.uri_ops.proofs.Common.{◌≡◌, ℕ, ◌+◌, ◌-◌, ◌≤◌, true, List, [], ◌∷◌, ◌++◌, length, take, drop, refl, sym, ap, subst, ◌∙◌, arith, append_assoc, length-append, option_map, codes, Option, Some, None, IfSome, slice_range, IsUtf8, IsCharBoundary, drop-append_seam, take-append_seam, IsCharBoundary-from_drop, IsUtf8-append, IsUtf8-drop, nat_tests, AuthorityPositions, Positions, components, marked, Kind, is_authority, IsTextOf, ArePositionsOf, authority_at, before_fragment, host_end_of, host_is_at_positions, slice_range-from-start, boundary-at-fragment-mark, fragment_text, boundary_after_mark, before_hash, split-text-is-before-fragment-and-fragment, length-before_hash, slice-between-prefix-and-suffix, components-are-split-of-text, recompose-components, IsAbsolute, EndsIn, IsSlashOrStart, before_path, common_steps}
 use Rattle.std.proofs.lemmas.Option.{none-some}
 use Rattle.uri_parts.proofs.Offered.{path_is_at_positions}
 use Rattle.uri_ops.proofs.Normal.NormalTexts.{text-has-parts-of-kind}
@@ -45,9 +45,8 @@ pub record HasScheme (text : List ℕ) (scheme : Option (List ℕ)) (end : ℕ) 
 text-begins-with-its-scheme : (text : List ℕ) (scheme : Option (List ℕ)) (rest : List ℕ)
     → marked [] scheme (codes ":") ++ rest ≡ text → IsUtf8 text → (end : ℕ)
     → Some end ≡ option_map length scheme → HasScheme text scheme end
-text-begins-with-its-scheme text None rest whole utf8 end e = absurd (none-some end (sym e))
-text-begins-with-its-scheme text (Some s) rest whole utf8 end e =
-    grind (arith, common_steps, boundary_after_mark)
+text-begins-with-its-scheme text scheme rest whole utf8 end e =
+    grind (arith, common_steps, none-some, boundary_after_mark)
 
 -- targets: after a `/` (47) in the middle of a path a character begins; the text up to it is
 -- prefix, left and `/`
@@ -95,14 +94,7 @@ module _ (text : List ℕ) (p : Positions) (utf8 : IsUtf8 text) (at : ArePositio
   query-ends-after-its-length : before_fragment p
       ≡ p.path_end + length (marked (codes "?") (components text).query [])
   query-ends-after-its-length =
-      let c = components text in
-      ap before_fragment at ∙ sym (length-before_hash c) ∙ omega (
-        arith,
-        length-append (before_path c ++ c.path) (marked (codes "?") c.query []),
-        length-append (before_path c) c.path,
-        length-before_path-is-path_start c,
-        ap (λ (q : Positions). q.path_end) at,
-      )
+      grind (arith, length-before_hash, length-append, length-before_path-is-path_start)
 
   pub path_end-is-boundary : IsCharBoundary text p.path_end
   path_end-is-boundary = (path_is_at_positions text p utf8 at).ends

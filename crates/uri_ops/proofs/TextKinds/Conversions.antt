@@ -1,5 +1,5 @@
 -- When a text of one kind is one of another.
-use Rattle.uri_ops.proofs.Common.{◌≡◌, ℕ, ◌+◌, ◌≤◌, Bool, true, not, ltb, List, [], ◌∷◌, length, refl, sym, ap, ◌∙◌, ⊎_elim, arith, option_map, ◌↔◌, Option, Some, None, is_some, list_all, position, prefix_len, option_or, IsUtf8, cases_Bool, cases_lt, cond-true, cond-false, and_parts, and_from, lt-ltb, le-ltb, components, Kind, IsOfKind, components_meet_rules, iri, iri_ref, uri, uri_ref, uri_has_scheme, uri_is_uri_ref, iri_has_scheme, HasComponentSets, encode_past_ascii, ascii_kind, AreEquivalent, bare_meaning_of, Rules, meaning_under, no_defaults}
+use Rattle.uri_ops.proofs.Common.{◌≡◌, ℕ, ◌+◌, ◌≤◌, Bool, true, not, ltb, List, [], ◌∷◌, length, refl, sym, ap, ◌∙◌, ⊎_elim, arith, option_map, ◌↔◌, Option, Some, None, is_some, list_all, position, prefix_len, option_or, IsUtf8, cases_Bool, cases_lt, cond-true, cond-false, and_parts, and_from, lt-ltb, le-ltb, components, Kind, IsOfKind, components_meet_rules, iri, iri_ref, uri, uri_ref, uri_has_scheme, uri_is_uri_ref, iri_has_scheme, HasComponentSets, encode_past_ascii, ascii_kind, AreEquivalent, bare_meaning_of, Rules, meaning_under, no_defaults, common_steps}
 use Rattle.uri_ops.specs.declared.convert.ConvertError.{ConvertError}
 use Rattle.uri_ops.specs.declared.convert.ConvertError.TheVariants.{NotAscii}
 use Rattle.uri_ops.specs.Conversions.{is_past_ascii, first_past_ascii, missing_scheme_error, not_ascii_error, uri_conversion_error}
@@ -52,21 +52,13 @@ ascii-prefix-of-ascii-text-is-whole : (text : List ℕ) → list_all (λ c. ltb 
     → prefix_len is_ascii_code text ≡ length text
 ascii-prefix-of-ascii-text-is-whole [] e = refl
 ascii-prefix-of-ascii-text-is-whole (c ∷ text) e =
-    let p = and_parts (ltb c 128) (list_all (λ c. ltb c 128) text) e in
-    let n : prefix_len is_ascii_code (c ∷ text) ≡ 1 + prefix_len is_ascii_code text =
-    cond-true _ _ _ (ap (λ b. not (not b)) p.0) in
-    let m : prefix_len is_ascii_code text
-    ≡ length text = ascii-prefix-of-ascii-text-is-whole text p.1 in
-    omega arith
+    grind (arith, common_steps, (ascii-prefix-of-ascii-text-is-whole text))
 
 whole-ascii-prefix-means-ascii-text : (text : List ℕ) → length text ≤ prefix_len is_ascii_code text
     → list_all (λ c. ltb c 128) text ≡ true
 whole-ascii-prefix-means-ascii-text [] h = refl
-whole-ascii-prefix-means-ascii-text (c ∷ text) h = ⊎_elim (λ e. let n : prefix_len is_ascii_code (c
-    ∷ text) ≡ 1 + prefix_len is_ascii_code text = cond-true _ _ _ (ap (λ b. not (not b)) e) in
-    and_from _ _ e (whole-ascii-prefix-means-ascii-text text (omega arith))) (λ e.
-    let n : prefix_len is_ascii_code (c ∷ text) ≡ 0 = cond-false _ _ _ (ap (λ b. not (not b)) e) in
-    absurd (omega arith)) (cases_Bool (ltb c 128))
+whole-ascii-prefix-means-ascii-text (c ∷ text) h =
+    grind (arith, common_steps, (whole-ascii-prefix-means-ascii-text text))
 
 some-index-is-not-none : (index : ℕ) → Some index ≡ None → ⊥
 some-index-is-not-none index e = absurd (cc e)
@@ -74,8 +66,7 @@ some-index-is-not-none index e = absurd (cc e)
 -- general fact on options, for errors of conversions: without an error there is no index
 absent-mapped-index-is-absent : (place : Option ℕ) → option_map (λ index. NotAscii index) place
     ≡ None → place ≡ None
-absent-mapped-index-is-absent None e = refl
-absent-mapped-index-is-absent (Some index) e = absurd (some-error-is-not-none (NotAscii index) e)
+absent-mapped-index-is-absent place e = grind (arith, common_steps, some-error-is-not-none)
 
 -- conversions: a text without an error for a character past ASCII is ASCII
 no-not_ascii_error-means-ascii : (text : List ℕ) → not_ascii_error text ≡ None
@@ -125,8 +116,7 @@ ascii_iri_ref_is_uri_ref text u h = text-of-kind-is-ascii-if-of-ascii_kind iri_r
 -- general fact on options, for the first of two errors of a conversion: if it is None, both are
 option_or-is-none-if-both-are : {A : Type 0} (a b : Option A) → option_or a b ≡ None → (a ≡ None)
     × (b ≡ None)
-option_or-is-none-if-both-are None b e = (refl, e)
-option_or-is-none-if-both-are (Some x) b e = absurd (cc e)
+option_or-is-none-if-both-are a b e = grind (arith, common_steps)
 
 -- general fact on options, for the first of two errors of a conversion: if both are None, it is
 both-none-give-option_or-none : {A : Type 0} (a b : Option A) → a ≡ None → b ≡ None

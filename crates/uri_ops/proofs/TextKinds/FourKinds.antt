@@ -1,5 +1,5 @@
 -- The sets of the four kinds.
-use Rattle.uri_ops.proofs.Common.{◌≡◌, ℕ, Bool, true, false, List, refl, sym, subst, codes, list_any, or_left, false≢true, TableSet, is_unreserved, is_reg_name_char, is_userinfo_char, is_pchar, is_path_char, is_query_char, Kind, kind_by_flags, uri, uri_ref, iri, iri_ref, IsComponentSet, HasComponentSets}
+use Rattle.uri_ops.proofs.Common.{◌≡◌, ℕ, Bool, true, false, List, sym, subst, list_any, or_left, TableSet, is_unreserved, is_reg_name_char, is_userinfo_char, is_pchar, is_path_char, is_query_char, Kind, kind_by_flags, uri, uri_ref, iri, iri_ref, IsComponentSet, HasComponentSets, arith, common_steps}
 
 unreserved-is-reg_name-character : (c : ℕ) → is_unreserved c ≡ true → is_reg_name_char c ≡ true
 unreserved-is-reg_name-character c e = or_left _ _ e
@@ -29,17 +29,8 @@ tested-characters-are-component-set : (marks : List ℕ) (test : ℕ → Bool) (
     → ((c : ℕ) → is_unreserved c ≡ true → test c ≡ true) → test 37 ≡ false
     → list_any test marks ≡ false → IsComponentSet marks (component_table test past private)
 unfolding component_table
-tested-characters-are-component-set marks test past private within percent ends = record {
-  unreserved = record {
-    ascii = within;
-    pct_encoded = λ e. refl;
-    ucschar = λ e. absurd (false≢true e);
-    iprivate = λ e. absurd (false≢true e);
-  };
-  percent = percent;
-  octets = refl;
-  ends = ends;
-}
+tested-characters-are-component-set marks test past private within percent ends =
+    grind (arith, common_steps)
 
 -- sets of the four kinds: the kind by its flags for ucschar, iprivate and the need of a scheme
 kind_with : (past private needs : Bool) → Kind
@@ -57,19 +48,16 @@ kind_with past private needs = record {
 kind_with-has-component-sets : (past private needs : Bool)
     → HasComponentSets (kind_with past private needs)
 unfolding kind_with component_table
-kind_with-has-component-sets past private needs = record {
-  userinfo = tested-characters-are-component-set (codes "/?#[]@") is_userinfo_char past false
-      unreserved-is-userinfo-character refl refl;
-  reg_name = tested-characters-are-component-set (codes "/?#[]@:") is_reg_name_char past false
-      unreserved-is-reg_name-character refl refl;
-  path = tested-characters-are-component-set (codes "?#[]") is_path_char past false
-      unreserved-is-path-character refl refl;
-  slash = refl;
-  query = tested-characters-are-component-set (codes "#[]") is_query_char past private
-      unreserved-is-query-character refl refl;
-  fragment = tested-characters-are-component-set (codes "#[]") is_query_char past false
-      unreserved-is-query-character refl refl;
-}
+kind_with-has-component-sets past private needs =
+    grind (
+      arith,
+      common_steps,
+      tested-characters-are-component-set,
+      unreserved-is-userinfo-character,
+      unreserved-is-reg_name-character,
+      unreserved-is-path-character,
+      unreserved-is-query-character,
+    )
 
 -- sets of the four kinds: those of a URI have unreserved characters and octets, and lack what ends
 -- each component

@@ -1,5 +1,5 @@
 -- The texts that pass the tests of a kind are those of its grammar.
-use Rattle.uri_ops.proofs.Common.{arith, ◌≡◌, ℕ, Bool, true, false, not, List, refl, sym, ◌&&◌, ◌||◌, inl, inr, ⊎_elim, ◌↔◌, ◌⊎◌, is_some, IsUtf8, false≢true, TableSet, AuthorityParts, IsAuthorityFor, LackAuthorityDelimiters, authority_parts, Components, components, Kind, IsOfKind, is_scheme, is_authority, has_colon_in_first_segment, uri, uri_ref, iri, iri_ref, HostKind, IsHost, host_kind, is_authority_for-sound, is_authority_for-complete, authority_parts-are-unique, names_exclude_delimiters, is_host-complete, components-are-split-of-text, only-split-is-components, HasComponentSets, IfSome-weaken, IfSome-combine}
+use Rattle.uri_ops.proofs.Common.{arith, ◌≡◌, ℕ, Bool, true, false, not, List, ◌&&◌, ◌||◌, ◌↔◌, ◌⊎◌, is_some, IsUtf8, TableSet, AuthorityParts, IsAuthorityFor, LackAuthorityDelimiters, authority_parts, Components, components, Kind, IsOfKind, is_scheme, is_authority, has_colon_in_first_segment, uri, uri_ref, iri, iri_ref, HostKind, IsHost, host_kind, is_authority_for-sound, is_authority_for-complete, authority_parts-are-unique, names_exclude_delimiters, is_host-complete, components-are-split-of-text, only-split-is-components, HasComponentSets, IfSome-weaken, common_steps}
 use Rattle.uri_parts.specs.GrammarInWords.{HasAuthorityParts, FollowsRules, IsInGrammar}
 use Rattle.uri_ops.proofs.Meanings.AuthorityMeanings.{kind-sets-lack-authority-delimiters}
 use Rattle.uri_ops.proofs.TextKinds.FourKinds.{uri-has-component-sets, uri_ref-has-component-sets, iri-has-component-sets, iri_ref-has-component-sets}
@@ -10,20 +10,13 @@ use Rattle.uri_ops.proofs.Meanings.TextParts.{ArePartsOfKind, AreUtf8, component
 -- needed, an authority is there, `:` is in the first segment
 scheme-rule-gives-its-cases : (s n a c : Bool) → (s || (not n && (a || not c))) ≡ true
     → (s ≡ true) ⊎ ((n ≡ false) × ((a ≡ true) ⊎ (c ≡ false)))
-scheme-rule-gives-its-cases true n a c e = inl refl
-scheme-rule-gives-its-cases false true a c e = absurd (false≢true e)
-scheme-rule-gives-its-cases false false true c e = inr (refl, inl refl)
-scheme-rule-gives-its-cases false false false true e = absurd (false≢true e)
-scheme-rule-gives-its-cases false false false false e = inr (refl, inr refl)
+scheme-rule-gives-its-cases s n a c e = grind (arith, common_steps)
 
 -- general fact on booleans, for the rule on schemes; s, n, a, c: a scheme is there, is needed, an
 -- authority is there, `:` is in the first segment
 cases-give-scheme-rule : (s n a c : Bool) → (s ≡ true) ⊎ ((n ≡ false) × ((a ≡ true) ⊎ (c ≡ false)))
     → (s || (not n && (a || not c))) ≡ true
-cases-give-scheme-rule true n a c h = refl
-cases-give-scheme-rule false true a c h = ⊎_elim (λ e. absurd (false≢true e))
-    (λ p. absurd (false≢true (sym p.0))) h
-cases-give-scheme-rule false false a c h = grind (arith, false≢true)
+cases-give-scheme-rule s n a c h = grind (arith, common_steps)
 
 module _ (kind : Kind) (sets : HasComponentSets kind) where
   text-of-kind-follows-rules : (text : List ℕ) → IsUtf8 text → IsOfKind kind text
@@ -51,22 +44,14 @@ module _ (kind : Kind) (sets : HasComponentSets kind) where
 
   rules-give-components-of-kind : (text : List ℕ) (p : Components)
       → AreUtf8 p → FollowsRules kind text p → ArePartsOfKind kind p
-  rules-give-components-of-kind text p u g = record {
-    scheme = IfSome-combine p.scheme IsUtf8 (λ s. is_scheme s ≡ true) _ (λ s v w. (v, w)) u.scheme
-        g.scheme;
-    authority = IfSome-combine p.authority IsUtf8 (HasAuthorityParts kind) _ (λ a v w. (
-      v,
-      is_authority_for-complete kind.userinfo kind.reg_name
-          (kind-sets-lack-authority-delimiters kind sets) a w.0 v w.1,
-    )) u.authority g.authority;
-    path = set-text-from-utf8 kind.path p.path u.path g.path;
-    query = IfSome-combine p.query IsUtf8 _ _ (λ q v w. set-text-from-utf8 kind.query q v w)
-        u.query g.query;
-    fragment = IfSome-combine p.fragment IsUtf8 _ _
-        (λ q v w. set-text-from-utf8 kind.fragment q v w) u.fragment g.fragment;
-    needs = cases-give-scheme-rule (is_some p.scheme) kind.needs_scheme (is_some p.authority)
-        (has_colon_in_first_segment p.path) g.reference;
-  }
+  rules-give-components-of-kind text p u g =
+      grind (
+        arith,
+        is_authority_for-complete,
+        kind-sets-lack-authority-delimiters,
+        set-text-from-utf8,
+        cases-give-scheme-rule,
+      )
 
   grammar-gives-text-of-kind : (text : List ℕ) → IsUtf8 text → IsInGrammar kind text
       → IsOfKind kind text

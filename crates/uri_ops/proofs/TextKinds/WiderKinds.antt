@@ -1,5 +1,5 @@
 -- A text of a kind is of each kind with wider sets.
-use Rattle.uri_ops.proofs.Common.{arith, ◌≡◌, ℕ, Bool, true, false, not, List, [], ◌∷◌, refl, ◌&&◌, ◌||◌, is_some, list_all, IsUtf8, and_parts, and_from, false≢true, TableSet, IsSubset, allows, allows_past_ascii, Token, Char, Octet, tokens, allows_token, is_valid_for, IsValidFor, components, Kind, is_authority, has_colon_in_first_segment, IsTextOf, HostKind, Ipv4, Ipv6, IpvFuture, RegName, IsHost, is_authority_for-sound, is_authority_for-complete, HasComponentSets, IsWithin, ascii_kind, IfSome-weaken}
+use Rattle.uri_ops.proofs.Common.{arith, ◌≡◌, ℕ, Bool, true, not, List, [], ◌∷◌, refl, ◌&&◌, ◌||◌, is_some, list_all, IsUtf8, and_parts, and_from, TableSet, IsSubset, allows, allows_past_ascii, Token, Char, Octet, tokens, allows_token, is_valid_for, IsValidFor, components, Kind, is_authority, has_colon_in_first_segment, IsTextOf, HostKind, IsHost, is_authority_for-sound, is_authority_for-complete, HasComponentSets, IsWithin, ascii_kind, IfSome-weaken, common_steps}
 use Rattle.uri_ops.proofs.Meanings.AllowedParts.{is_set_text, set-text-from-utf8, set-text-is-utf8, set-text-is-valid}
 use Rattle.uri_ops.proofs.Meanings.TextParts.{components-of-utf8-are-utf8, grammar-gives-components-of-kind, components-of-kind-meet-grammar}
 use Rattle.uri_ops.proofs.Meanings.AuthorityMeanings.{kind-sets-lack-authority-delimiters}
@@ -32,11 +32,8 @@ module _ (s t : TableSet) (w : IsSubset s t) where
 
 host-is-host-for-wider-set : (s t : TableSet) → IsSubset s t → (text : List ℕ) (host : HostKind)
     → IsHost s text host → IsHost t text host
-host-is-host-for-wider-set s t w text (Ipv6 segments) h = h
-host-is-host-for-wider-set s t w text IpvFuture h = h
-host-is-host-for-wider-set s t w text (Ipv4 octets) h = h
-host-is-host-for-wider-set s t w text RegName h =
-    (valid-text-is-valid-for-wider-set s t w text h.0, h.1)
+host-is-host-for-wider-set s t w text o h =
+    grind (arith, common_steps, h, valid-text-is-valid-for-wider-set)
 
 module _ (kind wide : Kind) (sets : HasComponentSets wide) (w : IsWithin kind wide) where
   authority-is-authority-of-wider-kind : (a : List ℕ) → IsUtf8 a → is_authority kind a ≡ true
@@ -53,14 +50,7 @@ module _ (kind wide : Kind) (sets : HasComponentSets wide) (w : IsWithin kind wi
 
   wider-kind-keeps-scheme-rule : (x y : Bool) → (x || (not kind.needs_scheme && y)) ≡ true
       → (x || (not wide.needs_scheme && y)) ≡ true
-  wider-kind-keeps-scheme-rule true y e = refl
-  wider-kind-keeps-scheme-rule false y e = let p = and_parts (not kind.needs_scheme) y e in
-      and_from _ _ (fewer kind.needs_scheme wide.needs_scheme w.needs_scheme p.0) p.1
-    where
-      fewer : (a b : Bool) → (b ≡ true → a ≡ true) → not a ≡ true → not b ≡ true
-      fewer a false f h = refl
-      fewer true true f h = h
-      fewer false true f h = absurd (false≢true (f refl))
+  wider-kind-keeps-scheme-rule x y e = grind (arith, common_steps)
 
   pub text-is-of-wider-kind : (text : List ℕ) → IsTextOf kind text → IsTextOf wide text
   text-is-of-wider-kind text x =

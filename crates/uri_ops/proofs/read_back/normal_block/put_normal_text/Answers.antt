@@ -1,7 +1,7 @@
-use Rattle.uri_ops.proofs.Common.{◌≡◌, ◌++◌, [], codes, refl, sym, ap, subst, ◌∙◌, arith, drop_all, append-nil, IsUtf8, option_map, option_and_then, str_to_ascii_lowercase, decode_unreserved, text_of, print, is_some-option_map, authority_text, Components, components, components_meaning, marked, core_text, authority_meaning, default_port_of, normal_authority, normal_authority_with_delimiter, normal_part, normal_path_text, normal_scheme, normal_text}
+use Rattle.uri_ops.proofs.Common.{codes, sym, subst, ◌∙◌, arith, drop_all, append-nil, IsUtf8, option_map, option_and_then, str_to_ascii_lowercase, text_of, is_some-option_map, authority_text, Components, components, components_meaning, core_text, authority_meaning, normal_authority, normal_text}
 use Rattle.uri_ops.specs.ComponentSets.{IsComponentSet}
 use Rattle.uri_ops.proofs.FromEnd.Blocks.{put_before}
-use Rattle.uri_ops.proofs.FromEnd.NormalParts.{normal_path_of_components, two_pieces}
+use Rattle.uri_ops.proofs.FromEnd.NormalParts.{pieces_are_normal_text}
 use Rattle.uri_ops.proofs.Normal.NormalPieces.{is_some-of-mapped-twice}
 use Rattle.uri_ops.proofs.SchemeRules.RuledParts.{ruled_components-have-normal-text}
 use Rattle.uri_ops.proofs.TextKinds.FourKinds.{one-of-four-kinds-has-sets}
@@ -38,16 +38,8 @@ returns-clause-text g c some =
     (c.put_authority-end.ensures.text kind (sym g.met.K.Kind.userinfo_set)
     (sym g.met.K.Kind.reg_name_set))) c.put_scheme.ensures.text in
     put some ∙ rw (drop_all 1024 c.args.block.now (omega arith)) (append-nil _)
-    ∙ (λ i. marked [] (normal_scheme (c.scheme-scheme.ensures i)) (codes ":")
-    ++ (normal_authority_with_delimiter kind (default_port_of rules.ports (c.scheme-scheme.ensures i))
-    p.authority ++ (normal_path_text (g.met.K.Kind.path_set i) p.scheme authority p.path
-    ++ (marked (codes "?") (normal_part (g.met.K.Kind.query_set i) (c.query.ensures i)) []
-    ++ marked (codes "#") (normal_part (g.met.K.Kind.fragment_set i) (c.fragment.ensures i)) []))))
-    ∙ ap (λ path. marked [] (normal_scheme p.scheme) (codes ":")
-    ++ (normal_authority_with_delimiter kind default p.authority
-    ++ (path ++ (marked (codes "?") (normal_part kind.query p.query) []
-    ++ marked (codes "#") (normal_part kind.fragment p.fragment) []))))
-    (normal_path_of_components kind rules.ports p)
+    ∙ pieces_are_normal_text kind rules.ports p _ _ _ _ _ _ c.scheme-scheme.ensures c.query.ensures
+    c.fragment.ensures g.met.K.Kind.path_set g.met.K.Kind.query_set g.met.K.Kind.fragment_set
     ∙ (λ i. normal_text (components_meaning kind rules.ports (record (components text) {
       authority = c.ruled_authority-authority.ensures i;
       path = c.ruled_path-path.ensures i;
