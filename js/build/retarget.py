@@ -31,9 +31,8 @@ define internal <16 x i8> @pshufb(<16 x i8> %bytes, <16 x i8> %indices) alwaysin
 }
 declare <16 x i8> @llvm.wasm.swizzle(<16 x i8>, <16 x i8>)
 """
-# What is inlined on x86-64: the parser of a kind, and the reader of a normal text. Inlined here too,
-# the core has 102 kB by gzip for the one, and 99 for the other.
-INLINED = ("uri_parts::parse::parse", "uri_ops::read_back::ruled_back::ruled_back")
+# What is inlined on x86-64, the parser of a kind. Inlined here too, the core has 102 kB by gzip.
+INLINED = ("uri_parts::parse::parse",)
 
 
 def once(text, old, new):

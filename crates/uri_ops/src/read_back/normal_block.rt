@@ -2,9 +2,9 @@
 //! section 5.3.2).
 //!
 //! Each call returns where what it puts begins, or 0 if there is no room for it and one byte more.
-ghost use Rattle.std.specs.Prelude.{◌≡◌, ◌≤◌, ◌<◌, ℕ, List, Option, [], codes, drop, is_some, option_map, true};
-ghost use Rattle.uri_pct.specs.Prelude.{left_bracket, text_of};
-ghost use Rattle.uri_parts.specs.Prelude.{Kind, authority_parts, authority_text, core_text, host_kind, marked, scheme_text, starts};
+ghost use Rattle.std.specs.Prelude.{◌≡◌, ◌≤◌, ◌<◌, ℕ, List, Option, [], codes, drop, is_some, option_map};
+ghost use Rattle.uri_pct.specs.Prelude.{text_of};
+ghost use Rattle.uri_parts.specs.Prelude.{Kind, authority_parts, authority_text, core_text, host_kind, marked, scheme_text};
 ghost use Rattle.uri_ops.specs.ComponentSets.{IsComponentSet};
 ghost use Rattle.uri_ops.specs.FromEnd.Blocks.{IsPut};
 ghost use Rattle.uri_ops.specs.FromEnd.Literals.{cased};
@@ -17,11 +17,11 @@ use crate::normalize::ruled_parts::{ruled_authority, ruled_path};
 use crate::path::slashes::begins_with_two_slashes;
 use crate::read_back::BLOCK;
 use crate::read_back::literal_back::put_back;
+use crate::read_back::normal_authority::ipv6_host_of;
 use crate::read_back::octets_back::put_component;
 use crate::read_back::path_back::put_decoded_path;
 use crate::scheme_rules::SchemeRules;
-use uri_parts::address_text::ipv6_host;
-use uri_parts::component::{Authority, HostOf, Scheme};
+use uri_parts::component::{Authority, Scheme};
 use uri_parts::core_text::Core;
 use uri_parts::kind::Kind;
 use uri_pct::encoder::{Encoder, PathEncoder};
@@ -79,31 +79,8 @@ fn put_part<E: Encoder>(
     put_text(false, before, block, end)
 }
 
-/// Puts a host in brackets into the block: an IPv6 address by its numbers (RFC 5952), and another
-/// one in lower case.
-#[inline(never)]
-fn put_bracketed_host<U: Encoder, R: Encoder>(
-    authority: Authority<'_, U, R>,
-    block: &mut [u8; BLOCK],
-    end: usize,
-) -> usize
-    requires bracketed {
-        starts left_bracket (authority_parts (authority_text authority)).host ≡ true }
-    requires end { end ≤ 1024 }
-    ensures text { let host = (authority_parts (authority_text authority.entry)).host in
-        IsPut (host_text (host_meaning R.set host (host_kind host))) end block.old result block.new }
-    ensures within { result ≤ end }
-{
-    match authority.host_parsed() {
-        HostOf::Ipv6(address) => {
-            let (host, len) = ipv6_host(&address);
-            put_text(false, &host[..len], block, end)
-        }
-        _ => put_text(true, authority.host().as_bytes(), block, end),
-    }
-}
-
-/// Puts the host of a normal authority into the block.
+/// Puts the host of a normal authority into the block. An IPv6 address is written by its numbers
+/// (RFC 5952).
 #[inline(always)]
 fn put_host<U: Encoder, R: Encoder>(
     authority: Authority<'_, U, R>,
@@ -112,14 +89,19 @@ fn put_host<U: Encoder, R: Encoder>(
 ) -> usize
     requires { end ≤ 1024 }
     ensures text { let host = (authority_parts (authority_text authority.entry)).host in
-        IsPut (host_text (host_meaning R.set host (host_kind host))) end block.old result block.new }
+        IsPut (host_text (host_meaning R.set host (host_kind host)))
+        end block.old result block.new }
     ensures within { result ≤ end }
 {
     let host = authority.host();
-    if is_bracketed(host) {
-        return put_bracketed_host(authority, block, end);
+    if !is_bracketed(host) {
+        return put_component(&R::table(), true, host, block, end);
     }
-    put_component(&R::table(), true, host, block, end)
+    let (address, len) = ipv6_host_of(Some(authority));
+    if len == 0 {
+        return put_text(true, host.as_bytes(), block, end);
+    }
+    put_text(false, &address[..len], block, end)
 }
 
 /// Puts the port of a normal authority with its `:` into the block, or nothing.

@@ -29,8 +29,8 @@ returns-clause-text g c some =
     let put = put_before _ _ 1024 _ _ c.args.block.now _ _ c.put_scheme.ensures.within
     (put_before _ _ 1024 _ _ c.args.block.now _ _ c.put_authority-end.ensures.within
     (put_before _ _ 1024 _ _ c.args.block.now _ _ c.put_path-end.ensures.within
-    (put_before _ _ 1024 _ _ c.args.block.now _ _ c.put_part-end-2.ensures.within c.put_part-end.ensures.text
-    c.put_part-end-2.ensures.text)
+    (put_before _ _ 1024 _ _ c.args.block.now _ _ c.put_part-end-2.ensures.within
+    c.put_part-end.ensures.text c.put_part-end-2.ensures.text)
     (c.put_path-end.ensures.text p.scheme authority (sym c.has_scheme.ensures)
     (is_some-of-mapped-twice (authority_meaning kind default) normal_authority p.authority
     ∙ is_some-option_map authority_text c.ruled_authority-authority.result

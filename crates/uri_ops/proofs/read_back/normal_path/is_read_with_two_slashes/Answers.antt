@@ -12,8 +12,9 @@ pub loop-start-preserved : goal.loop-start-preserved
 loop-start-preserved g c = record {
   within = omega arith;
   same = c.loop-start.invariant.same
-      ∙ first_two_bytes_of_block_decide 1022 c.loop-start.start (g.A.ReadBack.unread c.loop-start.text)
-      c.loop-start.block _ (omega arith) (omega arith) c.copy_within.ensures.after
+      ∙ first_two_bytes_of_block_decide 1022 c.loop-start.start
+      (g.A.ReadBack.unread c.loop-start.text) c.loop-start.block _ (omega arith) (omega arith)
+      c.copy_within.ensures.after
       ∙ ap has_authority c.read_back-start-in-loop-start.ensures.text;
   last = c.read_back-start-in-loop-start.ensures.end;
 }
