@@ -1,5 +1,5 @@
 -- What each step of a builder makes of its text: the text of the parts so changed.
-use Rattle.uri_ops.proofs.Common.{common_steps, arith, ◌≡◌, ℕ, ◌+◌, false, List, [], ◌++◌, length, refl, sym, ap, ◌∙◌, codes, Option, Some, None, unwrap_or, recompose, Lengths, BuilderParts, with_authority, with_fragment, with_path, with_query, with_scheme, IsDraft, after_part, part_in, parts_in}
+use Rattle.uri_ops.proofs.Common.{common_steps, arith, ◌≡◌, ℕ, false, List, [], ◌++◌, length, refl, sym, ap, ◌∙◌, codes, Option, Some, None, unwrap_or, recompose, Lengths, BuilderParts, with_authority, with_fragment, with_path, with_query, with_scheme, IsDraft, after_part, part_in, parts_in}
 use Rattle.uri_ops.proofs.Builders.Drafting.{IsDraftOfParts, recompose-with-fragment-appended, recompose-with-query-appended, text-of-parts-is-their-draft}
 
 -- building: the text of five components, each with its delimiters

@@ -1,4 +1,4 @@
-use Rattle.uri_ops.proofs.Common.{◌≡◌, ◌&&◌, false, true, arith, common_steps, subst, IsUtf8, is_some, starts, text_of}
+use Rattle.uri_ops.proofs.Common.{◌≡◌, ◌&&◌, false, true, arith, subst, IsUtf8, is_some, starts, text_of}
 use Rattle.uri_ops.proofs.Meanings.Decodable.{valid-text-is-decodable}
 use Rattle.uri_ops.proofs.FromEnd.Blocks.{put_text_is_slice}
 use Rattle.uri_ops.proofs.FromEnd.NormalParts.{normal_path_under_scheme, path_after_authority_is_unguarded, path_without_two_slashes_is_unguarded}
