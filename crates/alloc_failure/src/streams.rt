@@ -63,9 +63,10 @@ fn written<R: Abort + Print>(rt: &R, alloc: Global, job: &Job<'_>, input: &str, 
     }
 }
 
-/// Tests the commands of `urilines` that make one text of another while memory is denied.
+/// Tests the commands of `urilines` on a field of each line while memory is denied: first those that
+/// make one text of another.
 #[test]
-fn texts_of_lines(rt: HostRuntime) {
+fn fields_of_lines(rt: HostRuntime) {
     let base = Uri::<&str>::parse("s:/a").expect(&rt, "base");
     for (command, input, text) in [
         // The third line does not fit into the buffer.
@@ -89,22 +90,6 @@ fn texts_of_lines(rt: HostRuntime) {
             "a b|c\na //a\\@b\n",
             "a b%7Cc\na error: unexpected character at index 3\n",
         ),
-    ] {
-        written(
-            &rt,
-            rt.alloc(),
-            &on_fields(Command::Each(command)),
-            input,
-            text,
-        );
-    }
-    end(&rt, rt.alloc());
-}
-
-/// Tests the commands of `urilines` that read lines or pass them on while memory is denied.
-#[test]
-fn lines_that_are_read(rt: HostRuntime) {
-    for (command, input, text) in [
         (
             LineCommand::Parse(KindName::IriRef),
             "a b?c\n",

@@ -1,6 +1,5 @@
 //! Where the pairs of a query are.
-ghost use Rattle.std.specs.Prelude.{◌≡◌, ◌==◌, ◌<◌, ◌≤◌, [], MatchOption, drop, false, length};
-ghost use Rattle.std.specs.Prelude.{slice_index};
+ghost use Rattle.std.specs.Prelude.{◌≡◌, ◌==◌, ◌<◌, ◌≤◌, [], MatchOption, drop, false, length, slice_index};
 ghost use Rattle.uri_query.specs.Pairs.{ampersand, nonempty_substrings};
 ghost use Rattle.uri_query.specs.Places.{IsNextPair};
 
