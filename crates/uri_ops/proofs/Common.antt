@@ -74,8 +74,8 @@ pub use Rattle.uri_ops.specs.Target.{dotless_if_absolute, guarded, TargetError, 
 pub use Rattle.uri_ops.specs.declared.build.draft.Draft.{Draft}
 pub use Rattle.uri_ops.specs.declared.build.lengths.Lengths.{Lengths}
 pub use Rattle.uri_ops.specs.declared.resolve.error.ResolveError.{ResolveError}
-pub use Rattle.uri_ops.specs.declared.resolve.target_case.TargetCase.TheVariants.{WithScheme, WithAuthority, EmptyPath, AbsolutePath, MergedPath}
-pub use Rattle.uri_parts.proofs.Offered.{is_authority_for-sound, is_authority_for-complete, authority_parts-are-unique, names_exclude_delimiters, empty_is_authority, reg_name_host_is_valid, host_is_at_positions, holds, utf8_before_marks, ipv6-text-is-address-text, ipv4_value-sound, ipv6_value-sound, ipv4-text-is-digits-and-dots, ipv4-text-lacks-name-marks, ipv6-text-lacks-excluded-marks, ipvfuture-text-lacks-excluded-marks, joined-texts-lack-marks, hexdigit_is_userinfo_char, address-in-brackets-is-utf8, is_host-sound, lacking_text_does_not_begin_with, is_host-complete, IsEmptyOrMarked, text-is-cut-at-first-mark, cut-at-end-of-text-without-marks, slice_range-from-start, boundary-at-fragment-mark, query_text, IsEmptyOrMarked-query_text, cons_is_not_nil, fragment_text, authority_has_abempty_path, boundary_after_mark, length-before_hash, before_hash, split-text-is-before-fragment-and-fragment, slice-between-prefix-and-suffix, recompose-components, components-are-split-of-text, equal-to-true-is-IsTrue, components_of_parts, scheme_set_lacks_percent, scheme_set_excludes_delimiters, only-split-is-components, valid_text_lacks_excluded_marks, utf8_around_ascii_byte, scheme-rule-holds-without-need, uri_has_scheme, uri_is_uri_ref, iri_has_scheme, iri_is_iri_ref}
+pub use Rattle.uri_ops.specs.declared.resolve.target_case.TargetCase.TheVariants.{WithScheme, AbsolutePath}
+pub use Rattle.uri_parts.proofs.Offered.{is_authority_for-sound, is_authority_for-complete, authority_parts-are-unique, names_exclude_delimiters, empty_is_authority, reg_name_host_is_valid, host_is_at_positions, holds, utf8_before_marks, ipv6-text-is-address-text, ipv4_value-sound, ipv6_value-sound, ipv4-text-is-digits-and-dots, ipv4-text-lacks-name-marks, ipv6-text-lacks-excluded-marks, ipvfuture-text-lacks-excluded-marks, joined-texts-lack-marks, hexdigit_is_userinfo_char, address-in-brackets-is-utf8, is_host-sound, lacking_text_does_not_begin_with, is_host-complete, IsEmptyOrMarked, text-is-cut-at-first-mark, cut-at-end-of-text-without-marks, slice_range-from-start, boundary-at-fragment-mark, query_text, cons_is_not_nil, fragment_text, authority_has_abempty_path, boundary_after_mark, length-before_hash, before_hash, split-text-is-before-fragment-and-fragment, slice-between-prefix-and-suffix, recompose-components, components-are-split-of-text, equal-to-true-is-IsTrue, components_of_parts, scheme_set_lacks_percent, scheme_set_excludes_delimiters, only-split-is-components, valid_text_lacks_excluded_marks, utf8_around_ascii_byte, scheme-rule-holds-without-need, uri_has_scheme, uri_is_uri_ref, iri_has_scheme, iri_is_iri_ref}
 unfoldable pub use Rattle.uri_parts.proofs.Offered.{is_address_char, is_address_text}
 pub use Rattle.uri_parts.specs.Authority.{authority_parts, AuthorityParts, IsAuthorityFor, LackAuthorityDelimiters, recompose_authority}
 unfoldable pub use Rattle.uri_parts.specs.Authority.{is_authority_for}

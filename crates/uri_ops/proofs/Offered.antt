@@ -9,6 +9,7 @@ pub use Rattle.uri_ops.proofs.Builders.BuilderGrowth.{string_len-is-length-of-by
 pub use Rattle.uri_ops.proofs.Builders.BuilderHosts.{valid-name-is-host}
 pub use Rattle.uri_ops.proofs.Builders.Built.{accepted-parts-have-their-text}
 pub use Rattle.uri_ops.proofs.FromEnd.Blocks.{rest_of_block_is_text}
+pub use Rattle.uri_ops.proofs.FromEnd.NormalParts.{path_after_authority_gets_no_guard}
 pub use Rattle.uri_ops.proofs.Meanings.AllowedParts.{empty-text-is-set-text, set-text-from-utf8, set-text-is-utf8, set-text-is-valid, validity-splits-at-slash}
 unfoldable pub use Rattle.uri_ops.proofs.Meanings.AllowedParts.{is_set_text}
 pub use Rattle.uri_ops.proofs.Meanings.AsciiCharacters.{ascii-bytes-are-utf8, ascii-in-test-is-set-text, is_ascii_in}

@@ -1,6 +1,6 @@
 -- Targets of which no dot segment is left to remove: RFC 3986, section 5.2.2.
 use Rattle.std.proofs.lemmas.Grind.{common_steps}
-use Rattle.uri_relative.proofs.Common.{◌≡◌, ℕ, Bool, true, false, cond, List, ◌∷◌, ◌++◌, ◌&&◌, arith, drop, refl, sym, ap, ◌∙◌, ⊎_elim, codes, Option, None, IfNone, is_some, is_none, IsCharBoundary, IsUtf8, and-false, cases_Bool, cond-true, cond-false, false≢true, nat_tests, eq_true_from_IsTrue, slash, Components, starts, has_authority, equal-to-true-is-IsTrue, IsAbsolute, lacks_dot_segments, remove_dot_segments, underflows, with_final_path, dotless_if_absolute, underflows_if_absolute, guarded, removing-dots-keeps-absolute, removing-dots-leaves-no-dot-segment, remove-dots-of-dotless, dotless-path-does-not-underflow, two-slashes-begin-with-slash, guard-is-removed-as-dot-segment, dotless_if_absolute-is-idempotent, absolute-path-is-slash-and-rest, IsUnguarded, is_guarded}
+use Rattle.uri_relative.proofs.Common.{◌≡◌, ℕ, Bool, true, false, cond, List, ◌∷◌, ◌++◌, ◌&&◌, arith, drop, refl, sym, ap, ◌∙◌, ⊎_elim, codes, Option, None, IfNone, is_some, is_none, IsCharBoundary, IsUtf8, and-false, cases_Bool, cond-true, cond-false, false≢true, nat_tests, eq_true_from_IsTrue, slash, Components, starts, has_authority, equal-to-true-is-IsTrue, IsAbsolute, lacks_dot_segments, remove_dot_segments, underflows, with_final_path, dotless_if_absolute, underflows_if_absolute, guarded, removing-dots-keeps-absolute, removing-dots-leaves-no-dot-segment, remove-dots-of-dotless, dotless-path-does-not-underflow, two-slashes-begin-with-slash, guard-is-removed-as-dot-segment, dotless_if_absolute-is-idempotent, absolute-path-is-slash-and-rest, path_after_authority_gets_no_guard, IsUnguarded, is_guarded}
 use Rattle.uri_relative.proofs.Climbs.{underflows-follows-dots}
 use Rattle.uri_relative.proofs.Ways.{guard-counts-as-no-segment, rootless-path-has-no-authority}
 
@@ -95,19 +95,14 @@ path-without-dots-is-unguarded : (t : Components) → IsAbsolute t.path → remo
 path-without-dots-is-unguarded t h e guards =
     grind (arith, nat_tests, removing-dots-leaves-no-dot-segment)
 
--- targets to relativize: a path after an authority gets no guard `/.`; a: the authority
-path-after-authority-gets-no-guard : (a : Option (List ℕ)) (path : List ℕ) → is_some a ≡ true
-    → guarded a path ≡ path
-path-after-authority-gets-no-guard a path e = grind (arith, false≢true)
-
 -- targets to relativize: the path after an authority has no guard `/.` to leave out
 pub path-after-authority-is-unguarded : (t : Components) → is_some t.authority ≡ true
     → IsAbsolute t.path → with_final_path t ≡ t → IsUnguarded t t.path
 path-after-authority-is-unguarded t some h done =
     let q = remove_dot_segments t.path in
-    let e : q ≡ t.path = sym (path-after-authority-gets-no-guard t.authority q some)
+    let e : q ≡ t.path = sym (path_after_authority_gets_no_guard t.authority q some)
     ∙ guarded-dotless-path-is-the-path t h done in
-    grind (arith, path-without-dots-is-unguarded, path-after-authority-gets-no-guard)
+    grind (arith, path-without-dots-is-unguarded, path_after_authority_gets_no_guard)
 
 -- targets to relativize: without an authority (a), a path is guarded as it is for None
 guard-is-that-without-authority : (a : Option (List ℕ)) (path : List ℕ) → is_some a ≡ false

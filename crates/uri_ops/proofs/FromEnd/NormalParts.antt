@@ -36,13 +36,13 @@ pub normal_path_under_scheme : (set : TableSet) (scheme authority : Option (List
 normal_path_under_scheme set scheme authority path e s = grind (arith, common_steps)
 
 -- normal paths: only one that would be parsed as an authority, where there is none, is guarded
-pub path_after_authority_is_unguarded : (authority : Option (List ℕ)) (path : List ℕ)
+pub path_after_authority_gets_no_guard : (authority : Option (List ℕ)) (path : List ℕ)
     → is_some authority ≡ true → guarded authority path ≡ path
-path_after_authority_is_unguarded authority path none = grind (arith, common_steps)
+path_after_authority_gets_no_guard authority path none = grind (arith, common_steps)
 
-pub path_without_two_slashes_is_unguarded : (authority : Option (List ℕ)) (path : List ℕ)
+pub path_without_two_slashes_gets_no_guard : (authority : Option (List ℕ)) (path : List ℕ)
     → has_authority path ≡ false → guarded authority path ≡ path
-path_without_two_slashes_is_unguarded authority path none = grind (arith, common_steps)
+path_without_two_slashes_gets_no_guard authority path none = grind (arith, common_steps)
 
 -- normal texts: the pieces, of components and sets found equal to these, are the whole text
 pub pieces_are_normal_text : (kind : Kind) (ports : PortFunction) (p : Components)

@@ -1,7 +1,7 @@
 use Rattle.uri_ops.proofs.Common.{◌≡◌, ◌&&◌, false, true, arith, subst, IsUtf8, is_some, starts, text_of}
 use Rattle.uri_ops.proofs.Meanings.Decodable.{valid-text-is-decodable}
 use Rattle.uri_ops.proofs.FromEnd.Blocks.{put_text_is_slice}
-use Rattle.uri_ops.proofs.FromEnd.NormalParts.{normal_path_under_scheme, path_after_authority_is_unguarded, path_without_two_slashes_is_unguarded}
+use Rattle.uri_ops.proofs.FromEnd.NormalParts.{normal_path_under_scheme, path_after_authority_gets_no_guard, path_without_two_slashes_gets_no_guard}
 use Rattle.uri_ops.proofs.Normal.NormalPieces.{absolute-is-leading-slash, path-with-dots-is-normal-when-decoded}
 use Rattle.uri_ops.proofs.read_back.normal_block.put_path.Goals as goal
 
@@ -23,7 +23,7 @@ returns-then-not-removes_dots-clause-text g c = λ scheme authority s a some.
           let on : is_some scheme ≡ true = grind (arith) in
           let absolute : starts 47 path ≡ true = grind (arith, absolute-is-leading-slash) in
           let under = normal_path_under_scheme g.E.Encoder.set scheme authority path on absolute in
-          grind (arith, path_after_authority_is_unguarded)
+          grind (arith, path_after_authority_gets_no_guard)
     ]
 
 pub returns-clause-text : goal.returns-clause-text
@@ -35,4 +35,4 @@ returns-clause-text g c = λ scheme authority s a some.
     let slice = put_text_is_slice _ _ _ _ _ c.told-block c.put_decoded_path-start.array_long
     c.requires.end c.put_decoded_path-start.ensures.within c.put_decoded_path-start.ensures.text
     some in
-    grind (arith, path_without_two_slashes_is_unguarded)
+    grind (arith, path_without_two_slashes_gets_no_guard)
