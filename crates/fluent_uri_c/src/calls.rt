@@ -1,5 +1,5 @@
 //! The batches: a call for each text of a column.
-ghost use Rattle.std.specs.Prelude.{◌≡◌, Bool, false, IfErr, IfOk, IsTrue, option_map};
+ghost use Rattle.std.specs.Prelude.{◌≡◌, Bool, false, if◌then◌else◌, IfErr, IfOk, IsTrue, option_map};
 ghost use Rattle.std.specs.Result.{result_ok};
 ghost use Rattle.fluent_uri.specs.Prelude.{reference_text};
 ghost use Rattle.fluent_uri_c.specs.Columns.{LeavesColumn, buffers, column32, column64, call_result_bytes};
@@ -85,10 +85,11 @@ impl Call for ToUri {
 }
 
 /// Resolves references against a base of a kind by options: the base's bytes, and what these are
-/// parsed to.
+/// parsed to. If `normalizes`, the targets are normalised, and the options are those of that.
 #[derive(Clone, Copy)]
 struct Resolve<'a> {
     alloc: Global,
+    normalizes: bool,
     kind: u32,
     options: u32,
     bytes: &'a [u8],
@@ -96,50 +97,27 @@ struct Resolve<'a> {
 }
 
 impl<'b> Call for Resolve<'b> {
-    ghost definition = { λ call. resolving call.kind call.options call.bytes.now };
+    ghost definition = { λ call.
+        (if call.normalizes then resolving_normalized else resolving)
+        call.kind call.options call.bytes.now };
 
     ghost is_ready = { λ call. IsBaseOf call.kind call.bytes.now call.base };
 
     /// Returns whether the numbers are a base's kind, a URI or an IRI, and options of this call,
     /// and the base can be there.
     fn is_valid(&self) -> bool {
+        let option = if self.normalizes { 2 } else { 4 };
         (self.kind == 0 || self.kind == 2)
-            && (self.options == 0 || self.options == 4)
+            && (self.options == 0 || self.options == option)
             && is_possible_length(self.bytes)
     }
 
-    /// Returns the target of a reference against the base, if it has one.
+    /// Returns the target of a reference against the base, or its normal form, if it has one.
     fn call<'a>(&self, text: &'a [u8]) -> Result<Option<CallResult<'a>>, AllocError> {
+        if self.normalizes {
+            return batch_result(self.base.normal_target(self.alloc, self.options, text));
+        }
         batch_result(self.base.target(self.alloc, self.options, text))
-    }
-}
-
-/// Resolves references against a base of a kind, and normalises the targets by options.
-#[derive(Clone, Copy)]
-struct ResolveNormalized<'a> {
-    alloc: Global,
-    kind: u32,
-    options: u32,
-    bytes: &'a [u8],
-    base: Base<'a>,
-}
-
-impl<'b> Call for ResolveNormalized<'b> {
-    ghost definition = { λ call. resolving_normalized call.kind call.options call.bytes.now };
-
-    ghost is_ready = { λ call. IsBaseOf call.kind call.bytes.now call.base };
-
-    /// Returns whether the numbers are a base's kind, a URI or an IRI, and options of this call,
-    /// and the base can be there.
-    fn is_valid(&self) -> bool {
-        (self.kind == 0 || self.kind == 2)
-            && (self.options == 0 || self.options == 2)
-            && is_possible_length(self.bytes)
-    }
-
-    /// Returns the normal form of the target of a reference against the base, if it has one.
-    fn call<'a>(&self, text: &'a [u8]) -> Result<Option<CallResult<'a>>, AllocError> {
-        batch_result(self.base.normal_target(self.alloc, self.options, text))
     }
 }
 
@@ -208,6 +186,7 @@ pub extern "C" fn fluent_uri_resolve_batch(
 {
     let call = Resolve {
         alloc,
+        normalizes: false,
         kind,
         options,
         bytes: base,
@@ -234,8 +213,9 @@ pub extern "C" fn fluent_uri_resolve_normalized_batch(
         (column32 texts.now offsets.now) (buffers out.old out_offsets.old valid.old)
         (buffers out.new out_offsets.new valid.new) outcome.new result }
 {
-    let call = ResolveNormalized {
+    let call = Resolve {
         alloc,
+        normalizes: true,
         kind,
         options,
         bytes: base,
@@ -309,6 +289,7 @@ pub extern "C" fn fluent_uri_resolve_batch64(
 {
     let call = Resolve {
         alloc,
+        normalizes: false,
         kind,
         options,
         bytes: base,
@@ -336,8 +317,9 @@ pub extern "C" fn fluent_uri_resolve_normalized_batch64(
         (column64 texts.now offsets.now) (buffers out.old out_offsets.old valid.old)
         (buffers out.new out_offsets.new valid.new) outcome.new result }
 {
-    let call = ResolveNormalized {
+    let call = Resolve {
         alloc,
+        normalizes: true,
         kind,
         options,
         bytes: base,
