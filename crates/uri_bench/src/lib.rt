@@ -29,6 +29,20 @@ macro_rules! length_of {
     }};
 }
 
+/// Resolves a URI reference by a resolver of a URI so many times, and returns the length of the
+/// target, or `REJECTED`.
+macro_rules! resolved_by {
+    ($resolver:ident, $call:path; $alloc:expr, $base:expr, $reference:expr, $rounds:expr) => {
+        match (call::parse_uri($base), call::parse_uri_ref($reference)) {
+            (Ok(base), Ok(reference)) => {
+                let resolver = $resolver::with_base(base);
+                length_of!($rounds, $call($alloc, &resolver, reference))
+            }
+            _ => REJECTED,
+        }
+    };
+}
+
 /// Makes a call so many times with the text, and with the base if it needs one. `tools/bench/run`
 /// has the numbers of the calls.
 #[unsafe(no_mangle)]
@@ -55,7 +69,10 @@ pub extern "C" fn bench(alloc: Global, work: u32, text: &[u8], base: &[u8], roun
         12 => decode(alloc, text, rounds),
         13 => length_of!(rounds, call::encode(alloc, text)),
         14 => length_of!(rounds, call::to_uri(alloc, text)),
-        15 => build(alloc, text, rounds),
+        15 => match call::parse_uri(text) {
+            Ok(value) => length_of!(rounds, call::build(alloc, value)),
+            Err(_) => REJECTED,
+        },
         16 => links(alloc, base, text, rounds),
         17 => length_of!(rounds, call::copy(alloc, text)),
         18 => length_of!(rounds, call::copy_uri_ref(alloc, text)),
@@ -64,8 +81,8 @@ pub extern "C" fn bench(alloc: Global, work: u32, text: &[u8], base: &[u8], roun
         21 => length_of!(rounds, call::mend_copy(alloc, text)),
         22 => normalize_by_rules(alloc, text, RuleSet::DefaultPorts, rounds),
         23 => normalize_by_rules(alloc, text, RuleSet::StandardRules, rounds),
-        24 => resolve(alloc, base, text, rounds),
-        25 => resolve_basic(alloc, base, text, rounds),
+        24 => resolved_by!(Resolver, call::resolve; alloc, base, text, rounds),
+        25 => resolved_by!(BasicResolver, call::resolve_basic; alloc, base, text, rounds),
         _ => REJECTED,
     }
 }
@@ -88,32 +105,6 @@ fn resolve_values(alloc: Global, base: &str, reference: &str, rounds: u64) -> u6
     length_of!(rounds, call::resolve_values(alloc, base, reference))
 }
 
-/// Resolves a URI reference by a resolver in so many counted rounds, and returns the length of the
-/// target, or `REJECTED`.
-fn resolve(alloc: Global, base: &str, reference: &str, rounds: u64) -> u64 {
-    let Ok(base) = call::parse_uri(base) else {
-        return REJECTED;
-    };
-    let Ok(reference) = call::parse_uri_ref(reference) else {
-        return REJECTED;
-    };
-    let resolver = Resolver::with_base(base);
-    length_of!(rounds, call::resolve(alloc, &resolver, reference))
-}
-
-/// Resolves a URI reference by the basic algorithm in so many counted rounds, and returns the
-/// length of the target, or `REJECTED`.
-fn resolve_basic(alloc: Global, base: &str, reference: &str, rounds: u64) -> u64 {
-    let Ok(base) = call::parse_uri(base) else {
-        return REJECTED;
-    };
-    let Ok(reference) = call::parse_uri_ref(reference) else {
-        return REJECTED;
-    };
-    let resolver = BasicResolver::with_base(base);
-    length_of!(rounds, call::resolve_basic(alloc, &resolver, reference))
-}
-
 /// Decodes the path of an IRI in so many counted rounds, and returns the length of the text, or
 /// `REJECTED`.
 fn decode(alloc: Global, text: &str, rounds: u64) -> u64 {
@@ -121,15 +112,6 @@ fn decode(alloc: Global, text: &str, rounds: u64) -> u64 {
         return REJECTED;
     };
     length_of!(rounds, call::decode(alloc, value.path()))
-}
-
-/// Builds a URI of the components of another in so many counted rounds, and returns its length, or
-/// `REJECTED`.
-fn build(alloc: Global, text: &str, rounds: u64) -> u64 {
-    let Ok(value) = call::parse_uri(text) else {
-        return REJECTED;
-    };
-    length_of!(rounds, call::build(alloc, value))
 }
 
 /// Notes each line in a new register in so many counted rounds, and returns how many targets it has
