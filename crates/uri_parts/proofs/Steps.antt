@@ -3,7 +3,7 @@ use Rattle.uri_parts.proofs.Common.{⊤, error_from_end, error_from_fragment, er
 use Rattle.uri_pct.proofs.Offered.{digit_masks_are_digit_set, scheme_masks_are_scheme_set, segment_nz_nc_masks_are_segment_nz_nc_set, isegment_nz_nc_masks_are_isegment_nz_nc_set}
 use Rattle.uri_parts.proofs.Authorities.AuthorityCuts.{suffix, drop-after-drop-of-one}
 use Rattle.uri_parts.proofs.Parsing.NextBytes.{starts_at_position, stray_percent_ends_scan, authority_may_end_at_end, authority_may_end_at_byte, authority_may_end_at_slash, text_ends_where_position_is_length, name_has_no_port_where_authority_may_end}
-use Rattle.uri_parts.proofs.Parsing.WebSchemes.{scheme_of_http_ends_at_4, scheme_of_https_ends_at_5}
+use Rattle.uri_parts.proofs.Parsing.WebSchemes.{letters_before_colon_are_from_A, scheme_of_http_ends_at_4, scheme_of_https_ends_at_5}
 use Rattle.uri_parts.proofs.Refusals.Colons.{last_colon-at-colon, last_colon-stays-past-other-byte, last_colon_is_below_position}
 use Rattle.uri_parts.proofs.Refusals.Digits.{digits_end-stays-at-other-byte, digits_end-stays-where-none-may-follow, digits_end-stays-past-text, octets_end-of-no-octets-stays, octets_end-goes-on-after-dot, octets_end-fails-without-dot}
 
@@ -81,6 +81,8 @@ authority = tt
 
 -- a whole text
 pub ruleset schemes = (scheme_masks_are_scheme_set)
+
+pub ruleset letters = (letters_before_colon_are_from_A)
 
 pub ruleset web_schemes = (scheme_of_http_ends_at_4, scheme_of_https_ends_at_5)
 

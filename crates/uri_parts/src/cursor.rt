@@ -204,7 +204,7 @@ impl<'a> Cursor<'a> {
     {
         let bytes = self.text.as_bytes();
         let i = self.position;
-        if bytes.len() - i > 1 && bytes[i] == b'/' && bytes[i + 1] == b'/' {
+        if i + 1 < bytes.len() && bytes[i] == b'/' && bytes[i + 1] == b'/' {
             self.position = i + 2;
             true
         } else {

@@ -246,9 +246,8 @@ fn pass_before_path<K: Kind>(cursor: &mut Cursor<'_>) -> Result<BeforePath, Pars
         return pass_authority::<K>(cursor, scheme.end);
     }
     if scheme.has_colon {
-        let text = cursor.text();
-        if !text.as_bytes()[0].is_ascii_alphabetic() {
-            return Err(Cursor::new(text).unexpected());
+        if !scheme.is_scheme {
+            return Err(Cursor::new(cursor.text()).unexpected());
         }
         return Ok(BeforePath {
             path_start: cursor.position(),

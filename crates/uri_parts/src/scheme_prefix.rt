@@ -63,18 +63,22 @@ pub(crate) struct SchemePrefix {
     pub end: usize,
     /// Whether `:` follows them.
     pub has_colon: bool,
+    /// Whether they begin with a letter, and `:` follows them.
+    pub is_scheme: bool,
     /// Whether they begin with a letter, and `://` follows them.
     pub has_authority: bool,
 }
 
 /// Passes what may be a scheme at the beginning of a text, and the `:` after it. If it is a scheme,
 /// the `//` after the `:` is passed too.
-#[tactic(auto, using(crate::proofs::Steps::schemes))]
+#[tactic(auto, using(crate::proofs::Steps::schemes, crate::proofs::Steps::letters))]
 #[inline(always)]
 pub(crate) fn pass_scheme(cursor: &mut Cursor<'_>) -> SchemePrefix
     requires { cursor_position cursor.old ≡ 0 }
     ensures end { result.end ≡ valid_prefix scheme_set (cursor_text cursor.old) }
     ensures colon { result.has_colon ≡ starts colon (after scheme_set (cursor_text cursor.old)) }
+    ensures scheme { result.is_scheme
+        ≡ (result.has_colon && is_ascii_alphabetic (slice_index (cursor_text cursor.old) 0)) }
     ensures authority { let text = cursor_text cursor.old in result.has_authority
         ≡ (result.has_colon && (is_ascii_alphabetic (slice_index text 0)
         && has_authority (drop 1 (after scheme_set text)))) }
@@ -91,6 +95,7 @@ pub(crate) fn pass_scheme(cursor: &mut Cursor<'_>) -> SchemePrefix
         return SchemePrefix {
             end,
             has_colon: true,
+            is_scheme: true,
             has_authority: true,
         };
     }
@@ -99,13 +104,16 @@ pub(crate) fn pass_scheme(cursor: &mut Cursor<'_>) -> SchemePrefix
         return SchemePrefix {
             end,
             has_colon: false,
+            is_scheme: false,
             has_authority: false,
         };
     }
-    let has_authority = text.as_bytes()[0].is_ascii_alphabetic() && cursor.skip_slashes();
+    // The first byte is `:` or may be in a scheme. Of these bytes, only letters are from `A` on.
+    let is_scheme = text.as_bytes()[0] >= b'A';
     SchemePrefix {
         end,
         has_colon: true,
-        has_authority,
+        is_scheme,
+        has_authority: is_scheme && cursor.skip_slashes(),
     }
 }
