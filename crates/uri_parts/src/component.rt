@@ -10,7 +10,7 @@ pub use crate::connect::{SocketError, SocketTarget};
 use crate::net::{Ipv4Addr, Ipv6Addr};
 use crate::printing::is_plain;
 pub use crate::scheme::Scheme;
-use crate::slicing::{after_mark, cut_before};
+use crate::slicing::after_mark;
 use std::alloc::AllocError;
 use std::fmt;
 use std::marker::PhantomData;
@@ -163,13 +163,10 @@ impl<'a, U: Encoder, R: Encoder> Authority<'a, U, R> {
     {
         let host = self.host();
         match after_mark(host, b'[') {
-            Some(rest) => {
-                let (address, _) = cut_before(rest, b"]");
-                match Ipv6Addr::parse(address) {
-                    Some(address) => Host::Ipv6(address),
-                    None => Host::IpvFuture,
-                }
-            }
+            Some(rest) => match Ipv6Addr::parse(&rest[..rest.len() - 1]) {
+                Some(address) => Host::Ipv6(address),
+                None => Host::IpvFuture,
+            },
             None => match Ipv4Addr::parse(host) {
                 Some(address) => Host::Ipv4(address),
                 None => Host::RegName(EStr::new_or_panic(host)),

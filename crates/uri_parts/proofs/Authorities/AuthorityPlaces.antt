@@ -1,6 +1,6 @@
 -- At their positions the parts of an authority can be cut out, and what is cut out is them.
 use Rattle.std.proofs.lemmas.Grind.{common_steps}
-use Rattle.uri_parts.proofs.Common.{◌≡◌, ℕ, ◌+◌, ◌-◌, ◌<◌, ◌≤◌, true, false, eqb, List, [], ◌∷◌, ◌++◌, length, take, drop, refl, sym, ap, subst, ◌∙◌, arith, not, ◌||◌, ◌⊎◌, inl, append_assoc, append-nil, length-append, codes, Some, None, Option, slice_range, is_some, drop-drop, option_map_or, IsUtf8, IsCharBoundary, chars, drop-append_seam, take-append_seam, IsCharBoundary-start, IsCharBoundary-before_ascii, ne_eqb, and_from, or_right, cond-true, cond-false, bytes_eq-Decides, TableSet, digit_set, is_valid_for, tokens_from_chars, IsValidFor, marked, starts, is_host, host_kind, name_kind, literal_kind, literal_of, ipv4_value, ipv6_value, recompose_authority, authority_parts, is_authority_for, host_start_of, host_end_of, delimited_length, nat_tests}
+use Rattle.uri_parts.proofs.Common.{get_or, ◌≡◌, ℕ, ◌+◌, ◌-◌, ◌<◌, ◌≤◌, true, false, eqb, List, [], ◌∷◌, ◌++◌, length, take, drop, refl, sym, ap, subst, ◌∙◌, arith, not, ◌||◌, ◌⊎◌, inl, append_assoc, append-nil, length-append, codes, Some, None, Option, slice_range, is_some, drop-drop, option_map_or, IsUtf8, IsCharBoundary, chars, drop-append_seam, take-append_seam, IsCharBoundary-start, IsCharBoundary-before_ascii, ne_eqb, and_from, or_right, cond-true, cond-false, bytes_eq-Decides, TableSet, digit_set, is_valid_for, tokens_from_chars, IsValidFor, marked, starts, is_host, host_kind, name_kind, literal_kind, literal_of, ipv4_value, ipv6_value, recompose_authority, authority_parts, is_authority_for, host_start_of, host_end_of, delimited_length, nat_tests}
 use Rattle.uri_parts.proofs.Splitting.Places.{get_or-after-prefix, boundary_after_mark}
 
 -- authorities: what the test of one says of its components
@@ -148,6 +148,27 @@ pub reg_name_host_is_valid : (names : TableSet) (host : List ℕ) → is_host na
 unfolding is_host
 reg_name_host_is_valid names host h s v = sym (ap (λ o. is_some o || is_valid_for names host) v)
     ∙ sym (cond-false _ _ _ s) ∙ h
+
+-- authorities: after the `[` (91) of a host in brackets is its address, and then a `]`
+pub host_in_brackets_is_closed : (names : TableSet) (host rest : List ℕ)
+    → is_host names host ≡ true → starts 91 host ≡ true → rest ≡ drop 1 host
+    → IsCharBoundary rest (length rest - 1) × (slice_range rest 0 (length rest - 1) ≡ literal_of host)
+unfolding is_host
+host_in_brackets_is_closed names host rest h s e =
+    let whole : drop 1 host ≡ literal_of host ++ codes "]" =
+    grind (arith, nat_tests, bytes_eq-Decides) in
+    let is : rest ≡ literal_of host ++ codes "]" = e ∙ whole in
+    let long : length rest ≡ length (literal_of host) + 1 = ap length is
+    ∙ length-append (literal_of host) (codes "]") in
+    let end : length rest - 1 ≡ length (literal_of host) = omega (arith, long) in
+    let last : get_or rest (length rest - 1) 0 ≡ 93 = ap (λ t. get_or t (length rest - 1) 0) is
+    ∙ ap (λ n. get_or (literal_of host ++ codes "]") n 0) end
+    ∙ get_or-after-prefix (literal_of host) [] 93 in (
+      IsCharBoundary-before_ascii rest (length rest - 1) (omega (arith, long))
+          (omega (arith, last)),
+      ap (λ n. take n rest) (omega (arith, long)) ∙ ap (take (length (literal_of host))) is
+          ∙ take-append_seam (literal_of host) (codes "]"),
+    )
 
 -- authorities: a host without `[` (91) is an IPv4 address if it has the value o of one, else a name
 pub kind_of_unbracketed_host : (host : List ℕ) (o : Option (List ℕ)) → starts 91 host ≡ false
