@@ -41,9 +41,28 @@ impl SegmentMode for Decoded<'_> {
     }
 }
 
+/// Appends a path that begins with `/`, decoded and without its dot segments. Returns whether a
+/// double dot had nothing left to remove. A double dot removes the last segment that was appended.
+fn push_decoded_segments(table: &Table, path: &str, out: &mut String) -> Result<bool, AllocError>
+    requires absolute { IsAbsolute path.now }
+    requires valid { IsValidFor (set_of table.now) path.now }
+    requires set { IsComponentSet (codes "?#[]") (set_of table.now) }
+    requires slash { (set_of table.now).ascii slash ≡ true }
+    ensures text { OnOk result (Pushes out.old out.new
+        (print (decode_unreserved (set_of table.now) (remove_dot_segments path.now)))) }
+    ensures underflow { IfOk result (λ underflowed. underflowed ≡ underflows path.now) }
+{
+    let start = out.len();
+    out.push('/')?;
+    push_segments(Decoded { table }, &path[1..], start, out)
+}
+
 /// Appends a path that begins with `/` as it is in a normal text but for a guard before it: with
 /// its decodable octets decoded, and without its dot segments. Returns whether a double dot had
-/// nothing left to remove. A double dot removes the last segment that was appended.
+/// nothing left to remove.
+///
+/// It is inlined, as `push_decoded` is.
+#[inline(always)]
 pub(crate) fn push_decoded_path(
     table: &Table,
     path: &str,
@@ -57,12 +76,10 @@ pub(crate) fn push_decoded_path(
         (print (decode_unreserved (set_of table.now) (remove_dot_segments path.now)))) }
     ensures underflow { IfOk result (λ underflowed. underflowed ≡ underflows path.now) }
 {
-    if !has_dot_segments(path) {
-        push_decoded(table, false, path, out)?;
-        return Ok(false);
+    if has_dot_segments(path) {
+        let table = *table;
+        return push_decoded_segments(&table, path, out);
     }
-    let start = out.len();
-    out.push('/')?;
-    let underflowed = push_segments(Decoded { table }, &path[1..], start, out)?;
-    Ok(underflowed)
+    push_decoded(table, false, path, out)?;
+    Ok(false)
 }

@@ -21,6 +21,7 @@ use uri_pct::encoder::Encoder;
 /// positions.
 ///
 /// After an error, part of it may have been appended.
+#[inline(always)]
 pub(crate) fn push_authority<U: Encoder, R: Encoder, S: SchemeRules>(
     authority: Option<Authority<'_, U, R>>,
     scheme: Option<Scheme<'_>>,
@@ -81,7 +82,7 @@ fn push_userinfo<U: Encoder, R: Encoder>(
 /// 5952), and another one gets ASCII letters in lower case.
 ///
 /// It is a function of its own, since a function clears the room for a parsed host at its call.
-#[inline(always)]
+#[inline(never)]
 fn push_bracketed_host<U: Encoder, R: Encoder>(
     authority: Authority<'_, U, R>,
     out: &mut String,

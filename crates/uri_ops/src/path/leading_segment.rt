@@ -168,8 +168,8 @@ pub(crate) fn leading_dot_segment(path: &str) -> LeadingDots
     if begins_with_single_dot_segment(bytes) {
         return LeadingDots::SingleDot(next_segment_start(path, 1));
     }
-    if begins_with_dot(bytes) {
-        return leading_segment(path);
+    if dot_len(bytes) == 0 {
+        return LeadingDots::NoDots;
     }
-    LeadingDots::NoDots
+    leading_segment(path)
 }

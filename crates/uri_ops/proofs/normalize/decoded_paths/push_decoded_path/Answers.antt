@@ -1,9 +1,5 @@
-use Rattle.uri_ops.proofs.Common.{arith, widest_set, set_of, every_set_is_subset_of_widest, print_decoded, valid_for_superset}
-use Rattle.uri_ops.proofs.Meanings.AllowedParts.{is_set_text, set-text-from-utf8}
+use Rattle.uri_ops.proofs.Common.{arith, widest_set, set_of, every_set_is_subset_of_widest, valid_for_superset}
 use Rattle.uri_ops.proofs.Paths.DotLaws.{remove-dots-of-dotless, dotless-path-does-not-underflow}
-use Rattle.uri_ops.proofs.Paths.Piecewise.{decoding-keeps-slashes-and-dots}
-use Rattle.uri_ops.proofs.Paths.PushedPaths.{text-after-old-is-pushed-text, position-after-root-is-boundary, whole}
-use Rattle.uri_ops.proofs.Paths.WrittenPieces.{path-after-root-is-set-text, root-is-dotless-directory, root-and-decoded-rest-lose-dots-as-path, root-and-decoded-rest-underflow-as-path}
 use Rattle.uri_ops.proofs.normalize.decoded_paths.push_decoded_path.Goals as goal
 
 pub push_decoded-requires : goal.push_decoded-requires
@@ -12,35 +8,8 @@ push_decoded-requires c =
     valid_for_superset set widest_set c.args.path.now
     (every_set_is_subset_of_widest set c.requires.set.percent) c.requires.valid
 
-pub returns-then-not-has_dot_segments : goal.returns-then-not-has_dot_segments
-returns-then-not-has_dot_segments c =
-    grind (arith, remove-dots-of-dotless, dotless-path-does-not-underflow)
+pub returns-clause-text : goal.returns-clause-text
+returns-clause-text c = grind (arith, remove-dots-of-dotless)
 
-pub range_from-requires : goal.range_from-requires
-range_from-requires c = λ _. position-after-root-is-boundary c.args.path.now c.utf8.path
-    c.requires.absolute
-
-pub push_segments-requires-clause-directory : goal.push_segments-requires-clause-directory
-push_segments-requires-clause-directory c =
-    grind (arith, text-after-old-is-pushed-text, root-is-dotless-directory)
-
-pub push_segments-requires-clause-keeps : goal.push_segments-requires-clause-keeps
-unfolding print_decoded is_set_text
-push_segments-requires-clause-keeps c =
-    decoding-keeps-slashes-and-dots (set_of c.args.table.now) c.requires.set c.requires.slash
-
-pub push_segments-requires-clause-takes : goal.push_segments-requires-clause-takes
-unfolding is_set_text
-push_segments-requires-clause-takes c =
-    grind (arith, path-after-root-is-set-text, set-text-from-utf8)
-
-pub returns : goal.returns
-returns c =
-    grind (
-      arith,
-      text-after-old-is-pushed-text,
-      set-text-from-utf8,
-      whole,
-      root-and-decoded-rest-lose-dots-as-path,
-      root-and-decoded-rest-underflow-as-path,
-    )
+pub returns-clause-underflow : goal.returns-clause-underflow
+returns-clause-underflow c = grind (arith, dotless-path-does-not-underflow)
