@@ -1,5 +1,5 @@
 -- Texts whose bytes up to the end of the host are unchanged: so are the scheme and the host.
-use Rattle.uri_ops.proofs.Common.{common_steps, ◌≡◌, ℕ, ◌+◌, ◌<◌, ◌≤◌, ◌||◌, Bool, true, not, List, [], ◌∷◌, ◌++◌, length, get_or, take, refl, sym, ap, ◌∙◌, append-nil, option_map, arith, codes, Option, Some, None, IfSome, unwrap_or, list_all, str_to_ascii_lowercase, take-append-add, agree_below_at, not-true, nat_tests, get_or-take, length-append, length-take-le, take-take, All-from_get_or, list_all-append, list_all-from_AllPass, lacks, authority_parts, recompose_authority, Components, marked, packed, authority_at, delimited_length, host_end_of, positions_of, IsUnchangedHost, is_literal_byte, is_unchanged_host_byte, normal_scheme}
+use Rattle.uri_ops.proofs.Common.{common_steps, ◌≡◌, ℕ, ◌+◌, ◌<◌, ◌≤◌, ◌||◌, Bool, true, not, List, [], ◌∷◌, ◌++◌, length, get_or, take, refl, sym, ap, ◌∙◌, append-nil, option_map, arith, codes, Option, Some, None, IfSome, unwrap_or, list_all, str_to_ascii_lowercase, take-append-add, agree_below_at, not-true, nat_tests, get_or-take, length-append, length-take-le, take-take, All-from_get_or, list_all-append, list_all-from_AllPass, lacks, authority_parts, recompose_authority, Components, components, recompose-components, marked, packed, authority_at, delimited_length, host_end_of, positions_of, IsUnchangedHost, is_literal_byte, is_unchanged_host_byte, normal_scheme}
 use Rattle.uri_pct.specs.Masks.{has_bit}
 use Rattle.uri_pct.specs.Models.ByteRuns.{IsLongestRun}
 use Rattle.uri_pct.proofs.Offered.{has_bit-only-ascii}
@@ -120,3 +120,13 @@ pub host-ends-before-path : (p : Components)
     → (packed (positions_of p)).host_end ≤ (positions_of p).path_start
 host-ends-before-path p whole =
     grind (arith, common_steps, whole, length-with-delimiter-after, length-append)
+
+-- unchanged bytes: the host of a text ends in it
+pub host-ends-in-text : (text : List ℕ) → (host_end : ℕ)
+    → host_end ≡ (packed (positions_of (components text))).host_end
+    → ((a : List ℕ) → (components text).authority ≡ Some a
+    → recompose_authority (authority_parts a) ≡ a) → host_end ≤ length text
+host-ends-in-text text host_end is whole =
+    let before = host-ends-before-path (components text) whole in
+    let long = ap length (recompose-components text) in
+    grind (arith, common_steps, length-with-delimiter-after, length-append)

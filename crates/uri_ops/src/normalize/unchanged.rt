@@ -1,5 +1,5 @@
 //! Whether a value is its own normal text (RFC 3986, sections 6.2.2 and 6.2.3).
-ghost use Rattle.std.specs.Prelude.{◌≡◌, ◌↔◌, ◌≤◌, ◌<◌, ℕ, codes, false, length, slice_index, take, true};
+ghost use Rattle.std.specs.Prelude.{◌≡◌, ◌↔◌, ◌≤◌, ◌<◌, ℕ, codes, false, length, slice_index, take, true, IfSome};
 ghost use Rattle.std.specs.Char.{is_ascii_uppercase};
 ghost use Rattle.std.specs.List.{list_all};
 ghost use Rattle.std.specs.Str.{str_to_ascii_lowercase};
@@ -18,6 +18,7 @@ use crate::read_back::ruled_back::has_normal_text;
 use crate::scheme_rules::SchemeRules;
 use uri_parts::core_text::Core;
 use uri_parts::kind::Kind;
+use uri_parts::packed_positions::PackedPositions;
 use uri_pct::encoder::Encoder;
 use uri_pct::lanes::{LANES, SWIZZLES, run_end};
 
@@ -95,22 +96,31 @@ const UNCHANGED_LOW: u64 = (UNCHANGED & 0xFFFF_FFFF_FFFF_FFFF) as u64;
 /// The word of `UNCHANGED` for the characters from 64 on.
 const UNCHANGED_HIGH: u64 = (UNCHANGED >> 64) as u64;
 
-/// Returns `true` only if each of the first bytes of a text, up to `end`, is unchanged: none is a
-/// letter in upper case, a `%` or a `[`. It returns `false` for a text that is shorter than a
-/// block.
+/// Returns the end of the host if no byte before it is a letter in upper case, a `%` or a `[`, and 0
+/// if the first of these is in the scheme or in a host that is a name. It is `None` if neither is
+/// found, and for a text that is shorter than a block or has no authority.
 #[inline(always)]
-fn is_prefix_unchanged(bytes: &[u8], end: usize) -> bool
-    requires { end ≤ length bytes.now }
-    ensures unchanged { result ≡ true
-        → list_all is_unchanged_host_byte (take end bytes.now) ≡ true }
-    ensures literal { result ≡ true → (k : ℕ) → k < end
-        → is_literal_byte (slice_index bytes.now k) ≡ true }
+fn unchanged_host_end(bytes: &[u8], places: PackedPositions) -> Option<usize>
+    requires { places.host_end ≤ length bytes.now }
+    ensures end { IfSome result (λ end. 0 < end → end ≡ places.host_end) }
+    ensures unchanged { IfSome result (λ end. 0 < end
+        → list_all is_unchanged_host_byte (take end bytes.now) ≡ true) }
+    ensures literal { IfSome result (λ end. (k : ℕ) → k < end
+        → is_literal_byte (slice_index bytes.now k) ≡ true) }
 {
-    if bytes.len() < LANES || !SWIZZLES {
-        return false;
+    let end = places.host_end;
+    if end == 0 || bytes.len() < LANES || !SWIZZLES {
+        return None;
     }
     let window = &bytes[..end.max(LANES)];
-    end <= run_end(UNCHANGED_LOW, UNCHANGED_HIGH, window, 0)
+    let run = run_end(UNCHANGED_LOW, UNCHANGED_HIGH, window, 0);
+    if run == window.len() || end <= run {
+        return Some(end);
+    }
+    if run < places.scheme_end || places.host_start <= run && bytes[run] != b'[' {
+        return Some(0);
+    }
+    None
 }
 
 /// Returns the length of a prefix of the text in which normalising leaves each octet and each
@@ -120,10 +130,9 @@ fn is_prefix_unchanged(bytes: &[u8], end: usize) -> bool
 fn unchanged_prefix_len<K: Kind>(core: Core<K, &str>) -> usize
     ensures { 0 < result → IsUnchangedPrefix (core_text core.entry) result }
 {
-    let host_end = core.packed_positions().host_end;
     let bytes = core.as_str().as_bytes();
-    if 0 < host_end && host_end <= bytes.len() && is_prefix_unchanged(bytes, host_end) {
-        return host_end;
+    if let Some(end) = unchanged_host_end(bytes, core.packed_positions()) {
+        return end;
     }
     if let Some(scheme) = core.scheme() {
         if !is_name_unchanged(scheme.as_str()) {
@@ -159,7 +168,7 @@ pub(crate) fn is_found_normal_by_ports<K: Kind, S: SchemeRules>(
 {
     let start = unchanged_prefix_len(core);
     let bytes = core.as_str().as_bytes();
-    if start == 0 || bytes.len() < start {
+    if start == 0 {
         return false;
     }
     let limit = if core.has_scheme() {

@@ -163,6 +163,7 @@ fn unchanged_octets_end(alone: bool, bytes: &[u8], start: usize) -> usize
 
 /// Returns `true` only if no dot segment before `limit` begins with the dot at `at`, which is after
 /// a `/`.
+#[inline(never)]
 fn is_dot_unchanged(bytes: &[u8], at: usize, limit: usize) -> bool
     requires { at < length bytes.now }
     ensures { result ≡ true → is_dot_unchanged_at limit bytes.now at ≡ true }
