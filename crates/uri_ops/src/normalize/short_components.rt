@@ -5,7 +5,7 @@ ghost use Rattle.uri_pct.specs.Prelude.{IsValidFor, LacksPastAscii, Octet, Table
 ghost use Rattle.uri_ops.specs.Models.Decodings.{decoded_text, lowered_if};
 
 use crate::normalize::literal_runs::lowered_code_if;
-use crate::normalize::octets::{octet_digits, unreserved_of_octet};
+use crate::normalize::octets::{octet_digits, unreserved};
 use crate::normalize::room::{has_room, put_bytes, take_bytes};
 use uri_pct::octet::{octet_value, pct_encoded};
 
@@ -37,9 +37,10 @@ fn push_octet_of_digits(lowers: bool, high: u8, low: u8, out: &mut Vec<u8>)
     ensures len { vec_len out.new ≤ vec_len out.old + 3 }
     ensures capacity { vec_capacity out.new ≡ vec_capacity out.old }
 {
-    match unreserved_of_octet(lowers, high, low) {
+    let value = octet_value(high, low);
+    match unreserved(lowers, value) {
         Some(ch) => out.push_reserved(ch),
-        None => push_octet_bytes(octet_value(high, low), out),
+        None => push_octet_bytes(value, out),
     }
 }
 
