@@ -15,6 +15,7 @@ use std::hash::Hasher;
 use uri_ops::normalize::ruled_parts::ruled_authority;
 use uri_ops::normalize::unchanged::is_found_normal;
 use uri_ops::read_back::BLOCK;
+use uri_ops::read_back::literal_back::LiteralBack;
 use uri_ops::read_back::normal_authority::ipv6_host_of;
 use uri_ops::read_back::normal_block::put_normal_text;
 use uri_ops::read_back::ruled_back::{has_normal_text, ruled_back};
@@ -45,22 +46,31 @@ fn unchanged_text<'a, K: Kind, S: SchemeRules>(core: Core<K, &'a str>, rules: &S
     Some(text)
 }
 
-/// Returns the order of the normal text of a value and another text, byte by byte, if the normal
-/// text is shorter than a block.
-fn cmp_short<K: Kind, S: SchemeRules>(
-    core: Core<K, &str>,
-    rules: &S,
-    text: &[u8],
-) -> Option<Ordering>
-    ensures { IfSome result (λ order. order ≡ slice_cmp nat_cmp
-        (normal_form K.kind (S.rules_of rules.now) (core_text core.entry)) text.now) }
+/// Returns the order of the normal text of a value, which it reads from its end in blocks, and
+/// another text.
+#[cold]
+#[inline(never)]
+fn cmp_long_text<K: Kind, S: SchemeRules>(core: Core<K, &str>, rules: &S, text: &[u8]) -> Ordering
+    ensures { result ≡ slice_cmp nat_cmp
+        (normal_form K.kind (S.rules_of rules.now) (core_text core.entry)) text.now }
+{
+    let authority = ruled_authority(core, rules);
+    let (host, end) = ipv6_host_of(authority);
+    let normal = ruled_back(core, authority, rules, &host[..end]);
+    cmp_long(normal, LiteralBack::copied(text))
+}
+
+/// Returns the order of the normal text of a value and another text, byte by byte.
+fn cmp_text<K: Kind, S: SchemeRules>(core: Core<K, &str>, rules: &S, text: &[u8]) -> Ordering
+    ensures { result ≡ slice_cmp nat_cmp
+        (normal_form K.kind (S.rules_of rules.now) (core_text core.entry)) text.now }
 {
     let mut block = [0; BLOCK];
     let start = put_normal_text(core, rules, &mut block);
     if start == 0 {
-        return None;
+        return cmp_long_text(core, rules, text);
     }
-    Some(block[start..].cmp(text))
+    block[start..].cmp(text)
 }
 
 /// Returns the order of the normal texts of two values, which it reads from their ends in blocks.
@@ -100,10 +110,7 @@ fn cmp_back<K: Kind, S: SchemeRules>(
     if start == 0 {
         return cmp_long_texts(one, other, rules);
     }
-    match cmp_short(other, rules, &block[start..]) {
-        Some(order) => order.reverse(),
-        None => cmp_long_texts(one, other, rules),
-    }
+    cmp_text(other, rules, &block[start..]).reverse()
 }
 
 /// Returns whether the normal texts of two values are equal.
@@ -156,14 +163,8 @@ fn cmp_texts<K: Kind, S: SchemeRules>(
 {
     match (unchanged_text(one, rules), unchanged_text(other, rules)) {
         (Some(first), Some(second)) => first.cmp(second),
-        (Some(text), None) => match cmp_short(other, rules, text.as_bytes()) {
-            Some(order) => order.reverse(),
-            None => cmp_long_texts(one, other, rules),
-        },
-        (None, Some(text)) => match cmp_short(one, rules, text.as_bytes()) {
-            Some(order) => order,
-            None => cmp_long_texts(one, other, rules),
-        },
+        (Some(text), None) => cmp_text(other, rules, text.as_bytes()).reverse(),
+        (None, Some(text)) => cmp_text(one, rules, text.as_bytes()),
         (None, None) => cmp_back(one, other, rules),
     }
 }

@@ -8,7 +8,6 @@ pub record IsLastBlock (size : ℕ) (text left block : List ℕ) : Type 0 where
   pub within : length block ≤ size
   pub last : length block < size → left ≡ []
 
--- a text is put into a block before `end`, and begins at `start`, unless that is 0: then there is
--- no room for it and one byte more
+-- a text is put into a block before `end`, and begins at `start`, unless that is 0
 abbrev pub IsPut : List ℕ → ℕ → List ℕ → ℕ → List ℕ → Type 0
 IsPut text end before start after = 0 < start → drop start after ≡ text ++ drop end before

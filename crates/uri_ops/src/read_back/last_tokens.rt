@@ -53,24 +53,27 @@ fn is_ascii_in_no_octet(bytes: &[u8], at: usize) -> bool
     bytes[at].is_ascii() && (at < 2 || bytes[at - 2] != b'%')
 }
 
-/// Returns whether the eight bytes before `end` are ASCII, and the second byte before each of them
-/// is not `%`. No byte ends the loop, so that it becomes vector instructions.
+/// Returns whether so many bytes before `end` are ASCII, and the second byte before each of them is
+/// not `%`. No byte ends the loop, so that it becomes vector instructions.
 #[inline(always)]
-fn is_ascii_run(bytes: &[u8], end: usize) -> bool
-    requires least { 10 ≤ end }
+fn is_ascii_run(bytes: &[u8], end: usize, len: usize) -> bool
+    requires least { len + 2 ≤ end }
     requires within { end ≤ length bytes.now }
-    ensures ascii { result ≡ true → (k : ℕ) → end ≤ k + 8 → k < end
+    ensures ascii { result ≡ true → (k : ℕ) → end ≤ k + len → k < end
         → slice_index bytes.now k < 128 }
-    ensures outside { result ≡ true → (k : ℕ) → end ≤ k + 10 → k + 2 < end
+    ensures outside { result ≡ true → (k : ℕ) → end ≤ k + len + 2 → k + 2 < end
         → slice_index bytes.now k ≢ percent_sign }
 {
-    let block = &bytes[end - 10..end];
+    let block = &bytes[end - len - 2..end];
     let mut is_run = true;
-    for i in 0..8 {
+    for i in 0..len {
         is_run &= (block[i + 2] < 128) & (block[i] != b'%');
     }
     is_run
 }
+
+/// From so many bytes on, ASCII is looked for by sixteen bytes at a time.
+const LONG: usize = 64;
 
 /// Returns where the ASCII begins, from `least` on, that ends a text and is in no octet.
 pub(crate) fn ascii_suffix_start(bytes: &[u8], least: usize) -> usize
@@ -79,7 +82,10 @@ pub(crate) fn ascii_suffix_start(bytes: &[u8], least: usize) -> usize
     ensures least { least ≤ result }
 {
     let mut start = bytes.len();
-    while start >= 10 && start - least >= 8 && is_ascii_run(bytes, start) {
+    while start - least >= LONG && is_ascii_run(bytes, start, 16) {
+        start -= 16;
+    }
+    while start >= 10 && start - least >= 8 && is_ascii_run(bytes, start, 8) {
         start -= 8;
     }
     while start > least && is_ascii_in_no_octet(bytes, start - 1) {

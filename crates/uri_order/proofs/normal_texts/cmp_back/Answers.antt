@@ -7,11 +7,11 @@ use Rattle.uri_ops.proofs.Offered.{rest_of_block_is_text}
 use Rattle.uri_order.specs.NormalForms.{normal_form}
 use Rattle.uri_order.proofs.normal_texts.cmp_back.Goals as goal
 
-pub returns-in-Some : goal.returns-in-Some
-returns-in-Some g c =
+pub returns : goal.returns
+returns g c =
     let form = normal_form g.K.Kind.kind (g.S.SchemeRules.rules_of c.args.rules.now) in
     c.reverse.ensures
-    ∙ ap ordering_reverse (c.in-Some.ensures
+    ∙ ap ordering_reverse (c.cmp_text.ensures
     ∙ ap (slice_cmp nat_cmp (form (core_text c.args.other)))
     (rest_of_block_is_text c.put_normal_text-start.result _ c.put_normal_text-start.new.block
     (omega arith) (c.put_normal_text-start.ensures.text (omega arith))))

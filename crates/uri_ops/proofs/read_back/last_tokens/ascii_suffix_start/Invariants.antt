@@ -19,3 +19,12 @@ invariant-loop-start-2 l = record {
 
 abbrev pub decreases-loop-start-2 : goal.decreases-loop-start-2
 decreases-loop-start-2 l = l.start
+
+abbrev pub invariant-loop-start-3 : goal.invariant-loop-start-3
+invariant-loop-start-3 l = record {
+  suffix : IsAsciiSuffix l.bytes l.start;
+  least : l.least ≤ l.start;
+}
+
+abbrev pub decreases-loop-start-3 : goal.decreases-loop-start-3
+decreases-loop-start-3 l = l.start

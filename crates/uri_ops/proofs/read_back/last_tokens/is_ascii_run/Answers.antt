@@ -5,10 +5,10 @@ use Rattle.uri_ops.proofs.read_back.last_tokens.is_ascii_run.Goals as goal
 
 pub returns-clause-ascii : goal.returns-clause-ascii
 returns-clause-ascii c = λ run k from to.
-    let low = c.loop-i.invariant.ascii run (k + 8 - c.args.end) (omega arith) in
+    let low = c.loop-i.invariant.ascii run (k + c.args.len - c.args.end) (omega arith) in
     grind (arith, common_steps, get_or-drop, get_or-take)
 
 pub returns-clause-outside : goal.returns-clause-outside
 returns-clause-outside c = λ run k from to percent.
-    let other = c.loop-i.invariant.outside run (k + 10 - c.args.end) (omega arith) in
+    let other = c.loop-i.invariant.outside run (k + c.args.len + 2 - c.args.end) (omega arith) in
     grind (arith, common_steps, get_or-drop, get_or-take)

@@ -45,6 +45,6 @@ returns-clause-text g c some =
       path = c.ruled_path-path.ensures i;
     }))) ∙ ruled_components-have-normal-text kind rules
     (one-of-four-kinds-has-sets kind g.met.K.Kind.known) text (record {
-      utf8 = subst IsUtf8 c.as_str-text.ensures.text c.as_str-text.utf8;
+      utf8 = subst IsUtf8 c.as_str.ensures.text c.as_str.utf8;
       grammar = c.args.core.of_kind;
     })

@@ -2,7 +2,7 @@ use Rattle.std.proofs.Common.{ap, ◌∙◌, arith}
 use Rattle.std.specs.Cmp.Lexicographic.{slice_cmp}
 use Rattle.std.specs.Ordering.{nat_cmp}
 use Rattle.uri_ops.proofs.Offered.{rest_of_block_is_text}
-use Rattle.uri_order.proofs.normal_texts.cmp_short.Goals as goal
+use Rattle.uri_order.proofs.normal_texts.cmp_text.Goals as goal
 
 pub returns : goal.returns
 returns g c =
