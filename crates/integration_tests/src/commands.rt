@@ -11,69 +11,34 @@ use uri_commands::sink::Sink;
 const USAGE: &str =
     "usage: uritool parse KIND TEXT | [--scheme-rules] normalize KIND TEXT | mend KIND TEXT | resolve uri|iri BASE REF | [--scheme-rules] links BASE REF...\n";
 
+/// Gives rows of words, the status that they end with, and what they print.
+macro_rules! runs {
+    ($($($word:literal)+ => $status:literal, $text:expr;)+) => {
+        &[$((&[$($word),+], $status, $text)),+]
+    };
+}
+
 /// Words, the status that they end with, and what they print: to the output if that is 0, and else
 /// to the error output.
-const RUNS: &[(&[&str], u8, &str)] = &[
-    (
-        &["parse", "iri-ref", "s://é?#"],
-        0,
-        "scheme=s\nauthority=é\npath=\nquery=\nfragment=\n",
-    ),
-    (
-        &["normalize", "iri", "HTTP://R%c3%89/É"],
-        0,
-        "http://rÉ/É\n",
-    ),
-    (
-        &["--scheme-rules", "normalize", "iri", "file://localhost/é"],
-        0,
-        "file:///é\n",
-    ),
-    (&["mend", "uri-ref", " a b?[1]\n "], 0, "a%20b?%5B1%5D\n"),
-    (
-        &["resolve", "iri", "http://é/a/b", "../ü"],
-        0,
-        "http://é/ü\n",
-    ),
-    (
-        &["links", "foo:bar", "//g", "foo:x", "FOO:%78", "#t"],
-        0,
+const RUNS: &[(&[&str], u8, &str)] = runs! {
+    "parse" "iri-ref" "s://é?#" => 0, "scheme=s\nauthority=é\npath=\nquery=\nfragment=\n";
+    "normalize" "iri" "HTTP://R%c3%89/É" => 0, "http://rÉ/É\n";
+    "--scheme-rules" "normalize" "iri" "file://localhost/é" => 0, "file:///é\n";
+    "mend" "uri-ref" " a b?[1]\n " => 0, "a%20b?%5B1%5D\n";
+    "resolve" "iri" "http://é/a/b" "../ü" => 0, "http://é/ü\n";
+    "links" "foo:bar" "//g" "foo:x" "FOO:%78" "#t" => 0,
         "refused when base has a rootless path and no authority, reference should either have \
-         scheme, be empty or start with '#'\nnew 0 foo:x\nknown 0 foo:x\nnew 1 foo:bar#t\n",
-    ),
-    (
-        &["--scheme-rules", "links", "http://x", "//a", "//a:80/"],
-        0,
-        "new 0 http://a/\nknown 0 http://a/\n",
-    ),
-    (
-        &["parse", "uri-ref", "text%a"],
-        1,
-        "error: invalid percent-encoded octet at index 4\n",
-    ),
-    (
-        &["normalize", "uri", "http://[:]"],
-        1,
-        "error: invalid IPv6 address at index 8\n",
-    ),
-    (
-        &["resolve", "uri", "foo", "%"],
-        1,
-        "error: base: unexpected character at index 3\n",
-    ),
-    (
-        &["resolve", "uri", "foo:bar#x", "//g"],
-        1,
-        "error: base should not have fragment\n",
-    ),
-    (
-        &["links", "http://x/#f", "a b", "a", "%"],
-        1,
-        "error: reference: unexpected character at index 1\n",
-    ),
-    (&["normalize", "url", "foo"], 2, USAGE),
-    (&["links", "http://x/"], 2, USAGE),
-];
+         scheme, be empty or start with '#'\nnew 0 foo:x\nknown 0 foo:x\nnew 1 foo:bar#t\n";
+    "--scheme-rules" "links" "http://x" "//a" "//a:80/" => 0,
+        "new 0 http://a/\nknown 0 http://a/\n";
+    "parse" "uri-ref" "text%a" => 1, "error: invalid percent-encoded octet at index 4\n";
+    "normalize" "uri" "http://[:]" => 1, "error: invalid IPv6 address at index 8\n";
+    "resolve" "uri" "foo" "%" => 1, "error: base: unexpected character at index 3\n";
+    "resolve" "uri" "foo:bar#x" "//g" => 1, "error: base should not have fragment\n";
+    "links" "http://x/#f" "a b" "a" "%" => 1, "error: reference: unexpected character at index 1\n";
+    "normalize" "url" "foo" => 2, USAGE;
+    "links" "http://x/" => 2, USAGE;
+};
 
 /// Tests what `uritool` prints.
 #[test]

@@ -20,83 +20,59 @@ fn print<R: Abort, E: Display>(rt: &R, alloc: Global, messages: &[(E, &str)]) {
     }
 }
 
-const BUILD: &[(BuildError, &str)] = &[
-    (BuildError::OutOfMemory, "out of memory"),
-    (
-        BuildError::NonemptyRootlessPath,
-        "when authority is present, path should either be empty or start with '/'",
-    ),
-    (
-        BuildError::PathStartsWithDoubleSlash,
-        "when authority is not present, path should not start with \"//\"",
-    ),
-    (
-        BuildError::FirstPathSegmentContainsColon,
-        "when neither scheme nor authority is present, first path segment should not contain ':'",
-    ),
-];
+/// Gives a table of errors and their messages.
+macro_rules! messages {
+    ($($error:expr => $message:literal;)+) => {
+        &[$(($error, $message)),+]
+    };
+}
 
-const SOCKET: &[(SocketError, &str)] = &[
-    (SocketError::InvalidPort, "invalid port value"),
-    (
-        SocketError::UnsupportedMechanism,
-        "address mechanism not supported",
-    ),
-    (
-        SocketError::NameNotUtf8,
-        "registered name does not decode to valid UTF-8",
-    ),
-    (SocketError::OutOfMemory, "out of memory"),
-];
+const BUILD: &[(BuildError, &str)] = messages! {
+    BuildError::OutOfMemory => "out of memory";
+    BuildError::NonemptyRootlessPath =>
+        "when authority is present, path should either be empty or start with '/'";
+    BuildError::PathStartsWithDoubleSlash =>
+        "when authority is not present, path should not start with \"//\"";
+    BuildError::FirstPathSegmentContainsColon =>
+        "when neither scheme nor authority is present, first path segment should not contain ':'";
+};
 
-const CONVERT: &[(ConvertError, &str)] = &[
-    (ConvertError::NoScheme, "scheme not present"),
-    (
-        ConvertError::NotAscii { index: 7 },
-        "non-ASCII character at index 7",
-    ),
-];
+const SOCKET: &[(SocketError, &str)] = messages! {
+    SocketError::InvalidPort => "invalid port value";
+    SocketError::UnsupportedMechanism => "address mechanism not supported";
+    SocketError::NameNotUtf8 => "registered name does not decode to valid UTF-8";
+    SocketError::OutOfMemory => "out of memory";
+};
 
-const NORMALIZE: &[(NormalizeError, &str)] = &[
-    (
-        NormalizeError::PathUnderflow,
-        "underflow occurred in path resolution",
-    ),
-    (NormalizeError::OutOfMemory, "out of memory"),
-];
+const CONVERT: &[(ConvertError, &str)] = messages! {
+    ConvertError::NoScheme => "scheme not present";
+    ConvertError::NotAscii { index: 7 } => "non-ASCII character at index 7";
+};
 
-const RESOLVE: &[(ResolveError, &str)] = &[
-    (
-        ResolveError::BaseWithFragment,
-        "base should not have fragment",
-    ),
-    (
-        ResolveError::InvalidReferenceAgainstOpaqueBase,
-        "when base has a rootless path and no authority, reference should either have scheme, be empty or start with '#'",
-    ),
-    (
-        ResolveError::PathUnderflow,
-        "underflow occurred in path resolution",
-    ),
-    (ResolveError::OutOfMemory, "out of memory"),
-];
+const NORMALIZE: &[(NormalizeError, &str)] = messages! {
+    NormalizeError::PathUnderflow => "underflow occurred in path resolution";
+    NormalizeError::OutOfMemory => "out of memory";
+};
 
-const ASCII_HOST: &[(AsciiHostError, &str)] = &[
-    (
-        AsciiHostError::NameNotUtf8,
-        "registered name does not decode to valid UTF-8",
-    ),
-    (AsciiHostError::InvalidName, "invalid domain name"),
-    (AsciiHostError::OutOfMemory, "out of memory"),
-];
+const RESOLVE: &[(ResolveError, &str)] = messages! {
+    ResolveError::BaseWithFragment => "base should not have fragment";
+    ResolveError::InvalidReferenceAgainstOpaqueBase =>
+        "when base has a rootless path and no authority, reference should either have scheme, be empty or start with '#'";
+    ResolveError::PathUnderflow => "underflow occurred in path resolution";
+    ResolveError::OutOfMemory => "out of memory";
+};
 
-const BASIC_RESOLVE: &[(BasicResolveError, &str)] = &[
-    (
-        BasicResolveError::PathStartsWithDoubleSlash,
-        "target has no authority, and its path would start with '//'",
-    ),
-    (BasicResolveError::OutOfMemory, "out of memory"),
-];
+const ASCII_HOST: &[(AsciiHostError, &str)] = messages! {
+    AsciiHostError::NameNotUtf8 => "registered name does not decode to valid UTF-8";
+    AsciiHostError::InvalidName => "invalid domain name";
+    AsciiHostError::OutOfMemory => "out of memory";
+};
+
+const BASIC_RESOLVE: &[(BasicResolveError, &str)] = messages! {
+    BasicResolveError::PathStartsWithDoubleSlash =>
+        "target has no authority, and its path would start with '//'";
+    BasicResolveError::OutOfMemory => "out of memory";
+};
 
 #[test]
 fn errors_print_their_messages(rt: HostRuntime) {
