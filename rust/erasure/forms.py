@@ -5,7 +5,8 @@ from erasure import Unknown
 from erasure.tokens import tokens_of
 
 MACROS = {"matches", "prove", "unreachable", "write"}
-MACROS |= {"by_byte", "by_digit", "classes_with", "macro_rules", "none", "sets", "sets_with", "table"}
+MACROS |= {"by_byte", "by_digit", "classes_with", "macro_rules", "none", "sets", "sets_with"}
+MACROS |= {"table", "unreserved_codes"}
 CONTRACT_WORDS = {"antt", "decreases", "derive_where", "ensures", "final", "ghost", "invariant"}
 CONTRACT_WORDS |= {"requires", "syntax", "tactic", "thiserror"}
 FUNCTION = re.compile(r"\s*(?:pub(?:\(crate\))? )?(?:const )?(?:unsafe )?fn \w+")
