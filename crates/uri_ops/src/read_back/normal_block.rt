@@ -183,7 +183,7 @@ fn put_path<E: PathEncoder>(
 }
 
 /// Puts the normal text of a value at the end of the block. Returns where it begins, or 0 if it is
-/// as long as the block or longer. Of a text twice as long as the block this is not tried.
+/// as long as the block or longer. If the value's own text is, this is not tried.
 pub fn put_normal_text<K: Kind, S: SchemeRules>(
     core: Core<K, &str>,
     rules: &S,
@@ -193,7 +193,7 @@ pub fn put_normal_text<K: Kind, S: SchemeRules>(
         ≡ normal_text (meaning_under K.kind (S.rules_of rules.now) (core_text core.entry)) }
     ensures within { result ≤ 1024 }
 {
-    if core.as_str().len() >= 2 * BLOCK {
+    if core.as_str().len() >= BLOCK {
         return 0;
     }
     let scheme = core.scheme();
