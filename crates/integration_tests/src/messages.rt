@@ -57,7 +57,8 @@ const NORMALIZE: &[(NormalizeError, &str)] = messages! {
 const RESOLVE: &[(ResolveError, &str)] = messages! {
     ResolveError::BaseWithFragment => "base should not have fragment";
     ResolveError::InvalidReferenceAgainstOpaqueBase =>
-        "when base has a rootless path and no authority, reference should either have scheme, be empty or start with '#'";
+        "when base has a rootless path and no authority, reference should either have scheme, be \
+         empty or start with '#'";
     ResolveError::PathUnderflow => "underflow occurred in path resolution";
     ResolveError::OutOfMemory => "out of memory";
 };
